@@ -21,6 +21,7 @@ use Rattle.arc_machine.specs.declared.stop.Answer.TheVariants as answer
 use Rattle.arc_machine.specs.Views.{Seen, StandsAs, fresh, said}
 use Rattle.arc_machine.specs.Runs.{Leaves, Moves, IsAsking, Runs, Troubled, is_stopped, reached}
 use Rattle.arc_machine.proofs.Chained.{moves_on, leaves_before}
+use Rattle.arc_machine.proofs.Starting.{fresh_stands}
 use Rattle.arc_tool.specs.declared.lines.Left.{Left}
 use Rattle.arc_tool.specs.declared.lines.Left.TheVariants.{Stopped, Unread}
 use Rattle.arc_tool.specs.Progress.{run_of, rest_of, Takes, MakesObject, ReadsByte}
@@ -66,34 +67,6 @@ seen_of (answer.Broken Write) s i t = refl
 seen_of answer.NoHeap s i t = refl
 
 -- ---- a machine that runs the code
-
--- a machine stands for the start of its code
-pub fresh_stands : {S : Type 0} → (out : S → Blocks) (p : Program) (store : S) → StandsAs out (fresh p store) (start p)
-fresh_stands out p store = record {
-  at = refl;
-  stack = refl;
-  memory = (
-    (λ _. 1),
-    record {
-      made = refl;
-      some = λ k. omega arith;
-      kept = λ k o e. absurd (cc);
-      places = refl;
-      temporaries = refl;
-      variables = refl;
-      names = refl;
-      self = refl;
-      waits = refl;
-      all = refl;
-      known_places = λ k d e. absurd (omega (arith, e));
-      known_names = λ k d e. absurd (omega (arith, e));
-      known_self = omega arith;
-      known_frames = λ k d e. absurd (omega (arith, e));
-      ends = tt;
-      globals = refl;
-    },
-  );
-}
 
 -- The machine was made for the code, has taken these bytes since then, and shown these events; nothing is known of what it wrote.
 pub record Reaches {S : Type 0} (out : S → Blocks) (p : Program) (m : Seen S) (in0 in1 : Option (List ℕ)) (events : List Event) : Type 0 where

@@ -32,7 +32,8 @@ use Rattle.arc_tool.specs.declared.refusal.Refusal.{Refusal}
 use Rattle.arc_tool.specs.Refused.{IsRefusal}
 use Rattle.arc_tool.specs.Progress.{run_of, MakesObject, ReadsByte}
 use Rattle.arc_tool.specs.Ran.{Starts, Shown, Meant, RanCode, Ran, Answered, Becomes}
-use Rattle.arc_tool.proofs.Following.{fresh_stands, takes_so, makes_so, read_broke}
+use Rattle.arc_machine.proofs.Starting.{fresh_stands}
+use Rattle.arc_tool.proofs.Following.{takes_so, makes_so, read_broke}
 
 -- the bytes of more events
 starts_so : (a b : List Event) → IsPrefix a b → Starts (bytes_of a) (bytes_of b)
