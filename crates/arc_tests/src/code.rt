@@ -78,10 +78,10 @@ fn each_instruction(alloc: Global) -> Result<Code, AllocError> {
         Instr::Jump(12),
         Instr::JumpZero(7),
         Instr::Call(0),
-        Instr::Send(3, 1),
-        Instr::SendSuper(1, 2, 0),
-        Instr::SendTo(11, 12),
-        Instr::SendToSuper(14, 15, 16),
+        Instr::Send(3, 1, 2),
+        Instr::SendSuper(1, 2, 0, 3),
+        Instr::SendTo(11, 12, 13),
+        Instr::SendToSuper(14, 15, 16, 17),
         Instr::StoreStrong(2),
         Instr::Empty(3),
         Instr::DropAll,
@@ -101,6 +101,10 @@ fn each_instruction(alloc: Global) -> Result<Code, AllocError> {
         Instr::Plain(Op::Again),
         Instr::Plain(Op::GetGlobal(9)),
         Instr::Plain(Op::SetGlobal(10)),
+        Instr::Plain(Op::ReadGlobal(11)),
+        Instr::Plain(Op::ReadField(12, 13)),
+        Instr::StoreGlobal(14),
+        Instr::StoreField(15, 16),
     ];
     Ok(Code {
         instrs: Vec::from_slice(alloc, &instrs)?,
@@ -110,6 +114,7 @@ fn each_instruction(alloc: Global) -> Result<Code, AllocError> {
         names: 0,
         places: 0,
         globals: Vec::new(alloc),
+        strong_globals: 0,
         classes: Vec::new(alloc),
     })
 }
@@ -117,10 +122,11 @@ fn each_instruction(alloc: Global) -> Result<Code, AllocError> {
 /// The listing of that code.
 const LISTING: &str = "0 Num -42\n1 Bin 3 2\n2 Un 2 3\n3 Narrow 1\n4 Pop\n5 Get 2\n6 Set 3\n\
     7 PrintText 10 6\n8 PrintNum\n9 PrintByte\n10 GetChar\n11 Jump 12\n12 JumpZero 7\n13 Call 0\n\
-    14 Send 3 1\n15 SendSuper 1 2 0\n16 SendTo 11 12\n17 SendToSuper 14 15 16\n18 StoreStrong 2\n\
-    19 Empty 3\n20 DropAll\n21 Return\n22 EndStep\n23 Declare\n24 Nil\n25 ReadSelf\n26 ReadRef 4\n\
-    27 Hold\n28 Forget\n29 Alloc\n30 GetField 5 6\n31 SetField 7 8\n32 Differ\n33 IsObject\n\
-    34 Again\n35 GetGlobal 9\n36 SetGlobal 10\n";
+    14 Send 3 1 2\n15 SendSuper 1 2 0 3\n16 SendTo 11 12 13\n17 SendToSuper 14 15 16 17\n\
+    18 StoreStrong 2\n19 Empty 3\n20 DropAll\n21 Return\n22 EndStep\n23 Declare\n24 Nil\n\
+    25 ReadSelf\n26 ReadRef 4\n27 Hold\n28 Forget\n29 Alloc\n30 GetField 5 6\n31 SetField 7 8\n\
+    32 Differ\n33 IsObject\n34 Again\n35 GetGlobal 9\n36 SetGlobal 10\n37 ReadGlobal 11\n38 ReadField 12 13\n\
+    39 StoreGlobal 14\n40 StoreField 15 16\n";
 
 #[test]
 fn code_is_listed(rt: HostRuntime) -> Result<(), Fail> {

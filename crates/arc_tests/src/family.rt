@@ -15,6 +15,7 @@ fn fault(alloc: Global, unit: &TranslationUnit) -> Option<(u8, usize)> {
         functions: Vec::new(alloc),
         main: 0,
         globals: Vec::new(alloc),
+        strong_globals: 0,
         classes: Vec::new(alloc),
     };
     match own(alloc, &program) {
