@@ -1,0 +1,3 @@
+@interface A : NSObject { id f; } - (int)g; @end
+@implementation A - (int)g { return f || f || f || f || f || f || f || f || f || f || f || f || f || f || f || f || f || f || f || f || f || f || f || f || f || f || f || f || f || f || f || f || f || f || f || f || f || f || f || f || f || f || f || f || f || f || f || f || f || f || f || f || f || f || f || f || f || f || f || f || f || f || f || f || f || f || f || f || f || f || f || f || f || f || f || f || f || f || f || f || f || f || f || f || f || f || f || f || f || f || f || f || f || f || f || f || f || f || f || f || f; } @end
+int main(void) { return [[A new] g]; }
