@@ -1,7 +1,7 @@
 #!/usr/bin/env bash
 # Times `arcc run` on a loop of calls, on recursion, on a loop of messages to an object, on a loop that
-# makes objects and drops them, on primes by trial division, and on a loop of 64-bit arithmetic with all
-# operators, next to Lua 5.4 and Python 3 where these are installed, and `arcc check` on sources of 1 KiB,
+# makes objects and drops them, on linked lists that are made and dropped, on primes by trial division, and
+# on a loop of 64-bit arithmetic with all operators, next to Lua 5.4 and Python 3 where these are installed, and `arcc check` on sources of 1 KiB,
 # 32 KiB and 1 MiB. Prints seconds (the least of five runs) and ratios. It isn't part of
 # the gate.
 set -eu
@@ -147,6 +147,58 @@ def main():
 main()
 END
 
+cat >"$work/lists.m" <<'END'
+@interface Node : NSObject { @public Node *next; int value; }
+@end
+@implementation Node
+@end
+int main(void) {
+  int sum = 0;
+  for (int list = 0; list < 8000; list++) {
+    Node *head = nil;
+    for (int i = 0; i < 1000; i++) {
+      Node *node = [Node new];
+      node->value = i;
+      node->next = head;
+      head = node;
+    }
+    sum += head->value;
+  }
+  printf("%d\n", sum);
+}
+END
+cat >"$work/lists.lua" <<'END'
+local Node = {}
+Node.__index = Node
+local sum = 0
+for list = 1, 8000 do
+  local head = nil
+  for i = 0, 999 do
+    local node = setmetatable({ next = nil, value = 0 }, Node)
+    node.value = i
+    node.next = head
+    head = node
+  end
+  sum = (sum + head.value) & 0xffffffff
+end
+print(sum)
+END
+cat >"$work/lists.py" <<'END'
+class Node:
+    __slots__ = ("next", "value")
+def main():
+    total = 0
+    for _ in range(8000):
+        head = None
+        for i in range(1000):
+            node = Node()
+            node.value = i
+            node.next = head
+            head = node
+        total = (total + head.value) & 0xffffffff
+    print(total)
+main()
+END
 cat >"$work/primes.m" <<'END'
 int most = 200000;
 int count;
@@ -233,7 +285,7 @@ main()
 END
 
 echo "machine: $(uname -m), $(nproc) processors, $(awk -F': ' '/model name/ { print $2; exit }' /proc/cpuinfo)"
-for name in calls fib sends objects primes longs; do
+for name in calls fib sends objects lists primes longs; do
   ours=$(least "$arcc" run "$work/$name.m" --steps 9000000000)
   line="$name: arcc $ours s"
   if command -v lua5.4 >/dev/null; then

@@ -72,6 +72,7 @@ def run(runner):
         else:
             runner.case("2,001 levels: messages to super", source, Shown(), Faulted(85))
     end_cases(runner)
+    field_cases(runner)
     again = FORMS["functions"][0] + " int main(void) { int i = 300; while (i) { i = i - 1; if (f(1998) != 2005) return 1; } }"
     runner.case("300 times 2,000 levels", again.encode())
 
@@ -110,3 +111,43 @@ def end_cases(runner):
     superclasses = "".join(f"@interface D{n} : {'D%d' % (n - 1) if n else 'NSObject'} @end @implementation D{n} -(void)dealloc {{ printf(\"{n % 10}\"); }} @end " for n in range(3000))
     text = "".join(str(n % 10) for n in range(2999, -1, -1)).encode()
     runner.case("one end through 3,000 deallocs", (superclasses + "int main(void) { [D2999 new]; }").encode(), Shown((1, b"D2999"), text))
+
+
+# a list of COUNT objects: the last one that is made is its head
+LIST = "@interface L : NSObject { @public int v; L *next; } @end @implementation L BODY @end L *kept; int main(void) { L *head = nil; for (int i = 0; i < COUNT; i++) { L *n = [L new]; n->v = i; n->next = head; head = n; } "
+
+
+def list_of(count, body, rest):
+    return (LIST.replace("BODY", body).replace("COUNT", str(count)) + rest + " }").encode()
+
+
+def field_cases(runner):
+    """Ends of objects within one another, each as a field of the one before is destroyed, and lists without nested ends."""
+    bodies = {
+        "fields": "",
+        "fields that the deallocs read": "-(void)dealloc { if (next) v = next->v; }",
+        "fields that the deallocs write": "-(void)dealloc { next = nil; }",
+    }
+    for name, body in bodies.items():
+        # main is the first level
+        for count in (MOST_LEVELS - 1, MOST_LEVELS):
+            source = list_of(count, body, 'head = nil; printf("e");')
+            if count < MOST_LEVELS:
+                runner.case(f"2,000 levels: ends by {name}", source, Shown(*ends_from(count, 1), b"e"))
+            else:
+                runner.case(f"2,001 levels: ends by {name}", source, Shown(*ends_from(count, 2)), Faulted(85))
+    source = list_of(MOST_LEVELS - 1, "", 'kept = head; head = nil; printf("k"); kept = nil; printf("e");')
+    runner.case("2,000 levels: ends from a global variable", source, Shown(b"k", *ends_from(MOST_LEVELS - 1, 1), b"e"))
+    for count in (MOST_LEVELS, 100000):
+        source = list_of(count, "", 'while (head) head = head->next; printf("e");')
+        runner.case(f"a list of {count:,} objects that is taken apart", source, Shown(*ends_from(count, 1), b"e"))
+    source = list_of(100000, "-(void)dealloc { v = 0; }", 'kept = head; head = nil; while (kept) { L *n = kept->next; kept->next = nil; kept = n; } printf("e");')
+    runner.case("a list of 100,000 objects that is taken apart from a global variable", source, Shown(*ends_from(100000, 1), b"e"))
+    fields = " ".join(f"A *f{n};" for n in range(120))
+    filled = " ".join(f"a->f{n} = [A new];" for n in range(120))
+    source = f'@interface A : NSObject {{ @public {fields} }} @end @implementation A @end int main(void) {{ A *a = [A new]; {filled} a = nil; printf("e"); }}'
+    runner.case("an object of 120 fields", source.encode(), Shown((1, b"A"), *[(n, b"A") for n in range(2, 122)], b"e"))
+
+
+def ends_from(first, last):
+    return [(n, b"L") for n in range(first, last - 1, -1)]
