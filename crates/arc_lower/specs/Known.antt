@@ -51,7 +51,7 @@ combined_kind _ kind = k.Bool
 -- The narrowest kind that the form tells. Of a variable, a field, a call and a message it tells none, nor of a byte that is read.
 abbrev pub known_kind : Value → Kind
 known_kind (Number n) = number_kind n
-known_kind (Print pieces arguments) = k.Int
+known_kind (Print pieces given) = k.Int
 known_kind (Applied operator kind a) = applied_kind operator kind
 known_kind (Combined operator kind a b) = combined_kind operator kind
 known_kind (Choice c a b) = wider (known_kind a) (known_kind b)
