@@ -10,6 +10,7 @@ mod engine;
 pub mod fault;
 mod field;
 mod global;
+mod hand;
 mod holding;
 pub mod machine;
 mod number;
