@@ -25,3 +25,4 @@ pub mod stop;
 mod storing;
 mod turn;
 mod waiting;
+mod walk;
