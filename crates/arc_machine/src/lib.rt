@@ -26,3 +26,4 @@ pub mod stop;
 mod storing;
 mod turn;
 mod waiting;
+mod walk;
