@@ -92,6 +92,7 @@ impl Place {
     }
 
     /// A variable of the whole program takes what the last reference names, and lets go of what it named.
+    #[inline(always)]
     pub fn store_global<S: Store + Drop>(
         &mut self,
         variable: usize,
@@ -164,6 +165,7 @@ impl Place {
 
     /// A field of the object of the reference before the last one, which is taken, takes what the last one names, and
     /// lets go of what it named.
+    #[inline(always)]
     pub fn store_field<S: Store + Drop>(
         &mut self,
         class: usize,
