@@ -1,7 +1,7 @@
 //! A program whose names are resolved, whose kinds are known and whose conversions are written.
 
 use arc_ast::tree::{BinaryOperator, Kind, Moment, TranslationUnit, UnaryOperator};
-use arc_spec::class::Class;
+use arc_spec::class::{Class, Gives};
 use arc_spec::location::Location;
 
 /// What a format prints in turn.
@@ -71,10 +71,15 @@ pub enum Reference {
     ObjectField(Box<Reference>, usize, usize),
     /// The same, and what is assigned to the field.
     ObjectFieldStored(Box<Reference>, usize, usize, Box<Reference>),
-    /// `alloc` or `new`: what gives the class's number.
+    /// `alloc`: what gives the class's number.
     Made(Box<Value>),
-    /// `init` of an object.
-    Initialized(Box<Reference>),
+    /// `new`: the class from which its method is looked up, where that isn't the class that gets it, and what gives
+    /// that one's number.
+    New(Option<usize>, Box<Value>),
+    /// A call of the function with this number.
+    ObjectInvoked(usize, Vec<Argument>),
+    /// A message: what gets it, the selector's number, and the arguments.
+    ObjectSent(Box<Receiver>, usize, Vec<Argument>),
 }
 
 /// What gets a message.
@@ -87,8 +92,8 @@ pub enum Receiver {
     ClassSuper(usize),
     /// The object that this gives, or nil.
     ObjectValue(Box<Reference>),
-    /// `super` in a method of objects: the number of the class from which the method is looked up.
-    ObjectSuper(usize),
+    /// `super` in a method of objects: `self`, and the number of the class from which the method is looked up.
+    ObjectSuper(Box<Reference>, usize),
 }
 
 /// What a function or a method is passed.
@@ -111,6 +116,8 @@ pub enum Command {
     /// What a variable names first.
     Begin(usize, Reference),
     Return(Option<Value>),
+    /// Returns an object or nil.
+    Give(Reference),
     /// The first where the value isn't 0, else the second.
     Choose(Value, Box<Command>, Box<Command>),
     /// Again and again, while the value isn't 0: the body, which is the last one, and then the step.
@@ -121,14 +128,17 @@ pub enum Command {
     Continue,
 }
 
-/// A function with how many variables it has that hold numbers, and how many that name objects. Of each
-/// sort the first are its parameters; those that name objects are so many. The first number of a class
-/// method is `self`.
+/// A function with how many variables it has that hold numbers, and how many that name objects; what it
+/// gives; and whether it owns `self`. Of each sort the first variables are its parameters; those that name
+/// objects are so many. The first number of a class method is `self`, and the first variable that names an
+/// object of a method that owns `self`.
 #[derive(Drop)]
 pub struct CheckedFunction {
     pub slots: usize,
     pub names: usize,
     pub parameters: usize,
+    pub gives: Gives,
+    pub owns: bool,
     pub body: Vec<Command>,
 }
 

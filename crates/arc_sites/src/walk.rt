@@ -1,6 +1,6 @@
 //! A walk through all sites of a source.
 ghost use Rattle.std.specs.Prelude.{◌≡◌, List, Option, flat_map, option_map};
-ghost use Rattle.arc_ast.specs.Tree.{expr_tree, expr_trees, variable_trees, type_tree, stmt_tree, stmt_trees, parameter_trees, parameters_tree, function_tree, function_trees, head_trees, method_tree, method_trees, interface_tree, interface_trees, implementation_tree, implementation_trees, unit_tree};
+ghost use Rattle.arc_ast.specs.Tree.{expr_tree, expr_trees, variable_trees, type_tree, stmt_tree, stmt_trees, parameter_trees, parameters_tree, function_tree, function_trees, global_trees, field_trees, head_trees, method_tree, method_trees, interface_tree, interface_trees, implementation_tree, implementation_trees, unit_tree};
 ghost use Rattle.arc_sites.specs.Violations.{first, earlier_of};
 ghost use Rattle.arc_sites.specs.Sites as sites;
 ghost use Rattle.arc_sites.specs.Sites.{Scope, Need};
@@ -8,8 +8,8 @@ ghost use Rattle.arc_sites.specs.Finding.{enclosing_of, node_of, around, found_f
 
 use crate::node::{Enclosing, Node};
 use arc_ast::tree::{
-    Expr, Function, Implementation, Interface, Method, MethodHead, Parameter, Parameters, Stmt,
-    TranslationUnit, TypeName, Variable,
+    Expr, Field, Function, Global, Implementation, Interface, Method, MethodHead, Parameter,
+    Parameters, Qualifiers, Stmt, TranslationUnit, TypeName, Variable,
 };
 
 /// What looks at each site of a source for violations of some rules.
@@ -101,13 +101,14 @@ fn maybe<V: Visitor>(visitor: &mut V, enclosing: Enclosing, expr: &Option<Expr>)
 fn variables<V: Visitor>(
     visitor: &mut V,
     enclosing: Enclosing,
+    qualifiers: Qualifiers,
     type_name: &TypeName,
     all: &[Variable],
 )
-    ensures { (scope : Scope) → V.found visitor.new ≡ found_from V.violations (V.found visitor.old) (sites.variable_sites (enclosing_of enclosing.entry) (type_tree type_name.now) scope (variable_trees all.now)) }
+    ensures { (scope : Scope) → V.found visitor.new ≡ found_from V.violations (V.found visitor.old) (sites.variable_sites (enclosing_of enclosing.entry) qualifiers (type_tree type_name.now) scope (variable_trees all.now)) }
 {
     for variable in all {
-        visitor.visit(enclosing, Node::Variable(type_name, variable));
+        visitor.visit(enclosing, Node::Variable(qualifiers, type_name, variable));
         maybe(visitor, enclosing, &variable.initial);
     }
 }
@@ -131,7 +132,9 @@ fn within<V: Visitor>(visitor: &mut V, enclosing: Enclosing, stmt: &Stmt)
         Stmt::Empty(_) | Stmt::Break(_) | Stmt::Continue(_) => {}
         Stmt::Expr(expr) => expression(visitor, enclosing, expr),
         Stmt::Return(_, expr) => maybe(visitor, enclosing, expr),
-        Stmt::Variables(_, type_name, all) => variables(visitor, enclosing, type_name, all),
+        Stmt::Variables(_, qualifiers, type_name, all) => {
+            variables(visitor, enclosing, *qualifiers, type_name, all)
+        }
         Stmt::If(_, test, then) => {
             expression(visitor, enclosing, test);
             statement(visitor, enclosing, then);
@@ -208,6 +211,24 @@ fn functions<V: Visitor>(visitor: &mut V, all: &[Function])
     }
 }
 
+/// Visits some variables of the whole program.
+fn globals<V: Visitor>(visitor: &mut V, all: &[Global])
+    ensures { V.found visitor.new ≡ found_from V.violations (V.found visitor.old) (flat_map sites.global_sites (global_trees all.now)) }
+{
+    for global in all {
+        visitor.visit(Enclosing::Source, Node::Global(global));
+    }
+}
+
+/// Visits some fields.
+fn fields<V: Visitor>(visitor: &mut V, enclosing: Enclosing, all: &[Field])
+    ensures { V.found visitor.new ≡ found_from V.violations (V.found visitor.old) (sites.field_sites (enclosing_of enclosing.entry) (field_trees all.now)) }
+{
+    for field in all {
+        visitor.visit(enclosing, Node::Field(field));
+    }
+}
+
 /// Visits the methods that an interface declares.
 fn heads<V: Visitor>(visitor: &mut V, interface: &Interface, all: &[MethodHead])
     ensures { V.found visitor.new ≡ found_from V.violations (V.found visitor.old) (flat_map (sites.head_sites interface.now.name.items) (head_trees all.now)) }
@@ -222,6 +243,11 @@ fn interfaces<V: Visitor>(visitor: &mut V, all: &[Interface])
     ensures { V.found visitor.new ≡ found_from V.violations (V.found visitor.old) (flat_map sites.interface_sites (interface_trees all.now)) }
 {
     for interface in all {
+        fields(
+            visitor,
+            Enclosing::Interface(interface),
+            &interface.fields,
+        );
         heads(visitor, interface, &interface.methods);
     }
 }
@@ -250,6 +276,11 @@ fn implementations<V: Visitor>(visitor: &mut V, all: &[Implementation])
     ensures { V.found visitor.new ≡ found_from V.violations (V.found visitor.old) (flat_map sites.implementation_sites (implementation_trees all.now)) }
 {
     for implementation in all {
+        fields(
+            visitor,
+            Enclosing::Implementation(implementation),
+            &implementation.fields,
+        );
         methods(visitor, implementation, &implementation.methods);
     }
 }
@@ -259,6 +290,7 @@ pub fn walk<V: Visitor>(visitor: &mut V, unit: &TranslationUnit)
     ensures { V.found visitor.new ≡ found_from V.violations (V.found visitor.old) (sites.unit_sites (unit_tree unit.now)) }
 {
     functions(visitor, &unit.functions);
+    globals(visitor, &unit.globals);
     interfaces(visitor, &unit.interfaces);
     implementations(visitor, &unit.implementations);
 }

@@ -8,8 +8,9 @@ use Rattle.arc_spec.specs.declared.location.Location.TheVariants.{Local, Global}
 use Rattle.arc_spec.specs.Objects.{Object, nils, field_places}
 
 -- The running function: in a method of objects `self`, the variables that hold numbers, those that name objects, of which its parameters are the first, and the
--- temporaries of its full-expression, the last one first. The variables that name objects and the temporaries are strong places (ARC, "Ownership qualification"); `self`
--- is none, since what sent the message holds it.
+-- temporaries of its full-expression, the last one first. After the variables that name objects comes the place of the result, where it gives an object. All of these and
+-- the temporaries are strong places (ARC, "Ownership qualification"); `self` is none but in a method that owns it, where it is a variable too, since what sent the message
+-- holds it.
 pub record Frame : Type 0 where
   pub self : ℕ
   pub locals : List ℤ
@@ -100,6 +101,11 @@ first_names (suc n) (r ∷ given) = r ∷ first_names n given
 pub record Given : Type 0 where
   pub numbers : List ℤ
   pub objects : List ℕ
+
+-- what a function or a method gives: a number, or an object or nil
+pub record Answer : Type 0 where
+  pub number : ℤ
+  pub object : ℕ
 
 abbrev pub nothing_given : Given
 nothing_given = record { numbers = []; objects = [] }

@@ -1,6 +1,6 @@
 use Rattle.std.proofs.Common.{sym, ◌∙◌}
-use Rattle.arc_family.proofs.Components.{begins_then, begins_not}
-use Rattle.arc_family.proofs.family.begins_with_word.Goals as goal
+use Rattle.arc_spec.proofs.Components.{begins_then, begins_not}
+use Rattle.arc_spec.proofs.family.begins_with_word.Goals as goal
 
 pub returns-then-starts_with : goal.returns-then-starts_with
 returns-then-starts_with c =

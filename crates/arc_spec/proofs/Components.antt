@@ -2,7 +2,7 @@
 use Rattle.std.proofs.Common.{◌≡◌, ℕ, ◌+◌, ◌-◌, Bool, true, false, not, ◌==◌, ◌&&◌, nat_eq, cond, List, [], ◌∷◌, length, take, drop, refl, sym, ap, ◌∙◌, add_comm, add-one}
 use Rattle.std.specs.List.{prefix_len, starts_with}
 use Rattle.std.proofs.lemmas.List.{take_rest}
-use Rattle.arc_family.specs.Families.{without_underscores, first_component, ends_before, begins_with_word}
+use Rattle.arc_spec.specs.Families.{without_underscores, first_component, ends_before, begins_with_word}
 
 -- what is left behind the underscores
 pub rest_is : (xs : List ℕ) → drop (prefix_len (λ c. c == 95) xs) xs ≡ without_underscores xs

@@ -1,11 +1,13 @@
 -- The families of methods (ARC, "Method families").
-use Rattle.std.specs.Prelude.{ℕ, Bool, true, false, not, ◌&&◌, ◌==◌, List, [], ◌∷◌, codes, if◌then◌else◌}
+use Rattle.std.specs.Prelude.{ℕ, Bool, true, false, not, ◌&&◌, ◌||◌, ◌==◌, List, [], ◌∷◌, codes, if◌then◌else◌}
 use Rattle.std.specs.Char.{is_ascii_lowercase}
+use Rattle.arc_ast.specs.declared.tree.Sign.{Sign}
+use Rattle.arc_ast.specs.declared.tree.Sign.TheVariants as signs
 use Rattle.arc_ast.specs.declared.tree.Kind.{Kind}
 use Rattle.arc_ast.specs.declared.tree.Kind.TheVariants as kind
-use Rattle.arc_family.specs.declared.signature.Family.{Family}
-use Rattle.arc_family.specs.declared.signature.Family.TheVariants as family
-use Rattle.arc_family.specs.declared.signature.Signature.{Signature}
+use Rattle.arc_spec.specs.declared.signature.Family.{Family}
+use Rattle.arc_spec.specs.declared.signature.Family.TheVariants as family
+use Rattle.arc_spec.specs.declared.signature.Signature.{Signature}
 
 -- a name without the underscores that lead it (ARC, "Method families", as all that follows)
 unfoldable pub without_underscores : List ℕ → List ℕ
@@ -52,3 +54,26 @@ abbrev pub family_of : (selector : List ℕ) → Signature → Family
 family_of selector signature =
     let named = named_family (first_component (without_underscores selector)) in
     if may_have named signature then named else family.None
+
+-- the same, from its sign and the kind of what it gives
+abbrev pub method_family : Sign → (selector : List ℕ) → Kind → Family
+method_family signs.Class selector kind = family_of selector (record { instance = false; result = kind })
+method_family signs.Instance selector kind = family_of selector (record { instance = true; result = kind })
+
+-- whether a method is one of init, whose `self` it owns (ARC, "Semantics of init")
+abbrev pub is_init : Family → Bool
+is_init family.Init = true
+is_init _ = false
+
+-- whether what a method gives is retained for who sent the message (ARC, "Retained return values")
+abbrev pub is_owning : Family → Bool
+is_owning family.None = false
+is_owning _ = true
+
+-- Whether a method gives an object of the class that gets the message although its type says `id`: a class method of alloc or new, and a method of init (ARC, "Related
+-- result types").
+abbrev pub gives_related : Sign → Family → Bool
+gives_related signs.Class family.Alloc = true
+gives_related signs.Class family.New = true
+gives_related signs.Instance family.Init = true
+gives_related _ _ = false
