@@ -57,12 +57,13 @@ fn resolve_unit<'a>(
 pub fn check<'a>(
     alloc: Global,
     unit: &'a TranslationUnit,
-    table: &ClassTable<'a>,
+    table: &'a ClassTable<'a>,
 ) -> Result<Checked<'a>, CheckFault>
     requires { IsTableOf (unit_tree unit.now) table.now }
     ensures unbroken { IfOk result (λ _. broken_unit (unit_tree unit.now) ≡ []) }
     ensures resolved { IfOk result (λ program. program_of program ≡ resolved_unit (unit_tree unit.now)) }
     ensures source { IfOk result (λ program. program.unit.now ≡ unit.now) }
+    ensures table { IfOk result (λ program. program.table.now ≡ table.now) }
     ensures refused { IfErr result (λ fault. Refuses (broken_unit (unit_tree unit.now)) fault) }
 {
     if let Some(fault) = judge_unit(alloc, unit, table)? {
@@ -70,6 +71,7 @@ pub fn check<'a>(
     }
     Ok(Checked {
         unit,
+        table,
         functions: resolve_unit(alloc, unit, table)?,
         main: table.main,
         globals: first_numbers(alloc, &unit.globals)?,

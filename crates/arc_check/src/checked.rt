@@ -1,6 +1,7 @@
 //! A program whose names are resolved, whose kinds are known and whose conversions are written.
 
 use arc_ast::tree::{BinaryOperator, Kind, Moment, TranslationUnit, UnaryOperator};
+use arc_class::table::ClassTable;
 use arc_spec::class::{Class, Gives};
 use arc_spec::location::Location;
 
@@ -142,12 +143,13 @@ pub struct CheckedFunction {
     pub body: Vec<Command>,
 }
 
-/// A checked program: the source that it comes from; its functions with a body, in their order, and then
+/// A checked program: the source that it comes from, and the table of that; its functions with a body, in their order, and then
 /// its methods; which of them is `main`; what those of its global variables hold first that hold numbers;
 /// how many of its global variables name objects; and its classes, whose methods run functions.
 #[derive(Drop)]
 pub struct Checked<'a> {
     pub unit: &'a TranslationUnit,
+    pub table: &'a ClassTable<'a>,
     pub functions: Vec<CheckedFunction>,
     pub main: usize,
     pub globals: Vec<i64>,
