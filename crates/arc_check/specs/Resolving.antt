@@ -36,7 +36,7 @@ use Rattle.arc_check.specs.declared.format.Begun.TheVariants.{Nothing}
 use Rattle.arc_check.specs.Kinds.{literal_kind, wider, computing_kind, given_kind}
 use Rattle.arc_check.specs.Formats.{parts, printed}
 use Rattle.arc_check.specs.Scopes as scopes
-use Rattle.arc_check.specs.Scopes.{Known, Scope, declare, with_parameters, leave, behind, behind_all, outermost, callee, own_field, variable, class_receiver, kind_given, object_result, super_kind, class_of}
+use Rattle.arc_check.specs.Scopes.{Known, Scope, declare, with_parameters, leave, behind, behind_all, outermost, owned_in, callee, own_field, variable, class_receiver, kind_given, object_result, super_kind, class_of}
 use Rattle.arc_check.specs.Passing.{first_wanted, wanted_by, receiver_sign}
 use Rattle.arc_check.specs.Rules.{is_object, of_method, known_of}
 
@@ -386,7 +386,7 @@ abbrev pub resolved_body : Scope → StmtTrees → Function
 resolved_body s body = record {
   slots = (behind_all s body).next;
   names = (behind_all s body).names;
-  parameters = s.names;
+  parameters = s.names - owned_in s.owns;
   gives = gives_of s.result;
   owns = s.owns;
   body = resolved_stmts s body;

@@ -17,7 +17,7 @@ use crate::body::named_parameters;
 use crate::checked::{CheckedFunction, Command, Value};
 use crate::resolution::{Resolution, number_in};
 use crate::resolve::{expression, number_as, object};
-use crate::scope::Visible;
+use crate::scope::{Visible, owned_in};
 use arc_ast::tree::{
     Expr, Function, Implementation, Kind, Method, Parameter, Stmt, TypeName, Variable,
 };
@@ -464,7 +464,7 @@ fn function<'a>(
         ≡ resolved_body (with_parameters (seen table.now visible.entry) (parameter_trees named.now)) (stmt_trees body.now)) }
 {
     visible.declare_parameters(table, named)?;
-    let parameters = usize::from(visible.names);
+    let parameters = usize::from(visible.names).saturating_sub(usize::from(owned_in(visible.owns)));
     let body = commands(alloc, table, &mut visible, body)?;
     Ok(CheckedFunction {
         slots: usize::from(visible.next),

@@ -223,7 +223,7 @@ impl<'a> Visible<'a> {
 }
 
 /// How many variables that name objects a method has without a name.
-fn owned_in(owns: bool) -> u8
+pub fn owned_in(owns: bool) -> u8
     ensures { result ≡ scopes.owned_in owns }
 {
     if owns { 1 } else { 0 }

@@ -392,10 +392,6 @@ function_at P wanted f = function_of (slice_get P.functions f)
 abbrev pub places_of : Function → ℕ
 places_of f = if same_gives f.gives gives.Object then suc f.names else f.names
 
--- what a method is given that owns `self`: `self` comes before its other parameters
-abbrev pub given_with : (owns : Bool) → (self : ℕ) → Given → Given
-given_with owns self given_to = if owns then and_object self given_to else given_to
-
 -- what a function gives that is left in this way: the place of its result names nothing, where it has none
 abbrev pub answer : Function → Flow → World → Answer
 answer f flow w = record { number = given flow; object = name_at w.frame.strong f.names }
@@ -404,7 +400,7 @@ answer f flow w = record { number = given flow; object = name_at w.frame.strong 
 -- after a return, and the parameters among them last; those of blocks that were left before name nothing by then. Its result isn't dropped.
 abbrev pub called : Deeper → (bound : ℕ) → Function → (self : ℕ) → Given → World → Outcome Answer
 called D bound f self given_to w =
-    then_do (all_executed D bound f.body (entered f.slots (places_of f) f.parameters self (given_with f.owns self given_to) w)) (λ flow w1.
+    then_do (all_executed D bound f.body (entered f.slots (places_of f) f.parameters f.owns self given_to w)) (λ flow w1.
     then_do (variables_dropped D 0 f.names w1) (λ _ w2. Done (answer f flow w2) (left w w2)))
 
 -- ---- the end of an object (ARC, "dealloc")

@@ -90,8 +90,8 @@ mutual
 
 -- A function with how many variables it has that hold numbers, and how many that name objects; what it gives; and whether it owns `self`. Of each sort the first
 -- variables are its parameters; those that name objects are so many. A method is one too; the first number of a class method is `self`, the class that got the message,
--- which is passed to it before its arguments (OPL, "Using Hidden Arguments"), and the first of the parameters of a method that owns `self` that name objects is `self`, so
--- that it may be assigned and is dropped last (ARC, "Semantics of init"; the order is this project's own choice).
+-- which is passed to it before its arguments (OPL, "Using Hidden Arguments"). In a method that owns `self` this is the first variable that names an object, before the
+-- parameters, so that it may be assigned and is dropped last (ARC, "Semantics of init"; the order is this project's own choice).
 pub record Function : Type 0 where
   pub slots : ℕ
   pub names : ℕ
