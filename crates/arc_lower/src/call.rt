@@ -1,7 +1,9 @@
 //! From a call, whose values lie on the stack, to actions.
-ghost use Rattle.std.specs.Prelude.{◌≡◌, ◌++◌, OnOk};
+ghost use Rattle.std.specs.Prelude.{◌≡◌, ◌<◌, ◌-◌, suc, ◌++◌, option_map, if◌then◌else◌, OnOk};
 ghost use Rattle.arc_check.specs.Checked.{program_of};
-ghost use Rattle.arc_spec.specs.Classes.{lesser};
+ghost use Rattle.arc_spec.specs.Classes.{lesser, same_gives};
+ghost use Rattle.arc_spec.specs.Resolved.{Function};
+ghost use Rattle.arc_lower.specs.Definitions.{definition_of, found_at};
 ghost use Rattle.arc_lower.specs.Order.{orders};
 ghost use Rattle.arc_lower.specs.Lowered.{number_of, slots_of, parameters_of, fit_orders, fit_object_orders, passing_orders, call_orders, leave_orders};
 
@@ -9,29 +11,74 @@ use crate::expression::append;
 use crate::place::{append_all_empty, append_forgets, append_nils};
 use crate::print::{append_keep, append_pops};
 use crate::variable::append_zeros;
-use arc_check::checked::Checked;
+use arc_check::checked::{Checked, CheckedFunction};
 use arc_code::instr::Instr;
 use arc_ir::action::Action;
+use arc_spec::class::Gives;
 use arc_spec::event::NoMemory;
 
-/// How many variables the function with this number has; 0 where there is none.
-pub(crate) fn slots_of(program: &Checked, function: usize) -> usize
-    ensures { result ≡ slots_of (program_of program.now) function }
+/// The function with this number, where it gives this.
+fn function_giving<'p>(
+    program: &'p Checked,
+    wanted: Gives,
+    function: usize,
+) -> Option<&'p CheckedFunction>
+    ensures { option_map (λ found. definition_of found.now) result ≡ found_at (program_of program.now) wanted function }
 {
-    match program.functions.get(function) {
+    let found = program.functions.get(function)?;
+    if found.gives == wanted {
+        Some(found)
+    } else {
+        None
+    }
+}
+
+/// How many variables the function with this number has that gives this; 0 where there is none.
+pub(crate) fn slots_of(program: &Checked, wanted: Gives, function: usize) -> usize
+    ensures { result ≡ slots_of (program_of program.now) wanted function }
+{
+    match function_giving(program, wanted, function) {
         Some(found) => found.slots,
         None => 0,
     }
 }
 
-/// How many objects the function with this number takes; none where there is no such function.
-pub(crate) fn parameters_of(program: &Checked, function: usize) -> usize
-    ensures { result ≡ parameters_of (program_of program.now) function }
+/// How many objects the function with this number takes that gives this; none where there is no such function.
+pub(crate) fn parameters_of(program: &Checked, wanted: Gives, function: usize) -> usize
+    ensures { result ≡ parameters_of (program_of program.now) wanted function }
 {
-    match program.functions.get(function) {
-        Some(found) => lesser(found.parameters, found.names),
+    match function_giving(program, wanted, function) {
+        Some(found) => {
+            let places = places_of(found.names, found.gives);
+            object_parameters(found.parameters, places, found.owns)
+        }
         None => 0,
     }
+}
+
+/// How many places of objects a function has with so many variables that name objects; one that gives an object has one more.
+pub(crate) fn places_of(names: usize, gives: Gives) -> usize
+    requires { names < usize.MAX }
+    ensures { result ≡ (if same_gives gives Gives.Object then suc names else names) }
+{
+    match gives {
+        Gives::Number => names,
+        Gives::Object => names + 1,
+    }
+}
+
+/// How many variables that name objects come before the parameters.
+pub(crate) fn owned_by(owns: bool) -> usize
+    ensures { result ≡ (if owns then 1 else 0) }
+{
+    if owns { 1 } else { 0 }
+}
+
+/// How many objects a function takes that has so many places of objects.
+pub(crate) fn object_parameters(parameters: usize, places: usize, owns: bool) -> usize
+    ensures { result ≡ lesser parameters (places - (if owns then 1 else 0)) }
+{
+    lesser(parameters, places.saturating_sub(owned_by(owns)))
 }
 
 /// The lesser of two numbers.
@@ -41,12 +88,16 @@ pub(crate) fn lesser(first: usize, second: usize) -> usize
     if first < second { first } else { second }
 }
 
-/// The number by which a function is called; one that there isn't has the number after the last.
-pub(crate) fn number_of(program: &Checked, function: usize) -> usize
-    ensures { result ≡ number_of (program_of program.now) function }
+/// The number by which a function is called that gives this; one that there isn't has a number after the last.
+pub(crate) fn number_of(program: &Checked, wanted: Gives, function: usize) -> usize
+    ensures { result ≡ number_of (program_of program.now) wanted function }
 {
     let count = program.functions.len();
-    if function < count { function } else { count }
+    match (function_giving(program, wanted, function), wanted) {
+        (Some(_), _) => function,
+        (None, Gives::Number) => count,
+        (None, Gives::Object) => count + 1,
+    }
 }
 
 /// Appends the actions that make the `count` numbers on top the variables of a function.
@@ -74,14 +125,15 @@ fn append_fit_objects(
 pub(crate) fn append_passing(
     actions: &mut Vec<Action>,
     program: &Checked,
+    wanted: Gives,
     function: usize,
     count: usize,
     objects: usize,
 ) -> Result<(), NoMemory>
-    ensures { OnOk result (orders actions.new.items ≡ orders actions.old.items ++ passing_orders (program_of program.now) function count objects) }
+    ensures { OnOk result (orders actions.new.items ≡ orders actions.old.items ++ passing_orders (program_of program.now) wanted function count objects) }
 {
-    append_fit(actions, count, slots_of(program, function))?;
-    append_fit_objects(actions, objects, parameters_of(program, function))
+    append_fit(actions, count, slots_of(program, wanted, function))?;
+    append_fit_objects(actions, objects, parameters_of(program, wanted, function))
 }
 
 /// Appends the actions that call a function with the `count` numbers on top and the `objects` last
@@ -89,14 +141,16 @@ pub(crate) fn append_passing(
 pub(crate) fn append_call(
     actions: &mut Vec<Action>,
     program: &Checked,
+    wanted: Gives,
     function: usize,
     count: usize,
     objects: usize,
 ) -> Result<(), NoMemory>
-    ensures { OnOk result (orders actions.new.items ≡ orders actions.old.items ++ call_orders (program_of program.now) function count objects) }
+    ensures { OnOk result (orders actions.new.items ≡ orders actions.old.items ++ call_orders (program_of program.now) wanted function count objects) }
 {
-    append_passing(actions, program, function, count, objects)?;
-    append(actions, Instr::Call(number_of(program, function)))
+    append_passing(actions, program, wanted, function, count, objects)?;
+    let number = number_of(program, wanted, function);
+    append(actions, Instr::Call(number, wanted))
 }
 
 /// Appends the actions that leave a function with the number on top.
@@ -104,10 +158,14 @@ pub(crate) fn append_leave(
     actions: &mut Vec<Action>,
     slots: usize,
     names: usize,
+    gives: Gives,
 ) -> Result<(), NoMemory>
-    ensures { OnOk result (orders actions.new.items ≡ orders actions.old.items ++ leave_orders slots names) }
+    ensures { (f : Function) → f.slots ≡ slots → f.names ≡ names → f.gives ≡ gives → OnOk result (orders actions.new.items ≡ orders actions.old.items ++ leave_orders f) }
 {
-    append_all_empty(actions, names, 0, names)?;
+    append_all_empty(actions, places_of(names, gives), 0, names)?;
     append_keep(actions, slots)?;
-    append(actions, Instr::Return)
+    match gives {
+        Gives::Number => append(actions, Instr::Return),
+        Gives::Object => append(actions, Instr::Give),
+    }
 }
