@@ -9,6 +9,7 @@ mod dropping;
 mod engine;
 pub mod fault;
 mod field;
+mod giving;
 mod global;
 mod holding;
 pub mod machine;
