@@ -135,13 +135,7 @@ fn class_given(receiver: Option<ClassId>, given: Option<MethodResult>) -> Option
 {
     match given {
         None => None,
-        Some(given) => {
-            if given.related {
-                receiver
-            } else {
-                given.class
-            }
-        }
+        Some(given) => { if given.related { receiver } else { given.class } }
     }
 }
 

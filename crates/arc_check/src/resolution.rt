@@ -440,11 +440,7 @@ pub fn itself(owns: bool) -> Reference
 }
 
 /// An assignment to `self`, in a method that owns it; in any other it breaks a rule, and what is assigned stands for it.
-pub fn itself_assigned(
-    alloc: Global,
-    owns: bool,
-    of: Resolution,
-) -> Result<Resolution, AllocError>
+pub fn itself_assigned(alloc: Global, owns: bool, of: Resolution) -> Result<Resolution, AllocError>
     ensures { IfOk result (λ new. resolution new ≡ resolving.itself_assigned owns (resolution of)) }
 {
     if !owns {
@@ -640,13 +636,7 @@ pub fn to_object(
     ensures { IfOk result (λ new. resolution new ≡ resolving.sent_to kind (spec.ObjectValue (checked.reference object)) selector (checked.arguments all.items)) }
 {
     let object = Box::new(alloc, object)?;
-    sent_to(
-        alloc,
-        kind,
-        Receiver::ObjectValue(object),
-        selector,
-        all,
-    )
+    sent_to(alloc, kind, Receiver::ObjectValue(object), selector, all)
 }
 
 /// Where a message to `super` stands: the sign of the method, whether that owns `self`, and the number of the class from which the message's method is looked up.

@@ -21,8 +21,8 @@ use crate::message::{
 use crate::resolution::{
     ClassReceiver, Resolution, SuperSite, Typed, binary, cast as cast_to, class_number,
     class_value, conditional, converted, field, field_assigned, given, invoked, itself,
-    itself_assigned, name_assigned, named, number, number_in, object_in, selector_number,
-    to_class, to_object, to_super, unary, updated,
+    itself_assigned, name_assigned, named, number, number_in, object_in, selector_number, to_class,
+    to_object, to_super, unary, updated,
 };
 use crate::rule::{either_class, is_nil, literal_kind};
 use crate::scope::Visible;

@@ -19,9 +19,7 @@ use crate::kept::Source;
 use crate::look::{is_library, listed, same_parameters};
 use crate::owners::Owners;
 use crate::table::{Place, Variable, at_name, class_number, is_root};
-use crate::types::{
-    field_types_fault, missing_class, parameter_types_fault, result_type_fault,
-};
+use crate::types::{field_types_fault, missing_class, parameter_types_fault, result_type_fault};
 use crate::walk::{Scope, stands};
 use arc_ast::tree;
 use arc_ast::tree::{Function, Implementation, Interface};

@@ -466,12 +466,7 @@ impl<'a> ClassTable<'a> {
     }
 
     /// What the method gives that the class, or else the nearest class above it, has for the selector.
-    fn nearest_result(
-        &self,
-        class: usize,
-        sign: Sign,
-        selector: &'a [u8],
-    ) -> Option<MethodResult>
+    fn nearest_result(&self, class: usize, sign: Sign, selector: &'a [u8]) -> Option<MethodResult>
         ensures { result ≡ nearest_result_in self.now class sign selector.now }
     {
         let owners = self.owners(sign);

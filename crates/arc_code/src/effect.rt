@@ -120,22 +120,20 @@ pub fn instr_effect<J, F, T>(instr: &Instr<J, F, T>) -> Option<Effect>
     match instr {
         Instr::Plain(operation) => Some(operation_effect(*operation)),
         Instr::PrintText(_) => Some(on_numbers(1, 1)),
-        Instr::Jump(_)
-        | Instr::Empty(_)
-        | Instr::DropAll
-        | Instr::Settle
-        | Instr::EndStep => Some(on_numbers(0, 0)),
+        Instr::Jump(_) | Instr::Empty(_) | Instr::DropAll | Instr::Settle | Instr::EndStep => Some(
+            on_numbers(0, 0),
+        ),
         Instr::JumpZero(_) | Instr::Return | Instr::Give => Some(on_numbers(1, 0)),
         Instr::Call(_, gives) => Some(giving(*gives, 0, 0)),
         Instr::Send(_, takes, objects, gives) | Instr::SendSuper(_, _, takes, objects, gives) => {
             let taken = one_more(*takes)?;
             Some(giving(*gives, taken, *objects))
         }
-        Instr::SendTo(_, takes, objects, gives)
-        | Instr::SendToSuper(_, _, takes, objects, gives) => {
-            let references = one_more(*objects)?;
-            Some(giving(*gives, *takes, references))
-        }
+        Instr::SendTo(_, takes, objects, gives) | Instr::SendToSuper(_, _, takes, objects, gives) =>
+            {
+                let references = one_more(*objects)?;
+                Some(giving(*gives, *takes, references))
+            }
         Instr::StoreStrong(_) | Instr::StoreGlobal(_) => Some(on_names(1, 1, 0)),
         Instr::StoreField(_, _) => Some(on_names(2, 1, 0)),
     }

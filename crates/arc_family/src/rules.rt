@@ -198,11 +198,7 @@ fn is_init_message<'a>(table: &ClassTable<'a>, message: Message<'a>) -> bool
 }
 
 /// Whether a message delegates to an init method.
-fn is_delegated<'a>(
-    table: &ClassTable<'a>,
-    enclosing: Enclosing<'a>,
-    message: Message<'a>,
-) -> bool
+fn is_delegated<'a>(table: &ClassTable<'a>, enclosing: Enclosing<'a>, message: Message<'a>) -> bool
     ensures { (u : UnitTree) → IsTableOf u table.now → result ≡ rules.is_delegated u (enclosing_of enclosing.entry) (message_of message.entry) }
 {
     is_in_instance(enclosing)
@@ -264,11 +260,7 @@ fn may_be_given<'a>(table: &ClassTable<'a>, class: &'a [u8], written: &'a Result
 }
 
 /// 66 InitResult, of a method of a class.
-fn wrong_init<'a>(
-    table: &ClassTable<'a>,
-    class: &'a [u8],
-    head: &'a MethodHead,
-) -> Option<OwnFault>
+fn wrong_init<'a>(table: &ClassTable<'a>, class: &'a [u8], head: &'a MethodHead) -> Option<OwnFault>
     ensures { (u : UnitTree) → IsTableOf u table.now → option_map told result ≡ first (violates 66 (at_if (rules.is_wrong_init u class.now (head_tree head.now)) head.now.at)) }
 {
     let is_init = matches!(head_family(head), Family::Init);
@@ -319,11 +311,7 @@ fn misqualified_among(all: &[Parameter]) -> Option<OwnFault>
     ensures { option_map told result ≡ first (violates 67 (rules.misqualified_among (parameter_trees all.now))) }
 {
     for parameter in all {
-        let fault = misqualified(
-            parameter.qualifiers,
-            &parameter.type_name,
-            parameter.at,
-        );
+        let fault = misqualified(parameter.qualifiers, &parameter.type_name, parameter.at);
         if fault.is_some() {
             return fault;
         }

@@ -435,7 +435,10 @@ fn append_sent(
     append_arguments(alloc, actions, program, above, arguments)?;
     let numbers = count_numbers(arguments);
     let objects = count_objects(arguments);
-    append(actions, message(wanted, receiver, selector, numbers, objects))
+    append(
+        actions,
+        message(wanted, receiver, selector, numbers, objects),
+    )
 }
 
 /// Appends the actions of `new`, the class that gets it first: that of its own method, where the class or one above it

@@ -76,9 +76,7 @@ fn append_stub(
     ensures most { OnOk result (most.new ≡ greatest (stub_heights (program_of program.now) entries.now wanted count objects function) most.old) }
 {
     let begin = actions.len();
-    append_jump_to(
-        actions, program, entries, wanted, count, objects, function,
-    )?;
+    append_jump_to(actions, program, entries, wanted, count, objects, function)?;
     let first = passed(count, objects);
     *most = greatest(alloc, program, no_height(), first, &actions[begin..], *most)?;
     Ok(())

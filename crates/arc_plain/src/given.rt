@@ -25,10 +25,7 @@ pub struct Answered {
 pub fn object_given(object: usize) -> Answered
     ensures { answer_of result ≡ gives_object object }
 {
-    Answered {
-        number: 0,
-        object,
-    }
+    Answered { number: 0, object }
 }
 
 /// No arguments.

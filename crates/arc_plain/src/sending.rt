@@ -10,9 +10,7 @@ use crate::context::Context;
 use crate::expression::{evaluate, evaluate_all, refer};
 use crate::given::{Answered, Given, nothing, object_given, with_receiver};
 use crate::halt::Halt;
-use crate::message::{
-    INIT_SELECTOR, NEW_SELECTOR, Target, class_at, find_method, is_root_init,
-};
+use crate::message::{INIT_SELECTOR, NEW_SELECTOR, Target, class_at, find_method, is_root_init};
 use crate::object::{class_of, make};
 use crate::place::take;
 use crate::progress::{Progress, local};
@@ -190,15 +188,7 @@ pub fn send_new(
     ) {
         Some(method) => {
             let passed = with_receiver(alloc, class, none)?;
-            let answered = call(
-                alloc,
-                context,
-                progress,
-                Gives::Object,
-                method,
-                0,
-                &passed,
-            )?;
+            let answered = call(alloc, context, progress, Gives::Object, method, 0, &passed)?;
             take(progress, answered.object)
         }
         None => make_new(alloc, context, progress, class_at(class)),

@@ -259,11 +259,7 @@ fn interfaces<V: Visitor>(visitor: &mut V, all: &[Interface])
     ensures same { V.violations visitor.new ≡ V.violations visitor.old }
 {
     for interface in all {
-        fields(
-            visitor,
-            Enclosing::Interface(interface),
-            &interface.fields,
-        );
+        fields(visitor, Enclosing::Interface(interface), &interface.fields);
         heads(visitor, interface, &interface.methods);
     }
 }

@@ -121,11 +121,7 @@ fn more_references<'a>(
 
 /// A type that names no class, one variable or more and `;`, after qualifiers.
 #[tactic(auto, using(crate::proofs::Trees::variables_is), unfolding(arc_grammar::specs::Grammar::declaration))]
-pub fn declaration<'a>(
-    alloc: Global,
-    qualifiers: Qualifiers,
-    tokens: &'a [Token],
-) -> Read<'a, Stmt>
+pub fn declaration<'a>(alloc: Global, qualifiers: Qualifiers, tokens: &'a [Token]) -> Read<'a, Stmt>
     ensures gives { Gives (λ x. (stmt_tree x.0, toks x.1.now)) result (reads_after grammar.declaration qualifiers (toks tokens.now)) }
     ensures shorter { IfOk result (λ x. length x.1.now < length tokens.now) }
 {

@@ -12,9 +12,7 @@ ghost use Rattle.arc_top.specs.Signatures as signatures;
 use crate::function::braces;
 use crate::parameter::parameter_of;
 use crate::value_type::value_type;
-use arc_ast::tree::{
-    Method, MethodHead, Parameter, Qualifiers, ResultType, Sign, TypeName,
-};
+use arc_ast::tree::{Method, MethodHead, Parameter, Qualifiers, ResultType, Sign, TypeName};
 use arc_expr::qualifier::qualifiers;
 use arc_form::fail::Read;
 use arc_form::step::{expect, keyword, name, sees_mark, sees_name, sees_word};

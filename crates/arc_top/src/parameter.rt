@@ -165,13 +165,7 @@ fn counted_of_main<'a>(alloc: Global, tokens: &'a [Token]) -> Read<'a, Parameter
     ensures shorter { IfOk result (λ x. length x.1.now < length tokens.now) }
 {
     let ((at, called), rest) = name(tokens)?;
-    let first = parameter_of(
-        alloc,
-        Qualifiers::Unqualified,
-        TypeName::Int,
-        at,
-        called,
-    )?;
+    let first = parameter_of(alloc, Qualifiers::Unqualified, TypeName::Int, at, called)?;
     if sees_mark(Mark::Comma, rest) {
         return second(alloc, first, rest);
     }
