@@ -5,7 +5,7 @@ use Rattle.arc_spec.specs.declared.class.Method.{Method}
 use Rattle.arc_spec.specs.declared.class.Gives.{Gives}
 use Rattle.arc_spec.specs.declared.class.Gives.TheVariants as gives
 use Rattle.arc_spec.specs.Classes.{Class}
-use Rattle.arc_spec.specs.Meaning.{places_of}
+use Rattle.arc_spec.specs.Meaning.{function_places}
 use Rattle.arc_code.specs.declared.instr.Instr.TheVariants.{Jump, JumpZero, Call, DropAll, Settle, Give, Return}
 use Rattle.arc_code.specs.declared.effect.Effect.{Effect}
 use Rattle.arc_code.specs.declared.effect.Height.{Height}
@@ -88,8 +88,8 @@ start_heights P = heights P no_height no_height (start_orders P)
 -- a function is left with its result above its variables, and entered with the references of its parameters
 abbrev pub function_heights : Program → (place : ℕ) → Function → List Height
 function_heights P place f =
-    let base = between f.slots (places_of f) in
-    heights P base (between (suc f.slots) (places_of f)) (leave_orders f)
+    let base = between f.slots (function_places f) in
+    heights P base (between (suc f.slots) (function_places f)) (leave_orders f)
     ++ heights P base (height f.slots (object_parameters f) 0 0) (body_orders P place (entry_of place f) f)
 
 abbrev pub functions_heights : Program → (place : ℕ) → List Function → List Height

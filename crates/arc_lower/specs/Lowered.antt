@@ -16,7 +16,7 @@ use Rattle.arc_spec.specs.declared.class.Method.{Method}
 use Rattle.arc_spec.specs.declared.class.Gives.{Gives}
 use Rattle.arc_spec.specs.declared.class.Gives.TheVariants as gives
 use Rattle.arc_spec.specs.Classes.{Class, lookup, lesser, same_gives, new_selector, init_selector}
-use Rattle.arc_spec.specs.Meaning.{function_at, nothing_giving, places_of}
+use Rattle.arc_spec.specs.Meaning.{function_at, nothing_giving, function_places}
 use Rattle.arc_ast.specs.declared.tree.Sign.TheVariants as signs
 use Rattle.arc_code.specs.declared.instr.Op.{Op}
 use Rattle.arc_code.specs.declared.instr.Op.TheVariants.{Num, Bin, Un, Narrow, Pop, Get, Set, PrintNum, PrintByte, GetChar, Declare, Nil, ReadSelf, ReadRef, ReadGlobal, ReadField, Hold, Forget, Alloc, Finds, GetField, SetField, Differ, IsObject}
@@ -187,7 +187,7 @@ owned_by f = if f.owns then 1 else 0
 
 -- how many objects a function takes: it has no more parameters than places after `self`
 abbrev pub object_parameters : Function → ℕ
-object_parameters f = lesser f.parameters (places_of f - owned_by f)
+object_parameters f = lesser f.parameters (function_places f - owned_by f)
 
 abbrev pub parameters_of : Program → (wanted : Gives) → (f : ℕ) → ℕ
 parameters_of P wanted f = object_parameters (function_at P wanted f)
@@ -599,13 +599,13 @@ commands_orders P slots names here s all = flat P slots names (spot here s.turn)
 -- what a function begins with: its places of objects, of which the first take `self`, where it owns that, and what it is given
 abbrev pub opening_orders : Function → List Order
 opening_orders f =
-    declare_orders (places_of f) ++ (take_orders (owned_by f) (object_parameters f) ++ (if f.owns then own_orders (places_of f) else []))
+    declare_orders (function_places f) ++ (take_orders (owned_by f) (object_parameters f) ++ (if f.owns then own_orders (function_places f) else []))
 
 -- what a function does from its entry on, which is at this place
 abbrev pub body_orders : Program → (exit entry : ℕ) → Function → List Order
 body_orders P exit entry f =
     let opening = opening_orders f in
-    opening ++ flat P f.slots (places_of f) (Between (entry + length opening) no_turn) (body_block exit f.body)
+    opening ++ flat P f.slots (function_places f) (Between (entry + length opening) no_turn) (body_block exit f.body)
 
 abbrev pub leaving_order : Gives → Order
 leaving_order gives.Number = Return
@@ -614,7 +614,7 @@ leaving_order gives.Object = instrs.Give
 -- leaves a function: its variables that name objects are emptied, and the number on top is put in the place of those that hold numbers, as its result, or as one that
 -- nobody uses, where it gives an object
 abbrev pub leave_orders : Function → List Order
-leave_orders f = all_empty_orders (places_of f) 0 f.names ++ (keep_orders f.slots ++ leaving_order f.gives ∷ [])
+leave_orders f = all_empty_orders (function_places f) 0 f.names ++ (keep_orders f.slots ++ leaving_order f.gives ∷ [])
 
 -- where a function is entered whose first action has this number
 abbrev pub entry_of : (place : ℕ) → Function → ℕ

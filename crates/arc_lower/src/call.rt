@@ -49,7 +49,7 @@ pub(crate) fn parameters_of(program: &Checked, wanted: Gives, function: usize) -
 {
     match function_giving(program, wanted, function) {
         Some(found) => {
-            let places = places_of(found.names, found.gives);
+            let places = function_places(found.names, found.gives);
             object_parameters(found.parameters, places, found.owns)
         }
         None => 0,
@@ -57,7 +57,7 @@ pub(crate) fn parameters_of(program: &Checked, wanted: Gives, function: usize) -
 }
 
 /// How many places of objects a function has with so many variables that name objects; one that gives an object has one more.
-pub(crate) fn places_of(names: usize, gives: Gives) -> usize
+pub(crate) fn function_places(names: usize, gives: Gives) -> usize
     requires { names < usize.MAX }
     ensures { result ≡ (if same_gives gives Gives.Object then suc names else names) }
 {
@@ -162,7 +162,7 @@ pub(crate) fn append_leave(
 ) -> Result<(), NoMemory>
     ensures { (f : Function) → f.slots ≡ slots → f.names ≡ names → f.gives ≡ gives → OnOk result (orders actions.new.items ≡ orders actions.old.items ++ leave_orders f) }
 {
-    append_all_empty(actions, places_of(names, gives), 0, names)?;
+    append_all_empty(actions, function_places(names, gives), 0, names)?;
     append_keep(actions, slots)?;
     match gives {
         Gives::Number => append(actions, Instr::Return),

@@ -10,7 +10,7 @@ ghost use Rattle.arc_lower.specs.Lowered.{body_orders, entry_of, function_orders
 ghost use Rattle.arc_lower.specs.Heights.{greatest, start_heights, function_heights, functions_heights};
 ghost use Rattle.arc_lower.specs.Promise.{Performs, IsLowered};
 
-use crate::call::{append_call, append_leave, object_parameters, owned_by, places_of};
+use crate::call::{append_call, append_leave, object_parameters, owned_by, function_places};
 use crate::expression::append;
 use crate::frame::Body;
 use crate::height::{between, greatest, no_height, passed};
@@ -180,7 +180,7 @@ fn append_function(
     ensures most { OnOk result (most.new ≡ greatest (function_heights (program_of program.now) (length (orders actions.old.items)) (function_of function.entry)) most.old) }
 {
     let exit = actions.len();
-    let names = places_of(function.names, function.gives);
+    let names = function_places(function.names, function.gives);
     append_leave(actions, function.slots, function.names, function.gives)?;
     let base = between(function.slots, names);
     let left = between(one_more(function.slots)?, names);
@@ -204,7 +204,7 @@ fn append_body(
 ) -> Result<(), NoMemory>
     ensures { OnOk result (orders actions.new.items ≡ orders actions.old.items ++ body_orders (program_of program.now) exit (length (orders actions.old.items)) (function_of function.entry)) }
 {
-    let names = places_of(function.names, function.gives);
+    let names = function_places(function.names, function.gives);
     let body = Body {
         slots: function.slots,
         names,

@@ -1,6 +1,6 @@
 //! The running function.
 ghost use Rattle.std.specs.Prelude.{◌≡◌, ◌∷◌, [], ℕ, suc, take, IfOk};
-ghost use Rattle.arc_spec.specs.Meaning.{places_of};
+ghost use Rattle.arc_spec.specs.Meaning.{function_places};
 ghost use Rattle.arc_spec.specs.World.{first_frame, first_locals, first_names, and_self};
 ghost use Rattle.arc_plain.specs.Views.{frame_of, given_of, function_of};
 
@@ -34,8 +34,8 @@ pub fn nothing_runs(alloc: Global) -> Frame
 }
 
 /// How many places of objects a function has but for its temporaries. NoMemory: more than can be counted.
-fn places_of(function: &CheckedFunction) -> Result<usize, NoMemory>
-    ensures { IfOk result (λ count. count ≡ places_of (function_of function.now)) }
+fn function_places(function: &CheckedFunction) -> Result<usize, NoMemory>
+    ensures { IfOk result (λ count. count ≡ function_places (function_of function.now)) }
 {
     match function.gives {
         Gives::Number => Ok(function.names),
@@ -68,13 +68,13 @@ pub fn begin(
     itself: usize,
     given: &Given,
 ) -> Result<Frame, NoMemory>
-    ensures { IfOk result (λ frame. frame_of frame ≡ record { self = itself; locals = first_locals function.now.slots (given_of given.now).numbers; strong = first_names (places_of (function_of function.now)) (and_self function.now.owns itself (take function.now.parameters (given_of given.now).objects)); temporaries = [] }) }
+    ensures { IfOk result (λ frame. frame_of frame ≡ record { self = itself; locals = first_locals function.now.slots (given_of given.now).numbers; strong = first_names (function_places (function_of function.now)) (and_self function.now.owns itself (take function.now.parameters (given_of given.now).objects)); temporaries = [] }) }
 {
     let named = first_named(alloc, function, itself, given)?;
     Ok(Frame {
         itself,
         locals: begin_locals(alloc, function.slots, &given.numbers)?,
-        strong: begin_names(alloc, places_of(function)?, &named)?,
+        strong: begin_names(alloc, function_places(function)?, &named)?,
         temporaries: Vec::new(alloc),
     })
 }

@@ -1,7 +1,7 @@
 //! Strong places: variables that name objects, and temporaries.
 ghost use Rattle.std.specs.Prelude.{◌≡◌, ◌∷◌, ◌++◌, ◌+◌, [], OnOk, IfOk, MatchOption, length, reverse, map, slice_set};
 ghost use Rattle.std.proofs.Common.{take};
-ghost use Rattle.arc_spec.specs.Meaning.{places_of};
+ghost use Rattle.arc_spec.specs.Meaning.{function_places};
 ghost use Rattle.arc_spec.specs.Objects.{names};
 ghost use Rattle.arc_spec.specs.Objects.{fields_of, field_places};
 ghost use Rattle.arc_spec.specs.declared.location.Location.TheVariants.{Local};
@@ -164,7 +164,7 @@ pub fn push_frame(
     itself: usize,
     given: &Given,
 ) -> Result<Frame, NoMemory>
-    ensures world { OnOk result (world progress.new ≡ entered function.now.slots (places_of (function_of function.now)) function.now.parameters function.now.owns itself (given_of given.now) (world progress.old)) }
+    ensures world { OnOk result (world progress.new ≡ entered function.now.slots (function_places (function_of function.now)) function.now.parameters function.now.owns itself (given_of given.now) (world progress.old)) }
     ensures kept { IfOk result (λ frame. frame_of frame ≡ (world progress.old).frame) }
     ensures below { OnOk result (take (length progress.old.waiting.items) progress.new.waiting.items ≡ progress.old.waiting.items) }
 {

@@ -389,8 +389,8 @@ function_at P wanted f = function_of (slice_get P.functions f)
     function_of (Some g) = if same_gives g.gives wanted then g else nothing_giving wanted
 
 -- how many strong places a function has but for its temporaries: its variables and, where it gives an object, the place of its result
-abbrev pub places_of : Function → ℕ
-places_of f = if same_gives f.gives gives.Object then suc f.names else f.names
+abbrev pub function_places : Function → ℕ
+function_places f = if same_gives f.gives gives.Object then suc f.names else f.names
 
 -- what a function gives that is left in this way: the place of its result names nothing, where it has none
 abbrev pub answer : Function → Flow → World → Answer
@@ -400,7 +400,7 @@ answer f flow w = record { number = given flow; object = name_at w.frame.strong 
 -- after a return, and the parameters among them last; those of blocks that were left before name nothing by then. Its result isn't dropped.
 abbrev pub called : Deeper → (bound : ℕ) → Function → (self : ℕ) → Given → World → Outcome Answer
 called D bound f self given_to w =
-    then_do (all_executed D bound f.body (entered f.slots (places_of f) f.parameters f.owns self given_to w)) (λ flow w1.
+    then_do (all_executed D bound f.body (entered f.slots (function_places f) f.parameters f.owns self given_to w)) (λ flow w1.
     then_do (variables_dropped D 0 f.names w1) (λ _ w2. Done (answer f flow w2) (left w w2)))
 
 -- ---- the end of an object (ARC, "dealloc")

@@ -66,9 +66,9 @@ pub record JudgesAll (s : Scope) (before : Taken) (passed : Option (List Kind)) 
   pub taken : judged.taken ≡ counted before (all_taken s all)
 
 -- the same of a call
-pub record JudgesCall (s : Scope) (before : Taken) (at : ℕ) (callee : Callee) (class : Option ℕ) (parameters : List Kind) (arguments : ExprTrees) (judged : Judged) : Type 0 where
+pub record JudgesCall (s : Scope) (before : Taken) (at : ℕ) (callee : Callee) (given : Option ℕ) (parameters : List Kind) (arguments : ExprTrees) (judged : Judged) : Type 0 where
   pub kind : judged.kind ≡ kind_if (is_none (call_rule callee arguments (kinds s arguments))) (result_kind callee)
-  pub class : option_map number_of_class judged.class ≡ class
+  pub class : option_map number_of_class judged.class ≡ given
   pub fault : option_map told judged.fault
       ≡ first (broken_at at (call_rule callee arguments (kinds s arguments)) ++ broken_arguments s (wanted_by callee parameters) (is_printf callee) arguments)
   pub taken : judged.taken
