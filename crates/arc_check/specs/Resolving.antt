@@ -1,5 +1,5 @@
 -- The resolved program of a source that breaks no rule.
-use Rattle.std.specs.Prelude.{ℕ, ◌-◌, ℤ, pos, Bool, false, not, codes, List, [], ◌∷◌, ◌++◌, length, drop, map, flat_map, filter_map, Option, Some, None, option_map, option_and_then, unwrap_or, if◌then◌else◌}
+use Rattle.std.specs.Prelude.{ℕ, ◌-◌, ℤ, pos, Bool, not, codes, List, [], ◌∷◌, ◌++◌, length, drop, map, flat_map, filter_map, Option, Some, None, option_map, option_and_then, unwrap_or, if◌then◌else◌}
 use Rattle.std.specs.List.{filter}
 use Rattle.std.specs.Option.{option_map_or}
 use Rattle.std.specs.Str.{bytes_eq}
@@ -21,7 +21,7 @@ use Rattle.arc_ast.specs.declared.tree.Sign.{Sign}
 use Rattle.arc_ast.specs.declared.tree.Sign.TheVariants as signs
 use Rattle.arc_ast.specs.Tree as tree
 use Rattle.arc_ast.specs.Tree.{TypeTree, GlobalTree, ExprTree, ExprTrees, Integer, Text, Paren, Call, Name, Unary, Cast, Binary, Conditional, Arrow, Assign, Update, Send, SendSuper, no_exprs, and_expr, VariableTree, StmtTree, StmtTrees, Block, Empty, Simple, Variables, If, IfElse, While, Do, For, no_stmts, and_stmt, ParameterTree, FunctionTree, MethodTree, ImplementationTree, UnitTree}
-use Rattle.arc_spec.specs.Classes.{same_sign, gives_of}
+use Rattle.arc_spec.specs.Classes.{gives_of}
 use Rattle.arc_spec.specs.declared.location.Location.TheVariants.{Local}
 use Rattle.arc_spec.specs.Number as number
 use Rattle.arc_spec.specs.Resolved.{Value, Reference, Number, ReadByte, Print, Applied, Combined, Choice, Converted, Read, Assigned, Updated, Invoked, Sent, Field, FieldAssigned, FieldUpdated, Differ, IsObject, Nil, Itself, Variable, Chosen, Stored, ObjectField, ObjectFieldStored, Made, New, ObjectInvoked, ObjectSent, Receiver, ClassValue, ClassSuper, ObjectValue, ObjectSuper, Arguments, no_arguments, number_argument, object_argument, Command, Sequence, Evaluate, EvaluateReference, Begin, Return, Give, Choose, Repeat, RepeatAfter, Break, Continue, Commands, no_commands, and_command, Function, Program}

@@ -8,7 +8,7 @@ use Rattle.arc_ast.specs.declared.tree.Kind.TheVariants as k
 use Rattle.arc_ast.specs.declared.tree.Sign.{Sign}
 use Rattle.arc_ast.specs.declared.tree.Sign.TheVariants as signs
 use Rattle.arc_ast.specs.Types.{result_kind}
-use Rattle.arc_ast.specs.Tree.{TypeTree, Object, Id, ResultTree, Void, Value, Related, FunctionTree, HeadTree, MethodTree, InterfaceTree, ImplementationTree, UnitTree}
+use Rattle.arc_ast.specs.Tree.{TypeTree, Object, Id, ResultTree, Value, Related, FunctionTree, HeadTree, MethodTree, InterfaceTree, ImplementationTree, UnitTree}
 use Rattle.arc_class.specs.declared.table.ClassId.{ClassId}
 use Rattle.arc_class.specs.declared.table.MethodResult.{MethodResult}
 use Rattle.arc_spec.specs.Families.{method_family, gives_related}

@@ -2,7 +2,7 @@
 use Rattle.std.specs.Prelude.{ℕ, List, [], ◌∷◌, ◌++◌}
 use Rattle.arc_lex.specs.declared.token.Mark.TheVariants as m
 use Rattle.arc_ast.specs.declared.tree.Visibility.{Visibility}
-use Rattle.arc_ast.specs.Tree.{TypeTree, FieldTree, Object}
+use Rattle.arc_ast.specs.Tree.{FieldTree, Object}
 use Rattle.arc_ast.specs.declared.tree.Qualifiers.{Qualifiers}
 use Rattle.arc_form.specs.Kinds.{Kinds, ◌∪◌, mark, name}
 use Rattle.arc_form.specs.Operators.{fold}
