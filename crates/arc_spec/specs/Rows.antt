@@ -1,5 +1,5 @@
 -- Programs whose meaning is known, to hold the definitions against.
-use Rattle.std.specs.Prelude.{◌≡◌, ℕ, false, pos, negsuc, List, [], ◌∷◌, ◌++◌, map, codes, Option, Some, None}
+use Rattle.std.specs.Prelude.{◌≡◌, ℕ, true, false, pos, negsuc, List, [], ◌∷◌, ◌++◌, map, codes, Option, Some, None}
 use Rattle.arc_ast.specs.declared.tree.Sign.{Sign}
 use Rattle.arc_ast.specs.declared.tree.Sign.TheVariants as signs
 use Rattle.arc_ast.specs.declared.tree.Kind.TheVariants.{Int, Long}
@@ -10,7 +10,7 @@ use Rattle.arc_spec.specs.declared.event.Event.TheVariants.{Byte, Dealloc}
 use Rattle.arc_spec.specs.declared.class.Gives.TheVariants as gives
 use Rattle.arc_spec.specs.Classes.{Class}
 use Rattle.arc_spec.specs.declared.class.Method.{Method}
-use Rattle.arc_spec.specs.Resolved.{Value, Number, ReadByte, Print, Applied, Combined, Local, Global, Read, Sent, ClassValue, ClassSuper, ObjectValue, Field, FieldAssigned, Reference, Nil, Itself, Variable, Stored, ObjectField, ObjectFieldStored, Made, Program, no_arguments, number_argument, object_argument, Invoked, Command, Commands, Evaluate, EvaluateReference, Begin, Return, Function, no_commands, and_command, Bytes, Decimal, Character}
+use Rattle.arc_spec.specs.Resolved.{Value, Number, ReadByte, Print, Applied, Combined, Local, Global, Read, Sent, ClassValue, ClassSuper, ObjectValue, Field, FieldAssigned, Reference, Nil, Itself, Variable, Stored, ObjectField, ObjectFieldStored, Made, New, ObjectInvoked, ObjectSent, Program, no_arguments, number_argument, object_argument, Invoked, Command, Commands, Evaluate, EvaluateReference, Begin, Return, Give, Sequence, Function, no_commands, and_command, Bytes, Decimal, Character}
 use Rattle.arc_spec.specs.Correct.{Stop, meaning_seen}
 use Rattle.arc_spec.specs.Meaning.{mean}
 
@@ -222,3 +222,55 @@ written_while_destroyed = with_global
 
 abbrev pub written_events : List Event
 written_events = Dealloc 1 1 ∷ Dealloc 2 2 ∷ []
+
+-- ---- families and init
+
+-- A class Z whose init is { self = nil; printf("i"); return nil; }, and its dealloc { printf("z"); }; and { [Z new]; printf("k"); [[Z alloc] init]; }
+abbrev pub init_gives_nil : Program
+init_gives_nil = with_global
+    (and_command (EvaluateReference (New None (class_value 1)))
+    (and_command (printed (codes "k"))
+    (and_command (EvaluateReference (ObjectSent (ObjectValue (Made (class_value 1))) 2 no_arguments)) no_commands)))
+    (record {
+      slots = 0;
+      names = 1;
+      parameters = 0;
+      gives = gives.Object;
+      owns = true;
+      body = and_command (EvaluateReference (Stored (Local 0) Nil)) (and_command (printed (codes "i")) (and_command (Give Nil) no_commands));
+    }
+    ∷ does (and_command (printed (codes "z")) no_commands) ∷ [])
+    (record {
+      superclass = Some 0;
+      methods = record { sign = signs.Instance; selector = 2; takes = 0; objects = 0; gives = gives.Object; runs = 1 } ∷ [];
+      dealloc = Some 2;
+      fields = 0;
+      strong_fields = 0;
+    } ∷ [])
+
+-- what it shows: what new made ends with it, before anything else is done
+abbrev pub init_events : List Event
+init_events = map Byte (codes "i") ++ Dealloc 1 1 ∷ map Byte (codes "zki") ++ Dealloc 2 1 ∷ map Byte (codes "z")
+
+-- f() { A *a = [A new]; { A *b = [A new]; b->_v = 2; return b; } } and { printf("%d", f()->_v); printf("k"); }
+abbrev pub result_of_a_block : Program
+result_of_a_block = with_global
+    (and_command (Evaluate (Print (Decimal ∷ []) (number_argument (Field (ObjectInvoked 2 no_arguments) 1 0) no_arguments)))
+    (and_command (printed (codes "k")) no_commands))
+    (prints_v
+    ∷ record {
+      slots = 0;
+      names = 2;
+      parameters = 0;
+      gives = gives.Object;
+      owns = false;
+      body = and_command (Begin 0 new_a) (and_command (Sequence 1 1
+          (and_command (Begin 1 new_a)
+          (and_command (Evaluate (FieldAssigned (Variable (Local 1)) 1 0 (Number (pos 2))))
+          (and_command (Give (Variable (Local 1))) no_commands)))) no_commands);
+    } ∷ [])
+    (dying_class 1 1 0 ∷ [])
+
+-- what it shows: the function's variables are dropped while the result is held, which ends with the caller's full-expression
+abbrev pub result_events : List Event
+result_events = Dealloc 1 1 ∷ map Byte (codes "d02") ++ Dealloc 2 1 ∷ map Byte (codes "d2k")
