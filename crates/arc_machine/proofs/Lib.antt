@@ -47,3 +47,4 @@ pub mod Starting
 pub mod StoredFields
 pub mod StoredGlobals
 pub mod Unstuck
+pub mod Walking

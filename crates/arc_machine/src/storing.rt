@@ -5,7 +5,7 @@ ghost use Rattle.arc_code.specs.Running.{program_of};
 ghost use Rattle.arc_machine.specs.Places.{Ready, CanHold, Executes, Follows, spot, shown, HasPlaces};
 ghost use Rattle.arc_machine.specs.Storing.{CanReplace, Replaces, FieldReady, FindsField, LastGlobal, LastStored};
 
-use crate::field::name_index;
+use crate::field::{is_of, name_index};
 use crate::objects::Objects;
 use crate::place::Place;
 use crate::releasing::{Turn, calm};
@@ -13,7 +13,6 @@ use crate::stop::Answer;
 use arc_code::code::Code;
 use arc_code::instr::Instr;
 use arc_heap::store::Store;
-use arc_spec::class::descends_from;
 use arc_spec::event::Fault;
 
 /// A place that names the first of these is counted to name the second one instead. Where that begins the end of an
@@ -49,7 +48,7 @@ fn find_field<S: Store + Drop>(
         return Err(Fault::NilField);
     }
     let own = objects.class(holder) as usize;
-    if !descends_from(&code.classes, Some(own), class) {
+    if !is_of(&code.classes, own, class) {
         return Err(Fault::FieldClass);
     }
     if objects.is_emptying(holder) {
@@ -92,6 +91,7 @@ impl Place {
     }
 
     /// A variable of the whole program takes what the last reference names, and lets go of what it named.
+    #[inline(always)]
     pub fn store_global<S: Store + Drop>(
         &mut self,
         variable: usize,
@@ -164,6 +164,7 @@ impl Place {
 
     /// A field of the object of the reference before the last one, which is taken, takes what the last one names, and
     /// lets go of what it named.
+    #[inline(always)]
     pub fn store_field<S: Store + Drop>(
         &mut self,
         class: usize,

@@ -1,8 +1,8 @@
 use Rattle.std.proofs.Common.{◌≡◌, arith, rules, refl, ap, ◌∙◌, sym, add-one}
 use Rattle.arc_machine.specs.declared.stop.Answer.TheVariants as answer
 use Rattle.arc_machine.specs.Views.{Seen}
-use Rattle.arc_machine.proofs.Farther.{turned_start, turned}
-use Rattle.arc_machine.proofs.Sliding.{turned_slid}
+use Rattle.arc_machine.proofs.Farther.{turned_start}
+use Rattle.arc_machine.proofs.Sliding.{turned_slid, advanced}
 use Rattle.arc_machine.proofs.machine.Machine.run.Goals as goal
 
 pub loop-turns-init : goal.loop-turns-init
@@ -21,22 +21,7 @@ pub loop-turns-preserved : goal.loop-turns-preserved
 loop-turns-preserved g c =
     let engine = c.loop-turns.self-inside.engine in
     let going : engine.answer ≡ answer.Going = search rules in
-    let e = c.slide-made.ensures in
-    let h = c.loop-turns.invariant in
-    let all = h.turned.all going in
-    record {
-      few = omega arith;
-      going = h.going;
-      turned = turned_slid g.S.Store.out g.S.Store.stock g.S.Store.refuses _ engine _ _ _ _ _ _ _ _ _ _ _ _ _ h.turned going e.slid e.sound;
-      none = λ none. absurd (omega arith);
-      room = λ some. omega arith;
-    }
-
-pub loop-turns-preserved-then-made-most : goal.loop-turns-preserved-then-made-most
-loop-turns-preserved-then-made-most g c =
-    let engine = c.loop-turns.self-inside.engine in
-    let going : engine.answer ≡ answer.Going = search rules in
-    let s = c.slide-made.ensures in
+    let s = c.slide-turns.ensures in
     let h = c.loop-turns.invariant in
     let all = h.turned.all going in
     let slid = turned_slid g.S.Store.out g.S.Store.stock g.S.Store.refuses _ engine _ _ _ _ _ _ _ _ _ _ _ _ _ h.turned going s.slid s.sound in
@@ -44,7 +29,7 @@ loop-turns-preserved-then-made-most g c =
     record {
       few = omega arith;
       going = h.going;
-      turned = rw add-one (turned g.S.Store.out g.S.Store.stock g.S.Store.refuses _ _ _ _ _ _ _ _ _ _ _ _ _ _ _ _ _ _ _ _ slid (s.slid.answer ∙ going) c.advance.result e.ok e.fine e.err e.cause);
+      turned = rw add-one (advanced g.S.Store.out g.S.Store.stock g.S.Store.refuses _ _ _ _ _ _ _ _ _ _ _ _ _ _ _ _ _ _ _ _ _ slid (s.slid.answer ∙ going) c.advance.result e.ok e.fine e.err e.cause);
       none = λ none. absurd (omega arith);
       room = λ some. omega arith;
     }

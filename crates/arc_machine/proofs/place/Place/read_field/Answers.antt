@@ -19,8 +19,8 @@ some_same a b e = cc
 pub class-own-requires-clause-object : goal.class-own-requires-clause-object
 class-own-requires-clause-object g c = read_field_cell g.S.Store.out (program_of c.args.code.now) (spot c.args.self.now c.args.objects.now) c.args.class c.args.index _ c.reference-object.ensures (omega arith) c.requires.ready
 
-pub returns-then-not-descends_from-clause-went : goal.returns-then-not-descends_from-clause-went
-returns-then-not-descends_from-clause-went g c =
+pub returns-then-not-is_of-clause-went : goal.returns-then-not-is_of-clause-went
+returns-then-not-is_of-clause-went g c =
     let other : descends (classes_of c.args.code.now.classes.items) (Some c.class-own.result) c.args.class ≡ false = cc in
     read_field_other g.S.Store.out (program_of c.args.code.now) (spot c.args.self.now c.args.objects.now) c.args.class c.args.index _ c.reference-object.ensures (omega arith) c.class-own.result c.class-own.ensures other
 
