@@ -46,7 +46,7 @@ impl<'a> Heads<'a> {
     }
 
     /// The method with the selector.
-    pub fn get(&self, sign: Sign, selector: &'a [u8]) -> Option<&'a MethodHead>
+    pub fn get(&self, sign: Sign, selector: &[u8]) -> Option<&'a MethodHead>
         ensures { result ≡ head_at self.now sign selector.now }
     {
         match sign {

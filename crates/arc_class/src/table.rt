@@ -56,10 +56,10 @@ pub struct Declared {
 pub type Known<'a> = BTreeMap<&'a [u8], Declared>;
 
 /// What the map has at the name.
-pub(crate) fn at_name<'a, V: Copy>(map: &BTreeMap<&'a [u8], V>, name: &'a [u8]) -> Option<V>
+pub(crate) fn at_name<'a, V: Copy>(map: &BTreeMap<&'a [u8], V>, name: &[u8]) -> Option<V>
     ensures { result ≡ at_name map.now name.now }
 {
-    map.get(&name).copied()
+    map.get(name).copied()
 }
 
 /// The first interface of a name: the number of its class, and the place of the name.
@@ -93,7 +93,7 @@ pub(crate) fn is_root(name: &[u8]) -> bool
 }
 
 /// The number of the class with the name.
-pub(crate) fn class_number<'a>(names: &Names<'a>, name: &'a [u8]) -> Option<usize>
+pub(crate) fn class_number<'a>(names: &Names<'a>, name: &[u8]) -> Option<usize>
     ensures { result ≡ class_number_in names.now name.now }
 {
     if is_root(name) {
@@ -237,7 +237,7 @@ impl<'a> Entry<'a> {
 }
 
 /// What the method gives that is kept for the selector.
-fn result_at<'a>(heads: &Heads<'a>, sign: Sign, selector: &'a [u8]) -> Option<Kind>
+fn result_at<'a>(heads: &Heads<'a>, sign: Sign, selector: &[u8]) -> Option<Kind>
     ensures { result ≡ result_at heads.now sign selector.now }
 {
     match heads.get(sign, selector) {
@@ -430,7 +430,7 @@ impl<'a> ClassTable<'a> {
     }
 
     /// The class with the name, where it has an interface or is the root (Runtime Reference, `objc_getClass`).
-    pub fn objc_get_class(&self, name: &'a [u8]) -> Option<ClassId>
+    pub fn objc_get_class(&self, name: &[u8]) -> Option<ClassId>
         ensures { option_map number_of_class result ≡ class_in self.now name.now }
     {
         class_id(class_number(&self.names, name))
@@ -491,7 +491,7 @@ impl<'a> ClassTable<'a> {
 
     /// What a message to an object gives of which no class is known: as the methods of objects do that the source has, or that are built in,
     /// but for the messages that count owners, which give what they always do.
-    pub fn result_of_any(&self, selector: &'a [u8]) -> Option<Kind>
+    pub fn result_of_any(&self, selector: &[u8]) -> Option<Kind>
         ensures { result ≡ any_result_in self.now selector.now }
     {
         if let Some(kind) = counting_result(selector) {
