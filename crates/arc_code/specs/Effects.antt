@@ -1,5 +1,5 @@
 -- How many numbers, references and strong places each instruction takes and gives; what a table of heights says of the instructions of a program, so that no run has more.
-use Rattle.std.specs.Prelude.{◌≡◌, ◌≤◌, ℕ, suc, ◌+◌, ◌*◌, List, [], length, Option, Some, slice_get}
+use Rattle.std.specs.Prelude.{◌≡◌, ◌≤◌, ℕ, suc, ◌+◌, ◌-◌, ◌*◌, List, [], length, Option, Some, slice_get}
 use Rattle.arc_ast.specs.declared.tree.Sign.{Sign}
 use Rattle.arc_ast.specs.declared.tree.Sign.TheVariants as signs
 use Rattle.arc_spec.specs.declared.class.Gives.{Gives}
@@ -28,10 +28,25 @@ on_numbers taken given = of_names taken given 0
 abbrev pub on_names : (taken given temporaries : ℕ) → Effect
 on_names taken given temporaries = record { numbers_taken = 0; numbers_given = 0; names_taken = taken; names_given = given; temporaries = temporaries; variables = 0 }
 
+-- how many numbers a result is, and how many objects
+abbrev pub as_number : Gives → ℕ
+as_number gives.Number = 1
+as_number gives.Object = 0
+
+abbrev pub as_object : Gives → ℕ
+as_object gives.Number = 0
+as_object gives.Object = 1
+
 -- what takes numbers and references, and gives a number, or an object, which a temporary takes
 abbrev pub giving : Gives → (taken names : ℕ) → Effect
-giving gives.Number taken names = of_names taken 1 names
-giving gives.Object taken names = record (of_names taken 0 names) { names_given = 1; temporaries = 1 }
+giving given taken names = record {
+  numbers_taken = taken;
+  numbers_given = as_number given;
+  names_taken = names;
+  names_given = as_object given;
+  temporaries = as_object given;
+  variables = 0;
+}
 
 abbrev pub operation_effect : Op → Effect
 operation_effect (Num n) = on_numbers 0 1
@@ -151,17 +166,34 @@ module _ {J F T : Type 0} (p : Program J F T) (height : ℕ → Height) where
   FitsAt pc (StoreGlobal i) = FitsTo pc (pc + 1) (StoreGlobal i)
   FitsAt pc (StoreField class index) = FitsTo pc (pc + 1) (StoreField class index)
   FitsAt pc (Empty i) = FitsTo pc (pc + 1) (Empty i)
-  FitsAt pc Settle = FitsTo pc (pc + 1) Settle
+  FitsAt pc Settle = FitsFrom (record (height pc) { temporaries = (height pc).temporaries - 1 }) (height (pc + 1)) Settle
   FitsAt pc Give = FitsFrom (record (height pc) { variables = 0 }) no_height Give
   FitsAt pc DropAll = FitsFrom (record (height pc) { temporaries = 0 }) (height (pc + 1)) DropAll
   FitsAt pc Return = FitsFrom (record (height pc) { variables = 0 }) no_height Return
   FitsAt pc EndStep = FitsFrom (height pc) no_height EndStep
 
-  -- a table that fits a program, whose greatest heights these are
+-- A second table says what the function gives in which an instruction stands.
+module _ {J F T : Type 0} (p : Program J F T) (result : ℕ → Gives) where
+  abbrev pub SameResult : (pc to : ℕ) → Type 0
+  SameResult pc to = result to ≡ result pc
+
+  -- What it says of the instruction with a number. A run stays in the function, which is left with what it gives; what is called gives what is wanted.
+  abbrev pub GivesAt : (pc : ℕ) → Instr J F T → Type 0
+  GivesAt pc (Jump j) = SameResult pc (p.lands pc j)
+  GivesAt pc (JumpZero j) = SameResult pc (pc + 1) × SameResult pc (p.lands pc j)
+  GivesAt pc (Call f wanted) = SameResult pc (pc + 1) × ((to : ℕ) → p.entry f ≡ Some to → result to ≡ wanted)
+  GivesAt pc Give = result pc ≡ gives.Object
+  GivesAt pc Return = result pc ≡ gives.Number
+  GivesAt pc EndStep = Unit {0}
+  GivesAt pc x = SameResult pc (pc + 1)
+
+-- tables that fit a program, whose greatest heights these are
+module _ {J F T : Type 0} (p : Program J F T) (height : ℕ → Height) (result : ℕ → Gives) where
   pub record HeightsFit (most_numbers most_names most_places : ℕ) : Type 0 where
-    pub at : (pc : ℕ) (x : Instr J F T) → slice_get p.instrs pc ≡ Some x → FitsAt pc x
+    pub at : (pc : ℕ) (x : Instr J F T) → slice_get p.instrs pc ≡ Some x → FitsAt p height pc x
+    pub results : (pc : ℕ) (x : Instr J F T) → slice_get p.instrs pc ≡ Some x → GivesAt p result pc x
     pub methods : (from : Option ℕ) (sign : Sign) (selector takes objects : ℕ) (wanted : Gives) (to : ℕ) → lookup p.classes from sign selector takes objects wanted ≡ Some to
-        → (passes sign takes ≤ (height to).numbers) × (objects ≤ (height to).names)
+        → (passes sign takes ≤ (height to).numbers) × (objects ≤ (height to).names) × (result to ≡ wanted)
     pub numbers_most : (pc : ℕ) → (height pc).numbers ≤ most_numbers
     pub names_most : (pc : ℕ) → (height pc).names ≤ most_names
     pub places_most : (pc : ℕ) → (height pc).temporaries + (height pc).variables ≤ most_places

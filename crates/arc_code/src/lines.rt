@@ -75,8 +75,8 @@ fn put_operands<W: Output>(instr: Instruction, writer: &mut Counted<W>) -> Resul
         }
         Instr::SendSuper(from, first, second, third, gives)
         | Instr::SendToSuper(from, first, second, third, gives) => {
-            put_operand(from as u64, writer)?;
-            put_four(
+            put_five(
+                from as u64,
                 first as u64,
                 second as u64,
                 third as u64,
@@ -167,6 +167,24 @@ fn put_four<W: Output>(
 {
     put_operand(first, writer)?;
     put_three(second, third, fourth, writer)
+}
+
+fn put_five<W: Output>(
+    first: u64,
+    second: u64,
+    third: u64,
+    fourth: u64,
+    fifth: u64,
+    writer: &mut Counted<W>,
+) -> Result<(), IoFault>
+    requires { failures_of writer.old < 2 ^ 64 - 1 }
+    ensures { Written result (operand first ++ (operand second ++ (operand third ++ (operand fourth ++ operand fifth))))
+        (held_by W.contents writer.old) (held_by W.contents writer.new)
+        (failures_of writer.old) (failures_of writer.new)
+        (HasFailedToWrite W.writes W.flushes (inner_of writer.new)) }
+{
+    put_operand(first, writer)?;
+    put_four(second, third, fourth, fifth, writer)
 }
 
 fn put_operand<W: Output>(number: u64, writer: &mut Counted<W>) -> Result<(), IoFault>
