@@ -45,7 +45,7 @@ fn more_qualifiers(before: Qualifiers, tokens: &[Token]) -> Read<'_, Qualifiers>
 }
 
 /// Qualifiers, as many as there are.
-#[tactic(auto, unfolding(arc_grammar::specs::Grammar::qualifiers))]
+#[tactic(auto, using(crate::proofs::Qualifiers::read_qualifiers))]
 pub fn qualifiers(tokens: &[Token]) -> Read<'_, Qualifiers>
     ensures gives { Gives (λ x. (x.0, toks x.1.now)) result (reads grammar.qualifiers (toks tokens.now)) }
     ensures shorter { IfOk result (λ x. length x.1.now ≤ length tokens.now) }
@@ -54,7 +54,7 @@ pub fn qualifiers(tokens: &[Token]) -> Read<'_, Qualifiers>
 }
 
 /// One qualifier or more.
-#[tactic(auto, unfolding(arc_grammar::specs::Grammar::some_qualifiers))]
+#[tactic(auto, using(crate::proofs::Qualifiers::read_some_qualifiers))]
 pub fn some_qualifiers(tokens: &[Token]) -> Read<'_, Qualifiers>
     ensures gives { Gives (λ x. (x.0, toks x.1.now)) result (reads grammar.some_qualifiers (toks tokens.now)) }
     ensures shorter { IfOk result (λ x. length x.1.now < length tokens.now) }
