@@ -44,11 +44,7 @@ impl<'a> Visitor for Ownership<'a> {
 }
 
 /// The first rule that a site breaks.
-fn first_broken<'a>(
-    table: &ClassTable<'a>,
-    enclosing: Enclosing<'a>,
-    node: Node<'a>,
-) -> Option<OwnFault>
+fn first_broken(table: &ClassTable, enclosing: Enclosing, node: Node) -> Option<OwnFault>
     ensures { (u : UnitTree) → IsTableOf u table.now → (scope : sites.Scope) (need : sites.Need) → option_map told result ≡ first (rules.violations u (around (enclosing_of enclosing.entry) scope need) (node_of node.entry)) }
 {
     let qualifier = qualifier(node);
@@ -189,7 +185,7 @@ fn is_in_instance(enclosing: Enclosing) -> bool
 }
 
 /// Whether a message is one of the init family.
-fn is_init_message<'a>(table: &ClassTable<'a>, message: Message<'a>) -> bool
+fn is_init_message(table: &ClassTable, message: Message) -> bool
     ensures { (u : UnitTree) → IsTableOf u table.now → result ≡ rules.is_init_message u (message_of message.entry) }
 {
     let kind = table.result_of_any(message.selector).unwrap_or(Kind::Void);
@@ -198,7 +194,7 @@ fn is_init_message<'a>(table: &ClassTable<'a>, message: Message<'a>) -> bool
 }
 
 /// Whether a message delegates to an init method.
-fn is_delegated<'a>(table: &ClassTable<'a>, enclosing: Enclosing<'a>, message: Message<'a>) -> bool
+fn is_delegated(table: &ClassTable, enclosing: Enclosing, message: Message) -> bool
     ensures { (u : UnitTree) → IsTableOf u table.now → result ≡ rules.is_delegated u (enclosing_of enclosing.entry) (message_of message.entry) }
 {
     is_in_instance(enclosing)
@@ -208,11 +204,7 @@ fn is_delegated<'a>(table: &ClassTable<'a>, enclosing: Enclosing<'a>, message: M
 }
 
 /// 63 DelegateInit.
-fn delegate_init<'a>(
-    table: &ClassTable<'a>,
-    enclosing: Enclosing<'a>,
-    node: Node<'a>,
-) -> Option<OwnFault>
+fn delegate_init(table: &ClassTable, enclosing: Enclosing, node: Node) -> Option<OwnFault>
     ensures { (u : UnitTree) → IsTableOf u table.now → (scope : sites.Scope) (need : sites.Need) → option_map told result ≡ first (violates 63 (rules.rule_63 u (around (enclosing_of enclosing.entry) scope need) (node_of node.entry))) }
 {
     match node {
@@ -229,6 +221,16 @@ fn delegate_init<'a>(
     }
 }
 
+/// The number of the class, if there is one.
+fn number_of(class: Option<ClassId>) -> Option<usize>
+    ensures { result ≡ option_map number_of_class class }
+{
+    match class {
+        None => None,
+        Some(class) => Some(class.0),
+    }
+}
+
 /// Whether a class is another one, or above it.
 fn is_above(table: &ClassTable, class: Option<ClassId>, other: Option<ClassId>) -> bool
     ensures { (u : UnitTree) → IsTableOf u table.now → result ≡ rules.is_above u (option_map number_of_class class) (option_map number_of_class other) }
@@ -236,12 +238,11 @@ fn is_above(table: &ClassTable, class: Option<ClassId>, other: Option<ClassId>) 
     let Some(class) = class else {
         return false;
     };
-    let from = other.map(|class| class.0);
-    descends_from(&table.classes, from, class.0)
+    descends_from(&table.classes, number_of(other), class.0)
 }
 
 /// Whether one of two classes is the other one, or above it.
-fn are_related<'a>(table: &ClassTable<'a>, name: &'a [u8], other: &'a [u8]) -> bool
+fn are_related(table: &ClassTable, name: &[u8], other: &[u8]) -> bool
     ensures { (u : UnitTree) → IsTableOf u table.now → result ≡ rules.are_related u name.now other.now }
 {
     let one = table.objc_get_class(name);
@@ -250,7 +251,7 @@ fn are_related<'a>(table: &ClassTable<'a>, name: &'a [u8], other: &'a [u8]) -> b
 }
 
 /// Whether an init method of a class may give an object of the type.
-fn may_be_given<'a>(table: &ClassTable<'a>, class: &'a [u8], written: &'a ResultType) -> bool
+fn may_be_given(table: &ClassTable, class: &[u8], written: &ResultType) -> bool
     ensures { (u : UnitTree) → IsTableOf u table.now → result ≡ rules.may_be_given u class.now (result_tree written.now) }
 {
     match written {
@@ -260,7 +261,7 @@ fn may_be_given<'a>(table: &ClassTable<'a>, class: &'a [u8], written: &'a Result
 }
 
 /// 66 InitResult, of a method of a class.
-fn wrong_init<'a>(table: &ClassTable<'a>, class: &'a [u8], head: &'a MethodHead) -> Option<OwnFault>
+fn wrong_init(table: &ClassTable, class: &[u8], head: &MethodHead) -> Option<OwnFault>
     ensures { (u : UnitTree) → IsTableOf u table.now → option_map told result ≡ first (violates 66 (at_if (rules.is_wrong_init u class.now (head_tree head.now)) head.now.at)) }
 {
     let is_init = matches!(head_family(head), Family::Init);
@@ -269,11 +270,7 @@ fn wrong_init<'a>(table: &ClassTable<'a>, class: &'a [u8], head: &'a MethodHead)
 }
 
 /// 66 InitResult.
-fn init_result<'a>(
-    table: &ClassTable<'a>,
-    enclosing: Enclosing<'a>,
-    node: Node<'a>,
-) -> Option<OwnFault>
+fn init_result(table: &ClassTable, enclosing: Enclosing, node: Node) -> Option<OwnFault>
     ensures { (u : UnitTree) → IsTableOf u table.now → option_map told result ≡ first (violates 66 (rules.rule_66 u (enclosing_of enclosing.entry) (node_of node.entry))) }
 {
     match (enclosing, node) {
