@@ -84,7 +84,7 @@ is_related h = related h.result
 abbrev pub class_of_result : UnitTree → List ℕ → Option ClassId
 class_of_result u name = option_and_then (λ f. result_class u.interfaces f.result) (first_named name u.functions)
 
--- what a method gives: its kind, and its class, if its type names one if its type names one
+-- what a method gives: its kind, and its class, if its type names one, and whether it is of the class that gets the message
 abbrev pub given_by : List InterfaceTree → HeadTree → MethodResult
 given_by interfaces h = record { kind = result_of h; class = result_class interfaces h.result; related = is_related h }
 
