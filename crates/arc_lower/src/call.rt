@@ -1,21 +1,34 @@
 //! From a call, whose values lie on the stack, to actions.
-ghost use Rattle.std.specs.Prelude.{◌≡◌, ◌<◌, ◌-◌, suc, ◌++◌, option_map, if◌then◌else◌, OnOk};
+ghost use Rattle.std.specs.Prelude.{◌≡◌, ◌<◌, ◌-◌, suc, ◌++◌, Some, None, option_map, if◌then◌else◌, OnOk, IfOk};
 ghost use Rattle.arc_check.specs.Checked.{program_of};
 ghost use Rattle.arc_spec.specs.Classes.{lesser, same_gives};
 ghost use Rattle.arc_spec.specs.Resolved.{Function};
 ghost use Rattle.arc_lower.specs.Definitions.{definition_of, found_at};
 ghost use Rattle.arc_lower.specs.Order.{orders};
-ghost use Rattle.arc_lower.specs.Lowered.{number_of, slots_of, parameters_of, fit_orders, fit_object_orders, passing_orders, call_orders, leave_orders};
+ghost use Rattle.arc_lower.specs.Lowered.{number_of_nothing, number_of, slots_of, parameters_of, fit_orders, fit_object_orders, passing_orders, call_orders, leave_orders};
 
 use crate::expression::append;
 use crate::place::{append_all_empty, append_forgets, append_nils};
 use crate::print::{append_keep, append_pops};
-use crate::variable::append_zeros;
+use crate::variable::{append_zeros, one_more};
 use arc_check::checked::{Checked, CheckedFunction};
 use arc_code::instr::Instr;
 use arc_ir::action::Action;
 use arc_spec::class::Gives;
 use arc_spec::event::NoMemory;
+
+/// The function, where it gives this.
+fn where_giving<'p>(
+    function: &'p CheckedFunction,
+    wanted: Gives,
+) -> Option<&'p CheckedFunction>
+    ensures { option_map (λ found. definition_of found.now) result ≡ (if same_gives function.now.gives wanted then Some (definition_of function.now) else None) }
+{
+    match (function.gives, wanted) {
+        (Gives::Number, Gives::Number) | (Gives::Object, Gives::Object) => Some(function),
+        (Gives::Number, Gives::Object) | (Gives::Object, Gives::Number) => None,
+    }
+}
 
 /// The function with this number, where it gives this.
 fn function_giving<'p>(
@@ -25,11 +38,9 @@ fn function_giving<'p>(
 ) -> Option<&'p CheckedFunction>
     ensures { option_map (λ found. definition_of found.now) result ≡ found_at (program_of program.now) wanted function }
 {
-    let found = program.functions.get(function)?;
-    if found.gives == wanted {
-        Some(found)
-    } else {
-        None
+    match program.functions.get(function) {
+        None => None,
+        Some(found) => where_giving(found, wanted),
     }
 }
 
@@ -49,21 +60,20 @@ pub(crate) fn parameters_of(program: &Checked, wanted: Gives, function: usize) -
 {
     match function_giving(program, wanted, function) {
         Some(found) => {
-            let places = function_places(found.names, found.gives);
-            object_parameters(found.parameters, places, found.owns)
+            object_parameters(found.parameters, found.names, found.gives, found.owns)
         }
         None => 0,
     }
 }
 
-/// How many places of objects a function has with so many variables that name objects; one that gives an object has one more.
-pub(crate) fn function_places(names: usize, gives: Gives) -> usize
-    requires { names < usize.MAX }
-    ensures { result ≡ (if same_gives gives Gives.Object then suc names else names) }
+/// How many places of objects a function has with so many variables that name objects; one that gives an object has one
+/// more. NoMemory: no function has so many.
+pub(crate) fn function_places(names: usize, gives: Gives) -> Result<usize, NoMemory>
+    ensures { IfOk result (λ places. places ≡ (if same_gives gives Gives.Object then suc names else names)) }
 {
     match gives {
-        Gives::Number => names,
-        Gives::Object => names + 1,
+        Gives::Number => Ok(names),
+        Gives::Object => one_more(names),
     }
 }
 
@@ -74,11 +84,27 @@ pub(crate) fn owned_by(owns: bool) -> usize
     if owns { 1 } else { 0 }
 }
 
-/// How many objects a function takes that has so many places of objects.
-pub(crate) fn object_parameters(parameters: usize, places: usize, owns: bool) -> usize
-    ensures { result ≡ lesser parameters (places - (if owns then 1 else 0)) }
+/// How many objects a function takes that has so many parameters and variables that name objects.
+pub(crate) fn object_parameters(
+    parameters: usize,
+    names: usize,
+    gives: Gives,
+    owns: bool,
+) -> usize
+    ensures { result ≡ lesser parameters ((if same_gives gives Gives.Object then suc names else names) - (if owns then 1 else 0)) }
 {
-    lesser(parameters, places.saturating_sub(owned_by(owns)))
+    match (gives, owns) {
+        (Gives::Number, false) | (Gives::Object, true) => lesser(parameters, names),
+        (Gives::Number, true) => lesser(parameters, names.saturating_sub(1)),
+        (Gives::Object, false) => at_most_one_more(parameters, names),
+    }
+}
+
+/// The lesser of the first number and one more than the second.
+fn at_most_one_more(first: usize, second: usize) -> usize
+    ensures { result ≡ lesser first (suc second) }
+{
+    if first <= second { first } else { second + 1 }
 }
 
 /// The lesser of two numbers.
@@ -92,11 +118,20 @@ pub(crate) fn lesser(first: usize, second: usize) -> usize
 pub(crate) fn number_of(program: &Checked, wanted: Gives, function: usize) -> usize
     ensures { result ≡ number_of (program_of program.now) wanted function }
 {
+    match function_giving(program, wanted, function) {
+        Some(_) => function,
+        None => number_of_nothing(program, wanted),
+    }
+}
+
+/// The number of the function that does nothing, and gives this.
+fn number_of_nothing(program: &Checked, wanted: Gives) -> usize
+    ensures { result ≡ number_of_nothing (program_of program.now) wanted }
+{
     let count = program.functions.len();
-    match (function_giving(program, wanted, function), wanted) {
-        (Some(_), _) => function,
-        (None, Gives::Number) => count,
-        (None, Gives::Object) => count + 1,
+    match wanted {
+        Gives::Number => count,
+        Gives::Object => count + 1,
     }
 }
 
@@ -162,7 +197,7 @@ pub(crate) fn append_leave(
 ) -> Result<(), NoMemory>
     ensures { (f : Function) → f.slots ≡ slots → f.names ≡ names → f.gives ≡ gives → OnOk result (orders actions.new.items ≡ orders actions.old.items ++ leave_orders f) }
 {
-    append_all_empty(actions, function_places(names, gives), 0, names)?;
+    append_all_empty(actions, function_places(names, gives)?, 0, names)?;
     append_keep(actions, slots)?;
     match gives {
         Gives::Number => append(actions, Instr::Return),

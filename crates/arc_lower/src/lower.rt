@@ -137,7 +137,8 @@ fn append_functions(
     let number = nothing_giving(Gives::Number);
     append_function(alloc, actions, entries, program, number, most)?;
     let object = nothing_giving(Gives::Object);
-    append_function(alloc, actions, entries, program, object, most)
+    append_function(alloc, actions, entries, program, object, most)?;
+    Ok(())
 }
 
 /// A function: how many variables it has that hold numbers and that name objects, how many objects it is passed, what it
@@ -180,7 +181,7 @@ fn append_function(
     ensures most { OnOk result (most.new ≡ greatest (function_heights (program_of program.now) (length (orders actions.old.items)) (function_of function.entry)) most.old) }
 {
     let exit = actions.len();
-    let names = function_places(function.names, function.gives);
+    let names = function_places(function.names, function.gives)?;
     append_leave(actions, function.slots, function.names, function.gives)?;
     let base = between(function.slots, names);
     let left = between(one_more(function.slots)?, names);
@@ -188,7 +189,12 @@ fn append_function(
     let entry = actions.len();
     entries.push(entry)?;
     append_body(alloc, actions, program, exit, function)?;
-    let given = object_parameters(function.parameters, names, function.owns);
+    let given = object_parameters(
+        function.parameters,
+        function.names,
+        function.gives,
+        function.owns,
+    );
     let entered = passed(function.slots, given);
     *most = greatest(alloc, program, base, entered, &actions[entry..], *most)?;
     Ok(())
@@ -204,7 +210,7 @@ fn append_body(
 ) -> Result<(), NoMemory>
     ensures { OnOk result (orders actions.new.items ≡ orders actions.old.items ++ body_orders (program_of program.now) exit (length (orders actions.old.items)) (function_of function.entry)) }
 {
-    let names = function_places(function.names, function.gives);
+    let names = function_places(function.names, function.gives)?;
     let body = Body {
         slots: function.slots,
         names,
@@ -212,7 +218,12 @@ fn append_body(
         turn: None,
     };
     append_declares(actions, names)?;
-    let given = object_parameters(function.parameters, names, function.owns);
+    let given = object_parameters(
+        function.parameters,
+        function.names,
+        function.gives,
+        function.owns,
+    );
     append_takes(actions, owned_by(function.owns), given)?;
     if function.owns {
         append_own(actions, names)?;
