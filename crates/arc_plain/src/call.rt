@@ -1,6 +1,6 @@
 //! Calls, places that are dropped, and the ends of objects.
 ghost use Rattle.std.specs.Prelude.{◌≡◌};
-ghost use Rattle.arc_spec.specs.Classes.{superclasses, ancestry};
+ghost use Rattle.arc_spec.specs.Classes.{superclasses, ancestry, same_gives};
 ghost use Rattle.arc_check.specs.Checked.{program_of};
 ghost use Rattle.arc_spec.specs.Objects.{object_at};
 ghost use Rattle.arc_spec.specs.Meaning.{emptied, fields_dropped, called, given, released, all_dropped, second_dropped, variables_dropped, function_at, dealloc_run, deallocs_run};
@@ -16,6 +16,7 @@ use crate::object::{
 use crate::place::{clear, drop_last, drop_second, is_named, name_at, pop_frame, push_frame};
 use crate::progress::Progress;
 use crate::statement::{Flow, execute_all};
+use arc_check::checked::CheckedFunction;
 use arc_spec::class::Gives;
 use arc_spec::event::Fault;
 use arc_spec::order::field_order;
@@ -61,7 +62,7 @@ fn enter(
     let Some(entered) = context.program.functions.get(function) else {
         return Ok(object_given(0));
     };
-    if entered.gives != wanted {
+    if !is_giving(entered, wanted) {
         return Ok(object_given(0));
     }
     let waiting = progress.waiting.len();
@@ -74,6 +75,13 @@ fn enter(
         number: number_of(flow),
         object,
     })
+}
+
+/// Whether a function gives this.
+fn is_giving(function: &CheckedFunction, wanted: Gives) -> bool
+    ensures { result ≡ same_gives function.now.gives wanted }
+{
+    function.gives == wanted
 }
 
 /// What a function gives that was left so.

@@ -1,5 +1,5 @@
 //! Strong places: variables that name objects, and temporaries.
-ghost use Rattle.std.specs.Prelude.{◌≡◌, ◌∷◌, ◌++◌, ◌+◌, [], OnOk, IfOk, MatchOption, length, reverse, map, slice_set};
+ghost use Rattle.std.specs.Prelude.{◌≡◌, ◌∷◌, ◌++◌, ◌+◌, ◌<◌, [], OnOk, IfOk, MatchOption, length, reverse, map, slice_set};
 ghost use Rattle.std.proofs.Common.{take};
 ghost use Rattle.arc_spec.specs.Meaning.{function_places};
 ghost use Rattle.arc_spec.specs.Objects.{names};
@@ -37,7 +37,7 @@ pub fn drop_last(progress: &mut Progress) -> Option<usize>
 
 /// Drops the temporary before the last one of the running function, where there is one, and gives what it named.
 pub fn drop_second(progress: &mut Progress) -> Option<usize>
-    ensures second { MatchOption result (world progress.new ≡ world progress.old) (λ object. FollowsLast (world progress.old).frame.temporaries object (world progress.new).frame.temporaries) }
+    ensures second { MatchOption result ((length (world progress.old).frame.temporaries < 2) × (world progress.new ≡ world progress.old)) (λ object. FollowsLast (world progress.old).frame.temporaries object (world progress.new).frame.temporaries) }
     ensures others { world progress.new ≡ with_temporaries (world progress.old) (world progress.new).frame.temporaries }
 {
     let count = progress.frame.temporaries.len();
