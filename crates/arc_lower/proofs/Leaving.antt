@@ -389,7 +389,7 @@ module _ (p : Program) (frames : List Frame) (bound : ℕ) (R : resolved.Program
       let declares = declare_orders count in
       let takes1 = take_orders 0 few in
       let middle = entry + length declares in
-      let there : middle + length takes1 ≡ entry + length (opens false count few) = omega (arith, length-append declares (takes1 ++ []), length-append takes1 []) in
+      let there : middle + length takes1 ≡ entry + length (declares ++ (takes1 ++ [])) = omega (arith, length-append declares (takes1 ++ []), length-append takes1 []) in
       let same : objects ++ nils (count - few) ≡ first_strong false count arguments = first_are few count F.parameters arguments.objects is in
       leads_runs (moves p) bound (running frames all_names entry stack (begun_with arguments [])) (running frames all_names middle stack (begun_with arguments (nils few ++ nils (count - few)))) end o
       (declared_leads [] count few (count - few) arguments all_names stack entry (nils_split few (count - few) count le refl) (has_front p entry declares (takes1 ++ []) has))
@@ -412,9 +412,10 @@ module _ (p : Program) (frames : List Frame) (bound : ℕ) (R : resolved.Program
       let declares = declare_orders (suc m) in
       let takes1 = take_orders 1 few in
       let owned = own_orders (suc m) in
+      let four : length owned ≡ 4 = refl in
       let middle = entry + length declares in
       let q = middle + length takes1 in
-      let there : q + 1 + 1 + 1 + 1 ≡ entry + length (opens true (suc m) few) = omega (arith, length-append declares (takes1 ++ owned), length-append takes1 owned) in
+      let there : q + 1 + 1 + 1 + 1 ≡ entry + length (declares ++ (takes1 ++ owned)) = omega (arith, length-append declares (takes1 ++ owned), length-append takes1 owned, four) in
       let tail = objects ++ nils (m - few) in
       let same : tail ≡ first_names m (take F.parameters arguments.objects) = first_are few m F.parameters arguments.objects is in
       let has_behind = has_back p entry declares (takes1 ++ owned) has in

@@ -59,6 +59,10 @@ module _ (P : Program) (slots names : ℕ) where
   behind_enter AtTest n m xs e = e
   behind_enter AtBody n m xs e = e
 
+  one_quiet : (t : Bool) (xs ys : List Order) (m n : Bool) → none (if t then xs else ys) → (none xs → m ≡ true) → (none ys → n ≡ true) → (if t then m else n) ≡ true
+  one_quiet true xs ys m n e h k = h e
+  one_quiet false xs ys m n e h k = k e
+
   pub quiet_flat : (b : Block) → none (flat P slots names Inside b) → takes_none P b ≡ true
   quiet_flat (One o) e = ap not (or_first (nat_lt 0 (operation_effect o).temporaries) false e)
   quiet_flat (Read (Global i)) e = sym e
@@ -71,11 +75,7 @@ module _ (P : Program) (slots names : ℕ) where
   quiet_flat (Tells gives.Object (ToObject selector) n m) e = sym e
   quiet_flat (Tells gives.Object (ToSuper from selector) n m) e = sym e
   quiet_flat Making e = sym e
-  quiet_flat (IfNew class a b) e = by (has_new P class) e
-    where
-      by : (t : Bool) → none (if t then flat P slots names Inside a else flat P slots names Inside b) → (if t then takes_none P a else takes_none P b) ≡ true
-      by true h = quiet_flat a h
-      by false h = quiet_flat b h
+  quiet_flat (IfNew class a b) e = one_quiet (has_new P class) (flat P slots names Inside a) (flat P slots names Inside b) (takes_none P a) (takes_none P b) e (quiet_flat a) (quiet_flat b)
   quiet_flat (Then a b) e =
       let xs = flat P slots names Inside a in
       let ys = flat P slots names Inside b in

@@ -35,7 +35,7 @@ use Rattle.arc_lower.specs.Lowered.{Message, ToClass, ToSuperClass, ToObject, To
 use Rattle.std.specs.List.{list_any}
 use Rattle.arc_lower.proofs.Leading.{Leads, leads_same, leads_trans, leads_step, Runs, leads_runs, later_runs, fewer_runs, ends_here, then_runs}
 use Rattle.arc_lower.proofs.Recounting.{fresh, recount, moves, at, held_of}
-use Rattle.arc_lower.proofs.Doing.{does, HasAt, has_front, has_back}
+use Rattle.arc_lower.proofs.Doing.{bare, does, HasAt, has_front, has_back}
 use Rattle.arc_lower.proofs.Segments.{running, one_runs, quiet, quiet_runs, Passes, then_passes, one_passes, no_passes}
 use Rattle.arc_lower.proofs.Stacking.{onto, Peels, peels_onto, drop_onto, without_below, get_onto, get_local, set_local, get_below, set_below}
 use Rattle.arc_lower.proofs.Printing.{print_passes}
@@ -602,7 +602,7 @@ module _ (p : Program) (frames : List Frame) (bound : ℕ) (R : resolved.Program
   making_runs turn calm pc (v ∷ numbers) rs w free g has =
       let s : Operands = record { numbers = numbers; names = rs } in
       let q = pc + 1 + 1 + 1 in
-      let e : q ≡ pc + length making_orders = omega arith in
+      let e : q ≡ pc + 3 = omega arith in
       let start = standing pc (push v s) w in
       let meant = made_new D (class_at v) w in
       subst (λ k. Goes_on turn calm start k (left_by (λ r. On (name r s)) meant)) e
@@ -981,43 +981,43 @@ module _ (p : Program) (frames : List Frame) (bound : ℕ) (R : resolved.Program
   either_runs turn calm pc from false xs ys x y m n free has h k = k free has
 
   pub block_runs : (place : ℕ) (e : Spot) (turn : Turn) (calm between : Bool) → (between ≡ true → calm ≡ true) → (between ≡ false → place ≡ names - 1) → (b : Block) → (calm ≡ true → takes_none R b ≡ true) → (pc : ℕ) → Stands between e pc turn → (s : Operands) (w : World) → Good calm w → HasAt p pc (actions e b) → Goes_on turn calm (standing pc s w) (pc + length (actions e b)) (block D bound place between b s w)
-  block_runs place e turn calm m h last Idle free pc stands s w g has = let same : pc ≡ pc + 0 = omega arith in ends_at turn calm pc (pc + 0) (standing pc s w) (Done (On s) w) same (here turn calm pc s w g)
-  block_runs place e turn calm m h last (One o) free pc stands s w g has = one_runs p frames bound s.names (Plain o) pc (s.numbers ++ vars w) w (Leaves turn calm (pc + 1)) (operation D o s w) has (operation_runs turn calm o pc s.numbers s.names w free g)
-  block_runs place e turn calm m h last (Load depth i) free pc stands s w g has = load_by turn calm depth i pc s w (nat_eq depth (length s.numbers)) refl g has
-  block_runs place e turn calm m h last (Store depth i) free pc stands s w g has = store_runs turn calm depth i pc s.numbers s.names w g has
-  block_runs place e turn calm m h last (Read i) free pc stands s w g has = read_runs turn calm i pc s w free g has
-  block_runs place e turn calm m h last (Assign i) free pc stands s w g has = assign_runs turn calm i pc s.numbers s.names w g has
-  block_runs place e turn calm m h last (Clear first count) free pc stands s w g has = clear_runs turn calm first count pc s w g has
-  block_runs place e turn calm m h last (AssignField class index) free pc stands s w g has = assign_field_runs turn calm class index pc s.numbers s.names w g has
-  block_runs place e turn calm m h last (Format pieces n k) free pc stands s w g has = on_given_runs turn calm pc (pc + length (forget_orders k ++ print_orders pieces n)) n k s w (λ given rest. Done (On (push (byte_count (formatted pieces given.numbers)) rest)) (prints (formatted pieces given.numbers) w)) (λ given rest size few. format_runs turn calm pieces pc n k given rest w size few g has)
-  block_runs place e turn calm m h last (Calls wanted f n k) free pc stands s w g has = on_given_runs turn calm pc (pc + length (call_orders R wanted f n k)) n k s w (λ given rest. answers_left wanted rest (D.call wanted f 0 given w)) (λ given rest size few. calls_run turn calm wanted f pc n k given rest w size few free g has)
-  block_runs place e turn calm m h last (Tells wanted message n k) free pc stands s w g has = on_given_runs turn calm pc (pc + 1) n k s w (λ given rest. told D wanted message given rest w) (λ given rest size few.
+  block_runs place e turn calm m h placed Idle free pc stands s w g has = let same : pc ≡ pc + 0 = omega arith in ends_at turn calm pc (pc + 0) (standing pc s w) (Done (On s) w) same (here turn calm pc s w g)
+  block_runs place e turn calm m h placed (One o) free pc stands s w g has = one_runs p frames bound s.names (Plain o) pc (s.numbers ++ vars w) w (Leaves turn calm (pc + 1)) (operation D o s w) has (operation_runs turn calm o pc s.numbers s.names w free g)
+  block_runs place e turn calm m h placed (Load depth i) free pc stands s w g has = load_by turn calm depth i pc s w (nat_eq depth (length s.numbers)) refl g has
+  block_runs place e turn calm m h placed (Store depth i) free pc stands s w g has = store_runs turn calm depth i pc s.numbers s.names w g has
+  block_runs place e turn calm m h placed (Read i) free pc stands s w g has = read_runs turn calm i pc s w free g has
+  block_runs place e turn calm m h placed (Assign i) free pc stands s w g has = assign_runs turn calm i pc s.numbers s.names w g has
+  block_runs place e turn calm m h placed (Clear first count) free pc stands s w g has = clear_runs turn calm first count pc s w g has
+  block_runs place e turn calm m h placed (AssignField class index) free pc stands s w g has = assign_field_runs turn calm class index pc s.numbers s.names w g has
+  block_runs place e turn calm m h placed (Format pieces n k) free pc stands s w g has = on_given_runs turn calm pc (pc + length (forget_orders k ++ print_orders pieces n)) n k s w (λ given rest. Done (On (push (byte_count (formatted pieces given.numbers)) rest)) (prints (formatted pieces given.numbers) w)) (λ given rest size few. format_runs turn calm pieces pc n k given rest w size few g has)
+  block_runs place e turn calm m h placed (Calls wanted f n k) free pc stands s w g has = on_given_runs turn calm pc (pc + length (call_orders R wanted f n k)) n k s w (λ given rest. answers_left wanted rest (D.call wanted f 0 given w)) (λ given rest size few. calls_run turn calm wanted f pc n k given rest w size few free g has)
+  block_runs place e turn calm m h placed (Tells wanted message n k) free pc stands s w g has = on_given_runs turn calm pc (pc + 1) n k s w (λ given rest. told D wanted message given rest w) (λ given rest size few.
       let names1 = onto given.objects rest.names in
       let stack = onto given.numbers (rest.numbers ++ vars w) in
       one_runs p frames bound names1 (message_order wanted message n k) pc stack w (Leaves turn calm (pc + 1)) (told D wanted message given rest w) has
       (subst (λ q. Goes_on turn calm (next_of (does p (message_order wanted message q k) (at frames pc stack (held_of names1 w))) w) (pc + 1) (told D wanted message given rest w)) size
       (subst (λ q. Goes_on turn calm (next_of (does p (message_order wanted message (length given.numbers) q) (at frames pc stack (held_of names1 w))) w) (pc + 1) (told D wanted message given rest w)) few (tells_run turn calm wanted message pc given rest.numbers rest.names w free g))))
-  block_runs place e turn calm m h last Making free pc stands s w g has = making_runs turn calm pc s.numbers s.names w free g has
-  block_runs place e turn calm m h last (IfNew class a b) free pc stands s w g has =
+  block_runs place e turn calm m h placed Making free pc stands s w g has = making_runs turn calm pc s.numbers s.names w free g has
+  block_runs place e turn calm m h placed (IfNew class a b) free pc stands s w g has =
       let xs = actions e a in
       let ys = actions e b in
       let first = block D bound place m a s w in
       let second = block D bound place m b s w in
       subst (λ classes. Goes_on turn calm (standing pc s w) (pc + length (actions e (IfNew class a b))) (if is_some (lookup classes (Some class) signs.Class new_selector 0 0 gives.Object) then first else second)) (sym deep.same_classes)
       (either_runs turn calm pc (standing pc s w) (has_new R class) xs ys first second (takes_none R a) (takes_none R b) free has
-      (λ free1 has1. block_runs place e turn calm m h last a free1 pc stands s w g has1) (λ free1 has1. block_runs place e turn calm m h last b free1 pc stands s w g has1))
-  block_runs place e turn calm false h last Answer free pc stands s w g has =
-      subst (λ i. Goes_on turn calm (standing pc s w) (pc + length (store_orders names (Local (names - 1)))) (block D bound i false Answer s w)) (sym (last refl)) (assign_runs turn calm (Local (names - 1)) pc s.numbers s.names w g has)
-  block_runs place e turn calm true h last Answer free pc stands s w g has = lost turn calm (standing pc s w) (pc + length (store_orders names (Local (names - 1)))) w
-  block_runs place e turn calm m h last (Then a b) free pc stands s w g has =
+      (λ free1 has1. block_runs place e turn calm m h placed a free1 pc stands s w g has1) (λ free1 has1. block_runs place e turn calm m h placed b free1 pc stands s w g has1))
+  block_runs place e turn calm false h placed Answer free pc stands s w g has =
+      subst (λ i. Goes_on turn calm (standing pc s w) (pc + length (store_orders names (Local (names - 1)))) (block D bound i false Answer s w)) (sym (placed refl)) (assign_runs turn calm (Local (names - 1)) pc s.numbers s.names w g has)
+  block_runs place e turn calm true h placed Answer free pc stands s w g has = lost turn calm (standing pc s w) (pc + length (store_orders names (Local (names - 1)))) w
+  block_runs place e turn calm m h placed (Then a b) free pc stands s w g has =
       let xs = actions e a in
       let ys = actions (past (length xs) e) b in
       let q = pc + length xs in
       let size : q + length ys ≡ pc + length (xs ++ ys) = omega (arith, length-append xs ys) in
       ends_at turn calm (q + length ys) (pc + length (xs ++ ys)) (standing pc s w) (block D bound place m (Then a b) s w) size
-      (then_way turn calm bound q (q + length ys) (standing pc s w) (block D bound place m a s w) (block D bound place m b) (block_runs place e turn calm m h last a (first_none calm (takes_none R a) (takes_none R b) free) pc stands s w g (has_front p pc xs ys has)) (λ s1 w1 g1.
-      block_runs place (past (length xs) e) turn calm m h last b (second_none calm (takes_none R a) (takes_none R b) free) q (past_stands m (length xs) pc turn e stands) s1 w1 g1 (has_back p pc xs ys has)))
-  block_runs place e turn calm m h last (Fork a b) free pc stands s w g has =
+      (then_way turn calm bound q (q + length ys) (standing pc s w) (block D bound place m a s w) (block D bound place m b) (block_runs place e turn calm m h placed a (first_none calm (takes_none R a) (takes_none R b) free) pc stands s w g (has_front p pc xs ys has)) (λ s1 w1 g1.
+      block_runs place (past (length xs) e) turn calm m h placed b (second_none calm (takes_none R a) (takes_none R b) free) q (past_stands m (length xs) pc turn e stands) s1 w1 g1 (has_back p pc xs ys has)))
+  block_runs place e turn calm m h placed (Fork a b) free pc stands s w g has =
       let e1 = past 1 e in
       let xs = actions e1 a in
       let e2 = past 1 (past (length xs) e1) in
@@ -1032,10 +1032,10 @@ module _ (p : Program) (frames : List Frame) (bound : ℕ) (R : resolved.Program
       let size : end ≡ pc + length (JumpZero (Skip (suc (length xs))) ∷ (xs ++ Jump (Skip (length ys)) ∷ ys)) = omega (arith, length-append xs (Jump (Skip (length ys)) ∷ ys)) in
       ends_at turn calm end (pc + length (actions e (Fork a b))) (standing pc s w) (block D bound place m (Fork a b) s w) size
       (branching turn calm bound pc two end (Skip (suc (length xs))) s.numbers s.names w (λ v rest. block D bound place m a rest w) (λ v rest. block D bound place m b rest w) there (has.0, tt)
-      (λ v rest. jumps_on turn calm (one + length xs) end (Skip (length ys)) (standing one rest w) (block D bound place m a rest w) (behind_one.0, tt) over (block_runs place e1 turn calm m h last a (first_none calm (takes_none R a) (takes_none R b) free) one at1 rest w g (has_front p one xs (Jump (Skip (length ys)) ∷ ys) has.1)))
-      (λ v rest. block_runs place e2 turn calm m h last b (second_none calm (takes_none R a) (takes_none R b) free) two (past_stands m 1 (one + length xs) turn (past (length xs) e1) (past_stands m (length xs) one turn e1 at1)) rest w g behind_one.1))
-  block_runs place e turn calm false h last (Loop entry step test body) free pc stands s w g has = lost turn calm (standing pc s w) (pc + length (actions e (Loop entry step test body))) w
-  block_runs place e turn calm true h last (Loop entry step test body) free pc stands s w g has =
+      (λ v rest. jumps_on turn calm (one + length xs) end (Skip (length ys)) (standing one rest w) (block D bound place m a rest w) (behind_one.0, tt) over (block_runs place e1 turn calm m h placed a (first_none calm (takes_none R a) (takes_none R b) free) one at1 rest w g (has_front p one xs (Jump (Skip (length ys)) ∷ ys) has.1)))
+      (λ v rest. block_runs place e2 turn calm m h placed b (second_none calm (takes_none R a) (takes_none R b) free) two (past_stands m 1 (one + length xs) turn (past (length xs) e1) (past_stands m (length xs) one turn e1 at1)) rest w g behind_one.1))
+  block_runs place e turn calm false h placed (Loop entry step test body) free pc stands s w g has = lost turn calm (standing pc s w) (pc + length (actions e (Loop entry step test body))) w
+  block_runs place e turn calm true h placed (Loop entry step test body) free pc stands s w g has =
       let k = enter_size entry in
       let e0 = past k e in
       let first = pc + k in
@@ -1063,21 +1063,21 @@ module _ (p : Program) (frames : List Frame) (bound : ℕ) (R : resolved.Program
       let size : end ≡ pc + length (enters ++ (zs ++ (ts ++ rest))) = omega (arith, length-append enters (zs ++ (ts ++ rest)), entered_size entry (length zs) (length ts), length-append zs (ts ++ rest), length-append ts rest, length-append xs last) in
       ends_at turn calm end (pc + length (actions e (Loop entry step test body))) (standing pc s w) (block D bound place true (Loop entry step test body) s w) size
       (entering turn inner calm first second q end q1 (Skip (suc (length xs))) (Back (suc (length zs + length ts + length xs))) (block D bound place true step) (block D bound place true test) (block D bound place true body) (has_out.0, tt) there (has_back p one xs last has_out.1) home refl refl
-      (λ s1 w1 g1. block_runs place e0 turn calm true h last step (first_none calm (takes_none R step) (takes_none R test && takes_none R body) free) first at0 s1 w1 g1 (has_front p first zs (ts ++ rest) has_turn))
-      (λ s1 w1 g1. block_runs place e1 turn calm true h last test (first_none calm (takes_none R test) (takes_none R body) (second_none calm (takes_none R step) (takes_none R test && takes_none R body) free)) second at1 s1 w1 g1 (has_front p second ts rest has_test))
-      (λ s1 w1 g1. block_runs place (body_spot (length zs) (length ts) e0) inner calm true h last body (second_none calm (takes_none R test) (takes_none R body) (second_none calm (takes_none R step) (takes_none R test && takes_none R body) free)) one (ap (body_spot (length zs) (length ts)) at0) s1 w1 g1 (has_front p one xs last has_out.1))
+      (λ s1 w1 g1. block_runs place e0 turn calm true h placed step (first_none calm (takes_none R step) (takes_none R test && takes_none R body) free) first at0 s1 w1 g1 (has_front p first zs (ts ++ rest) has_turn))
+      (λ s1 w1 g1. block_runs place e1 turn calm true h placed test (first_none calm (takes_none R test) (takes_none R body) (second_none calm (takes_none R step) (takes_none R test && takes_none R body) free)) second at1 s1 w1 g1 (has_front p second ts rest has_test))
+      (λ s1 w1 g1. block_runs place (body_spot (length zs) (length ts) e0) inner calm true h placed body (second_none calm (takes_none R test) (takes_none R body) (second_none calm (takes_none R step) (takes_none R test && takes_none R body) free)) one (ap (body_spot (length zs) (length ts)) at0) s1 w1 g1 (has_front p one xs last has_out.1))
       entry pc (length zs) (length ts) refl refl refl (has_front p pc enters (zs ++ (ts ++ rest)) has) s w g)
-  block_runs place e turn calm m h last Quit free pc stands s w g has =
+  block_runs place e turn calm m h placed Quit free pc stands s w g has =
       one_runs p frames bound s.names (Plain (Num (pos 0))) pc (s.numbers ++ vars w) w (Leaves turn calm (pc + 2)) (Done (Quits s) w) (has.0, tt)
       (quiet_runs p frames bound s.names (pc + 1) (pos 0 ∷ (s.numbers ++ vars w)) w (Leaves turn calm (pc + 2)) (Done (Quits s) w)
       (leads_runs (moves p) bound (standing (pc + 1) (push (pos 0) s) w) (standing (turn_at e).out (push (pos 0) s) w) (Leaves turn calm (pc + 2)) (Done (Quits s) w) (moving (pc + 1) (At (turn_at e).out) (push (pos 0) s) w has.1)
       (ends_here (moves p) bound (standing (turn_at e).out (push (pos 0) s) w) (Leaves turn calm (pc + 2)) (Quits s) w (ap (λ (t : Turn). standing t.out (push (pos 0) s) w) (turn_is m pc turn e stands), g))))
-  block_runs place e turn calm m h last Advance free pc stands s w g has =
+  block_runs place e turn calm m h placed Advance free pc stands s w g has =
       leads_runs (moves p) bound (standing pc s w) (standing (turn_at e).begin s w) (Leaves turn calm (pc + 1)) (Done (Turns s) w) (moving pc (At (turn_at e).begin) s w has)
       (ends_here (moves p) bound (standing (turn_at e).begin s w) (Leaves turn calm (pc + 1)) (Turns s) w (ap (λ (t : Turn). standing t.begin s w) (turn_is m pc turn e stands), g))
-  block_runs place e turn calm false h last (Full a b) free pc stands s w g has = lost turn calm (standing pc s w) (pc + length (actions e (Full a b))) w
-  block_runs place e turn false true h last (Full a b) free pc stands s w g has = absurd (false≢true (h refl))
-  block_runs place e turn true true h last (Full a b) free pc stands s w g has =
+  block_runs place e turn calm false h placed (Full a b) free pc stands s w g has = lost turn calm (standing pc s w) (pc + length (actions e (Full a b))) w
+  block_runs place e turn false true h placed (Full a b) free pc stands s w g has = absurd (false≢true (h refl))
+  block_runs place e turn true true h placed (Full a b) free pc stands s w g has =
       let xs = actions Inside a in
       let ys = actions Inside b in
       let some = list_any order_takes xs in
@@ -1093,4 +1093,4 @@ module _ (p : Program) (frames : List Frame) (bound : ℕ) (R : resolved.Program
       (then_way no_turn calm bound q r (standing pc s w) (block D bound inside false a s w) (block D bound inside false b) (block_runs inside Inside no_turn calm false (λ x. absurd (false≢true x)) (λ x. ap (λ n. n - 1) g.0.strong) a (λ x. quiet_flat R slots names a (not_some some x)) pc refl s w (g.0, λ x. g.1 refl) (has_front p pc xs (ys ++ zs) has)) (λ s1 w1 g1.
       block_runs inside Inside no_turn calm false (λ x. absurd (false≢true x)) (λ x. ap (λ n. n - 1) g.0.strong) b (λ x. free refl) q refl s1 w1 g1 (has_front p q ys zs behind_first)))
       (λ s1 w1 g1. drops_by turn some r s1 w1 g1 (has_back p q ys zs behind_first)))
-  block_runs place e turn calm m h last (Leave exit) free pc stands s w g has = leads_runs (moves p) bound (standing pc s w) (standing exit s w) (Leaves turn calm (pc + 1)) (Done (Out exit s) w) (moving pc (At exit) s w has) (ends_here (moves p) bound (standing exit s w) (Leaves turn calm (pc + 1)) (Out exit s) w (refl, (g.0, λ x. absurd (false≢true x))))
+  block_runs place e turn calm m h placed (Leave exit) free pc stands s w g has = leads_runs (moves p) bound (standing pc s w) (standing exit s w) (Leaves turn calm (pc + 1)) (Done (Out exit s) w) (moving pc (At exit) s w has) (ends_here (moves p) bound (standing exit s w) (Leaves turn calm (pc + 1)) (Out exit s) w (refl, (g.0, λ x. absurd (false≢true x))))

@@ -1,12 +1,12 @@
 //! From a program to its actions.
-ghost use Rattle.std.specs.Prelude.{◌≡◌, ◌+◌, ◌++◌, [], ◌∷◌, length, IfOk, OnOk};
+ghost use Rattle.std.specs.Prelude.{◌≡◌, ◌+◌, ◌++◌, [], ◌∷◌, length, if◌then◌else◌, IfOk, OnOk};
 ghost use Rattle.arc_code.specs.Effects.{room_for};
 ghost use Rattle.arc_ir.specs.Acting as acting;
 ghost use Rattle.arc_spec.specs.Meaning.{nothing_giving};
 ghost use Rattle.arc_check.specs.Checked.{program_of};
 ghost use Rattle.arc_lower.specs.Entered.{function_of};
 ghost use Rattle.arc_lower.specs.Order.{orders};
-ghost use Rattle.arc_lower.specs.Lowered.{body_orders, entry_of, function_orders, functions_orders, entries_from, start_orders, end_step_of, all_functions};
+ghost use Rattle.arc_lower.specs.Lowered.{own_orders, opening_orders, body_orders, entry_of, function_orders, functions_orders, entries_from, start_orders, end_step_of, all_functions};
 ghost use Rattle.arc_lower.specs.Heights.{greatest, start_heights, function_heights, functions_heights};
 ghost use Rattle.arc_lower.specs.Promise.{Performs, IsLowered};
 
@@ -200,6 +200,34 @@ fn append_function(
     Ok(())
 }
 
+/// Appends what a function begins with: its places of objects, of which the first take `self`, where it owns that, and
+/// what it is given.
+fn append_opening(actions: &mut Vec<Action>, function: Definition<'_>) -> Result<(), NoMemory>
+    ensures { OnOk result (orders actions.new.items ≡ orders actions.old.items ++ opening_orders (function_of function.entry)) }
+{
+    let names = function_places(function.names, function.gives)?;
+    append_declares(actions, names)?;
+    let given = object_parameters(
+        function.parameters,
+        function.names,
+        function.gives,
+        function.owns,
+    );
+    append_takes(actions, owned_by(function.owns), given)?;
+    append_owned(actions, function.owns, names)
+}
+
+/// Appends what takes `self`, where it is owned.
+fn append_owned(actions: &mut Vec<Action>, owns: bool, names: usize) -> Result<(), NoMemory>
+    ensures { OnOk result (orders actions.new.items ≡ orders actions.old.items ++ (if owns then own_orders names else [])) }
+{
+    if owns {
+        append_own(actions, names)
+    } else {
+        Ok(())
+    }
+}
+
 /// Appends what a function does from its entry on, which is left at this action.
 fn append_body(
     alloc: Global,
@@ -217,17 +245,7 @@ fn append_body(
         exit,
         turn: None,
     };
-    append_declares(actions, names)?;
-    let given = object_parameters(
-        function.parameters,
-        function.names,
-        function.gives,
-        function.owns,
-    );
-    append_takes(actions, owned_by(function.owns), given)?;
-    if function.owns {
-        append_own(actions, names)?;
-    }
+    append_opening(actions, function)?;
     append_commands(
         alloc,
         actions,
