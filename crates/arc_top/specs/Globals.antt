@@ -21,7 +21,11 @@ globals_on type = joining (mark m.Comma) (reads next_global) (add_global type)
 abbrev pub global_references_on : QualifiedType → List GlobalTree → Reader (List GlobalTree)
 global_references_on type = joining (mark m.Comma) (reads next_global_reference) (add_global type)
 
--- a function whose result has this type, where a name and `(` are ahead, or these variables of the type
+-- a function whose result has this type
+abbrev pub function_on : TypeTree → Reader TopTree
+function_on type = reads_after function (Value type) >>= (λ f. ret (OfFunction f))
+
+-- such a function, where a name and `(` are ahead, or these variables of the type
 abbrev pub typed_on : Part (QualifiedType → List GlobalTree) → TypeTree → Reader TopTree
 typed_on variables type =
-    if_sees_two name (mark m.OpenParen) (reads_after function (Value type) >>= (λ f. ret (OfFunction f))) (reads_after variables (Unqualified, type) >>= (λ all. ret (OfGlobals all)))
+    if_sees_two name (mark m.OpenParen) (function_on type) (reads_after variables (Unqualified, type) >>= (λ all. ret (OfGlobals all)))

@@ -1,13 +1,13 @@
 //! Reads what stands outside of all else.
 ghost use Rattle.std.specs.Prelude.{◌≡◌, ◌<◌, ◌≤◌, length, IfOk};
 ghost use Rattle.arc_lex.specs.Tokens.{toks};
-ghost use Rattle.arc_ast.specs.Tree.{type_tree, Value};
+ghost use Rattle.arc_ast.specs.Tree.{type_tree};
 ghost use Rattle.arc_lex.specs.declared.token.Mark.TheVariants as m;
 ghost use Rattle.arc_form.specs.Kinds as kinds;
-ghost use Rattle.arc_form.specs.Reader.{Gives, sees, sees_two, ◌>>=◌, ret};
+ghost use Rattle.arc_form.specs.Reader.{Gives, sees, sees_two};
 ghost use Rattle.arc_grammar.specs.Grammar.{reads};
 ghost use Rattle.arc_grammar.specs.Grammar as grammar;
-ghost use Rattle.arc_top.specs.Signatures.{reads_after};
+ghost use Rattle.arc_top.specs.Globals.{function_on};
 ghost use Rattle.arc_top.specs.Tops.{top_tree};
 
 use crate::class::{class_names, implementation, interface};
@@ -110,7 +110,7 @@ fn of_void<'a>(alloc: Global, tokens: &'a [Token]) -> Read<'a, Top>
 }
 
 /// A class's name and `*`, and a function, or variables of which the others have a `*` each.
-#[tactic(auto, unfolding(arc_grammar::specs::Grammar::of_objects))]
+#[tactic(auto, using(crate::proofs::Globals::read_of_objects))]
 fn of_objects<'a>(alloc: Global, tokens: &'a [Token]) -> Read<'a, Top>
     ensures gives { Gives (λ x. (top_tree x.0, toks x.1.now)) result (reads grammar.of_objects (toks tokens.now)) }
     ensures shorter { IfOk result (λ x. length x.1.now < length tokens.now) }
@@ -124,7 +124,7 @@ fn of_objects<'a>(alloc: Global, tokens: &'a [Token]) -> Read<'a, Top>
 }
 
 /// A type that names no class, and a function or variables.
-#[tactic(auto, unfolding(arc_grammar::specs::Grammar::of_plain))]
+#[tactic(auto, using(crate::proofs::Globals::read_of_plain))]
 fn of_plain<'a>(alloc: Global, tokens: &'a [Token]) -> Read<'a, Top>
     ensures gives { Gives (λ x. (top_tree x.0, toks x.1.now)) result (reads grammar.of_plain (toks tokens.now)) }
     ensures shorter { IfOk result (λ x. length x.1.now < length tokens.now) }
@@ -139,7 +139,7 @@ fn of_plain<'a>(alloc: Global, tokens: &'a [Token]) -> Read<'a, Top>
 
 /// A function whose result has this type.
 fn of_function<'a>(alloc: Global, written: TypeName, tokens: &'a [Token]) -> Read<'a, Top>
-    ensures gives { Gives (λ x. (top_tree x.0, toks x.1.now)) result (reads_after grammar.function (Value (type_tree written)) (toks tokens.now) >>= (λ f. ret (grammar.OfFunction f))) }
+    ensures gives { Gives (λ x. (top_tree x.0, toks x.1.now)) result (function_on (type_tree written) (toks tokens.now)) }
     ensures shorter { IfOk result (λ x. length x.1.now < length tokens.now) }
 {
     let (function, rest) = function(alloc, ResultType::Value(written), tokens)?;
@@ -147,7 +147,7 @@ fn of_function<'a>(alloc: Global, written: TypeName, tokens: &'a [Token]) -> Rea
 }
 
 /// Qualifiers, a type and variables.
-#[tactic(auto, unfolding(arc_grammar::specs::Grammar::of_qualified, arc_grammar::specs::Grammar::object_globals, arc_grammar::specs::Grammar::plain_globals))]
+#[tactic(auto, using(crate::proofs::Globals::read_of_qualified))]
 fn of_qualified<'a>(alloc: Global, tokens: &'a [Token]) -> Read<'a, Top>
     ensures gives { Gives (λ x. (top_tree x.0, toks x.1.now)) result (reads grammar.of_qualified (toks tokens.now)) }
     ensures shorter { IfOk result (λ x. length x.1.now < length tokens.now) }
