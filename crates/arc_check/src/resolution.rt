@@ -555,12 +555,10 @@ pub fn invoked(
 ) -> Result<Resolution, AllocError>
     ensures { IfOk result (λ new. resolution new ≡ resolving.invoked kind function (checked.arguments all.items)) }
 {
-    match kind {
-        Kind::Object => Ok(Resolution::Refers(Reference::ObjectInvoked(function, all))),
-        Kind::Void | Kind::Bool | Kind::Int | Kind::Long => {
-            given(alloc, kind, Value::Invoked(function, all))
-        }
+    if is_object(Some(kind)) {
+        return Ok(Resolution::Refers(Reference::ObjectInvoked(function, all)));
     }
+    given(alloc, kind, Value::Invoked(function, all))
 }
 
 /// A message that gives a value of the kind, or none.

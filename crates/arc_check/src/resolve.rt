@@ -379,7 +379,8 @@ fn call<'a>(
             let all = resolved_arguments(alloc, table, visible, wanted, arguments)?;
             invoked(alloc, kind, number(body), all)?
         }
-        Callee::GetChar | Callee::Unknown => given(alloc, Kind::Int, Value::ReadByte)?,
+        Callee::GetChar => given(alloc, Kind::Int, Value::ReadByte)?,
+        Callee::Unknown => given(alloc, Kind::Int, Value::ReadByte)?,
     };
     Ok(Typed {
         class: table.function_class(name),

@@ -3,6 +3,7 @@ ghost use Rattle.std.specs.Prelude.{◌≡◌, ◌+◌, ◌<◌, ◌≤◌, true
 ghost use Rattle.arc_class.specs.declared.table.ClassTable.{ClassTable};
 ghost use Rattle.arc_class.specs.Table.{number_of_class};
 ghost use Rattle.arc_ast.specs.Tree.{type_tree, parameter_trees, head_tree};
+ghost use Rattle.arc_spec.specs.Families as families;
 ghost use Rattle.arc_check.specs.Rules.{of_method};
 ghost use Rattle.arc_check.specs.Scopes as scopes;
 ghost use Rattle.arc_check.specs.private.Views.{local_of, local_in, known_in, seen};
@@ -77,7 +78,7 @@ impl<'a> Visible<'a> {
     {
         let gives = head.result.kind();
         let family = method_family(head.sign, &head.selector, gives);
-        let owns = matches!(family, Family::Init);
+        let owns = is_init(family);
         let hidden = hidden_in(head.sign);
         let owned = owned_in(owns);
         Visible {
@@ -222,9 +223,17 @@ impl<'a> Visible<'a> {
     }
 }
 
+/// Whether a method of the family is one of init, whose `self` it owns.
+fn is_init(family: Family) -> bool
+    ensures { result ≡ families.is_init family }
+{
+    matches!(family, Family::Init)
+}
+
 /// How many variables that name objects a method has without a name.
 pub fn owned_in(owns: bool) -> u8
-    ensures { result ≡ scopes.owned_in owns }
+    ensures small { result ≤ 1 }
+    ensures number { result ≡ scopes.owned_in owns }
 {
     if owns { 1 } else { 0 }
 }
