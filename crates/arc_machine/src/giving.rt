@@ -1,9 +1,9 @@
 //! The instructions by which functions give objects, and those of `new`.
-ghost use Rattle.std.specs.Prelude.{◌≡◌, ◌-◌, ◌^◌, ◌<◌, ◌≤◌, [], ◌∷◌, Some, length, slice_get};
+ghost use Rattle.std.specs.Prelude.{◌≡◌, ◌+◌, ◌-◌, ◌^◌, ◌<◌, ◌≤◌, [], Some};
 ghost use Rattle.arc_spec.specs.Classes as classes;
 ghost use Rattle.arc_code.specs.Running.{program_of};
 ghost use Rattle.arc_machine.specs.declared.stop.Answer.TheVariants as answers;
-ghost use Rattle.arc_machine.specs.Places.{Ready, CanHold, Executes, Follows, spot, shown, HasPlaces};
+ghost use Rattle.arc_machine.specs.Places.{Ready, Executes, spot, shown, HasPlaces};
 ghost use Rattle.arc_machine.specs.Giving.{CanGiveBack, GivesBack};
 
 use crate::field::class_of;
@@ -51,7 +51,9 @@ impl Place {
                 self.at = back;
                 Answer::Going
             }
-            _ => unreachable!(),
+            Some(Waiting::End { .. }) => unreachable!(),
+            Some(Waiting::Clear { .. }) => unreachable!(),
+            None => unreachable!(),
         }
     }
 
@@ -111,32 +113,6 @@ impl Place {
         Answer::Going
     }
 
-    /// The temporary before the last one lets go of what it names. None is one with which the end of an object begins,
-    /// and which isn't made.
-    #[inline(always)]
-    pub fn settle_soon<S: Store + Drop>(
-        &mut self,
-        _code: &Code,
-        objects: &mut Objects<S>,
-    ) -> Option<Answer>
-        requires ready { Ready S.out (program_of _code.now) Instr.Settle (spot self.old objects.old) }
-        requires place { self.old.at < 2 ^ 64 - 1 }
-        requires room { _code.now.room ≤ self.old.stack.room }
-        requires places { HasPlaces _code.now objects.old }
-        ensures went { Follows S.out (program_of _code.now) Instr.Settle result
-            (spot self.old objects.old) (spot self.new objects.new) }
-        ensures room { self.new.stack.room ≡ self.old.stack.room }
-    {
-        let before = objects.temporary(1);
-        if objects.is_last(before) {
-            return None;
-        }
-        objects.lower(before);
-        objects.settle();
-        self.at += 1;
-        Some(Answer::Going)
-    }
-
     /// The temporary before the last one lets go of what it names.
     pub fn settle<S: Store + Drop>(&mut self, code: &Code, objects: &mut Objects<S>) -> Turn
         requires ready { Ready S.out (program_of code.now) Instr.Settle (spot self.old objects.old) }
@@ -147,13 +123,16 @@ impl Place {
             (spot self.old objects.old) (spot self.new objects.new) }
         ensures room { self.new.stack.room ≡ self.old.stack.room }
     {
-        if let Some(answer) = self.settle_soon(code, objects) {
-            return calm(answer);
+        let before = objects.temporary(1);
+        if !objects.is_last(before) {
+            objects.lower(before);
+            objects.settle();
+            self.at += 1;
+            return calm(Answer::Going);
         }
         if !objects.have_level() {
             return calm(Answer::Faulted(Fault::Depth));
         }
-        let before = objects.temporary(1);
         objects.settle();
         self.begin_end(self.at + 1, before, code, objects)
     }
