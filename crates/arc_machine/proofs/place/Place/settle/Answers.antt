@@ -5,7 +5,7 @@ use Rattle.arc_machine.specs.Cells.{Cell, IsCell}
 use Rattle.arc_machine.specs.Standing.{Parts}
 use Rattle.arc_machine.specs.Releases.{Begins}
 use Rattle.arc_machine.specs.Places.{spot}
-use Rattle.arc_machine.proofs.Settled.{settle_two, settle_block, settle_count, settle_object, settle_went, settle_stopped, settle_ended}
+use Rattle.arc_machine.proofs.Settled.{settle_block, settle_count, settle_object, settle_went, settle_stopped, settle_ended}
 use Rattle.arc_machine.proofs.place.Place.settle.Goals as goal
 
 pub is_last-requires : goal.is_last-requires
