@@ -18,12 +18,16 @@ use std::fmt;
 /// The most turns that the plain interpreter makes of a loop.
 const MOST_TURNS: u64 = 100_000;
 
+/// The most steps of a program that is compared: the plain interpreter looks for what names an object among all
+/// objects, so that it takes long where many were made.
+const MOST_STEPS: u64 = 1_000_000;
+
 /// What the comparison says.
 #[derive(Clone, Copy)]
 pub enum Verdict {
     Agrees,
     Differs,
-    /// No program was run to its end.
+    /// No program was run to its end, or it takes too many steps.
     Uncompared,
 }
 
@@ -37,7 +41,7 @@ impl fmt::Display for Verdict {
     }
 }
 
-/// Whether both have the same trace, where the words run or trace a program that ends.
+/// Whether both have the same trace, where the words run or trace a program that ends within `MOST_STEPS`.
 pub fn compare(
     alloc: Global,
     words: &Words,
@@ -55,7 +59,7 @@ pub fn compare(
     }
 }
 
-/// The text of the compiled program's trace, where the words run or trace it, and it ends.
+/// The text of the compiled program's trace, where the words run or trace it, and it ends soon enough.
 fn ended_trace(alloc: Global, words: &Words, source: &[u8], input: &[u8]) -> Option<Vec<u8>> {
     if matches!(words.command, Command::Check | Command::Code) {
         return None;
@@ -66,7 +70,7 @@ fn ended_trace(alloc: Global, words: &Words, source: &[u8], input: &[u8]) -> Opt
         alloc,
         source,
         words.heap,
-        words.steps,
+        words.steps.min(MOST_STEPS),
         &mut reader,
         &mut writer,
     );
