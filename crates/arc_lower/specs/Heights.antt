@@ -139,3 +139,37 @@ places_of P = room_for (places_in (greatest_height P))
 -- the heights of a program as a table; there is none behind its actions
 abbrev pub height_at : Program → ℕ → Height
 height_at P pc = get_or (lowered_heights P) pc no_height
+
+-- ---- what functions give
+
+-- heights in a function that gives this
+abbrev pub in_function : Gives → List Height → List (Height × Gives)
+in_function given [] = []
+in_function given (h ∷ others) = (h, given) ∷ in_function given others
+
+abbrev pub functions_marks : Program → (place : ℕ) → List Function → List (Height × Gives)
+functions_marks P place [] = []
+functions_marks P place (f ∷ others) = in_function f.gives (function_heights P place f) ++ functions_marks P (place + length (function_orders P place f)) others
+
+abbrev pub methods_marks : Program → (entries : List ℕ) → List Method → List (Height × Gives)
+methods_marks P entries [] = []
+methods_marks P entries (m ∷ others) = in_function m.gives (stub_heights P entries m.gives (passes m.sign m.takes) m.objects m.runs) ++ methods_marks P entries others
+
+abbrev pub class_marks : Program → (entries : List ℕ) → Class → List (Height × Gives)
+class_marks P entries c = in_function gives.Number (dealloc_heights P entries c.dealloc) ++ methods_marks P entries c.methods
+
+abbrev pub classes_marks : Program → (entries : List ℕ) → List Class → List (Height × Gives)
+classes_marks P entries [] = []
+classes_marks P entries (c ∷ others) = class_marks P entries c ++ classes_marks P entries others
+
+-- the heights of all actions of a program, each with what the function gives in which the action stands
+abbrev pub lowered_marks : Program → List (Height × Gives)
+lowered_marks P =
+    (in_function gives.Number (start_heights P) ++ functions_marks P (length (start_orders P)) (all_functions P)) ++ classes_marks P (entries_of P) P.classes
+
+abbrev pub no_mark : Height × Gives
+no_mark = (no_height, gives.Number)
+
+-- the same as a table
+abbrev pub result_at : Program → ℕ → Gives
+result_at P pc = (get_or (lowered_marks P) pc no_mark).1
