@@ -1,4 +1,4 @@
-use Rattle.std.proofs.Common.{◌≡◌, option_map, sym, ap, ◌∙◌}
+use Rattle.std.proofs.Common.{option_map, sym, ap, ◌∙◌}
 use Rattle.std.specs.Bool.{nat_eq}
 use Rattle.std.specs.List.{list_any}
 use Rattle.arc_spec.specs.Classes as spec

@@ -1,8 +1,8 @@
-use Rattle.std.proofs.Common.{◌≡◌, ℕ, ◌+◌, ◌<◌, ◌≤◌, Bool, true, false, List, ◌∷◌, length, get_or, drop, drop-cons, add-one, Option, Some, None, option_map, is_some, if◌then◌else◌, refl, sym, ap, ◌∙◌, true≢false}
+use Rattle.std.proofs.Common.{◌≡◌, ℕ, ◌+◌, ◌<◌, Bool, true, false, List, ◌∷◌, length, get_or, drop, drop-cons, add-one, Option, Some, None, option_map, is_some, if◌then◌else◌, refl, sym, ap, ◌∙◌, true≢false}
 use Rattle.std.proofs.lemmas.List.{drop_all}
 use Rattle.std.proofs.lemmas.Option.{none-some}
 use Rattle.arc_ast.specs.declared.tree.Parameter.{Parameter}
-use Rattle.arc_ast.specs.Tree.{type_tree, parameter_tree, parameter_trees}
+use Rattle.arc_ast.specs.Tree.{type_tree, parameter_trees}
 use Rattle.arc_ast.specs.Types.{type_kind}
 use Rattle.arc_fault.specs.declared.own.OwnFault.{OwnFault}
 use Rattle.arc_sites.specs.Violations.{first, at_if, violates}
