@@ -1,4 +1,4 @@
-use Rattle.std.proofs.Common.{◌≡◌, ◌∙◌, ◌<◌, Some, slice_get, sym, ap, refl, arith}
+use Rattle.std.proofs.Common.{◌≡◌, ◌∙◌, Some, slice_get, sym, ap, refl, arith}
 use Rattle.arc_code.specs.Running.{program_of}
 use Rattle.arc_machine.specs.declared.waiting.Waiting.TheVariants.{Call}
 use Rattle.arc_machine.specs.Places.{spot}
