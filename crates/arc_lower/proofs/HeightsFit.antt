@@ -48,7 +48,7 @@ none_greater (h ∷ hs) most none (suc pc) low = none_greater hs (highest most h
 
 -- ---- heights with what functions give
 
-firsts : List (Height × Gives) → List Height
+abbrev firsts : List (Height × Gives) → List Height
 firsts [] = []
 firsts (m ∷ others) = m.0 ∷ firsts others
 
