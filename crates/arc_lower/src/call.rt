@@ -1,11 +1,10 @@
 //! From a call, whose values lie on the stack, to actions.
-ghost use Rattle.std.specs.Prelude.{◌≡◌, ◌<◌, ◌-◌, suc, ◌++◌, Some, None, option_map, if◌then◌else◌, OnOk, IfOk};
+ghost use Rattle.std.specs.Prelude.{◌≡◌, ◌<◌, ◌-◌, suc, [], ◌∷◌, ◌++◌, Some, None, option_map, if◌then◌else◌, OnOk, IfOk};
 ghost use Rattle.arc_check.specs.Checked.{program_of};
 ghost use Rattle.arc_spec.specs.Classes.{lesser, same_gives};
-ghost use Rattle.arc_spec.specs.Resolved.{Function};
 ghost use Rattle.arc_lower.specs.Definitions.{definition_of, found_at};
 ghost use Rattle.arc_lower.specs.Order.{orders};
-ghost use Rattle.arc_lower.specs.Lowered.{number_of_nothing, number_of, slots_of, parameters_of, fit_orders, fit_object_orders, passing_orders, call_orders, leave_orders};
+ghost use Rattle.arc_lower.specs.Lowered.{number_of_nothing, number_of, slots_of, parameters_of, fit_orders, fit_object_orders, passing_orders, call_orders, all_empty_orders, keep_orders, leaving_order};
 
 use crate::expression::append;
 use crate::place::{append_all_empty, append_forgets, append_nils};
@@ -195,7 +194,7 @@ pub(crate) fn append_leave(
     names: usize,
     gives: Gives,
 ) -> Result<(), NoMemory>
-    ensures { (f : Function) → f.slots ≡ slots → f.names ≡ names → f.gives ≡ gives → OnOk result (orders actions.new.items ≡ orders actions.old.items ++ leave_orders f) }
+    ensures { OnOk result (orders actions.new.items ≡ orders actions.old.items ++ (all_empty_orders (if same_gives gives Gives.Object then suc names else names) 0 names ++ (keep_orders slots ++ leaving_order gives ∷ []))) }
 {
     append_all_empty(actions, function_places(names, gives)?, 0, names)?;
     append_keep(actions, slots)?;

@@ -1,4 +1,4 @@
-use Rattle.std.proofs.Common.{◌≡◌, refl, suc, ◌++◌, length, sym, ap, ◌∙◌, length-append}
+use Rattle.std.proofs.Common.{◌≡◌, suc, ◌++◌, length, sym, ap, ◌∙◌, length-append}
 use Rattle.std.proofs.lemmas.List.{length-map}
 use Rattle.arc_spec.specs.Resolved.{Function}
 use Rattle.arc_spec.specs.Meaning.{function_places}
@@ -24,10 +24,10 @@ returns-clause-most c =
     let left = between (suc f.slots) count in
     let entered = height f.slots (object_parameters f) 0 0 in
     let here : c.len-exit.result ≡ place = c.len-exit.ensures ∙ old.ok.0 ∙ sym (length-map old.items order) in
-    let there : length (orders middle.items) ≡ entry_of place f = ap length (c.in_ok-append_leave.ensures f refl refl refl) ∙ length-append (orders old.items) leave in
+    let there : length (orders middle.items) ≡ entry_of place f = ap length (c.in_ok-append_leave.ensures) ∙ length-append (orders old.items) leave in
     let body = body_orders P place (entry_of place f) f in
     let body_is = ap (λ n. body_orders P n (length (orders middle.items)) f) here ∙ ap (λ n. body_orders P place n f) there in
-    let leaves = c.in_ok-append_leave.ensures f refl refl refl in
+    let leaves = c.in_ok-append_leave.ensures in
     let base_is : c.between-base.result ≡ base = c.between-base.ensures ∙ ap (between f.slots) c.in_ok-names.ensures in
     let first : c.in_ok-most.field-0 ≡ greatest (heights P base left leave) most =
     c.in_ok-most.ensures
