@@ -54,11 +54,11 @@ fn resolve_unit<'a>(
 
 /// The resolved program of the source, where it breaks no rule, or the fault that reports the first rule that is broken: the one at the earliest
 /// place, and there the one with the lowest number. The fault names a byte of the source. The table is one of the unit.
-pub fn check<'a>(
+pub fn check<'a, 't>(
     alloc: Global,
     unit: &'a TranslationUnit,
-    table: &'a ClassTable<'a>,
-) -> Result<Checked<'a>, CheckFault>
+    table: &'t ClassTable<'a>,
+) -> Result<Checked<'a, 't>, CheckFault>
     requires { IsTableOf (unit_tree unit.now) table.now }
     ensures unbroken { IfOk result (λ _. broken_unit (unit_tree unit.now) ≡ []) }
     ensures resolved { IfOk result (λ program. program_of program ≡ resolved_unit (unit_tree unit.now)) }

@@ -147,9 +147,9 @@ pub struct CheckedFunction {
 /// its methods; which of them is `main`; what those of its global variables hold first that hold numbers;
 /// how many of its global variables name objects; and its classes, whose methods run functions.
 #[derive(Drop)]
-pub struct Checked<'a> {
+pub struct Checked<'a, 't> {
     pub unit: &'a TranslationUnit,
-    pub table: &'a ClassTable<'a>,
+    pub table: &'t ClassTable<'a>,
     pub functions: Vec<CheckedFunction>,
     pub main: usize,
     pub globals: Vec<i64>,

@@ -13,12 +13,15 @@ use std::alloc::Global;
 
 /// A program that keeps the rules of ownership.
 #[derive(Drop)]
-pub struct Owned<'a> {
-    pub program: &'a Checked<'a>,
+pub struct Owned<'p, 'a, 't> {
+    pub program: &'p Checked<'a, 't>,
 }
 
 /// The program, which is one that `check` gave, where it keeps the rules of ownership (Objective-C Automatic Reference Counting); else the first rule that its source breaks.
-pub fn own<'a>(_alloc: Global, program: &'a Checked<'a>) -> Result<Owned<'a>, OwnFault>
+pub fn own<'p, 'a, 't>(
+    _alloc: Global,
+    program: &'p Checked<'a, 't>,
+) -> Result<Owned<'p, 'a, 't>, OwnFault>
     requires { IsTableOf (unit_tree program.now.unit.now) program.now.table.now }
     ensures accepted { IfOk result (λ owned. broken (unit_tree program.now.unit.now) ≡ []) }
     ensures same { IfOk result (λ owned. owned.program.now ≡ program.now) }

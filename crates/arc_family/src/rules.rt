@@ -26,14 +26,14 @@ use arc_spec::signature::Family;
 
 /// The first rule of ownership that the sites so far break of a source, and the source's table.
 #[derive(Drop)]
-pub(crate) struct Ownership<'a> {
+pub(crate) struct Ownership<'a, 't> {
     pub(crate) unit: &'a TranslationUnit,
-    pub(crate) table: &'a ClassTable<'a>,
+    pub(crate) table: &'t ClassTable<'a>,
     pub(crate) fault: Option<OwnFault>,
     ghost known: { IsTableOf (unit_tree unit.now) table.now } by { Prim.hlevel props },
 }
 
-impl<'a> Visitor for Ownership<'a> {
+impl<'a, 't> Visitor for Ownership<'a, 't> {
     ghost violations = { λ ownership. rules.violations (unit_tree ownership.unit.now) };
 
     ghost found = { λ ownership. option_map told ownership.fault };
