@@ -14,7 +14,7 @@ use Rattle.arc_code.specs.Effects.{effect, operation_effect, on_numbers, as_numb
 use Rattle.arc_ir.specs.Acting.{Action, Program, lands, entry, linked}
 use Rattle.arc_lower.specs.Order.{Order, order, orders}
 use Rattle.arc_lower.specs.Lowered.{all_functions, number_of, slots_of, parameters_of, start_orders, function_orders, entries_of, lowered, classes_linked}
-use Rattle.arc_lower.specs.Heights.{height, next_height, highest, greatest, start_heights, function_heights, functions_heights, stub_heights, methods_heights, dealloc_heights, class_heights, classes_heights, lowered_heights, greatest_height, places_in, height_at, in_function, functions_marks, methods_marks, class_marks, classes_marks, lowered_marks, no_mark, result_at}
+use Rattle.arc_lower.specs.Heights.{height, highest, greatest, start_heights, function_heights, functions_heights, stub_heights, methods_heights, dealloc_heights, classes_heights, lowered_heights, greatest_height, places_in, height_at, in_function, functions_marks, methods_marks, class_marks, classes_marks, lowered_marks, no_mark, result_at}
 use Rattle.arc_lower.proofs.Doing.{bare}
 use Rattle.arc_lower.proofs.Typing.{IsCalled, gives_wanted}
 use Rattle.arc_lower.proofs.Stepping.{some_same, get_there, Goes, Steps}

@@ -40,8 +40,8 @@ use Rattle.arc_lower.proofs.Segments.{running, one_runs, quiet, quiet_runs, Pass
 use Rattle.arc_lower.proofs.Stacking.{onto, Peels, peels_onto, drop_onto, without_below, get_onto, get_local, set_local, get_below, set_below}
 use Rattle.arc_lower.proofs.Printing.{print_passes}
 use Rattle.arc_lower.proofs.Fitting.{forgets_shift, passing_leads}
-use Rattle.arc_lower.proofs.Releasing.{Kept, kept_same, kept_trans, Ends, Stays, object_runs, there_runs, place_runs, named_runs, global_runs, strong_field_runs, emptied, empties, get_front, dropped_runs, settled_runs, no_variable, changes_runs, empties_run}
-use Rattle.arc_lower.proofs.Shaping.{Operands, push, name, Way, On, Out, Quits, Turns, Lost, left_by, on_way, and_then, only_on, after_turn, on_test, top_of, values_of, objects_of, on_given, pushes, answer_left, answers_left, passes_by, operation, told, block_turns, loop_entered, block}
+use Rattle.arc_lower.proofs.Releasing.{Kept, kept_same, Ends, Stays, object_runs, there_runs, place_runs, named_runs, global_runs, strong_field_runs, emptied, empties, get_front, dropped_runs, settled_runs, no_variable, changes_runs, empties_run}
+use Rattle.arc_lower.proofs.Shaping.{Operands, push, name, Way, On, Out, Quits, Turns, Lost, left_by, on_way, and_then, only_on, after_turn, on_test, top_of, values_of, objects_of, on_given, pushes, answers_left, passes_by, operation, told, block_turns, loop_entered, block}
 use Rattle.arc_lower.proofs.Quiet.{takes_none, quiet_flat}
 
 -- behind a call, with its number on top, or with its object, which the last reference names and the last temporary

@@ -7,7 +7,6 @@ use Rattle.arc_spec.specs.declared.class.Gives.TheVariants as gives
 use Rattle.arc_spec.specs.Classes.{init_selector}
 use Rattle.arc_code.specs.declared.effect.Height.{Height}
 use Rattle.arc_code.specs.Effects.{as_object}
-use Rattle.arc_code.specs.declared.instr.Op.{Op}
 use Rattle.arc_code.specs.declared.instr.Op.TheVariants.{Num, Pop, Set, Alloc}
 use Rattle.arc_code.specs.declared.instr.Instr.TheVariants.{Plain, Jump, JumpZero, SendTo, Settle, Give, Return, Empty, EndStep}
 use Rattle.arc_ir.specs.declared.action.Target.TheVariants.{Skip, Back, At}

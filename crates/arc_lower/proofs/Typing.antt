@@ -1,6 +1,6 @@
 -- Orders that go on with the next one each: how many numbers, references, temporaries and variables there are behind them, where each of them has as many as it needs.
 use Rattle.std.proofs.Common.{◌≡◌, ℕ, zero, suc, pred, ◌+◌, ◌-◌, ◌/◌, ◌<◌, ◌≤◌, Bool, true, false, if◌then◌else◌, nat_lt, List, [], ◌∷◌, ◌++◌, ℤ, length, take, drop, refl, sym, ap, ◌∙◌, subst, arith, pos}
-use Rattle.std.proofs.lemmas.Bool.{ltb-true, ltb-false}
+use Rattle.std.proofs.lemmas.Bool.{ltb-true}
 use Rattle.arc_ast.specs.declared.tree.Kind.TheVariants as k
 use Rattle.arc_ast.specs.declared.tree.Sign.TheVariants as signs
 use Rattle.arc_spec.specs.declared.location.Location.{Location}

@@ -17,10 +17,7 @@ use arc_spec::class::Gives;
 use arc_spec::event::NoMemory;
 
 /// The function, where it gives this.
-fn where_giving<'p>(
-    function: &'p CheckedFunction,
-    wanted: Gives,
-) -> Option<&'p CheckedFunction>
+fn where_giving<'p>(function: &'p CheckedFunction, wanted: Gives) -> Option<&'p CheckedFunction>
     ensures { option_map (λ found. definition_of found.now) result ≡ (if same_gives function.now.gives wanted then Some (definition_of function.now) else None) }
 {
     match (function.gives, wanted) {
@@ -58,9 +55,7 @@ pub(crate) fn parameters_of(program: &Checked, wanted: Gives, function: usize) -
     ensures { result ≡ parameters_of (program_of program.now) wanted function }
 {
     match function_giving(program, wanted, function) {
-        Some(found) => {
-            object_parameters(found.parameters, found.names, found.gives, found.owns)
-        }
+        Some(found) => { object_parameters(found.parameters, found.names, found.gives, found.owns) }
         None => 0,
     }
 }
@@ -84,12 +79,7 @@ pub(crate) fn owned_by(owns: bool) -> usize
 }
 
 /// How many objects a function takes that has so many parameters and variables that name objects.
-pub(crate) fn object_parameters(
-    parameters: usize,
-    names: usize,
-    gives: Gives,
-    owns: bool,
-) -> usize
+pub(crate) fn object_parameters(parameters: usize, names: usize, gives: Gives, owns: bool) -> usize
     ensures { result ≡ lesser parameters ((if same_gives gives Gives.Object then suc names else names) - (if owns then 1 else 0)) }
 {
     match (gives, owns) {

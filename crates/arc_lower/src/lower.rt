@@ -10,7 +10,7 @@ ghost use Rattle.arc_lower.specs.Lowered.{own_orders, opening_orders, body_order
 ghost use Rattle.arc_lower.specs.Heights.{greatest, start_heights, function_heights, functions_heights};
 ghost use Rattle.arc_lower.specs.Promise.{Performs, IsLowered};
 
-use crate::call::{append_call, append_leave, object_parameters, owned_by, function_places};
+use crate::call::{append_call, append_leave, function_places, object_parameters, owned_by};
 use crate::expression::append;
 use crate::frame::Body;
 use crate::height::{between, greatest, no_height, passed};
