@@ -1,4 +1,7 @@
 //! Methods with their families, a program that is kept and one that is refused. The program `arc_rows` has many more sources.
+ghost use Rattle.arc_ast.specs.Tree.{unit_tree};
+ghost use Rattle.arc_class.specs.Table.{IsTableOf};
+
 use crate::source::tree;
 use arc_ast::tree::{Kind, TranslationUnit};
 use arc_check::checked::Checked;
@@ -10,7 +13,13 @@ use arc_fault::own::OwnFault;
 use std::alloc::Global;
 
 /// The number and the place of the rule that a tree with this table breaks.
-fn fault(alloc: Global, unit: &TranslationUnit, table: &ClassTable) -> Option<(u8, usize)> {
+fn fault<'a>(
+    alloc: Global,
+    unit: &'a TranslationUnit,
+    table: &ClassTable<'a>,
+) -> Option<(u8, usize)>
+    requires { IsTableOf (unit_tree unit.now) table.now }
+{
     let program = Checked {
         unit,
         table,
