@@ -27,7 +27,7 @@ const MOST_STEPS: u64 = 1_000_000;
 pub enum Verdict {
     Agrees,
     Differs,
-    /// No program was run to its end, or it takes too many steps.
+    /// No program was run to its end within `MOST_STEPS`.
     Uncompared,
 }
 
@@ -59,7 +59,7 @@ pub fn compare(
     }
 }
 
-/// The text of the compiled program's trace, where the words run or trace it, and it ends soon enough.
+/// The text of the compiled program's trace, where the words run or trace it, and it ends within `MOST_STEPS`.
 fn ended_trace(alloc: Global, words: &Words, source: &[u8], input: &[u8]) -> Option<Vec<u8>> {
     if matches!(words.command, Command::Check | Command::Code) {
         return None;

@@ -1,5 +1,5 @@
 //! The program `arc_rows`: does what each line of the file `rows` asks `arcc` for, and prints what that gives
-//! and whether the plain interpreter tells the same.
+//! and whether the plain interpreter tells the same, of a program that ends within a million steps.
 //!
 //! A line that begins with `#` is a heading. Any other is `WORDS`, the words behind `arcc`; `WORDS < INPUT`, with the
 //! file of the standard input; or either one with `: SOURCE` behind, where the source stands in the line and not in
