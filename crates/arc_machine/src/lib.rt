@@ -15,6 +15,8 @@ mod hand;
 mod holding;
 pub mod machine;
 mod number;
+mod object_step;
+mod object_turn;
 mod objects;
 mod operand;
 mod order;
