@@ -1,9 +1,9 @@
 #!/usr/bin/env bash
 # Times `arcc run` on a loop of calls, on recursion, on a loop of messages to an object, on a loop that
-# makes objects and drops them, on linked lists that are made and dropped, on primes by trial division, and
-# on a loop of 64-bit arithmetic with all operators, next to Lua 5.4 and Python 3 where these are installed, and `arcc check` on sources of 1 KiB,
-# 32 KiB and 1 MiB. Prints seconds (the least of five runs) and ratios. It isn't part of
-# the gate.
+# makes objects and drops them, on one that makes them by `alloc` and an init method, on linked lists that are made and
+# dropped, on primes by trial division, and on a loop of 64-bit arithmetic with all operators, next to Lua 5.4 and
+# Python 3 where these are installed, and `arcc check` on sources of 1 KiB, 32 KiB and 1 MiB. Prints seconds (the least
+# of five runs) and ratios. It isn't part of the gate.
 set -eu
 top=$(cd "$(dirname "${BASH_SOURCE[0]}")/.." && pwd)
 arcc=$top/crates/arcc/out/arcc
@@ -147,6 +147,61 @@ def main():
 main()
 END
 
+cat >"$work/inits.m" <<'END'
+@interface Point : NSObject { int _x; int _y; }
+- (instancetype)initWithX:(int)x y:(int)y;
+- (int)sum;
+@end
+@implementation Point
+- (instancetype)initWithX:(int)x y:(int)y {
+  self = [super init];
+  if (self) { _x = x; _y = y; }
+  return self;
+}
+- (int)sum { return _x + _y; }
+@end
+int main(void) {
+  int sum = 0;
+  for (int i = 0; i < 2000000; i++) {
+    Point *point = [[Point alloc] initWithX:i y:1];
+    sum += [point sum];
+  }
+  printf("%d\n", sum);
+}
+END
+cat >"$work/inits.lua" <<'END'
+local Point = {}
+Point.__index = Point
+function Point.new(x, y)
+  local self = setmetatable({ x = 0, y = 0 }, Point)
+  if self then self.x = x; self.y = y end
+  return self
+end
+function Point:sum() return self.x + self.y end
+local sum = 0
+for i = 0, 1999999 do
+  local point = Point.new(i, 1)
+  sum = (sum + point:sum()) & 0xffffffff
+end
+print(sum)
+END
+cat >"$work/inits.py" <<'END'
+class Point:
+    __slots__ = ("x", "y")
+    def __init__(self, x, y):
+        self.x = x
+        self.y = y
+    def sum(self):
+        return self.x + self.y
+def main():
+    total = 0
+    for i in range(2000000):
+        point = Point(i, 1)
+        total = (total + point.sum()) & 0xffffffff
+    print(total)
+main()
+END
+
 cat >"$work/lists.m" <<'END'
 @interface Node : NSObject { @public Node *next; int value; }
 @end
@@ -285,7 +340,7 @@ main()
 END
 
 echo "machine: $(uname -m), $(nproc) processors, $(awk -F': ' '/model name/ { print $2; exit }' /proc/cpuinfo)"
-for name in calls fib sends objects lists primes longs; do
+for name in calls fib sends objects inits lists primes longs; do
   ours=$(least "$arcc" run "$work/$name.m" --steps 9000000000)
   line="$name: arcc $ours s"
   if command -v lua5.4 >/dev/null; then

@@ -6,6 +6,7 @@ use Rattle.arc_ast.specs.declared.tree.Moment.{Moment}
 use Rattle.arc_ast.specs.declared.tree.Moment.TheVariants.{Before, After}
 use Rattle.arc_ast.specs.declared.tree.Sign.{Sign}
 use Rattle.arc_ast.specs.declared.tree.Visibility.{Visibility}
+use Rattle.arc_ast.specs.declared.tree.Qualifiers.{Qualifiers}
 use Rattle.arc_ast.specs.declared.tree.TypeName.{TypeName}
 use Rattle.arc_ast.specs.declared.tree.TypeName.TheVariants as t
 use Rattle.arc_ast.specs.declared.tree.ResultType.{ResultType}
@@ -37,10 +38,12 @@ pub data TypeTree : Type 0 where
   Id : TypeTree
   Object : ℕ → List ℕ → TypeTree
 
--- the type of a function's or a method's result, as it is written (C99, section 6.7.5.3; OPL, "Defining a Class")
+-- The type of a function's or a method's result, as it is written (C99, section 6.7.5.3; OPL, "Defining a Class"). `Related` is `instancetype`, an object of the
+-- class that gets the message (ARC, "Related result types").
 pub data ResultTree : Type 0 where
   Void : ResultTree
   Value : TypeTree → ResultTree
+  Related : ResultTree
 
 mutual
   -- An expression, with the place of its first byte (C99, section 6.5). An integer has its value, and whether it is written with a suffix. An assignment and
@@ -68,21 +71,22 @@ mutual
     no_exprs : ExprTrees
     and_expr : ExprTree → ExprTrees → ExprTrees
 
--- a variable of a declaration, with the place of its name (C99, section 6.7)
+-- a variable of a declaration, with the place of its name, and the qualifiers that are its own (C99, section 6.7; ARC, "Ownership qualification")
 pub record VariableTree : Type 0 where
   pub at : ℕ
+  pub qualifiers : Qualifiers
   pub name : List ℕ
   pub initial : Option ExprTree
 
 mutual
-  -- A statement, with the place of its first byte (C99, section 6.8). A `for` has what comes before it, as a statement, its test, its step and its body (section
+  -- A statement, with the place of its first byte (C99, section 6.8). A declaration has the place of its type, and the qualifiers before that. A `for` has what comes before it, as a statement, its test, its step and its body (section
   -- 6.8.5.3).
   pub data StmtTree : Type 0 where
     Block : ℕ → StmtTrees → StmtTree
     Empty : ℕ → StmtTree
     Simple : ExprTree → StmtTree
     Return : ℕ → Option ExprTree → StmtTree
-    Variables : ℕ → TypeTree → List VariableTree → StmtTree
+    Variables : ℕ → Qualifiers → TypeTree → List VariableTree → StmtTree
     If : ℕ → ExprTree → StmtTree → StmtTree
     IfElse : ℕ → ExprTree → StmtTree → StmtTree → StmtTree
     While : ℕ → ExprTree → StmtTree → StmtTree
@@ -99,6 +103,7 @@ mutual
 pub record ParameterTree : Type 0 where
   pub at : ℕ
   pub type : TypeTree
+  pub qualifiers : Qualifiers
   pub name : List ℕ
 
 -- the parameters that are listed or, of `main`, a count and texts (C99, section 5.1.2.2.1)
@@ -130,6 +135,7 @@ pub record MethodTree : Type 0 where
 pub record FieldTree : Type 0 where
   pub at : ℕ
   pub type : TypeTree
+  pub qualifiers : Qualifiers
   pub name : List ℕ
   pub visibility : Visibility
 
@@ -154,6 +160,7 @@ pub record ImplementationTree : Type 0 where
 pub record GlobalTree : Type 0 where
   pub at : ℕ
   pub type : TypeTree
+  pub qualifiers : Qualifiers
   pub name : List ℕ
   pub initial : Option Constant
 
@@ -214,6 +221,7 @@ type_tree (t.Object at name) = Object at name.items
 abbrev pub result_tree : ResultType → ResultTree
 result_tree r.Void = Void
 result_tree (r.Value type) = Value (type_tree type)
+result_tree r.Related = Related
 
 -- A constructor with a prime is one whose boxes and vectors stand in it as such: a row is a vector's elements, and `q` and `shape` say how they lie in memory, which
 -- a tree doesn't keep.
@@ -245,7 +253,7 @@ expr_trees [] = no_exprs
 expr_trees (a ∷ others) = and_expr (expr_tree a) (expr_trees others)
 
 abbrev pub variable_tree : Variable → VariableTree
-variable_tree v = record { at = v.at; name = v.name.items; initial = option_map expr_tree v.initial }
+variable_tree v = record { at = v.at; qualifiers = v.qualifiers; name = v.name.items; initial = option_map expr_tree v.initial }
 
 abbrev pub variable_trees : List Variable → List VariableTree
 variable_trees [] = []
@@ -257,7 +265,7 @@ abbrev mutual
   stmt_tree (s.Empty at) = Empty at
   stmt_tree (s.Expr a) = Simple (expr_tree a)
   stmt_tree (s.Return at a) = Return at (option_map expr_tree a)
-  stmt_tree (s.Variables at type all) = Variables at (type_tree type) (variable_trees all.items)
+  stmt_tree (s.Variables at qualifiers type all) = Variables at qualifiers (type_tree type) (variable_trees all.items)
   stmt_tree (s.If' at c q a) = If at (expr_tree c) (stmt_tree a)
   stmt_tree (s.IfElse' at c q a r b) = IfElse at (expr_tree c) (stmt_tree a) (stmt_tree b)
   stmt_tree (s.While' at c q a) = While at (expr_tree c) (stmt_tree a)
@@ -275,7 +283,7 @@ stmt_trees [] = no_stmts
 stmt_trees (a ∷ others) = and_stmt (stmt_tree a) (stmt_trees others)
 
 abbrev pub parameter_tree : Parameter → ParameterTree
-parameter_tree a = record { at = a.at; type = type_tree a.type_name; name = a.name.items }
+parameter_tree a = record { at = a.at; type = type_tree a.type_name; qualifiers = a.qualifiers; name = a.name.items }
 
 abbrev pub parameter_trees : List Parameter → List ParameterTree
 parameter_trees [] = []
@@ -294,7 +302,7 @@ function_trees [] = []
 function_trees (f ∷ others) = function_tree f ∷ function_trees others
 
 abbrev pub global_tree : Global → GlobalTree
-global_tree g = record { at = g.at; type = type_tree g.type_name; name = g.name.items; initial = g.initial }
+global_tree g = record { at = g.at; type = type_tree g.type_name; qualifiers = g.qualifiers; name = g.name.items; initial = g.initial }
 
 abbrev pub global_trees : List Global → List GlobalTree
 global_trees [] = []
@@ -315,7 +323,7 @@ method_trees [] = []
 method_trees (m ∷ others) = method_tree m ∷ method_trees others
 
 abbrev pub field_tree : Field → FieldTree
-field_tree f = record { at = f.at; type = type_tree f.type_name; name = f.name.items; visibility = f.visibility }
+field_tree f = record { at = f.at; type = type_tree f.type_name; qualifiers = f.qualifiers; name = f.name.items; visibility = f.visibility }
 
 abbrev pub field_trees : List Field → List FieldTree
 field_trees [] = []

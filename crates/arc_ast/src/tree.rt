@@ -20,6 +20,15 @@ pub enum Qual {
     Autoreleasing,
 }
 
+/// The qualifiers that are written of a variable, a parameter or a field: none, one, or more than may stand there
+/// (ARC, "Ownership qualification").
+#[derive(Clone, Copy, Debug, PartialEq, Eq)]
+pub enum Qualifiers {
+    Unqualified,
+    Qualified(Qual),
+    Several,
+}
+
 /// An operator between two operands (C99, sections 6.5.5 to 6.5.12).
 #[derive(Clone, Copy, Debug, PartialEq, Eq)]
 pub enum BinaryOperator {
@@ -139,6 +148,8 @@ pub enum ResultType {
     /// No value.
     Void,
     Value(TypeName),
+    /// `instancetype`: an object of the class that gets the message.
+    Related,
 }
 
 /// An expression, with the place of its first byte; a call has that of its function's name.
@@ -178,15 +189,17 @@ pub enum Expr {
     SendSuper(usize, usize, usize, Vec<u8>, Vec<Expr>),
 }
 
-/// A variable that a declaration makes, with the place of its name.
+/// A variable that a declaration makes, with the place of its name, and the qualifiers that are its own.
 #[derive(Drop)]
 pub struct Variable {
     pub at: usize,
+    pub qualifiers: Qualifiers,
     pub name: Vec<u8>,
     pub initial: Option<Expr>,
 }
 
-/// A statement, or a declaration of variables among those of a block, with the place of its first byte.
+/// A statement, with the place of its first byte, or a declaration of variables among those of a block, with that of
+/// its type.
 #[derive(Drop)]
 pub enum Stmt {
     Block(usize, Vec<Stmt>),
@@ -194,8 +207,8 @@ pub enum Stmt {
     Empty(usize),
     Expr(Expr),
     Return(usize, Option<Expr>),
-    /// Variables of one type.
-    Variables(usize, TypeName, Vec<Variable>),
+    /// Variables of one type, with the qualifiers that stand before it, which each of them has.
+    Variables(usize, Qualifiers, TypeName, Vec<Variable>),
     If(usize, Expr, Box<Stmt>),
     IfElse(usize, Expr, Box<Stmt>, Box<Stmt>),
     While(usize, Expr, Box<Stmt>),
@@ -213,6 +226,7 @@ pub enum Stmt {
 pub struct Parameter {
     pub at: usize,
     pub type_name: TypeName,
+    pub qualifiers: Qualifiers,
     pub name: Vec<u8>,
 }
 
@@ -255,6 +269,7 @@ pub struct Method {
 pub struct Field {
     pub at: usize,
     pub type_name: TypeName,
+    pub qualifiers: Qualifiers,
     pub name: Vec<u8>,
     pub visibility: Visibility,
 }
@@ -293,6 +308,7 @@ pub enum Constant {
 pub struct Global {
     pub at: usize,
     pub type_name: TypeName,
+    pub qualifiers: Qualifiers,
     pub name: Vec<u8>,
     pub initial: Option<Constant>,
 }

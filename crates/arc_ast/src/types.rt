@@ -1,9 +1,9 @@
 //! Types as they are written.
 ghost use Rattle.std.specs.Prelude.{◌≡◌, IfOk};
 ghost use Rattle.arc_ast.specs.Tree.{type_tree, result_tree};
-ghost use Rattle.arc_ast.specs.Types.{type_kind, result_kind};
+ghost use Rattle.arc_ast.specs.Types.{type_kind, result_kind, and_qualifier, both_qualifiers};
 
-use crate::tree::{Kind, ResultType, TypeName};
+use crate::tree::{Kind, Qual, Qualifiers, ResultType, TypeName};
 use std::alloc::{AllocError, Global};
 
 impl TypeName {
@@ -43,6 +43,30 @@ impl ResultType {
         match self {
             ResultType::Void => Kind::Void,
             ResultType::Value(type_name) => type_name.kind(),
+            ResultType::Related => Kind::Object,
+        }
+    }
+}
+
+impl Qualifiers {
+    /// Returns these and one more.
+    pub fn and(self, further: Qual) -> Qualifiers
+        ensures { result ≡ and_qualifier self further }
+    {
+        match self {
+            Qualifiers::Unqualified => Qualifiers::Qualified(further),
+            _ => Qualifiers::Several,
+        }
+    }
+
+    /// Returns these and those.
+    pub fn both(self, others: Qualifiers) -> Qualifiers
+        ensures { result ≡ both_qualifiers self others }
+    {
+        match others {
+            Qualifiers::Unqualified => self,
+            Qualifiers::Qualified(further) => self.and(further),
+            Qualifiers::Several => Qualifiers::Several,
         }
     }
 }

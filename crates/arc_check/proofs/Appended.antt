@@ -5,8 +5,7 @@ use Rattle.arc_ast.specs.declared.tree.Implementation.{Implementation}
 use Rattle.arc_ast.specs.declared.tree.Method.{Method}
 use Rattle.arc_ast.specs.declared.tree.Parameter.{Parameter}
 use Rattle.arc_ast.specs.declared.tree.Stmt.{Stmt}
-use Rattle.arc_ast.specs.Types.{result_kind}
-use Rattle.arc_ast.specs.Tree.{result_tree, parameter_trees, stmt_trees, method_trees, implementation_trees}
+use Rattle.arc_ast.specs.Tree.{head_tree, parameter_trees, stmt_trees, method_trees, implementation_trees}
 use Rattle.arc_spec.specs.declared.class.Class as declared
 use Rattle.arc_spec.specs.Classes.{Class, class_of, classes_of}
 use Rattle.arc_spec.specs.Resolved as resolved
@@ -14,7 +13,8 @@ use Rattle.arc_check.specs.declared.checked.CheckedFunction.{CheckedFunction}
 use Rattle.arc_check.specs.private.Building.{function_of, functions_ahead}
 use Rattle.arc_check.specs.Checked as checked
 use Rattle.arc_check.specs.Resolving.{resolved_body, resolved_method, resolved_methods}
-use Rattle.arc_check.specs.Scopes.{Known, Scope, with_parameters, in_method}
+use Rattle.arc_check.specs.Rules.{of_method}
+use Rattle.arc_check.specs.Scopes.{Known, Scope, with_parameters}
 use Rattle.arc_check.proofs.Commands.{functions_ahead-push}
 use Rattle.arc_check.proofs.Lists.{drop_turn, drop_end}
 
@@ -26,11 +26,11 @@ functions_ahead-append (a ∷ all) others = ap (λ us. function_of a ∷ us) (fu
 
 -- one method more
 pub method_turn : (known : Known) (class : Option ℕ) (xs : List Method) (i : ℕ) (x : Method) (named : List Parameter) (body : List Stmt) (s : Scope) (a : CheckedFunction) (old new : List CheckedFunction) (others whole : List resolved.Function) → i < length xs → x ≡ get_or xs i x
-    → s ≡ in_method known class x.head.sign (result_kind (result_tree x.head.result)) → named ≡ x.head.parameters.items → body ≡ x.body.items → function_of a ≡ resolved_body (with_parameters s (parameter_trees named)) (stmt_trees body) → new ≡ old ++ a ∷ []
+    → s ≡ of_method known class (head_tree x.head) → named ≡ x.head.parameters.items → body ≡ x.body.items → function_of a ≡ resolved_body (with_parameters s (parameter_trees named)) (stmt_trees body) → new ≡ old ++ a ∷ []
     → whole ≡ functions_ahead old (map (resolved_method known class) (method_trees (drop i xs)) ++ others) → whole ≡ functions_ahead new (map (resolved_method known class) (method_trees (drop (i + 1) xs)) ++ others)
 method_turn known class xs i x named body s a old new others whole l e p m b h n w =
     let rest = map (resolved_method known class) (method_trees (drop (i + 1) xs)) ++ others in
-    let start = in_method known class x.head.sign (result_kind (result_tree x.head.result)) in
+    let start = of_method known class (head_tree x.head) in
     let own : function_of a ≡ resolved_body (with_parameters start (parameter_trees x.head.parameters.items)) (stmt_trees x.body.items) =
     h ∙ ap (λ q. resolved_body (with_parameters q (parameter_trees named)) (stmt_trees body)) p ∙ ap (λ us. resolved_body (with_parameters start (parameter_trees us)) (stmt_trees body)) m
     ∙ ap (λ us. resolved_body (with_parameters start (parameter_trees x.head.parameters.items)) (stmt_trees us)) b in

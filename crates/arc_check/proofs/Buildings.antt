@@ -1,7 +1,8 @@
 -- What is built of expressions and statements.
-use Rattle.std.proofs.Common.{◌≡◌, ℕ, ◌+◌, ◌<◌, ◌≤◌, List, [], ◌∷◌, ◌++◌, length, get_or, drop, Option, None, option_map, refl, sym, ap, ◌∙◌, arith}
+use Rattle.std.proofs.Common.{◌≡◌, ℕ, ◌+◌, ◌<◌, ◌≤◌, true, false, List, [], ◌∷◌, ◌++◌, length, get_or, drop, Option, Some, None, option_map, refl, sym, ap, ◌∙◌, arith}
 use Rattle.arc_ast.specs.declared.tree.Expr.{Expr}
 use Rattle.arc_ast.specs.declared.tree.Kind.{Kind}
+use Rattle.arc_ast.specs.declared.tree.Kind.TheVariants as k
 use Rattle.arc_ast.specs.Tree.{ExprTrees, Call, expr_tree, expr_trees}
 use Rattle.arc_class.specs.Table.{number_of_class}
 use Rattle.arc_spec.specs.Resolved as resolved
@@ -10,15 +11,15 @@ use Rattle.arc_check.specs.declared.format.Begun.TheVariants.{Nothing}
 use Rattle.arc_check.specs.Formats.{parts, printed}
 use Rattle.arc_spec.specs.Resolved.{Arguments, no_arguments}
 use Rattle.arc_check.specs.declared.checked.Argument.{Argument}
-use Rattle.arc_check.specs.declared.checked.Value.{Value}
 use Rattle.arc_check.specs.Checked as checked
 use Rattle.arc_check.specs.private.Building.{Resolves, resolution, in_front, printing}
 use Rattle.arc_check.specs.declared.callee.Callee.{Callee}
 use Rattle.arc_check.specs.declared.resolution.Typed.{Typed}
 use Rattle.arc_check.specs.Resolving as resolving
 use Rattle.arc_check.specs.Passing.{first_wanted, wanted_by}
-use Rattle.arc_check.specs.Resolving.{Gives, argument, called, resolved_all, text_of}
-use Rattle.arc_check.specs.Scopes.{Scope, callee, result_kind}
+use Rattle.arc_check.specs.Resolving.{Gives, Refers, argument, called, resolved_all, text_of}
+use Rattle.arc_check.specs.Rules.{is_object}
+use Rattle.arc_check.specs.Scopes.{Scope, callee}
 use Rattle.arc_check.proofs.Lists.{drop_turn, drop_end}
 
 in_front-push : (all : List Argument) (a : Argument) (others : Arguments) → in_front (all ++ a ∷ []) others ≡ in_front all (checked.and_argument a others)
@@ -56,9 +57,24 @@ printing_none s (a ∷ all) pieces values l p v = absurd (omega arith)
 
 -- ---- calls
 
-pub resolves_call : (s : Scope) (at : ℕ) (name : List ℕ) (arguments : ExprTrees) (function : Callee) (kind : Kind) (value : Value) (typed : Typed) → callee s.known name ≡ function → kind ≡ result_kind function
-    → checked.value value ≡ called function arguments (resolved_all s (wanted_by function (s.known.parameters name)) arguments) → typed.class ≡ None → resolution typed.value ≡ Gives kind (checked.value value) → Resolves s (Call at name arguments) typed
-resolves_call s at name arguments function kind value typed e k v c w = record {
-  class = ap (option_map number_of_class) c;
-  value = w ∙ ap (λ x. Gives x (checked.value value)) k ∙ ap (Gives (result_kind function)) v ∙ ap (λ f. Gives (result_kind f) (called f arguments (resolved_all s (wanted_by f (s.known.parameters name)) arguments))) (sym e);
+-- a call that gives an object, or a number
+pub invoked_object : (kind : Kind) (f : ℕ) (all : Arguments) → is_object (Some kind) ≡ true → Refers (resolved.ObjectInvoked f all) ≡ resolving.invoked kind f all
+invoked_object k.Void f all e = absurd (cc)
+invoked_object k.Bool f all e = absurd (cc)
+invoked_object k.Int f all e = absurd (cc)
+invoked_object k.Long f all e = absurd (cc)
+invoked_object k.Object f all e = refl
+
+pub invoked_number : (kind : Kind) (f : ℕ) (all : Arguments) → is_object (Some kind) ≡ false → Gives kind (resolved.Invoked f all) ≡ resolving.invoked kind f all
+invoked_number k.Void f all e = refl
+invoked_number k.Bool f all e = refl
+invoked_number k.Int f all e = refl
+invoked_number k.Long f all e = refl
+invoked_number k.Object f all e = absurd (cc)
+
+pub resolves_call : (s : Scope) (at : ℕ) (name : List ℕ) (arguments : ExprTrees) (function : Callee) (typed : Typed) → callee s.known name ≡ function → option_map number_of_class typed.class ≡ s.known.function_class name
+    → resolution typed.value ≡ called function arguments (resolved_all s (wanted_by function (s.known.parameters name)) arguments) → Resolves s (Call at name arguments) typed
+resolves_call s at name arguments function typed e c v = record {
+  class = c;
+  value = v ∙ ap (λ f. called f arguments (resolved_all s (wanted_by f (s.known.parameters name)) arguments)) (sym e);
 }

@@ -1,14 +1,15 @@
 -- What is built of lists of statements, and one more.
-use Rattle.std.proofs.Common.{◌≡◌, ℕ, ◌+◌, ◌-◌, ◌<◌, ◌≤◌, List, [], ◌∷◌, ◌++◌, length, get_or, drop, Some, None, Vec, Global, option_map, refl, sym, ap, ◌∙◌}
+use Rattle.std.proofs.Common.{◌≡◌, ℕ, ◌+◌, ◌-◌, ◌<◌, ◌≤◌, Bool, List, [], ◌∷◌, ◌++◌, length, get_or, drop, Some, None, Vec, Global, option_map, refl, sym, ap, ◌∙◌}
 use Rattle.std.specs.List.{filter_map, cons_option}
 use Rattle.arc_ast.specs.declared.tree.Function.{Function}
 use Rattle.arc_ast.specs.declared.tree.Parameter.{Parameter}
 use Rattle.arc_ast.specs.declared.tree.Stmt as stmt
 use Rattle.arc_ast.specs.declared.tree.Stmt.{Stmt}
-use Rattle.arc_ast.specs.declared.tree.TypeName.{TypeName}
 use Rattle.arc_ast.specs.declared.tree.Variable.{Variable}
 use Rattle.arc_ast.specs.Types.{result_kind}
-use Rattle.arc_ast.specs.Tree.{TypeTree, StmtTrees, ParameterTree, type_tree, result_tree, expr_tree, stmt_tree, stmt_trees, variable_trees, parameter_trees, parameters_tree, function_trees}
+use Rattle.arc_ast.specs.Tree.{TypeTree, StmtTrees, ParameterTree, result_tree, expr_tree, stmt_tree, stmt_trees, variable_trees, parameter_trees, parameters_tree, function_trees}
+use Rattle.arc_spec.specs.declared.class.Gives.{Gives}
+use Rattle.arc_spec.specs.Classes.{gives_of}
 use Rattle.arc_spec.specs.Resolved as resolved
 use Rattle.arc_spec.specs.Resolved.{Commands, no_commands, and_command}
 use Rattle.arc_sites.specs.Sites.{named_parameters}
@@ -18,7 +19,8 @@ use Rattle.arc_check.specs.declared.checked.CheckedFunction.{CheckedFunction}
 use Rattle.arc_check.specs.private.Building.{ahead_of, function_of, functions_ahead}
 use Rattle.arc_check.specs.Checked as checked
 use Rattle.arc_check.specs.Resolving.{declared, resolved_variables, resolved_stmt, resolved_stmts, resolved_body, resolved_function, with_loop}
-use Rattle.arc_check.specs.Scopes.{Known, Scope, declare, with_parameters, leave, behind, behind_all, outermost}
+use Rattle.arc_check.specs.Scopes.{Known, Scope, declare, with_parameters, leave, behind, behind_all, outermost, owned_in}
+use Rattle.arc_check.proofs.Leaving.{behind_all_same}
 use Rattle.arc_check.proofs.Lists.{drop_turn, drop_end}
 use Rattle.arc_ast.proofs.Trees.{block_tree}
 use Rattle.arc_check.proofs.Trees.{sequence_command}
@@ -73,10 +75,6 @@ block_command s a at all items e m = ap (λ us. block_of s (stmt_trees us)) m �
 pub block_scope : (s : Scope) (a : Stmt) (at : ℕ) (all : Vec Stmt Global) (items : List Stmt) → a ≡ stmt.Block at all → items ≡ all.items → leave s (behind_all s (stmt_trees items)) ≡ behind s (stmt_tree a)
 block_scope s a at all items e m = ap (λ us. leave s (behind_all s (stmt_trees us))) m ∙ sym (ap (behind s) (ap stmt_tree e ∙ block_tree at all))
 
-pub declaration_command : (s : Scope) (a : Stmt) (at : ℕ) (type : TypeName) (all : Vec Variable Global) (items : List Variable) (made : Vec Command Global) → a ≡ stmt.Variables at type all → items ≡ all.items
-    → checked.commands made.items ≡ resolved_variables (type_tree type) s (variable_trees items) → checked.command (command.Sequence 0 0 made) ≡ resolved_stmt s (stmt_tree a)
-declaration_command s a at type all items made e m h = sequence_command 0 0 made ∙ rw (e, h, m) refl
-
 pub choose_is : (test other : resolved.Value) (a b c d : resolved.Command) → test ≡ other → a ≡ b → c ≡ d → resolved.Choose test a c ≡ resolved.Choose other b d
 choose_is test other a b c d t e f = rw (t, e, f) refl
 
@@ -90,17 +88,21 @@ loop_command s own first count all a b one loop i n m e f = sequence_command fir
 
 -- ---- functions
 
-abbrev function : ℕ → ℕ → ℕ → Commands → resolved.Function
-function slots names parameters body = record { slots = slots; names = names; parameters = parameters; body = body }
+abbrev function : ℕ → ℕ → ℕ → Gives → Bool → Commands → resolved.Function
+function slots names parameters gives owns body = record { slots = slots; names = names; parameters = parameters; gives = gives; owns = owns; body = body }
 
-pub function_is : (parameters : List ParameterTree) (body : StmtTrees) (f : CheckedFunction) (empty before after : Scope) → before ≡ with_parameters empty parameters → after ≡ behind_all before body
-    → checked.commands f.body.items ≡ resolved_stmts before body → f.slots ≡ after.next → f.names ≡ after.names → f.parameters ≡ before.names → function_of f ≡ resolved_body (with_parameters empty parameters) body
-function_is parameters body f empty before after b a c n m p =
+pub function_is : (parameters : List ParameterTree) (body : StmtTrees) (f : CheckedFunction) (empty before after : Scope) → before ≡ with_parameters empty parameters → after ≡ behind_all before body → checked.commands f.body.items ≡ resolved_stmts before body
+    → f.slots ≡ after.next → f.names ≡ after.names → f.parameters ≡ before.names - owned_in before.owns → f.gives ≡ gives_of after.result → f.owns ≡ after.owns → function_of f ≡ resolved_body (with_parameters empty parameters) body
+function_is parameters body f empty before after b a c n m p g o =
     let start = with_parameters empty parameters in
     let end = behind_all start body in
     let same : after ≡ end = a ∙ ap (λ s. behind_all s body) b in
-    ap (λ slots. function slots f.names f.parameters (checked.commands f.body.items)) (n ∙ ap (λ s. s.next) same) ∙ ap (λ names. function end.next names f.parameters (checked.commands f.body.items)) (m ∙ ap (λ s. s.names) same)
-    ∙ ap (λ passed. function end.next end.names passed (checked.commands f.body.items)) (p ∙ ap (λ s. s.names) b) ∙ ap (function end.next end.names start.names) (c ∙ ap (λ s. resolved_stmts s body) b)
+    let stays = behind_all_same start body in
+    let all = checked.commands f.body.items in
+    let passed = start.names - owned_in start.owns in
+    ap (λ x. function x f.names f.parameters f.gives f.owns all) (n ∙ ap (λ s. s.next) same) ∙ ap (λ x. function end.next x f.parameters f.gives f.owns all) (m ∙ ap (λ s. s.names) same)
+    ∙ ap (λ x. function end.next end.names x f.gives f.owns all) (p ∙ ap (λ s. s.names - owned_in s.owns) b) ∙ ap (λ x. function end.next end.names passed x f.owns all) (g ∙ ap (λ s. gives_of s.result) same ∙ ap gives_of stays.result)
+    ∙ ap (λ x. function end.next end.names passed (gives_of start.result) x all) (o ∙ ap (λ s. s.owns) same ∙ stays.owns) ∙ ap (function end.next end.names passed (gives_of start.result) start.owns) (c ∙ ap (λ s. resolved_stmts s body) b)
 
 pub functions_ahead-push : (all : List CheckedFunction) (a : CheckedFunction) (others : List resolved.Function) → functions_ahead (all ++ a ∷ []) others ≡ functions_ahead all (function_of a ∷ others)
 functions_ahead-push [] a others = refl

@@ -1,5 +1,5 @@
 -- What global variables hold first, how many of them name objects, and the rules that they break.
-use Rattle.std.proofs.Common.{◌≡◌, ℕ, ℤ, suc, ◌+◌, ◌<◌, ◌≤◌, Bool, true, false, not, cond, List, [], ◌∷◌, ◌++◌, length, get_or, drop, Option, append-nil, append_assoc, refl, sym, ap, ◌∙◌, map, arith}
+use Rattle.std.proofs.Common.{◌≡◌, ℕ, ℤ, suc, ◌+◌, ◌<◌, ◌≤◌, Bool, true, false, not, cond, List, [], ◌∷◌, ◌++◌, length, get_or, drop, Option, append-nil, append_assoc, sym, ap, ◌∙◌, map, arith}
 use Rattle.std.specs.List.{flat_map, filter}
 use Rattle.arc_ast.specs.declared.tree.Global.{Global}
 use Rattle.arc_ast.specs.Tree.{GlobalTree, global_tree, global_trees}

@@ -25,7 +25,7 @@ use Rattle.arc_check.specs.declared.taken.Taken.{Taken}
 use Rattle.arc_check.specs.Fault.{told}
 use Rattle.arc_check.specs.Formats.{fits}
 use Rattle.arc_check.specs.private.Judging.{Judges, JudgesCall, JudgesWhole, counted, none_counted, other_rule}
-use Rattle.arc_check.specs.Rules.{all_taken, arrow_kind, at_if, binary_kind, broken, broken_arguments, broken_at, broken_field, call_rule, either_kind, is_assignable, is_object, is_updatable, kind_if, kind_of, kinds, message_kind, no_left, no_method, no_number, no_object, no_right, no_such, no_value, number_kind, taken, unread, no_operand, unary_kind}
+use Rattle.arc_check.specs.Rules.{all_taken, arrow_kind, at_if, binary_kind, broken, broken_arguments, broken_at, broken_field, call_rule, either_kind, is_assignable, is_object, is_updatable, kind_if, kind_of, kinds, message_kind, no_left, no_method, no_number, no_object, no_right, no_such, no_value, taken, unread, no_operand, unary_kind}
 use Rattle.arc_check.specs.Passing.{first_wanted, wanted_by, receiver_sign}
 use Rattle.arc_check.specs.Scopes.{Scope, callee, class_of, class_receiver, either_class, field_class, is_nil, is_printf, own_class, result_kind, sent_class, static_class, super_class, super_kind}
 use Rattle.arc_check.proofs.Counting.{counted_both, past_is}
@@ -56,9 +56,9 @@ pub never : {A : Type 0} → false ≡ true → A
 never e = absurd (cc)
 
 pub judges_call : (s : Scope) (before : Taken) (a : Expr) (at : ℕ) (name : Vec ℕ Global) (arguments : Vec Expr Global) (bytes : List ℕ) (all : List Expr) (judged : Judged) → a ≡ ast.Call at name arguments
-    → bytes ≡ name.items → all ≡ arguments.items → JudgesCall s before at (callee s.known bytes) (s.known.parameters bytes) (expr_trees all) judged → Judges s before (expr_tree a) judged
+    → bytes ≡ name.items → all ≡ arguments.items → JudgesCall s before at (callee s.known bytes) (s.known.function_class bytes) (s.known.parameters bytes) (expr_trees all) judged → Judges s before (expr_tree a) judged
 judges_call s before a at name arguments bytes all judged e n m h =
-    rw (e, call_tree at name arguments, sym n, sym m) (record { kind = h.kind; class = ap (option_map number_of_class) h.class; fault = h.fault; taken = h.taken; unread = never })
+    rw (e, call_tree at name arguments, sym n, sym m) (record { kind = h.kind; class = h.class; fault = h.fault; taken = h.taken; unread = never })
 
 pub judges_send : (s : Scope) (before : Taken) (a : Expr) (at part : ℕ) (receiver : Box Expr Global) (r : Expr) (selector : Vec ℕ Global) (arguments : Vec Expr Global) (bytes : List ℕ) (all : List Expr) (judged : Judged) → a ≡ ast.Send at part receiver selector arguments
     → r ≡ receiver.value → bytes ≡ selector.items → all ≡ arguments.items → ((at : ℕ) → Judges s before (Send at part (expr_tree r) bytes (expr_trees all)) judged) → Judges s before (expr_tree a) judged
@@ -235,7 +235,7 @@ unless_class false own fault e = e
 pub judges_message : (s : Scope) (before between : Taken) (at part : ℕ) (r : ExprTree) (selector : List ℕ) (arguments : ExprTrees) (class : Option ℕ) (judged new : Judged) (passed : Arguments) (here : ℕ) (own unknown : Option Broken) → class ≡ class_receiver s r → Judges s before r judged → here ≡ place r
     → new.kind ≡ message_kind s class judged.kind (option_map number_of_class judged.class) selector → own ≡ cond (is_some class) None (earlier_of (option_map told judged.fault) (first (no_object judged.kind here)))
     → unknown ≡ first (no_method s class judged.kind (option_map number_of_class judged.class) selector part) → between ≡ counted judged.taken (at_if (is_object new.kind) part)
-    → option_map told passed.fault ≡ first (broken_arguments s (Some (s.known.passed (receiver_sign class) selector)) false arguments) → passed.taken ≡ counted between (all_taken s arguments) → option_map number_of_class new.class ≡ sent_class class (option_map number_of_class judged.class) selector
+    → option_map told passed.fault ≡ first (broken_arguments s (Some (s.known.passed (receiver_sign class) selector)) false arguments) → passed.taken ≡ counted between (all_taken s arguments) → option_map number_of_class new.class ≡ sent_class s.known class (option_map number_of_class judged.class) selector
     → option_map told new.fault ≡ earlier_of (earlier_of own unknown) (option_map told passed.fault) → new.taken ≡ passed.taken → Judges s before (Send at part r selector arguments) new
 judges_message s before between at part r selector arguments class judged new passed here own unknown e j p k o u b i t c f n =
     let kind = message_kind s (class_receiver s r) (kind_of s r) (class_of s r) selector in
@@ -246,7 +246,7 @@ judges_message s before between at part r selector arguments class judged new pa
     let gives = at_if (is_object kind) part in
     record {
       kind = is;
-      class = c ∙ ap (λ x. sent_class x (option_map number_of_class judged.class) selector) e ∙ ap (λ x. sent_class (class_receiver s r) x selector) j.class;
+      class = c ∙ ap (λ x. sent_class s.known x (option_map number_of_class judged.class) selector) e ∙ ap (λ x. sent_class s.known (class_receiver s r) x selector) j.class;
       fault = first_both (one ++ two) (broken_arguments s (Some (s.known.passed (receiver_sign (class_receiver s r)) selector)) false arguments) (earlier_of own unknown) (option_map told passed.fault) (option_map told new.fault)
           (first_both one two own unknown _
           (o ∙ ap (λ x. cond (is_some x) None (earlier_of (option_map told judged.fault) (first (no_object judged.kind here)))) e
@@ -319,26 +319,29 @@ is_none-broken_at : (at : ℕ) (rule : Option ℕ) → is_none (first (broken_at
 is_none-broken_at at None = refl
 is_none-broken_at at (Some n) = refl
 
-other_is : (s : Scope) (before : Taken) (at : ℕ) (callee : Callee) (parameters : List Kind) (all : List Expr) (own : Option CheckFault) (inside : Arguments) (judged : Judged) → is_printf callee ≡ false → call_rule callee (expr_trees all) (kinds s (expr_trees all)) ≡ other_rule callee (length (kinds s (expr_trees all)))
-    → option_map told own ≡ first (broken_at at (other_rule callee (length all))) → judged.kind ≡ kind_if (is_none own) (result_kind callee) → judged.class ≡ None → option_map told judged.fault ≡ earlier_of (option_map told own) (option_map told inside.fault) → judged.taken ≡ inside.taken
-    → option_map told inside.fault ≡ first (broken_arguments s (Some parameters) false (expr_trees all)) → inside.taken ≡ counted before (all_taken s (expr_trees all)) → JudgesCall s before at callee parameters (expr_trees all) judged
-other_is s before at callee parameters all own inside judged p r o k c f t i n =
+other_is : (s : Scope) (before between : Taken) (at : ℕ) (callee : Callee) (given : Option ℕ) (parameters : List Kind) (all : List Expr) (own : Option CheckFault) (inside : Arguments) (judged : Judged) → is_printf callee ≡ false
+    → call_rule callee (expr_trees all) (kinds s (expr_trees all)) ≡ other_rule callee (length (kinds s (expr_trees all))) → option_map told own ≡ first (broken_at at (other_rule callee (length all))) → judged.kind ≡ kind_if (is_none own) (result_kind callee)
+    → option_map number_of_class judged.class ≡ given → option_map told judged.fault ≡ earlier_of (option_map told own) (option_map told inside.fault) → between ≡ counted before (at_if (is_object judged.kind) at) → judged.taken ≡ inside.taken
+    → option_map told inside.fault ≡ first (broken_arguments s (Some parameters) false (expr_trees all)) → inside.taken ≡ counted between (all_taken s (expr_trees all)) → JudgesCall s before at callee given parameters (expr_trees all) judged
+other_is s before between at callee given parameters all own inside judged p r o k c f b t i n =
     let rule = call_rule callee (expr_trees all) (kinds s (expr_trees all)) in
     let same : other_rule callee (length all) ≡ rule = ap (other_rule callee) (sym (count-expr_trees s all)) ∙ sym r in
     let told_own : option_map told own ≡ first (broken_at at rule) = o ∙ ap (λ x. first (broken_at at x)) same in
+    let kind : judged.kind ≡ kind_if (is_none rule) (result_kind callee) = k ∙ ap (λ b. kind_if b (result_kind callee)) (sym (is_none-told own) ∙ ap is_none told_own ∙ is_none-broken_at at rule) in
     record {
-      kind = k ∙ ap (λ b. kind_if b (result_kind callee)) (sym (is_none-told own) ∙ ap is_none told_own ∙ is_none-broken_at at rule);
+      kind = kind;
       class = c;
       fault = first_both (broken_at at rule) (broken_arguments s (wanted_by callee parameters) (is_printf callee) (expr_trees all)) (option_map told own) (option_map told inside.fault) (option_map told judged.fault) told_own
           (i ∙ ap (λ b. first (broken_arguments s (if b then None else Some parameters) b (expr_trees all))) (sym p)) f;
-      taken = t ∙ n;
+      taken = t ∙ counted_both before between inside.taken (at_if (is_object (kind_if (is_none rule) (result_kind callee))) at) (all_taken s (expr_trees all)) (b ∙ ap (λ x. counted before (at_if (is_object x) at)) kind) n;
     }
 
 -- a call of another function than printf
-pub judges_other : (s : Scope) (before : Taken) (at : ℕ) (callee : Callee) (parameters : List Kind) (all : List Expr) (own : Option CheckFault) (inside : Arguments) (judged : Judged) → (callee ≡ Printf → ⊥) → option_map told own ≡ first (broken_at at (other_rule callee (length all)))
-    → judged.kind ≡ kind_if (is_none own) (result_kind callee) → judged.class ≡ None → option_map told judged.fault ≡ earlier_of (option_map told own) (option_map told inside.fault) → judged.taken ≡ inside.taken
-    → option_map told inside.fault ≡ first (broken_arguments s (Some parameters) false (expr_trees all)) → inside.taken ≡ counted before (all_taken s (expr_trees all)) → JudgesCall s before at callee parameters (expr_trees all) judged
-judges_other s before at Printf parameters all own inside judged n o k c f t i m = absurd (n refl)
-judges_other s before at GetChar parameters all own inside judged n o k c f t i m = other_is s before at GetChar parameters all own inside judged refl refl o k c f t i m
-judges_other s before at (Defined result wanted body) parameters all own inside judged n o k c f t i m = other_is s before at (Defined result wanted body) parameters all own inside judged refl refl o k c f t i m
-judges_other s before at Unknown parameters all own inside judged n o k c f t i m = other_is s before at Unknown parameters all own inside judged refl refl o k c f t i m
+pub judges_other : (s : Scope) (before between : Taken) (at : ℕ) (callee : Callee) (given : Option ℕ) (parameters : List Kind) (all : List Expr) (own : Option CheckFault) (inside : Arguments) (judged : Judged) → (callee ≡ Printf → ⊥)
+    → option_map told own ≡ first (broken_at at (other_rule callee (length all))) → judged.kind ≡ kind_if (is_none own) (result_kind callee) → option_map number_of_class judged.class ≡ given
+    → option_map told judged.fault ≡ earlier_of (option_map told own) (option_map told inside.fault) → between ≡ counted before (at_if (is_object judged.kind) at) → judged.taken ≡ inside.taken
+    → option_map told inside.fault ≡ first (broken_arguments s (Some parameters) false (expr_trees all)) → inside.taken ≡ counted between (all_taken s (expr_trees all)) → JudgesCall s before at callee given parameters (expr_trees all) judged
+judges_other s before between at Printf given parameters all own inside judged n o k c f b t i m = absurd (n refl)
+judges_other s before between at GetChar given parameters all own inside judged n o k c f b t i m = other_is s before between at GetChar given parameters all own inside judged refl refl o k c f b t i m
+judges_other s before between at (Defined result wanted body) given parameters all own inside judged n o k c f b t i m = other_is s before between at (Defined result wanted body) given parameters all own inside judged refl refl o k c f b t i m
+judges_other s before between at Unknown given parameters all own inside judged n o k c f b t i m = other_is s before between at Unknown given parameters all own inside judged refl refl o k c f b t i m

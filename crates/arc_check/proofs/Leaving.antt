@@ -14,20 +14,21 @@ pub record SameBody (s t : Scope) : Type 0 where
   pub class : s.class ≡ t.class
   pub sign : s.sign ≡ t.sign
   pub result : s.result ≡ t.result
+  pub owns : s.owns ≡ t.owns
   pub hidden : s.hidden ≡ t.hidden
 
 same : (s : Scope) → SameBody s s
-same s = record { class = refl; sign = refl; result = refl; hidden = refl }
+same s = record { class = refl; sign = refl; result = refl; owns = refl; hidden = refl }
 
 after : (r s t : Scope) → SameBody r s → SameBody s t → SameBody r t
-after r s t a b = record { class = a.class ∙ b.class; sign = a.sign ∙ b.sign; result = a.result ∙ b.result; hidden = a.hidden ∙ b.hidden }
+after r s t a b = record { class = a.class ∙ b.class; sign = a.sign ∙ b.sign; result = a.result ∙ b.result; owns = a.owns ∙ b.owns; hidden = a.hidden ∙ b.hidden }
 
 variable_same : (name : List ℕ) (type : TypeTree) (s : Scope) → SameBody (with_variable name type s) s
-variable_same name tree.Boolean s = record { class = refl; sign = refl; result = refl; hidden = refl }
-variable_same name tree.Int s = record { class = refl; sign = refl; result = refl; hidden = refl }
-variable_same name tree.Long s = record { class = refl; sign = refl; result = refl; hidden = refl }
-variable_same name tree.Id s = record { class = refl; sign = refl; result = refl; hidden = refl }
-variable_same name (tree.Object at class) s = record { class = refl; sign = refl; result = refl; hidden = refl }
+variable_same name tree.Boolean s = record { class = refl; sign = refl; result = refl; owns = refl; hidden = refl }
+variable_same name tree.Int s = record { class = refl; sign = refl; result = refl; owns = refl; hidden = refl }
+variable_same name tree.Long s = record { class = refl; sign = refl; result = refl; owns = refl; hidden = refl }
+variable_same name tree.Id s = record { class = refl; sign = refl; result = refl; owns = refl; hidden = refl }
+variable_same name (tree.Object at class) s = record { class = refl; sign = refl; result = refl; owns = refl; hidden = refl }
 
 declare_same : (name : List ℕ) (type : TypeTree) (s : Scope) → SameBody (declare name type s) s
 declare_same name type s = go (has_place s) refl
@@ -41,16 +42,16 @@ variables_same type s [] = same s
 variables_same type s (v ∷ all) = after _ _ _ (variables_same type (declare v.name type s) all) (declare_same v.name type s)
 
 pub behind_same : (s : Scope) (a : StmtTree) → SameBody (behind s a) s
-behind_same s (Block at all) = record { class = refl; sign = refl; result = refl; hidden = refl }
+behind_same s (Block at all) = record { class = refl; sign = refl; result = refl; owns = refl; hidden = refl }
 behind_same s (Empty at) = same s
 behind_same s (Simple a) = same s
 behind_same s (Return at a) = same s
-behind_same s (Variables at type all) = variables_same type s all
-behind_same s (If at c a) = record { class = refl; sign = refl; result = refl; hidden = refl }
-behind_same s (IfElse at c a b) = record { class = refl; sign = refl; result = refl; hidden = refl }
-behind_same s (While at c a) = record { class = refl; sign = refl; result = refl; hidden = refl }
-behind_same s (Do at a c) = record { class = refl; sign = refl; result = refl; hidden = refl }
-behind_same s (For at a c e b) = record { class = refl; sign = refl; result = refl; hidden = refl }
+behind_same s (Variables at qualifiers type all) = variables_same type s all
+behind_same s (If at c a) = record { class = refl; sign = refl; result = refl; owns = refl; hidden = refl }
+behind_same s (IfElse at c a b) = record { class = refl; sign = refl; result = refl; owns = refl; hidden = refl }
+behind_same s (While at c a) = record { class = refl; sign = refl; result = refl; owns = refl; hidden = refl }
+behind_same s (Do at a c) = record { class = refl; sign = refl; result = refl; owns = refl; hidden = refl }
+behind_same s (For at a c e b) = record { class = refl; sign = refl; result = refl; owns = refl; hidden = refl }
 behind_same s (Break at) = same s
 behind_same s (Continue at) = same s
 
@@ -65,13 +66,14 @@ pub record Left (old new : Visible) : Type 0 where
   pub class : new.class ≡ old.class
   pub sign : new.sign ≡ old.sign
   pub gives : new.result ≡ old.result
+  pub owns : new.owns ≡ old.owns
   pub hidden : new.hidden ≡ old.hidden
 
 pub leave_is : (table : ClassTable) (old mid new : Visible) (inner : Scope) → SameBody inner (seen table old) → seen table mid ≡ inner → new.bound.items ≡ old.bound.items → Left mid new → seen table new ≡ leave (seen table old) inner
 leave_is table old mid new inner t e b l =
-    scope_is _ _ _ _ _ _ _ _ _ _ _ _ _ _ _ (ap (option_map number_of_class) l.class ∙ ap (λ s. s.class) e ∙ t.class) (l.sign ∙ ap (λ s. s.sign) e ∙ t.sign) (l.gives ∙ ap (λ s. s.result) e ∙ t.result) (l.hidden ∙ ap (λ s. s.hidden) e ∙ t.hidden) (ap local_in b)
+    scope_is _ _ _ _ _ _ _ _ _ _ _ _ _ _ _ _ _ (ap (option_map number_of_class) l.class ∙ ap (λ s. s.class) e ∙ t.class) (l.sign ∙ ap (λ s. s.sign) e ∙ t.sign) (l.gives ∙ ap (λ s. s.result) e ∙ t.result) (l.owns ∙ ap (λ s. s.owns) e ∙ t.owns) (l.hidden ∙ ap (λ s. s.hidden) e ∙ t.hidden) (ap local_in b)
     (l.next ∙ ap (λ s. s.next) e) (l.names ∙ ap (λ s. s.names) e)
 
 -- the same after a scope in another
 pub inner_same : (r s t : Scope) → SameBody s r → SameBody (leave s t) r
-inner_same r s t h = record { class = h.class; sign = h.sign; result = h.result; hidden = h.hidden }
+inner_same r s t h = record { class = h.class; sign = h.sign; result = h.result; owns = h.owns; hidden = h.hidden }

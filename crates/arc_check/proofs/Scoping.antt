@@ -32,26 +32,26 @@ pub local_in-push : (all : List Bound) (b : Bound) (name : List ℕ) → local_i
 local_in-push [] b name = refl
 local_in-push (a ∷ all) b name = ap (later (local_at a name)) (local_in-push all b name) ∙ later-cond (bytes_eq b.name.now name) (local_at a name) (local_in all name) (local_of b.local)
 
-abbrev scope : Known → Option ℕ → Sign → Kind → ℕ → (List ℕ → Option Local) → ℕ → ℕ → Scope
-scope known class sign result hidden variables next names = record { known = known; class = class; sign = sign; result = result; hidden = hidden; variables = variables; next = next; names = names }
+abbrev scope : Known → Option ℕ → Sign → Kind → (owns : Bool) → ℕ → (List ℕ → Option Local) → ℕ → ℕ → Scope
+scope known class sign result owns hidden variables next names = record { known = known; class = class; sign = sign; result = result; owns = owns; hidden = hidden; variables = variables; next = next; names = names }
 
-pub scope_is : (k : Known) (c d : Option ℕ) (s t : Sign) (p q : Kind) (h g : ℕ) (v w : List ℕ → Option Local) (n m a b : ℕ) → c ≡ d → s ≡ t → p ≡ q → h ≡ g → v ≡ w → n ≡ m → a ≡ b → scope k c s p h v n a ≡ scope k d t q g w m b
-scope_is k c d s t p q h g v w n m a b e1 e2 e3 e4 e5 e6 e7 = rw (e1, e2, e3, e4, e5, e6, e7) refl
+pub scope_is : (k : Known) (c d : Option ℕ) (s t : Sign) (p q : Kind) (o r : Bool) (h g : ℕ) (v w : List ℕ → Option Local) (n m a b : ℕ) → c ≡ d → s ≡ t → p ≡ q → o ≡ r → h ≡ g → v ≡ w → n ≡ m → a ≡ b → scope k c s p o h v n a ≡ scope k d t q r g w m b
+scope_is k c d s t p q o r h g v w n m a b e1 e2 e3 e4 e5 e6 e7 e8 = rw (e1, e2, e3, e4, e5, e6, e7, e8) refl
 
 with_bound : (old new : List Bound) (b : Bound) → new ≡ old ++ b ∷ [] → local_in new ≡ bound b.name.now (local_of b.local) (local_in old)
 with_bound old new b i = fun_ext (λ q. ap (λ all. local_in all q) i ∙ local_in-push old b q)
 
 -- a number more is visible
-pub number_is : (table : ClassTable) (old new : Visible) (b : Bound) (kind : Kind) → has_place (seen table old) ≡ true → new.class ≡ old.class → new.sign ≡ old.sign → new.result ≡ old.result → new.hidden ≡ old.hidden → new.bound.items ≡ old.bound.items ++ b ∷ [] → local_of b.local ≡ Number kind (location.Local old.next) → new.next ≡ suc old.next → new.names ≡ old.names
+pub number_is : (table : ClassTable) (old new : Visible) (b : Bound) (kind : Kind) → has_place (seen table old) ≡ true → new.class ≡ old.class → new.sign ≡ old.sign → new.result ≡ old.result → new.owns ≡ old.owns → new.hidden ≡ old.hidden → new.bound.items ≡ old.bound.items ++ b ∷ [] → local_of b.local ≡ Number kind (location.Local old.next) → new.next ≡ suc old.next → new.names ≡ old.names
     → seen table new ≡ cond (has_place (seen table old)) (with_number b.name.now kind (seen table old)) (seen table old)
-number_is table old new b kind t c g r h i n m e =
-    rw t (scope_is _ _ _ _ _ _ _ _ _ _ _ _ _ _ _ (ap (option_map number_of_class) c) g r h (with_bound old.bound.items new.bound.items b i ∙ ap (λ x. bound b.name.now x (local_in old.bound.items)) n) m e)
+number_is table old new b kind t c g r o h i n m e =
+    rw t (scope_is _ _ _ _ _ _ _ _ _ _ _ _ _ _ _ _ _ (ap (option_map number_of_class) c) g r o h (with_bound old.bound.items new.bound.items b i ∙ ap (λ x. bound b.name.now x (local_in old.bound.items)) n) m e)
 
 -- a variable more is visible that names objects
-pub object_is : (table : ClassTable) (old new : Visible) (b : Bound) (class : Option ℕ) → has_place (seen table old) ≡ true → new.class ≡ old.class → new.sign ≡ old.sign → new.result ≡ old.result → new.hidden ≡ old.hidden → new.bound.items ≡ old.bound.items ++ b ∷ [] → local_of b.local ≡ Object (location.Local old.names) class → new.next ≡ old.next
+pub object_is : (table : ClassTable) (old new : Visible) (b : Bound) (class : Option ℕ) → has_place (seen table old) ≡ true → new.class ≡ old.class → new.sign ≡ old.sign → new.result ≡ old.result → new.owns ≡ old.owns → new.hidden ≡ old.hidden → new.bound.items ≡ old.bound.items ++ b ∷ [] → local_of b.local ≡ Object (location.Local old.names) class → new.next ≡ old.next
     → new.names ≡ suc old.names → seen table new ≡ cond (has_place (seen table old)) (with_object b.name.now class (seen table old)) (seen table old)
-object_is table old new b class t c g r h i n m e =
-    rw t (scope_is _ _ _ _ _ _ _ _ _ _ _ _ _ _ _ (ap (option_map number_of_class) c) g r h (with_bound old.bound.items new.bound.items b i ∙ ap (λ x. bound b.name.now x (local_in old.bound.items)) n) m e)
+object_is table old new b class t c g r o h i n m e =
+    rw t (scope_is _ _ _ _ _ _ _ _ _ _ _ _ _ _ _ _ _ (ap (option_map number_of_class) c) g r o h (with_bound old.bound.items new.bound.items b i ∙ ap (λ x. bound b.name.now x (local_in old.bound.items)) n) m e)
 
 -- one variable more is looked at
 pub local_turn : (xs : List Bound) (i : ℕ) (x : Bound) (name : List ℕ) (so_far now whole : Option Local) → i < length xs → x ≡ get_or xs i x → now ≡ later so_far (local_at x name) → whole ≡ later so_far (local_in (drop i xs) name)

@@ -3,10 +3,11 @@ use Rattle.std.proofs.Common.{◌≡◌, ℕ, List, Vec, Box, Global, refl, sym,
 use mathlib.Core.Former.{Count}
 use Rattle.arc_check.specs.declared.checked.Piece.{Piece}
 use Rattle.arc_check.specs.declared.checked.Value.{Value, Print, Print', Invoked, Invoked', Sent, Sent', Row_of-Argument, end_of-Argument, more_of-Argument, items-the_row-Argument, items_hidden-the_row-Argument-0}
+use Rattle.arc_check.specs.declared.checked.Reference.{Reference, ObjectInvoked, ObjectInvoked', ObjectSent, ObjectSent'}
 use Rattle.arc_check.specs.declared.checked.Receiver.{Receiver}
 use Rattle.arc_check.specs.declared.checked.Argument.{Argument}
 use Rattle.arc_check.specs.declared.checked.Command.{Command, Sequence, Sequence', Row_of-Command, end_of-Command, more_of-Command, items-the_row-Command, items_hidden-the_row-Command-0}
-use Rattle.arc_check.specs.Checked.{pieces, value, receiver, arguments, and_argument, row_arguments, command, commands, row_commands}
+use Rattle.arc_check.specs.Checked.{pieces, value, reference, receiver, arguments, and_argument, row_arguments, command, commands, row_commands}
 use Rattle.arc_spec.specs.Resolved as resolved
 
 abbrev arguments_of : Value → (n : Count) × Row_of-Argument n
@@ -33,6 +34,21 @@ pub sent_value : (a : Box Receiver Global) (selector : ℕ) (given : Vec Argumen
 sent_value a selector given =
     let row = arguments_of (Sent a selector given) in
     ap (resolved.Sent (receiver a.value) selector) (row_arguments_is row.0 row.1 ∙ ap arguments (items_hidden-the_row-Argument-0 given))
+
+abbrev object_arguments_of : Reference → (n : Count) × Row_of-Argument n
+object_arguments_of (ObjectInvoked' f _ row) = (_, row)
+object_arguments_of (ObjectSent' q a selector _ row) = (_, row)
+object_arguments_of _ = (_, end_of-Argument)
+
+pub object_invoked_reference : (f : ℕ) (given : Vec Argument Global) → reference (ObjectInvoked f given) ≡ resolved.ObjectInvoked f (arguments given.items)
+object_invoked_reference f given =
+    let row = object_arguments_of (ObjectInvoked f given) in
+    ap (resolved.ObjectInvoked f) (row_arguments_is row.0 row.1 ∙ ap arguments (items_hidden-the_row-Argument-0 given))
+
+pub object_sent_reference : (a : Box Receiver Global) (selector : ℕ) (given : Vec Argument Global) → reference (ObjectSent a selector given) ≡ resolved.ObjectSent (receiver a.value) selector (arguments given.items)
+object_sent_reference a selector given =
+    let row = object_arguments_of (ObjectSent a selector given) in
+    ap (resolved.ObjectSent (receiver a.value) selector) (row_arguments_is row.0 row.1 ∙ ap arguments (items_hidden-the_row-Argument-0 given))
 
 abbrev commands_of : Command → (n : Count) × Row_of-Command n
 commands_of (Sequence' first count _ row) = (_, row)
@@ -64,6 +80,17 @@ is_sent v a selector given got these is same_receiver same =
     ap value is ∙ sent_value a selector given
     ∙ ap (λ l. resolved.Sent (receiver a.value) selector (arguments l)) (sym same)
     ∙ ap (λ x. resolved.Sent (receiver x) selector (arguments these)) (sym same_receiver)
+
+pub is_object_invoked : (v : Reference) (f : ℕ) (given : Vec Argument Global) (these : List Argument) → v ≡ ObjectInvoked f given → these ≡ given.items
+    → reference v ≡ resolved.ObjectInvoked f (arguments these)
+is_object_invoked v f given these is same = ap reference is ∙ object_invoked_reference f given ∙ ap (λ l. resolved.ObjectInvoked f (arguments l)) (sym same)
+
+pub is_object_sent : (v : Reference) (a : Box Receiver Global) (selector : ℕ) (given : Vec Argument Global) (got : Receiver) (these : List Argument)
+    → v ≡ ObjectSent a selector given → got ≡ a.value → these ≡ given.items → reference v ≡ resolved.ObjectSent (receiver got) selector (arguments these)
+is_object_sent v a selector given got these is same_receiver same =
+    ap reference is ∙ object_sent_reference a selector given
+    ∙ ap (λ l. resolved.ObjectSent (receiver a.value) selector (arguments l)) (sym same)
+    ∙ ap (λ x. resolved.ObjectSent (receiver x) selector (arguments these)) (sym same_receiver)
 
 pub is_sequence : (c : Command) (first count : ℕ) (all : Vec Command Global) (these : List Command)
     → c ≡ Sequence first count all → these ≡ all.items → command c ≡ resolved.Sequence first count (commands these)

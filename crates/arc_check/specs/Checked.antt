@@ -16,7 +16,7 @@ use Rattle.arc_check.specs.declared.checked.CheckedFunction.{CheckedFunction}
 use Rattle.arc_check.specs.declared.checked.Checked.{Checked}
 use Rattle.arc_spec.specs.Classes.{classes_of}
 use Rattle.arc_spec.specs.Resolved as resolved
-use Rattle.arc_spec.specs.Resolved.{Number, ReadByte, Print, Applied, Combined, Choice, Converted, Read, Assigned, Updated, Invoked, Sent, ClassValue, ClassSuper, ObjectValue, ObjectSuper, Field, FieldAssigned, FieldUpdated, Differ, IsObject, Nil, Itself, Variable, Chosen, Stored, ObjectField, ObjectFieldStored, Made, Initialized, no_arguments, number_argument, object_argument, Sequence, Evaluate, EvaluateReference, Begin, Return, Choose, Repeat, RepeatAfter, Break, Continue, no_commands, and_command, Bytes, Decimal, Character}
+use Rattle.arc_spec.specs.Resolved.{Number, ReadByte, Print, Applied, Combined, Choice, Converted, Read, Assigned, Updated, Invoked, Sent, ClassValue, ClassSuper, ObjectValue, ObjectSuper, Field, FieldAssigned, FieldUpdated, Differ, IsObject, Nil, Itself, Variable, Chosen, Stored, ObjectField, ObjectFieldStored, Made, New, ObjectInvoked, ObjectSent, no_arguments, number_argument, object_argument, Sequence, Evaluate, EvaluateReference, Begin, Return, Give, Choose, Repeat, RepeatAfter, Break, Continue, no_commands, and_command, Bytes, Decimal, Character}
 
 abbrev pub piece : Piece → resolved.Piece
 piece (p.Bytes bytes) = Bytes bytes.items
@@ -56,13 +56,15 @@ abbrev mutual
   reference (r.ObjectField' q a class index) = ObjectField (reference a) class index
   reference (r.ObjectFieldStored' q a class index s b) = ObjectFieldStored (reference a) class index (reference b)
   reference (r.Made' q a) = Made (value a)
-  reference (r.Initialized' q a) = Initialized (reference a)
+  reference (r.New' from q a) = New from (value a)
+  reference (r.ObjectInvoked' f shape arguments) = ObjectInvoked f (row_arguments arguments)
+  reference (r.ObjectSent' q a selector shape arguments) = ObjectSent (receiver a) selector (row_arguments arguments)
 
   pub receiver : Receiver → resolved.Receiver
   receiver (rc.ClassValue' q a) = ClassValue (value a)
   receiver (rc.ClassSuper from) = ClassSuper from
   receiver (rc.ObjectValue' q a) = ObjectValue (reference a)
-  receiver (rc.ObjectSuper from) = ObjectSuper from
+  receiver (rc.ObjectSuper' q a from) = ObjectSuper (reference a) from
 
   -- an argument before others
   pub and_argument : Argument → resolved.Arguments → resolved.Arguments
@@ -84,6 +86,7 @@ abbrev mutual
   command (c.EvaluateReference a) = EvaluateReference (reference a)
   command (c.Begin i a) = Begin i (reference a)
   command (c.Return a) = Return (option_map value a)
+  command (c.Give a) = Give (reference a)
   command (c.Choose' test q a r b) = Choose (value test) (command a) (command b)
   command (c.Repeat' test q a r b) = Repeat (value test) (command a) (command b)
   command (c.RepeatAfter' q a test) = RepeatAfter (command a) (value test)
@@ -100,7 +103,7 @@ commands (a ∷ others) = and_command (command a) (commands others)
 
 abbrev pub functions : List CheckedFunction → List resolved.Function
 functions [] = []
-functions (f ∷ others) = record { slots = f.slots; names = f.names; parameters = f.parameters; body = commands f.body.items } ∷ functions others
+functions (f ∷ others) = record { slots = f.slots; names = f.names; parameters = f.parameters; gives = f.gives; owns = f.owns; body = commands f.body.items } ∷ functions others
 
 abbrev pub program_of : Checked → resolved.Program
 program_of c = record { functions = functions c.functions.items; main = c.main; globals = c.globals.items; strong_globals = c.strong_globals; classes = classes_of c.classes.items }

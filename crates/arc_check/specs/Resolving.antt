@@ -1,7 +1,8 @@
 -- The resolved program of a source that breaks no rule.
-use Rattle.std.specs.Prelude.{ℕ, ◌-◌, ℤ, pos, Bool, false, not, List, [], ◌∷◌, ◌++◌, length, drop, map, flat_map, filter_map, Option, Some, None, option_map, option_and_then, unwrap_or, if◌then◌else◌}
+use Rattle.std.specs.Prelude.{ℕ, ◌-◌, ℤ, pos, Bool, not, codes, List, [], ◌∷◌, ◌++◌, length, drop, map, flat_map, filter_map, Option, Some, None, option_map, option_and_then, unwrap_or, if◌then◌else◌}
 use Rattle.std.specs.List.{filter}
 use Rattle.std.specs.Option.{option_map_or}
+use Rattle.std.specs.Str.{bytes_eq}
 use Rattle.arc_ast.specs.declared.tree.Moment.{Moment}
 use Rattle.arc_ast.specs.declared.tree.UnaryOperator.{UnaryOperator}
 use Rattle.arc_ast.specs.declared.tree.UnaryOperator.TheVariants as u
@@ -20,10 +21,10 @@ use Rattle.arc_ast.specs.declared.tree.Sign.{Sign}
 use Rattle.arc_ast.specs.declared.tree.Sign.TheVariants as signs
 use Rattle.arc_ast.specs.Tree as tree
 use Rattle.arc_ast.specs.Tree.{TypeTree, GlobalTree, ExprTree, ExprTrees, Integer, Text, Paren, Call, Name, Unary, Cast, Binary, Conditional, Arrow, Assign, Update, Send, SendSuper, no_exprs, and_expr, VariableTree, StmtTree, StmtTrees, Block, Empty, Simple, Variables, If, IfElse, While, Do, For, no_stmts, and_stmt, ParameterTree, FunctionTree, MethodTree, ImplementationTree, UnitTree}
-use Rattle.arc_spec.specs.Classes.{same_sign}
+use Rattle.arc_spec.specs.Classes.{gives_of}
 use Rattle.arc_spec.specs.declared.location.Location.TheVariants.{Local}
 use Rattle.arc_spec.specs.Number as number
-use Rattle.arc_spec.specs.Resolved.{Value, Reference, Number, ReadByte, Print, Applied, Combined, Choice, Converted, Read, Assigned, Updated, Invoked, Sent, Field, FieldAssigned, FieldUpdated, Differ, IsObject, Nil, Itself, Variable, Chosen, Stored, ObjectField, ObjectFieldStored, Made, Initialized, Receiver, ClassValue, ClassSuper, ObjectValue, ObjectSuper, Arguments, no_arguments, number_argument, object_argument, Command, Sequence, Evaluate, EvaluateReference, Begin, Return, Choose, Repeat, RepeatAfter, Break, Continue, Commands, no_commands, and_command, Function, Program}
+use Rattle.arc_spec.specs.Resolved.{Value, Reference, Number, ReadByte, Print, Applied, Combined, Choice, Converted, Read, Assigned, Updated, Invoked, Sent, Field, FieldAssigned, FieldUpdated, Differ, IsObject, Nil, Itself, Variable, Chosen, Stored, ObjectField, ObjectFieldStored, Made, New, ObjectInvoked, ObjectSent, Receiver, ClassValue, ClassSuper, ObjectValue, ObjectSuper, Arguments, no_arguments, number_argument, object_argument, Command, Sequence, Evaluate, EvaluateReference, Begin, Return, Give, Choose, Repeat, RepeatAfter, Break, Continue, Commands, no_commands, and_command, Function, Program}
 use Rattle.arc_sites.specs.Sites.{named_parameters}
 use Rattle.arc_class.specs.Running.{classes}
 use Rattle.arc_class.specs.Names.{number_of, is_main}
@@ -35,9 +36,9 @@ use Rattle.arc_check.specs.declared.format.Begun.TheVariants.{Nothing}
 use Rattle.arc_check.specs.Kinds.{literal_kind, wider, computing_kind, given_kind}
 use Rattle.arc_check.specs.Formats.{parts, printed}
 use Rattle.arc_check.specs.Scopes as scopes
-use Rattle.arc_check.specs.Scopes.{Known, Scope, declare, with_parameters, leave, behind, behind_all, outermost, in_method, callee, result_kind, is_printf, own_field, variable, class_receiver, object_result, super_kind, class_of}
+use Rattle.arc_check.specs.Scopes.{Known, Scope, declare, with_parameters, leave, behind, behind_all, outermost, owned_in, callee, own_field, variable, class_receiver, kind_given, object_result, super_kind, class_of}
 use Rattle.arc_check.specs.Passing.{first_wanted, wanted_by, receiver_sign}
-use Rattle.arc_check.specs.Rules.{is_object, known_of}
+use Rattle.arc_check.specs.Rules.{is_object, of_method, known_of}
 
 -- What an expression is resolved to, which breaks no rule: a number of a kind, or an object. What stands below for one that breaks a rule is never asked for.
 pub data Resolution : Type 0 where
@@ -151,12 +152,21 @@ behind_first no_arguments = no_arguments
 behind_first (number_argument a others) = others
 behind_first (object_argument a others) = others
 
+-- a call of printf, from its arguments and their values
+abbrev pub printing : ExprTrees → Arguments → Value
+printing arguments all = Print (printed (parts Nothing (format arguments))) (behind_first all)
+
+-- a call of the function with a number, which gives a value of a kind
+abbrev pub invoked : Kind → (function : ℕ) → Arguments → Resolution
+invoked k.Object function all = Refers (ObjectInvoked function all)
+invoked kind function all = Gives kind (Invoked function all)
+
 -- a call, from its arguments and their values
-abbrev pub called : Callee → ExprTrees → Arguments → Value
-called Printf arguments all = Print (printed (parts Nothing (format arguments))) (behind_first all)
-called GetChar arguments all = ReadByte
-called (Defined result count body) arguments all = Invoked (unwrap_or body 0) all
-called Unknown arguments all = ReadByte
+abbrev pub called : Callee → ExprTrees → Arguments → Resolution
+called Printf arguments all = Gives k.Int (printing arguments all)
+called GetChar arguments all = Gives k.Int ReadByte
+called (Defined result count body) arguments all = invoked result (unwrap_or body 0) all
+called Unknown arguments all = Gives k.Int ReadByte
 
 -- an argument before others: an object, or a number, which becomes one of its parameter's kind
 abbrev pub argument : (wanted : Option Kind) → Resolution → Arguments → Arguments
@@ -183,16 +193,24 @@ field r found = option_map_or (read_field r) found (Gives k.Int (Number (pos 0))
 abbrev pub field_assigned : Reference → Option FoundField → Resolution → Resolution
 field_assigned r found a = option_map_or (λ f. store_field r f a) found a
 
--- what a name means: a variable, or else a field of `self`; and an assignment to it
-abbrev pub named : Option scopes.Local → Option FoundField → Resolution
-named None own = field Itself own
-named (Some (scopes.Number kind n)) own = Gives kind (Read n)
-named (Some (scopes.Object n class)) own = Refers (Variable n)
+-- `self`, which a method that owns it has as the first of its variables that name objects (ARC, "Semantics of init")
+abbrev pub itself : (owns : Bool) → Reference
+itself owns = if owns then Variable (Local 0) else Itself
 
-abbrev pub name_assigned : Option scopes.Local → Option FoundField → Resolution → Resolution
-name_assigned None own a = field_assigned Itself own a
-name_assigned (Some (scopes.Number kind n)) own a = Gives kind (Assigned n (converted kind a))
-name_assigned (Some (scopes.Object n class)) own a = Refers (Stored n (object_in a))
+-- an assignment to it, which the rules of ownership refuse elsewhere; there it stands here as what is assigned
+abbrev pub itself_assigned : (owns : Bool) → Resolution → Resolution
+itself_assigned owns a = if owns then Refers (Stored (Local 0) (object_in a)) else a
+
+-- what a name means: a variable, or else a field of `self`; and an assignment to it
+abbrev pub named : (owns : Bool) → Option scopes.Local → Option FoundField → Resolution
+named owns None own = field (itself owns) own
+named owns (Some (scopes.Number kind n)) own = Gives kind (Read n)
+named owns (Some (scopes.Object n class)) own = Refers (Variable n)
+
+abbrev pub name_assigned : (owns : Bool) → Option scopes.Local → Option FoundField → Resolution → Resolution
+name_assigned owns None own a = field_assigned (itself owns) own a
+name_assigned owns (Some (scopes.Number kind n)) own a = Gives kind (Assigned n (converted kind a))
+name_assigned owns (Some (scopes.Object n class)) own a = Refers (Stored n (object_in a))
 
 -- ---- updates
 
@@ -219,35 +237,32 @@ abbrev pub class_value : ExprTree → (class : ℕ) → Value
 class_value (Name at name) class = Number (pos class)
 class_value _ class = Read (Local 0)
 
--- What gives an object is built in: `alloc` and `new` of classes, and `init` of objects. (`retain` and `autorelease` are refused by the rules of ownership, and
--- stand here as `alloc` and `init`.)
-abbrev pub sent_number : Option Kind → Receiver → (selector : ℕ) → Arguments → Resolution
-sent_number kind receiver selector all = Gives (unwrap_or kind k.Int) (Sent receiver selector all)
+-- a message that gives a value of a kind, or none
+abbrev pub sent_to : Option Kind → Receiver → (selector : ℕ) → Arguments → Resolution
+sent_to kind receiver selector all =
+    if is_object kind then Refers (ObjectSent receiver selector all) else Gives (unwrap_or kind k.Int) (Sent receiver selector all)
 
-abbrev pub to_class : Option Kind → Value → (selector : ℕ) → Arguments → Resolution
-to_class kind class selector all = if is_object kind then Refers (Made class) else sent_number kind (ClassValue class) selector all
-
-abbrev pub to_object : Option Kind → Reference → (selector : ℕ) → Arguments → Resolution
-to_object kind r selector all = if is_object kind then Refers (Initialized r) else sent_number kind (ObjectValue r) selector all
+-- A message to a class, whose method is looked up from another one for `super`. No source has an `alloc` of its own, and `new` is the root's where the source has none
+-- (OPL, "Allocating and Initializing Objects").
+abbrev pub to_class : Option Kind → (from : Option ℕ) → Value → List ℕ → Receiver → (selector : ℕ) → Arguments → Resolution
+to_class kind from class name receiver selector all =
+    if bytes_eq name (codes "alloc") then Refers (Made class) else if bytes_eq name (codes "new") then Refers (New from class) else sent_to kind receiver selector all
 
 -- a message to a class, or else to an object with a static class (OPL, "Messages to self and super")
 abbrev pub sent : Scope → ExprTree → (class static : Option ℕ) → Resolution → List ℕ → Arguments → Resolution
 sent s receiver (Some class) static a name all =
-    to_class (s.known.result (Some class) signs.Class name) (class_value receiver class) (unwrap_or (s.known.selector name) 0) all
-sent s receiver None static a name all = to_object (object_result s.known static name) (object_in a) (unwrap_or (s.known.selector name) 0) all
+    let itself = class_value receiver class in
+    to_class (kind_given (s.known.result (Some class) signs.Class name)) None itself name (ClassValue itself) (unwrap_or (s.known.selector name) 0) all
+sent s receiver None static a name all = sent_to (object_result s.known static name) (ObjectValue (object_in a)) (unwrap_or (s.known.selector name) 0) all
 
 -- a message to `super`: it goes to `self`, and its method is looked up from the superclass of the class whose method has it
-abbrev pub made_by_super : Sign → Resolution
-made_by_super sign = Refers (if same_sign sign signs.Class then Made (Read (Local 0)) else Initialized Itself)
-
-abbrev pub super_receiver : Sign → (from : ℕ) → Receiver
-super_receiver sign from = if same_sign sign signs.Class then ClassSuper from else ObjectSuper from
-
-abbrev pub to_super : Sign → Option Kind → (from selector : ℕ) → Arguments → Resolution
-to_super sign kind from selector all = if is_object kind then made_by_super sign else sent_number kind (super_receiver sign from) selector all
+abbrev pub to_super : Sign → (owns : Bool) → Option Kind → (from : ℕ) → List ℕ → (selector : ℕ) → Arguments → Resolution
+to_super signs.Class owns kind from name selector all = to_class kind (Some from) (Read (Local 0)) name (ClassSuper from) selector all
+to_super signs.Instance owns kind from name selector all = sent_to kind (ObjectSuper (itself owns) from) selector all
 
 abbrev pub sent_super : Scope → List ℕ → Arguments → Resolution
-sent_super s name all = to_super s.sign (super_kind s name) (unwrap_or (option_and_then s.known.superclass s.class) 0) (unwrap_or (s.known.selector name) 0) all
+sent_super s name all =
+    to_super s.sign s.owns (super_kind s name) (unwrap_or (option_and_then s.known.superclass s.class) 0) name (unwrap_or (s.known.selector name) 0) all
 
 -- ---- expressions
 
@@ -258,10 +273,10 @@ abbrev mutual
   resolved s (Text at bytes) = Gives k.Int (Number (pos 0))
   resolved s (Paren at a) = resolved s a
   resolved s (Call at name arguments) =
-      Gives (result_kind (callee s.known name)) (called (callee s.known name) arguments (resolved_all s (wanted_by (callee s.known name) (s.known.parameters name)) arguments))
+      called (callee s.known name) arguments (resolved_all s (wanted_by (callee s.known name) (s.known.parameters name)) arguments)
   resolved s (tree.Nil at) = Refers Nil
-  resolved s (tree.Itself at) = Refers Itself
-  resolved s (Name at name) = named (variable s name) (own_field s name)
+  resolved s (tree.Itself at) = Refers (itself s.owns)
+  resolved s (Name at name) = named s.owns (variable s name) (own_field s name)
   resolved s (Unary at operator a) = unary operator (resolved s a)
   resolved s (Cast at type a) = cast (type_kind type) (resolved s a)
   resolved s (Binary at operator a b) = binary operator (resolved s a) (resolved s b)
@@ -273,10 +288,11 @@ abbrev mutual
       sent s receiver (class_receiver s receiver) (class_of s receiver) (resolved s receiver) selector (resolved_all s (Some (s.known.passed (receiver_sign (class_receiver s receiver)) selector)) arguments)
   resolved s (SendSuper at part super_at selector arguments) = sent_super s selector (resolved_all s (Some (s.known.passed s.sign selector)) arguments)
 
-  -- An assignment to its left side; to `self` it is refused by the rules of ownership, and stands here as what is assigned.
+  -- an assignment to its left side
   pub assigned : Scope → ExprTree → Resolution → Resolution
   assigned s (Paren at a) b = assigned s a b
-  assigned s (Name at name) b = name_assigned (variable s name) (own_field s name) b
+  assigned s (tree.Itself at) b = itself_assigned s.owns b
+  assigned s (Name at name) b = name_assigned s.owns (variable s name) (own_field s name) b
   assigned s (Arrow at name_at a name) b = field_assigned (object_in (resolved s a)) (s.known.field (class_of s a) name) b
   assigned s _ b = b
 
@@ -338,14 +354,19 @@ stepped s e = option_map_or (λ a. evaluated (resolved s a)) e nothing
 abbrev pub with_loop : (before inside : Scope) → (first loop : Command) → Command
 with_loop before inside first loop = Sequence before.names (inside.names - before.names) (and_command first (and_command loop no_commands))
 
+-- a return of a number of a kind, or of an object
+abbrev pub returned : Kind → Resolution → Command
+returned k.Object a = Give (object_in a)
+returned kind a = Return (Some (converted kind a))
+
 -- A statement. A block's own variables that name objects are those that got their numbers in it. A `while` is a loop whose step does nothing.
 abbrev mutual
   pub resolved_stmt : Scope → StmtTree → Command
   resolved_stmt s (Block at all) = Sequence s.names ((behind_all s all).names - s.names) (resolved_stmts s all)
   resolved_stmt s (Empty at) = nothing
   resolved_stmt s (Simple a) = evaluated (resolved s a)
-  resolved_stmt s (tree.Return at a) = Return (option_map (number_as s.result s) a)
-  resolved_stmt s (Variables at type all) = Sequence 0 0 (resolved_variables type s all)
+  resolved_stmt s (tree.Return at a) = option_map_or (λ e. returned s.result (resolved s e)) a (Return None)
+  resolved_stmt s (Variables at qualifiers type all) = Sequence 0 0 (resolved_variables type s all)
   resolved_stmt s (If at c a) = Choose (number_in (resolved s c)) (resolved_stmt s a) nothing
   resolved_stmt s (IfElse at c a b) = Choose (number_in (resolved s c)) (resolved_stmt s a) (resolved_stmt (leave s (behind s a)) b)
   resolved_stmt s (While at c a) = Repeat (number_in (resolved s c)) nothing (resolved_stmt s a)
@@ -362,14 +383,21 @@ abbrev mutual
 -- a function, in whose scope its parameters are; it has as many variables as have got numbers, and those of its variables that name objects are its parameters that have
 -- got theirs before its body
 abbrev pub resolved_body : Scope → StmtTrees → Function
-resolved_body s body = record { slots = (behind_all s body).next; names = (behind_all s body).names; parameters = s.names; body = resolved_stmts s body }
+resolved_body s body = record {
+  slots = (behind_all s body).next;
+  names = (behind_all s body).names;
+  parameters = s.names - owned_in s.owns;
+  gives = gives_of s.result;
+  owns = s.owns;
+  body = resolved_stmts s body;
+}
 
 -- a function, if it has a body
 abbrev pub resolved_function : Known → FunctionTree → Option Function
 resolved_function known f = option_map (resolved_body (with_parameters (outermost known (types.result_kind f.result)) (named_parameters f.parameters))) f.body
 
 abbrev pub resolved_method : Known → (class : Option ℕ) → MethodTree → Function
-resolved_method known class m = resolved_body (with_parameters (in_method known class m.head.sign (types.result_kind m.head.result)) m.head.parameters) m.body
+resolved_method known class m = resolved_body (with_parameters (of_method known class m.head) m.head.parameters) m.body
 
 abbrev pub resolved_methods : Known → ImplementationTree → List Function
 resolved_methods known i = map (resolved_method known (known.class i.name)) i.methods

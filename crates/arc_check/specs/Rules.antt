@@ -15,7 +15,8 @@ use Rattle.arc_ast.specs.declared.tree.Constant.{Constant}
 use Rattle.arc_ast.specs.declared.tree.Constant.TheVariants as constants
 use Rattle.arc_class.specs.Broken.{broken_if, Broken}
 use Rattle.arc_sites.specs.Sites.{named_parameters}
-use Rattle.arc_class.specs.Classes.{kinds_passed, class_number, superclass, known_result, any_result, selector_number}
+use Rattle.arc_class.specs.Classes.{kinds_passed, class_number, class_of_result, superclass, known_result, any_result, selector_number}
+use Rattle.arc_class.specs.Table.{number_of_class}
 use Rattle.arc_class.specs.Fields.{known_field}
 use Rattle.arc_class.specs.Running.{classes}
 use Rattle.arc_class.specs.declared.table.FoundField.{FoundField}
@@ -265,12 +266,12 @@ unread_name s None name at = at_if (is_some (own_field s name)) at
 unread_name s (Some local) name at = []
 
 -- The places at which an expression takes an object, in the order of the source: each read of a variable that names objects, and of `self` (by `super` and by
--- the name of a field too), each read of a field that names one, at its name, each message that gives an object, at its selector's first part, and each assignment
+-- the name of a field too), each read of a field that names one, at its name, each call that gives an object, at its function's name, each message that does, at its selector's first part, and each assignment
 -- of one, at its `=` (this project's own choice).
 abbrev mutual
   pub taken : Scope → ExprTree → List ℕ
   taken s (Paren at a) = taken s a
-  taken s (Call at name arguments) = all_taken s arguments
+  taken s (Call at name arguments) = at_if (is_object (kind_of s (Call at name arguments))) at ++ all_taken s arguments
   taken s (Itself at) = at_if (is_some (own_class s)) at
   taken s (Name at name) = name_taken s (variable s name) name at
   taken s (Unary at operator a) = taken s a
@@ -326,11 +327,12 @@ abbrev pub broken_parameters : Scope → List ParameterTree → List Broken
 broken_parameters s [] = []
 broken_parameters s (p ∷ others) = broken_if (is_full s) p.at 50 ++ broken_parameters (declare p.name p.type s) others
 
--- 43 KindMismatch too: a value that a function without a result returns, at the value (C99, section 6.8.6.4)
+-- 43 KindMismatch too: a value that a function without a result returns, an object that one returns which gives a number, and the reverse, at the value (C99, section
+-- 6.8.6.4)
 abbrev pub broken_result : (gives_nothing : Bool) → Scope → Option ExprTree → List Broken
 broken_result gives_nothing s None = []
 broken_result true s (Some a) = broken_whole s a ++ record { at = place a; number = 43 } ∷ []
-broken_result false s (Some a) = broken_number s a
+broken_result false s (Some a) = broken_whole s a ++ no_such (Some s.result) (kind_of s a) (place a)
 
 -- all that is wrong with the test and the step of a `for`, if they are there (C99, section 6.8.5.3)
 abbrev pub broken_clauses : Scope → (test step : Option ExprTree) → List Broken
@@ -344,7 +346,7 @@ abbrev mutual
   broken_stmt gives_nothing in_loop s (Empty at) = []
   broken_stmt gives_nothing in_loop s (Simple a) = broken_whole s a
   broken_stmt gives_nothing in_loop s (Return at a) = broken_result gives_nothing s a
-  broken_stmt gives_nothing in_loop s (Variables at type all) = broken_variables type s all
+  broken_stmt gives_nothing in_loop s (Variables at qualifiers type all) = broken_variables type s all
   broken_stmt gives_nothing in_loop s (If at c a) = broken_test s c ++ broken_stmt gives_nothing in_loop s a
   broken_stmt gives_nothing in_loop s (IfElse at c a b) = broken_test s c ++ (broken_stmt gives_nothing in_loop s a ++ broken_stmt gives_nothing in_loop (leave s (behind s a)) b)
   broken_stmt gives_nothing in_loop s (While at c a) = broken_test s c ++ broken_stmt gives_nothing true s a
@@ -395,10 +397,14 @@ broken_head h = broken_if (nat_lt MOST_PARAMETERS (length h.parameters)) h.at 45
 abbrev pub broken_interface : InterfaceTree → List Broken
 broken_interface i = flat_map broken_head i.methods
 
+-- before the parameters of a method
+abbrev pub of_method : Known → (class : Option ℕ) → HeadTree → Scope
+of_method known class h = in_method known class h.sign h.selector (types.result_kind h.result)
+
 abbrev pub broken_method : Known → (class : Option ℕ) → MethodTree → List Broken
 broken_method known class m = broken_head m.head
-    ++ (broken_parameters (in_method known class m.head.sign (types.result_kind m.head.result)) m.head.parameters
-    ++ broken_stmts (is_nothing (Some (types.result_kind m.head.result))) false (with_parameters (in_method known class m.head.sign (types.result_kind m.head.result)) m.head.parameters) m.body)
+    ++ (broken_parameters (of_method known class m.head) m.head.parameters
+    ++ broken_stmts (is_nothing (Some (types.result_kind m.head.result))) false (with_parameters (of_method known class m.head) m.head.parameters) m.body)
 
 abbrev pub broken_implementation : Known → ImplementationTree → List Broken
 broken_implementation known i = flat_map (broken_method known (known.class i.name)) i.methods
@@ -413,6 +419,7 @@ known_of u = record {
   class = class_number u.interfaces;
   superclass = superclass u.interfaces;
   descends = descends (classes u);
+  function_class = λ name. option_map number_of_class (class_of_result u name);
   result = known_result u;
   result_of_any = any_result u;
   selector = selector_number u;

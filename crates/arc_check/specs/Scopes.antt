@@ -9,12 +9,14 @@ use Rattle.arc_ast.specs.declared.tree.Sign.TheVariants as signs
 use Rattle.arc_ast.specs.declared.tree.Visibility.{Visibility}
 use Rattle.arc_ast.specs.declared.tree.Visibility.TheVariants as v
 use Rattle.arc_ast.specs.Tree as tree
-use Rattle.arc_ast.specs.Tree.{TypeTree, ExprTree, Paren, Nil, Cast, Conditional, Itself, Name, Arrow, Assign, Send, SendSuper, VariableTree, StmtTree, StmtTrees, Block, Empty, Simple, Return, Variables, If, IfElse, While, Do, For, Break, Continue, no_stmts, and_stmt, ParameterTree}
+use Rattle.arc_ast.specs.Tree.{TypeTree, ExprTree, Paren, Call, Nil, Cast, Conditional, Itself, Name, Arrow, Assign, Send, SendSuper, VariableTree, StmtTree, StmtTrees, Block, Empty, Simple, Return, Variables, If, IfElse, While, Do, For, Break, Continue, no_stmts, and_stmt, ParameterTree}
 use Rattle.arc_spec.specs.Classes.{same_sign}
+use Rattle.arc_spec.specs.Families.{method_family, is_init}
 use Rattle.arc_spec.specs.declared.location.Location.{Location}
 use Rattle.arc_spec.specs.declared.location.Location.TheVariants as location
 use Rattle.arc_class.specs.declared.table.Declared.{Declared}
 use Rattle.arc_class.specs.declared.table.FoundField.{FoundField}
+use Rattle.arc_class.specs.declared.table.MethodResult.{MethodResult}
 use Rattle.arc_class.specs.declared.table.Variable.{Variable}
 use Rattle.arc_class.specs.Classes.{or_else}
 use Rattle.arc_class.specs.Table.{number_of_class}
@@ -22,7 +24,7 @@ use Rattle.arc_check.specs.declared.scope.TheConstants.{MOST_VARIABLES}
 use Rattle.arc_check.specs.declared.callee.Callee.{Callee}
 use Rattle.arc_check.specs.declared.callee.Callee.TheVariants.{Printf, GetChar, Defined, Unknown}
 
--- What is known of a source's names: its functions, its global variables, the kinds of the functions' parameters and of those of its methods, the numbers of its classes, their superclasses, which class comes from which, what the method gives that is
+-- What is known of a source's names: its functions, its global variables, the kinds of the functions' parameters and of those of its methods, the numbers of its classes, their superclasses, which class comes from which, the classes of what its functions give, what the method gives that is
 -- known for a message of a sign to a class, and to objects of any class, the numbers of its selectors, and the fields that the objects of a class have.
 pub record Known : Type 0 where
   pub function : List ℕ → Option Declared
@@ -32,7 +34,8 @@ pub record Known : Type 0 where
   pub class : List ℕ → Option ℕ
   pub superclass : ℕ → Option ℕ
   pub descends : Option ℕ → ℕ → Bool
-  pub result : Option ℕ → Sign → List ℕ → Option Kind
+  pub function_class : List ℕ → Option ℕ
+  pub result : Option ℕ → Sign → List ℕ → Option MethodResult
   pub result_of_any : List ℕ → Option Kind
   pub selector : List ℕ → Option ℕ
   pub field : Option ℕ → List ℕ → Option FoundField
@@ -44,13 +47,14 @@ pub data Local : Type 0 where
   Object : Location → (class : Option ℕ) → Local
 
 -- What names mean at a place: what is known of the source; the class in whose method the place is, if it is in one, and the method's sign; the kind of what the
--- function or the method gives; how many numbers come before all others, which is one in a class method, `self`; the variables in scope; and the numbers that
--- the next number and the next name of objects get.
+-- function or the method gives; whether the method owns `self`; how many variables come before all others, which is one in a class method and in a method that owns
+-- `self`, for `self`; the variables in scope; and the numbers that the next number and the next name of objects get.
 pub record Scope : Type 0 where
   pub known : Known
   pub class : Option ℕ
   pub sign : Sign
   pub result : Kind
+  pub owns : Bool
   pub hidden : ℕ
   pub variables : List ℕ → Option Local
   pub next : ℕ
@@ -106,7 +110,7 @@ abbrev mutual
   behind s (Empty at) = s
   behind s (Simple a) = s
   behind s (Return at a) = s
-  behind s (Variables at type all) = with_variables type s all
+  behind s (Variables at qualifiers type all) = with_variables type s all
   behind s (If at c a) = leave s (behind s a)
   behind s (IfElse at c a b) = leave s (behind (leave s (behind s a)) b)
   behind s (While at c a) = leave s (behind s a)
@@ -121,16 +125,36 @@ abbrev mutual
 
 -- before the parameters of a function that gives a value of a kind (C99, section 6.9.1)
 abbrev pub outermost : Known → (result : Kind) → Scope
-outermost known result = record { known = known; class = None; sign = signs.Class; result = result; hidden = 0; variables = λ name. None; next = 0; names = 0 }
+outermost known result = record { known = known; class = None; sign = signs.Class; result = result; owns = false; hidden = 0; variables = λ name. None; next = 0; names = 0 }
 
 -- the first number of a class method is `self`
 abbrev pub hidden_in : Sign → ℕ
 hidden_in sign = if same_sign sign signs.Class then 1 else 0
 
+-- A method of init owns its `self`, which is the first of its variables that name objects (ARC, "Semantics of init").
+abbrev pub owns_self : Sign → (selector : List ℕ) → (result : Kind) → Bool
+owns_self sign selector result = is_init (method_family sign selector result)
+
+abbrev pub owned_in : (owns : Bool) → ℕ
+owned_in owns = if owns then 1 else 0
+
+-- before the parameters of a method of a class, which owns `self` or doesn't
+abbrev pub in_method_that : (owns : Bool) → Known → Option ℕ → Sign → (result : Kind) → Scope
+in_method_that owns known class sign result = record {
+  known = known;
+  class = class;
+  sign = sign;
+  result = result;
+  owns = owns;
+  hidden = hidden_in sign + owned_in owns;
+  variables = λ name. None;
+  next = hidden_in sign;
+  names = owned_in owns;
+}
+
 -- before the parameters of a method of a class
-abbrev pub in_method : Known → Option ℕ → Sign → (result : Kind) → Scope
-in_method known class sign result =
-    record { known = known; class = class; sign = sign; result = result; hidden = hidden_in sign; variables = λ name. None; next = hidden_in sign; names = 0 }
+abbrev pub in_method : Known → Option ℕ → Sign → (selector : List ℕ) → (result : Kind) → Scope
+in_method known class sign selector result = in_method_that (owns_self sign selector result) known class sign result
 
 -- ---- functions
 
@@ -213,37 +237,39 @@ class_receiver s (Paren at a) = itself_in s a
 class_receiver s (Itself at) = class_itself s
 class_receiver s _ = None
 
+-- the kind of what a method gives that is known
+abbrev pub kind_given : Option MethodResult → Option Kind
+kind_given = option_map (λ r. r.kind)
+
 -- what a method of objects gives that is known for a static class, of which `id` has none and knows all
 abbrev pub object_result : Known → (static : Option ℕ) → List ℕ → Option Kind
-object_result known static selector = option_map_or (λ class. known.result (Some class) signs.Instance selector) static (known.result_of_any selector)
+object_result known static selector = option_map_or (λ class. kind_given (known.result (Some class) signs.Instance selector)) static (known.result_of_any selector)
 
 -- what a message gives, where a method is known for it: to a class, or else to an object with a static class
 abbrev pub sent_kind : Known → (class static : Option ℕ) → List ℕ → Option Kind
-sent_kind known class static selector = option_map_or (λ c. known.result (Some c) signs.Class selector) class (object_result known static selector)
+sent_kind known class static selector = option_map_or (λ c. kind_given (known.result (Some c) signs.Class selector)) class (object_result known static selector)
 
 -- the same of a message to `super`, which has the methods of the superclass of the class whose method has it (OPL, "Messages to self and super")
+abbrev pub super_result : Scope → List ℕ → Option MethodResult
+super_result s selector = option_and_then (λ class. s.known.result (Some class) s.sign selector) (option_and_then s.known.superclass s.class)
+
 abbrev pub super_kind : Scope → List ℕ → Option Kind
-super_kind s selector = option_and_then (λ class. s.known.result (Some class) s.sign selector) (option_and_then s.known.superclass s.class)
+super_kind s selector = kind_given (super_result s selector)
 
 -- ---- static classes
 
--- `alloc` and `new` give an object of the class that gets them, and `init` the object that gets it (OPL, "Allocating and Initializing Objects")
-abbrev pub makes : List ℕ → Bool
-makes selector = bytes_eq selector (codes "alloc") || bytes_eq selector (codes "new")
+-- the static class of what a method gives that is known: that of what gets the message, or the one that its type names (ARC, "Related result types")
+abbrev pub class_given : (receiver : Option ℕ) → Option MethodResult → Option ℕ
+class_given receiver given = option_and_then (λ r. if r.related then receiver else option_map number_of_class r.class) given
 
-abbrev pub is_init : List ℕ → Bool
-is_init selector = bytes_eq selector (codes "init")
+-- the static class of what a message gives, to a class, or else to an object with a static class; what is sent to an `id` gives one
+abbrev pub sent_class : Known → (class static : Option ℕ) → List ℕ → Option ℕ
+sent_class known class static selector = option_map_or (λ c. class_given (Some c) (known.result (Some c) signs.Class selector)) class
+    (option_and_then (λ c. class_given (Some c) (known.result (Some c) signs.Instance selector)) static)
 
-abbrev pub if_class : Bool → Option ℕ → Option ℕ
-if_class so class = if so then class else None
-
--- the static class of what a message gives, to a class, or else to an object with a static class
-abbrev pub sent_class : (class static : Option ℕ) → List ℕ → Option ℕ
-sent_class class static selector = option_map_or (λ c. if_class (makes selector) (Some c)) class (if_class (is_init selector) static)
-
--- the same of a message to `super`
+-- the same of a message to `super`, which goes to `self`
 abbrev pub super_class : Scope → List ℕ → Option ℕ
-super_class s selector = if_class (if same_sign s.sign signs.Class then makes selector else is_init selector) s.class
+super_class s selector = class_given s.class (super_result s selector)
 
 -- the static class of a field that names objects, and of what a name means: a variable, or else a field of `self`
 abbrev pub field_class : Option FoundField → Option ℕ
@@ -280,6 +306,7 @@ class_of s (Cast at type a) = static_class s.known type
 class_of s (Conditional at c a b) = either_class (is_nil a) (is_nil b) (class_of s a) (class_of s b)
 class_of s (Arrow at name_at a name) = field_class (s.known.field (class_of s a) name)
 class_of s (Assign at sign a b) = class_of s a
-class_of s (Send at part receiver selector arguments) = sent_class (class_receiver s receiver) (class_of s receiver) selector
+class_of s (Call at name arguments) = s.known.function_class name
+class_of s (Send at part receiver selector arguments) = sent_class s.known (class_receiver s receiver) (class_of s receiver) selector
 class_of s (SendSuper at part super_at selector arguments) = super_class s selector
 class_of s _ = None

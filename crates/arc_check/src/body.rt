@@ -12,7 +12,7 @@ ghost use Rattle.arc_check.specs.Rules.{broken_clauses, broken_test, broken_whol
 ghost use Rattle.arc_check.specs.Scopes.{is_full, leave, behind, behind_all, with_variables, with_parameters};
 ghost use Rattle.arc_check.specs.private.Views.{known_in, seen};
 
-use crate::judge::{initial_fault, judge_whole, number_fault, test_fault};
+use crate::judge::{initial_fault, judge_whole, result_fault, test_fault};
 use crate::rule::place;
 use crate::scope::Visible;
 use arc_ast::tree::{Expr, Function, Kind, Parameter, Parameters, Stmt, TypeName, Variable};
@@ -52,7 +52,7 @@ fn returned<'a>(
         let judged = judge_whole(table, visible, expr);
         earlier(judged.fault, Some(CheckFault::KindMismatch(place(expr))))
     } else {
-        number_fault(table, visible, expr)
+        result_fault(table, visible, expr)
     }
 }
 
@@ -212,7 +212,7 @@ fn statement<'a>(
         Stmt::Empty(_) => Ok(None),
         Stmt::Expr(expr) => Ok(judge_whole(table, visible, expr).fault),
         Stmt::Return(_, expr) => Ok(returned(table, gives_nothing, visible, expr)),
-        Stmt::Variables(_, type_name, all) => variables(table, visible, type_name, all),
+        Stmt::Variables(_, _, type_name, all) => variables(table, visible, type_name, all),
         Stmt::If(_, test, then) => {
             let fault = test_fault(table, visible, test);
             let inside = scoped(table, gives_nothing, in_loop, visible, then)?;

@@ -54,15 +54,16 @@ fn resolve_unit<'a>(
 
 /// The resolved program of the source, where it breaks no rule, or the fault that reports the first rule that is broken: the one at the earliest
 /// place, and there the one with the lowest number. The fault names a byte of the source. The table is one of the unit.
-pub fn check<'a>(
+pub fn check<'a, 't>(
     alloc: Global,
     unit: &'a TranslationUnit,
-    table: &ClassTable<'a>,
-) -> Result<Checked<'a>, CheckFault>
+    table: &'t ClassTable<'a>,
+) -> Result<Checked<'a, 't>, CheckFault>
     requires { IsTableOf (unit_tree unit.now) table.now }
     ensures unbroken { IfOk result (λ _. broken_unit (unit_tree unit.now) ≡ []) }
     ensures resolved { IfOk result (λ program. program_of program ≡ resolved_unit (unit_tree unit.now)) }
     ensures source { IfOk result (λ program. program.unit.now ≡ unit.now) }
+    ensures table { IfOk result (λ program. program.table.now ≡ table.now) }
     ensures refused { IfErr result (λ fault. Refuses (broken_unit (unit_tree unit.now)) fault) }
 {
     if let Some(fault) = judge_unit(alloc, unit, table)? {
@@ -70,6 +71,7 @@ pub fn check<'a>(
     }
     Ok(Checked {
         unit,
+        table,
         functions: resolve_unit(alloc, unit, table)?,
         main: table.main,
         globals: first_numbers(alloc, &unit.globals)?,

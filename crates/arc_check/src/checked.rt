@@ -1,7 +1,8 @@
 //! A program whose names are resolved, whose kinds are known and whose conversions are written.
 
 use arc_ast::tree::{BinaryOperator, Kind, Moment, TranslationUnit, UnaryOperator};
-use arc_spec::class::Class;
+use arc_class::table::ClassTable;
+use arc_spec::class::{Class, Gives};
 use arc_spec::location::Location;
 
 /// What a format prints in turn.
@@ -71,10 +72,15 @@ pub enum Reference {
     ObjectField(Box<Reference>, usize, usize),
     /// The same, and what is assigned to the field.
     ObjectFieldStored(Box<Reference>, usize, usize, Box<Reference>),
-    /// `alloc` or `new`: what gives the class's number.
+    /// `alloc`: what gives the class's number.
     Made(Box<Value>),
-    /// `init` of an object.
-    Initialized(Box<Reference>),
+    /// `new`: the class from which its method is looked up, where that isn't the class that gets it, and what gives
+    /// that one's number.
+    New(Option<usize>, Box<Value>),
+    /// A call of the function with this number.
+    ObjectInvoked(usize, Vec<Argument>),
+    /// A message: what gets it, the selector's number, and the arguments.
+    ObjectSent(Box<Receiver>, usize, Vec<Argument>),
 }
 
 /// What gets a message.
@@ -87,8 +93,8 @@ pub enum Receiver {
     ClassSuper(usize),
     /// The object that this gives, or nil.
     ObjectValue(Box<Reference>),
-    /// `super` in a method of objects: the number of the class from which the method is looked up.
-    ObjectSuper(usize),
+    /// `super` in a method of objects: `self`, and the number of the class from which the method is looked up.
+    ObjectSuper(Box<Reference>, usize),
 }
 
 /// What a function or a method is passed.
@@ -111,6 +117,8 @@ pub enum Command {
     /// What a variable names first.
     Begin(usize, Reference),
     Return(Option<Value>),
+    /// Returns an object or nil.
+    Give(Reference),
     /// The first where the value isn't 0, else the second.
     Choose(Value, Box<Command>, Box<Command>),
     /// Again and again, while the value isn't 0: the body, which is the last one, and then the step.
@@ -121,23 +129,27 @@ pub enum Command {
     Continue,
 }
 
-/// A function with how many variables it has that hold numbers, and how many that name objects. Of each
-/// sort the first are its parameters; those that name objects are so many. The first number of a class
-/// method is `self`.
+/// A function with how many variables it has that hold numbers, and how many that name objects; what it
+/// gives; and whether it owns `self`. Of each sort the first variables are its parameters; those that name
+/// objects are so many. The first number of a class method is `self`, and the first variable that names an
+/// object of a method that owns `self`.
 #[derive(Drop)]
 pub struct CheckedFunction {
     pub slots: usize,
     pub names: usize,
     pub parameters: usize,
+    pub gives: Gives,
+    pub owns: bool,
     pub body: Vec<Command>,
 }
 
-/// A checked program: the source that it comes from; its functions with a body, in their order, and then
+/// A checked program: the source that it comes from, and the table of that; its functions with a body, in their order, and then
 /// its methods; which of them is `main`; what those of its global variables hold first that hold numbers;
 /// how many of its global variables name objects; and its classes, whose methods run functions.
 #[derive(Drop)]
-pub struct Checked<'a> {
+pub struct Checked<'a, 't> {
     pub unit: &'a TranslationUnit,
+    pub table: &'t ClassTable<'a>,
     pub functions: Vec<CheckedFunction>,
     pub main: usize,
     pub globals: Vec<i64>,

@@ -1,5 +1,5 @@
 //! Finds the first rule that is broken in an expression.
-ghost use Rattle.std.specs.Prelude.{◌≡◌, ℕ, List, None, Some, not, is_none, is_some, option_map, if◌then◌else◌, [], ◌∷◌};
+ghost use Rattle.std.specs.Prelude.{◌≡◌, ℕ, List, false, None, Some, not, is_none, is_some, option_map, if◌then◌else◌, [], ◌∷◌};
 ghost use Rattle.arc_ast.specs.declared.tree.Kind.{Kind};
 ghost use Rattle.arc_ast.specs.Tree as tree;
 ghost use Rattle.arc_ast.specs.Tree.{Arrow, Assign, Cast, Conditional, Itself, Name, Send, SendSuper, Update, expr_tree, expr_trees, type_tree};
@@ -122,15 +122,32 @@ fn combined(
     )
 }
 
-/// The judgement on a call, from its function's kind, the rule that it breaks at its name, if it breaks one, and the judgement on its arguments.
-fn called(kind: Kind, own: Option<CheckFault>, inside: Arguments) -> Judged
-    ensures kind { result.kind ≡ kind_if (is_none own) kind }
-    ensures class { result.class ≡ None }
+/// The kind that a call has, from its function's kind and the rule that it breaks at its name, if it breaks one.
+fn call_kind(kind: Kind, own: Option<CheckFault>) -> Option<Kind>
+    ensures { result ≡ kind_if (is_none own) kind }
+{
+    if own.is_none() { Some(kind) } else { None }
+}
+
+/// The judgement on a call, from its kind and its static class, the rule that it breaks at its name, if it breaks one, and the judgement on its arguments.
+fn called(
+    kind: Option<Kind>,
+    class: Option<ClassId>,
+    own: Option<CheckFault>,
+    inside: Arguments,
+) -> Judged
+    ensures kind { result.kind ≡ kind }
+    ensures class { result.class ≡ class }
     ensures fault { option_map told result.fault ≡ earlier_of (option_map told own) (option_map told inside.fault) }
     ensures taken { result.taken ≡ inside.taken }
 {
-    let kind = if own.is_none() { Some(kind) } else { None };
-    number(kind, earlier(own, inside.fault), inside.taken)
+    Judged {
+        kind,
+        class,
+        fault: earlier(own, inside.fault),
+        taken: inside.taken,
+        unread: inside.taken,
+    }
 }
 
 /// The judgement on `self`, which isn't sent a message as a class.
@@ -577,7 +594,7 @@ fn judge_send<'a>(
     let passed = judge_arguments(table, visible, between, wanted, b"", arguments);
     Judged {
         kind,
-        class: sent_class(class, judged.class, selector),
+        class: sent_class(table, class, judged.class, selector),
         fault: earlier(earlier(own, unknown), passed.fault),
         taken: passed.taken,
         unread: passed.taken,
@@ -618,7 +635,7 @@ fn judge_super<'a>(
     let passed = judge_arguments(table, visible, between, wanted, b"", arguments);
     Judged {
         kind,
-        class: super_class(visible, selector),
+        class: super_class(table, visible, selector),
         fault: earlier(unknown_method(kind, part), passed.fault),
         taken: passed.taken,
         unread: passed.taken,
@@ -635,16 +652,21 @@ fn judge_call<'a>(
     name: &'a [u8],
     arguments: &'a [Expr],
 ) -> Judged
-    ensures { JudgesCall (seen table.now visible.now) before at (scopes.callee (known_in table.now) name.now) ((known_in table.now).parameters name.now) (expr_trees arguments.now) result }
+    ensures { JudgesCall (seen table.now visible.now) before at (scopes.callee (known_in table.now) name.now) ((known_in table.now).function_class name.now) ((known_in table.now).parameters name.now) (expr_trees arguments.now) result }
 {
     let callee = callee_of(table, name);
     match callee {
-        Callee::Printf => judge_print(table, visible, before, at, arguments),
+        Callee::Printf => {
+            let class = table.function_class(name);
+            judge_print(table, visible, before, at, class, arguments)
+        }
         _ => {
-            let wanted = Some(table.parameters(name));
-            let inside = judge_arguments(table, visible, before, wanted, b"", arguments);
             let own = call_fault(callee, at, arguments.len());
-            called(result_kind(callee), own, inside)
+            let kind = call_kind(result_kind(callee), own);
+            let between = before.one_if(is_object(kind), at);
+            let wanted = Some(table.parameters(name));
+            let inside = judge_arguments(table, visible, between, wanted, b"", arguments);
+            called(kind, table.function_class(name), own, inside)
         }
     }
 }
@@ -656,9 +678,10 @@ fn judge_print<'a>(
     visible: &Visible<'a>,
     before: Taken,
     at: usize,
+    class: Option<ClassId>,
     arguments: &'a [Expr],
 ) -> Judged
-    ensures { (kinds : List Kind) → JudgesCall (seen table.now visible.now) before at Callee.Printf kinds (expr_trees arguments.now) result }
+    ensures { (kinds : List Kind) → JudgesCall (seen table.now visible.now) before at Callee.Printf (option_map number_of_class class) kinds (expr_trees arguments.now) result }
 {
     match arguments.split_first() {
         Some((Expr::Text(_, format), values)) => {
@@ -668,11 +691,11 @@ fn judge_print<'a>(
             } else {
                 Some(CheckFault::Format(at))
             };
-            called(Kind::Int, own, inside)
+            called(call_kind(Kind::Int, own), class, own, inside)
         }
         _ => {
             let inside = judge_arguments(table, visible, before, None, b"", arguments);
-            called(Kind::Int, Some(CheckFault::Format(at)), inside)
+            called(None, class, Some(CheckFault::Format(at)), inside)
         }
     }
 }
@@ -747,16 +770,17 @@ pub fn judge_whole<'a>(table: &ClassTable<'a>, visible: &Visible<'a>, expr: &'a 
     }
 }
 
-/// The first rule that is broken in a full-expression that has to give a number.
-pub fn number_fault<'a>(
+/// The first rule that is broken in what a function returns that gives something.
+pub fn result_fault<'a>(
     table: &ClassTable<'a>,
     visible: &Visible<'a>,
     expr: &'a Expr,
 ) -> Option<CheckFault>
-    ensures { option_map told result ≡ first (rules.broken_number (seen table.now visible.now) (expr_tree expr.now)) }
+    ensures { option_map told result ≡ first (rules.broken_result false (seen table.now visible.now) (Some (expr_tree expr.now))) }
 {
     let judged = judge_whole(table, visible, expr);
-    earlier(judged.fault, no_number(judged.kind, place(expr)))
+    let wanted = Some(visible.result);
+    earlier(judged.fault, no_such(wanted, judged.kind, place(expr)))
 }
 
 /// The first rule that is broken in a test.

@@ -10,7 +10,7 @@ ghost use Rattle.arc_check.specs.private.Views.{known_in, seen};
 use crate::field::is_variable;
 use crate::scope::Visible;
 use arc_ast::tree::{Expr, Kind, Sign, TypeName};
-use arc_class::table::{ClassId, ClassTable};
+use arc_class::table::{ClassId, ClassTable, MethodResult};
 
 /// The class of the type, of which `id` has none.
 pub fn static_class<'a>(table: &ClassTable<'a>, type_name: &'a TypeName) -> Option<ClassId>
@@ -65,6 +65,16 @@ pub fn above(table: &ClassTable, class: Option<ClassId>) -> Option<ClassId>
     }
 }
 
+/// The kind of what a method gives that is known.
+fn kind_given(given: Option<MethodResult>) -> Option<Kind>
+    ensures { result ≡ scopes.kind_given given }
+{
+    match given {
+        None => None,
+        Some(given) => Some(given.kind),
+    }
+}
+
 /// What the method of objects gives that is known for the static class, of which `id` has none.
 pub fn object_result<'a>(
     table: &ClassTable<'a>,
@@ -75,7 +85,7 @@ pub fn object_result<'a>(
 {
     match static_class {
         None => table.result_of_any(selector),
-        Some(class) => table.result(Some(class), Sign::Instance, selector),
+        Some(class) => kind_given(table.result(Some(class), Sign::Instance, selector)),
     }
 }
 
@@ -89,18 +99,18 @@ pub fn sent_kind<'a>(
     ensures { result ≡ scopes.sent_kind (known_in table.now) (option_map number_of_class class) (option_map number_of_class static_class) selector.now }
 {
     match class {
-        Some(class) => table.result(Some(class), Sign::Class, selector),
+        Some(class) => kind_given(table.result(Some(class), Sign::Class, selector)),
         None => object_result(table, static_class, selector),
     }
 }
 
 /// What a message to `super` gives, where a method is known for it.
-pub fn super_kind<'a>(
+fn super_result<'a>(
     table: &ClassTable<'a>,
     visible: &Visible<'a>,
     selector: &'a [u8],
-) -> Option<Kind>
-    ensures { result ≡ scopes.super_kind (seen table.now visible.now) selector.now }
+) -> Option<MethodResult>
+    ensures { result ≡ scopes.super_result (seen table.now visible.now) selector.now }
 {
     match above(table, visible.class) {
         None => None,
@@ -108,47 +118,55 @@ pub fn super_kind<'a>(
     }
 }
 
-/// Whether a class answers the selector by a new object of its own.
-fn makes(selector: &[u8]) -> bool
-    ensures { result ≡ scopes.makes selector.now }
+/// The kind of what a message to `super` gives, where a method is known for it.
+pub fn super_kind<'a>(
+    table: &ClassTable<'a>,
+    visible: &Visible<'a>,
+    selector: &'a [u8],
+) -> Option<Kind>
+    ensures { result ≡ scopes.super_kind (seen table.now visible.now) selector.now }
 {
-    selector == b"alloc".as_slice() || selector == b"new".as_slice()
+    kind_given(super_result(table, visible, selector))
 }
 
-/// Whether an object answers the selector by itself.
-fn is_init(selector: &[u8]) -> bool
-    ensures { result ≡ scopes.is_init selector.now }
+/// The static class of what a method gives that is known, of a message to what has the other static class.
+fn class_given(receiver: Option<ClassId>, given: Option<MethodResult>) -> Option<ClassId>
+    ensures { option_map number_of_class result ≡ scopes.class_given (option_map number_of_class receiver) given }
 {
-    selector == b"init".as_slice()
-}
-
-/// The class, if it is so.
-fn if_class(so: bool, class: Option<ClassId>) -> Option<ClassId>
-    ensures { option_map number_of_class result ≡ scopes.if_class so (option_map number_of_class class) }
-{
-    if so { class } else { None }
+    match given {
+        None => None,
+        Some(given) => { if given.related { receiver } else { given.class } }
+    }
 }
 
 /// The static class of what a message gives: to the class or, with none, to an object with the static class.
-pub fn sent_class(
+pub fn sent_class<'a>(
+    table: &ClassTable<'a>,
     class: Option<ClassId>,
     static_class: Option<ClassId>,
-    selector: &[u8],
+    selector: &'a [u8],
 ) -> Option<ClassId>
-    ensures { option_map number_of_class result ≡ scopes.sent_class (option_map number_of_class class) (option_map number_of_class static_class) selector.now }
+    ensures { option_map number_of_class result ≡ scopes.sent_class (known_in table.now) (option_map number_of_class class) (option_map number_of_class static_class) selector.now }
 {
-    match class {
-        Some(class) => if_class(makes(selector), Some(class)),
-        None => if_class(is_init(selector), static_class),
+    match (class, static_class) {
+        (Some(_), _) => class_given(class, table.result(class, Sign::Class, selector)),
+        (None, Some(_)) => {
+            class_given(
+                static_class,
+                table.result(static_class, Sign::Instance, selector),
+            )
+        }
+        (None, None) => None,
     }
 }
 
 /// The static class of what a message to `super` gives.
-pub fn super_class(visible: &Visible, selector: &[u8]) -> Option<ClassId>
-    ensures { (table : ClassTable) → option_map number_of_class result ≡ scopes.super_class (seen table visible.now) selector.now }
+pub fn super_class<'a>(
+    table: &ClassTable<'a>,
+    visible: &Visible<'a>,
+    selector: &'a [u8],
+) -> Option<ClassId>
+    ensures { option_map number_of_class result ≡ scopes.super_class (seen table.now visible.now) selector.now }
 {
-    match visible.sign {
-        Sign::Class => if_class(makes(selector), visible.class),
-        Sign::Instance => if_class(is_init(selector), visible.class),
-    }
+    class_given(visible.class, super_result(table, visible, selector))
 }

@@ -56,7 +56,7 @@ fn method<'a>(
         ≡ first (broken_method (known_in table.now) (option_map number_of_class class) (method_tree method.now))) }
 {
     let gives = method.head.result.kind();
-    let visible = Visible::in_method(alloc, class, method.head.sign, gives);
+    let visible = Visible::in_method(alloc, class, &method.head);
     let inside = inside(
         table,
         is_void(gives),

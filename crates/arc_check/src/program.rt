@@ -1,6 +1,7 @@
 //! Builds the resolved functions and methods of a source that breaks no rule.
-ghost use Rattle.std.specs.Prelude.{◌≡◌, ◌-◌, List, ◌++◌, IfOk, OnOk, option_map, take, length, map};
+ghost use Rattle.std.specs.Prelude.{◌≡◌, ◌-◌, List, ◌++◌, None, IfOk, OnOk, option_map, take, length, map};
 ghost use Rattle.std.specs.List.{flat_map, filter_map};
+ghost use Rattle.std.specs.Option.{option_map_or};
 ghost use Rattle.arc_ast.specs.Tree.{expr_tree, type_tree, variable_trees, parameter_trees, stmt_tree, stmt_trees, function_trees, method_trees, implementation_trees};
 ghost use Rattle.arc_class.specs.Table.{number_of_class};
 ghost use Rattle.arc_spec.specs.Resolved.{Sequence, Choose, Repeat, RepeatAfter};
@@ -16,26 +17,30 @@ use crate::body::named_parameters;
 use crate::checked::{CheckedFunction, Command, Value};
 use crate::resolution::{Resolution, number_in};
 use crate::resolve::{expression, number_as, object};
-use crate::scope::Visible;
+use crate::scope::{Visible, owned_in};
 use arc_ast::tree::{
     Expr, Function, Implementation, Kind, Method, Parameter, Stmt, TypeName, Variable,
 };
 use arc_class::table::{ClassId, ClassTable};
+use arc_spec::class::gives_of;
 use arc_spec::location::Location;
 use std::alloc::{AllocError, Global};
 
-/// A resolved return, of a number of the function's kind where it gives something.
+/// A resolved return, of a number of the function's kind, or of an object, where it gives something.
 fn returned<'a>(
     alloc: Global,
     table: &ClassTable<'a>,
     visible: &Visible<'a>,
     expr: &'a Option<Expr>,
 ) -> Result<Command, AllocError>
-    ensures { IfOk result (λ new. checked.command new ≡ spec.Return (option_map (number_as visible.now.result (seen table.now visible.now)) (option_map expr_tree expr.now))) }
+    ensures { IfOk result (λ new. checked.command new ≡ option_map_or (λ e. resolving.returned visible.now.result (resolving.resolved (seen table.now visible.now) e)) (option_map expr_tree expr.now) (spec.Return None)) }
 {
     match expr {
         None => Ok(Command::Return(None)),
         Some(expr) => {
+            if matches!(visible.result, Kind::Object) {
+                return Ok(Command::Give(object(alloc, table, visible, expr)?));
+            }
             let value = number_as(alloc, table, visible, visible.result, expr)?;
             Ok(Command::Return(Some(value)))
         }
@@ -411,7 +416,7 @@ fn command<'a>(
         Stmt::Empty(_) => Ok(nothing(alloc)),
         Stmt::Expr(expr) => evaluation(alloc, table, visible, expr),
         Stmt::Return(_, expr) => returned(alloc, table, visible, expr),
-        Stmt::Variables(_, type_name, all) => declaration(alloc, table, visible, type_name, all),
+        Stmt::Variables(_, _, type_name, all) => declaration(alloc, table, visible, type_name, all),
         Stmt::If(_, condition, then) => {
             chosen_or_nothing(alloc, table, visible, condition, then)
         }
@@ -459,12 +464,14 @@ fn function<'a>(
         ≡ resolved_body (with_parameters (seen table.now visible.entry) (parameter_trees named.now)) (stmt_trees body.now)) }
 {
     visible.declare_parameters(table, named)?;
-    let parameters = usize::from(visible.names);
+    let parameters = usize::from(visible.names).saturating_sub(usize::from(owned_in(visible.owns)));
     let body = commands(alloc, table, &mut visible, body)?;
     Ok(CheckedFunction {
         slots: usize::from(visible.next),
         names: usize::from(visible.names),
         parameters,
+        gives: gives_of(visible.result),
+        owns: visible.owns,
         body,
     })
 }
@@ -500,8 +507,7 @@ fn add_methods<'a>(
         ≡ functions_ahead all.old.items (map (resolved_method (known_in table.now) (option_map number_of_class class)) (method_trees methods.now) ++ others)) }
 {
     for one in methods {
-        let gives = one.head.result.kind();
-        let visible = Visible::in_method(alloc, class, one.head.sign, gives);
+        let visible = Visible::in_method(alloc, class, &one.head);
         all.push(function(alloc, table, visible, &one.head.parameters, &one.body)?)?;
     }
     Ok(())

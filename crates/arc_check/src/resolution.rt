@@ -3,7 +3,8 @@ ghost use Rattle.std.specs.Prelude.{◌≡◌, Option, Some, None, option_map, I
 ghost use Rattle.std.specs.Option.{unwrap_or};
 ghost use Rattle.arc_ast.specs.Tree.{expr_tree, Name};
 ghost use Rattle.arc_class.specs.Table.{number_of_class, number_of_selector};
-ghost use Rattle.arc_check.specs.private.Building.{resolution};
+ghost use Rattle.arc_check.specs.private.Building.{resolution, class_receiver_of};
+ghost use Rattle.arc_spec.specs.Resolved as spec;
 ghost use Rattle.arc_check.specs.Checked as checked;
 ghost use Rattle.arc_check.specs.Kinds as kinds;
 ghost use Rattle.arc_check.specs.Resolving as resolving;
@@ -427,16 +428,39 @@ fn store_field(
     }
 }
 
+/// `self`, in a method that owns it or doesn't.
+pub fn itself(owns: bool) -> Reference
+    ensures { checked.reference result ≡ resolving.itself owns }
+{
+    if owns {
+        Reference::Variable(Location::Local(0))
+    } else {
+        Reference::Itself
+    }
+}
+
+/// An assignment to `self`, in a method that owns it; in any other it breaks a rule, and what is assigned stands for it.
+pub fn itself_assigned(alloc: Global, owns: bool, of: Resolution) -> Result<Resolution, AllocError>
+    ensures { IfOk result (λ new. resolution new ≡ resolving.itself_assigned owns (resolution of)) }
+{
+    if !owns {
+        return Ok(of);
+    }
+    let object = Box::new(alloc, object_in(of))?;
+    Ok(Resolution::Refers(Reference::Stored(Location::Local(0), object)))
+}
+
 /// What a name means: the variable, or else the field of `self`.
 pub fn named(
     alloc: Global,
+    owns: bool,
     local: Option<Local>,
     own: Option<FoundField>,
 ) -> Result<Resolution, AllocError>
-    ensures { IfOk result (λ new. resolution new ≡ resolving.named (option_map local_of local) own) }
+    ensures { IfOk result (λ new. resolution new ≡ resolving.named owns (option_map local_of local) own) }
 {
     match local {
-        None => field(alloc, Reference::Itself, own),
+        None => field(alloc, itself(owns), own),
         Some(Local::Number(kind, location)) => given(alloc, kind, Value::Read(location)),
         Some(Local::Object(location, _)) => Ok(Resolution::Refers(Reference::Variable(location))),
     }
@@ -445,14 +469,15 @@ pub fn named(
 /// An assignment to the variable, or else to the field of `self`.
 pub fn name_assigned(
     alloc: Global,
+    owns: bool,
     local: Option<Local>,
     own: Option<FoundField>,
     of: Resolution,
 ) -> Result<Resolution, AllocError>
-    ensures { IfOk result (λ new. resolution new ≡ resolving.name_assigned (option_map local_of local) own (resolution of)) }
+    ensures { IfOk result (λ new. resolution new ≡ resolving.name_assigned owns (option_map local_of local) own (resolution of)) }
 {
     match local {
-        None => field_assigned(alloc, Reference::Itself, own, of),
+        None => field_assigned(alloc, itself(owns), own, of),
         Some(Local::Number(kind, location)) => {
             let value = converted(alloc, kind, of)?;
             given(alloc, kind, Value::Assigned(location, value))
@@ -521,17 +546,35 @@ pub fn class_value(receiver: &Expr, number: usize) -> Result<Value, AllocError>
     }
 }
 
-/// A message that gives no object, but a number of the kind.
-fn sent(
+/// A call of the function with the number, which gives a value of the kind.
+pub fn invoked(
+    alloc: Global,
+    kind: Kind,
+    function: usize,
+    all: Vec<Argument>,
+) -> Result<Resolution, AllocError>
+    ensures { IfOk result (λ new. resolution new ≡ resolving.invoked kind function (checked.arguments all.items)) }
+{
+    if is_object(Some(kind)) {
+        return Ok(Resolution::Refers(Reference::ObjectInvoked(function, all)));
+    }
+    given(alloc, kind, Value::Invoked(function, all))
+}
+
+/// A message that gives a value of the kind, or none.
+pub fn sent_to(
     alloc: Global,
     kind: Option<Kind>,
     receiver: Receiver,
     selector: usize,
     all: Vec<Argument>,
 ) -> Result<Resolution, AllocError>
-    ensures { IfOk result (λ new. resolution new ≡ resolving.sent_number kind (checked.receiver receiver) selector (checked.arguments all.items)) }
+    ensures { IfOk result (λ new. resolution new ≡ resolving.sent_to kind (checked.receiver receiver) selector (checked.arguments all.items)) }
 {
     let receiver = Box::new(alloc, receiver)?;
+    if is_object(kind) {
+        return Ok(Resolution::Refers(Reference::ObjectSent(receiver, selector, all)));
+    }
     given(
         alloc,
         kind_or_int(kind),
@@ -539,22 +582,45 @@ fn sent(
     )
 }
 
-/// A message to a class that gives a value of the kind.
+/// What gets a message: a class, whose number this value gives, and the class from which the method is looked up where
+/// that is another one, as for `super`.
+#[derive(Drop)]
+pub struct ClassReceiver {
+    pub from: Option<usize>,
+    pub class: Value,
+}
+
+/// The receiver of such a message.
+fn class_receiver(alloc: Global, to: ClassReceiver) -> Result<Receiver, AllocError>
+    ensures { IfOk result (λ new. checked.receiver new ≡ class_receiver_of to) }
+{
+    match to.from {
+        Some(from) => Ok(Receiver::ClassSuper(from)),
+        None => Ok(Receiver::ClassValue(Box::new(alloc, to.class)?)),
+    }
+}
+
+/// A message to a class that gives a value of the kind, or none.
 pub fn to_class(
     alloc: Global,
     kind: Option<Kind>,
-    class: Value,
+    to: ClassReceiver,
+    name: &[u8],
     selector: usize,
     all: Vec<Argument>,
 ) -> Result<Resolution, AllocError>
-    ensures { IfOk result (λ new. resolution new ≡ resolving.to_class kind (checked.value class) selector (checked.arguments all.items)) }
+    ensures { IfOk result (λ new. resolution new ≡ resolving.to_class kind to.from (checked.value to.class) name.now (class_receiver_of to) selector (checked.arguments all.items)) }
 {
-    let class = Box::new(alloc, class)?;
-    if is_object(kind) {
-        Ok(Resolution::Refers(Reference::Made(class)))
-    } else {
-        sent(alloc, kind, Receiver::ClassValue(class), selector, all)
+    if name == b"alloc".as_slice() {
+        let class = Box::new(alloc, to.class)?;
+        return Ok(Resolution::Refers(Reference::Made(class)));
     }
+    if name == b"new".as_slice() {
+        let class = Box::new(alloc, to.class)?;
+        return Ok(Resolution::Refers(Reference::New(to.from, class)));
+    }
+    let receiver = class_receiver(alloc, to)?;
+    sent_to(alloc, kind, receiver, selector, all)
 }
 
 /// A message to an object that gives a value of the kind.
@@ -565,56 +631,43 @@ pub fn to_object(
     selector: usize,
     all: Vec<Argument>,
 ) -> Result<Resolution, AllocError>
-    ensures { IfOk result (λ new. resolution new ≡ resolving.to_object kind (checked.reference object) selector (checked.arguments all.items)) }
+    ensures { IfOk result (λ new. resolution new ≡ resolving.sent_to kind (spec.ObjectValue (checked.reference object)) selector (checked.arguments all.items)) }
 {
     let object = Box::new(alloc, object)?;
-    if is_object(kind) {
-        Ok(Resolution::Refers(Reference::Initialized(object)))
-    } else {
-        sent(alloc, kind, Receiver::ObjectValue(object), selector, all)
-    }
+    sent_to(alloc, kind, Receiver::ObjectValue(object), selector, all)
 }
 
-/// A message to `super` that gives an object, in a method of the sign.
-fn made_by_super(alloc: Global, sign: Sign) -> Result<Resolution, AllocError>
-    ensures { IfOk result (λ new. resolution new ≡ resolving.made_by_super sign) }
-{
-    match sign {
-        Sign::Class => {
-            let class = Box::new(alloc, Value::Read(Location::Local(0)))?;
-            Ok(Resolution::Refers(Reference::Made(class)))
-        }
-        Sign::Instance => {
-            let itself = Box::new(alloc, Reference::Itself)?;
-            Ok(Resolution::Refers(Reference::Initialized(itself)))
-        }
-    }
+/// Where a message to `super` stands: the sign of the method, whether that owns `self`, and the number of the class from which the message's method is looked up.
+#[derive(Clone, Copy)]
+pub struct SuperSite {
+    pub sign: Sign,
+    pub owns: bool,
+    pub from: usize,
 }
 
-/// What gets a message to `super` in a method of the sign; the method is looked up from the class with the number.
-fn super_receiver(sign: Sign, from: usize) -> Receiver
-    ensures { checked.receiver result ≡ resolving.super_receiver sign from }
-{
-    match sign {
-        Sign::Class => Receiver::ClassSuper(from),
-        Sign::Instance => Receiver::ObjectSuper(from),
-    }
-}
-
-/// A message to `super` that gives a value of the kind, in a method of the sign; the method is looked up from the class with the number.
+/// A message to `super` that gives a value of the kind.
 pub fn to_super(
     alloc: Global,
-    sign: Sign,
+    site: SuperSite,
     kind: Option<Kind>,
-    from: usize,
+    name: &[u8],
     selector: usize,
     all: Vec<Argument>,
 ) -> Result<Resolution, AllocError>
-    ensures { IfOk result (λ new. resolution new ≡ resolving.to_super sign kind from selector (checked.arguments all.items)) }
+    ensures { IfOk result (λ new. resolution new ≡ resolving.to_super site.sign site.owns kind site.from name.now selector (checked.arguments all.items)) }
 {
-    if is_object(kind) {
-        made_by_super(alloc, sign)
-    } else {
-        sent(alloc, kind, super_receiver(sign, from), selector, all)
+    match site.sign {
+        Sign::Class => {
+            let to = ClassReceiver {
+                from: Some(site.from),
+                class: Value::Read(Location::Local(0)),
+            };
+            to_class(alloc, kind, to, name, selector, all)
+        }
+        Sign::Instance => {
+            let object = Box::new(alloc, itself(site.owns))?;
+            let receiver = Receiver::ObjectSuper(object, site.from);
+            sent_to(alloc, kind, receiver, selector, all)
+        }
     }
 }

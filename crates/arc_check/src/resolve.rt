@@ -11,7 +11,7 @@ ghost use Rattle.arc_check.specs.declared.scope.Visible.{Visible};
 ghost use Rattle.arc_check.specs.private.Views.{kinds_wanted, seen};
 ghost use Rattle.arc_spec.specs.Resolved as spec;
 
-use crate::callee::{Callee, callee_of, result_kind};
+use crate::callee::{Callee, callee_of};
 use crate::checked::{Argument, Reference, Value};
 use crate::field::{field_class, name_class, named_variable, own_field};
 use crate::format::pieces;
@@ -19,9 +19,10 @@ use crate::message::{
     above, class_receiver, sent_class, sent_kind, static_class, super_class, super_kind,
 };
 use crate::resolution::{
-    Resolution, Typed, binary, cast as cast_to, class_number, class_value, conditional, converted,
-    field, field_assigned, given, name_assigned, named, number, number_in, object_in,
-    selector_number, to_class, to_object, to_super, unary, updated,
+    ClassReceiver, Resolution, SuperSite, Typed, binary, cast as cast_to, class_number,
+    class_value, conditional, converted, field, field_assigned, given, invoked, itself,
+    itself_assigned, name_assigned, named, number, number_in, object_in, selector_number, to_class,
+    to_object, to_super, unary, updated,
 };
 use crate::rule::{either_class, is_nil, literal_kind};
 use crate::scope::Visible;
@@ -61,7 +62,7 @@ fn variable<'a>(
 {
     let local = named_variable(table, visible, name);
     let own = own_field(table, visible, name);
-    let value = named(alloc, local, own)?;
+    let value = named(alloc, visible.owns, local, own)?;
     Ok(Typed {
         class: name_class(local, own),
         value,
@@ -89,7 +90,7 @@ pub fn expression<'a>(
         }),
         Expr::Itself(_) => Ok(Typed {
             class: visible.own_class(),
-            value: Resolution::Refers(Reference::Itself),
+            value: Resolution::Refers(itself(visible.owns)),
         }),
         Expr::Name(_, name) => variable(alloc, table, visible, name),
         Expr::Unary(_, operator, operand) => signed(alloc, table, visible, *operator, operand),
@@ -253,11 +254,11 @@ fn to_name<'a>(
 ) -> Result<Typed, AllocError>
     ensures class { IfOk result (λ typed. option_map number_of_class typed.class ≡ scopes.name_class (scopes.variable (seen table.now visible.now) name.now) (scopes.own_field (seen table.now visible.now) name.now)) }
     ensures value { IfOk result (λ typed. resolution typed.value
-        ≡ resolving.name_assigned (scopes.variable (seen table.now visible.now) name.now) (scopes.own_field (seen table.now visible.now) name.now) (resolution of)) }
+        ≡ resolving.name_assigned (seen table.now visible.now).owns (scopes.variable (seen table.now visible.now) name.now) (scopes.own_field (seen table.now visible.now) name.now) (resolution of)) }
 {
     let local = named_variable(table, visible, name);
     let own = own_field(table, visible, name);
-    let value = name_assigned(alloc, local, own, of)?;
+    let value = name_assigned(alloc, visible.owns, local, own, of)?;
     Ok(Typed {
         class: name_class(local, own),
         value,
@@ -315,6 +316,10 @@ fn assigned<'a>(
 {
     match left {
         Expr::Paren(_, inside) => assigned(alloc, table, visible, inside, of),
+        Expr::Itself(_) => Ok(Typed {
+            class: visible.own_class(),
+            value: itself_assigned(alloc, visible.owns, of)?,
+        }),
         Expr::Name(_, name) => to_name(alloc, table, visible, name, of),
         Expr::Arrow(_, _, base, name) => to_field(alloc, table, visible, base, name, of),
         _ => {
@@ -365,21 +370,21 @@ fn call<'a>(
 {
     let callee = callee_of(table, name);
     let value = match callee {
-        Callee::Printf => print(alloc, table, visible, arguments)?,
-        Callee::Defined(_, _, body) => {
-            let wanted = Some(table.parameters(name));
-            Value::Invoked(
-                number(body),
-                resolved_arguments(alloc, table, visible, wanted, arguments)?,
-            )
+        Callee::Printf => {
+            let value = print(alloc, table, visible, arguments)?;
+            given(alloc, Kind::Int, value)?
         }
-        Callee::GetChar => Value::ReadByte,
-        Callee::Unknown => Value::ReadByte,
+        Callee::Defined(kind, _, body) => {
+            let wanted = Some(table.parameters(name));
+            let all = resolved_arguments(alloc, table, visible, wanted, arguments)?;
+            invoked(alloc, kind, number(body), all)?
+        }
+        Callee::GetChar => given(alloc, Kind::Int, Value::ReadByte)?,
+        Callee::Unknown => given(alloc, Kind::Int, Value::ReadByte)?,
     };
-    let given = given(alloc, result_kind(callee), value)?;
     Ok(Typed {
-        class: None,
-        value: given,
+        class: table.function_class(name),
+        value,
     })
 }
 
@@ -397,8 +402,11 @@ fn class_message<'a>(
 {
     let kind = sent_kind(table, Some(class), None, selector);
     let number = selector_number(table.selector(selector));
-    let value = class_value(receiver, class.0)?;
-    to_class(alloc, kind, value, number, all)
+    let to = ClassReceiver {
+        from: None,
+        class: class_value(receiver, class.0)?,
+    };
+    to_class(alloc, kind, to, selector, number, all)
 }
 
 /// A message to the object of a static class, which the receiver gives.
@@ -434,13 +442,13 @@ fn message<'a>(
     let all = resolved_arguments(alloc, table, visible, wanted, arguments)?;
     match class {
         Some(class) => Ok(Typed {
-            class: sent_class(Some(class), None, selector),
+            class: sent_class(table, Some(class), None, selector),
             value: class_message(alloc, table, receiver, class, selector, all)?,
         }),
         None => {
             let object = expression(alloc, table, visible, receiver)?;
             Ok(Typed {
-                class: sent_class(None, object.class, selector),
+                class: sent_class(table, None, object.class, selector),
                 value: object_message(alloc, table, object, selector, all)?,
             })
         }
@@ -461,11 +469,15 @@ fn super_message<'a>(
     let wanted = Some(table.parameters_passed(visible.sign, selector));
     let all = resolved_arguments(alloc, table, visible, wanted, arguments)?;
     let kind = super_kind(table, visible, selector);
-    let from = class_number(above(table, visible.class));
+    let site = SuperSite {
+        sign: visible.sign,
+        owns: visible.owns,
+        from: class_number(above(table, visible.class)),
+    };
     let number = selector_number(table.selector(selector));
     Ok(Typed {
-        class: super_class(visible, selector),
-        value: to_super(alloc, visible.sign, kind, from, number, all)?,
+        class: super_class(table, visible, selector),
+        value: to_super(alloc, site, kind, selector, number, all)?,
     })
 }
 

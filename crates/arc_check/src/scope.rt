@@ -1,14 +1,18 @@
 //! The variables that are visible at a place of a body.
-ghost use Rattle.std.specs.Prelude.{◌≡◌, ◌+◌, ◌<◌, true, option_map, OnOk, take, length, if◌then◌else◌};
+ghost use Rattle.std.specs.Prelude.{◌≡◌, ◌+◌, ◌<◌, ◌≤◌, true, option_map, OnOk, take, length, if◌then◌else◌};
 ghost use Rattle.arc_class.specs.declared.table.ClassTable.{ClassTable};
 ghost use Rattle.arc_class.specs.Table.{number_of_class};
-ghost use Rattle.arc_ast.specs.Tree.{type_tree, parameter_trees};
+ghost use Rattle.arc_ast.specs.Tree.{type_tree, parameter_trees, head_tree};
+ghost use Rattle.arc_spec.specs.Families as families;
+ghost use Rattle.arc_check.specs.Rules.{of_method};
 ghost use Rattle.arc_check.specs.Scopes as scopes;
 ghost use Rattle.arc_check.specs.private.Views.{local_of, local_in, known_in, seen};
 
-use arc_ast::tree::{Kind, Parameter, Sign, TypeName};
+use arc_ast::tree::{Kind, MethodHead, Parameter, Sign, TypeName};
 use arc_class::table::{ClassId, ClassTable};
+use arc_spec::family::method_family;
 use arc_spec::location::Location;
+use arc_spec::signature::Family;
 use std::alloc::{AllocError, Global};
 
 /// A variable, by where it is: one that holds a number, or one that names objects.
@@ -39,7 +43,10 @@ pub struct Visible<'a> {
     pub sign: Sign,
     /// The kind of what the function or the method gives.
     pub result: Kind,
-    /// How many numbers without a name come before all others: 1 in a class method, `self`, and else 0.
+    /// Whether the method owns `self`, which is the first variable then that names an object.
+    pub owns: bool,
+    /// How many variables without a name come before all others: 1 for `self` in a class method and in a method that
+    /// owns it, and else 0.
     pub hidden: u8,
     pub bound: Vec<Bound<'a>>,
     /// The number that the next variable gets that is a number.
@@ -57,6 +64,7 @@ impl<'a> Visible<'a> {
             class: None,
             sign: Sign::Class,
             result: gives,
+            owns: false,
             hidden: 0,
             bound: Vec::new(alloc),
             next: 0,
@@ -64,19 +72,24 @@ impl<'a> Visible<'a> {
         }
     }
 
-    /// Before the parameters of a method of the class that gives a value of the kind; the first number of a class method is `self`.
-    pub fn in_method(alloc: Global, class: Option<ClassId>, sign: Sign, gives: Kind) -> Visible<'a>
-        ensures { (table : ClassTable) → seen table result ≡ scopes.in_method (known_in table) (option_map number_of_class class) sign gives }
+    /// Before the parameters of a method of the class.
+    pub fn in_method(alloc: Global, class: Option<ClassId>, head: &MethodHead) -> Visible<'a>
+        ensures { (table : ClassTable) → seen table result ≡ of_method (known_in table) (option_map number_of_class class) (head_tree head.now) }
     {
-        let hidden = hidden_in(sign);
+        let gives = head.result.kind();
+        let family = method_family(head.sign, &head.selector, gives);
+        let owns = is_init(family);
+        let hidden = hidden_in(head.sign);
+        let owned = owned_in(owns);
         Visible {
             class,
-            sign,
+            sign: head.sign,
             result: gives,
-            hidden,
+            owns,
+            hidden: hidden + owned,
             bound: Vec::new(alloc),
             next: u16::from(hidden),
-            names: 0,
+            names: u16::from(owned),
         }
     }
 
@@ -203,15 +216,32 @@ impl<'a> Visible<'a> {
         ensures class { self.new.class ≡ self.old.class }
         ensures sign { self.new.sign ≡ self.old.sign }
         ensures gives { self.new.result ≡ self.old.result }
+        ensures owns { self.new.owns ≡ self.old.owns }
         ensures hidden { self.new.hidden ≡ self.old.hidden }
     {
         self.bound.truncate(count);
     }
 }
 
+/// Whether a method of the family is one of init, whose `self` it owns.
+fn is_init(family: Family) -> bool
+    ensures { result ≡ families.is_init family }
+{
+    matches!(family, Family::Init)
+}
+
+/// How many variables that name objects a method has without a name.
+pub fn owned_in(owns: bool) -> u8
+    ensures small { result ≤ 1 }
+    ensures number { result ≡ scopes.owned_in owns }
+{
+    if owns { 1 } else { 0 }
+}
+
 /// How many numbers without a name a method of the sign has.
 fn hidden_in(sign: Sign) -> u8
-    ensures { result ≡ scopes.hidden_in sign }
+    ensures small { result ≤ 1 }
+    ensures number { result ≡ scopes.hidden_in sign }
 {
     match sign {
         Sign::Class => 1,

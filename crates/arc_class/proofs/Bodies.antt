@@ -2,11 +2,12 @@
 use Rattle.std.proofs.Common.{◌≡◌, ℕ, Bool, true, false, List, [], ◌∷◌, ◌++◌, Option, Some, None, append_assoc, refl, sym, ap, ◌∙◌}
 use Rattle.std.specs.List.{flat_map}
 use Rattle.arc_ast.specs.Tree as t
-use Rattle.arc_ast.specs.Tree.{TypeTree, ExprTree, ExprTrees, Integer, Text, Paren, Call, Nil, Itself, Name, Unary, Cast, Binary, Conditional, Arrow, Assign, Update, Send, SendSuper, no_exprs, and_expr, VariableTree, StmtTree, StmtTrees, Block, Empty, Simple, Return, Variables, If, IfElse, While, Do, For, Break, Continue, no_stmts, and_stmt, ParameterTree, FunctionTree, HeadTree, MethodTree, InterfaceTree, ImplementationTree, UnitTree}
+use Rattle.arc_ast.specs.Tree.{TypeTree, ExprTree, ExprTrees, Integer, Text, Paren, Call, Nil, Itself, Name, Unary, Cast, Binary, Conditional, Arrow, Assign, Update, Send, SendSuper, no_exprs, and_expr, VariableTree, StmtTree, StmtTrees, Block, Empty, Simple, Return, Variables, If, IfElse, While, Do, For, Break, Continue, no_stmts, and_stmt, ParameterTree, FunctionTree, GlobalTree, FieldTree, HeadTree, MethodTree, InterfaceTree, ImplementationTree, UnitTree}
+use Rattle.arc_ast.specs.declared.tree.Qualifiers.{Qualifiers}
 use Rattle.arc_sites.specs.Finding.{violations_of}
 use Rattle.arc_sites.specs.Sites as sites
 use Rattle.arc_ast.specs.Operators.{sort_of}
-use Rattle.arc_sites.specs.Sites.{Enclosing, InFunction, InMethod, Scope, Need, Anything, AValue, ANumber, AnObject, Like, Initial, Result, Receiver, Argument, Passed, Site, Statement, Variable, operand_need, cast_need, left_need, right_need, value, site, inner, after, outermost, with_variables, with_parameters, arguments, maybe_sites, variable_sites, stmt_sites, all_sites, parameter_sites, body_sites, function_sites, head_sites, method_sites, interface_sites, implementation_sites, unit_sites, named_parameters}
+use Rattle.arc_sites.specs.Sites.{Enclosing, InFunction, InMethod, InInterface, InImplementation, Scope, Need, Anything, AValue, ANumber, AnObject, Like, Initial, Result, Receiver, Argument, Passed, Site, Statement, Variable, operand_need, cast_need, left_need, right_need, value, site, inner, after, outermost, with_variables, with_parameters, arguments, maybe_sites, variable_sites, stmt_sites, all_sites, parameter_sites, body_sites, function_sites, global_sites, field_sites, head_sites, method_sites, interface_sites, implementation_sites, unit_sites, named_parameters}
 use Rattle.arc_sites.specs.Violations.{at_if, violates, earlier_of}
 use Rattle.arc_sites.proofs.Firsts.{earlier_of-comm}
 use Rattle.arc_class.specs.Bodies.{is_bound, unknown_class, violations, broken_bodies}
@@ -65,6 +66,10 @@ module _ (u : UnitTree) where
   -- where nothing is violated at the last sites
   quiet : (A : List Broken) (xs ys : List Site) → found ys ≡ None → first A ≡ found xs → first A ≡ found (xs ++ ys)
   quiet A xs ys n a = a ∙ sym (earlier_of-none (found xs)) ∙ ap (earlier_of (found xs)) (sym n) ∙ sym (found-append xs ys)
+
+  -- the same of the first sites
+  quiet_before : (A : List Broken) (xs ys : List Site) → found xs ≡ None → first A ≡ found ys → first A ≡ found (xs ++ ys)
+  quiet_before A xs ys n a = a ∙ ap (λ f. earlier_of f (found ys)) (sym n) ∙ sym (found-append xs ys)
 
   cast_is : (type : TypeTree) → first (broken_type missing type) ≡ first ((violates 22 (unknown_class u type) ++ []) ++ [])
   cast_is t.Boolean = refl
@@ -133,13 +138,13 @@ module _ (u : UnitTree) where
   three : (A B C : List Broken) (xs ys zs : List Site) → first A ≡ found xs → first B ≡ found ys → first C ≡ found zs → first (A ++ (B ++ C)) ≡ found ((xs ++ ys) ++ zs)
   three A B C xs ys zs a b c = ap first (sym (append_assoc A B C)) ∙ pair (A ++ B) C (xs ++ ys) zs (pair A B xs ys a b) c
 
-  variables_are : (all : List VariableTree) (m : Enclosing) (type : TypeTree) (s : Scope) → first (broken_variables missing (names_of s) all) ≡ found (variable_sites m type s all)
-  variables_are [] m type s = refl
-  variables_are (v ∷ others) m type s =
+  variables_are : (all : List VariableTree) (m : Enclosing) (qualifiers : Qualifiers) (type : TypeTree) (s : Scope) → first (broken_variables missing (names_of s) all) ≡ found (variable_sites m qualifiers type s all)
+  variables_are [] m qualifiers type s = refl
+  variables_are (v ∷ others) m qualifiers type s =
       let inside = sites.declare v.name type s in
       three (broken_if (names_of s v.name) v.at 21) (broken_maybe missing v.initial) (broken_variables missing (and_name v.name (names_of s)) others)
-      (site m s (Variable type v)) (maybe_sites m inside (Initial type) v.initial) (variable_sites m type inside others)
-      (alone 21 (names_of s v.name) v.at) (maybe_is v.initial m inside (Initial type)) (variables_are others m type inside)
+      (site m s (Variable qualifiers type v)) (maybe_sites m inside (Initial type) v.initial) (variable_sites m qualifiers type inside others)
+      (alone 21 (names_of s v.name) v.at) (maybe_is v.initial m inside (Initial type)) (variables_are others m qualifiers type inside)
 
   with_variables_is : (all : List VariableTree) (type : TypeTree) (s : Scope) → names_with (names_of s) all ≡ names_of (with_variables type all s)
   with_variables_is [] type s = refl
@@ -150,7 +155,7 @@ module _ (u : UnitTree) where
   after_is (Empty at) s = refl
   after_is (Simple a) s = refl
   after_is (Return at a) s = refl
-  after_is (Variables at type all) s = with_variables_is all type s
+  after_is (Variables at qualifiers type all) s = with_variables_is all type s
   after_is (If at c a) s = refl
   after_is (IfElse at c a b) s = refl
   after_is (While at c a) s = refl
@@ -165,8 +170,8 @@ module _ (u : UnitTree) where
     stmt_is (Empty at) m s = refl
     stmt_is (Simple a) m s = expr_is a m s Anything
     stmt_is (Return at a) m s = maybe_is a m s Result
-    stmt_is (Variables at type all) m s =
-        pair (broken_type missing type) (broken_variables missing (names_of s) all) (site m s (Statement (Variables at type all))) (variable_sites m type s all) (cast_is type) (variables_are all m type s)
+    stmt_is (Variables at qualifiers type all) m s =
+        pair (broken_type missing type) (broken_variables missing (names_of s) all) (site m s (Statement (Variables at qualifiers type all))) (variable_sites m qualifiers type s all) (cast_is type) (variables_are all m qualifiers type s)
     stmt_is (If at c a) m s =
         pair (broken_expr missing c) (broken_stmt missing (names_of (inner false s)) a) (sites.sites m s AValue c) (stmt_sites m (inner false s) a) (expr_is c m s AValue) (stmt_is a m (inner false s))
     stmt_is (IfElse at c a b) m s =
@@ -228,25 +233,45 @@ module _ (u : UnitTree) where
       pair (broken_inside missing m) (flat_map (broken_inside missing) others) (method_sites class m) (flat_map (method_sites class) others)
       (body_is m.head.parameters (Some m.body) (InMethod class m.head)) (methods_are class others)
 
-  implementations_are : (all : List ImplementationTree) → first (flat_map (broken_methods missing) all) ≡ found (flat_map implementation_sites all)
-  implementations_are [] = refl
-  implementations_are (i ∷ others) =
-      pair (broken_methods missing i) (flat_map (broken_methods missing) others) (implementation_sites i) (flat_map implementation_sites others) (methods_are i.name i.methods) (implementations_are others)
-
   -- nothing that is declared alone breaks these rules
+  fields_quiet : (m : Enclosing) (all : List FieldTree) → found (field_sites m all) ≡ None
+  fields_quiet m [] = refl
+  fields_quiet m (f ∷ others) = fields_quiet m others
+
+  globals_quiet : (all : List GlobalTree) → found (flat_map global_sites all) ≡ None
+  globals_quiet [] = refl
+  globals_quiet (g ∷ others) = globals_quiet others
+
   heads_quiet : (class : List ℕ) (all : List HeadTree) → found (flat_map (head_sites class) all) ≡ None
   heads_quiet class [] = refl
   heads_quiet class (h ∷ others) = heads_quiet class others
 
+  -- some sites after others, where nothing is violated
+  both_quiet : (xs ys : List Site) → found xs ≡ None → found ys ≡ None → found (xs ++ ys) ≡ None
+  both_quiet xs ys n m = found-append xs ys ∙ ap (λ f. earlier_of f (found ys)) n ∙ m
+
+  interface_quiet : (i : InterfaceTree) → found (interface_sites i) ≡ None
+  interface_quiet i = both_quiet (field_sites (InInterface i.name) i.fields) (flat_map (head_sites i.name) i.methods) (fields_quiet (InInterface i.name) i.fields) (heads_quiet i.name i.methods)
+
   interfaces_quiet : (all : List InterfaceTree) → found (flat_map interface_sites all) ≡ None
   interfaces_quiet [] = refl
-  interfaces_quiet (i ∷ others) =
-      found-append (interface_sites i) (flat_map interface_sites others) ∙ ap (λ f. earlier_of f (found (flat_map interface_sites others))) (heads_quiet i.name i.methods) ∙ interfaces_quiet others
+  interfaces_quiet (i ∷ others) = both_quiet (interface_sites i) (flat_map interface_sites others) (interface_quiet i) (interfaces_quiet others)
+
+  implementation_is : (i : ImplementationTree) → first (broken_methods missing i) ≡ found (implementation_sites i)
+  implementation_is i =
+      quiet_before (broken_methods missing i) (field_sites (InImplementation i.name) i.fields) (flat_map (method_sites i.name) i.methods) (fields_quiet (InImplementation i.name) i.fields) (methods_are i.name i.methods)
+
+  implementations_are : (all : List ImplementationTree) → first (flat_map (broken_methods missing) all) ≡ found (flat_map implementation_sites all)
+  implementations_are [] = refl
+  implementations_are (i ∷ others) =
+      pair (broken_methods missing i) (flat_map (broken_methods missing) others) (implementation_sites i) (flat_map implementation_sites others) (implementation_is i) (implementations_are others)
 
   pub bodies_are : first (broken_walked missing u) ≡ first (broken_bodies u)
   bodies_are =
-      let rest = flat_map interface_sites u.interfaces ++ flat_map implementation_sites u.implementations in
-      pair (flat_map (broken_function missing) u.functions) (flat_map (broken_methods missing) u.implementations) (flat_map function_sites u.functions) rest (functions_are u.functions)
-      (implementations_are u.implementations
-      ∙ ap (λ f. earlier_of f (found (flat_map implementation_sites u.implementations))) (sym (interfaces_quiet u.interfaces))
-      ∙ sym (found-append (flat_map interface_sites u.interfaces) (flat_map implementation_sites u.implementations)))
+      let globals = flat_map global_sites u.globals in
+      let interfaces = flat_map interface_sites u.interfaces in
+      let implementations = flat_map implementation_sites u.implementations in
+      let inside = flat_map (broken_methods missing) u.implementations in
+      pair (flat_map (broken_function missing) u.functions) inside (flat_map function_sites u.functions) (globals ++ (interfaces ++ implementations)) (functions_are u.functions)
+      (quiet_before inside globals (interfaces ++ implementations) (globals_quiet u.globals)
+      (quiet_before inside interfaces implementations (interfaces_quiet u.interfaces) (implementations_are u.implementations)))

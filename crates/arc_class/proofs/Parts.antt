@@ -6,20 +6,23 @@ use Rattle.std.proofs.Math.Path.{fun_ext}
 use Rattle.std.specs.BTreeMap.{BTreeMap}
 use Rattle.std.specs.Borrow.{Bor}
 use Rattle.std.specs.Str.{bytes_eq}
-use Rattle.arc_ast.specs.declared.tree.Kind.{Kind}
 use Rattle.arc_ast.specs.declared.tree.MethodHead.{MethodHead}
 use Rattle.arc_ast.specs.declared.tree.Sign.{Sign}
-use Rattle.arc_ast.specs.Tree.{MethodTree, FieldTree, InterfaceTree, ImplementationTree, UnitTree, head_tree}
+use Rattle.arc_ast.specs.Tree.{HeadTree, MethodTree, FieldTree, InterfaceTree, ImplementationTree, UnitTree, head_tree}
 use Rattle.arc_spec.specs.declared.class.Method.{Method}
 use Rattle.arc_spec.specs.Classes.{Class}
 use Rattle.arc_class.specs.declared.heads.Heads.{Heads}
 use Rattle.arc_class.specs.declared.sort_counts.SortCounts.{SortCounts}
-use Rattle.arc_class.specs.Classes.{first_head, heads, result_of, defined_by, class_number}
+use Rattle.arc_class.specs.declared.table.MethodResult.{MethodResult}
+use Rattle.arc_class.specs.declared.table.Place.{Place}
+use Rattle.arc_class.specs.Classes.{first_head, heads, result_of, own_result, defined_by, class_number}
 use Rattle.arc_class.specs.Entries.{EntryTree, entry_tree, root_entry, class_entry}
 use Rattle.arc_class.specs.Fields.{fields_by, implemented_before}
 use Rattle.arc_class.specs.Kept.{head_in}
 use Rattle.arc_class.specs.Running.{methods_from, dealloc_from, implemented, implementation_of, class_with}
+use Rattle.arc_class.specs.Lookups.{class_number_in, given_in, given_at}
 use Rattle.arc_class.specs.Table.{at_name, head_at, result_at}
+use Rattle.arc_class.proofs.Typed.{all_given_same}
 
 -- one more is made
 pub push_turn : {X : Type 0} (old new : List X) (x y : X) (rest whole : List X) → new ≡ old ++ x ∷ [] → x ≡ y → whole ≡ old ++ (y ∷ rest) → whole ≡ new ++ rest
@@ -90,18 +93,33 @@ result_kept methods sign selector = go (head_at methods sign selector)
     go None = refl
     go (Some h) = refl
 
-abbrev entry_of : Option ℕ → (Sign → List ℕ → Option Kind) → EntryTree
+pub given_kept : (names : BTreeMap (Bor (List ℕ)) Place) (methods : Heads) (sign : Sign) (selector : List ℕ) → option_map (given_in names) (head_in methods sign selector) ≡ given_at names methods sign selector
+given_kept names methods sign selector = go (head_at methods sign selector)
+  where
+    go : (o : Option (Bor MethodHead)) → option_map (given_in names) (option_map (λ h. head_tree h.now) o) ≡ option_map (λ h. given_in names (head_tree h.now)) o
+    go None = refl
+    go (Some h) = refl
+
+abbrev entry_of : Option ℕ → (Sign → List ℕ → Option MethodResult) → EntryTree
 entry_of superclass results = record { superclass = superclass; results = results }
 
-pub entry_is : (u : UnitTree) (i : InterfaceTree) (superclass : Option ℕ) (methods : Heads) → superclass ≡ class_number u.interfaces i.superclass
-    → ((sign : Sign) (selector : List ℕ) → head_in methods sign selector ≡ first_head sign selector (i.methods ++ heads (defined_by u.implementations i.name))) → entry_tree (record { superclass = superclass; methods = methods }) ≡ class_entry u i
-entry_is u i superclass methods e h =
-    ap (λ s. entry_of s (result_at methods)) e
-    ∙ ap (entry_of (class_number u.interfaces i.superclass)) (fun_ext (λ sign. fun_ext (λ selector. sym (result_kept methods sign selector) ∙ ap (option_map result_of) (h sign selector))))
+-- what is known of a class, where names have the numbers of its source
+pub entry_is : (u : UnitTree) (i : InterfaceTree) (names : BTreeMap (Bor (List ℕ)) Place) (superclass : Option ℕ) (methods : Heads) → superclass ≡ class_number u.interfaces i.superclass
+    → ((sought : List ℕ) → class_number_in names sought ≡ class_number u.interfaces sought)
+    → ((sign : Sign) (selector : List ℕ) → head_in methods sign selector ≡ first_head sign selector (i.methods ++ heads (defined_by u.implementations i.name)))
+    → entry_tree names (record { superclass = superclass; methods = methods }) ≡ class_entry u i
+entry_is u i names superclass methods e same h =
+    ap (λ s. entry_of s (given_at names methods)) e
+    ∙ ap (entry_of (class_number u.interfaces i.superclass)) (fun_ext (λ sign. fun_ext (λ selector. given sign selector)))
+  where
+    given : (sign : Sign) (selector : List ℕ) → given_at names methods sign selector ≡ own_result u sign selector i
+    given sign selector =
+        sym (given_kept names methods sign selector) ∙ ap (option_map (given_in names)) (h sign selector)
+        ∙ ap (λ (f : HeadTree → MethodResult). option_map f (first_head sign selector (i.methods ++ heads (defined_by u.implementations i.name)))) (all_given_same names u.interfaces same)
 
 -- the root has no methods of its own
-pub root_is : (methods : Heads) → ((sign : Sign) (selector : List ℕ) → head_at methods sign selector ≡ None) → entry_tree (record { superclass = None; methods = methods }) ≡ root_entry
-root_is methods h = ap (entry_of None) (fun_ext (λ sign. fun_ext (λ selector. ap (option_map (λ h. result_of (head_tree h.now))) (h sign selector))))
+pub root_is : (names : BTreeMap (Bor (List ℕ)) Place) (methods : Heads) → ((sign : Sign) (selector : List ℕ) → head_at methods sign selector ≡ None) → entry_tree names (record { superclass = None; methods = methods }) ≡ root_entry
+root_is names methods h = ap (entry_of None) (fun_ext (λ sign. fun_ext (λ selector. ap (option_map (λ h. given_in names (head_tree h.now))) (h sign selector))))
 
 abbrev class_made : Option ℕ → List Method → Option ℕ → SortCounts → Class
 class_made superclass methods dealloc fields = record { superclass = superclass; methods = methods; dealloc = dealloc; fields = fields.numbers; strong_fields = fields.objects }

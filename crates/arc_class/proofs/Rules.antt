@@ -14,13 +14,13 @@ use Rattle.arc_ast.specs.declared.tree.Method.{Method}
 use Rattle.arc_ast.specs.declared.tree.Field.{Field}
 use Rattle.arc_ast.specs.declared.tree.Parameter.{Parameter}
 use Rattle.arc_ast.specs.declared.tree.Sign.{Sign}
-use Rattle.arc_ast.specs.Tree.{FunctionTree, GlobalTree, HeadTree, FieldTree, InterfaceTree, ImplementationTree, UnitTree, head_tree, method_trees, field_trees, interface_tree, interface_trees, implementation_tree, implementation_trees, function_tree, function_trees, global_tree, global_trees, head_trees, parameter_trees, type_tree}
+use Rattle.arc_ast.specs.Tree.{FunctionTree, GlobalTree, HeadTree, FieldTree, InterfaceTree, ImplementationTree, UnitTree, head_tree, method_trees, field_trees, interface_tree, interface_trees, implementation_tree, implementation_trees, function_tree, function_trees, global_tree, global_trees, head_trees, parameter_trees, type_tree, result_tree}
 use Rattle.arc_class.specs.declared.kept.Implemented.{Implemented}
 use Rattle.arc_class.specs.declared.table.Place.{Place}
 use Rattle.arc_class.specs.Walk.{and_name}
 use Rattle.arc_class.specs.Broken.{broken_if, Broken, first, earlier_of}
-use Rattle.arc_class.specs.ClassRules.{broken_head, broken_method, broken_methods, broken_field, broken_fields, field_place, broken_interface, broken_interfaces, broken_implementation, broken_implementations, is_implemented, interface_before, class_before, clashes_with, clashing_functions, broken_global, broken_globals, broken_signatures}
-use Rattle.arc_class.specs.Bodies.{broken_type, broken_parameter_types, broken_field_types}
+use Rattle.arc_class.specs.ClassRules.{broken_head, broken_method, broken_methods, broken_field, broken_fields, field_place, broken_interface, broken_interfaces, broken_implementation, broken_implementations, is_implemented, interface_before, clashes_with, clashing_functions, broken_global, broken_globals, broken_signatures}
+use Rattle.arc_class.specs.Bodies.{broken_type, broken_result_type, broken_parameter_types, broken_field_types}
 use Rattle.arc_sites.specs.Sites.{named_parameters}
 use Rattle.arc_class.specs.Classes.{heads, first_head, interface_number, class_number, is_root, or_else}
 use Rattle.arc_class.specs.Kept.{place_before, places, implemented_tree}
@@ -152,10 +152,10 @@ field_types_turn u xs k x so_far one now whole l e o n w =
     (w ∙ ap (λ us. earlier_of so_far (first (broken_field_types u (field_trees us)))) (drop_turn xs k x l e))
 
 pub signatures_turn : (u : UnitTree) (xs : List Function) (k : ℕ) (x : Function) (so_far one now whole : Option Broken) → k < length xs → x ≡ get_or xs k x
-    → one ≡ first (broken_parameter_types u (named_parameters (function_tree x).parameters)) → now ≡ earlier_of so_far one
+    → one ≡ first (broken_result_type u (result_tree x.result) ++ broken_parameter_types u (named_parameters (function_tree x).parameters)) → now ≡ earlier_of so_far one
     → whole ≡ earlier_of so_far (first (broken_signatures u (function_trees (drop k xs)))) → whole ≡ earlier_of now (first (broken_signatures u (function_trees (drop (k + 1) xs))))
 signatures_turn u xs k x so_far one now whole l e o n w =
-    first_turn (broken_parameter_types u (named_parameters (function_tree x).parameters)) (broken_signatures u (function_trees (drop (k + 1) xs))) so_far one now whole o n
+    first_turn (broken_result_type u (result_tree x.result) ++ broken_parameter_types u (named_parameters (function_tree x).parameters)) (broken_signatures u (function_trees (drop (k + 1) xs))) so_far one now whole o n
     (w ∙ ap (λ us. earlier_of so_far (first (broken_signatures u (function_trees us)))) (drop_turn xs k x l e))
 
 -- ---- methods

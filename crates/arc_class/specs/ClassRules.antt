@@ -11,7 +11,7 @@ use Rattle.arc_ast.specs.declared.tree.Sign.TheVariants as signs
 use Rattle.arc_ast.specs.Tree.{FunctionTree, GlobalTree, HeadTree, MethodTree, FieldTree, InterfaceTree, ImplementationTree, UnitTree}
 use Rattle.arc_sites.specs.Sites.{named_parameters}
 use Rattle.arc_spec.specs.Classes.{same_sign, ancestry}
-use Rattle.arc_class.specs.Bodies.{broken_bodies, broken_type, broken_parameter_types, broken_field_types}
+use Rattle.arc_class.specs.Bodies.{broken_bodies, broken_type, broken_result_type, broken_parameter_types, broken_field_types}
 use Rattle.arc_class.specs.Broken.{Broken, broken_if}
 use Rattle.arc_class.specs.Classes.{is_root, interface_number, class_number, superclasses, first_head, result_of, built_in_result, or_else, declared, defined}
 use Rattle.arc_class.specs.Fields.{own_fields, fields_declared, fields}
@@ -64,9 +64,9 @@ is_hook_of sign selector = if same_sign sign signs.Class then is_class_hook sele
 abbrev pub is_hook : HeadTree → Bool
 is_hook h = is_hook_of h.sign h.selector || bytes_eq h.selector (codes "class")
 
--- 22 UnknownClass too, in the types of its parameters
+-- 22 UnknownClass too, in the types of its result and of its parameters
 abbrev pub broken_head : UnitTree → HeadTree → List Broken
-broken_head u h = broken_if (changes_kind u h) h.at 24 ++ (broken_if (is_hook h) h.at 28 ++ broken_parameter_types u h.parameters)
+broken_head u h = broken_if (changes_kind u h) h.at 24 ++ (broken_if (is_hook h) h.at 28 ++ (broken_result_type u h.result ++ broken_parameter_types u h.parameters))
 
 -- 21 Duplicate: a second method of one implementation of a sign with a selector, at its `+` or `-`; `before` are those before it (this project's own choice)
 abbrev pub broken_method : UnitTree → (before : List HeadTree) → HeadTree → List Broken
@@ -186,9 +186,9 @@ broken_global u g = broken_if (is_again u g) g.at 21 ++ broken_type u g.type
 abbrev pub broken_globals : UnitTree → List GlobalTree → List Broken
 broken_globals u = flat_map (broken_global u)
 
--- 22 UnknownClass: in the types of the parameters of a function that is declared or defined
+-- 22 UnknownClass: in the types of the result and of the parameters of a function that is declared or defined
 abbrev pub broken_signatures : UnitTree → List FunctionTree → List Broken
-broken_signatures u = flat_map (λ f. broken_parameter_types u (named_parameters f.parameters))
+broken_signatures u = flat_map (λ f. broken_result_type u f.result ++ broken_parameter_types u (named_parameters f.parameters))
 
 -- all that is wrong with what a source declares, and inside its functions and methods with names of variables, with types and with calls
 abbrev pub broken : UnitTree → List Broken

@@ -1,5 +1,5 @@
 -- The classes of a source, their methods and their selectors.
-use Rattle.std.specs.Prelude.{ℕ, zero, suc, ◌+◌, Bool, ◌&&◌, ◌||◌, nat_lt, List, [], ◌∷◌, ◌++◌, length, map, fold, flat_map, Option, Some, None, option_map, option_and_then, slice_get, codes, if◌then◌else◌}
+use Rattle.std.specs.Prelude.{ℕ, zero, suc, ◌+◌, Bool, true, false, ◌&&◌, ◌||◌, nat_lt, List, [], ◌∷◌, ◌++◌, length, map, fold, flat_map, Option, Some, None, option_map, option_and_then, slice_get, codes, if◌then◌else◌}
 use Rattle.std.specs.List.{find, list_any}
 use Rattle.std.specs.Option.{option_map_or}
 use Rattle.std.specs.Str.{bytes_eq}
@@ -8,11 +8,13 @@ use Rattle.arc_ast.specs.declared.tree.Kind.TheVariants as k
 use Rattle.arc_ast.specs.declared.tree.Sign.{Sign}
 use Rattle.arc_ast.specs.declared.tree.Sign.TheVariants as signs
 use Rattle.arc_ast.specs.Types.{result_kind}
-use Rattle.arc_ast.specs.Tree.{TypeTree, Object, FunctionTree, HeadTree, MethodTree, InterfaceTree, ImplementationTree, UnitTree}
+use Rattle.arc_ast.specs.Tree.{TypeTree, Object, Id, ResultTree, Value, Related, FunctionTree, HeadTree, MethodTree, InterfaceTree, ImplementationTree, UnitTree}
 use Rattle.arc_class.specs.declared.table.ClassId.{ClassId}
+use Rattle.arc_class.specs.declared.table.MethodResult.{MethodResult}
+use Rattle.arc_spec.specs.Families.{method_family, gives_related}
 use Rattle.arc_spec.specs.Classes.{same_sign, ancestry, first_that_has}
 pub use Rattle.arc_spec.specs.Classes.{or_else}
-use Rattle.arc_class.specs.Names.{has_body, parameter_kinds}
+use Rattle.arc_class.specs.Names.{has_body, first_named, parameter_kinds}
 
 -- the one root class, which is built in (this project's own choice)
 abbrev pub is_root : List ℕ → Bool
@@ -63,9 +65,32 @@ first_head sign selector = find (is_method sign selector)
 abbrev pub result_of : HeadTree → Kind
 result_of h = result_kind h.result
 
+-- the class of a result whose type names one
+abbrev pub result_class : List InterfaceTree → ResultTree → Option ClassId
+result_class interfaces (Value type) = type_class interfaces type
+result_class interfaces _ = None
+
+-- Whether a method gives an object of the class that gets the message: where its type is `instancetype`, and by its family where that is `id` (ARC, "Related result
+-- types").
+abbrev pub is_related : HeadTree → Bool
+is_related h = related h.result
+  where
+    related : ResultTree → Bool
+    related Related = true
+    related (Value Id) = gives_related h.sign (method_family h.sign h.selector k.Object)
+    related _ = false
+
+-- the class of what the functions of a name give, as the first one of them says
+abbrev pub class_of_result : UnitTree → List ℕ → Option ClassId
+class_of_result u name = option_and_then (λ f. result_class u.interfaces f.result) (first_named name u.functions)
+
+-- what a method gives: its kind, and its class, if its type names one, and whether it is of the class that gets the message
+abbrev pub given_by : List InterfaceTree → HeadTree → MethodResult
+given_by interfaces h = record { kind = result_of h; class = result_class interfaces h.result; related = is_related h }
+
 -- what a class's own method with a selector gives: one that its interface declares, or else one that its implementation defines
-abbrev pub own_result : UnitTree → Sign → List ℕ → InterfaceTree → Option Kind
-own_result u sign selector i = option_map result_of (first_head sign selector (i.methods ++ heads (defined_by u.implementations i.name)))
+abbrev pub own_result : UnitTree → Sign → List ℕ → InterfaceTree → Option MethodResult
+own_result u sign selector i = option_map (given_by u.interfaces) (first_head sign selector (i.methods ++ heads (defined_by u.implementations i.name)))
 
 -- What the methods of the root give that are built in: two make objects, and `init` gives the object that it was sent to (OPL, "Allocating and Initializing
 -- Objects"); `dealloc` gives nothing.
@@ -82,17 +107,29 @@ counting_result selector =
     else if bytes_eq selector (codes "retainCount") then Some k.Long
     else if bytes_eq selector (codes "release") || bytes_eq selector (codes "dealloc") then Some k.Void else None
 
-abbrev pub result_in : UnitTree → (class : ℕ) → Sign → List ℕ → Option Kind
-result_in u zero sign selector = built_in_result sign selector
+abbrev pub is_object : Kind → Bool
+is_object k.Object = true
+is_object _ = false
+
+-- the objects that methods of the root give are of the class that gets the message
+abbrev pub built_in_given : Sign → List ℕ → Option MethodResult
+built_in_given sign selector = option_map (λ kind. record { kind = kind; class = None; related = is_object kind }) (built_in_result sign selector)
+
+-- those that the messages give which count owners are as of `id`
+abbrev pub counting_given : List ℕ → Option MethodResult
+counting_given selector = option_map (λ kind. record { kind = kind; class = None; related = false }) (counting_result selector)
+
+abbrev pub result_in : UnitTree → (class : ℕ) → Sign → List ℕ → Option MethodResult
+result_in u zero sign selector = built_in_given sign selector
 result_in u (suc n) sign selector = option_and_then (own_result u sign selector) (slice_get u.interfaces n)
 
 -- What the method gives that is known for a message to a class or to its objects: the nearest that the class or a class above it declares or defines (OPL,
 -- "Messages to self and super"), those of the root being built in, and those that count owners as they are always known.
-abbrev pub nearest_result : UnitTree → Option ℕ → Sign → List ℕ → Option Kind
+abbrev pub nearest_result : UnitTree → Option ℕ → Sign → List ℕ → Option MethodResult
 nearest_result u from sign selector = first_that_has (λ class. result_in u class sign selector) (ancestry (superclasses u.interfaces) from)
 
-abbrev pub known_result : UnitTree → Option ℕ → Sign → List ℕ → Option Kind
-known_result u from sign selector = option_and_then (λ class. or_else (counting_result selector) (nearest_result u (Some class) sign selector)) from
+abbrev pub known_result : UnitTree → Option ℕ → Sign → List ℕ → Option MethodResult
+known_result u from sign selector = option_and_then (λ class. or_else (counting_given selector) (nearest_result u (Some class) sign selector)) from
 
 -- the methods of all interfaces, and those of all implementations
 abbrev pub declared : List InterfaceTree → List HeadTree

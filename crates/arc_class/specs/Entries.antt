@@ -1,6 +1,5 @@
 -- What the entries of a table say of classes.
 use Rattle.std.specs.Prelude.{ℕ, suc, List, [], ◌∷◌, ◌++◌, slice_get, Option, Some, None}
-use Rattle.arc_ast.specs.declared.tree.Kind.{Kind}
 use Rattle.arc_ast.specs.declared.tree.Sign.{Sign}
 use Rattle.arc_ast.specs.Tree.{FieldTree, InterfaceTree, UnitTree, field_trees}
 use Rattle.arc_spec.specs.Classes.{ancestry}
@@ -13,15 +12,19 @@ use Rattle.arc_class.specs.Classes.{class_number, own_result, superclasses}
 use Rattle.arc_class.specs.declared.sort_counts.SortCounts.{SortCounts}
 use Rattle.arc_class.specs.Fields.{numbered, kinds_of_fields, written_kinds, fields_declared, inherited_by, own_fields}
 use Rattle.arc_class.specs.Sorts.{none_counted, with_all, counts}
-use Rattle.arc_class.specs.Lookups.{at_name, result_at, least_among}
+use Rattle.std.specs.BTreeMap.{BTreeMap}
+use Rattle.std.specs.Borrow.{Bor}
+use Rattle.arc_class.specs.declared.table.MethodResult.{MethodResult}
+use Rattle.arc_class.specs.declared.table.Place.{Place}
+use Rattle.arc_class.specs.Lookups.{at_name, given_at, least_among}
 
 -- a class's superclass, and what its own methods give
 pub record EntryTree : Type 0 where
   pub superclass : Option ℕ
-  pub results : Sign → List ℕ → Option Kind
+  pub results : Sign → List ℕ → Option MethodResult
 
-abbrev pub entry_tree : Entry → EntryTree
-entry_tree e = record { superclass = e.superclass; results = result_at e.methods }
+abbrev pub entry_tree : BTreeMap (Bor (List ℕ)) Place → Entry → EntryTree
+entry_tree names e = record { superclass = e.superclass; results = given_at names e.methods }
 
 -- the root has none but those that are built in
 abbrev pub root_entry : EntryTree

@@ -10,7 +10,7 @@ use Rattle.arc_ast.specs.declared.tree.Kind.{Kind}
 use Rattle.arc_ast.specs.declared.tree.MethodHead.{MethodHead}
 use Rattle.arc_ast.specs.declared.tree.Sign.{Sign}
 use Rattle.arc_ast.specs.declared.tree.Sign.TheVariants as signs
-use Rattle.arc_ast.specs.Tree.{TypeTree, Object, head_tree}
+use Rattle.arc_ast.specs.Tree.{TypeTree, Object, ResultTree, Value, HeadTree, head_tree}
 use Rattle.arc_spec.specs.Classes.{Class, superclasses, ancestry, first_that_has, own_dealloc}
 use Rattle.arc_class.specs.declared.fields.ClassFields.{ClassFields}
 use Rattle.arc_class.specs.declared.heads.Heads.{Heads}
@@ -22,7 +22,8 @@ use Rattle.arc_class.specs.declared.table.FoundField.{FoundField}
 use Rattle.arc_class.specs.declared.table.MethodId.{MethodId}
 use Rattle.arc_class.specs.declared.table.Place.{Place}
 use Rattle.arc_class.specs.declared.table.Sel.{Sel}
-use Rattle.arc_class.specs.Classes.{is_root, result_of, built_in_result}
+use Rattle.arc_class.specs.declared.table.MethodResult.{MethodResult}
+use Rattle.arc_class.specs.Classes.{is_root, result_of, is_related, built_in_result, built_in_given}
 use Rattle.arc_class.specs.Fields.{ClassField}
 use Rattle.arc_class.specs.Running.{classes}
 
@@ -49,6 +50,15 @@ abbrev pub type_class_in : BTreeMap (Bor (List ℕ)) Place → TypeTree → Opti
 type_class_in names (Object at name) = option_map (λ n. record { 0 = n }) (class_number_in names name)
 type_class_in names _ = None
 
+-- the class of a result whose type names one, by such a map
+abbrev pub result_class_in : BTreeMap (Bor (List ℕ)) Place → ResultTree → Option ClassId
+result_class_in names (Value type) = type_class_in names type
+result_class_in names _ = None
+
+-- what a method gives, by such a map
+abbrev pub given_in : BTreeMap (Bor (List ℕ)) Place → HeadTree → MethodResult
+given_in names h = record { kind = result_of h; class = result_class_in names h.result; related = is_related h }
+
 -- the method of a sign that maps have at a selector
 abbrev pub head_at : Heads → Sign → List ℕ → Option (Bor MethodHead)
 head_at heads signs.Class selector = at_name heads.class_methods selector
@@ -63,6 +73,15 @@ own_result_in class None sign selector = None
 own_result_in zero (Some e) sign selector = built_in_result sign selector
 own_result_in (suc n) (Some e) sign selector = result_at e.methods sign selector
 
+-- the same with the class of an object that it gives
+abbrev pub given_at : BTreeMap (Bor (List ℕ)) Place → Heads → Sign → List ℕ → Option MethodResult
+given_at names heads sign selector = option_map (λ h. given_in names (head_tree h.now)) (head_at heads sign selector)
+
+abbrev pub own_given_in : BTreeMap (Bor (List ℕ)) Place → (class : ℕ) → Option Entry → Sign → List ℕ → Option MethodResult
+own_given_in names class None sign selector = None
+own_given_in names zero (Some e) sign selector = built_in_given sign selector
+own_given_in names (suc n) (Some e) sign selector = given_at names e.methods sign selector
+
 abbrev pub superclass_among : List Entry → ℕ → Option ℕ
 superclass_among entries class = superclass_at (slice_get entries class)
   where
@@ -74,9 +93,9 @@ abbrev pub superclass_of_entry : Entry → Option ℕ
 superclass_of_entry e = e.superclass
 
 -- the nearest that a class and those above it have
-abbrev pub result_among : List Entry → Option ℕ → Sign → List ℕ → Option Kind
-result_among entries from sign selector =
-    first_that_has (λ class. own_result_in class (slice_get entries class) sign selector) (ancestry (map superclass_of_entry entries) from)
+abbrev pub given_among : BTreeMap (Bor (List ℕ)) Place → List Entry → Option ℕ → Sign → List ℕ → Option MethodResult
+given_among names entries from sign selector =
+    first_that_has (λ class. own_given_in names class (slice_get entries class) sign selector) (ancestry (map superclass_of_entry entries) from)
 
 -- the field that a class itself declares, and the nearest of it and those above it, by a table of the fields of each class
 abbrev pub own_field_in : Option ClassFields → List ℕ → Option FoundField

@@ -4,8 +4,8 @@ use Rattle.std.specs.Option.{option_map_or}
 use Rattle.std.specs.Str.{bytes_eq}
 use Rattle.arc_ast.specs.Tree.{HeadTree, MethodTree, InterfaceTree, ImplementationTree, UnitTree}
 use Rattle.arc_spec.specs.declared.class.Method.{Method}
-use Rattle.arc_spec.specs.Classes.{Class}
-use Rattle.arc_class.specs.Classes.{class_number, selectors, number_among, is_dealloc, bodies}
+use Rattle.arc_spec.specs.Classes.{Class, gives_of}
+use Rattle.arc_class.specs.Classes.{class_number, result_of, selectors, number_among, is_dealloc, bodies}
 use Rattle.arc_class.specs.declared.sort_counts.SortCounts.{SortCounts}
 use Rattle.arc_class.specs.Fields.{fields, kinds_of_fields}
 use Rattle.arc_class.specs.Names.{parameter_kinds}
@@ -15,7 +15,7 @@ use Rattle.arc_class.specs.Sorts.{counts}
 abbrev pub method_made : (selectors : List (List ℕ)) → (runs : ℕ) → HeadTree → Method
 method_made selectors runs h =
     let passed = counts (parameter_kinds h.parameters) in
-    record { sign = h.sign; selector = unwrap_or (number_among selectors h.selector) 0; takes = passed.numbers; objects = passed.objects; runs = runs }
+    record { sign = h.sign; selector = unwrap_or (number_among selectors h.selector) 0; takes = passed.numbers; objects = passed.objects; gives = gives_of (result_of h); runs = runs }
 
 -- methods and one more, unless it ends objects
 abbrev pub with_method : (selectors : List (List ℕ)) → (runs : ℕ) → HeadTree → List Method → List Method

@@ -1,6 +1,6 @@
 -- What a table of a source is.
-pub use Rattle.arc_class.specs.Lookups.{number_of_class, number_of_selector, number_of_method, at_name, class_number_in, type_class_in, head_at, result_at, own_result_in, superclass_among, superclass_of_entry, result_among, own_field_in, own_place_in, superclass_of_fields, field_among, place_among, field_tree, list_of, items_at, list_at, list_among, nearest_dealloc, ends_object, built_in_at, names_of, built_in_from}
-use Rattle.std.specs.Prelude.{◌≡◌, ℕ, List, [], position, slice_get, Option, Some, None, if◌then◌else◌}
+pub use Rattle.arc_class.specs.Lookups.{number_of_class, number_of_selector, number_of_method, at_name, class_number_in, type_class_in, head_at, result_class_in, result_at, own_result_in, own_given_in, superclass_among, superclass_of_entry, given_among, own_field_in, own_place_in, superclass_of_fields, field_among, place_among, field_tree, list_of, items_at, list_at, list_among, nearest_dealloc, ends_object, built_in_at, names_of, built_in_from}
+use Rattle.std.specs.Prelude.{◌≡◌, ℕ, List, [], position, slice_get, Option, Some, None, option_and_then, if◌then◌else◌}
 use Rattle.std.specs.Option.{option_map_or}
 use Rattle.std.specs.Str.{bytes_eq}
 use Rattle.std.specs.Borrow.{Bor}
@@ -8,15 +8,19 @@ use Rattle.arc_ast.specs.declared.tree.Kind.{Kind}
 use Rattle.arc_ast.specs.declared.tree.Sign.{Sign}
 use Rattle.arc_ast.specs.declared.tree.Sign.TheVariants as signs
 use Rattle.arc_ast.specs.Tree.{UnitTree}
-use Rattle.arc_spec.specs.Classes.{classes_of, lookup, descends}
+use Rattle.arc_spec.specs.declared.class.Gives.{Gives}
+use Rattle.arc_spec.specs.declared.class.Gives.TheVariants.{Number}
+use Rattle.arc_spec.specs.Classes.{classes_of, gives_of, lookup, descends}
 use Rattle.arc_class.specs.declared.owners.Owners.{Owners}
 use Rattle.arc_class.specs.declared.sort_counts.SortCounts.{SortCounts}
+use Rattle.arc_class.specs.declared.table.ClassId.{ClassId}
 use Rattle.arc_class.specs.declared.table.ClassTable.{ClassTable}
 use Rattle.arc_class.specs.declared.table.Declared.{Declared}
 use Rattle.arc_class.specs.declared.table.FoundField.{FoundField}
+use Rattle.arc_class.specs.declared.table.MethodResult.{MethodResult}
 use Rattle.arc_class.specs.declared.table.Variable.{Variable}
 use Rattle.arc_class.specs.Kept.{function_kept, head_in}
-use Rattle.arc_class.specs.Classes.{kinds_passed, and_name, class_number, superclass, or_else, built_in_result, counting_result, known_result, any_result, selector_number, function_count}
+use Rattle.arc_class.specs.Classes.{kinds_passed, and_name, class_number, superclass, or_else, built_in_result, result_of, counting_result, counting_given, known_result, any_result, class_of_result, selector_number, function_count}
 use Rattle.arc_class.specs.Fields.{ClassField, fields, known_field}
 use Rattle.arc_class.specs.Globals.{known_global}
 use Rattle.arc_class.specs.Names.{known, parameter_kinds, listed_kinds, kinds_of_parameters, number_of, is_main}
@@ -48,12 +52,16 @@ selector_in table name = position (λ key. bytes_eq name key.now) table.selector
 abbrev pub superclass_in : ClassTable → ℕ → Option ℕ
 superclass_in table = superclass_among table.entries.items
 
-abbrev pub nearest_result_in : ClassTable → (class : ℕ) → Sign → List ℕ → Option Kind
-nearest_result_in table class = result_among table.entries.items (Some class)
+-- the class of what the functions of a name give, if its type names one
+abbrev pub function_class_in : ClassTable → List ℕ → Option ClassId
+function_class_in table name = option_and_then (λ f. result_class_in table.names f.result) (function_kept table.first_functions name)
 
-abbrev pub result_in_table : ClassTable → Option ℕ → Sign → List ℕ → Option Kind
+abbrev pub nearest_result_in : ClassTable → (class : ℕ) → Sign → List ℕ → Option MethodResult
+nearest_result_in table class = given_among table.names table.entries.items (Some class)
+
+abbrev pub result_in_table : ClassTable → Option ℕ → Sign → List ℕ → Option MethodResult
 result_in_table table None sign selector = None
-result_in_table table (Some class) sign selector = or_else (counting_result selector) (nearest_result_in table class sign selector)
+result_in_table table (Some class) sign selector = or_else (counting_given selector) (nearest_result_in table class sign selector)
 
 -- which class has the nearest method of a sign, by a table
 abbrev pub owners_in : ClassTable → Sign → Owners
@@ -81,13 +89,19 @@ selector_name table number = name_at (slice_get table.selectors.keys number)
 
 -- The method that a message with a selector finds, from a class up to the root, and there a built-in one (OPL, "How Messaging Works"). A `dealloc` is found as
 -- the others are.
-abbrev pub look_up_passing : ClassTable → (class : ℕ) → Sign → (selector : ℕ) → SortCounts → Option ℕ
-look_up_passing table class sign selector passed = lookup (classes_of table.classes.items) (Some class) sign selector passed.numbers passed.objects
+abbrev pub look_up_passing : ClassTable → (class : ℕ) → Sign → (selector : ℕ) → SortCounts → Gives → Option ℕ
+look_up_passing table class sign selector passed wanted =
+    lookup (classes_of table.classes.items) (Some class) sign selector passed.numbers passed.objects wanted
+
+-- what the methods of a sign with a selector give
+abbrev pub gives_in : ClassTable → Sign → List ℕ → Gives
+gives_in table sign selector =
+    option_map_or (λ h. gives_of (result_of h)) (or_else (head_in table.declared sign selector) (head_in table.defined sign selector)) Number
 
 abbrev pub defined_in : ClassTable → (class : ℕ) → Sign → (selector : ℕ) → Option ℕ
 defined_in table class sign selector =
     if ends_object sign (selector_name table selector) then nearest_dealloc (classes_of table.classes.items) (Some class)
-    else look_up_passing table class sign selector (counts (passed_in table sign (selector_name table selector)))
+    else look_up_passing table class sign selector (counts (passed_in table sign (selector_name table selector))) (gives_in table sign (selector_name table selector))
 
 abbrev pub built_in_method : ClassTable → (class : ℕ) → Sign → (selector : ℕ) → Option ℕ
 built_in_method table class sign selector =
@@ -132,6 +146,7 @@ pub record IsTableOf (u : UnitTree) (table : ClassTable) : Type 0 where
   pub globals : (name : List ℕ) → global_in table name ≡ known_global u.interfaces u.globals name
   pub parameters : (name : List ℕ) → parameters_in table name ≡ kinds_of_parameters u.functions name
   pub passed : (sign : Sign) (selector : List ℕ) → passed_in table sign selector ≡ kinds_passed u sign selector
+  pub function_classes : (name : List ℕ) → function_class_in table name ≡ class_of_result u name
   pub main : number_of is_main u.functions ≡ Some table.main
   pub numbers : (name : List ℕ) → class_in table name ≡ class_number u.interfaces name
   pub superclasses : (class : ℕ) → superclass_in table class ≡ superclass u.interfaces class

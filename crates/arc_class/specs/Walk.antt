@@ -74,7 +74,7 @@ names_with names (v ∷ others) = names_with (and_name v.name names) others
 
 -- the names of a scope after a statement
 abbrev pub names_after : (List ℕ → Bool) → StmtTree → List ℕ → Bool
-names_after names (Variables at type all) = names_with names all
+names_after names (Variables at qualifiers type all) = names_with names all
 names_after names _ = names
 
 -- All that is wrong with a statement in a scope with these names. A block is a scope of its own, and so are what an `if` or a loop runs (C99, section 6.8) and a
@@ -85,7 +85,7 @@ abbrev mutual
   broken_stmt missing names (Empty at) = []
   broken_stmt missing names (Simple a) = broken_expr missing a
   broken_stmt missing names (Return at a) = broken_maybe missing a
-  broken_stmt missing names (Variables at type all) = broken_type missing type ++ broken_variables missing names all
+  broken_stmt missing names (Variables at qualifiers type all) = broken_type missing type ++ broken_variables missing names all
   broken_stmt missing names (If at c a) = broken_expr missing c ++ broken_stmt missing no_name a
   broken_stmt missing names (IfElse at c a b) = broken_expr missing c ++ (broken_stmt missing no_name a ++ broken_stmt missing no_name b)
   broken_stmt missing names (While at c a) = broken_expr missing c ++ broken_stmt missing no_name a

@@ -11,6 +11,9 @@ ghost use Rattle.arc_class.specs.Fields.{all_fields_from};
 ghost use Rattle.arc_class.specs.Kept.{head_in, Knows};
 ghost use Rattle.arc_class.specs.Running as running;
 ghost use Rattle.arc_class.specs.Running.{method_made, with_method, methods_from, dealloc_from, class_with};
+ghost use Rattle.std.specs.BTreeMap.{BTreeMap};
+ghost use Rattle.std.specs.Borrow.{Bor};
+ghost use Rattle.arc_class.specs.declared.table.Place.{Place};
 ghost use Rattle.arc_class.specs.Table.{names_of, list_of, built_in_from};
 
 use crate::fields::{ClassFields, counted_among};
@@ -22,7 +25,7 @@ use crate::table::{Entry, Field, at_name, class_number};
 use arc_ast::tree::{Implementation, Interface, Method, MethodHead, Sign, TranslationUnit};
 use arc_fault::class::ClassFault;
 use arc_spec::class;
-use arc_spec::class::Class;
+use arc_spec::class::{Class, gives_of};
 use indexmap::IndexSet;
 use std::alloc::{AllocError, Global};
 
@@ -154,6 +157,7 @@ fn method_of<'a>(selectors: &Selectors<'a>, runs: usize, head: &'a MethodHead) -
         selector: selector_number(selectors, &head.selector),
         takes: passed.numbers,
         objects: passed.objects,
+        gives: gives_of(head.result.kind()),
         runs,
     }
 }
@@ -219,7 +223,7 @@ fn dealloc_from(first: usize, methods: &[Method]) -> Result<Option<usize>, Class
 
 /// What a table knows of the root.
 fn root_entry<'a>(alloc: Global) -> Entry<'a>
-    ensures { entry_tree result ≡ root_entry }
+    ensures { (names : BTreeMap (Bor (List ℕ)) Place) → entry_tree names result ≡ root_entry }
 {
     Entry {
         superclass: None,
@@ -254,7 +258,7 @@ impl<'a> Source<'a> {
     /// What a table knows of the interface's class.
     fn entry_of(&self, alloc: Global, interface: &'a Interface) -> Result<Entry<'a>, AllocError>
         requires { Knows (unit_tree self.now.unit.now) self.now }
-        ensures { IfOk result (λ entry. entry_tree entry ≡ class_entry (unit_tree self.now.unit.now) (interface_tree interface.now)) }
+        ensures { IfOk result (λ entry. entry_tree self.now.names entry ≡ class_entry (unit_tree self.now.unit.now) (interface_tree interface.now)) }
     {
         let superclass = class_number(&self.names, &interface.superclass);
         let methods = self.own_methods(alloc, interface)?;
@@ -267,7 +271,7 @@ impl<'a> Source<'a> {
     /// What a table knows of each class.
     pub fn entries(&self, alloc: Global) -> Result<Vec<Entry<'a>>, AllocError>
         requires { Knows (unit_tree self.now.unit.now) self.now }
-        ensures { IfOk result (λ entries. map entry_tree entries.items ≡ root_entry ∷ map (class_entry (unit_tree self.now.unit.now)) (unit_tree self.now.unit.now).interfaces) }
+        ensures { IfOk result (λ entries. map (entry_tree self.now.names) entries.items ≡ root_entry ∷ map (class_entry (unit_tree self.now.unit.now)) (unit_tree self.now.unit.now).interfaces) }
     {
         let mut entries = Vec::new(alloc);
         entries.push(root_entry(alloc))?;
@@ -369,7 +373,7 @@ impl<'a> Parts<'a> {
         requires knows { Knows (unit_tree source.now.unit.now) source.now }
         requires fields { map fields_tree named_fields.now ≡ all_class_fields (unit_tree source.now.unit.now) }
         ensures selectors { IfOk result (λ parts. names_of parts.selectors.keys ≡ selectors (unit_tree source.now.unit.now)) }
-        ensures entries { IfOk result (λ parts. map entry_tree parts.entries.items ≡ root_entry ∷ map (class_entry (unit_tree source.now.unit.now)) (unit_tree source.now.unit.now).interfaces) }
+        ensures entries { IfOk result (λ parts. map (entry_tree source.now.names) parts.entries.items ≡ root_entry ∷ map (class_entry (unit_tree source.now.unit.now)) (unit_tree source.now.unit.now).interfaces) }
         ensures fields { IfOk result (λ parts. map list_of parts.fields.items ≡ all_fields_from (unit_tree source.now.unit.now) 0 (suc (length (unit_tree source.now.unit.now).interfaces))) }
         ensures classes { IfOk result (λ parts. classes_of parts.classes.items ≡ running.classes (unit_tree source.now.unit.now)) }
         ensures built_in { IfOk result (λ parts. parts.built_in ≡ built_in_from source.now.function_count) }

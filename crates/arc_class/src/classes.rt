@@ -19,7 +19,7 @@ use crate::kept::Source;
 use crate::look::{is_library, listed, same_parameters};
 use crate::owners::Owners;
 use crate::table::{Place, Variable, at_name, class_number, is_root};
-use crate::types::{field_types_fault, missing_class, parameter_types_fault};
+use crate::types::{field_types_fault, missing_class, parameter_types_fault, result_type_fault};
 use crate::walk::{Scope, stands};
 use arc_ast::tree;
 use arc_ast::tree::{Function, Implementation, Interface};
@@ -151,8 +151,9 @@ impl<'a> Source<'a> {
     {
         let mut fault = None;
         for function in &self.unit.functions {
-            let own = parameter_types_fault(self, listed(&function.parameters));
-            fault = earlier(fault, own);
+            let given = result_type_fault(self, &function.result);
+            let passed = parameter_types_fault(self, listed(&function.parameters));
+            fault = earlier(fault, earlier(given, passed));
         }
         fault
     }

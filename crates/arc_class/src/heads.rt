@@ -2,12 +2,13 @@
 ghost use Rattle.std.specs.Prelude.{◌≡◌, ℕ, List, [], ◌∷◌, None, OnOk};
 ghost use Rattle.arc_ast.specs.declared.tree.Sign.{Sign};
 ghost use Rattle.arc_ast.specs.Tree.{head_tree, head_trees, method_trees};
-ghost use Rattle.arc_class.specs.Classes.{heads, first_head, or_else};
+ghost use Rattle.arc_class.specs.Classes.{heads, first_head, is_related, or_else};
 ghost use Rattle.arc_class.specs.Kept.{one_at, head_in};
 ghost use Rattle.arc_class.specs.Table.{at_name, head_at};
 
 use crate::table::at_name;
-use arc_ast::tree::{Method, MethodHead, Sign};
+use arc_ast::tree::{Kind, Method, MethodHead, ResultType, Sign, TypeName};
+use arc_spec::family::{gives_related, method_family};
 use std::alloc::{AllocError, Global};
 use std::collections::BTreeMap;
 
@@ -45,7 +46,7 @@ impl<'a> Heads<'a> {
     }
 
     /// The method with the selector.
-    pub fn get(&self, sign: Sign, selector: &'a [u8]) -> Option<&'a MethodHead>
+    pub fn get(&self, sign: Sign, selector: &[u8]) -> Option<&'a MethodHead>
         ensures { result ≡ head_at self.now sign selector.now }
     {
         match sign {
@@ -95,5 +96,21 @@ impl<'a> Heads<'a> {
             self.keep(&method.head)?;
         }
         Ok(())
+    }
+}
+
+/// Whether a method gives an object of the class that gets the message.
+pub fn is_related(head: &MethodHead) -> bool
+    ensures { result ≡ is_related (head_tree head.now) }
+{
+    match &head.result {
+        ResultType::Related => true,
+        ResultType::Value(TypeName::Id) => {
+            gives_related(
+                head.sign,
+                method_family(head.sign, &head.selector, Kind::Object),
+            )
+        }
+        _ => false,
     }
 }

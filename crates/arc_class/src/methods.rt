@@ -14,7 +14,7 @@ use crate::heads::Heads;
 use crate::kept::Source;
 use crate::look::{same_kind, same_parameters};
 use crate::root::built_in_result;
-use crate::types::parameter_types_fault;
+use crate::types::{parameter_types_fault, result_type_fault};
 use arc_ast::tree::{Kind, Method, MethodHead, Sign};
 use arc_fault::class::ClassFault;
 use arc_sites::violation::earlier;
@@ -129,8 +129,9 @@ impl<'a> Source<'a> {
     {
         let kind = fault_if(self.changes_kind(head), ClassFault::SelectorKinds(head.at));
         let hook = fault_if(is_hook(head), ClassFault::HookMethod(head.at));
+        let given = result_type_fault(self, &head.result);
         let passed = parameter_types_fault(self, &head.parameters);
-        earlier(kind, earlier(hook, passed))
+        earlier(kind, earlier(hook, earlier(given, passed)))
     }
 
     /// The first rule that an interface's methods break.

@@ -4,6 +4,7 @@ ghost use Rattle.arc_class.specs.Classes as classes;
 ghost use Rattle.arc_fault.specs.declared.class.ClassFault.TheVariants.{Memory};
 ghost use Rattle.arc_class.specs.Table.{built_in_at, built_in_from};
 
+use crate::table::MethodResult;
 use arc_ast::tree::{Kind, Sign};
 use arc_fault::class::ClassFault;
 
@@ -43,6 +44,34 @@ pub fn counting_result(selector: &[u8]) -> Option<Kind>
         Some(Kind::Void)
     } else {
         None
+    }
+}
+
+/// The same, with whether it is an object of the class that gets the message.
+pub fn built_in_given(sign: Sign, selector: &[u8]) -> Option<MethodResult>
+    ensures { result ≡ classes.built_in_given sign selector.now }
+{
+    match built_in_result(sign, selector) {
+        None => None,
+        Some(kind) => Some(MethodResult {
+            kind,
+            class: None,
+            related: matches!(kind, Kind::Object),
+        }),
+    }
+}
+
+/// What a message gives that counts owners by hand, where an object is as of `id`.
+pub fn counting_given(selector: &[u8]) -> Option<MethodResult>
+    ensures { result ≡ classes.counting_given selector.now }
+{
+    match counting_result(selector) {
+        None => None,
+        Some(kind) => Some(MethodResult {
+            kind,
+            class: None,
+            related: false,
+        }),
     }
 }
 

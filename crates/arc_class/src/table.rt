@@ -1,6 +1,6 @@
 //! The table that the later stages look names up in.
 ghost use Rattle.std.specs.Prelude.{◌≡◌, [], Some, map, option_map, slice_get, IfOk, IfErr, OnErr};
-ghost use Rattle.arc_ast.specs.Tree.{parameter_trees, type_tree, unit_tree};
+ghost use Rattle.arc_ast.specs.Tree.{parameter_trees, type_tree, result_tree, head_tree, unit_tree};
 ghost use Rattle.arc_spec.specs.Classes.{classes_of};
 ghost use Rattle.arc_class.specs.Broken.{first};
 ghost use Rattle.arc_class.specs.Classes.{is_root};
@@ -13,26 +13,26 @@ ghost use Rattle.arc_class.specs.Kept.{Knows};
 ghost use Rattle.arc_class.specs.Names.{parameter_kinds, number_of, is_main};
 ghost use Rattle.arc_ast.specs.declared.tree.Sign.TheVariants as signs;
 ghost use Rattle.arc_class.specs.Classes.{or_else};
-ghost use Rattle.arc_class.specs.Lookups.{head_at, at_name, class_number_in, type_class_in, own_result_in, result_at, result_among, field_tree, items_at, ends_object, nearest_dealloc, number_of_class, number_of_selector, number_of_method};
+ghost use Rattle.arc_class.specs.Lookups.{head_at, at_name, class_number_in, type_class_in, result_class_in, given_in, own_given_in, result_at, given_among, field_tree, items_at, ends_object, nearest_dealloc, number_of_class, number_of_selector, number_of_method};
 ghost use Rattle.arc_class.specs.Owners.{TellsMethods, TellsFields};
 ghost use Rattle.std.proofs.Props.{props};
 
 use crate::building::{Parts, Selectors};
 use crate::fields::{ClassFields, field_of};
-use crate::heads::Heads;
+use crate::heads::{Heads, is_related};
 use crate::kept::{Functions, Source};
 use crate::look::{listed, look};
 use crate::nearest::{field_owners, method_owners};
 use crate::owners::Owners;
-use crate::root::{BuiltIn, built_in_result, counting_result};
+use crate::root::{BuiltIn, built_in_given, built_in_result, counting_given, counting_result};
 use crate::sort_counts::parameter_counts;
 use crate::walk::walk;
 use arc_ast::tree::{
-    Kind, MethodHead, Parameter, Qual, Sign, TranslationUnit, TypeName, Visibility,
+    Kind, MethodHead, Parameter, Qual, ResultType, Sign, TranslationUnit, TypeName, Visibility,
 };
 use arc_fault::class::ClassFault;
 use arc_sites::violation::earlier;
-use arc_spec::class::{Class, descends_from, look_up};
+use arc_spec::class::{Class, Gives, descends_from, gives_of, look_up};
 use arc_spec::event::NoMemory;
 use std::alloc::Global;
 use std::collections::BTreeMap;
@@ -56,10 +56,10 @@ pub struct Declared {
 pub type Known<'a> = BTreeMap<&'a [u8], Declared>;
 
 /// What the map has at the name.
-pub(crate) fn at_name<'a, V: Copy>(map: &BTreeMap<&'a [u8], V>, name: &'a [u8]) -> Option<V>
+pub(crate) fn at_name<'a, V: Copy>(map: &BTreeMap<&'a [u8], V>, name: &[u8]) -> Option<V>
     ensures { result ≡ at_name map.now name.now }
 {
-    map.get(&name).copied()
+    map.get(name).copied()
 }
 
 /// The first interface of a name: the number of its class, and the place of the name.
@@ -93,7 +93,7 @@ pub(crate) fn is_root(name: &[u8]) -> bool
 }
 
 /// The number of the class with the name.
-pub(crate) fn class_number<'a>(names: &Names<'a>, name: &'a [u8]) -> Option<usize>
+pub(crate) fn class_number<'a>(names: &Names<'a>, name: &[u8]) -> Option<usize>
     ensures { result ≡ class_number_in names.now name.now }
 {
     if is_root(name) {
@@ -112,6 +112,16 @@ pub(crate) fn type_class<'a>(names: &Names<'a>, written: &'a TypeName) -> Option
     match written {
         TypeName::Bool | TypeName::Int | TypeName::Long | TypeName::Id => None,
         TypeName::Object(_, name) => class_id(class_number(names, name)),
+    }
+}
+
+/// The class of a result whose type names one that the source has.
+fn result_class<'a>(names: &Names<'a>, written: &'a ResultType) -> Option<ClassId>
+    ensures { result ≡ result_class_in names.now (result_tree written.now) }
+{
+    match written {
+        ResultType::Value(type_name) => type_class(names, type_name),
+        ResultType::Void | ResultType::Related => None,
     }
 }
 
@@ -178,6 +188,26 @@ pub struct FoundField {
     pub visibility: Visibility,
 }
 
+/// What a method gives: a value of a kind, or none; and of an object the class, where its type names one, or that it
+/// is of the class that gets the message.
+#[derive(Clone, Copy)]
+pub struct MethodResult {
+    pub kind: Kind,
+    pub class: Option<ClassId>,
+    pub related: bool,
+}
+
+/// What the method that is written so gives.
+fn given_by<'a>(names: &Names<'a>, head: &'a MethodHead) -> MethodResult
+    ensures { result ≡ given_in names.now (head_tree head.now) }
+{
+    MethodResult {
+        kind: head.result.kind(),
+        class: result_class(names, &head.result),
+        related: is_related(head),
+    }
+}
+
 /// What a table knows of a class: its superclass, and its own methods.
 #[derive(Drop)]
 pub struct Entry<'a> {
@@ -187,18 +217,27 @@ pub struct Entry<'a> {
 
 impl<'a> Entry<'a> {
     /// What the class's own method gives, where this is the class's number; the root's are built in.
-    fn own_result(&self, class: usize, sign: Sign, selector: &'a [u8]) -> Option<Kind>
-        ensures { result ≡ own_result_in class (Some self.now) sign selector.now }
+    fn own_result(
+        &self,
+        names: &Names<'a>,
+        class: usize,
+        sign: Sign,
+        selector: &'a [u8],
+    ) -> Option<MethodResult>
+        ensures { result ≡ own_given_in names.now class (Some self.now) sign selector.now }
     {
         if class == 0 {
-            return built_in_result(sign, selector);
+            return built_in_given(sign, selector);
         }
-        result_at(&self.methods, sign, selector)
+        match self.methods.get(sign, selector) {
+            None => None,
+            Some(head) => Some(given_by(names, head)),
+        }
     }
 }
 
 /// What the method gives that is kept for the selector.
-fn result_at<'a>(heads: &Heads<'a>, sign: Sign, selector: &'a [u8]) -> Option<Kind>
+fn result_at<'a>(heads: &Heads<'a>, sign: Sign, selector: &[u8]) -> Option<Kind>
     ensures { result ≡ result_at heads.now sign selector.now }
 {
     match heads.get(sign, selector) {
@@ -209,27 +248,29 @@ fn result_at<'a>(heads: &Heads<'a>, sign: Sign, selector: &'a [u8]) -> Option<Ki
 
 /// What the class's own method gives, if it has one.
 fn own_result<'a>(
+    names: &Names<'a>,
     entries: &[Entry<'a>],
     class: usize,
     sign: Sign,
     selector: &'a [u8],
-) -> Option<Kind>
-    ensures { result ≡ own_result_in class (slice_get entries.now class) sign selector.now }
+) -> Option<MethodResult>
+    ensures { result ≡ own_given_in names.now class (slice_get entries.now class) sign selector.now }
 {
     match entries.get(class) {
         None => None,
-        Some(entry) => entry.own_result(class, sign, selector),
+        Some(entry) => entry.own_result(names, class, sign, selector),
     }
 }
 
 /// What the nearest method gives from the class up, a class at a time.
 fn result_from<'a>(
+    names: &Names<'a>,
     entries: &[Entry<'a>],
     class: Option<usize>,
     sign: Sign,
     selector: &'a [u8],
-) -> Option<Kind>
-    ensures { result ≡ result_among entries.now class sign selector.now }
+) -> Option<MethodResult>
+    ensures { result ≡ given_among names.now entries.now class sign selector.now }
 {
     let mut next = class;
     for _passed in 0..entries.len() {
@@ -239,8 +280,8 @@ fn result_from<'a>(
         let Some(entry) = entries.get(number) else {
             return None;
         };
-        if let Some(kind) = entry.own_result(number, sign, selector) {
-            return Some(kind);
+        if let Some(given) = entry.own_result(names, number, sign, selector) {
+            return Some(given);
         }
         next = entry.superclass;
     }
@@ -320,7 +361,7 @@ pub struct ClassTable<'a> {
 }
 
 impl<'a> ClassTable<'a> {
-    ghost use Rattle.arc_class.specs.Table.{IsTableOf, function_in, global_in, parameters_in, passed_in, class_in, superclass_in, nearest_result_in, result_in_table, owners_in, any_result_in, field_in_table, fields_in, defined_in, built_in_method, method_in, selector_in, selector_name, IsSameTable, Registers};
+    ghost use Rattle.arc_class.specs.Table.{IsTableOf, function_in, global_in, parameters_in, passed_in, gives_in, function_class_in, class_in, superclass_in, nearest_result_in, result_in_table, owners_in, any_result_in, field_in_table, fields_in, defined_in, built_in_method, method_in, selector_in, selector_name, IsSameTable, Registers};
 
     /// What is known of the functions of the name, if there are any. The name lies in the source, or lives as long.
     pub fn function(&self, name: &'a [u8]) -> Option<Declared>
@@ -347,6 +388,26 @@ impl<'a> ClassTable<'a> {
         }
     }
 
+    /// The class of what the functions of the name give, where the type that the first of them has names one.
+    pub fn function_class(&self, name: &'a [u8]) -> Option<ClassId>
+        ensures { result ≡ function_class_in self.now name.now }
+    {
+        match at_name(&self.first_functions, name) {
+            None => None,
+            Some(function) => result_class(&self.names, &function.result),
+        }
+    }
+
+    /// What the methods of the sign with the selector give.
+    fn gives(&self, sign: Sign, selector: &'a [u8]) -> Gives
+        ensures { result ≡ gives_in self.now sign selector.now }
+    {
+        match self.first_method(sign, selector) {
+            None => Gives::Number,
+            Some(head) => gives_of(head.result.kind()),
+        }
+    }
+
     /// The parameters of the methods of the sign with the selector, as the first of them that is declared, or else defined, lists these;
     /// none where the source has no such method.
     pub fn parameters_passed(&self, sign: Sign, selector: &'a [u8]) -> &'a [Parameter]
@@ -369,7 +430,7 @@ impl<'a> ClassTable<'a> {
     }
 
     /// The class with the name, where it has an interface or is the root (Runtime Reference, `objc_getClass`).
-    pub fn objc_get_class(&self, name: &'a [u8]) -> Option<ClassId>
+    pub fn objc_get_class(&self, name: &[u8]) -> Option<ClassId>
         ensures { option_map number_of_class result ≡ class_in self.now name.now }
     {
         class_id(class_number(&self.names, name))
@@ -387,29 +448,34 @@ impl<'a> ClassTable<'a> {
 
     /// What the method gives that the class, or else the nearest class above it, declares or defines for the selector; the root has those
     /// that are built in. The messages that count owners give what they always do, whatever is declared.
-    pub fn result(&self, class: Option<ClassId>, sign: Sign, selector: &'a [u8]) -> Option<Kind>
+    pub fn result(
+        &self,
+        class: Option<ClassId>,
+        sign: Sign,
+        selector: &'a [u8],
+    ) -> Option<MethodResult>
         ensures { result ≡ result_in_table self.now (option_map number_of_class class) sign selector.now }
     {
         let Some(class) = number_of(class) else {
             return None;
         };
-        match counting_result(selector) {
-            Some(kind) => Some(kind),
+        match counting_given(selector) {
+            Some(given) => Some(given),
             None => self.nearest_result(class, sign, selector),
         }
     }
 
     /// What the method gives that the class, or else the nearest class above it, has for the selector.
-    fn nearest_result(&self, class: usize, sign: Sign, selector: &'a [u8]) -> Option<Kind>
+    fn nearest_result(&self, class: usize, sign: Sign, selector: &'a [u8]) -> Option<MethodResult>
         ensures { result ≡ nearest_result_in self.now class sign selector.now }
     {
         let owners = self.owners(sign);
         if !owners.knows(class) {
-            return result_from(&self.entries, Some(class), sign, selector);
+            return result_from(&self.names, &self.entries, Some(class), sign, selector);
         }
         match owners.owner(class, selector) {
             None => None,
-            Some(owner) => own_result(&self.entries, owner, sign, selector),
+            Some(owner) => own_result(&self.names, &self.entries, owner, sign, selector),
         }
     }
 
@@ -425,7 +491,7 @@ impl<'a> ClassTable<'a> {
 
     /// What a message to an object gives of which no class is known: as the methods of objects do that the source has, or that are built in,
     /// but for the messages that count owners, which give what they always do.
-    pub fn result_of_any(&self, selector: &'a [u8]) -> Option<Kind>
+    pub fn result_of_any(&self, selector: &[u8]) -> Option<Kind>
         ensures { result ≡ any_result_in self.now selector.now }
     {
         if let Some(kind) = counting_result(selector) {
@@ -475,6 +541,7 @@ impl<'a> ClassTable<'a> {
             selector.0,
             passed.numbers,
             passed.objects,
+            self.gives(sign, name),
         )
     }
 

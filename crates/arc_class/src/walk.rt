@@ -221,7 +221,7 @@ fn in_scope<'a>(
         Stmt::Empty(_) | Stmt::Break(_) | Stmt::Continue(_) => Ok(None),
         Stmt::Expr(expr) => Ok(expression(source, expr)),
         Stmt::Return(_, expr) => Ok(maybe(source, expr)),
-        Stmt::Variables(_, written, all) => {
+        Stmt::Variables(_, _, written, all) => {
             let inside = variables(source, scope, all)?;
             Ok(earlier(type_fault(source, written), inside))
         }

@@ -6,7 +6,7 @@ use Rattle.arc_spec.specs.Number.{combined}
 use Rattle.arc_spec.specs.Holding.{Held}
 use Rattle.arc_spec.specs.World.{name_at}
 use Rattle.arc_code.specs.declared.instr.Op.{Op}
-use Rattle.arc_code.specs.declared.instr.Op.TheVariants.{Num, Bin, Un, Narrow, Pop, Get, Set, GetGlobal, SetGlobal, PrintNum, PrintByte, GetChar, Declare, Nil, ReadSelf, ReadRef, ReadGlobal, ReadField, Hold, Again, Forget, Alloc, GetField, SetField, Differ, IsObject}
+use Rattle.arc_code.specs.declared.instr.Op.TheVariants.{Num, Bin, Un, Narrow, Pop, Get, Set, GetGlobal, SetGlobal, PrintNum, PrintByte, GetChar, Declare, Nil, ReadSelf, ReadRef, ReadGlobal, ReadField, Hold, Again, Forget, Alloc, Finds, GetField, SetField, Differ, IsObject}
 use Rattle.arc_code.specs.Instructions.{State, or_fault, allocates, operates}
 use Rattle.arc_code.specs.Effects.{Effect, of_names, on_numbers, on_names, operation_effect, Follows, After}
 use Rattle.arc_code.proofs.Outcomes.{top_after, found_after, reference_after, named_after, field_after, declares_after}
@@ -75,6 +75,7 @@ module _ (classes : List Class) (s : State) where
   operation_follows Again = reference_after (By (on_names 1 2 0)) s.held.names _ (λ r rest _. refers 1 2 0 _ (omega arith) (omega arith) refl refl)
   operation_follows Forget = reference_after (By (on_names 1 0 0)) s.held.names _ (λ r rest e. refers 1 0 0 _ (omega (arith, e)) (omega arith) refl refl)
   operation_follows Alloc = top_after (By (operation_effect Alloc)) s.stack _ (λ v rest e. allocates_follows rest (class_at v) e)
+  operation_follows (Finds selector) = top_after (By (on_numbers 1 2)) s.stack _ (λ v rest _. counts 1 2 _ (omega arith))
   operation_follows (GetField class index) = reference_after (By (of_names 0 1 1)) s.held.names _ (λ r rest e. field_after (By (of_names 0 1 1)) classes class r s.held _ (λ o. gives 0 1 1 _ _ (omega arith) (omega (arith, e)) refl refl refl))
   operation_follows (SetField class index) = reference_after (By (of_names 1 1 1)) s.held.names _ (λ r rest e. top_after (By (of_names 1 1 1)) s.stack _ (λ v _ _. field_after (By (of_names 1 1 1)) classes class r s.held _ (λ o. gives 1 1 1 _ _ refl (omega (arith, e)) refl refl refl)))
   operation_follows Differ = reference_after (By (of_names 0 1 2)) s.held.names _ (λ r names e1. reference_after (By (of_names 0 1 2)) names _ (λ other rest e2. named_after (By (of_names 0 1 2)) r s.held _ (named_after (By (of_names 0 1 2)) other s.held _ (gives 0 1 2 _ _ (omega arith) (omega (arith, e1, e2)) refl refl refl))))

@@ -1,14 +1,16 @@
 -- How many numbers, references and strong places each instruction takes and gives; what a table of heights says of the instructions of a program, so that no run has more.
-use Rattle.std.specs.Prelude.{◌≡◌, ◌≤◌, ℕ, suc, ◌+◌, ◌*◌, List, [], length, Option, Some, slice_get}
+use Rattle.std.specs.Prelude.{◌≡◌, ◌≤◌, ℕ, suc, ◌+◌, ◌-◌, ◌*◌, List, [], length, Option, Some, slice_get}
 use Rattle.arc_ast.specs.declared.tree.Sign.{Sign}
 use Rattle.arc_ast.specs.declared.tree.Sign.TheVariants as signs
+use Rattle.arc_spec.specs.declared.class.Gives.{Gives}
+use Rattle.arc_spec.specs.declared.class.Gives.TheVariants as gives
 use Rattle.arc_spec.specs.Classes.{lookup}
 use Rattle.arc_spec.specs.Meaning.{most_levels}
 use Rattle.arc_spec.specs.Stepping.{Next, Goes, Asks, Ends, Faults, Stuck, Reached, Running, Ended, Faulted, Wedged, after_steps}
 use Rattle.arc_code.specs.declared.instr.Op.{Op}
-use Rattle.arc_code.specs.declared.instr.Op.TheVariants.{Num, Bin, Un, Narrow, Pop, Get, Set, GetGlobal, SetGlobal, PrintNum, PrintByte, GetChar, Declare, Nil, ReadSelf, ReadRef, ReadGlobal, ReadField, Hold, Again, Forget, Alloc, GetField, SetField, Differ, IsObject}
+use Rattle.arc_code.specs.declared.instr.Op.TheVariants.{Num, Bin, Un, Narrow, Pop, Get, Set, GetGlobal, SetGlobal, PrintNum, PrintByte, GetChar, Declare, Nil, ReadSelf, ReadRef, ReadGlobal, ReadField, Hold, Again, Forget, Alloc, Finds, GetField, SetField, Differ, IsObject}
 use Rattle.arc_code.specs.declared.instr.Instr.{Instr}
-use Rattle.arc_code.specs.declared.instr.Instr.TheVariants.{Plain, PrintText, Jump, JumpZero, Call, Send, SendSuper, SendTo, SendToSuper, StoreStrong, StoreGlobal, StoreField, Empty, DropAll, Return, EndStep}
+use Rattle.arc_code.specs.declared.instr.Instr.TheVariants.{Plain, PrintText, Jump, JumpZero, Call, Send, SendSuper, SendTo, SendToSuper, StoreStrong, StoreGlobal, StoreField, Empty, DropAll, Settle, Give, Return, EndStep}
 use Rattle.arc_spec.specs.Holding.{stacked}
 use Rattle.arc_code.specs.Instructions.{Program, State, start, step}
 pub use Rattle.arc_code.specs.declared.effect.Effect.{Effect}
@@ -25,6 +27,26 @@ on_numbers taken given = of_names taken given 0
 -- what takes references, gives references, and has temporaries take objects
 abbrev pub on_names : (taken given temporaries : ℕ) → Effect
 on_names taken given temporaries = record { numbers_taken = 0; numbers_given = 0; names_taken = taken; names_given = given; temporaries = temporaries; variables = 0 }
+
+-- how many numbers a result is, and how many objects
+abbrev pub as_number : Gives → ℕ
+as_number gives.Number = 1
+as_number gives.Object = 0
+
+abbrev pub as_object : Gives → ℕ
+as_object gives.Number = 0
+as_object gives.Object = 1
+
+-- what takes numbers and references, and gives a number, or an object, which a temporary takes
+abbrev pub giving : Gives → (taken names : ℕ) → Effect
+giving given taken names = record {
+  numbers_taken = taken;
+  numbers_given = as_number given;
+  names_taken = names;
+  names_given = as_object given;
+  temporaries = as_object given;
+  variables = 0;
+}
 
 abbrev pub operation_effect : Op → Effect
 operation_effect (Num n) = on_numbers 0 1
@@ -49,6 +71,7 @@ operation_effect Hold = on_names 1 1 1
 operation_effect Again = on_names 1 2 0
 operation_effect Forget = on_names 1 0 0
 operation_effect Alloc = record (on_names 0 1 1) { numbers_taken = 1 }
+operation_effect (Finds selector) = on_numbers 1 2
 operation_effect (GetField class index) = of_names 0 1 1
 operation_effect (SetField class index) = of_names 1 1 1
 operation_effect Differ = of_names 0 1 2
@@ -59,23 +82,25 @@ abbrev pub passes : Sign → (takes : ℕ) → ℕ
 passes signs.Class takes = suc takes
 passes signs.Instance takes = takes
 
--- A call or a message takes what it passes, and gives a number, when it comes back. What a function is passed are its variables that hold numbers, and references
+-- A call or a message takes what it passes, and gives a number or an object, when it comes back. What a function is passed are its variables that hold numbers, and references
 -- for its parameters that name objects, whose numbers the call doesn't say: a table says them of where the function begins.
 abbrev pub effect : {J F T : Type 0} → Instr J F T → Effect
 effect (Plain o) = operation_effect o
 effect (PrintText t) = on_numbers 1 1
 effect (Jump j) = on_numbers 0 0
 effect (JumpZero j) = on_numbers 1 0
-effect (Call f) = on_numbers 0 1
-effect (Send selector takes objects) = of_names (passes signs.Class takes) 1 objects
-effect (SendSuper from selector takes objects) = of_names (passes signs.Class takes) 1 objects
-effect (SendTo selector takes objects) = of_names (passes signs.Instance takes) 1 (suc objects)
-effect (SendToSuper from selector takes objects) = of_names (passes signs.Instance takes) 1 (suc objects)
+effect (Call f gives) = giving gives 0 0
+effect (Send selector takes objects gives) = giving gives (passes signs.Class takes) objects
+effect (SendSuper from selector takes objects gives) = giving gives (passes signs.Class takes) objects
+effect (SendTo selector takes objects gives) = giving gives (passes signs.Instance takes) (suc objects)
+effect (SendToSuper from selector takes objects gives) = giving gives (passes signs.Instance takes) (suc objects)
 effect (StoreStrong i) = on_names 1 1 0
 effect (StoreGlobal i) = on_names 1 1 0
 effect (StoreField class index) = on_names 2 1 0
 effect (Empty i) = on_names 0 0 0
 effect DropAll = on_numbers 0 0
+effect Settle = on_numbers 0 0
+effect Give = on_numbers 1 0
 effect Return = on_numbers 1 0
 effect EndStep = on_numbers 0 0
 
@@ -118,9 +143,9 @@ module _ {J F T : Type 0} (p : Program J F T) (height : ℕ → Height) where
   abbrev pub FitsTo : (pc to : ℕ) → Instr J F T → Type 0
   FitsTo pc to x = FitsFrom (height pc) (height to) x
 
-  -- the same at the next instruction, where a call has given a number
+  -- the same at the next instruction, where a call has given a number or an object
   abbrev pub FitsCall : (pc : ℕ) → Effect → Type 0
-  FitsCall pc e = FitsBetween (height pc) (height (pc + 1)) e × (1 ≤ (height (pc + 1)).numbers)
+  FitsCall pc e = FitsBetween (height pc) (height (pc + 1)) e × ((e.numbers_given ≤ (height (pc + 1)).numbers) × (e.names_given ≤ (height (pc + 1)).names))
 
   abbrev pub FitsMessage : (pc : ℕ) → Instr J F T → Type 0
   FitsMessage pc x = FitsCall pc (effect x)
@@ -132,24 +157,43 @@ module _ {J F T : Type 0} (p : Program J F T) (height : ℕ → Height) where
   FitsAt pc (PrintText t) = FitsTo pc (pc + 1) (PrintText t)
   FitsAt pc (Jump j) = FitsTo pc (p.lands pc j) (Jump j)
   FitsAt pc (JumpZero j) = FitsTo pc (pc + 1) (JumpZero j) × FitsTo pc (p.lands pc j) (JumpZero j)
-  FitsAt pc (Call f) = (to : ℕ) → p.entry f ≡ Some to → FitsCall pc (of_names (height to).numbers 1 (height to).names)
-  FitsAt pc (Send selector takes objects) = FitsMessage pc (Send selector takes objects)
-  FitsAt pc (SendSuper from selector takes objects) = FitsMessage pc (SendSuper from selector takes objects)
-  FitsAt pc (SendTo selector takes objects) = FitsMessage pc (SendTo selector takes objects)
-  FitsAt pc (SendToSuper from selector takes objects) = FitsMessage pc (SendToSuper from selector takes objects)
+  FitsAt pc (Call f gives) = (to : ℕ) → p.entry f ≡ Some to → FitsCall pc (giving gives (height to).numbers (height to).names)
+  FitsAt pc (Send selector takes objects gives) = FitsMessage pc (Send selector takes objects gives)
+  FitsAt pc (SendSuper from selector takes objects gives) = FitsMessage pc (SendSuper from selector takes objects gives)
+  FitsAt pc (SendTo selector takes objects gives) = FitsMessage pc (SendTo selector takes objects gives)
+  FitsAt pc (SendToSuper from selector takes objects gives) = FitsMessage pc (SendToSuper from selector takes objects gives)
   FitsAt pc (StoreStrong i) = FitsTo pc (pc + 1) (StoreStrong i)
   FitsAt pc (StoreGlobal i) = FitsTo pc (pc + 1) (StoreGlobal i)
   FitsAt pc (StoreField class index) = FitsTo pc (pc + 1) (StoreField class index)
   FitsAt pc (Empty i) = FitsTo pc (pc + 1) (Empty i)
+  FitsAt pc Settle = FitsFrom (record (height pc) { temporaries = (height pc).temporaries - 1 }) (height (pc + 1)) Settle
+  FitsAt pc Give = FitsFrom (record (height pc) { variables = 0 }) no_height Give
   FitsAt pc DropAll = FitsFrom (record (height pc) { temporaries = 0 }) (height (pc + 1)) DropAll
   FitsAt pc Return = FitsFrom (record (height pc) { variables = 0 }) no_height Return
   FitsAt pc EndStep = FitsFrom (height pc) no_height EndStep
 
-  -- a table that fits a program, whose greatest heights these are
+-- A second table says what the function gives in which an instruction stands.
+module _ {J F T : Type 0} (p : Program J F T) (result : ℕ → Gives) where
+  abbrev pub SameResult : (pc to : ℕ) → Type 0
+  SameResult pc to = result to ≡ result pc
+
+  -- What it says of the instruction with a number. A run stays in the function, which is left with what it gives; what is called gives what is wanted.
+  abbrev pub GivesAt : (pc : ℕ) → Instr J F T → Type 0
+  GivesAt pc (Jump j) = SameResult pc (p.lands pc j)
+  GivesAt pc (JumpZero j) = SameResult pc (pc + 1) × SameResult pc (p.lands pc j)
+  GivesAt pc (Call f wanted) = SameResult pc (pc + 1) × ((to : ℕ) → p.entry f ≡ Some to → result to ≡ wanted)
+  GivesAt pc Give = result pc ≡ gives.Object
+  GivesAt pc Return = result pc ≡ gives.Number
+  GivesAt pc EndStep = Unit {0}
+  GivesAt pc x = SameResult pc (pc + 1)
+
+-- tables that fit a program, whose greatest heights these are
+module _ {J F T : Type 0} (p : Program J F T) (height : ℕ → Height) (result : ℕ → Gives) where
   pub record HeightsFit (most_numbers most_names most_places : ℕ) : Type 0 where
-    pub at : (pc : ℕ) (x : Instr J F T) → slice_get p.instrs pc ≡ Some x → FitsAt pc x
-    pub methods : (from : Option ℕ) (sign : Sign) (selector takes objects to : ℕ) → lookup p.classes from sign selector takes objects ≡ Some to
-        → (passes sign takes ≤ (height to).numbers) × (objects ≤ (height to).names)
+    pub at : (pc : ℕ) (x : Instr J F T) → slice_get p.instrs pc ≡ Some x → FitsAt p height pc x
+    pub results : (pc : ℕ) (x : Instr J F T) → slice_get p.instrs pc ≡ Some x → GivesAt p result pc x
+    pub methods : (from : Option ℕ) (sign : Sign) (selector takes objects : ℕ) (wanted : Gives) (to : ℕ) → lookup p.classes from sign selector takes objects wanted ≡ Some to
+        → (passes sign takes ≤ (height to).numbers) × (objects ≤ (height to).names) × (result to ≡ wanted)
     pub numbers_most : (pc : ℕ) → (height pc).numbers ≤ most_numbers
     pub names_most : (pc : ℕ) → (height pc).names ≤ most_names
     pub places_most : (pc : ℕ) → (height pc).temporaries + (height pc).variables ≤ most_places

@@ -7,10 +7,16 @@ use Rattle.arc_ast.specs.declared.tree.UnaryOperator.{UnaryOperator}
 use Rattle.arc_ast.specs.declared.tree.UnaryOperator.TheVariants as u
 use Rattle.arc_ast.specs.declared.tree.BinaryOperator.{BinaryOperator}
 use Rattle.arc_ast.specs.declared.tree.BinaryOperator.TheVariants as o
+use Rattle.arc_spec.specs.declared.class.Gives.{Gives}
+use Rattle.arc_spec.specs.declared.class.Gives.TheVariants as gives
 use Rattle.arc_code.specs.declared.instr.Op.{Op}
-use Rattle.arc_code.specs.declared.instr.Op.TheVariants.{Num, Bin, Un, Narrow, Pop, Get, Set, GetGlobal, SetGlobal, PrintNum, PrintByte, GetChar, Declare, Nil, ReadSelf, ReadRef, ReadGlobal, ReadField, Hold, Again, Forget, Alloc, GetField, SetField, Differ, IsObject}
-use Rattle.arc_code.specs.declared.instr.Instr.TheVariants.{Plain, PrintText, Jump, JumpZero, Call, Send, SendSuper, SendTo, SendToSuper, StoreStrong, StoreGlobal, StoreField, Empty, DropAll, Return, EndStep}
+use Rattle.arc_code.specs.declared.instr.Op.TheVariants.{Num, Bin, Un, Narrow, Pop, Get, Set, GetGlobal, SetGlobal, PrintNum, PrintByte, GetChar, Declare, Nil, ReadSelf, ReadRef, ReadGlobal, ReadField, Hold, Again, Forget, Alloc, Finds, GetField, SetField, Differ, IsObject}
+use Rattle.arc_code.specs.declared.instr.Instr.TheVariants.{Plain, PrintText, Jump, JumpZero, Call, Send, SendSuper, SendTo, SendToSuper, StoreStrong, StoreGlobal, StoreField, Empty, DropAll, Settle, Give, Return, EndStep}
 use Rattle.arc_code.specs.Running.{Instruction}
+
+abbrev pub gives_number : Gives → ℕ
+gives_number gives.Number = 0
+gives_number gives.Object = 1
 
 abbrev pub unary_number : UnaryOperator → ℕ
 unary_number u.Plus = 0
@@ -68,6 +74,7 @@ op_name Hold = codes "Hold"
 op_name Again = codes "Again"
 op_name Forget = codes "Forget"
 op_name Alloc = codes "Alloc"
+op_name (Finds selector) = codes "Finds"
 op_name (GetField class index) = codes "GetField"
 op_name (SetField class index) = codes "SetField"
 op_name Differ = codes "Differ"
@@ -78,16 +85,18 @@ name (Plain op) = op_name op
 name (PrintText piece) = codes "PrintText"
 name (Jump to) = codes "Jump"
 name (JumpZero to) = codes "JumpZero"
-name (Call to) = codes "Call"
-name (Send selector takes objects) = codes "Send"
-name (SendSuper from selector takes objects) = codes "SendSuper"
-name (SendTo selector takes objects) = codes "SendTo"
-name (SendToSuper from selector takes objects) = codes "SendToSuper"
+name (Call to gives) = codes "Call"
+name (Send selector takes objects gives) = codes "Send"
+name (SendSuper from selector takes objects gives) = codes "SendSuper"
+name (SendTo selector takes objects gives) = codes "SendTo"
+name (SendToSuper from selector takes objects gives) = codes "SendToSuper"
 name (StoreStrong i) = codes "StoreStrong"
 name (StoreGlobal i) = codes "StoreGlobal"
 name (StoreField class index) = codes "StoreField"
 name (Empty i) = codes "Empty"
 name DropAll = codes "DropAll"
+name Settle = codes "Settle"
+name Give = codes "Give"
 name Return = codes "Return"
 name EndStep = codes "EndStep"
 
@@ -105,22 +114,26 @@ op_operands (Set depth) = operand depth
 op_operands (GetGlobal i) = operand i
 op_operands (SetGlobal i) = operand i
 op_operands (ReadRef i) = operand i
+op_operands (Finds selector) = operand selector
 op_operands (ReadGlobal i) = operand i
 op_operands (ReadField class index) = operand class ++ operand index
 op_operands (GetField class index) = operand class ++ operand index
 op_operands (SetField class index) = operand class ++ operand index
 op_operands _ = []
 
+abbrev pub message_operands : (selector takes objects : ℕ) → Gives → List ℕ
+message_operands selector takes objects gives = operand selector ++ (operand takes ++ (operand objects ++ operand (gives_number gives)))
+
 abbrev pub operands : Instruction → List ℕ
 operands (Plain op) = op_operands op
 operands (PrintText piece) = operand piece.from ++ operand piece.len
 operands (Jump to) = operand to
 operands (JumpZero to) = operand to
-operands (Call to) = operand to
-operands (Send selector takes objects) = operand selector ++ (operand takes ++ operand objects)
-operands (SendSuper from selector takes objects) = operand from ++ (operand selector ++ (operand takes ++ operand objects))
-operands (SendTo selector takes objects) = operand selector ++ (operand takes ++ operand objects)
-operands (SendToSuper from selector takes objects) = operand from ++ (operand selector ++ (operand takes ++ operand objects))
+operands (Call to gives) = operand to ++ operand (gives_number gives)
+operands (Send selector takes objects gives) = message_operands selector takes objects gives
+operands (SendSuper from selector takes objects gives) = operand from ++ message_operands selector takes objects gives
+operands (SendTo selector takes objects gives) = message_operands selector takes objects gives
+operands (SendToSuper from selector takes objects gives) = operand from ++ message_operands selector takes objects gives
 operands (StoreStrong i) = operand i
 operands (StoreGlobal i) = operand i
 operands (StoreField class index) = operand class ++ operand index

@@ -1,8 +1,9 @@
 //! How many numbers, references and strong places each instruction takes and gives.
 ghost use Rattle.std.specs.Prelude.{◌≡◌, suc, IfSome};
-ghost use Rattle.arc_code.specs.Effects.{on_numbers, of_names, on_names, operation_effect, effect};
+ghost use Rattle.arc_code.specs.Effects.{on_numbers, of_names, on_names, giving, operation_effect, effect};
 
 use crate::instr::{Instr, Op};
+use arc_spec::class::Gives;
 
 /// How many numbers are taken from the stack and then put on it, how many references are taken and then given, and
 /// how many more temporaries and variables that name objects there are.
@@ -60,12 +61,27 @@ fn on_names(taken: usize, given: usize, temporaries: usize) -> Effect
     }
 }
 
+/// The effect of what takes numbers and references, and gives a number, or an object, which a temporary takes.
+pub fn giving(gives: Gives, taken: usize, names: usize) -> Effect
+    ensures { result ≡ giving gives taken names }
+{
+    match gives {
+        Gives::Number => of_names(taken, 1, names),
+        Gives::Object => Effect {
+            names_given: 1,
+            temporaries: 1,
+            ..of_names(taken, 0, names)
+        },
+    }
+}
+
 /// The effect of an operation.
 fn operation_effect(operation: Op) -> Effect
     ensures { result ≡ operation_effect operation }
 {
     match operation {
         Op::Num(_) | Op::Get(_) | Op::GetGlobal(_) | Op::GetChar => on_numbers(0, 1),
+        Op::Finds(_) => on_numbers(1, 2),
         Op::Bin(_, _) | Op::PrintNum | Op::PrintByte => on_numbers(2, 1),
         Op::Un(_, _) | Op::Narrow(_) => on_numbers(1, 1),
         Op::Pop | Op::Set(_) | Op::SetGlobal(_) => on_numbers(1, 0),
@@ -96,7 +112,7 @@ fn one_more(takes: usize) -> Option<usize>
     takes.checked_add(1)
 }
 
-/// The effect of an instruction; of a call it is that of the number that the function gives. None:
+/// The effect of an instruction; of a call it is that of what the function gives. None:
 /// the instruction takes more numbers than can be counted.
 pub fn instr_effect<J, F, T>(instr: &Instr<J, F, T>) -> Option<Effect>
     ensures { IfSome result (λ found. found ≡ effect instr.now) }
@@ -104,19 +120,20 @@ pub fn instr_effect<J, F, T>(instr: &Instr<J, F, T>) -> Option<Effect>
     match instr {
         Instr::Plain(operation) => Some(operation_effect(*operation)),
         Instr::PrintText(_) => Some(on_numbers(1, 1)),
-        Instr::Jump(_) | Instr::Empty(_) | Instr::DropAll | Instr::EndStep => Some(on_numbers(
-            0, 0,
-        )),
-        Instr::JumpZero(_) | Instr::Return => Some(on_numbers(1, 0)),
-        Instr::Call(_) => Some(on_numbers(0, 1)),
-        Instr::Send(_, takes, objects) | Instr::SendSuper(_, _, takes, objects) => {
+        Instr::Jump(_) | Instr::Empty(_) | Instr::DropAll | Instr::Settle | Instr::EndStep => Some(
+            on_numbers(0, 0),
+        ),
+        Instr::JumpZero(_) | Instr::Return | Instr::Give => Some(on_numbers(1, 0)),
+        Instr::Call(_, gives) => Some(giving(*gives, 0, 0)),
+        Instr::Send(_, takes, objects, gives) | Instr::SendSuper(_, _, takes, objects, gives) => {
             let taken = one_more(*takes)?;
-            Some(of_names(taken, 1, *objects))
+            Some(giving(*gives, taken, *objects))
         }
-        Instr::SendTo(_, takes, objects) | Instr::SendToSuper(_, _, takes, objects) => {
-            let references = one_more(*objects)?;
-            Some(of_names(*takes, 1, references))
-        }
+        Instr::SendTo(_, takes, objects, gives) | Instr::SendToSuper(_, _, takes, objects, gives) =>
+            {
+                let references = one_more(*objects)?;
+                Some(giving(*gives, *takes, references))
+            }
         Instr::StoreStrong(_) | Instr::StoreGlobal(_) => Some(on_names(1, 1, 0)),
         Instr::StoreField(_, _) => Some(on_names(2, 1, 0)),
     }

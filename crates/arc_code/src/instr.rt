@@ -2,6 +2,7 @@
 //! and give references, and keep strong places, which name objects.
 
 use arc_ast::tree::{BinaryOperator, Kind, UnaryOperator};
+use arc_spec::class::Gives;
 
 /// What works on the numbers, the references, the places and the objects, and goes on with the next instruction. A
 /// depth counts the numbers above the one that is meant. A reference names an object or nil, and holds nothing; a
@@ -56,6 +57,9 @@ pub enum Op {
     Forget,
     /// Takes the number of a class, and makes an object of it, which a temporary takes. Gives the object.
     Alloc,
+    /// Puts 1 on the stack where the class with the top number, which stays, or one above it, has a class method with
+    /// this selector that takes nothing and gives an object, and else 0.
+    Finds(usize),
     /// Takes the last reference, and puts the field with this number of its object on the stack; the class, which
     /// comes first, is the one whose own field it is.
     GetField(usize, usize),
@@ -79,20 +83,22 @@ pub enum Instr<J, F, T> {
     Jump(J),
     /// Takes a number, and goes on elsewhere where it is 0.
     JumpZero(J),
-    /// Calls a function, whose variables stand on the stack; the references of its parameters are the last ones.
-    Call(F),
+    /// Calls a function, whose variables stand on the stack; the references of its parameters are the last ones. It
+    /// gives what is said here.
+    Call(F, Gives),
     /// A message with this selector, so many numbers as arguments, which stand on the stack above the number
     /// of the class that gets it, and so many objects, which the last references name: calls the method that is
-    /// looked up from that class.
-    Send(usize, usize, usize),
+    /// looked up from that class and gives what is said here.
+    Send(usize, usize, usize, Gives),
     /// The same, with the number of the class from which the method is looked up before the selector.
-    SendSuper(usize, usize, usize, usize),
+    SendSuper(usize, usize, usize, usize, Gives),
     /// A message with this selector, so many numbers as arguments, which stand on the stack, and so many objects,
     /// which the last references name, to the object of the reference before these, which is taken: calls the
-    /// method that is looked up from the object's class. To nil it takes the arguments and puts 0.
-    SendTo(usize, usize, usize),
+    /// method that is looked up from the object's class and gives what is said here; the root's own `init` gives the
+    /// object. To nil it takes the arguments and gives 0 or nil. What is given as an object a temporary takes.
+    SendTo(usize, usize, usize, Gives),
     /// The same, with the number of the class from which the method is looked up before the selector.
-    SendToSuper(usize, usize, usize, usize),
+    SendToSuper(usize, usize, usize, usize, Gives),
     /// The variable with this number takes what the last reference names, and lets go of what it named;
     /// where that was its last holder, its end begins. The reference stays.
     StoreStrong(usize),
@@ -107,6 +113,12 @@ pub enum Instr<J, F, T> {
     /// Drops the temporaries, the last one first, until an object's end begins, after which this instruction
     /// is met again, or none is left.
     DropAll,
+    /// The temporary before the last one lets go of what it names, and is no more.
+    Settle,
+    /// Leaves the function, which has no temporary, and whose variables are nil but for the last one, the place of its
+    /// result: takes the top number, and goes back to the instruction after the last call. There the result is the last
+    /// reference and the last temporary.
+    Give,
     /// Leaves the function, which has no temporary, with its variables, all of them nil: goes back to the
     /// instruction after the last call; with no call it takes the top number, with which the program ends.
     Return,

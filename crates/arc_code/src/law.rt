@@ -1,5 +1,6 @@
 //! What follows from the table of effects. Nothing here is run.
 ghost use Rattle.std.specs.Prelude.{◌≤◌, ℕ, List};
+ghost use Rattle.arc_spec.specs.declared.class.Gives.{Gives};
 ghost use Rattle.arc_spec.specs.Classes.{Class};
 ghost use Rattle.arc_spec.specs.Stepping.{Sound};
 ghost use Rattle.arc_spec.specs.Holding.{Counted};
@@ -16,6 +17,6 @@ pub fn effects_are_followed()
 /// Where a table of heights fits code, no run of it has more numbers, references or places than all levels together
 /// may have by the greatest heights; with that room it is sound, where it is never stuck and its counts are right.
 pub fn heights_bound_runs()
-    ensures room { (p : Program) (height : ℕ → Height) (n r m : ℕ) → HeightsFit (linked p) height n r m → NeverHasMore (linked p) (room_for n) (room_for r) (room_for m) }
-    ensures sound { (p : Program) (height : ℕ → Height) (n r m : ℕ) → HeightsFit (linked p) height n r m → room_for n ≤ p.room → room_for r ≤ p.names → room_for m ≤ p.places → Sound (step p) (λ s. Counted s.held) (start p) → IsSound p }
+    ensures room { (p : Program) (height : ℕ → Height) (gives : ℕ → Gives) (n r m : ℕ) → HeightsFit (linked p) height gives n r m → NeverHasMore (linked p) (room_for n) (room_for r) (room_for m) }
+    ensures sound { (p : Program) (height : ℕ → Height) (gives : ℕ → Gives) (n r m : ℕ) → HeightsFit (linked p) height gives n r m → room_for n ≤ p.room → room_for r ≤ p.names → room_for m ≤ p.places → Sound (step p) (λ s. Counted s.held) (start p) → IsSound p }
 {}

@@ -4,13 +4,14 @@ ghost use Rattle.std.specs.Fmt.{signed_decimal};
 ghost use Rattle.arc_code.specs.Attempts.{HasFailedToWrite};
 ghost use Rattle.arc_code.specs.Counting.{failures_of, inner_of, held_by};
 ghost use Rattle.arc_code.specs.Written.{Written};
-ghost use Rattle.arc_code.specs.Listing.{unary_number, operator_number, kind_number, op_name, name, operand, op_operands, operands, line, listing};
+ghost use Rattle.arc_code.specs.Listing.{gives_number, unary_number, operator_number, kind_number, op_name, name, operand, op_operands, operands, line, listing};
 
 use crate::code::{Code, Instruction, IoFault};
 use crate::counted::Counted;
 use crate::device::Output;
 use crate::instr::{Instr, Op};
 use arc_ast::tree::{BinaryOperator, Kind, UnaryOperator};
+use arc_spec::class::Gives;
 use itoa::Buffer;
 
 /// Writes a line for each instruction: its number, counted from 0, its name, and its operands in
@@ -57,25 +58,35 @@ fn put_operands<W: Output>(instr: Instruction, writer: &mut Counted<W>) -> Resul
     match instr {
         Instr::Plain(op) => put_op_operands(op, writer),
         Instr::PrintText(piece) => put_pair(u64::from(piece.from), u64::from(piece.len), writer),
-        Instr::Jump(to) | Instr::JumpZero(to) | Instr::Call(to) => put_operand(to as u64, writer),
+        Instr::Jump(to) | Instr::JumpZero(to) => put_operand(to as u64, writer),
+        Instr::Call(to, gives) => put_pair(to as u64, number_of_gives(gives), writer),
         Instr::StoreStrong(number) | Instr::StoreGlobal(number) | Instr::Empty(number) => {
             put_operand(number as u64, writer)
         }
         Instr::StoreField(class, index) => put_pair(class as u64, index as u64, writer),
-        Instr::Send(first, second, third) | Instr::SendTo(first, second, third) => {
-            put_three(first as u64, second as u64, third as u64, writer)
-        }
-        Instr::SendSuper(from, first, second, third)
-        | Instr::SendToSuper(from, first, second, third) => {
+        Instr::Send(first, second, third, gives) | Instr::SendTo(first, second, third, gives) => {
             put_four(
+                first as u64,
+                second as u64,
+                third as u64,
+                number_of_gives(gives),
+                writer,
+            )
+        }
+        Instr::SendSuper(from, first, second, third, gives)
+        | Instr::SendToSuper(from, first, second, third, gives) => {
+            put_five(
                 from as u64,
                 first as u64,
                 second as u64,
                 third as u64,
+                number_of_gives(gives),
                 writer,
             )
         }
-        Instr::DropAll | Instr::Return | Instr::EndStep => put(b"", writer),
+        Instr::DropAll | Instr::Settle | Instr::Give | Instr::Return | Instr::EndStep => {
+            put(b"", writer)
+        }
     }
 }
 
@@ -101,6 +112,7 @@ fn put_op_operands<W: Output>(op: Op, writer: &mut Counted<W>) -> Result<(), IoF
         Op::GetGlobal(number)
         | Op::SetGlobal(number)
         | Op::ReadRef(number)
+        | Op::Finds(number)
         | Op::ReadGlobal(number) => put_operand(number as u64, writer),
         Op::GetField(class, index) | Op::SetField(class, index) | Op::ReadField(class, index) => {
             put_pair(class as u64, index as u64, writer)
@@ -155,6 +167,24 @@ fn put_four<W: Output>(
 {
     put_operand(first, writer)?;
     put_three(second, third, fourth, writer)
+}
+
+fn put_five<W: Output>(
+    first: u64,
+    second: u64,
+    third: u64,
+    fourth: u64,
+    fifth: u64,
+    writer: &mut Counted<W>,
+) -> Result<(), IoFault>
+    requires { failures_of writer.old < 2 ^ 64 - 1 }
+    ensures { Written result (operand first ++ (operand second ++ (operand third ++ (operand fourth ++ operand fifth))))
+        (held_by W.contents writer.old) (held_by W.contents writer.new)
+        (failures_of writer.old) (failures_of writer.new)
+        (HasFailedToWrite W.writes W.flushes (inner_of writer.new)) }
+{
+    put_operand(first, writer)?;
+    put_four(second, third, fourth, fifth, writer)
 }
 
 fn put_operand<W: Output>(number: u64, writer: &mut Counted<W>) -> Result<(), IoFault>
@@ -230,16 +260,18 @@ fn name_of(instr: Instruction) -> &'static str
         Instr::PrintText(_) => "PrintText",
         Instr::Jump(_) => "Jump",
         Instr::JumpZero(_) => "JumpZero",
-        Instr::Call(_) => "Call",
-        Instr::Send(_, _, _) => "Send",
-        Instr::SendSuper(_, _, _, _) => "SendSuper",
-        Instr::SendTo(_, _, _) => "SendTo",
-        Instr::SendToSuper(_, _, _, _) => "SendToSuper",
+        Instr::Call(_, _) => "Call",
+        Instr::Send(_, _, _, _) => "Send",
+        Instr::SendSuper(_, _, _, _, _) => "SendSuper",
+        Instr::SendTo(_, _, _, _) => "SendTo",
+        Instr::SendToSuper(_, _, _, _, _) => "SendToSuper",
         Instr::StoreStrong(_) => "StoreStrong",
         Instr::StoreGlobal(_) => "StoreGlobal",
         Instr::StoreField(_, _) => "StoreField",
         Instr::Empty(_) => "Empty",
         Instr::DropAll => "DropAll",
+        Instr::Settle => "Settle",
+        Instr::Give => "Give",
         Instr::Return => "Return",
         Instr::EndStep => "EndStep",
     }
@@ -271,10 +303,20 @@ fn name_of_op(op: Op) -> &'static str
         Op::Again => "Again",
         Op::Forget => "Forget",
         Op::Alloc => "Alloc",
+        Op::Finds(_) => "Finds",
         Op::GetField(_, _) => "GetField",
         Op::SetField(_, _) => "SetField",
         Op::Differ => "Differ",
         Op::IsObject => "IsObject",
+    }
+}
+
+fn number_of_gives(gives: Gives) -> u64
+    ensures { result ≡ gives_number gives }
+{
+    match gives {
+        Gives::Number => 0,
+        Gives::Object => 1,
     }
 }
 

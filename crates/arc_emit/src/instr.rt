@@ -20,20 +20,26 @@ pub fn instr_of(ir: &Ir, at: u32, from: u32, action: &Action) -> Instruction
         }),
         Instr::Jump(target) => Instr::Jump(lands(at, *target)),
         Instr::JumpZero(target) => Instr::JumpZero(lands(at, *target)),
-        Instr::Call(function) => Instr::Call(entry(ir, *function)),
-        Instr::Send(selector, takes, objects) => Instr::Send(*selector, *takes, *objects),
-        Instr::SendSuper(from, selector, takes, objects) => {
-            Instr::SendSuper(*from, *selector, *takes, *objects)
+        Instr::Call(function, gives) => Instr::Call(entry(ir, *function), *gives),
+        Instr::Send(selector, takes, objects, gives) => {
+            Instr::Send(*selector, *takes, *objects, *gives)
         }
-        Instr::SendTo(selector, takes, objects) => Instr::SendTo(*selector, *takes, *objects),
-        Instr::SendToSuper(from, selector, takes, objects) => {
-            Instr::SendToSuper(*from, *selector, *takes, *objects)
+        Instr::SendSuper(from, selector, takes, objects, gives) => {
+            Instr::SendSuper(*from, *selector, *takes, *objects, *gives)
+        }
+        Instr::SendTo(selector, takes, objects, gives) => {
+            Instr::SendTo(*selector, *takes, *objects, *gives)
+        }
+        Instr::SendToSuper(from, selector, takes, objects, gives) => {
+            Instr::SendToSuper(*from, *selector, *takes, *objects, *gives)
         }
         Instr::StoreStrong(number) => Instr::StoreStrong(*number),
         Instr::StoreGlobal(number) => Instr::StoreGlobal(*number),
         Instr::StoreField(class, index) => Instr::StoreField(*class, *index),
         Instr::Empty(number) => Instr::Empty(*number),
         Instr::DropAll => Instr::DropAll,
+        Instr::Settle => Instr::Settle,
+        Instr::Give => Instr::Give,
         Instr::Return => Instr::Return,
         Instr::EndStep => Instr::EndStep,
     }

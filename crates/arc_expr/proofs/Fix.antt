@@ -6,7 +6,7 @@ use Rattle.arc_ast.specs.declared.tree.BinaryOperator.TheVariants as operators
 use Rattle.arc_ast.specs.Tree.{ExprTree, Binary, begins}
 use Rattle.arc_form.specs.Form.{unlimited}
 use Rattle.arc_form.specs.Kinds.{mark, name}
-use Rattle.arc_form.specs.Reader.{Read, bind, ◌>>=◌, ret, sees, if_sees, take_one, from, named}
+use Rattle.arc_form.specs.Reader.{Read, bind, ◌>>=◌, ret, sees, if_sees, take_one, from}
 use Rattle.arc_form.specs.Operators.{marks_at, placed_operator}
 use Rattle.arc_form.specs.Views.{all}
 use Rattle.arc_form.proofs.Operators.{joined_is, pair_then, in_turn, second_then}

@@ -2,3 +2,4 @@ pub mod Table
 pub mod Fix
 pub mod Trees
 pub mod Bound
+pub mod Qualifiers

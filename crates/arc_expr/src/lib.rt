@@ -5,5 +5,6 @@ mod expr;
 pub mod full;
 mod literal;
 mod operator;
+pub mod qualifier;
 pub mod sign;
 pub mod type_name;

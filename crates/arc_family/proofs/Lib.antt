@@ -1,1 +1,1 @@
-pub mod Components
+pub mod Classes

@@ -1,4 +1,3 @@
 pub mod Rules
 pub mod Fault
-pub mod Families
 pub mod Methods

@@ -1,8 +1,8 @@
 -- Methods whose families are known.
 use Rattle.std.specs.Prelude.{ℕ, true, false, List}
 use Rattle.arc_ast.specs.declared.tree.Kind.TheVariants.{Int, Void, Object}
-use Rattle.arc_family.specs.declared.signature.Family.{Family}
-use Rattle.arc_family.specs.Families.{family_of}
+use Rattle.arc_spec.specs.declared.signature.Family.{Family}
+use Rattle.arc_spec.specs.Families.{family_of}
 
 -- the family of an instance method that returns an object
 abbrev pub of_instance_method : (selector : List ℕ) → Family

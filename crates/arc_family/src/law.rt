@@ -1,10 +1,10 @@
 //! What the definitions say of known methods. Nothing here is run.
 ghost use Rattle.std.specs.Prelude.{◌≡◌, [], ◌∷◌, ◌++◌, codes};
 ghost use Rattle.arc_family.specs.Methods.{of_instance_method, of_class_method, of_int_method, of_void_method};
-ghost use Rattle.arc_family.specs.declared.signature.Family.TheVariants as family;
+ghost use Rattle.arc_spec.specs.declared.signature.Family.TheVariants as family;
 
 /// Methods have the families that the language's rules give them.
-#[tactic(auto, unfolding(crate::specs::Families::without_underscores, crate::specs::Families::first_component, crate::specs::Families::begins_with_word))]
+#[tactic(auto, unfolding(arc_spec::specs::Families::without_underscores, arc_spec::specs::Families::first_component, arc_spec::specs::Families::begins_with_word))]
 pub fn known_methods()
     ensures whole_word { of_instance_method (codes "mutableCopy") ≡ family.MutableCopy }
     ensures letter_after { of_instance_method (codes "newThing") ≡ family.New }

@@ -1,6 +1,7 @@
 //! The rules of ownership.
 ghost use Rattle.std.specs.Prelude.{◌≡◌, [], IfOk, IfErr};
 ghost use Rattle.arc_ast.specs.Tree.{unit_tree};
+ghost use Rattle.arc_class.specs.Table.{IsTableOf};
 ghost use Rattle.arc_family.specs.Rules.{broken};
 ghost use Rattle.arc_family.specs.Fault.{Refuses};
 
@@ -12,17 +13,25 @@ use std::alloc::Global;
 
 /// A program that keeps the rules of ownership.
 #[derive(Drop)]
-pub struct Owned<'a> {
-    pub program: &'a Checked<'a>,
+pub struct Owned<'p, 'a, 't> {
+    pub program: &'p Checked<'a, 't>,
 }
 
-/// The program, where it keeps the rules of ownership (Objective-C Automatic Reference Counting); else the first rule that its source breaks.
-pub fn own<'a>(_alloc: Global, program: &'a Checked<'a>) -> Result<Owned<'a>, OwnFault>
+/// The program, which is one that `check` gave, where it keeps the rules of ownership (Objective-C Automatic Reference Counting); else the first rule that its source breaks.
+pub fn own<'p, 'a, 't>(
+    _alloc: Global,
+    program: &'p Checked<'a, 't>,
+) -> Result<Owned<'p, 'a, 't>, OwnFault>
+    requires { IsTableOf (unit_tree program.now.unit.now) program.now.table.now }
     ensures accepted { IfOk result (λ owned. broken (unit_tree program.now.unit.now) ≡ []) }
     ensures same { IfOk result (λ owned. owned.program.now ≡ program.now) }
     ensures refused { IfErr result (λ fault. Refuses (broken (unit_tree program.now.unit.now)) fault) }
 {
-    let mut ownership = Ownership { fault: None };
+    let mut ownership = Ownership {
+        unit: program.unit,
+        table: program.table,
+        fault: None,
+    };
     walk(&mut ownership, program.unit);
     match ownership.fault {
         Some(fault) => Err(fault),

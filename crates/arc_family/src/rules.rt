@@ -1,55 +1,119 @@
 //! The rules of ownership, each by its number.
-ghost use Rattle.std.specs.Prelude.{◌≡◌, option_map};
+ghost use Rattle.std.specs.Prelude.{◌≡◌, Some, None, option_map, if◌then◌else◌};
+ghost use Rattle.std.proofs.Props.{props};
+ghost use Rattle.arc_ast.specs.Tree.{UnitTree, type_tree, result_tree, head_tree, parameter_trees, parameters_tree, unit_tree};
+ghost use Rattle.arc_ast.specs.Types.{type_kind};
+ghost use Rattle.arc_class.specs.Table.{IsTableOf, number_of_class};
 ghost use Rattle.arc_sites.specs.Sites as sites;
 ghost use Rattle.arc_sites.specs.Violations.{first, at_if, violates};
 ghost use Rattle.arc_sites.specs.Finding.{enclosing_of, node_of, around, message_of};
 ghost use Rattle.arc_family.specs.Rules as rules;
 ghost use Rattle.arc_family.specs.Fault.{told};
 
-use arc_ast::tree::{Expr, Sign};
+use arc_ast::tree::{
+    Expr, Kind, MethodHead, Parameter, Parameters, Qualifiers, ResultType, Sign, TranslationUnit,
+    TypeName,
+};
+use arc_class::table::{ClassId, ClassTable};
 use arc_fault::own::OwnFault;
 use arc_sites::message::{Message, is_itself, is_to_itself, sent_message};
 use arc_sites::node::{Enclosing, Node};
 use arc_sites::violation::earlier;
 use arc_sites::walk::Visitor;
+use arc_spec::class::descends_from;
+use arc_spec::family::{is_owning, method_family};
+use arc_spec::signature::Family;
 
-/// The first rule of ownership that the sites so far break.
+/// The first rule of ownership that the sites so far break of a source, and the source's table.
 #[derive(Drop)]
-pub(crate) struct Ownership {
+pub(crate) struct Ownership<'a, 't> {
+    pub(crate) unit: &'a TranslationUnit,
+    pub(crate) table: &'t ClassTable<'a>,
     pub(crate) fault: Option<OwnFault>,
+    ghost known: { IsTableOf (unit_tree unit.now) table.now } by { Prim.hlevel props },
 }
 
-impl Visitor for Ownership {
-    ghost violations = { rules.violations };
+impl<'a, 't> Visitor for Ownership<'a, 't> {
+    ghost violations = { λ ownership. rules.violations (unit_tree ownership.unit.now) };
 
     ghost found = { λ ownership. option_map told ownership.fault };
 
     fn visit(&mut self, enclosing: Enclosing, node: Node) {
-        self.fault = earlier(self.fault, first_broken(enclosing, node));
+        self.fault = earlier(self.fault, first_broken(self.table, enclosing, node));
     }
 }
 
 /// The first rule that a site breaks.
-fn first_broken(enclosing: Enclosing, node: Node) -> Option<OwnFault>
-    ensures { (scope : sites.Scope) (need : sites.Need) → option_map told result ≡ first (rules.violations (around (enclosing_of enclosing.entry) scope need) (node_of node.entry)) }
+fn first_broken(table: &ClassTable, enclosing: Enclosing, node: Node) -> Option<OwnFault>
+    ensures { (u : UnitTree) → IsTableOf u table.now → (scope : sites.Scope) (need : sites.Need) → option_map told result ≡ first (rules.violations u (around (enclosing_of enclosing.entry) scope need) (node_of node.entry)) }
 {
-    let init = delegate_init(enclosing, node);
+    let qualifier = qualifier(node);
+    let result = earlier(init_result(table, enclosing, node), qualifier);
+    let init = earlier(delegate_init(table, enclosing, node), result);
     let dealloc = earlier(dealloc_sent(node), init);
     let manual = earlier(manual_memory(node), dealloc);
-    earlier(self_const(node), manual)
+    let unretained = earlier(unretained(node), manual);
+    earlier(self_const(enclosing, node), unretained)
 }
 
 /// 47 SelfConst.
-fn self_const(node: Node) -> Option<OwnFault>
-    ensures { (s : sites.Around) → option_map told result ≡ first (violates 47 (rules.rule_47 s (node_of node.entry))) }
+fn self_const(enclosing: Enclosing, node: Node) -> Option<OwnFault>
+    ensures { (scope : sites.Scope) (need : sites.Need) → option_map told result ≡ first (violates 47 (rules.rule_47 (around (enclosing_of enclosing.entry) scope need) (node_of node.entry))) }
 {
     match node {
         Node::Value(Expr::Assign(_, sign, left, _)) => {
-            if is_itself(left) {
+            if is_itself(left) && !owns_self(enclosing) {
                 Some(OwnFault::SelfConst(*sign))
             } else {
                 None
             }
+        }
+        _ => None,
+    }
+}
+
+/// The family of the method.
+fn head_family(head: &MethodHead) -> Family
+    ensures { result ≡ rules.head_family (head_tree head.now) }
+{
+    method_family(head.sign, &head.selector, head.result.kind())
+}
+
+/// Whether what has a node owns `self`.
+fn owns_self(enclosing: Enclosing) -> bool
+    ensures { result ≡ rules.owns_self (enclosing_of enclosing.entry) }
+{
+    match enclosing {
+        Enclosing::Method(_, head) => matches!(head_family(head), Family::Init),
+        _ => false,
+    }
+}
+
+/// Whether the method gives an object that it doesn't retain.
+fn gives_unretained(head: &MethodHead) -> bool
+    ensures { result ≡ rules.gives_unretained (head_tree head.now) }
+{
+    head.result.kind() == Kind::Object && !is_owning(head_family(head))
+}
+
+/// The fault, if it is so.
+fn fault_if(broken: bool, fault: OwnFault) -> Option<OwnFault>
+    ensures { result ≡ (if broken then Some fault else None) }
+{
+    if broken { Some(fault) } else { None }
+}
+
+/// 60 Unretained.
+fn unretained(node: Node) -> Option<OwnFault>
+    ensures { option_map told result ≡ first (violates 60 (rules.rule_60 (node_of node.entry))) }
+{
+    match node {
+        Node::Function(function) => {
+            let is_object = function.result.kind() == Kind::Object;
+            fault_if(is_object, OwnFault::Unretained(function.at))
+        }
+        Node::Declared(head) | Node::Defined(head) => {
+            fault_if(gives_unretained(head), OwnFault::Unretained(head.at))
         }
         _ => None,
     }
@@ -120,28 +184,161 @@ fn is_in_instance(enclosing: Enclosing) -> bool
     }
 }
 
-/// Whether a message delegates to an init method.
-fn is_delegated(enclosing: Enclosing, message: Message) -> bool
-    ensures { result ≡ rules.is_delegated (enclosing_of enclosing.entry) (message_of message.entry) }
+/// Whether a message is one of the init family.
+fn is_init_message(table: &ClassTable, message: Message) -> bool
+    ensures { (u : UnitTree) → IsTableOf u table.now → result ≡ rules.is_init_message u (message_of message.entry) }
 {
-    is_in_instance(enclosing) && is_to_itself(message) && message.selector == b"init".as_slice()
+    let kind = table.result_of_any(message.selector).unwrap_or(Kind::Void);
+    let family = method_family(Sign::Instance, message.selector, kind);
+    matches!(family, Family::Init)
+}
+
+/// Whether a message delegates to an init method.
+fn is_delegated(table: &ClassTable, enclosing: Enclosing, message: Message) -> bool
+    ensures { (u : UnitTree) → IsTableOf u table.now → result ≡ rules.is_delegated u (enclosing_of enclosing.entry) (message_of message.entry) }
+{
+    is_in_instance(enclosing)
+        && !owns_self(enclosing)
+        && is_to_itself(message)
+        && is_init_message(table, message)
 }
 
 /// 63 DelegateInit.
-fn delegate_init(enclosing: Enclosing, node: Node) -> Option<OwnFault>
-    ensures { (scope : sites.Scope) (need : sites.Need) → option_map told result ≡ first (violates 63 (rules.rule_63 (around (enclosing_of enclosing.entry) scope need) (node_of node.entry))) }
+fn delegate_init(table: &ClassTable, enclosing: Enclosing, node: Node) -> Option<OwnFault>
+    ensures { (u : UnitTree) → IsTableOf u table.now → (scope : sites.Scope) (need : sites.Need) → option_map told result ≡ first (violates 63 (rules.rule_63 u (around (enclosing_of enclosing.entry) scope need) (node_of node.entry))) }
 {
     match node {
         Node::Value(expr) => match sent_message(expr) {
             Some(message) => {
-                if is_delegated(enclosing, message) {
-                    Some(OwnFault::DelegateInit(message.part))
-                } else {
-                    None
-                }
+                fault_if(
+                    is_delegated(table, enclosing, message),
+                    OwnFault::DelegateInit(message.part),
+                )
             }
             None => None,
         },
+        _ => None,
+    }
+}
+
+/// The number of the class, if there is one.
+fn number_of(class: Option<ClassId>) -> Option<usize>
+    ensures { result ≡ option_map number_of_class class }
+{
+    match class {
+        None => None,
+        Some(class) => Some(class.0),
+    }
+}
+
+/// Whether a class is another one, or above it.
+fn is_above(table: &ClassTable, class: Option<ClassId>, other: Option<ClassId>) -> bool
+    ensures { (u : UnitTree) → IsTableOf u table.now → result ≡ rules.is_above u (option_map number_of_class class) (option_map number_of_class other) }
+{
+    let Some(class) = class else {
+        return false;
+    };
+    descends_from(&table.classes, number_of(other), class.0)
+}
+
+/// Whether one of two classes is the other one, or above it.
+fn are_related(table: &ClassTable, name: &[u8], other: &[u8]) -> bool
+    ensures { (u : UnitTree) → IsTableOf u table.now → result ≡ rules.are_related u name.now other.now }
+{
+    let one = table.objc_get_class(name);
+    let second = table.objc_get_class(other);
+    is_above(table, one, second) || is_above(table, second, one)
+}
+
+/// Whether an init method of a class may give an object of the type.
+fn may_be_given(table: &ClassTable, class: &[u8], written: &ResultType) -> bool
+    ensures { (u : UnitTree) → IsTableOf u table.now → result ≡ rules.may_be_given u class.now (result_tree written.now) }
+{
+    match written {
+        ResultType::Value(TypeName::Object(_, name)) => are_related(table, class, name),
+        _ => true,
+    }
+}
+
+/// 66 InitResult, of a method of a class.
+fn wrong_init(table: &ClassTable, class: &[u8], head: &MethodHead) -> Option<OwnFault>
+    ensures { (u : UnitTree) → IsTableOf u table.now → option_map told result ≡ first (violates 66 (at_if (rules.is_wrong_init u class.now (head_tree head.now)) head.now.at)) }
+{
+    let is_init = matches!(head_family(head), Family::Init);
+    let broken = is_init && !may_be_given(table, class, &head.result);
+    fault_if(broken, OwnFault::InitResult(head.at))
+}
+
+/// 66 InitResult.
+fn init_result(table: &ClassTable, enclosing: Enclosing, node: Node) -> Option<OwnFault>
+    ensures { (u : UnitTree) → IsTableOf u table.now → option_map told result ≡ first (violates 66 (rules.rule_66 u (enclosing_of enclosing.entry) (node_of node.entry))) }
+{
+    match (enclosing, node) {
+        (Enclosing::Interface(interface), Node::Declared(head)) => {
+            wrong_init(table, &interface.name, head)
+        }
+        (Enclosing::Method(implementation, _), Node::Defined(head)) => {
+            wrong_init(table, &implementation.name, head)
+        }
+        _ => None,
+    }
+}
+
+/// Whether the qualifiers can't stand of what is of the kind.
+fn is_misqualified(qualifiers: Qualifiers, kind: Kind) -> bool
+    ensures { result ≡ rules.is_misqualified qualifiers kind }
+{
+    match qualifiers {
+        Qualifiers::Unqualified => false,
+        Qualifiers::Qualified(_) => kind != Kind::Object,
+        Qualifiers::Several => true,
+    }
+}
+
+/// 67 Qualifier, of what has the qualifiers and the type.
+fn misqualified(qualifiers: Qualifiers, type_name: &TypeName, at: usize) -> Option<OwnFault>
+    ensures { option_map told result ≡ first (violates 67 (at_if (rules.is_misqualified qualifiers (type_kind (type_tree type_name.now))) at)) }
+{
+    let broken = is_misqualified(qualifiers, type_name.kind());
+    fault_if(broken, OwnFault::Qualifier(at))
+}
+
+/// 67 Qualifier, of parameters.
+fn misqualified_among(all: &[Parameter]) -> Option<OwnFault>
+    ensures { option_map told result ≡ first (violates 67 (rules.misqualified_among (parameter_trees all.now))) }
+{
+    for parameter in all {
+        let fault = misqualified(parameter.qualifiers, &parameter.type_name, parameter.at);
+        if fault.is_some() {
+            return fault;
+        }
+    }
+    None
+}
+
+/// The parameters that a function lists.
+fn listed(parameters: &Parameters) -> &[Parameter]
+    ensures { parameter_trees result.now ≡ sites.named_parameters (parameters_tree parameters.now) }
+{
+    match parameters {
+        Parameters::Listed(all) => all,
+        Parameters::CountAndTexts => &[],
+    }
+}
+
+/// 67 Qualifier.
+fn qualifier(node: Node) -> Option<OwnFault>
+    ensures { option_map told result ≡ first (violates 67 (rules.rule_67 (node_of node.entry))) }
+{
+    match node {
+        Node::Variable(before, type_name, variable) => {
+            let all = before.both(variable.qualifiers);
+            misqualified(all, type_name, variable.at)
+        }
+        Node::Global(global) => misqualified(global.qualifiers, &global.type_name, global.at),
+        Node::Field(field) => misqualified(field.qualifiers, &field.type_name, field.at),
+        Node::Function(function) => misqualified_among(listed(&function.parameters)),
+        Node::Declared(head) | Node::Defined(head) => misqualified_among(&head.parameters),
         _ => None,
     }
 }

@@ -13,6 +13,11 @@ use Rattle.arc_ast.specs.declared.tree.Sign.{Sign}
 use Rattle.arc_ast.specs.declared.tree.Sign.TheVariants as signs
 use Rattle.arc_ast.specs.declared.tree.Visibility.{Visibility}
 use Rattle.arc_ast.specs.declared.tree.Visibility.TheVariants as seen
+use Rattle.arc_ast.specs.declared.tree.Qual.{Qual}
+use Rattle.arc_ast.specs.declared.tree.Qual.TheVariants as quals
+use Rattle.arc_ast.specs.declared.tree.Qualifiers.{Qualifiers}
+use Rattle.arc_ast.specs.declared.tree.Qualifiers.TheVariants.{Unqualified, Qualified}
+use Rattle.arc_ast.specs.Types.{and_qualifier, both_qualifiers}
 use Rattle.arc_ast.specs.declared.tree.BinaryOperator.{BinaryOperator}
 use Rattle.arc_ast.specs.declared.tree.BinaryOperator.TheVariants as operators
 use Rattle.arc_ast.specs.declared.tree.Moment.{Moment}
@@ -21,7 +26,7 @@ use Rattle.arc_ast.specs.declared.tree.UnaryOperator.{UnaryOperator}
 use Rattle.arc_ast.specs.declared.tree.UnaryOperator.TheVariants as unary_operators
 use Rattle.arc_ast.specs.declared.tree.Constant.{Constant}
 use Rattle.arc_ast.specs.declared.tree.Constant.TheVariants as constants
-use Rattle.arc_ast.specs.Tree.{TypeTree, ResultTree, ExprTree, ExprTrees, VariableTree, StmtTree, StmtTrees, ParameterTree, ParametersTree, FunctionTree, GlobalTree, HeadTree, MethodTree, FieldTree, InterfaceTree, ImplementationTree, UnitTree, Boolean, Int, Long, Id, Object, Void, Value, Integer, Text, Paren, Call, Nil, Itself, Name, Unary, Cast, Binary, Conditional, Arrow, Assign, Update, Send, SendSuper, no_exprs, and_expr, Block, Empty, Simple, Return, Variables, If, IfElse, While, Do, For, Break, Continue, no_stmts, and_stmt, Listed, CountAndTexts, begins}
+use Rattle.arc_ast.specs.Tree.{TypeTree, ResultTree, ExprTree, ExprTrees, VariableTree, StmtTree, StmtTrees, ParameterTree, ParametersTree, FunctionTree, GlobalTree, HeadTree, MethodTree, FieldTree, InterfaceTree, ImplementationTree, UnitTree, Boolean, Int, Long, Id, Object, Void, Value, Related, Integer, Text, Paren, Call, Nil, Itself, Name, Unary, Cast, Binary, Conditional, Arrow, Assign, Update, Send, SendSuper, no_exprs, and_expr, Block, Empty, Simple, Return, Variables, If, IfElse, While, Do, For, Break, Continue, no_stmts, and_stmt, Listed, CountAndTexts, begins}
 use Rattle.arc_grammar.specs.declared.limits.TheConstants.{DEEPEST, MOST_TOKENS}
 use Rattle.arc_form.specs.Kinds.{Kinds, none, ◌∪◌, mark, word, at, name, main, other_name, integer, text}
 use Rattle.arc_form.specs.Reader.{Reader, ◌>>=◌, ret, from}
@@ -207,6 +212,30 @@ other_value_type = choose name class_type (choose (word w.Id) id_type other_type
 
 abbrev pub begins_other_value_type : Kinds
 begins_other_value_type = name ∪ word w.Id ∪ begins_other_type
+
+-- ---- ownership qualifiers (ARC, "Ownership qualification")
+
+abbrev pub begins_qualifier : Kinds
+begins_qualifier = word w.Strong
+
+-- `__strong`, the only one that is read
+unfoldable pub qualifier : Part Qual
+qualifier = map (λ at. quals.Strong) (key w.Strong)
+
+unfoldable pub more_qualifiers : Part (Qualifiers → Qualifiers)
+more_qualifiers = map (λ others all. fold and_qualifier all others) (many begins_qualifier qualifier)
+
+-- as many as there are
+unfoldable pub qualifiers : Part Qualifiers
+qualifiers = map (λ make. make Unqualified) more_qualifiers
+
+-- one or more
+unfoldable pub some_qualifiers : Part Qualifiers
+some_qualifiers = map (λ (first, make). make (Qualified first)) (qualifier ⨾ more_qualifiers)
+
+-- what depends on the qualifiers before it, where there are none
+abbrev pub unqualified : {A : Type 0} → Part (Qualifiers → A) → Part A
+unqualified part = map (λ make. make Unqualified) part
 
 -- ---- expressions (C99, section 6.5)
 
@@ -439,8 +468,9 @@ full = bounded expression
 unfoldable pub initial : Part (Option ExprTree)
 initial = choose (mark m.Assign) (map (λ (sign, e). Some e) (the m.Assign ⨾ full)) (give None)
 
+-- the qualifiers of a variable alone, its name, and perhaps what it begins with
 unfoldable pub variable : Part VariableTree
-variable = map (λ (n, e). record { at = n.0; name = n.1; initial = e }) (called ⨾ initial)
+variable = map (λ (q, (n, e)). record { at = n.0; qualifiers = q; name = n.1; initial = e }) (qualifiers ⨾ called ⨾ initial)
 
 unfoldable pub next_variable : Part VariableTree
 next_variable = map (λ (comma, v). v) (the m.Comma ⨾ variable)
@@ -448,9 +478,9 @@ next_variable = map (λ (comma, v). v) (the m.Comma ⨾ variable)
 unfoldable pub more_variables : Part (List VariableTree)
 more_variables = many (mark m.Comma) next_variable
 
--- a type that names no class, variables and `;`
-unfoldable pub declaration : Part StmtTree
-declaration = map (λ (type, (v, (others, end))). Variables type.0 type.1 (v ∷ others)) (plain_type ⨾ variable ⨾ more_variables ⨾ the m.Semicolon)
+-- a type that names no class, variables and `;`, after qualifiers
+unfoldable pub declaration : Part (Qualifiers → StmtTree)
+declaration = map (λ (type, (v, (others, end))) q. Variables type.0 q type.1 (v ∷ others)) (plain_type ⨾ variable ⨾ more_variables ⨾ the m.Semicolon)
 
 -- `*` and a variable (6.7.5.1)
 unfoldable pub reference : Part VariableTree
@@ -462,9 +492,13 @@ next_reference = map (λ (comma, v). v) (the m.Comma ⨾ reference)
 unfoldable pub more_references : Part (List VariableTree)
 more_references = many (mark m.Comma) next_reference
 
--- a class's name, variables with a `*` each, and `;`
-unfoldable pub objects : Part StmtTree
-objects = map (λ (n, (v, (others, end))). Variables n.0 (Object n.0 n.1) (v ∷ others)) (called ⨾ reference ⨾ more_references ⨾ the m.Semicolon)
+-- a class's name, variables with a `*` each, and `;`, after qualifiers
+unfoldable pub objects : Part (Qualifiers → StmtTree)
+objects = map (λ (n, (v, (others, end))) q. Variables n.0 q (Object n.0 n.1) (v ∷ others)) (called ⨾ reference ⨾ more_references ⨾ the m.Semicolon)
+
+-- qualifiers, a type, variables and `;`
+unfoldable pub qualified_declaration : Part StmtTree
+qualified_declaration = map (λ (q, make). make q) (some_qualifiers ⨾ choose name objects declaration)
 
 -- ---- statements (C99, section 6.8)
 
@@ -521,7 +555,8 @@ do_while d = map (λ (at, (a, c)). Do at a c) (key w.Do ⨾ call (stmt (suc d)) 
 
 -- what comes before a `for`: a declaration, an expression or nothing, and `;` (6.8.5.3)
 unfoldable pub beginning : Part StmtTree
-beginning = choose begins_plain_type declaration (two_ahead name (mark m.Star) objects (choose (mark m.Semicolon) empty simple))
+beginning = choose begins_qualifier qualified_declaration (choose begins_plain_type (unqualified declaration)
+    (two_ahead name (mark m.Star) (unqualified objects) (choose (mark m.Semicolon) empty simple)))
 
 -- what comes after each turn of a `for`, and `)`
 unfoldable pub step : Part (Option ExprTree)
@@ -543,13 +578,13 @@ continuing = map (λ (at, end). Continue at) (key w.Continue ⨾ the m.Semicolon
 
 -- a declaration, where a name and `*` are ahead, or a statement
 unfoldable pub by_name : ℕ → Part StmtTree
-by_name d = two_ahead name (mark m.Star) objects (call (stmt d))
+by_name d = two_ahead name (mark m.Star) (unqualified objects) (call (stmt d))
 
 unfoldable pub item : ℕ → Part StmtTree
-item d = choose begins_plain_type declaration (by_name d)
+item d = choose begins_qualifier qualified_declaration (choose begins_plain_type (unqualified declaration) (by_name d))
 
 abbrev pub begins_item : Kinds
-begins_item = begins_plain_type ∪ begins_stmt
+begins_item = begins_qualifier ∪ begins_plain_type ∪ begins_stmt
 
 unfoldable pub items : ℕ → Part (List StmtTree)
 items d = many begins_item (item d)
@@ -569,13 +604,15 @@ statement d = choose (mark m.OpenBrace) (block d) (choose (mark m.Semicolon) emp
 
 -- ---- functions (C99, section 6.9.1; those of `main`, 5.1.2.2.1)
 
--- `void`, or a type of numbers
-unfoldable pub result_type : Part ResultTree
-result_type = choose (word w.Void) (map (λ void. Void) (key w.Void)) (map (λ type. Value type.1) number_type)
+abbrev pub parameter_of : Qualifiers → TypeTree → ℕ × List ℕ → ParameterTree
+parameter_of q type n = record { at = n.0; type = type; qualifiers = q; name = n.1 }
 
--- a type and a name
+-- a type and a name, each after qualifiers
 unfoldable pub parameter : Part ParameterTree
-parameter = map (λ (type, n). record { at = n.0; type = type.1; name = n.1 }) (value_type ⨾ called)
+parameter = map (λ (before, (type, (q, n))). parameter_of (both_qualifiers before q) type.1 n) (qualifiers ⨾ value_type ⨾ qualifiers ⨾ called)
+
+abbrev pub begins_parameter : Kinds
+begins_parameter = begins_qualifier ∪ begins_value_type
 
 unfoldable pub next_parameter : Part ParameterTree
 next_parameter = map (λ (comma, p). p) (the m.Comma ⨾ parameter)
@@ -590,7 +627,7 @@ unfoldable pub some_parameters : Part ParametersTree
 some_parameters = map (λ (p, others). Listed (p ∷ others)) (parameter ⨾ more_parameters)
 
 unfoldable pub parameters : Part ParametersTree
-parameters = choose (word w.Void) void_parameters (choose begins_value_type some_parameters (give (Listed [])))
+parameters = choose (word w.Void) void_parameters (choose begins_parameter some_parameters (give (Listed [])))
 
 -- `name[]` or `*name`
 unfoldable pub texts_name : Part (Unit {0})
@@ -606,23 +643,37 @@ texts = map (λ _ count. CountAndTexts) (perhaps_const ⨾ key w.Char ⨾ the m.
 unfoldable pub further_parameters : Part (ParameterTree → ParametersTree)
 further_parameters = map (λ (q, others) p. Listed (p ∷ q ∷ others)) (parameter ⨾ more_parameters)
 
--- a first parameter of `main` that is an `int`, as the count of texts is
-unfoldable pub count : Part ParameterTree
-count = map (λ (int, n). record { at = n.0; type = Int; name = n.1 }) (key w.Int ⨾ called)
-
--- what is after it and a comma
+-- what is after a first parameter of `main` that is an `int`, as the count of texts is, and a comma
 unfoldable pub second : Part (ParameterTree → ParametersTree)
 second = map (λ (comma, make). make) (the m.Comma ⨾ choose (word w.Const ∪ word w.Char) texts further_parameters)
 
-unfoldable pub some_of_main : Part ParametersTree
-some_of_main = map (λ (p, make). make p) (count ⨾ choose (mark m.Comma) second (give (λ p. Listed (p ∷ []))))
+-- the name of such a parameter, and what is after it
+unfoldable pub counted_of_main : Part ParametersTree
+counted_of_main = map (λ (n, make). make (parameter_of Unqualified Int n)) (called ⨾ choose (mark m.Comma) second (give (λ p. Listed (p ∷ []))))
 
--- a first parameter of another type, with which no program begins, and further ones
+-- qualifiers and the name of a parameter of a type, and further ones
+unfoldable pub qualified_of_main : Part (TypeTree → ParametersTree)
+qualified_of_main = map (λ (q, (n, others)) type. Listed (parameter_of q type n ∷ others)) (some_qualifiers ⨾ called ⨾ more_parameters)
+
+unfoldable pub int_of_main : Part ParametersTree
+int_of_main = map (λ (int, ps). ps) (key w.Int ⨾ choose begins_qualifier (map (λ make. make Int) qualified_of_main) counted_of_main)
+
+-- a first parameter that begins with qualifiers or is of another type, with which no program begins, and further ones
+unfoldable pub qualified_type_of_main : Part ParametersTree
+qualified_type_of_main = map (λ ((before, (type, (q, n))), others). Listed (parameter_of (both_qualifiers before q) type.1 n ∷ others))
+    ((some_qualifiers ⨾ value_type ⨾ qualifiers ⨾ called) ⨾ more_parameters)
+
 unfoldable pub others_of_main : Part ParametersTree
-others_of_main = map (λ ((type, n), others). Listed (record { at = n.0; type = type.1; name = n.1 } ∷ others)) ((other_value_type ⨾ called) ⨾ more_parameters)
+others_of_main = map (λ ((type, (q, n)), others). Listed (parameter_of q type.1 n ∷ others)) ((other_value_type ⨾ qualifiers ⨾ called) ⨾ more_parameters)
+
+unfoldable pub some_of_main : Part ParametersTree
+some_of_main = choose begins_qualifier qualified_type_of_main (choose (word w.Int) int_of_main others_of_main)
+
+abbrev pub begins_of_main : Kinds
+begins_of_main = begins_qualifier ∪ word w.Int ∪ begins_other_value_type
 
 unfoldable pub parameters_of_main : Part ParametersTree
-parameters_of_main = choose (word w.Void) void_parameters (choose (word w.Int) some_of_main (choose begins_other_value_type others_of_main (give (Listed []))))
+parameters_of_main = choose (word w.Void) void_parameters (choose begins_of_main some_of_main (give (Listed [])))
 
 -- the block of a function or a method, whose statements are at depth 2
 unfoldable pub braces : Part StmtTrees
@@ -675,39 +726,47 @@ constant = choose (mark m.Minus) negative_constant plain_constant
 unfoldable pub first_constant : Part (Option Constant)
 first_constant = choose (mark m.Assign) (map (λ (sign, value). Some value) (the m.Assign ⨾ constant)) (give None)
 
--- a name and perhaps what it begins with, of a variable whose type is known
-unfoldable pub global : Part (TypeTree → GlobalTree)
-global = map (λ (n, value) type. record { at = n.0; type = type; name = n.1; initial = value }) (called ⨾ first_constant)
+-- the qualifiers before a type, and the type
+abbrev pub QualifiedType : Type 0
+QualifiedType = Qualifiers × TypeTree
 
-unfoldable pub next_global : Part (TypeTree → GlobalTree)
+-- qualifiers, a name and perhaps what it begins with, of a variable whose type is known
+unfoldable pub global : Part (QualifiedType → GlobalTree)
+global = map (λ (q, (n, value)) type. record { at = n.0; type = type.1; qualifiers = both_qualifiers type.0 q; name = n.1; initial = value }) (qualifiers ⨾ called ⨾ first_constant)
+
+unfoldable pub next_global : Part (QualifiedType → GlobalTree)
 next_global = map (λ (comma, make). make) (the m.Comma ⨾ global)
 
-unfoldable pub more_globals : Part (List (TypeTree → GlobalTree))
+unfoldable pub more_globals : Part (List (QualifiedType → GlobalTree))
 more_globals = many (mark m.Comma) next_global
 
 -- one variable or more of a type that is known, and `;`
-unfoldable pub globals : Part (TypeTree → List GlobalTree)
+unfoldable pub globals : Part (QualifiedType → List GlobalTree)
 globals = map (λ (make, (others, end)) type. make type ∷ list_map (λ other. other type) others) (global ⨾ more_globals ⨾ the m.Semicolon)
 
 -- `*` and such a variable, which names objects of a class that is known
-unfoldable pub global_reference : Part (TypeTree → GlobalTree)
+unfoldable pub global_reference : Part (QualifiedType → GlobalTree)
 global_reference = map (λ (star, make). make) (the m.Star ⨾ global)
 
-unfoldable pub next_global_reference : Part (TypeTree → GlobalTree)
+unfoldable pub next_global_reference : Part (QualifiedType → GlobalTree)
 next_global_reference = map (λ (comma, make). make) (the m.Comma ⨾ global_reference)
 
-unfoldable pub more_global_references : Part (List (TypeTree → GlobalTree))
+unfoldable pub more_global_references : Part (List (QualifiedType → GlobalTree))
 more_global_references = many (mark m.Comma) next_global_reference
 
--- one or more of these, and `;`
-unfoldable pub global_references : Part (TypeTree → List GlobalTree)
-global_references = map (λ (make, (others, end)) type. make type ∷ list_map (λ other. other type) others) (global_reference ⨾ more_global_references ⨾ the m.Semicolon)
+-- one or more of these, of which the first is behind its `*`, and `;`
+unfoldable pub global_references : Part (QualifiedType → List GlobalTree)
+global_references = map (λ (make, (others, end)) type. make type ∷ list_map (λ other. other type) others) (global ⨾ more_global_references ⨾ the m.Semicolon)
 
 -- ---- methods (OPL, "Defining a Class")
 
--- a colon, a type in parentheses and the parameter's name
+-- in parentheses a type, after and before qualifiers
+unfoldable pub enclosed_type : Part QualifiedType
+enclosed_type = map (λ (start, (before, (type, (q, end)))). (both_qualifiers before q, type.1)) (the m.OpenParen ⨾ qualifiers ⨾ value_type ⨾ qualifiers ⨾ the m.CloseParen)
+
+-- a colon, a type in parentheses, or else `id`, and the parameter's name
 unfoldable pub typed : Part ParameterTree
-typed = map (λ (colon, (start, (type, (end, n)))). record { at = n.0; type = type.1; name = n.1 }) (the m.Colon ⨾ the m.OpenParen ⨾ value_type ⨾ the m.CloseParen ⨾ called)
+typed = map (λ (colon, (type, n)). parameter_of type.0 type.1 n) (the m.Colon ⨾ choose (mark m.OpenParen) enclosed_type (give (Unqualified, Id)) ⨾ called)
 
 unfoldable pub next_typed : Part (List ℕ × ParameterTree)
 next_typed = map (λ (n, p). (n.1, p)) (called ⨾ typed)
@@ -725,9 +784,19 @@ selector = map (λ (n, make). make n.1) (called ⨾ choose (mark m.Colon) typed_
 unfoldable pub sign : Part (ℕ × Sign)
 sign = choose (mark m.Plus) (map (λ at. (at, signs.Class)) (the m.Plus)) (map (λ at. (at, signs.Instance)) (the m.Minus))
 
+-- `void`, `instancetype`, or the type of a value
+unfoldable pub result_type : Part ResultTree
+result_type = choose (word w.Void) (map (λ void. Void) (key w.Void)) (choose (word w.InstanceType) (map (λ related. Related) (key w.InstanceType)) (map (λ type. Value type.1) value_type))
+
+unfoldable pub enclosed_result : Part ResultTree
+enclosed_result = map (λ (start, (type, end)). type) (the m.OpenParen ⨾ result_type ⨾ the m.CloseParen)
+
+-- the type of what a method gives, in parentheses, or else `id`
+unfoldable pub method_result : Part ResultTree
+method_result = choose (mark m.OpenParen) enclosed_result (give (Value Id))
+
 unfoldable pub method_head : Part HeadTree
-method_head = map (λ (s, (start, (type, (end, all)))). record { at = s.0; sign = s.1; selector = all.0; result = type; parameters = all.1 })
-    (sign ⨾ the m.OpenParen ⨾ result_type ⨾ the m.CloseParen ⨾ selector)
+method_head = map (λ (s, (type, all)). record { at = s.0; sign = s.1; selector = all.0; result = type; parameters = all.1 }) (sign ⨾ method_result ⨾ selector)
 
 abbrev pub begins_method : Kinds
 begins_method = mark m.Plus ∪ mark m.Minus
@@ -750,15 +819,22 @@ methods = many begins_method method
 
 -- ---- fields (OPL, "Instance Variables")
 
--- what stands among the fields of a class: a word on those after it, or names of fields of one type, each with its place
+-- the name of a field with its place, and the qualifiers before it
+abbrev pub QualifiedName : Type 0
+QualifiedName = Qualifiers × (ℕ × List ℕ)
+
+-- what stands among the fields of a class: a word on those after it, or names of fields of one type
 pub data FieldGroup : Type 0 where
   OfWord : Visibility → FieldGroup
-  OfType : TypeTree → List (ℕ × List ℕ) → FieldGroup
+  OfType : QualifiedType → List QualifiedName → FieldGroup
+
+abbrev pub field_of : Visibility → QualifiedType → QualifiedName → FieldTree
+field_of v type (q, n) = record { at = n.0; type = type.1; qualifiers = both_qualifiers type.0 q; name = n.1; visibility = v }
 
 -- fields of this type and these names that are visible so, and then others
-abbrev pub named_fields : Visibility → TypeTree → List (ℕ × List ℕ) → List FieldTree → List FieldTree
+abbrev pub named_fields : Visibility → QualifiedType → List QualifiedName → List FieldTree → List FieldTree
 named_fields v type [] others = others
-named_fields v type (n ∷ names) others = record { at = n.0; type = type; name = n.1; visibility = v } ∷ named_fields v type names others
+named_fields v type (n ∷ names) others = field_of v type n ∷ named_fields v type names others
 
 -- the fields of these groups, of which those before a word are visible so
 abbrev pub fields_of : Visibility → List FieldGroup → List FieldTree
@@ -780,29 +856,49 @@ next_name = map (λ (comma, n). n) (the m.Comma ⨾ called)
 unfoldable pub more_names : Part (List (ℕ × List ℕ))
 more_names = many (mark m.Comma) next_name
 
--- a type that names no class, names and `;`
-unfoldable pub plain_fields : Part FieldGroup
-plain_fields = map (λ (type, (n, (others, end))). OfType type.1 (n ∷ others)) (plain_type ⨾ called ⨾ more_names ⨾ the m.Semicolon)
+-- qualifiers and a name
+unfoldable pub qualified_name : Part QualifiedName
+qualified_name = qualifiers ⨾ called
 
--- `*` and a name
-unfoldable pub starred_name : Part (ℕ × List ℕ)
-starred_name = map (λ (star, n). n) (the m.Star ⨾ called)
+unfoldable pub next_qualified_name : Part QualifiedName
+next_qualified_name = map (λ (comma, n). n) (the m.Comma ⨾ qualified_name)
 
-unfoldable pub next_starred_name : Part (ℕ × List ℕ)
+unfoldable pub more_qualified_names : Part (List QualifiedName)
+more_qualified_names = many (mark m.Comma) next_qualified_name
+
+-- a type that names no class, names and `;`, after qualifiers
+unfoldable pub plain_fields : Part (Qualifiers → FieldGroup)
+plain_fields = map (λ (type, (n, (others, end))) q. OfType (q, type.1) (n ∷ others)) (plain_type ⨾ qualified_name ⨾ more_qualified_names ⨾ the m.Semicolon)
+
+-- `*` and a name after qualifiers
+unfoldable pub starred_name : Part QualifiedName
+starred_name = map (λ (star, n). n) (the m.Star ⨾ qualified_name)
+
+unfoldable pub next_starred_name : Part QualifiedName
 next_starred_name = map (λ (comma, n). n) (the m.Comma ⨾ starred_name)
 
-unfoldable pub more_starred_names : Part (List (ℕ × List ℕ))
+unfoldable pub more_starred_names : Part (List QualifiedName)
 more_starred_names = many (mark m.Comma) next_starred_name
 
--- a class's name, names with a `*` each, and `;`
-unfoldable pub object_fields : Part FieldGroup
-object_fields = map (λ (class, (n, (others, end))). OfType (Object class.0 class.1) (n ∷ others)) (called ⨾ starred_name ⨾ more_starred_names ⨾ the m.Semicolon)
+-- a class's name, names with a `*` each, and `;`, after qualifiers
+unfoldable pub object_fields : Part (Qualifiers → FieldGroup)
+object_fields = map (λ (class, (n, (others, end))) q. OfType (q, Object class.0 class.1) (n ∷ others)) (called ⨾ starred_name ⨾ more_starred_names ⨾ the m.Semicolon)
+
+-- fields of a type, after qualifiers
+unfoldable pub typed_fields : Part (Qualifiers → FieldGroup)
+typed_fields = choose name object_fields plain_fields
+
+unfoldable pub qualified_fields : Part FieldGroup
+qualified_fields = map (λ (q, make). make q) (qualifiers ⨾ typed_fields)
+
+abbrev pub begins_fields : Kinds
+begins_fields = begins_qualifier ∪ begins_value_type
 
 unfoldable pub group : Part FieldGroup
-group = choose name object_fields (choose begins_plain_type plain_fields (map OfWord (token begins_visibility (λ t. visibility_of t.sort))))
+group = choose begins_fields qualified_fields (map OfWord (token begins_visibility (λ t. visibility_of t.sort)))
 
 unfoldable pub groups : Part (List FieldGroup)
-groups = many (begins_value_type ∪ begins_visibility) group
+groups = many (begins_fields ∪ begins_visibility) group
 
 -- no fields, or braces with them; those before any word are visible so
 unfoldable pub fields : Visibility → Part (List FieldTree)
@@ -845,32 +941,43 @@ of_void = map (λ (void, make). OfFunction (make Void)) (key w.Void ⨾ function
 abbrev pub of_function : (ResultTree → FunctionTree) → TypeTree → TopTree
 of_function make type = OfFunction (make (Value type))
 
--- what is after a type of numbers: a function, where a name and `(` are ahead, or variables
-unfoldable pub typed_top : Part (TypeTree → TopTree)
-typed_top = two_ahead main (mark m.OpenParen) (map of_function main_function)
-    (two_ahead other_name (mark m.OpenParen) (map of_function other_function) (map (λ make type. OfGlobals (make type)) globals))
+-- variables of a type without qualifiers before it
+abbrev pub of_globals : (QualifiedType → List GlobalTree) → TypeTree → TopTree
+of_globals make type = OfGlobals (make (Unqualified, type))
 
-unfoldable pub of_numbers : Part TopTree
-of_numbers = map (λ (type, make). make type.1) (number_type ⨾ typed_top)
+-- what is after a type: a function, where a name and `(` are ahead, or these variables
+unfoldable pub typed_top : Part (QualifiedType → List GlobalTree) → Part (TypeTree → TopTree)
+typed_top variables = two_ahead main (mark m.OpenParen) (map of_function main_function)
+    (two_ahead other_name (mark m.OpenParen) (map of_function other_function) (map of_globals variables))
 
--- `id`, and variables; no function gives an object yet
-unfoldable pub of_any_objects : Part TopTree
-of_any_objects = map (λ (at, make). OfGlobals (make Id)) (key w.Id ⨾ globals)
+-- a type that names no class, and a function or variables
+unfoldable pub of_plain : Part TopTree
+of_plain = map (λ (type, make). make type.1) (plain_type ⨾ typed_top globals)
 
--- a class's name, and variables with a `*` each
+-- a class's name and `*`, and a function, or variables of which the others have a `*` each
 unfoldable pub of_objects : Part TopTree
-of_objects = map (λ (n, make). OfGlobals (make (Object n.0 n.1))) (called ⨾ global_references)
+of_objects = map (λ (type, make). make type.1) (class_type ⨾ typed_top global_references)
+
+-- the same after qualifiers, where only variables may come
+unfoldable pub plain_globals : Part (Qualifiers → TopTree)
+plain_globals = map (λ (type, make) q. OfGlobals (make (q, type.1))) (plain_type ⨾ globals)
+
+unfoldable pub object_globals : Part (Qualifiers → TopTree)
+object_globals = map (λ (type, make) q. OfGlobals (make (q, type.1))) (class_type ⨾ global_references)
+
+unfoldable pub of_qualified : Part TopTree
+of_qualified = map (λ (q, make). make q) (some_qualifiers ⨾ choose name object_globals plain_globals)
 
 -- a function or variables
 unfoldable pub external : Part TopTree
-external = map (λ (static, t). t) (perhaps_static ⨾ choose (word w.Void) of_void (choose (word w.Id) of_any_objects (choose name of_objects of_numbers)))
+external = map (λ (static, t). t) (perhaps_static ⨾ choose (word w.Void) of_void (choose begins_qualifier of_qualified (choose name of_objects of_plain)))
 
 unfoldable pub top : Part TopTree
 top = choose (at words.Class) (map (λ _. OfNames) class_names) (choose (at words.Interface) (map OfInterface interface)
     (choose (at words.Implementation) (map OfImplementation implementation) external))
 
 abbrev pub begins_top : Kinds
-begins_top = at words.Class ∪ at words.Interface ∪ at words.Implementation ∪ word w.Static ∪ word w.Void ∪ begins_value_type
+begins_top = at words.Class ∪ at words.Interface ∪ at words.Implementation ∪ word w.Static ∪ word w.Void ∪ begins_qualifier ∪ begins_value_type
 
 unfoldable pub tops : Part (List TopTree)
 tops = many begins_top top

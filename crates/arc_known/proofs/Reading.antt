@@ -22,6 +22,7 @@ use Rattle.arc_class.specs.ClassRules.{broken}
 use Rattle.arc_check.specs.Rules.{broken_unit}
 use Rattle.arc_check.specs.Resolving.{resolved_unit}
 use Rattle.arc_family.specs.Rules as ownership
+use Rattle.arc_spec.specs.Families.{without_underscores, first_component, begins_with_word}
 use Rattle.arc_spec.specs.declared.event.Event.{Event}
 use Rattle.arc_spec.specs.Correct.{Sight, Stop, meaning_seen}
 use Rattle.arc_spec.specs.Meaning.{mean}
@@ -31,7 +32,7 @@ use Rattle.arc_known.proofs.Cutting.{tokens_of, cuts, fault_in, breaks}
 
 -- `unfolding reading` opens what the computing of a tree and its meaning calls
 unfoldable pub reading : Unit {0}
-unfolding lines read deep read_whole loop nested up_to piece name_piece number_piece text_piece character_piece at_piece line_piece slash_piece mark_piece digits
+unfolding lines read deep read_whole loop nested up_to piece name_piece number_piece text_piece character_piece at_piece line_piece slash_piece mark_piece digits without_underscores first_component begins_with_word
 reading = tt
 
 abbrev pub tree_read : Read UnitTree → Option UnitTree

@@ -219,6 +219,50 @@ turns_and_temporaries = codes "@interface A : NSObject @end\n"
 abbrev pub turns_and_temporaries_show : List Event
 turns_and_temporaries_show = printed (codes "1") ++ Dealloc 1 1 ∷ printed (codes "d2") ++ Dealloc 2 1 ∷ printed (codes "d") ++ Dealloc 4 1 ∷ printed (codes "d") ++ Dealloc 3 1 ∷ printed (codes "dx")
 
+-- ---- methods of init and of new
+
+-- An init method takes what `super` gives it for `self` (ARC, "Semantics of init"). One that gives nil lets go of the object, which ends with the message's full-expression,
+-- as `[A alloc]` was one of its operands (this project's own choice); the variable that takes another object lets the first one end (ARC, "Assignment").
+abbrev pub init_methods : List ℕ
+init_methods = codes "@interface A : NSObject { @public int v; } - (id)initWith:(int)n; @end\n"
+    ++ codes "@implementation A\n"
+    ++ codes "- (id)initWith:(int)n { self = [super init]; if (n) { v = n; return self; } return nil; }\n"
+    ++ codes "- (void)dealloc { printf(\"d%d\", v); }\n"
+    ++ codes "@end\n"
+    ++ codes "int main(void) {\n"
+    ++ codes "    A *a = [[A alloc] initWith:5];\n"
+    ++ codes "    printf(\"%d\", a->v);\n"
+    ++ codes "    if ([[A alloc] initWith:0] == nil) printf(\"n\");\n"
+    ++ codes "    a = [[A alloc] initWith:7];\n"
+    ++ codes "    printf(\".\");\n"
+    ++ codes "}\n"
+
+abbrev pub init_methods_show : List Event
+init_methods_show = printed (codes "5") ++ Dealloc 2 1 ∷ printed (codes "d0n") ++ Dealloc 1 1 ∷ printed (codes "d5.") ++ Dealloc 3 1 ∷ printed (codes "d7")
+
+-- `new` sends `init` to what it makes (OPL, "Allocating and Initializing Objects"), and an init method of a class is found before that of its superclass, which `super` finds;
+-- methods of the families new and copy give objects (ARC, "Method families"). B's object has 4 for `v` and then 4 * 5, and A's 20 + 20.
+abbrev pub objects_given : List ℕ
+objects_given = codes "@interface A : NSObject { @public int v; } + (A *)newWith:(int)n; - (instancetype)init; @end\n"
+    ++ codes "@implementation A\n"
+    ++ codes "+ (A *)newWith:(int)n { A *a = [self new]; a->v = a->v * n; return a; }\n"
+    ++ codes "- (instancetype)init { self = [super init]; v = 3; printf(\"i\"); return self; }\n"
+    ++ codes "@end\n"
+    ++ codes "@interface B : A - (A *)copyWith:(A *)other; @end\n"
+    ++ codes "@implementation B\n"
+    ++ codes "- (A *)copyWith:(A *)other { A *a = [A new]; a->v = other->v + v; return a; }\n"
+    ++ codes "- (instancetype)init { self = [super init]; v = v + 1; printf(\"j\"); return self; }\n"
+    ++ codes "@end\n"
+    ++ codes "int main(void) {\n"
+    ++ codes "    A *b = [B newWith:5];\n"
+    ++ codes "    printf(\"%d\", b->v);\n"
+    ++ codes "    { A *c = [(B *)b copyWith:b]; printf(\" %d\", c->v); }\n"
+    ++ codes "    printf(\".\");\n"
+    ++ codes "}\n"
+
+abbrev pub objects_given_show : List Event
+objects_given_show = printed (codes "ij20i 40") ++ Dealloc 2 1 ∷ printed (codes ".") ++ Dealloc 1 2 ∷ []
+
 -- ---- faults
 
 -- a division by 0 stops the program (this project's own choice, where C99, section 6.5.5, says nothing); printf evaluates all values before it prints

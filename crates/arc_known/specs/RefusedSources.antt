@@ -114,6 +114,10 @@ outside_loop = codes "int main(void) { while (0) ; break; }"
 abbrev pub private_field : List ℕ
 private_field = codes "@interface A : NSObject { @private int v; } @end @implementation A @end int main(void) { A *a = nil; return a->v; }"
 
+-- a method that gives an object and belongs to no family, as its first part goes on with a small letter (ARC, "Method families" and "Unretained return values")
+abbrev pub unretained : List ℕ
+unretained = codes "@interface A : NSObject - (id)copyright; @end @implementation A - (id)copyright { return nil; } @end int main(void) { }"
+
 -- a message that ARC forbids, at its selector (ARC, "Memory management methods")
 abbrev pub manual_release : List ℕ
 manual_release = codes "int main(void) { id a = nil; [a release]; }"
@@ -125,3 +129,11 @@ dealloc_sent = codes "int main(void) { id a = nil; [a dealloc]; }"
 -- init sent to self outside of the init methods (ARC, "Semantics of init")
 abbrev pub init_of_self : List ℕ
 init_of_self = codes "@interface A : NSObject @end @implementation A - (void)f { [self init]; } @end int main(void) { }"
+
+-- an init method that gives an object of a class that is neither above nor below its own, at its `-` (ARC, "Method families")
+abbrev pub other_class_by_init : List ℕ
+other_class_by_init = codes "@interface A : NSObject @end @implementation A @end @interface B : NSObject - (A *)init; @end @implementation B - (A *)init { return nil; } @end int main(void) { }"
+
+-- a qualifier of a number, at the variable's name (ARC, "Ownership qualification")
+abbrev pub number_qualified : List ℕ
+number_qualified = codes "int main(void) { __strong id a = nil; __strong int b = 0; }"

@@ -42,6 +42,12 @@ pub fn ends_of_objects()
     ensures turns_and_temporaries { HasTrace program.turns_and_temporaries [] 2 program.turns_and_temporaries_show (Ends (pos 0)) }
 {}
 
+/// Methods that give objects, and methods of init.
+pub fn objects_given()
+    ensures init_methods { HasTrace program.init_methods [] 0 program.init_methods_show (Ends (pos 0)) }
+    ensures families { HasTrace program.objects_given [] 0 program.objects_given_show (Ends (pos 0)) }
+{}
+
 /// What stops a program.
 pub fn faults()
     ensures division_by_zero { HasTrace program.division_by_zero [] 0 (printed (codes "<-2>")) (Faults Arithmetic) }
@@ -82,7 +88,10 @@ pub fn refusals()
     ensures self_assigned { IsRefused refused.self_assigned 47 64 }
     ensures outside_loop { IsRefused refused.outside_loop 48 29 }
     ensures private_field { IsRefused refused.private_field 49 111 }
+    ensures unretained { IsRefused refused.unretained 60 24 }
     ensures manual_release { IsRefused refused.manual_release 61 32 }
     ensures dealloc_sent { IsRefused refused.dealloc_sent 62 32 }
     ensures init_of_self { IsRefused refused.init_of_self 63 65 }
+    ensures other_class_by_init { IsRefused refused.other_class_by_init 66 76 }
+    ensures number_qualified { IsRefused refused.number_qualified 67 51 }
 {}

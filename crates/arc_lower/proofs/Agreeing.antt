@@ -2,17 +2,20 @@
 use Rattle.std.proofs.Common.{◌≡◌, ℕ, zero, suc, ◌+◌, ◌-◌, Bool, true, false, ◌&&◌, nat_eq, if◌then◌else◌, ℤ, List, [], ◌∷◌, ◌++◌, take, drop, Option, Some, None, slice_get, slice_set, refl, ap, ◌∙◌}
 use Rattle.arc_ast.specs.declared.tree.Sign.TheVariants as signs
 use Rattle.arc_spec.specs.declared.event.Fault.TheVariants.{Resurrected}
-use Rattle.arc_spec.specs.Classes.{Class, class_at, lookup, descends, field_order}
+use Rattle.arc_spec.specs.declared.class.Gives.{Gives}
+use Rattle.arc_spec.specs.declared.class.Gives.TheVariants as gives
+use Rattle.arc_spec.specs.Classes.{Class, class_at, lookup, is_root_init, descends, field_order}
 use Rattle.arc_spec.specs.World.{name_at}
 use Rattle.arc_spec.specs.Number.{combined, is_zero}
 use Rattle.arc_spec.specs.Meaning.{chosen}
 use Rattle.arc_spec.specs.Objects.{Object, Dying, object_at, with_object, in_phase, is_live, is_emptying}
 use Rattle.arc_spec.specs.Stepping.{Next, Goes, Faults, on_top, on_two, on_found, only_if}
-use Rattle.arc_spec.specs.Holding.{Held, Frame, Calling, Ending, Clearing, Waiter, with_strong_globals, with_strong_field, on_place, Counted, holders, all_places, is_there, all_nil, with_things, with_temporaries, with_variables, on_object, on_named, on_reference, named, declares, lets_go, on_left, on_field, with_names, resumed, gone_in}
-use Rattle.arc_ir.specs.Acting.{Action}
+use Rattle.arc_spec.specs.Holding.{Held, Frame, Calling, Ending, Clearing, Waiter, with_strong_globals, with_strong_field, on_place, Counted, holders, all_places, is_there, all_nil, with_things, with_temporaries, with_variables, on_object, on_named, on_reference, named, declares, lets_go, on_left, on_last, on_result, on_field, with_names, resumed, gone_in}
+use Rattle.arc_ir.specs.Acting.{Action, linked}
+use Rattle.arc_code.specs.Instructions as instructions
 use Rattle.arc_code.specs.declared.instr.Op.TheVariants as ops
-use Rattle.arc_code.specs.declared.instr.Op.TheVariants.{Num, Bin, Un, Narrow, Pop, Get, Set, PrintNum, PrintByte, GetChar, Declare, Nil, ReadSelf, ReadRef, ReadGlobal, ReadField, Hold, Forget, Alloc, GetField, SetField, Differ, IsObject}
-use Rattle.arc_code.specs.declared.instr.Instr.TheVariants.{Plain, PrintText, Jump, JumpZero, Call, Send, SendSuper, SendTo, SendToSuper, StoreStrong, StoreGlobal, StoreField, Empty, DropAll, Return, EndStep}
+use Rattle.arc_code.specs.declared.instr.Op.TheVariants.{Num, Bin, Un, Narrow, Pop, Get, Set, PrintNum, PrintByte, GetChar, Declare, Nil, ReadSelf, ReadRef, ReadGlobal, ReadField, Hold, Forget, Alloc, Finds, GetField, SetField, Differ, IsObject}
+use Rattle.arc_code.specs.declared.instr.Instr.TheVariants.{Plain, PrintText, Jump, JumpZero, Call, Send, SendSuper, SendTo, SendToSuper, StoreStrong, StoreGlobal, StoreField, Empty, DropAll, Settle, Give, Return, EndStep}
 use Rattle.arc_ir.specs.Acting.{Program, State, entry, or_fault, keeps, has_level, enters, answers, taken, sends, begins_end, releases, drops_all, ends_object, runs_dealloc, clears, after_deallocs, clears_next, ends_class, end_goes_on, leaves, allocates, executes}
 use Rattle.arc_lower.proofs.Standing.{ending, AllDying, no_nil}
 use Rattle.arc_lower.proofs.Recounting.{fresh, recount, at}
@@ -79,6 +82,16 @@ left_agrees : (temporaries : List ℕ) (h : Held) (c : ℕ → ℕ) (go go' : He
 left_agrees [] h c go go' same = only_agrees (all_nil h.variables) _ _ same
 left_agrees (r ∷ others) h c go go' same = refl
 
+last_agrees : (variables : List ℕ) (go go' : ℕ → Next State) → ((r : ℕ) → Agree (go r) (go' r)) → Agree (on_last variables go) (on_last variables go')
+last_agrees [] go go' h = refl
+last_agrees (r ∷ []) go go' h = h r
+last_agrees (zero ∷ q ∷ others) go go' h = last_agrees (q ∷ others) go go' h
+last_agrees (suc k ∷ q ∷ others) go go' h = refl
+
+result_agrees : (temporaries : List ℕ) (h : Held) (c : ℕ → ℕ) (go go' : ℕ → Held → Next State) → ((r : ℕ) → Agree (go r (with_variables h [])) (go' r (with_variables (counted_by h c) []))) → Agree (on_result temporaries h go) (on_result temporaries (counted_by h c) go')
+result_agrees [] h c go go' same = last_agrees h.variables (λ r. go r (with_variables h [])) (λ r. go' r (with_variables (counted_by h c) [])) same
+result_agrees (r ∷ others) h c go go' same = refl
+
 less_same : (r : ℕ) (c d : ℕ → ℕ) → Same c d → Same (λ i. if nat_eq i r then c i - 1 else c i) (λ i. if nat_eq i r then d i - 1 else d i)
 less_same r c d same k = ap (λ n. if nat_eq (suc k) r then n - 1 else n) (same k)
 
@@ -113,6 +126,14 @@ answers_agree : (s : State) (c : ℕ → ℕ) (self : ℕ) (found : Option ℕ) 
 answers_agree s c self None = refl
 answers_agree s c self (Some to) = enters_agree s c to self (has_level s)
 
+at_once_agrees : (p : Program) (s : State) (c : ℕ → ℕ) (wanted : Gives) (object : ℕ) (stack : List ℤ) (names : List ℕ) → Agree (instructions.gives_at_once (linked p) s wanted object stack names) (instructions.gives_at_once (linked p) (record s { held = counted_by s.held c }) wanted object stack names)
+at_once_agrees p s c gives.Number object stack names = refl
+at_once_agrees p s c gives.Object object stack names = named_agrees object (with_names s.held (object ∷ names)) c _ _ refl
+
+object_answers_agree : (p : Program) (s : State) (c : ℕ → ℕ) (wanted : Gives) (self selector takes objects : ℕ) (found : Option ℕ) → Agree (instructions.answers_object (linked p) s wanted self selector takes objects found) (instructions.answers_object (linked p) (record s { held = counted_by s.held c }) wanted self selector takes objects found)
+object_answers_agree p s c wanted self selector takes objects (Some to) = enters_agree s c to self (has_level s)
+object_answers_agree p s c wanted self selector takes objects None = if_agrees (is_root_init selector takes objects wanted) _ _ _ _ (at_once_agrees p s c wanted self s.stack s.held.names) refl
+
 module _ (p : Program) (s : State) (right : Counted s.held) where
   abbrev t : State
   t = fresh s
@@ -124,9 +145,10 @@ module _ (p : Program) (s : State) (right : Counted s.held) where
   or_fault_agrees None rest = refl
   or_fault_agrees (Some v) rest = refl
 
-  sends_agree : (from : Object → ℕ) (self selector takes objects : ℕ) (names : List ℕ) → Agree (sends p s from self selector takes objects names) (sends p t from self selector takes objects names)
-  sends_agree from zero selector takes objects names = taken_agrees takes s.stack _ _ (λ rest. refl)
-  sends_agree from (suc k) selector takes objects names = object_agrees (object_at s.held.objects (suc k)) _ _ (λ o. answers_agree (record s { held = with_names s.held names }) places (suc k) (lookup p.classes (Some (from o)) signs.Instance selector takes objects))
+  sends_agree : (wanted : Gives) (from : Object → ℕ) (self selector takes objects : ℕ) (names : List ℕ) → Agree (sends p s wanted from self selector takes objects names) (sends p t wanted from self selector takes objects names)
+  sends_agree wanted from zero selector takes objects names = taken_agrees takes s.stack _ _ (λ rest. at_once_agrees p s places wanted 0 rest (drop objects names))
+  sends_agree wanted from (suc k) selector takes objects names = object_agrees (object_at s.held.objects (suc k)) _ _ (λ o.
+      object_answers_agree p (record s { held = with_names s.held names }) places wanted (suc k) selector takes objects (lookup p.classes (Some (from o)) signs.Instance selector takes objects wanted))
 
   begins_end_agrees : (back o class : ℕ) (h : Held) (c d : ℕ → ℕ) (b : Bool) → Agree (begins_end p s back o class (counted_by h c) b) (begins_end p t back o class (counted_by h d) b)
   begins_end_agrees back o class h c d true = refl
@@ -138,6 +160,19 @@ module _ (p : Program) (s : State) (right : Counted s.held) where
   drops_agree : (ts : List ℕ) (h : Held) (c d : ℕ → ℕ) → Same c d → Agree (drops_all p s ts (counted_by h c)) (drops_all p t ts (counted_by h d))
   drops_agree [] h c d same = refl
   drops_agree (r ∷ others) h c d same = lets_agree (with_temporaries h others) (drops_all p s others) (drops_all p t others) (λ o class h1. begins_end p s s.at o class h1 (has_level s)) (λ o class h1. begins_end p t s.at o class h1 (has_level s)) (λ c1 d1 same1. drops_agree others (with_temporaries h others) c1 d1 same1) (λ o class objects c1 d1. begins_end_agrees s.at o class (with_things (with_temporaries h others) objects) c1 d1 (has_level s)) r c d same
+
+  -- the temporary before the last one
+  settles_agree : (ts : List ℕ) → Agree (instructions.settles (linked p) s ts) (instructions.settles (linked p) t ts)
+  settles_agree [] = refl
+  settles_agree (r ∷ []) = refl
+  settles_agree (r ∷ before ∷ others) = releases_agree before (with_temporaries s.held (r ∷ others)) s.held.counts places right.counted
+
+  -- a function is left with an object
+  hands_agree : (frames : List Frame) (r : ℕ) (rest : List ℤ) (h : Held) (c : ℕ → ℕ) → Agree (instructions.hands_over (linked p) s frames r rest h) (instructions.hands_over (linked p) t frames r rest (counted_by h c))
+  hands_agree [] r rest h c = refl
+  hands_agree (Calling back w ∷ others) r rest h c = refl
+  hands_agree (Ending back w o next left ∷ others) r rest h c = refl
+  hands_agree (Clearing back w o fields ∷ others) r rest h c = refl
 
   -- an object is gone
   abbrev goes_back : (back : ℕ) → Waiter → (k : ℕ) → List Frame → Held → Next State
@@ -226,6 +261,7 @@ module _ (p : Program) (s : State) (right : Counted s.held) where
   acts_agree (Some (Plain ops.Again)) dying = reference_agrees s.held.names _ _ (λ r rest. refl)
   acts_agree (Some (Plain Forget)) dying = reference_agrees s.held.names _ _ (λ r rest. refl)
   acts_agree (Some (Plain Alloc)) dying = top_agrees s.stack _ _ (λ v rest. allocates_agree rest (class_at v))
+  acts_agree (Some (Plain (Finds selector))) dying = top_agrees s.stack _ _ (λ v rest. refl)
   acts_agree (Some (Plain (GetField class index))) dying = reference_agrees s.held.names _ _ (λ r rest. field_agrees class r _ _ (λ o. refl))
   acts_agree (Some (Plain (SetField class index))) dying = reference_agrees s.held.names _ _ (λ r rest. top_agrees s.stack _ _ (λ v _. field_agrees class r _ _ (λ o. refl)))
   acts_agree (Some (Plain Differ)) dying = reference_agrees s.held.names _ _ (λ r names. reference_agrees names _ _ (λ other rest. named_agrees r s.held places _ _ (named_agrees other s.held places _ _ refl)))
@@ -233,11 +269,11 @@ module _ (p : Program) (s : State) (right : Counted s.held) where
   acts_agree (Some (PrintText bytes)) dying = top_agrees s.stack _ _ (λ count rest. refl)
   acts_agree (Some (Jump to)) dying = refl
   acts_agree (Some (JumpZero to)) dying = top_agrees s.stack _ _ (λ v rest. chosen_agrees (is_zero v) _ _ _ _ refl refl)
-  acts_agree (Some (Call f)) dying = enters_agree s places (entry p f) 0 (has_level s)
-  acts_agree (Some (Send selector takes objects)) dying = found_agrees (slice_get s.stack takes) _ _ (λ self _. answers_agree s places 0 (lookup p.classes (class_at self) signs.Class selector takes objects))
-  acts_agree (Some (SendSuper from selector takes objects)) dying = answers_agree s places 0 (lookup p.classes (Some from) signs.Class selector takes objects)
-  acts_agree (Some (SendTo selector takes objects)) dying = found_agrees (slice_get s.held.names objects) _ _ (λ r _. sends_agree (λ o. o.class) r selector takes objects (take objects s.held.names ++ drop (suc objects) s.held.names))
-  acts_agree (Some (SendToSuper from selector takes objects)) dying = found_agrees (slice_get s.held.names objects) _ _ (λ r _. sends_agree (λ o. from) r selector takes objects (take objects s.held.names ++ drop (suc objects) s.held.names))
+  acts_agree (Some (Call f wanted)) dying = enters_agree s places (entry p f) 0 (has_level s)
+  acts_agree (Some (Send selector takes objects wanted)) dying = found_agrees (slice_get s.stack takes) _ _ (λ self _. answers_agree s places 0 (lookup p.classes (class_at self) signs.Class selector takes objects wanted))
+  acts_agree (Some (SendSuper from selector takes objects wanted)) dying = answers_agree s places 0 (lookup p.classes (Some from) signs.Class selector takes objects wanted)
+  acts_agree (Some (SendTo selector takes objects wanted)) dying = found_agrees (slice_get s.held.names objects) _ _ (λ r _. sends_agree wanted (λ o. o.class) r selector takes objects (take objects s.held.names ++ drop (suc objects) s.held.names))
+  acts_agree (Some (SendToSuper from selector takes objects wanted)) dying = found_agrees (slice_get s.held.names objects) _ _ (λ r _. sends_agree wanted (λ o. from) r selector takes objects (take objects s.held.names ++ drop (suc objects) s.held.names))
   acts_agree (Some (StoreStrong i)) dying = reference_agrees s.held.names _ _ (λ r rest. found_agrees (slice_get s.held.variables i) _ _ (λ old _. named_agrees r s.held places _ _ (stored_agrees i r old)))
   acts_agree (Some (StoreGlobal i)) dying = reference_agrees s.held.names _ _ (λ r rest. named_agrees r s.held places _ _ (place_agrees (slice_get s.held.strong_globals i) _ _ _ _ refl (λ old.
       releases_agree old (with_strong_globals s.held (slice_set s.held.strong_globals i r)) _ _ (more_same r s.held.counts places right.counted))))
@@ -246,5 +282,7 @@ module _ (p : Program) (s : State) (right : Counted s.held) where
       releases_agree old (with_strong_field (with_names s.held (r ∷ below)) x o index r) _ _ (more_same r s.held.counts places right.counted)))))))
   acts_agree (Some (Empty i)) dying = found_agrees (slice_get s.held.variables i) _ _ (λ old _. stored_agrees i 0 old)
   acts_agree (Some DropAll) dying = drops_agree s.held.temporaries s.held s.held.counts places right.counted
+  acts_agree (Some Settle) dying = settles_agree s.held.temporaries
+  acts_agree (Some Give) dying = top_agrees s.stack _ _ (λ v rest. result_agrees s.held.temporaries s.held places _ _ (λ r. hands_agree s.frames r rest (with_variables s.held []) places))
   acts_agree (Some Return) dying = top_agrees s.stack _ _ (λ v rest. left_agrees s.held.temporaries s.held places _ _ (leaves_agree s.frames v rest (with_variables s.held []) places))
   acts_agree (Some EndStep) dying = end_goes_on_agrees s.frames dying

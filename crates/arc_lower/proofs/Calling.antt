@@ -3,13 +3,15 @@ use Rattle.std.proofs.Common.{◌≡◌, ℕ, zero, suc, ◌+◌, ◌-◌, ℤ, 
 use Rattle.std.proofs.lemmas.Bool.{lt-ltb, le-ltb}
 use Rattle.std.proofs.lemmas.List.{append-nil, length-map, get_or_past, set_past}
 use Rattle.arc_spec.specs.declared.event.Fault.TheVariants.{Resurrected}
+use Rattle.arc_spec.specs.declared.class.Gives.{Gives}
+use Rattle.arc_spec.specs.declared.class.Gives.TheVariants as gives
 use Rattle.arc_spec.specs.Classes.{Class, superclass_of, superclasses, ancestry_within, lookup, field_order}
 use Rattle.arc_spec.specs.Objects.{Object, Phase, Emptying, Gone, object_at, with_object, in_phase, with_strong_fields, is_live, is_there, fields_of, field_places, names}
 use Rattle.arc_spec.specs.Resolved as resolved
 use Rattle.arc_spec.specs.Meaning.{function_at, called, released, field_stores, field_dropped, fields_dropped, emptied, class_in, dealloc_run, deallocs_run, turned, gone, dying, level, most_levels}
 use Rattle.arc_spec.specs.World as world
-use Rattle.arc_spec.specs.World.{World, Outcome, Done, Faulted, Cut, Finished, finished, then_do, Given, nothing_given, places, stacked, frame_places, with_objects, name_at, first_locals, first_names, entered}
-use Rattle.arc_spec.specs.Holding.{Held, Frame, Calling, Ending, Clearing, Waiter, holders, with_things, with_strong_field, on_place, lets_go, raised, lowered, resumed, turned_in, gone_in}
+use Rattle.arc_spec.specs.World.{World, Outcome, Done, Faulted, Cut, Finished, finished, then_do, Given, nothing_given, places, stacked, frame_places, with_objects, name_at, first_locals, first_names, takes, entered}
+use Rattle.arc_spec.specs.Holding.{Held, Frame, Calling, Ending, Clearing, Waiter, holders, with_things, with_strong_field, on_place, lets_go, raised, lowered, resumed, turned_in, gone_in, given_back}
 use Rattle.arc_spec.specs.Stepping.{Next, Goes, Faults, Reached, Running, follow}
 use Rattle.arc_spec.proofs.Deallocs.{dealloc_and_above, deallocs_from}
 use Rattle.arc_ir.specs.Acting.{Program, State, has_level, enters, answers, begins_end, clears, after_deallocs, clears_next, runs_dealloc, ends_class}
@@ -29,8 +31,8 @@ use Rattle.arc_lower.proofs.Fitting.{first_length, passing_leads}
 use Rattle.arc_lower.proofs.Releasing.{Kept, kept_trans, Ends, laid, dying_in, object_runs, there_runs, place_runs, same_test, field_count}
 use Rattle.arc_lower.proofs.Running.{behind_call, Returns, answered, Deep, found_name, past_end, same_put}
 use Rattle.arc_lower.proofs.Leaving.{leaving, Left, function_runs}
-use Rattle.arc_lower.proofs.Linking.{Begins, call_enters}
-use Rattle.arc_lower.proofs.Finding.{Stub, Meets, Same, Linked, lookup_meets, descent_same, fields_same, strong_fields_same, order_same}
+use Rattle.arc_lower.proofs.Linking.{Begins, call_enters, function_gives}
+use Rattle.arc_lower.proofs.Finding.{Stub, Meets, Same, Linked, lookup_meets, descent_same, fields_same, strong_fields_same, order_same, found_same}
 
 then_thrice : {A B C E : Type 0} (o : Outcome A) (f : A → World → Outcome B) (g : B → World → Outcome C) (h : C → World → Outcome E) → then_do o (λ a w. then_do (then_do (f a w) g) h) ≡ then_do (then_do (then_do o f) g) h
 then_thrice (Done a w) f g h = refl
@@ -138,86 +140,100 @@ turned_is : (objects : List Object) (o : ℕ) (found : Option Object) (w : World
 turned_is objects o None w e same = ap (λ l. record w { objects = l }) same ∙ rw e refl
 turned_is objects o (Some ob) w e same = rw e (rw same refl)
 
-module _ (p : Program) (R : resolved.Program) (bound : ℕ) (begins : (f : ℕ) → Begins p R (number_of R f) (function_at R f)) where
-  abbrev pub entry : ℕ → ℕ
-  entry f = entry_of (begins f).place (function_at R f)
+module _ (p : Program) (R : resolved.Program) (bound : ℕ) (begins : (wanted : Gives) (f : ℕ) → Begins p R (number_of R wanted f) (function_at R wanted f)) where
+  abbrev pub entry : Gives → ℕ → ℕ
+  entry wanted f = entry_of (begins wanted f).place (function_at R wanted f)
 
   -- the step of a call
-  call_steps : (f pc : ℕ) (frames : List Frame) (stack : List ℤ) (held : Held) (b : Bool) → HasAt p pc (Call (number_of R f) ∷ []) → nat_lt (length frames) most_levels ≡ b → moves p (at frames pc stack held) ≡ recount (enters (at frames pc stack held) (entry f) 0 b)
-  call_steps f pc frames stack held b has e = ap recount (call_enters p R f (begins f) pc frames stack held b has e)
+  call_steps : (wanted : Gives) (f pc : ℕ) (frames : List Frame) (stack : List ℤ) (held : Held) (b : Bool) → HasAt p pc (Call (number_of R wanted f) wanted ∷ []) → nat_lt (length frames) most_levels ≡ b → moves p (at frames pc stack held) ≡ recount (enters (at frames pc stack held) (entry wanted f) 0 b)
+  call_steps wanted f pc frames stack held b has e = ap recount (call_enters p R wanted f (begins wanted f) pc frames stack held b has e)
 
   -- a stub makes its function ready, and leads there
-  stub_leads : (rs : List ℕ) (frames : List Frame) (values objects f to : ℕ) (given : Given) (stack : List ℤ) (w : World) → length given.numbers ≡ values → length given.objects ≡ objects → Stub p R values objects f to
-      → Leads (moves p) (running frames (onto given.objects rs) to (onto given.numbers stack) w) (running frames (onto (first_names (parameters_of R f) given.objects) rs) (entry f) (onto (first_locals (slots_of R f) given.numbers) stack) w)
-  stub_leads rs frames values objects f to given stack w size few has =
-      let fits = passing_orders R f values objects in
-      let place = slice_index_or (entries_of R) (number_of R f) 0 in
+  stub_leads : (rs : List ℕ) (frames : List Frame) (wanted : Gives) (values objects f to : ℕ) (given : Given) (stack : List ℤ) (w : World) → length given.numbers ≡ values → length given.objects ≡ objects → Stub p R wanted values objects f to
+      → Leads (moves p) (running frames (onto given.objects rs) to (onto given.numbers stack) w) (running frames (onto (first_names (parameters_of R wanted f) given.objects) rs) (entry wanted f) (onto (first_locals (slots_of R wanted f) given.numbers) stack) w)
+  stub_leads rs frames wanted values objects f to given stack w size few has =
+      let fits = passing_orders R wanted f values objects in
+      let place = slice_index_or (entries_of R) (number_of R wanted f) 0 in
       let q = to + length fits in
-      let s = onto (first_locals (slots_of R f) given.numbers) stack in
-      let names1 = onto (first_names (parameters_of R f) given.objects) rs in
+      let s = onto (first_locals (slots_of R wanted f) given.numbers) stack in
+      let names1 = onto (first_names (parameters_of R wanted f) given.objects) rs in
       let start = running frames (onto given.objects rs) to (onto given.numbers stack) w in
       let next = Goes (at frames place s (held_of names1 w)) [] in
       let last = has_back p to fits (Jump (target.At place) ∷ []) has in
-      let ready = passing_leads p frames (slots_of R f) (parameters_of R f) values objects given stack rs w to size few (has_front p to fits (Jump (target.At place) ∷ []) has) in
-      let there = subst (λ n. Leads (moves p) (follow next w.input w.trace) (running frames names1 n s w)) (begins f).first (quiet p frames bound names1 place s w) in
-      leads_trans (moves p) start (running frames names1 q s w) (running frames names1 (entry f) s w) ready
-      (leads_trans (moves p) (running frames names1 q s w) (follow next w.input w.trace) (running frames names1 (entry f) s w) (leads_step (moves p) (at frames q s (held_of names1 w)) w.input w.trace next (ap recount (last.0 frames s (held_of names1 w)))) there)
+      let ready = passing_leads p frames (slots_of R wanted f) (parameters_of R wanted f) values objects given stack rs w to size few (has_front p to fits (Jump (target.At place) ∷ []) has) in
+      let there = subst (λ n. Leads (moves p) (follow next w.input w.trace) (running frames names1 n s w)) (begins wanted f).first (quiet p frames bound names1 place s w) in
+      leads_trans (moves p) start (running frames names1 q s w) (running frames names1 (entry wanted f) s w) ready
+      (leads_trans (moves p) (running frames names1 q s w) (follow next w.input w.trace) (running frames names1 (entry wanted f) s w) (leads_step (moves p) (at frames q s (held_of names1 w)) w.input w.trace next (ap recount (last.0 frames s (held_of names1 w)))) there)
 
-  abbrev Left_by : (rs : List ℕ) (f self : ℕ) (frames : List Frame) (stack : List ℤ) (before : World) (levels : ℕ) → Deep p frames bound R (level R bound levels) → ℤ → World → Reached State → Type 0
-  Left_by rs f self frames stack before levels deep = Left p frames bound R (function_at R f).slots (function_at R f).names self before stack rs (level R bound levels) deep (begins f).place
+  abbrev Left_by : (rs : List ℕ) (wanted : Gives) (f self : ℕ) (frames : List Frame) (stack : List ℤ) (before : World) (levels : ℕ) → Deep p frames bound R (level R bound levels) → world.Answer → World → Reached State → Type 0
+  Left_by rs wanted f self frames stack before levels deep = Left p frames bound R (function_at R wanted f) self before stack rs (level R bound levels) deep (begins wanted f).place wanted
 
   -- a function as it is entered
-  abbrev begun_at : (rs : List ℕ) (f self : ℕ) (frames : List Frame) (given : Given) (stack : List ℤ) → World → Reached State
-  begun_at rs f self frames given stack w = running frames (onto (first_names (parameters_of R f) given.objects) rs) (entry f) (onto (first_locals (slots_of R f) given.numbers) stack) (entered (slots_of R f) 0 0 self given w)
+  abbrev begun_at : (rs : List ℕ) (wanted : Gives) (f self : ℕ) (frames : List Frame) (given : Given) (stack : List ℤ) → World → Reached State
+  begun_at rs wanted f self frames given stack w = running frames (onto (first_names (parameters_of R wanted f) given.objects) rs) (entry wanted f) (onto (first_locals (slots_of R wanted f) given.numbers) stack) (entered (slots_of R wanted f) 0 0 false self given w)
 
   -- a function that was entered comes to its last step
-  body_runs : (rs : List ℕ) (levels f self : ℕ) (frames : List Frame) (given : Given) (stack : List ℤ) (w : World) (deep : Deep p frames bound R (level R bound levels)) → Runs (moves p) bound (begun_at rs f self frames given stack w) (Left_by rs f self frames stack w levels deep) (called (level R bound levels) bound (function_at R f) self given w)
-  body_runs rs levels f self frames given stack w deep =
-      let F = function_at R f in
-      let place = (begins f).place in
-      let leave = leave_orders F.slots F.names in
-      let body = body_orders R place (entry f) F in
-      function_runs p frames bound R F.slots F.names self w stack rs (level R bound levels) deep place F.body F.parameters (entry f) given (first_length F.slots given.numbers) (has_front p place leave body (begins f).code) (has_back p place leave body (begins f).code)
+  body_runs : (rs : List ℕ) (levels : ℕ) (wanted : Gives) (f self : ℕ) (frames : List Frame) (given : Given) (stack : List ℤ) (w : World) (deep : Deep p frames bound R (level R bound levels)) → Runs (moves p) bound (begun_at rs wanted f self frames given stack w) (Left_by rs wanted f self frames stack w levels deep) (called (level R bound levels) bound (function_at R wanted f) self given w)
+  body_runs rs levels wanted f self frames given stack w deep =
+      let F = function_at R wanted f in
+      let D = level R bound levels in
+      let place = (begins wanted f).place in
+      let leave = leave_orders F in
+      let body = body_orders R place (entry wanted f) F in
+      subst (λ g. Runs (moves p) bound (begun_at rs wanted f self frames given stack w) (Left p frames bound R F self w stack rs D deep place g) (called D bound F self given w)) (function_gives R wanted f)
+      (function_runs p frames bound R F self w stack rs D deep place (entry wanted f) given (first_length F.slots given.numbers) (has_front p place leave body (begins wanted f).code) (has_back p place leave body (begins wanted f).code))
+
+  -- behind a call its object is the last temporary
+  abbrev given_at : List Frame → (rs : List ℕ) → (pc : ℕ) → List ℤ → (object : ℕ) → World → world.Frame → List ℕ → Reached State
+  given_at frames rs pc stack object w f waiting = placed_at frames (object ∷ rs) pc stack f.self w (record { self = f.self; locals = f.locals; strong = f.strong; temporaries = object ∷ f.temporaries }) waiting
 
   -- a method or a function comes back behind its call
-  method_runs : (rs : List ℕ) (levels f pc self : ℕ) (frames : List Frame) (given : Given) (stack : List ℤ) (w : World) → Deep p (Calling (pc + 1) (waits_of w) ∷ frames) bound R (level R bound levels) → Runs (moves p) bound (begun_at rs f self (Calling (pc + 1) (waits_of w) ∷ frames) given stack w) (Returns frames rs pc stack w) ((level R bound (suc levels)).call f self given w)
-  method_runs rs levels f pc self frames given stack w deep =
+  comes_home : (rs : List ℕ) (levels : ℕ) (wanted : Gives) (f pc self : ℕ) (frames : List Frame) (stack : List ℤ) (w : World) (deep : Deep p (Calling (pc + 1) (waits_of w) ∷ frames) bound R (level R bound levels)) (a : world.Answer) (w2 : World) → Kept w w2
+      → leaving p (Calling (pc + 1) (waits_of w) ∷ frames) bound R (function_at R wanted f) self w stack rs (level R bound levels) deep (begins wanted f).place wanted a w2 ≡ behind_call wanted frames rs pc stack a w2
+  comes_home rs levels gives.Number f pc self frames stack w deep a w2 k =
+      let v = a.number in
+      ap (λ t. Running (at frames (pc + 1) (v ∷ stack) (recounted (resumed (waits_of w) (ended_now rs self w w2)))) w2.input t) (append-nil w2.trace)
+      ∙ ap (λ h. Running (at frames (pc + 1) (v ∷ stack) (recounted h)) w2.input w2.trace) (resumed_is w.frame w.waiting (ended_now rs self w w2) refl)
+      ∙ ap (λ (f : world.Frame). placed_at frames rs (pc + 1) (v ∷ stack) f.self w2 f w.waiting) (sym k.frame)
+      ∙ ap (placed_at frames rs (pc + 1) (v ∷ stack) w2.frame.self w2 w2.frame) (sym k.waiting)
+  comes_home rs levels gives.Object f pc self frames stack w deep a w2 k =
+      let r = a.object in
+      ap (λ t. Running (at frames (pc + 1) stack (recounted (given_back r (resumed (waits_of w) (ended_now rs self w w2))))) w2.input t) (append-nil w2.trace)
+      ∙ ap (λ h. Running (at frames (pc + 1) stack (recounted (given_back r h))) w2.input w2.trace) (resumed_is w.frame w.waiting (ended_now rs self w w2) refl)
+      ∙ ap (λ (f : world.Frame). given_at frames rs (pc + 1) stack r w2 f w.waiting) (sym k.frame)
+      ∙ ap (given_at frames rs (pc + 1) stack r w2 w2.frame) (sym k.waiting)
+
+  method_runs : (rs : List ℕ) (levels : ℕ) (wanted : Gives) (f pc self : ℕ) (frames : List Frame) (given : Given) (stack : List ℤ) (w : World) → Deep p (Calling (pc + 1) (waits_of w) ∷ frames) bound R (level R bound levels) → Runs (moves p) bound (begun_at rs wanted f self (Calling (pc + 1) (waits_of w) ∷ frames) given stack w) (Returns wanted frames rs pc stack w) ((level R bound (suc levels)).call wanted f self given w)
+  method_runs rs levels wanted f pc self frames given stack w deep =
       let inner = Calling (pc + 1) (waits_of w) ∷ frames in
-      better_runs (moves p) bound (begun_at rs f self inner given stack w) (Left_by rs f self inner stack w levels deep) (Returns frames rs pc stack w) (called (level R bound levels) bound (function_at R f) self given w) (body_runs rs levels f self inner given stack w deep) (λ v w2 to m. (m.0 ∙ home v w2 m.1, m.1))
-    where
-      home : (v : ℤ) (w2 : World) → Kept w w2 → leaving p (Calling (pc + 1) (waits_of w) ∷ frames) bound R (function_at R f).slots (function_at R f).names self w stack rs (level R bound levels) deep (begins f).place v w2 ≡ behind_call frames rs pc stack v w2
-      home v w2 k =
-          ap (λ t. Running (at frames (pc + 1) (v ∷ stack) (recounted (resumed (waits_of w) (ended_now rs self w w2)))) w2.input t) (append-nil w2.trace)
-          ∙ ap (λ h. Running (at frames (pc + 1) (v ∷ stack) (recounted h)) w2.input w2.trace) (resumed_is w.frame w.waiting (ended_now rs self w w2) refl)
-          ∙ ap (λ (f : world.Frame). placed_at frames rs (pc + 1) (v ∷ stack) f.self w2 f w.waiting) (sym k.frame)
-          ∙ ap (placed_at frames rs (pc + 1) (v ∷ stack) w2.frame.self w2 w2.frame) (sym k.waiting)
+      better_runs (moves p) bound (begun_at rs wanted f self inner given stack w) (Left_by rs wanted f self inner stack w levels deep) (Returns wanted frames rs pc stack w) (called (level R bound levels) bound (function_at R wanted f) self given w) (body_runs rs levels wanted f self inner given stack w deep) (λ a w2 to m. (m.0 ∙ comes_home rs levels wanted f pc self frames stack w deep a w2 m.1, m.1))
 
   abbrev enters_at : (rs : List ℕ) (frames : List Frame) (pc to self : ℕ) (stack : List ℤ) (w : World) → Bool → Reached State
   enters_at rs frames pc to self stack w b = follow (recount (enters (at frames pc stack (held_of rs w)) to self b)) w.input w.trace
 
   -- a message, by what it finds
-  abbrev Tells : (rs : List ℕ) (levels : ℕ) (frames : List Frame) (meant stands : Option ℕ) (values objects self : ℕ) (given : Given) (stack : List ℤ) (w : World) (pc : ℕ) → Type 0
-  Tells rs levels frames meant stands values objects self given stack w pc = Meets p R values objects meant stands → Runs (moves p) bound (follow (recount (answers (at frames pc (onto given.numbers stack) (held_of (onto given.objects rs) w)) self stands)) w.input w.trace) (Returns frames rs pc stack w) (answered (level R bound levels) meant self given w)
+  abbrev Tells : (rs : List ℕ) (levels : ℕ) (frames : List Frame) (meant stands : Option ℕ) (wanted : Gives) (values objects self : ℕ) (given : Given) (stack : List ℤ) (w : World) (pc : ℕ) → Type 0
+  Tells rs levels frames meant stands wanted values objects self given stack w pc = Meets p R wanted values objects meant stands → Runs (moves p) bound (follow (recount (answers (at frames pc (onto given.numbers stack) (held_of (onto given.objects rs) w)) self stands)) w.input w.trace) (Returns wanted frames rs pc stack w) (answered (level R bound levels) wanted meant self given w)
 
-  last_tells : (rs : List ℕ) (frames : List Frame) → length frames + 0 ≡ most_levels → (meant stands : Option ℕ) (values objects self : ℕ) (given : Given) (stack : List ℤ) (w : World) (pc : ℕ) → Tells rs zero frames meant stands values objects self given stack w pc
-  last_tells rs frames full None None values objects self given stack w pc meets = inr (leads_same (moves p) _ _ refl)
-  last_tells rs frames full (Some f) (Some to) values objects self given stack w pc meets = inr (leads_same (moves p) _ _ (ap (enters_at (onto given.objects rs) frames pc to self (onto given.numbers stack) w) (le-ltb (length frames) most_levels (omega (arith, full)))))
-  last_tells rs frames full None (Some to) values objects self given stack w pc meets = absurd meets
-  last_tells rs frames full (Some f) None values objects self given stack w pc meets = absurd meets
+  last_tells : (rs : List ℕ) (frames : List Frame) → length frames + 0 ≡ most_levels → (meant stands : Option ℕ) (wanted : Gives) (values objects self : ℕ) (given : Given) (stack : List ℤ) (w : World) (pc : ℕ) → Tells rs zero frames meant stands wanted values objects self given stack w pc
+  last_tells rs frames full None None wanted values objects self given stack w pc meets = inr (leads_same (moves p) _ _ refl)
+  last_tells rs frames full (Some f) (Some to) wanted values objects self given stack w pc meets = inr (leads_same (moves p) _ _ (ap (enters_at (onto given.objects rs) frames pc to self (onto given.numbers stack) w) (le-ltb (length frames) most_levels (omega (arith, full)))))
+  last_tells rs frames full None (Some to) wanted values objects self given stack w pc meets = absurd meets
+  last_tells rs frames full (Some f) None wanted values objects self given stack w pc meets = absurd meets
 
-  level_tells : (rs : List ℕ) (levels : ℕ) (frames : List Frame) → length frames + suc levels ≡ most_levels → (meant stands : Option ℕ) (values objects self : ℕ) (given : Given) (stack : List ℤ) (w : World) (pc : ℕ) → Deep p (Calling (pc + 1) (waits_of w) ∷ frames) bound R (level R bound levels) → length given.numbers ≡ values → length given.objects ≡ objects → Tells rs (suc levels) frames meant stands values objects self given stack w pc
-  level_tells rs levels frames full None None values objects self given stack w pc deep size few meets = inr (leads_same (moves p) _ _ refl)
-  level_tells rs levels frames full (Some f) (Some to) values objects self given stack w pc deep size few meets =
+  level_tells : (rs : List ℕ) (levels : ℕ) (frames : List Frame) → length frames + suc levels ≡ most_levels → (meant stands : Option ℕ) (wanted : Gives) (values objects self : ℕ) (given : Given) (stack : List ℤ) (w : World) (pc : ℕ) → Deep p (Calling (pc + 1) (waits_of w) ∷ frames) bound R (level R bound levels) → length given.numbers ≡ values → length given.objects ≡ objects → Tells rs (suc levels) frames meant stands wanted values objects self given stack w pc
+  level_tells rs levels frames full None None wanted values objects self given stack w pc deep size few meets = inr (leads_same (moves p) _ _ refl)
+  level_tells rs levels frames full (Some f) (Some to) wanted values objects self given stack w pc deep size few meets =
       let inner = Calling (pc + 1) (waits_of w) ∷ frames in
       let all = onto given.numbers stack in
       let names1 = onto given.objects rs in
-      let w1 = entered (slots_of R f) 0 0 self given w in
+      let w1 = entered (slots_of R wanted f) 0 0 false self given w in
       let from = enters_at names1 frames pc to self all w in
-      let into = leads_trans (moves p) (from true) (running inner names1 to all w1) (begun_at rs f self inner given stack w) (quiet p inner bound names1 to all w1) (stub_leads rs inner values objects f to given stack w1 size few meets) in
-      subst (λ b. Runs (moves p) bound (from b) (Returns frames rs pc stack w) ((level R bound (suc levels)).call f self given w)) (sym (lt-ltb (length frames) most_levels (omega (arith, full))))
-      (leads_runs (moves p) bound (from true) (begun_at rs f self inner given stack w) (Returns frames rs pc stack w) ((level R bound (suc levels)).call f self given w) into (method_runs rs levels f pc self frames given stack w deep))
-  level_tells rs levels frames full None (Some to) values objects self given stack w pc deep size few meets = absurd meets
-  level_tells rs levels frames full (Some f) None values objects self given stack w pc deep size few meets = absurd meets
+      let into = leads_trans (moves p) (from true) (running inner names1 to all w1) (begun_at rs wanted f self inner given stack w) (quiet p inner bound names1 to all w1) (stub_leads rs inner wanted values objects f to given stack w1 size few meets) in
+      subst (λ b. Runs (moves p) bound (from b) (Returns wanted frames rs pc stack w) ((level R bound (suc levels)).call wanted f self given w)) (sym (lt-ltb (length frames) most_levels (omega (arith, full))))
+      (leads_runs (moves p) bound (from true) (begun_at rs wanted f self inner given stack w) (Returns wanted frames rs pc stack w) ((level R bound (suc levels)).call wanted f self given w) into (method_runs rs levels wanted f pc self frames given stack w deep))
+  level_tells rs levels frames full None (Some to) wanted values objects self given stack w pc deep size few meets = absurd meets
+  level_tells rs levels frames full (Some f) None wanted values objects self given stack w pc deep size few meets = absurd meets
 
   -- ---- the end of an object
 
@@ -378,7 +394,7 @@ module _ (p : Program) (R : resolved.Program) (bound : ℕ) (begins : (f : ℕ) 
     with_ended w1 f1 waiting1 = ended_by rs o w1 (frame_places f1 ++ waiting1)
 
     -- the dealloc of one class, and then what is above it
-    by_dealloc : (n : ℕ) (next : Option ℕ) (w : World) (from : Reached State) (meant stands : Option ℕ) → Still w → Meets p R 0 0 meant stands → Leads (moves p) from (follow (recount (runs_dealloc stands (at [] p.end_step stack (ended_held rs o w)) (Ending back waits o next n ∷ frames))) w.input w.trace) → ((w1 : World) → Still w1 → EndRuns n next w1) → Runs (moves p) bound from (Back w) (then_do (then_do (dealloc_run R (level R bound levels) bound meant o w) (λ _ w1. deallocs_run R (level R bound levels) bound (above_in R n next) o w1)) (λ _ w1. rest_of w1))
+    by_dealloc : (n : ℕ) (next : Option ℕ) (w : World) (from : Reached State) (meant stands : Option ℕ) → Still w → Meets p R gives.Number 0 0 meant stands → Leads (moves p) from (follow (recount (runs_dealloc stands (at [] p.end_step stack (ended_held rs o w)) (Ending back waits o next n ∷ frames))) w.input w.trace) → ((w1 : World) → Still w1 → EndRuns n next w1) → Runs (moves p) bound from (Back w) (then_do (then_do (dealloc_run R (level R bound levels) bound meant o w) (λ _ w1. deallocs_run R (level R bound levels) bound (above_in R n next) o w1)) (λ _ w1. rest_of w1))
     by_dealloc n next w from None None still meets e go =
         let inner1 = Ending back waits o next n ∷ frames in
         let there = leads_trans (moves p) from _ (at_end rs inner1 o stack w) e (leads_same (moves p) _ (at_end rs inner1 o stack w) (ap (λ t. Running (at inner1 p.end_step stack (ended_held rs o w)) w.input t) (append-nil w.trace))) in
@@ -386,13 +402,13 @@ module _ (p : Program) (R : resolved.Program) (bound : ℕ) (begins : (f : ℕ) 
     by_dealloc n next w from (Some f) (Some to) still meets e go =
         let inner1 = Ending back waits o next n ∷ frames in
         let D = level R bound levels in
-        let w0 = entered (slots_of R f) 0 0 o nothing_given w in
+        let w0 = entered (slots_of R gives.Number f) 0 0 false o nothing_given w in
         let into = leads_trans (moves p) from _ (running inner1 rs to stack w0) e (quiet p inner1 bound rs to stack w0) in
-        let there = leads_trans (moves p) from (running inner1 rs to stack w0) (begun_at rs f o inner1 nothing_given stack w) into (stub_leads rs inner1 0 0 f to nothing_given stack w0 refl refl meets) in
-        let body = called D bound (function_at R f) o nothing_given w in
+        let there = leads_trans (moves p) from (running inner1 rs to stack w0) (begun_at rs gives.Number f o inner1 nothing_given stack w) into (stub_leads rs inner1 gives.Number 0 0 f to nothing_given stack w0 refl refl meets) in
+        let body = called D bound (function_at R gives.Number f) o nothing_given w in
         let inside = deep (Ending back waits o next n) in
-        let end = Left_by rs f o inner1 stack w levels inside in
-        let runs = leads_runs (moves p) bound from (begun_at rs f o inner1 nothing_given stack w) end body there (body_runs rs levels f o inner1 nothing_given stack w inside) in
+        let end = Left_by rs gives.Number f o inner1 stack w levels inside in
+        let runs = leads_runs (moves p) bound from (begun_at rs gives.Number f o inner1 nothing_given stack w) end body there (body_runs rs levels gives.Number f o inner1 nothing_given stack w inside) in
         subst (Runs (moves p) bound from (Back w)) (then_thrice body (λ _ w1. Done finished w1) (λ _ w1. deallocs_run R D bound (above_in R n next) o w1) (λ _ w1. rest_of w1))
         (then_runs (moves p) bound from end (Back w) body (λ _ w1. meant_from n next w1) runs (λ v w1 reached m.
         let k = m.1 in
@@ -512,30 +528,34 @@ module _ (p : Program) (R : resolved.Program) (bound : ℕ) (begins : (f : ℕ) 
 
     pub calls_run : (levels : ℕ) (frames : List Frame) → length frames + levels ≡ most_levels → Deep p frames bound R (level R bound levels)
     calls_run zero frames full = record {
-      invokes = λ f given stack rs w pc has.
-          let s = onto (first_locals (slots_of R f) given.numbers) stack in
-          let names1 = onto (first_names (parameters_of R f) given.objects) rs in
-          inr (leads_step (moves p) (at frames pc s (held_of names1 w)) w.input w.trace (enters (at frames pc s (held_of names1 w)) (entry f) 0 false) (call_steps f pc frames s (held_of names1 w) false has (le-ltb (length frames) most_levels (omega (arith, full)))));
-      tells = λ sign from selector arguments objects self given stack rs w pc size few.
-          last_tells rs frames full (lookup R.classes from sign selector arguments objects) (lookup p.classes from sign selector arguments objects) (passes sign arguments) objects self given stack w pc (lookup_meets p R links sign from selector arguments objects);
+      invokes = λ wanted f given stack rs w pc has.
+          let s = onto (first_locals (slots_of R wanted f) given.numbers) stack in
+          let names1 = onto (first_names (parameters_of R wanted f) given.objects) rs in
+          inr (leads_step (moves p) (at frames pc s (held_of names1 w)) w.input w.trace (enters (at frames pc s (held_of names1 w)) (entry wanted f) 0 false) (call_steps wanted f pc frames s (held_of names1 w) false has (le-ltb (length frames) most_levels (omega (arith, full)))));
+      tells = λ sign from selector arguments objects wanted self given stack rs w pc size few.
+          last_tells rs frames full (lookup R.classes from sign selector arguments objects wanted) (lookup p.classes from sign selector arguments objects wanted) wanted (passes sign arguments) objects self given stack w pc (lookup_meets p R links sign from selector arguments objects wanted);
       ends = last_ends frames full;
+      same_found = found_same p R links;
+      same_classes = refl;
       same_descent = descent_same p R links;
       same_fields = fields_same p R links;
       same_strong = strong_fields_same p R links;
     }
     calls_run (suc levels) frames full = record {
-      invokes = λ f given stack rs w pc has.
+      invokes = λ wanted f given stack rs w pc has.
           let inner1 = Calling (pc + 1) (waits_of w) ∷ frames in
-          let s = onto (first_locals (slots_of R f) given.numbers) stack in
-          let names1 = onto (first_names (parameters_of R f) given.objects) rs in
-          let w1 = entered (slots_of R f) 0 0 0 given w in
-          let next = Goes (at inner1 (entry f) s (held_of names1 w1)) [] in
-          let begun1 = begun_at rs f 0 inner1 given stack w in
-          let into = leads_trans (moves p) (running frames names1 pc s w) (follow next w.input w.trace) begun1 (leads_step (moves p) (at frames pc s (held_of names1 w)) w.input w.trace next (call_steps f pc frames s (held_of names1 w) true has (lt-ltb (length frames) most_levels (omega (arith, full))))) (quiet p inner1 bound names1 (entry f) s w1) in
-          leads_runs (moves p) bound (running frames names1 pc s w) begun1 (Returns frames rs pc stack w) ((level R bound (suc levels)).call f 0 given w) into (method_runs rs levels f pc 0 frames given stack w (calls_run levels inner1 (omega (arith, full))));
-      tells = λ sign from selector arguments objects self given stack rs w pc size few.
-          level_tells rs levels frames full (lookup R.classes from sign selector arguments objects) (lookup p.classes from sign selector arguments objects) (passes sign arguments) objects self given stack w pc (calls_run levels (Calling (pc + 1) (waits_of w) ∷ frames) (omega (arith, full))) size few (lookup_meets p R links sign from selector arguments objects);
+          let s = onto (first_locals (slots_of R wanted f) given.numbers) stack in
+          let names1 = onto (first_names (parameters_of R wanted f) given.objects) rs in
+          let w1 = entered (slots_of R wanted f) 0 0 false 0 given w in
+          let next = Goes (at inner1 (entry wanted f) s (held_of names1 w1)) [] in
+          let begun1 = begun_at rs wanted f 0 inner1 given stack w in
+          let into = leads_trans (moves p) (running frames names1 pc s w) (follow next w.input w.trace) begun1 (leads_step (moves p) (at frames pc s (held_of names1 w)) w.input w.trace next (call_steps wanted f pc frames s (held_of names1 w) true has (lt-ltb (length frames) most_levels (omega (arith, full))))) (quiet p inner1 bound names1 (entry wanted f) s w1) in
+          leads_runs (moves p) bound (running frames names1 pc s w) begun1 (Returns wanted frames rs pc stack w) ((level R bound (suc levels)).call wanted f 0 given w) into (method_runs rs levels wanted f pc 0 frames given stack w (calls_run levels inner1 (omega (arith, full))));
+      tells = λ sign from selector arguments objects wanted self given stack rs w pc size few.
+          level_tells rs levels frames full (lookup R.classes from sign selector arguments objects wanted) (lookup p.classes from sign selector arguments objects wanted) wanted (passes sign arguments) objects self given stack w pc (calls_run levels (Calling (pc + 1) (waits_of w) ∷ frames) (omega (arith, full))) size few (lookup_meets p R links sign from selector arguments objects wanted);
       ends = level_ends levels frames full (λ frame. calls_run levels (frame ∷ frames) (omega (arith, full)));
+      same_found = found_same p R links;
+      same_classes = refl;
       same_descent = descent_same p R links;
       same_fields = fields_same p R links;
       same_strong = strong_fields_same p R links;

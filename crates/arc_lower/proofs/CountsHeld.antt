@@ -123,6 +123,15 @@ last_temporary h r others e c = record {
   held = c.held;
 }
 
+-- the temporary before the last one is dropped
+pub second_temporary : (h : Held) (x r : ℕ) (others : List ℕ) → h.temporaries ≡ x ∷ r ∷ others → Counted h → Dropped r (with_temporaries h (x ∷ others))
+second_temporary h x r others e c = record {
+  counted = λ k.
+      let h1 = with_temporaries h (x ∷ others) in
+      omega (arith, holders_head (suc k) r (all_places h1), all_holders (suc k) h1, all_holders (suc k) h, ap (holders (suc k)) e, holders_head (suc k) x (r ∷ others), holders_head (suc k) r others, holders_head (suc k) x others, c.counted k);
+  held = c.held;
+}
+
 -- the same places, of another function
 pub moved_counted : (h h1 : Held) → h1.objects ≡ h.objects → h1.counts ≡ h.counts → ((k : ℕ) → holders (suc k) (all_places h1) ≡ holders (suc k) (all_places h)) → Counted h → Counted h1
 moved_counted h h1 objects counts same c = record {

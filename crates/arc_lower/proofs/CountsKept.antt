@@ -7,7 +7,7 @@ use Rattle.arc_spec.specs.Objects.{Object, Dying, Emptying, Gone, nils, object_a
 use Rattle.arc_spec.specs.World.{name_at}
 use Rattle.arc_spec.specs.Holding.{Held, nothing_held, Counted, holders, all_places, with_temporaries, with_variables, with_names, with_things, with_globals, with_strong_globals, raised, lowered, taken_by, makes, count_of, entered, stacked}
 use Rattle.arc_lower.proofs.CountsPlaces.{tally_same, holders_head, holders_nil, holders_set, holders_append}
-use Rattle.arc_lower.proofs.CountsHeld.{Dropped, all_holders, nothing_counted, taken_counted, declared_counted, stored_dropped, last_temporary, moved_counted, nil_dropped, last_dropped, other_dropped, makes_counted, field_counted, global_dropped, strong_field_dropped, emptying_counted, gone_counted, set_other, set_same, get_last, there_fields, fields_set, fields_made, same_fields, nils_holders}
+use Rattle.arc_lower.proofs.CountsHeld.{Dropped, all_holders, nothing_counted, taken_counted, declared_counted, stored_dropped, last_temporary, second_temporary, moved_counted, nil_dropped, last_dropped, other_dropped, makes_counted, field_counted, global_dropped, strong_field_dropped, emptying_counted, gone_counted, set_other, set_same, get_last, there_fields, fields_set, fields_made, same_fields, nils_holders}
 use Rattle.arc_lower.proofs.CountsThere.{IsThere, AllThere, fewer_there, rest_there, taken_there, place_there, changed_there, made_there}
 
 -- each object has so many fields that name objects as its class says
@@ -168,6 +168,15 @@ module _ {classes : List Class} where
     there =
         let h1 = with_temporaries h others in
         fewer_there h.objects (all_places h) (r ∷ all_places h1) (λ k some. omega (arith, holders_head (suc k) r (all_places h1), all_holders (suc k) h1, all_holders (suc k) h, ap (holders (suc k)) e, holders_head (suc k) r others, some)) c.there;
+    sized = c.sized;
+  }
+
+  pub sane_settle : (h : Held) (x r : ℕ) (others : List ℕ) → h.temporaries ≡ x ∷ r ∷ others → Sane classes h → Drops classes r (with_temporaries h (x ∷ others))
+  sane_settle h x r others e c = record {
+    counted = second_temporary h x r others e c.counted;
+    there =
+        let h1 = with_temporaries h (x ∷ others) in
+        fewer_there h.objects (all_places h) (r ∷ all_places h1) (λ k some. omega (arith, holders_head (suc k) r (all_places h1), all_holders (suc k) h1, all_holders (suc k) h, ap (holders (suc k)) e, holders_head (suc k) x (r ∷ others), holders_head (suc k) r others, holders_head (suc k) x others, some)) c.there;
     sized = c.sized;
   }
 

@@ -1,28 +1,32 @@
 -- The blocks of expressions mean what these mean.
-use Rattle.std.proofs.Common.{◌≡◌, ℕ, suc, ℤ, Bool, true, false, sym, if◌then◌else◌, length, Option, Some, None, refl, ap, ◌∙◌}
+use Rattle.std.proofs.Common.{◌≡◌, ℕ, suc, ℤ, pos, Bool, true, false, sym, is_some, if◌then◌else◌, length, Option, Some, None, refl, ap, ◌∙◌}
 use Rattle.arc_ast.specs.declared.tree.BinaryOperator.{BinaryOperator}
 use Rattle.arc_ast.specs.declared.tree.Kind.{Kind}
 use Rattle.arc_ast.specs.declared.tree.Moment.{Moment}
 use Rattle.arc_ast.specs.declared.tree.Moment.TheVariants.{Before, After}
+use Rattle.arc_ast.specs.declared.tree.Sign.TheVariants as signs
 use Rattle.arc_spec.specs.declared.event.Fault.TheVariants.{FieldClass}
-use Rattle.arc_spec.specs.Classes.{class_at, descends}
+use Rattle.arc_spec.specs.declared.class.Gives.{Gives}
+use Rattle.arc_spec.specs.declared.class.Gives.TheVariants as gives
+use Rattle.arc_spec.specs.Classes.{class_at, descends, lookup, new_selector}
 use Rattle.arc_spec.specs.Objects.{Object, object_at}
 use Rattle.arc_spec.specs.declared.location.Location.{Location}
-use Rattle.arc_spec.specs.Resolved.{Piece, Value, Number, ReadByte, Print, Applied, Combined, Choice, Converted, Read, Assigned, Updated, Invoked, Sent, ClassValue, ClassSuper, ObjectValue, ObjectSuper, Field, FieldAssigned, FieldUpdated, Reference, Itself, Variable, Chosen, Stored, ObjectField, ObjectFieldStored, Made, Initialized, Arguments, no_arguments, number_argument, object_argument}
+use Rattle.arc_spec.specs.Resolved.{Piece, Value, Number, ReadByte, Print, Applied, Combined, Choice, Converted, Read, Assigned, Updated, Invoked, Sent, Receiver, ClassValue, ClassSuper, ObjectValue, ObjectSuper, Field, FieldAssigned, FieldUpdated, Reference, Itself, Variable, Chosen, Stored, ObjectField, ObjectFieldStored, Made, New, ObjectInvoked, ObjectSent, Arguments, no_arguments, number_argument, object_argument}
 use Rattle.arc_spec.specs.Resolved as resolved
-use Rattle.arc_spec.specs.World.{World, Outcome, Done, Faulted, Cut, Finished, then_do, Given, prints, local_at, takes}
+use Rattle.arc_spec.specs.World.{World, Outcome, Done, Faulted, Cut, Finished, then_do, Given, nothing_given, Answer, prints, local_at, takes}
 use Rattle.arc_spec.specs.Number.{converted, combined, is_zero}
 use Rattle.arc_spec.specs.Meaning as meaning
-use Rattle.arc_spec.specs.Meaning.{Deeper, sent, and_number, and_object, object_field_set, formatted, byte_count, or_fault, held_at, holds, updated, given_by, in_object, field_read, field_set, assigned, evaluated, referred, all_evaluated}
-use Rattle.arc_code.specs.declared.instr.Op.TheVariants.{Narrow, SetField, Hold}
+use Rattle.arc_spec.specs.Meaning.{Deeper, sent, made_new, new_found, new_sent, number_given, object_given, and_number, and_object, object_field_set, formatted, byte_count, or_fault, held_at, holds, updated, given_by, in_object, field_read, field_set, assigned, evaluated, referred, received, all_evaluated}
+use Rattle.arc_code.specs.Instructions.{one_if}
+use Rattle.arc_code.specs.declared.instr.Op.TheVariants.{Narrow, SetField, Hold, Finds}
 use Rattle.arc_lower.specs.Known.{is_within, combined_kind, known_kind}
 use Rattle.arc_lower.proofs.Converting.{IsOf, within_keeps, combined_good, known_good}
-use Rattle.arc_lower.specs.Lowered.{Message, ToClass, ToSuperClass, ToObject, ToSuper, Block, Idle, One, Store, Format, Calls, Tells, Then, number_count, object_count, given_block, below_new, narrow_block, update_block, value_block, reference_block, arguments_block}
-use Rattle.arc_lower.proofs.Shaping.{Operands, push, name, pushed, Way, On, Lost, left_by, and_then, pushes, passes_by, told, block, after, chosen_by, same_depth, on_pushed, Holds, after_known}
+use Rattle.arc_lower.specs.Lowered.{Message, ToClass, ToSuperClass, ToObject, ToSuper, Block, Idle, One, Store, Format, Calls, Tells, Making, Then, Fork, number_count, object_count, given_block, below_new, narrow_block, update_block, message_to, below_arguments, value_block, reference_block, receiver_block, arguments_block}
+use Rattle.arc_lower.proofs.Shaping.{Operands, push, name, pushed, Way, On, Lost, left_by, and_then, pushes, passes_by, answers_left, told, block, after, chosen_by, same_depth, on_pushed, Holds, after_known}
 
-module _ (D : Deeper) (bound : ℕ) where
+module _ (D : Deeper) (bound place : ℕ) where
   abbrev run : Block → Operands → World → Outcome Way
-  run = block D bound false
+  run = block D bound place false
 
   -- behind an expression its operand lies on the others
   abbrev pub above : Operands → ℤ → Way
@@ -84,9 +88,75 @@ module _ (D : Deeper) (bound : ℕ) where
       → run (Then (arguments_block (length s.numbers) all) behind) s w ≡ left_by end (then_do (all_evaluated D all w) go)
   passed all behind end s w go arguments next = after_known (Counted all) (λ given. pushed given s) end _ (all_evaluated D all w) _ _ (given_counted all w) arguments next
 
-  tells : (message : Message) (all : Arguments) (s rest : Operands) (w : World) (go : Given → World → Outcome ℤ) → run (arguments_block (length s.numbers) all) s w ≡ left_by (all_above s) (all_evaluated D all w) → ((given : Given) (w1 : World) → told D message given s w1 ≡ left_by (above rest) (go given w1))
-      → run (Then (arguments_block (length s.numbers) all) (Tells message (number_count all) (object_count all))) s w ≡ left_by (above rest) (then_do (all_evaluated D all w) go)
-  tells message all s rest w go arguments answer = passed all (Tells message (number_count all) (object_count all)) (above rest) s w go arguments (λ given w1 e. on_pushed (number_count all) (object_count all) given s w1 (λ values below. told D message values below w1) e.0 e.1 ∙ answer given w1)
+  tells : {B : Type 0} (wanted : Gives) (end : B → Way) (message : Message) (all : Arguments) (s : Operands) (w : World) (go : Given → World → Outcome B) → run (arguments_block (length s.numbers) all) s w ≡ left_by (all_above s) (all_evaluated D all w) → ((given : Given) (w1 : World) → told D wanted message given s w1 ≡ left_by end (go given w1))
+      → run (Then (arguments_block (length s.numbers) all) (Tells wanted message (number_count all) (object_count all))) s w ≡ left_by end (then_do (all_evaluated D all w) go)
+  tells wanted end message all s w go arguments answer = passed all (Tells wanted message (number_count all) (object_count all)) end s w go arguments (λ given w1 e. on_pushed (number_count all) (object_count all) given s w1 (λ values below. told D wanted message values below w1) e.0 e.1 ∙ answer given w1)
+
+  -- ---- what calls and messages give
+
+  number_left : (s : Operands) (o : Outcome Answer) → answers_left gives.Number s o ≡ left_by (above s) (number_given o)
+  number_left s (Done a w) = refl
+  number_left s (Faulted f w) = refl
+  number_left s (Cut w) = refl
+
+  object_left : (s : Operands) (o : Outcome Answer) → answers_left gives.Object s o ≡ left_by (beside s) (object_given o)
+  object_left s (Done a w) = refl
+  object_left s (Faulted f w) = refl
+  object_left s (Cut w) = refl
+
+  module _ {B : Type 0} (wanted : Gives) (end : Operands → B → Way) (give : Outcome Answer → Outcome B) (leaves : (s : Operands) (o : Outcome Answer) → answers_left wanted s o ≡ left_by (end s) (give o)) where
+    call_is : (f : ℕ) (all : Arguments) (s : Operands) (w : World) → run (arguments_block (length s.numbers) all) s w ≡ left_by (all_above s) (all_evaluated D all w)
+        → run (Then (arguments_block (length s.numbers) all) (Calls wanted f (number_count all) (object_count all))) s w ≡ left_by (end s) (then_do (all_evaluated D all w) (λ given w1. give (D.call wanted f 0 given w1)))
+    call_is f all s w arguments = passed all (Calls wanted f (number_count all) (object_count all)) (end s) s w _ arguments (λ given w1 e.
+        on_pushed (number_count all) (object_count all) given s w1 (λ values rest. answers_left wanted rest (D.call wanted f 0 values w1)) e.0 e.1 ∙ leaves s (D.call wanted f 0 given w1))
+
+    -- a message with its arguments, behind what gets it
+    abbrev Sends : Receiver → (selector : ℕ) → Arguments → Operands → World → Type 0
+    Sends receiver selector all s w =
+        run (Then (receiver_block (length s.numbers) receiver) (Then (arguments_block (below_arguments receiver (length s.numbers)) all) (Tells wanted (message_to receiver selector) (number_count all) (object_count all)))) s w
+        ≡ left_by (end s) (then_do (received D receiver w) (λ target w1. then_do (all_evaluated D all w1) (λ given w2. give (sent D wanted target selector given w2))))
+
+    module _ (selector : ℕ) (all : Arguments) (arguments : (s : Operands) (w : World) → run (arguments_block (length s.numbers) all) s w ≡ left_by (all_above s) (all_evaluated D all w)) where
+      to_class : (a : Value) (s : Operands) (w : World) → run (value_block (length s.numbers) a) s w ≡ left_by (above s) (evaluated D a w) → Sends (ClassValue a) selector all s w
+      to_class a s w value = after (λ v. push v s) (end s) _ (evaluated D a w) _ _ value (λ self w1.
+          tells wanted (end s) (ToClass selector) all (push self s) w1 (λ given w2. give (sent D wanted (meaning.ToClass (class_at self) self) selector given w2)) (arguments (push self s) w1) (λ given w2. leaves s (sent D wanted (meaning.ToClass (class_at self) self) selector given w2)))
+          ∙ ap (left_by (end s)) (three_parts (evaluated D a w) (λ self w1. Done (meaning.ToClass (class_at self) self) w1) (λ target w1. then_do (all_evaluated D all w1) (λ given w2. give (sent D wanted target selector given w2))))
+
+      to_super_class : (from : ℕ) (s : Operands) (w : World) → Sends (ClassSuper from) selector all s w
+      to_super_class from s w =
+          let self = local_at w.frame.locals 0 in
+          ap (λ x. and_then x (run (Then (arguments_block (suc (length s.numbers)) all) (Tells wanted (ToSuperClass from selector) (number_count all) (object_count all))))) (same_depth (length s.numbers) (Done (On (push self s)) w) (Done Lost w))
+          ∙ tells wanted (end s) (ToSuperClass from selector) all (push self s) w (λ given w2. give (sent D wanted (meaning.ToClass (Some from) self) selector given w2)) (arguments (push self s) w) (λ given w2. leaves s (sent D wanted (meaning.ToClass (Some from) self) selector given w2))
+
+      to_object : (a : Reference) (s : Operands) (w : World) → run (reference_block (length s.numbers) a) s w ≡ left_by (beside s) (referred D a w) → Sends (ObjectValue a) selector all s w
+      to_object a s w value = after (λ r. name r s) (end s) _ (referred D a w) _ _ value (λ self w1.
+          tells wanted (end s) (ToObject selector) all (name self s) w1 (λ given w2. give (sent D wanted (meaning.ToObject self) selector given w2)) (arguments (name self s) w1) (λ given w2. leaves s (sent D wanted (meaning.ToObject self) selector given w2)))
+          ∙ ap (left_by (end s)) (three_parts (referred D a w) (λ self w1. Done (meaning.ToObject self) w1) (λ target w1. then_do (all_evaluated D all w1) (λ given w2. give (sent D wanted target selector given w2))))
+
+      to_super : (a : Reference) (from : ℕ) (s : Operands) (w : World) → run (reference_block (length s.numbers) a) s w ≡ left_by (beside s) (referred D a w) → Sends (ObjectSuper a from) selector all s w
+      to_super a from s w value = after (λ r. name r s) (end s) _ (referred D a w) _ _ value (λ self w1.
+          tells wanted (end s) (ToSuper from selector) all (name self s) w1 (λ given w2. give (sent D wanted (meaning.ToSuper from self) selector given w2)) (arguments (name self s) w1) (λ given w2. leaves s (sent D wanted (meaning.ToSuper from self) selector given w2)))
+          ∙ ap (left_by (end s)) (three_parts (referred D a w) (λ self w1. Done (meaning.ToSuper from self) w1) (λ target w1. then_do (all_evaluated D all w1) (λ given w2. give (sent D wanted target selector given w2))))
+
+  -- ---- `new`, behind the class that gets it
+
+  new_by : (found : Option ℕ) (message : Message) (class : ℤ) (s : Operands) (w : World) → told D gives.Object message nothing_given (push class s) w ≡ answers_left gives.Object s (meaning.dispatched D gives.Object found class nothing_given w)
+      → (if is_some found then told D gives.Object message nothing_given (push class s) w else run Making (push class s) w) ≡ left_by (beside s) (new_found D found class w)
+  new_by None message class s w e = refl
+  new_by (Some f) message class s w e = e ∙ object_left s (D.call gives.Object f 0 (and_number class nothing_given) w)
+
+  abbrev found_from : Option ℕ → Option ℕ
+  found_from class = lookup D.classes class signs.Class new_selector 0 0 gives.Object
+
+  -- where the program finds out whether there is such a method
+  chosen_by_test : (b : Bool) (x y : Outcome Way) → meaning.chosen (is_zero (one_if b)) x y ≡ (if b then x else y)
+  chosen_by_test true x y = refl
+  chosen_by_test false x y = refl
+
+  new_tested : (class : ℤ) (s : Operands) (w : World) → run (Then (One (Finds new_selector)) (Fork (Tells gives.Object (ToClass new_selector) 0 0) Making)) (push class s) w ≡ left_by (beside s) (new_sent D None class w)
+  new_tested class s w =
+      chosen_by_test (is_some (found_from (class_at class))) (run (Tells gives.Object (ToClass new_selector) 0 0) (push class s) w) (run Making (push class s) w)
+      ∙ new_by (found_from (class_at class)) (ToClass new_selector) class s w refl
 
   -- ---- conversions
 
@@ -168,20 +238,11 @@ module _ (D : Deeper) (bound : ℕ) where
         let old = held_at i w in
         ap (λ x. and_then x (run (update_block moment (value_block (suc (below_new moment depth)) a) operator computed kept store))) (same_depth depth (Done (On (push old s)) w) (Done Lost w))
         ∙ update_is moment operator computed kept old a store s s w (λ new w1. Done new (holds i new w1)) (λ s1. value_is a s1 w) (variable_stores moment old i s)
-    value_is (Invoked f all) s w = passed all (Calls f (number_count all) (object_count all)) (above s) s w _ (arguments_is all s w) (λ given w1 e. on_pushed (number_count all) (object_count all) given s w1 (λ values rest. pushes rest (D.call f 0 values w1)) e.0 e.1)
-    value_is (Sent (ClassValue a) selector all) s w = after (λ v. push v s) (above s) _ (evaluated D a w) _ _ (value_is a s w) (λ self w1.
-        tells (ToClass selector) all (push self s) s w1 (λ given w2. sent D (meaning.ToClass (class_at self) self) selector given w2) (arguments_is all (push self s) w1) (λ given w2. refl))
-        ∙ ap (left_by (above s)) (three_parts (evaluated D a w) (λ self w1. Done (meaning.ToClass (class_at self) self) w1) (λ target w1. then_do (all_evaluated D all w1) (λ given w2. sent D target selector given w2)))
-    value_is (Sent (ClassSuper from) selector all) s w =
-        let self = local_at w.frame.locals 0 in
-        ap (λ x. and_then x (run (Then (arguments_block (suc (length s.numbers)) all) (Tells (ToSuperClass from selector) (number_count all) (object_count all))))) (same_depth (length s.numbers) (Done (On (push self s)) w) (Done Lost w))
-        ∙ tells (ToSuperClass from selector) all (push self s) s w (λ given w2. sent D (meaning.ToClass (Some from) self) selector given w2) (arguments_is all (push self s) w) (λ given w2. refl)
-    value_is (Sent (ObjectValue a) selector all) s w = after (λ r. name r s) (above s) _ (referred D a w) _ _ (reference_is a s w) (λ self w1.
-        tells (ToObject selector) all (name self s) s w1 (λ given w2. sent D (meaning.ToObject self) selector given w2) (arguments_is all (name self s) w1) (λ given w2. refl))
-        ∙ ap (left_by (above s)) (three_parts (referred D a w) (λ self w1. Done (meaning.ToObject self) w1) (λ target w1. then_do (all_evaluated D all w1) (λ given w2. sent D target selector given w2)))
-    value_is (Sent (ObjectSuper from) selector all) s w =
-        let self = w.frame.self in
-        tells (ToSuper from selector) all (name self s) s (takes self w) (λ given w2. sent D (meaning.ToSuper from self) selector given w2) (arguments_is all (name self s) (takes self w)) (λ given w2. refl)
+    value_is (Invoked f all) s w = call_is gives.Number above number_given number_left f all s w (arguments_is all s w)
+    value_is (Sent (ClassValue a) selector all) s w = to_class gives.Number above number_given number_left selector all (λ s1 w1. arguments_is all s1 w1) a s w (value_is a s w)
+    value_is (Sent (ClassSuper from) selector all) s w = to_super_class gives.Number above number_given number_left selector all (λ s1 w1. arguments_is all s1 w1) from s w
+    value_is (Sent (ObjectValue a) selector all) s w = to_object gives.Number above number_given number_left selector all (λ s1 w1. arguments_is all s1 w1) a s w (reference_is a s w)
+    value_is (Sent (ObjectSuper a from) selector all) s w = to_super gives.Number above number_given number_left selector all (λ s1 w1. arguments_is all s1 w1) a from s w (reference_is a s w)
     value_is (Field a class index) s w = after (λ r. name r s) (above s) _ (referred D a w) _ _ (reference_is a s w) (λ r w1. refl)
     value_is (FieldAssigned a class index b) s w = after (λ r. name r s) (above s) _ (referred D a w) _ _ (reference_is a s w) (λ r w1.
         after (λ v. push v (name r s)) (above s) _ (evaluated D b w1) _ _ (value_is b (name r s) w1) (λ v w2. refl))
@@ -204,7 +265,14 @@ module _ (D : Deeper) (bound : ℕ) where
     reference_is (ObjectFieldStored a class index b) s w = after (λ r. name r s) (beside s) _ (referred D a w) _ _ (reference_is a s w) (λ r w1.
         after (λ v. name v (name r s)) (beside s) _ (referred D b w1) _ _ (reference_is b (name r s) w1) (λ value w2. held value s (object_field_set D r class index value w2)))
     reference_is (Made a) s w = after (λ v. push v s) (beside s) _ (evaluated D a w) _ _ (value_is a s w) (λ class w1. refl)
-    reference_is (Initialized a) s w = after (λ r. name r s) (beside s) _ (referred D a w) _ _ (reference_is a s w) (λ r w1. refl)
+    reference_is (New (Some from) a) s w = after (λ v. push v s) (beside s) _ (evaluated D a w) _ _ (value_is a s w) (λ class w1. new_by (found_from (Some from)) (ToSuperClass from new_selector) class s w1 refl)
+    reference_is (New None (Number (pos c))) s w = new_by (found_from (Some c)) (ToClass new_selector) (pos c) s w refl
+    reference_is (New None a) s w = after (λ v. push v s) (beside s) (run (value_block (length s.numbers) a) s w) (evaluated D a w) (run (Then (One (Finds new_selector)) (Fork (Tells gives.Object (ToClass new_selector) 0 0) Making))) (λ class w1. new_sent D None class w1) (value_is a s w) (λ class w1. new_tested class s w1)
+    reference_is (ObjectInvoked f all) s w = call_is gives.Object beside object_given object_left f all s w (arguments_is all s w)
+    reference_is (ObjectSent (ClassValue a) selector all) s w = to_class gives.Object beside object_given object_left selector all (λ s1 w1. arguments_is all s1 w1) a s w (value_is a s w)
+    reference_is (ObjectSent (ClassSuper from) selector all) s w = to_super_class gives.Object beside object_given object_left selector all (λ s1 w1. arguments_is all s1 w1) from s w
+    reference_is (ObjectSent (ObjectValue a) selector all) s w = to_object gives.Object beside object_given object_left selector all (λ s1 w1. arguments_is all s1 w1) a s w (reference_is a s w)
+    reference_is (ObjectSent (ObjectSuper a from) selector all) s w = to_super gives.Object beside object_given object_left selector all (λ s1 w1. arguments_is all s1 w1) a from s w (reference_is a s w)
 
     pub arguments_is : (all : Arguments) (s : Operands) (w : World) → run (arguments_block (length s.numbers) all) s w ≡ left_by (all_above s) (all_evaluated D all w)
     arguments_is no_arguments s w = refl

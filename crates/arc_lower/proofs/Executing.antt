@@ -2,12 +2,12 @@
 use Rattle.std.proofs.Common.{◌≡◌, ℕ, zero, suc, ℤ, Bool, true, false, List, [], Some, None, refl, sym, ap, ◌∙◌}
 use Rattle.arc_spec.specs.Number.{is_zero}
 use Rattle.arc_spec.specs.declared.location.Location.TheVariants.{Local}
-use Rattle.arc_spec.specs.Resolved.{Value, Reference, Command, Sequence, Evaluate, EvaluateReference, Begin, Choose, Repeat, RepeatAfter, Break, Continue, Commands, no_commands, and_command}
+use Rattle.arc_spec.specs.Resolved.{Value, Reference, Command, Sequence, Evaluate, EvaluateReference, Begin, Give, Choose, Repeat, RepeatAfter, Break, Continue, Commands, no_commands, and_command}
 use Rattle.arc_spec.specs.Resolved as resolved
 use Rattle.arc_spec.specs.World.{World, Outcome, Done, Faulted, Cut, Finished, finished, then_do}
-use Rattle.arc_spec.specs.Meaning.{Deeper, Flow, Normal, Broken, Continued, Returned, given, chosen, if_normal, in_turn, after_body, turns, turns_after, normally, assigned, all_dropped, variables_dropped, scope_left, evaluated, referred, whole, whole_reference, begun, executed, all_executed}
+use Rattle.arc_spec.specs.Meaning.{Deeper, Flow, Normal, Broken, Continued, Returned, given, chosen, if_normal, in_turn, after_body, turns, turns_after, normally, assigned, all_dropped, variables_dropped, scope_left, evaluated, referred, whole, whole_reference, begun, result_place, executed, all_executed}
 use Rattle.arc_code.specs.declared.instr.Op.TheVariants.{Forget}
-use Rattle.arc_lower.specs.Lowered.{Block, Idle, One, Clear, Then, Quit, Advance, nothing_given, does_nothing, loop_block, whole_block, whole_reference_block, begin_block, unused, command_block, commands_block, body_block}
+use Rattle.arc_lower.specs.Lowered.{Block, Idle, One, Clear, Then, Quit, Advance, nothing_given, does_nothing, loop_block, whole_block, whole_reference_block, begin_block, answer_block, unused, command_block, commands_block, body_block}
 use Rattle.arc_lower.proofs.Shaping.{Operands, push, name, Way, On, Out, left_by, on_way, and_then, passes_by, after_turn, on_test, only_on, block_turns, block}
 use Rattle.arc_lower.proofs.Unused.{unused_is}
 use Rattle.arc_lower.proofs.Evaluating.{above, value_is, reference_is}
@@ -36,11 +36,11 @@ either end true x y m n d e = e
 
 module _ (D : Deeper) (bound : ℕ) where
   abbrev run : Block → Operands → World → Outcome Way
-  run = block D bound true
+  run = block D bound 0 true
 
-  -- within a full-expression
-  abbrev inside : Block → Operands → World → Outcome Way
-  inside = block D bound false
+  -- within a full-expression, by the place of the result
+  abbrev inside : (place : ℕ) → Block → Operands → World → Outcome Way
+  inside place = block D bound place false
 
   -- a full-expression, what is done with its value, and the end of its temporaries
   full : {A B C : Type 0} (exit : A → Operands) (out : B → Operands) (end : C → Way) (x : Outcome Way) (o : Outcome A) (k : Operands → World → Outcome Way) (go : A → World → Outcome B) (rest : B → World → Outcome C) → x ≡ left_by (λ a. On (exit a)) o → ((a : A) (w : World) → k (exit a) w ≡ left_by (λ b. On (out b)) (go a w)) → ((b : B) (w : World) → passes_by (out b) (all_dropped D w) ≡ left_by end (rest b w)) → then_do (and_then x k) (only_on (λ s w. passes_by s (all_dropped D w))) ≡ left_by end (then_do o (λ a w. then_do (go a w) rest))
@@ -48,30 +48,36 @@ module _ (D : Deeper) (bound : ℕ) where
   full exit out end x (Faulted f w) k go rest e h d = ap (λ y. then_do (and_then y k) (only_on (λ s w. passes_by s (all_dropped D w)))) e
   full exit out end x (Cut w) k go rest e h d = ap (λ y. then_do (and_then y k) (only_on (λ s w. passes_by s (all_dropped D w)))) e
 
-  drops_is : (v : ℤ) (s : Operands) (o : Outcome Finished) → passes_by (push v s) o ≡ left_by (above D bound s) (then_do o (λ _ w. Done v w))
+  drops_is : (v : ℤ) (s : Operands) (o : Outcome Finished) → passes_by (push v s) o ≡ left_by (above D bound 0 s) (then_do o (λ _ w. Done v w))
   drops_is v s (Done done w) = refl
   drops_is v s (Faulted f w) = refl
   drops_is v s (Cut w) = refl
 
-  forgotten : (r : ℕ) (s : Operands) (o : Outcome Finished) → and_then (passes_by (name r s) o) (inside (One Forget)) ≡ passes_by s o
-  forgotten r s (Done done w) = refl
-  forgotten r s (Faulted f w) = refl
-  forgotten r s (Cut w) = refl
+  forgotten : (place r : ℕ) (s : Operands) (o : Outcome Finished) → and_then (passes_by (name r s) o) (inside place (One Forget)) ≡ passes_by s o
+  forgotten place r s (Done done w) = refl
+  forgotten place r s (Faulted f w) = refl
+  forgotten place r s (Cut w) = refl
 
-  whole_is : (a : Value) (names : List ℕ) (w : World) → run (whole_block a) (calm names) w ≡ left_by (above D bound (calm names)) (whole D a w)
+  whole_is : (a : Value) (names : List ℕ) (w : World) → run (whole_block a) (calm names) w ≡ left_by (above D bound 0 (calm names)) (whole D a w)
   whole_is a names w =
       let s = calm names in
-      full (λ v. push v s) (λ v. push v s) (above D bound s) _ (evaluated D a w) _ (λ v w1. Done v w1) _ (value_is D bound a s w) (λ v w1. refl) (λ v w1. drops_is v s (all_dropped D w1))
+      full (λ v. push v s) (λ v. push v s) (above D bound 0 s) _ (evaluated D a w) _ (λ v w1. Done v w1) _ (value_is D bound (result_place w) a s w) (λ v w1. refl) (λ v w1. drops_is v s (all_dropped D w1))
 
   whole_reference_is : (a : Reference) (names : List ℕ) (w : World) → run (whole_reference_block a) (calm names) w ≡ passes_by (calm names) (whole_reference D a w)
   whole_reference_is a names w =
       let s = calm names in
-      full (λ r. name r s) (λ (done : Finished). s) (λ (done : Finished). On s) _ (referred D a w) _ (λ r w1. Done finished w1) _ (reference_is D bound a s w) (λ r w1. refl) (λ done w1. refl)
+      full (λ r. name r s) (λ (done : Finished). s) (λ (done : Finished). On s) _ (referred D a w) _ (λ r w1. Done finished w1) _ (reference_is D bound (result_place w) a s w) (λ r w1. refl) (λ done w1. refl)
 
   begin_is : (i : ℕ) (a : Reference) (names : List ℕ) (w : World) → run (begin_block i a) (calm names) w ≡ passes_by (calm names) (begun D i a w)
   begin_is i a names w =
       let s = calm names in
-      full (λ r. name r s) (λ (done : Finished). s) (λ (done : Finished). On s) _ (referred D a w) _ (λ r w1. assigned D (Local i) r w1) _ (reference_is D bound a s w) (λ r w1. forgotten r s (assigned D (Local i) r w1)) (λ done w1. refl)
+      full (λ r. name r s) (λ (done : Finished). s) (λ (done : Finished). On s) _ (referred D a w) _ (λ r w1. assigned D (Local i) r w1) _ (reference_is D bound (result_place w) a s w) (λ r w1. forgotten (result_place w) r s (assigned D (Local i) r w1)) (λ done w1. refl)
+
+  answer_is : (a : Reference) (names : List ℕ) (w : World) → run (answer_block a) (calm names) w ≡ passes_by (calm names) (begun D (result_place w) a w)
+  answer_is a names w =
+      let s = calm names in
+      let place = result_place w in
+      full (λ r. name r s) (λ (done : Finished). s) (λ (done : Finished). On s) _ (referred D a w) _ (λ r w1. assigned D (Local place) r w1) _ (reference_is D bound place a s w) (λ r w1. forgotten place r s (assigned D (Local place) r w1)) (λ done w1. refl)
 
   module _ (exit : ℕ) (names : List ℕ) where
     abbrev s : Operands
@@ -185,6 +191,7 @@ module _ (D : Deeper) (bound : ℕ) where
       command_is breaks continues quits turns (Begin i a) w = begin_is i a names w ∙ normal_is breaks continues (begun D i a w)
       command_is breaks continues quits turns (resolved.Return None) w = refl
       command_is breaks continues quits turns (resolved.Return (Some a)) w = onward (λ v. push v s) (ends breaks continues) _ (whole D a w) _ _ (whole_is a names w) (λ v w1. refl)
+      command_is breaks continues quits turns (Give a) w = onward (λ (done : Finished). s) (ends breaks continues) _ (begun D (result_place w) a w) _ _ (answer_is a names w) (λ done w1. refl)
       command_is breaks continues quits turns (Choose test a b) w = onward (λ v. push v s) (ends breaks continues) _ (whole D test w) _ _ (whole_is test names w) (λ v w1.
           either (ends breaks continues) (is_zero v) _ _ _ _ (command_is breaks continues quits turns a w1) (command_is breaks continues quits turns b w1))
       command_is breaks continues quits turns (Repeat test step body) w = repeat_is breaks continues quits turns test step body (command_is breaks continues quits turns step) (command_is Quit Advance (λ w1 k. refl) (λ w1 k. refl) body) w (does_nothing step) refl

@@ -1,11 +1,13 @@
 -- A message finds the stub of the method that is meant, and a class the stub of its dealloc.
-use Rattle.std.proofs.Common.{◌≡◌, ℕ, zero, suc, ◌+◌, Bool, true, false, if◌then◌else◌, nat_eq, List, [], ◌∷◌, length, Option, Some, None, refl, sym, true≢false, ap, ◌∙◌, subst, slice_get}
+use Rattle.std.proofs.Common.{◌≡◌, ℕ, zero, suc, ◌+◌, Bool, true, false, is_some, if◌then◌else◌, nat_eq, ◌&&◌, List, [], ◌∷◌, length, Option, Some, None, refl, sym, true≢false, ap, ◌∙◌, subst, slice_get}
 use Rattle.std.specs.List.{list_any}
 use Rattle.std.proofs.lemmas.Bool.{eqb-true, and_parts}
 use Rattle.arc_ast.specs.declared.tree.Sign.{Sign}
 use Rattle.arc_ast.specs.declared.tree.Sign.TheVariants as signs
 use Rattle.arc_spec.specs.declared.class.Method.{Method}
-use Rattle.arc_spec.specs.Classes.{Class, superclasses, ancestry, first_that_has, own_methods, same_sign, answers, found, or_else, lookup, descends, strong_count, strong_counts, order_of_fields, above_class, field_order}
+use Rattle.arc_spec.specs.declared.class.Gives.{Gives}
+use Rattle.arc_spec.specs.declared.class.Gives.TheVariants as gives
+use Rattle.arc_spec.specs.Classes.{Class, superclasses, ancestry, first_that_has, own_methods, same_sign, same_gives, answers, found, or_else, lookup, descends, strong_count, strong_counts, order_of_fields, above_class, field_order}
 use Rattle.arc_spec.specs.Meaning.{field_count}
 use Rattle.arc_spec.specs.Holding.{count_of}
 use Rattle.arc_spec.specs.Resolved as resolved
@@ -15,20 +17,20 @@ use Rattle.arc_lower.specs.Lowered.{entries_of, stub_orders, dealloc_orders, met
 use Rattle.arc_lower.proofs.Doing.{HasAt, has_front, has_back}
 
 -- a function's stub for so many numbers stands at a place
-abbrev pub Stub : Program → resolved.Program → (values objects f place : ℕ) → Type 0
-Stub p R values objects f place = HasAt p place (stub_orders R (entries_of R) values objects f)
+abbrev pub Stub : Program → resolved.Program → (wanted : Gives) → (values objects f place : ℕ) → Type 0
+Stub p R wanted values objects f place = HasAt p place (stub_orders R (entries_of R) wanted values objects f)
 
 -- both are nothing, or a function and its stub
-abbrev pub Meets : Program → resolved.Program → (values objects : ℕ) → (meant stands : Option ℕ) → Type 0
-Meets p R values objects None None = Unit {0}
-Meets p R values objects (Some f) (Some place) = Stub p R values objects f place
-Meets p R values objects None (Some place) = ⊥
-Meets p R values objects (Some f) None = ⊥
+abbrev pub Meets : Program → resolved.Program → (wanted : Gives) → (values objects : ℕ) → (meant stands : Option ℕ) → Type 0
+Meets p R wanted values objects None None = Unit {0}
+Meets p R wanted values objects (Some f) (Some place) = Stub p R wanted values objects f place
+Meets p R wanted values objects None (Some place) = ⊥
+Meets p R wanted values objects (Some f) None = ⊥
 
 -- no class, or one with the same superclass, fields, dealloc and methods, which are stubs
 abbrev pub Same : Program → resolved.Program → Option Class → Option Class → Type 0
 Same p R None None = Unit {0}
-Same p R (Some c) (Some d) = (d.superclass ≡ c.superclass) × (d.fields ≡ c.fields) × (d.strong_fields ≡ c.strong_fields) × Meets p R 0 0 c.dealloc d.dealloc × ((sign : Sign) (selector takes objects : ℕ) → Meets p R (passes sign takes) objects (found sign selector takes objects c.methods) (found sign selector takes objects d.methods))
+Same p R (Some c) (Some d) = (d.superclass ≡ c.superclass) × (d.fields ≡ c.fields) × (d.strong_fields ≡ c.strong_fields) × Meets p R gives.Number 0 0 c.dealloc d.dealloc × ((sign : Sign) (selector takes objects : ℕ) (wanted : Gives) → Meets p R wanted (passes sign takes) objects (found sign selector takes objects wanted c.methods) (found sign selector takes objects wanted d.methods))
 Same p R None (Some d) = ⊥
 Same p R (Some c) None = ⊥
 
@@ -44,29 +46,54 @@ sign_same signs.Instance signs.Instance e = refl
 sign_same signs.Class signs.Instance e = absurd (true≢false (sym e))
 sign_same signs.Instance signs.Class e = absurd (true≢false (sym e))
 
-pub passes_same : (sign : Sign) (selector takes objects : ℕ) (m : Method) → answers sign selector takes objects m ≡ true → (passes m.sign m.takes ≡ passes sign takes) × (m.objects ≡ objects)
-passes_same sign selector takes objects m e =
-    let parts = and_parts (same_sign m.sign sign) _ e in
-    let counts = and_parts (nat_eq m.takes takes) (nat_eq m.objects objects) (and_parts (nat_eq m.selector selector) _ parts.1).1 in
+pub gives_same : (a b : Gives) → same_gives a b ≡ true → a ≡ b
+gives_same gives.Number gives.Number e = refl
+gives_same gives.Object gives.Object e = refl
+gives_same gives.Number gives.Object e = absurd (true≢false (sym e))
+gives_same gives.Object gives.Number e = absurd (true≢false (sym e))
+
+-- what a method takes and gives that answers a message
+pub record Answers (sign : Sign) (takes objects : ℕ) (wanted : Gives) (m : Method) : Type 0 where
+  pub numbers : passes m.sign m.takes ≡ passes sign takes
+  pub references : m.objects ≡ objects
+  pub same : m.gives ≡ wanted
+
+pub answers_as : (sign : Sign) (selector takes objects : ℕ) (wanted : Gives) (m : Method) → answers sign selector takes objects wanted m ≡ true → Answers sign takes objects wanted m
+answers_as sign selector takes objects wanted m e =
+    let last = same_gives m.gives wanted in
+    let parts = and_parts (same_sign m.sign sign) (nat_eq m.selector selector && (nat_eq m.takes takes && (nat_eq m.objects objects && last))) e in
+    let counts = and_parts (nat_eq m.takes takes) (nat_eq m.objects objects && last) (and_parts (nat_eq m.selector selector) (nat_eq m.takes takes && (nat_eq m.objects objects && last)) parts.1).1 in
+    let rest = and_parts (nat_eq m.objects objects) last counts.1 in
     let count = eqb-true m.takes takes counts.0 in
-    (ap (λ s. passes s m.takes) (sign_same m.sign sign parts.0) ∙ ap (passes sign) count, eqb-true m.objects objects counts.1)
+    record {
+      numbers = ap (λ s. passes s m.takes) (sign_same m.sign sign parts.0) ∙ ap (passes sign) count;
+      references = eqb-true m.objects objects rest.0;
+      same = gives_same m.gives wanted rest.1;
+    }
+
+-- both are found or neither is
+pub meets_same : (p : Program) (R : resolved.Program) (wanted : Gives) (values objects : ℕ) (meant stands : Option ℕ) → Meets p R wanted values objects meant stands → is_some stands ≡ is_some meant
+meets_same p R wanted values objects None None h = refl
+meets_same p R wanted values objects (Some f) (Some place) h = refl
+meets_same p R wanted values objects None (Some place) h = absurd h
+meets_same p R wanted values objects (Some f) None h = absurd h
 
 module _ (p : Program) (R : resolved.Program) where
-  first_meets : (sign : Sign) (selector takes objects place : ℕ) (m : Method) (a b : Option ℕ) (t : Bool) → answers sign selector takes objects m ≡ t → Stub p R (passes m.sign m.takes) m.objects m.runs place → Meets p R (passes sign takes) objects a b → Meets p R (passes sign takes) objects (if t then Some m.runs else a) (if t then Some place else b)
-  first_meets sign selector takes objects place m a b true e stub rest =
-      let same = passes_same sign selector takes objects m e in
-      subst (λ n. Stub p R (passes sign takes) n m.runs place) same.1 (subst (λ n. Stub p R n m.objects m.runs place) same.0 stub)
-  first_meets sign selector takes objects place m a b false e stub rest = rest
+  first_meets : (sign : Sign) (selector takes objects : ℕ) (wanted : Gives) (place : ℕ) (m : Method) (a b : Option ℕ) (t : Bool) → answers sign selector takes objects wanted m ≡ t → Stub p R m.gives (passes m.sign m.takes) m.objects m.runs place → Meets p R wanted (passes sign takes) objects a b → Meets p R wanted (passes sign takes) objects (if t then Some m.runs else a) (if t then Some place else b)
+  first_meets sign selector takes objects wanted place m a b true e stub rest =
+      let same = answers_as sign selector takes objects wanted m e in
+      subst (λ g. Stub p R g (passes sign takes) objects m.runs place) same.same (subst (λ n. Stub p R m.gives (passes sign takes) n m.runs place) same.references (subst (λ n. Stub p R m.gives n m.objects m.runs place) same.numbers stub))
+  first_meets sign selector takes objects wanted place m a b false e stub rest = rest
 
-  found_meets : (place : ℕ) (ms : List Method) → HasAt p place (methods_orders R (entries_of R) ms) → (sign : Sign) (selector takes objects : ℕ) → Meets p R (passes sign takes) objects (found sign selector takes objects ms) (found sign selector takes objects (linked_methods R (entries_of R) place ms))
-  found_meets place [] has sign selector takes objects = tt
-  found_meets place (m ∷ others) has sign selector takes objects =
-      let xs = stub_orders R (entries_of R) (passes m.sign m.takes) m.objects m.runs in
+  found_meets : (place : ℕ) (ms : List Method) → HasAt p place (methods_orders R (entries_of R) ms) → (sign : Sign) (selector takes objects : ℕ) (wanted : Gives) → Meets p R wanted (passes sign takes) objects (found sign selector takes objects wanted ms) (found sign selector takes objects wanted (linked_methods R (entries_of R) place ms))
+  found_meets place [] has sign selector takes objects wanted = tt
+  found_meets place (m ∷ others) has sign selector takes objects wanted =
+      let xs = stub_orders R (entries_of R) m.gives (passes m.sign m.takes) m.objects m.runs in
       let ys = methods_orders R (entries_of R) others in
       let behind = place + length xs in
-      first_meets sign selector takes objects place m (found sign selector takes objects others) (found sign selector takes objects (linked_methods R (entries_of R) behind others)) (answers sign selector takes objects m) refl (has_front p place xs ys has) (found_meets behind others (has_back p place xs ys has) sign selector takes objects)
+      first_meets sign selector takes objects wanted place m (found sign selector takes objects wanted others) (found sign selector takes objects wanted (linked_methods R (entries_of R) behind others)) (answers sign selector takes objects wanted m) refl (has_front p place xs ys has) (found_meets behind others (has_back p place xs ys has) sign selector takes objects wanted)
 
-  dealloc_meets : (place : ℕ) (dealloc : Option ℕ) → HasAt p place (dealloc_orders R (entries_of R) dealloc) → Meets p R 0 0 dealloc (linked_dealloc place dealloc)
+  dealloc_meets : (place : ℕ) (dealloc : Option ℕ) → HasAt p place (dealloc_orders R (entries_of R) dealloc) → Meets p R gives.Number 0 0 dealloc (linked_dealloc place dealloc)
   dealloc_meets place None has = tt
   dealloc_meets place (Some f) has = has
 
@@ -98,31 +125,35 @@ module _ (p : Program) (R : resolved.Program) where
 
   -- ---- lookups
 
-  else_meets : (values objects : ℕ) (a b x y : Option ℕ) → Meets p R values objects a b → Meets p R values objects x y → Meets p R values objects (or_else a x) (or_else b y)
-  else_meets values objects None None x y first above = above
-  else_meets values objects (Some f) (Some place) x y first above = first
-  else_meets values objects None (Some place) x y first above = absurd first
-  else_meets values objects (Some f) None x y first above = absurd first
+  else_meets : (wanted : Gives) (values objects : ℕ) (a b x y : Option ℕ) → Meets p R wanted values objects a b → Meets p R wanted values objects x y → Meets p R wanted values objects (or_else a x) (or_else b y)
+  else_meets wanted values objects None None x y first above = above
+  else_meets wanted values objects (Some f) (Some place) x y first above = first
+  else_meets wanted values objects None (Some place) x y first above = absurd first
+  else_meets wanted values objects (Some f) None x y first above = absurd first
 
-  own_meets : (sign : Sign) (selector takes objects : ℕ) (a b : Option Class) → Same p R a b → Meets p R (passes sign takes) objects (found sign selector takes objects (own_methods a)) (found sign selector takes objects (own_methods b))
-  own_meets sign selector takes objects None None same = tt
-  own_meets sign selector takes objects (Some c) (Some d) same = same.4 sign selector takes objects
-  own_meets sign selector takes objects None (Some d) same = absurd same
-  own_meets sign selector takes objects (Some c) None same = absurd same
+  own_meets : (sign : Sign) (selector takes objects : ℕ) (wanted : Gives) (a b : Option Class) → Same p R a b → Meets p R wanted (passes sign takes) objects (found sign selector takes objects wanted (own_methods a)) (found sign selector takes objects wanted (own_methods b))
+  own_meets sign selector takes objects wanted None None same = tt
+  own_meets sign selector takes objects wanted (Some c) (Some d) same = same.4 sign selector takes objects wanted
+  own_meets sign selector takes objects wanted None (Some d) same = absurd same
+  own_meets sign selector takes objects wanted (Some c) None same = absurd same
 
-  first_found_meets : (sign : Sign) (selector takes objects : ℕ) (cs ds : List Class) → ((i : ℕ) → Same p R (slice_get cs i) (slice_get ds i)) → (classes : List ℕ)
-      → Meets p R (passes sign takes) objects (first_that_has (λ class. found sign selector takes objects (own_methods (slice_get cs class))) classes) (first_that_has (λ class. found sign selector takes objects (own_methods (slice_get ds class))) classes)
-  first_found_meets sign selector takes objects cs ds same [] = tt
-  first_found_meets sign selector takes objects cs ds same (i ∷ above) =
-      else_meets (passes sign takes) objects (found sign selector takes objects (own_methods (slice_get cs i))) (found sign selector takes objects (own_methods (slice_get ds i))) _ _
-      (own_meets sign selector takes objects (slice_get cs i) (slice_get ds i) (same i)) (first_found_meets sign selector takes objects cs ds same above)
+  first_found_meets : (sign : Sign) (selector takes objects : ℕ) (wanted : Gives) (cs ds : List Class) → ((i : ℕ) → Same p R (slice_get cs i) (slice_get ds i)) → (classes : List ℕ)
+      → Meets p R wanted (passes sign takes) objects (first_that_has (λ class. found sign selector takes objects wanted (own_methods (slice_get cs class))) classes) (first_that_has (λ class. found sign selector takes objects wanted (own_methods (slice_get ds class))) classes)
+  first_found_meets sign selector takes objects wanted cs ds same [] = tt
+  first_found_meets sign selector takes objects wanted cs ds same (i ∷ above) =
+      else_meets wanted (passes sign takes) objects (found sign selector takes objects wanted (own_methods (slice_get cs i))) (found sign selector takes objects wanted (own_methods (slice_get ds i))) _ _
+      (own_meets sign selector takes objects wanted (slice_get cs i) (slice_get ds i) (same i)) (first_found_meets sign selector takes objects wanted cs ds same above)
 
   -- looking a method up among the linked classes comes to the stub of what is meant
-  pub lookup_meets : Linked p R → (sign : Sign) (from : Option ℕ) (selector takes objects : ℕ) → Meets p R (passes sign takes) objects (lookup R.classes from sign selector takes objects) (lookup p.classes from sign selector takes objects)
-  lookup_meets links sign from selector takes objects =
-      let meant = lookup R.classes from sign selector takes objects in
-      subst (λ above. Meets p R (passes sign takes) objects meant (first_that_has (λ class. found sign selector takes objects (own_methods (slice_get p.classes class))) (ancestry above from))) (sym links.above)
-      (first_found_meets sign selector takes objects R.classes p.classes links.same (ancestry (superclasses R.classes) from))
+  pub lookup_meets : Linked p R → (sign : Sign) (from : Option ℕ) (selector takes objects : ℕ) (wanted : Gives) → Meets p R wanted (passes sign takes) objects (lookup R.classes from sign selector takes objects wanted) (lookup p.classes from sign selector takes objects wanted)
+  lookup_meets links sign from selector takes objects wanted =
+      let meant = lookup R.classes from sign selector takes objects wanted in
+      subst (λ above. Meets p R wanted (passes sign takes) objects meant (first_that_has (λ class. found sign selector takes objects wanted (own_methods (slice_get p.classes class))) (ancestry above from))) (sym links.above)
+      (first_found_meets sign selector takes objects wanted R.classes p.classes links.same (ancestry (superclasses R.classes) from))
+
+  pub found_same : Linked p R → (from : Option ℕ) (sign : Sign) (selector takes objects : ℕ) (wanted : Gives) → is_some (lookup p.classes from sign selector takes objects wanted) ≡ is_some (lookup R.classes from sign selector takes objects wanted)
+  found_same links from sign selector takes objects wanted =
+      meets_same p R wanted (passes sign takes) objects (lookup R.classes from sign selector takes objects wanted) (lookup p.classes from sign selector takes objects wanted) (lookup_meets links sign from selector takes objects wanted)
 
   -- ---- descent and fields
 

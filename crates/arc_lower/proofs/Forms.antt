@@ -1,25 +1,28 @@
 -- What each form of expression and of statement needs and leaves.
-use Rattle.std.proofs.Common.{◌≡◌, ℕ, suc, ◌+◌, ◌-◌, ◌≤◌, Bool, true, false, if◌then◌else◌, List, Some, None, refl, subst, arith, pos, [], ◌∷◌, Option, is_some}
+use Rattle.std.proofs.Common.{◌≡◌, ℕ, suc, ◌+◌, ◌-◌, ◌≤◌, Bool, true, false, if◌then◌else◌, List, Some, None, refl, sym, subst, arith, pos, [], ◌∷◌, Option, is_some}
 use Rattle.std.specs.List.{list_any}
 use Rattle.arc_ast.specs.declared.tree.BinaryOperator.{BinaryOperator}
 use Rattle.arc_ast.specs.declared.tree.Kind.{Kind}
 use Rattle.arc_ast.specs.declared.tree.Moment.{Moment}
 use Rattle.arc_ast.specs.declared.tree.Moment.TheVariants.{Before, After}
 use Rattle.arc_spec.specs.declared.location.Location.TheVariants.{Local}
-use Rattle.arc_spec.specs.Resolved.{Value, Number, ReadByte, Print, Applied, Combined, Choice, Converted, Read, Assigned, Updated, Invoked, Sent, ClassValue, ClassSuper, ObjectValue, ObjectSuper, Field, FieldAssigned, FieldUpdated, Reference, Itself, Variable, Chosen, Stored, ObjectField, ObjectFieldStored, Made, Initialized, Arguments, no_arguments, number_argument, object_argument, Command, Sequence, Evaluate, EvaluateReference, Begin, Choose, Repeat, RepeatAfter, Break, Continue, Commands, no_commands, and_command, Program}
+use Rattle.arc_spec.specs.Resolved.{Value, Number, ReadByte, Print, Applied, Combined, Choice, Converted, Read, Assigned, Updated, Invoked, Sent, ClassValue, ClassSuper, ObjectValue, ObjectSuper, Field, FieldAssigned, FieldUpdated, Reference, Itself, Variable, Chosen, Stored, ObjectField, ObjectFieldStored, Made, New, ObjectInvoked, ObjectSent, Receiver, Arguments, no_arguments, number_argument, object_argument, Command, Sequence, Evaluate, EvaluateReference, Begin, Give, Choose, Repeat, RepeatAfter, Break, Continue, Commands, no_commands, and_command, Program}
 use Rattle.arc_spec.specs.Resolved as resolved
+use Rattle.arc_spec.specs.declared.class.Gives.{Gives}
+use Rattle.arc_spec.specs.declared.class.Gives.TheVariants as gives
+use Rattle.arc_spec.specs.Classes.{new_selector}
 use Rattle.arc_code.specs.declared.instr.Op.{Op}
 use Rattle.arc_code.specs.declared.instr.Op.TheVariants as ops
-use Rattle.arc_code.specs.declared.instr.Op.TheVariants.{Num, Bin, Un, Narrow, Pop, Get, GetChar, Nil, ReadSelf, ReadField, Hold, Forget, Alloc, GetField, SetField, Differ, IsObject}
+use Rattle.arc_code.specs.declared.instr.Op.TheVariants.{Num, Bin, Un, Narrow, Pop, Get, GetChar, Nil, ReadSelf, ReadField, Hold, Forget, Alloc, Finds, GetField, SetField, Differ, IsObject}
 use Rattle.arc_code.specs.declared.effect.Height.{Height}
-use Rattle.arc_code.specs.Effects.{on_numbers, of_names, operation_effect}
+use Rattle.arc_code.specs.Effects.{on_numbers, as_number, as_object, giving, operation_effect}
 use Rattle.arc_lower.specs.Known.{is_within, combined_kind, known_kind}
 use Rattle.arc_lower.specs.declared.frame.Turn.{Turn}
 use Rattle.arc_lower.specs.declared.frame.Scope.{Scope}
-use Rattle.arc_lower.specs.Lowered.{number_count, object_count, forget_orders, print_orders, order_takes, Inside, Block, Idle, One, Clear, Then, Fork, Quit, Advance, Full, Assign, flat, old_block, given_block, below_new, narrow_block, update_block, value_block, reference_block, arguments_block, whole_block, whole_reference_block, begin_block, unused, nothing_given, does_nothing, loop_block, command_block, commands_block, Surroundings, within_scopes, leaving, breaking, continuing}
+use Rattle.arc_lower.specs.Lowered.{number_count, object_count, forget_orders, print_orders, order_takes, Inside, Block, Idle, One, Clear, Calls, Tells, Making, IfNew, Answer, ToClass, ToSuperClass, message_to, below_arguments, new_block, receiver_block, answer_block, has_new, Then, Fork, Quit, Advance, Full, Assign, flat, old_block, given_block, below_new, narrow_block, update_block, value_block, reference_block, arguments_block, whole_block, whole_reference_block, begin_block, unused, nothing_given, does_nothing, loop_block, command_block, commands_block, Surroundings, within_scopes, leaving, breaking, continuing}
 use Rattle.arc_lower.specs.Heights.{height, between, after_effect, walk, last_walk}
 use Rattle.arc_lower.specs.Lowered.{whole_orders, whole_reference_orders}
-use Rattle.arc_lower.proofs.Typing.{heights_same, Reaches, types_then, forgets_type, print_types, get_types, set_types, call_types, store_types, read_types, all_empty_type, drop_types, tested, Forks, BlockTypes}
+use Rattle.arc_lower.proofs.Typing.{heights_same, Reaches, types_then, forgets_type, print_types, get_types, set_types, call_types, store_types, read_types, all_empty_type, drop_types, tested, Forks, ByTest, BlockTypes}
 use Rattle.arc_lower.proofs.HeightsEnd.{within_ends, quiet_types}
 
 module _ (P : Program) (r s slots names exit d : ℕ) (room : names ≤ d + s) where
@@ -53,11 +56,58 @@ module _ (P : Program) (r s slots names exit d : ℕ) (room : names ≤ d + s) w
       record { more = rest.more; most = omega (arith, first.most, rest.most); types = (height a b c d, first.more, forks, tt, first.types, rest.types) }
 
   -- what a message leaves
-  class_left : (n m a b c : ℕ) → after_effect (height (n + suc a) (m + b) c d) (of_names (suc n) 1 m) ≡ height (suc a) b c d
-  class_left n m a b c = heights_same _ _ _ _ (suc a) b c d (omega arith) (omega arith) (omega arith) (omega arith)
+  class_left : (g : Gives) (n m a b c : ℕ) → after_effect (height (n + suc a) (m + b) c d) (giving g (suc n) m) ≡ height (as_number g + a) (as_object g + b) (c + as_object g) d
+  class_left g n m a b c = heights_same _ _ _ _ (as_number g + a) (as_object g + b) (c + as_object g) d (omega arith) (omega arith) (omega arith) (omega arith)
 
-  object_left : (n m a b c : ℕ) → after_effect (height (n + a) (m + suc b) c d) (of_names n 1 (suc m)) ≡ height (suc a) b c d
-  object_left n m a b c = heights_same _ _ _ _ (suc a) b c d (omega arith) (omega arith) (omega arith) (omega arith)
+  object_left : (g : Gives) (n m a b c : ℕ) → after_effect (height (n + a) (m + suc b) c d) (giving g n (suc m)) ≡ height (as_number g + a) (as_object g + b) (c + as_object g) d
+  object_left g n m a b c = heights_same _ _ _ _ (as_number g + a) (as_object g + b) (c + as_object g) d (omega arith) (omega arith) (omega arith) (omega arith)
+
+  -- an object that gets a message is a reference below its arguments
+  abbrev with_object : Receiver → ℕ → ℕ
+  with_object (ClassValue v) b = b
+  with_object (ClassSuper from) b = b
+  with_object (ObjectValue v) b = suc b
+  with_object (ObjectSuper v from) b = suc b
+
+  receiver_lies : (receiver : Receiver) (depth a : ℕ) → depth + slots ≤ a + r → below_arguments receiver depth + slots ≤ below_arguments receiver a + r
+  receiver_lies (ClassValue v) depth a h = omega (arith, h)
+  receiver_lies (ClassSuper from) depth a h = omega (arith, h)
+  receiver_lies (ObjectValue v) depth a h = h
+  receiver_lies (ObjectSuper v from) depth a h = h
+
+  told : (g : Gives) (receiver : Receiver) (selector n m a b c : ℕ) → Comes (n + below_arguments receiver a) (m + with_object receiver b) c (Tells g (message_to receiver selector) n m) (as_number g + a) (as_object g + b)
+  told g (ClassValue v) selector n m a b c = record { more = c + as_object g; most = omega arith; types = ((omega arith, omega arith), class_left g n m a b c) }
+  told g (ClassSuper from) selector n m a b c = record { more = c + as_object g; most = omega arith; types = ((omega arith, omega arith), class_left g n m a b c) }
+  told g (ObjectValue v) selector n m a b c = record { more = c + as_object g; most = omega arith; types = ((omega arith, omega arith), object_left g n m a b c) }
+  told g (ObjectSuper v from) selector n m a b c = record { more = c + as_object g; most = omega arith; types = ((omega arith, omega arith), object_left g n m a b c) }
+
+  called : (g : Gives) (f n m a b c : ℕ) → Comes (n + a) (m + b) c (Calls g f n m) (as_number g + a) (as_object g + b)
+  called g f n m a b c = record { more = c + as_object g; most = omega arith; types = call_types P r s g b c d f n m a }
+
+  -- the root's `new` does the same with the class on top as a message to it
+  made_types : (a b c : ℕ) → Comes (suc a) b c Making a (suc b)
+  made_types a b c = record { more = c + 1; most = omega arith; types = (omega arith, heights_same _ _ _ _ a (suc b) (c + 1) d (omega arith) (omega arith) (omega arith) (omega arith)) }
+
+  told_types : (a b c : ℕ) → Comes (suc a) b c (Tells gives.Object (ToClass new_selector) 0 0) a (suc b)
+  told_types a b c = record { more = c + 1; most = omega arith; types = ((omega arith, omega arith), heights_same _ _ _ _ a (suc b) (c + 1) d (omega arith) (omega arith) (omega arith) (omega arith)) }
+
+  told_super_types : (from a b c : ℕ) → Comes (suc a) b c (Tells gives.Object (ToSuperClass from new_selector) 0 0) a (suc b)
+  told_super_types from a b c = record { more = c + 1; most = omega arith; types = ((omega arith, omega arith), heights_same _ _ _ _ a (suc b) (c + 1) d (omega arith) (omega arith) (omega arith) (omega arith)) }
+
+  if_new : (class : ℕ) (x y : Block) (a b c n m : ℕ) → Comes a b c x n m → Comes a b c y n m → Comes a b c (IfNew class x y) n m
+  if_new class x y a b c n m first other = either (has_new P class) refl
+    where
+      either : (t : Bool) → has_new P class ≡ t → Comes a b c (IfNew class x y) n m
+      either true e = record { more = first.more; most = first.most; types = subst (λ t. ByTest t (Within (height a b c d) x (height n m first.more d)) (Within (height a b c d) y (height n m first.more d))) (sym e) first.types }
+      either false e = record { more = other.more; most = other.most; types = subst (λ t. ByTest t (Within (height a b c d) x (height n m other.more d)) (Within (height a b c d) y (height n m other.more d))) (sym e) other.types }
+
+  either_new : (a b c : ℕ) → Comes (suc a) b c (Then (One (Finds new_selector)) (Fork (Tells gives.Object (ToClass new_selector) 0 0) Making)) a (suc b)
+  either_new a b c = next {n = suc (suc a)} {m = b} (op (Finds new_selector) (omega arith) (omega arith) (omega arith) refl) (λ t. choice (told_types a b t) (λ q. made_types a b q))
+
+  new_types : (from : Option ℕ) (e : Value) (a b c : ℕ) → Comes (suc a) b c (new_block from e) a (suc b)
+  new_types (Some from) e a b c = if_new from _ Making (suc a) b c a (suc b) (told_super_types from a b c) (made_types a b c)
+  new_types None (Number (pos n)) a b c = if_new n _ Making (suc a) b c a (suc b) (told_types a b c) (made_types a b c)
+  new_types None _ a b c = either_new a b c
 
   ends_with : {a b c n m u v : ℕ} {x : Block} → n ≡ u → m ≡ v → Comes a b c x n m → Comes a b c x u v
   ends_with {a = a} {b = b} {c = c} {n = n} {m = m} {u = u} {v = v} {x = x} e f first = subst (λ k. Comes a b c x u k) f (subst (λ k. Comes a b c x k m) e first)
@@ -108,11 +158,13 @@ module _ (P : Program) (r s slots names exit d : ℕ) (room : names ≤ d + s) w
     value_types (Updated moment i operator computed kept v) depth a b c h =
         let lies = lies_below moment depth a h in
         next (plain (get_types P r s b c d slots depth i a h)) (λ t. update_types moment operator computed kept _ _ a b t b (λ q. value_types v (suc (below_new moment depth)) (suc (below_new moment a)) b q (omega (arith, lies))) (λ q. plain (set_types P r s b q d slots (below_new moment depth) i (below_new moment a) lies)))
-    value_types (Invoked f arguments) depth a b c h = next (arguments_type arguments depth a b c h) (λ t. plain (call_types P r s b t d f (number_count arguments) (object_count arguments) a))
-    value_types (Sent (ClassValue v) selector arguments) depth a b c h = next (value_types v depth a b c h) (λ t. next (arguments_type arguments (suc depth) (suc a) b t (omega (arith, h))) (λ q. plain ((omega arith, omega arith), class_left (number_count arguments) (object_count arguments) a b q)))
-    value_types (Sent (ClassSuper from) selector arguments) depth a b c h = next (plain (get_types P r s b c d slots depth (Local 0) a h)) (λ t. next (arguments_type arguments (suc depth) (suc a) b t (omega (arith, h))) (λ q. plain ((omega arith, omega arith), class_left (number_count arguments) (object_count arguments) a b q)))
-    value_types (Sent (ObjectValue v) selector arguments) depth a b c h = next (reference_types v depth a b c h) (λ t. next (arguments_type arguments depth a (suc b) t h) (λ q. plain ((omega arith, omega arith), object_left (number_count arguments) (object_count arguments) a b q)))
-    value_types (Sent (ObjectSuper from) selector arguments) depth a b c h = next (op ReadSelf tt (omega arith) (omega arith) refl) (λ t. next (arguments_type arguments depth a (suc b) t h) (λ q. plain ((omega arith, omega arith), object_left (number_count arguments) (object_count arguments) a b q)))
+    value_types (Invoked f arguments) depth a b c h =
+        ends_with {n = as_number gives.Number + a} {m = as_object gives.Number + b} (omega arith) (omega arith) (next (arguments_type arguments depth a b c h) (λ t. called gives.Number f (number_count arguments) (object_count arguments) a b t))
+    value_types (Sent receiver selector arguments) depth a b c h =
+        let n = below_arguments receiver a in
+        let m = with_object receiver b in
+        ends_with {n = as_number gives.Number + a} {m = as_object gives.Number + b} (omega arith) (omega arith)
+        (next {n = n} {m = m} (receiver_types receiver depth a b c h) (λ t. next (arguments_type arguments (below_arguments receiver depth) n m t (receiver_lies receiver depth a h)) (λ q. told gives.Number receiver selector (number_count arguments) (object_count arguments) a b q)))
     value_types (Field v class index) depth a b c h = next (reference_types v depth a b c h) (λ t. op (GetField class index) (omega arith) (omega arith) (omega arith) refl)
     value_types (FieldAssigned v class index u) depth a b c h = next (reference_types v depth a b c h) (λ t. next (value_types u depth a (suc b) t h) (λ q. op (SetField class index) (omega arith, omega arith) (omega arith) (omega arith) refl))
     value_types (FieldUpdated moment v class index operator computed kept u) depth a b c h =
@@ -133,7 +185,21 @@ module _ (P : Program) (r s slots names exit d : ℕ) (room : names ≤ d + s) w
         next (reference_types v depth a b c h) (λ t. next (reference_types u depth a (suc b) t h) (λ q. next {n = a} {m = suc b} (plain (omega arith, heights_same _ _ _ _ a (suc b) q d (omega arith) (omega arith) (omega arith) (omega arith)))
         (λ u1. op Hold (omega arith) (omega arith) (omega arith) refl)))
     reference_types (Made v) depth a b c h = next (value_types v depth a b c h) (λ t. op Alloc (omega arith) (omega arith) (omega arith) refl)
-    reference_types (Initialized v) depth a b c h = next (reference_types v depth a b c h) (λ t. op Hold (omega arith) (omega arith) (omega arith) refl)
+    reference_types (New from v) depth a b c h = next (value_types v depth a b c h) (λ t. new_types from v a b t)
+    reference_types (ObjectInvoked f arguments) depth a b c h =
+        ends_with {n = as_number gives.Object + a} {m = as_object gives.Object + b} (omega arith) (omega arith) (next (arguments_type arguments depth a b c h) (λ t. called gives.Object f (number_count arguments) (object_count arguments) a b t))
+    reference_types (ObjectSent receiver selector arguments) depth a b c h =
+        let n = below_arguments receiver a in
+        let m = with_object receiver b in
+        ends_with {n = as_number gives.Object + a} {m = as_object gives.Object + b} (omega arith) (omega arith)
+        (next {n = n} {m = m} (receiver_types receiver depth a b c h) (λ t. next (arguments_type arguments (below_arguments receiver depth) n m t (receiver_lies receiver depth a h)) (λ q. told gives.Object receiver selector (number_count arguments) (object_count arguments) a b q)))
+
+    -- what gets a message is one operand more, or one reference more
+    receiver_types : (e : Receiver) (depth a b c : ℕ) → depth + slots ≤ a + r → Comes a b c (receiver_block depth e) (below_arguments e a) (with_object e b)
+    receiver_types (ClassValue v) depth a b c h = value_types v depth a b c h
+    receiver_types (ClassSuper from) depth a b c h = plain (get_types P r s b c d slots depth (Local 0) a h)
+    receiver_types (ObjectValue v) depth a b c h = reference_types v depth a b c h
+    receiver_types (ObjectSuper v from) depth a b c h = reference_types v depth a b c h
 
     pub arguments_type : (es : Arguments) (depth a b c : ℕ) → depth + slots ≤ a + r → Comes a b c (arguments_block depth es) (number_count es + a) (object_count es + b)
     arguments_type no_arguments depth a b c h = plain (heights_same _ _ _ _ (0 + a) (0 + b) c d (omega arith) (omega arith) refl refl)
@@ -165,6 +231,9 @@ module _ (P : Program) (r s slots names exit d : ℕ) (room : names ≤ d + s) w
 
   pub begin_types : (looping statement : Bool) (i : ℕ) (e : Reference) (a : ℕ) → slots ≤ a + r → BlockTypes P r s slots names exit looping statement (height a 0 0 d) (begin_block i e) (height a 0 0 d)
   begin_types looping statement i e a h = full looping statement a a 1 a (reference_block 0 e) (Then (Assign (Local i)) (One Forget)) (reference_types e 0 a 0 0 (omega (arith, h))) (λ t. (height a 1 t d, store_types P r s names a 1 t d room (Local i) (omega arith), forget_types a t))
+
+  pub answer_types : (looping statement : Bool) (e : Reference) (a : ℕ) → slots ≤ a + r → BlockTypes P r s slots names exit looping statement (height a 0 0 d) (answer_block e) (height a 0 0 d)
+  answer_types looping statement e a h = full looping statement a a 1 a (reference_block 0 e) (Then Answer (One Forget)) (reference_types e 0 a 0 0 (omega (arith, h))) (λ t. (height a 1 t d, store_types P r s names a 1 t d room (Local (names - 1)) (omega arith), forget_types a t))
 
 pub whole_ends : (P : Program) (base : Height) (pending : List Height) (slots names : ℕ) (e : Value) (a b : ℕ) → last_walk P base (walk (between a b) pending) (whole_orders P slots names e) ≡ walk (between (suc a) b) pending
 whole_ends P base pending slots names e a b = within_ends P slots names slots names 0 base (whole_block e) (between a b) (between (suc a) b) pending (whole_types P slots names slots names 0 b (omega arith) false false e a (omega arith))
@@ -212,6 +281,7 @@ module _ (P : Program) (slots names exit : ℕ) where
     command_types l b n t u (Evaluate a) = (test, test_types l (unused a), (omega arith, less))
     command_types l b n t u (EvaluateReference a) = whole_reference_types P 0 0 slots names exit names (omega arith) l true a slots (omega arith)
     command_types l b n t u (Begin i a) = begin_types P 0 0 slots names exit names (omega arith) l true i a slots (omega arith)
+    command_types l b n t u (Give a) = (base, answer_types P 0 0 slots names exit names (omega arith) l true a slots (omega arith), nothing_types l)
     command_types l b n t u (resolved.Return None) = nothing_types l
     command_types l b n t u (resolved.Return (Some a)) = (test, test_types l a, (refl, refl, refl, refl))
     command_types l b n t u (Choose v x y) = (test, test_types l v, (base, 0, record { some = omega arith; left = less; first = omega arith; next = omega arith }, refl, command_types l b n t u x, command_types l b n t u y))

@@ -1,18 +1,18 @@
 -- Where a walk over the orders of a block ends: at the height that its type says, and with the parts before it that tests may lead to.
-use Rattle.std.proofs.Common.{◌≡◌, ℕ, suc, ◌+◌, ◌≤◌, Bool, true, false, List, [], ◌∷◌, ◌++◌, length, drop, get_or, refl, sym, ap, ◌∙◌, arith}
+use Rattle.std.proofs.Common.{◌≡◌, ℕ, suc, ◌+◌, ◌≤◌, Bool, true, false, if◌then◌else◌, List, [], ◌∷◌, ◌++◌, length, drop, get_or, refl, sym, ap, ◌∙◌, arith}
 use Rattle.std.proofs.lemmas.Bool.{ltb-false, true≢false}
 use Rattle.std.specs.List.{list_any}
 use Rattle.arc_spec.specs.Resolved.{Program}
 use Rattle.arc_code.specs.declared.effect.Height.{Height}
-use Rattle.arc_code.specs.declared.instr.Instr.TheVariants.{Jump, JumpZero, DropAll, Return}
+use Rattle.arc_code.specs.declared.instr.Instr.TheVariants.{Jump, JumpZero, DropAll, Settle, Give, Return}
 use Rattle.arc_code.specs.Effects.{effect}
 use Rattle.arc_ir.specs.declared.action.Target.{Target}
 use Rattle.arc_ir.specs.declared.action.Target.TheVariants.{Skip, Back, At}
 use Rattle.arc_lower.specs.Order.{Order}
-use Rattle.arc_lower.specs.Lowered.{order_takes, drop_orders, Entry, AtStep, AtTest, AtBody, enter_orders, enter_size, Spot, Inside, past, body_spot, Block, Then, Fork, Loop, Quit, Advance, Full, Leave, flat}
+use Rattle.arc_lower.specs.Lowered.{order_takes, drop_orders, Entry, AtStep, AtTest, AtBody, enter_orders, enter_size, Spot, Inside, past, body_spot, Block, Making, IfNew, has_new, Then, Fork, Loop, Quit, Advance, Full, Leave, flat}
 use Rattle.arc_lower.specs.Heights.{between, next_height, Walk, walk, other_part, next_walk, last_walk}
 use Rattle.arc_lower.proofs.Quiet.{or_first, or_second}
-use Rattle.arc_lower.proofs.Typing.{heights_same, tested, types_last, with_temporaries, Leaves, BlockTypes}
+use Rattle.arc_lower.proofs.Typing.{heights_same, tested, types_last, with_temporaries, Leaves, ByTest, BlockTypes}
 
 pub last_append : (P : Program) (base : Height) (w : Walk) (xs ys : List Order) → last_walk P base w (xs ++ ys) ≡ last_walk P base (last_walk P base w xs) ys
 last_append P base w [] ys = refl
@@ -94,6 +94,14 @@ module _ (P : Program) (r s slots names exit : ℕ) where
     exactly e pending h x g ends = ends.1 ∙ ap (walk g) (sym ends.2)
 
     pub block_ends : (e : Spot) (looping statement : Bool) (x : Block) (h g : Height) (pending : List Height) → Keeps statement pending pending → BlockTypes P r s slots names exit looping statement h x g → Ends e statement pending h x g
+    block_ends e l statement Making h g pending keeps t = (pending, ap (λ n. walk n pending) t.1, keeps)
+    block_ends e l statement (IfNew class x y) h g pending keeps t = either (has_new P class) (λ u. block_ends e l statement x h g pending keeps u) (λ u. block_ends e l statement y h g pending keeps u) t
+      where
+        either : (b : Bool) → (BlockTypes P r s slots names exit l statement h x g → Ends e statement pending h x g) → (BlockTypes P r s slots names exit l statement h y g → Ends e statement pending h y g)
+            → ByTest b (BlockTypes P r s slots names exit l statement h x g) (BlockTypes P r s slots names exit l statement h y g)
+            → (after : List Height) × (last_walk P from (walk h pending) (if b then flat P slots names e x else flat P slots names e y) ≡ walk g after) × Keeps statement pending after
+        either true first second u = first u
+        either false first second u = second u
     block_ends e l statement (Then x y) h g pending keeps t =
         let xs = flat P slots names e x in
         let ys = flat P slots names (past (length xs) e) y in
@@ -179,6 +187,8 @@ module _ (P : Program) (r s slots names exit : ℕ) where
   quiet_next (Jump to) w e = omega arith
   quiet_next DropAll w e = omega arith
   quiet_next Return w e = omega arith
+  quiet_next Give w e = omega arith
+  quiet_next Settle w e = omega arith
   quiet_next x w e = let none = ltb-false 0 (effect x).temporaries e in omega (arith, none)
 
   quiet_walk : (xs : List Order) (w : Walk) → list_any order_takes xs ≡ false → (last_walk P base w xs).height.temporaries ≤ w.height.temporaries

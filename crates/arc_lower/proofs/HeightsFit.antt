@@ -1,19 +1,22 @@
--- The heights of a lowered program fit its actions.
-use Rattle.std.proofs.Common.{◌≡◌, ℕ, zero, suc, ◌+◌, ◌-◌, ◌≤◌, Bool, true, false, if◌then◌else◌, nat_lt, List, [], ◌∷◌, length, get_or, Some, refl, sym, ap, ◌∙◌, subst, arith, slice_get}
-use Rattle.std.proofs.lemmas.Bool.{ltb-true, ltb-false}
-use Rattle.arc_spec.specs.Classes.{lookup}
+-- The heights of a lowered program, and what its functions give, fit its actions.
+use Rattle.std.proofs.Common.{◌≡◌, ℕ, zero, suc, ◌+◌, ◌-◌, ◌≤◌, List, [], ◌∷◌, ◌++◌, length, get_or, Some, refl, sym, ap, ◌∙◌, subst, arith, slice_get}
+use Rattle.arc_spec.specs.declared.class.Gives.{Gives}
+use Rattle.arc_spec.specs.declared.class.Gives.TheVariants as gives
+use Rattle.arc_spec.specs.declared.class.Method.{Method}
+use Rattle.arc_spec.specs.Classes.{Class, lookup}
 use Rattle.arc_spec.specs.Resolved.{Function}
 use Rattle.arc_spec.specs.Resolved as resolved
-use Rattle.arc_code.specs.declared.instr.Instr.TheVariants.{Plain, PrintText, Jump, JumpZero, Call, Send, SendSuper, SendTo, SendToSuper, StoreStrong, StoreGlobal, StoreField, Empty, DropAll, Return, EndStep}
+use Rattle.arc_spec.specs.Meaning.{function_at}
+use Rattle.arc_code.specs.declared.instr.Instr.TheVariants.{Plain, PrintText, Jump, JumpZero, Call, Send, SendSuper, SendTo, SendToSuper, StoreStrong, StoreGlobal, StoreField, Empty, DropAll, Settle, Give, Return, EndStep}
 use Rattle.arc_code.specs.declared.effect.Effect.{Effect}
 use Rattle.arc_code.specs.declared.effect.Height.{Height}
-use Rattle.arc_code.specs.Effects.{effect, operation_effect, on_numbers, of_names, no_height, FitsBetween, FitsAt, HeightsFit, passes}
+use Rattle.arc_code.specs.Effects.{effect, operation_effect, on_numbers, as_number, as_object, giving, no_height, FitsBetween, FitsAt, SameResult, GivesAt, HeightsFit, passes}
 use Rattle.arc_ir.specs.Acting.{Action, Program, lands, entry, linked}
 use Rattle.arc_lower.specs.Order.{Order, order, orders}
-use Rattle.arc_lower.specs.Lowered.{number_of, slots_of, parameters_of, object_parameters, entries_of, lowered, classes_linked}
-use Rattle.arc_lower.specs.Heights.{height, next_height, highest, greatest, lowered_heights, greatest_height, places_in, height_at}
+use Rattle.arc_lower.specs.Lowered.{all_functions, number_of, slots_of, parameters_of, start_orders, function_orders, entries_of, lowered, classes_linked}
+use Rattle.arc_lower.specs.Heights.{height, highest, greatest, start_heights, function_heights, functions_heights, stub_heights, methods_heights, dealloc_heights, classes_heights, lowered_heights, greatest_height, places_in, height_at, in_function, functions_marks, methods_marks, class_marks, classes_marks, lowered_marks, no_mark, result_at}
 use Rattle.arc_lower.proofs.Doing.{bare}
-use Rattle.arc_lower.proofs.Linking.{out_of_list}
+use Rattle.arc_lower.proofs.Typing.{IsCalled, gives_wanted}
 use Rattle.arc_lower.proofs.Stepping.{some_same, get_there, Goes, Steps}
 use Rattle.arc_lower.proofs.Programs.{all, table, Entered, entered_at, methods_go, steps_at}
 
@@ -43,15 +46,67 @@ none_greater [] most none pc low = low
 none_greater (h ∷ hs) most none zero low = at_most_then h (highest most h) (greatest hs (highest most h)) (highest_right most h) (greatest_more hs (highest most h))
 none_greater (h ∷ hs) most none (suc pc) low = none_greater hs (highest most h) none pc (at_most_then none most (highest most h) low (highest_left most h))
 
+-- ---- heights with what functions give
+
+abbrev firsts : List (Height × Gives) → List Height
+firsts [] = []
+firsts (m ∷ others) = m.0 ∷ firsts others
+
+firsts_append : (a b : List (Height × Gives)) → firsts (a ++ b) ≡ firsts a ++ firsts b
+firsts_append [] b = refl
+firsts_append (m ∷ a) b = ap (λ l. m.0 ∷ l) (firsts_append a b)
+
+firsts_in : (given : Gives) (hs : List Height) → firsts (in_function given hs) ≡ hs
+firsts_in given [] = refl
+firsts_in given (h ∷ hs) = ap (λ l. h ∷ l) (firsts_in given hs)
+
+both_firsts : (a b : List (Height × Gives)) (hs gs : List Height) → firsts a ≡ hs → firsts b ≡ gs → firsts (a ++ b) ≡ hs ++ gs
+both_firsts a b hs gs e f = firsts_append a b ∙ ap (λ l. l ++ firsts b) e ∙ ap (λ l. hs ++ l) f
+
+first_there : (ms : List (Height × Gives)) (pc : ℕ) (m : Height × Gives) → slice_get ms pc ≡ Some m → slice_get (firsts ms) pc ≡ Some m.0
+first_there [] pc m e = cc
+first_there (n ∷ ms) zero m e = ap (λ (x : Height × Gives). Some x.0) (some_same n m e)
+first_there (n ∷ ms) (suc pc) m e = first_there ms pc m e
+
+module _ (R : resolved.Program) where
+  functions_firsts : (fs : List Function) (place : ℕ) → firsts (functions_marks R place fs) ≡ functions_heights R place fs
+  functions_firsts [] place = refl
+  functions_firsts (f ∷ fs) place =
+      let behind = place + length (function_orders R place f) in
+      both_firsts (in_function f.gives (function_heights R place f)) (functions_marks R behind fs) _ _ (firsts_in f.gives (function_heights R place f)) (functions_firsts fs behind)
+
+  methods_firsts : (ms : List Method) → firsts (methods_marks R (entries_of R) ms) ≡ methods_heights R (entries_of R) ms
+  methods_firsts [] = refl
+  methods_firsts (m ∷ ms) =
+      let hs = stub_heights R (entries_of R) m.gives (passes m.sign m.takes) m.objects m.runs in
+      both_firsts (in_function m.gives hs) (methods_marks R (entries_of R) ms) _ _ (firsts_in m.gives hs) (methods_firsts ms)
+
+  classes_firsts : (cs : List Class) → firsts (classes_marks R (entries_of R) cs) ≡ classes_heights R (entries_of R) cs
+  classes_firsts [] = refl
+  classes_firsts (c ∷ cs) =
+      let hs = dealloc_heights R (entries_of R) c.dealloc in
+      both_firsts (class_marks R (entries_of R) c) (classes_marks R (entries_of R) cs) _ _
+      (both_firsts (in_function gives.Number hs) (methods_marks R (entries_of R) c.methods) _ _ (firsts_in gives.Number hs) (methods_firsts c.methods)) (classes_firsts cs)
+
+  marks_firsts : firsts (lowered_marks R) ≡ lowered_heights R
+  marks_firsts =
+      let starts = in_function gives.Number (start_heights R) in
+      let functions = functions_marks R (length (start_orders R)) (all_functions R) in
+      both_firsts (starts ++ functions) (classes_marks R (entries_of R) R.classes) _ _
+      (both_firsts starts functions _ _ (firsts_in gives.Number (start_heights R)) (functions_firsts (all_functions R) (length (start_orders R)))) (classes_firsts R.classes)
+
 -- ---- the program
 
 module _ (p : Program) (R : resolved.Program) where
-  there : (pc : ℕ) (h : Height) → slice_get (table R) pc ≡ Some h → height_at R pc ≡ h
-  there pc h e = get_there (table R) pc h no_height e
+  there : (pc : ℕ) (h : Height) (given : Gives) → slice_get (table R) pc ≡ Some (h, given) → height_at R pc ≡ h
+  there pc h given e = get_there (lowered_heights R) pc h no_height (ap (λ l. slice_get l pc) (sym (marks_firsts R)) ∙ first_there (table R) pc (h, given) e)
+
+  gives_there : (pc : ℕ) (h : Height) (given : Gives) → slice_get (table R) pc ≡ Some (h, given) → result_at R pc ≡ given
+  gives_there pc h given e = ap (λ (m : Height × Gives). m.1) (get_there (table R) pc (h, given) no_mark e)
 
   -- what an effect leaves is within the heights of a program where it is within these
-  within : (pc to : ℕ) (h g : Height) (e : Effect) → slice_get (table R) pc ≡ Some h → slice_get (table R) to ≡ Some g → FitsBetween h g e → FitsBetween (height_at R pc) (height_at R to) e
-  within pc to h g e now next f = subst (λ x. FitsBetween x (height_at R to) e) (sym (there pc h now)) (subst (λ y. FitsBetween h y e) (sym (there to g next)) f)
+  within : (given : Gives) (pc to : ℕ) (h g : Height) (e : Effect) → slice_get (table R) pc ≡ Some (h, given) → slice_get (table R) to ≡ Some (g, given) → FitsBetween h g e → FitsBetween (height_at R pc) (height_at R to) e
+  within given pc to h g e now next f = subst (λ x. FitsBetween x (height_at R to) e) (sym (there pc h given now)) (subst (λ y. FitsBetween h y e) (sym (there to g given next)) f)
 
   fits : (h g : Height) (e : Effect) → h.numbers + e.numbers_given ≤ g.numbers + e.numbers_taken → h.names + e.names_given ≤ g.names + e.names_taken → h.temporaries + e.temporaries ≤ g.temporaries → h.variables + e.variables ≤ g.variables → FitsBetween h g e
   fits h g e n m t v = record { numbers = n; names = m; temporaries = t; variables = v }
@@ -60,41 +115,87 @@ module _ (p : Program) (R : resolved.Program) where
   own : (h : Height) (e : Effect) → FitsBetween h (height (h.numbers - e.numbers_taken + e.numbers_given) (h.names - e.names_taken + e.names_given) (h.temporaries + e.temporaries) (h.variables + e.variables)) e
   own h e = fits h _ e (omega arith) (omega arith) (omega arith) (omega arith)
 
-  -- a number is behind what gives one
-  gives_one : (pc : ℕ) (g : Height) → slice_get (table R) pc ≡ Some g → 1 ≤ g.numbers → 1 ≤ (height_at R pc).numbers
-  gives_one pc g next some = let same = ap (λ (x : Height). x.numbers) (there pc g next) in omega (arith, same, some)
+  -- a number or a reference is behind what gives one
+  given_there : (given wanted : Gives) (pc : ℕ) (g : Height) → slice_get (table R) pc ≡ Some (g, given) → as_number wanted ≤ g.numbers → as_object wanted ≤ g.names → (as_number wanted ≤ (height_at R pc).numbers) × (as_object wanted ≤ (height_at R pc).names)
+  given_there given wanted pc g next number object =
+      let numbers = ap (λ (x : Height). x.numbers) (there pc g given next) in
+      let names = ap (λ (x : Height). x.names) (there pc g given next) in
+      (omega (arith, numbers, number), omega (arith, names, object))
 
-  module _ (begun : (f : ℕ) → (slots_of R f ≤ (height_at R (entry p f)).numbers) × (parameters_of R f ≤ (height_at R (entry p f)).names)) where
-    order_fits : (pc : ℕ) (h : Height) (x : Order) → slice_get (table R) pc ≡ Some h → Steps R (all R) (table R) h pc x → FitsAt (bare p) (height_at R) pc x
-    order_fits pc h (Plain o) now s = within pc (pc + 1) h _ (operation_effect o) now s.1.0.height (own h (operation_effect o))
-    order_fits pc h (PrintText t) now s = within pc (pc + 1) h _ (order_effect (PrintText t)) now s.1.0.height (own h (order_effect (PrintText t)))
-    order_fits pc h (Jump to) now s = within pc (lands pc to) h _ (order_effect (Jump to)) now s.2.0.height (fits h _ (order_effect (Jump to)) (omega arith) (omega arith) (omega (arith, s.1)) (omega arith))
-    order_fits pc h (JumpZero to) now s = (within pc (pc + 1) h _ (order_effect (JumpZero to)) now s.1.0.height (own h (order_effect (JumpZero to))), within pc (lands pc to) h _ (order_effect (JumpZero to)) now s.2.2.0.height (fits h _ (order_effect (JumpZero to)) (omega arith) (omega arith) (omega (arith, s.2.1)) (omega arith)))
-    order_fits pc h (Call f) now s = λ to found.
-        let most : slots_of R f ≤ (height_at R to).numbers = subst (λ (q : ℕ). slots_of R f ≤ (height_at R q).numbers) (some_same (entry p f) to found) (begun f).0 in
-        let all_names : parameters_of R f ≤ (height_at R to).names = subst (λ (q : ℕ). parameters_of R f ≤ (height_at R q).names) (some_same (entry p f) to found) (begun f).1 in
-        let e = of_names (height_at R to).numbers 1 (height_at R to).names in
-        (within pc (pc + 1) h (next_height R (Call f) h) e now s.1.0.height (fits h (next_height R (Call f) h) e (omega (arith, most)) (omega (arith, all_names)) (omega arith) (omega arith)), gives_one (pc + 1) (next_height R (Call f) h) s.1.0.height (omega arith))
-    order_fits pc h (Send selector takes objects) now s = (within pc (pc + 1) h _ (order_effect (Send selector takes objects)) now s.1.0.height (own h (order_effect (Send selector takes objects))), gives_one (pc + 1) (next_height R (Send selector takes objects) h) s.1.0.height (omega arith))
-    order_fits pc h (SendSuper from selector takes objects) now s = (within pc (pc + 1) h _ (order_effect (SendSuper from selector takes objects)) now s.1.0.height (own h (order_effect (SendSuper from selector takes objects))), gives_one (pc + 1) (next_height R (SendSuper from selector takes objects) h) s.1.0.height (omega arith))
-    order_fits pc h (SendTo selector takes objects) now s = (within pc (pc + 1) h _ (order_effect (SendTo selector takes objects)) now s.1.0.height (own h (order_effect (SendTo selector takes objects))), gives_one (pc + 1) (next_height R (SendTo selector takes objects) h) s.1.0.height (omega arith))
-    order_fits pc h (SendToSuper from selector takes objects) now s = (within pc (pc + 1) h _ (order_effect (SendToSuper from selector takes objects)) now s.1.0.height (own h (order_effect (SendToSuper from selector takes objects))), gives_one (pc + 1) (next_height R (SendToSuper from selector takes objects) h) s.1.0.height (omega arith))
-    order_fits pc h (StoreStrong i) now s = within pc (pc + 1) h _ (order_effect (StoreStrong i)) now s.1.0.height (own h (order_effect (StoreStrong i)))
-    order_fits pc h (StoreGlobal i) now s = within pc (pc + 1) h _ (order_effect (StoreGlobal i)) now s.1.0.height (own h (order_effect (StoreGlobal i)))
-    order_fits pc h (StoreField class index) now s = within pc (pc + 1) h _ (order_effect (StoreField class index)) now s.1.0.height (own h (order_effect (StoreField class index)))
-    order_fits pc h (Empty i) now s = within pc (pc + 1) h _ (order_effect (Empty i)) now s.1.height (own h (order_effect (Empty i)))
+  module _ (calls : (wanted : Gives) (f : ℕ) → IsCalled R wanted f → Goes R (all R) (table R) wanted (entry p f) (height (slots_of R wanted f) (parameters_of R wanted f) 0 0)) (given : Gives) where
+    message_fits : (wanted : Gives) (taken names pc : ℕ) (h : Height) → slice_get (table R) pc ≡ Some (h, given)
+        → slice_get (table R) (pc + 1) ≡ Some (height (h.numbers - taken + as_number wanted) (h.names - names + as_object wanted) (h.temporaries + as_object wanted) (h.variables + 0), given)
+        → FitsBetween (height_at R pc) (height_at R (pc + 1)) (giving wanted taken names) × ((as_number wanted ≤ (height_at R (pc + 1)).numbers) × (as_object wanted ≤ (height_at R (pc + 1)).names))
+    message_fits wanted taken names pc h now next =
+        (within given pc (pc + 1) h _ (giving wanted taken names) now next (own h (giving wanted taken names)), given_there given wanted (pc + 1) _ next (omega arith) (omega arith))
+
+    order_fits : (pc : ℕ) (h : Height) (x : Order) → slice_get (table R) pc ≡ Some (h, given) → Steps R (all R) (table R) given h pc x → FitsAt (bare p) (height_at R) pc x
+    order_fits pc h (Plain o) now s = within given pc (pc + 1) h _ (operation_effect o) now s.1.0.height (own h (operation_effect o))
+    order_fits pc h (PrintText t) now s = within given pc (pc + 1) h _ (order_effect (PrintText t)) now s.1.0.height (own h (order_effect (PrintText t)))
+    order_fits pc h (Jump to) now s = within given pc (lands pc to) h _ (order_effect (Jump to)) now s.2.0.height (fits h _ (order_effect (Jump to)) (omega arith) (omega arith) (omega (arith, s.1)) (omega arith))
+    order_fits pc h (JumpZero to) now s = (within given pc (pc + 1) h _ (order_effect (JumpZero to)) now s.1.0.height (own h (order_effect (JumpZero to))), within given pc (lands pc to) h _ (order_effect (JumpZero to)) now s.2.2.0.height (fits h _ (order_effect (JumpZero to)) (omega arith) (omega arith) (omega (arith, s.2.1)) (omega arith)))
+    order_fits pc h (Call f wanted) now s = λ to found.
+        let begun = there (entry p f) _ wanted (calls wanted f s.0.1).0.height in
+        let same = ap (height_at R) (sym (some_same (entry p f) to found)) ∙ begun in
+        let numbers = ap (λ (x : Height). x.numbers) same in
+        let names = ap (λ (x : Height). x.names) same in
+        let fit = message_fits wanted (slots_of R wanted f) (parameters_of R wanted f) pc h now s.1.0.height in
+        subst (λ n. FitsBetween (height_at R pc) (height_at R (pc + 1)) (giving wanted n (height_at R to).names) × ((as_number wanted ≤ (height_at R (pc + 1)).numbers) × (as_object wanted ≤ (height_at R (pc + 1)).names))) (sym numbers)
+        (subst (λ n. FitsBetween (height_at R pc) (height_at R (pc + 1)) (giving wanted (slots_of R wanted f) n) × ((as_number wanted ≤ (height_at R (pc + 1)).numbers) × (as_object wanted ≤ (height_at R (pc + 1)).names))) (sym names) fit)
+    order_fits pc h (Send selector takes objects wanted) now s = message_fits wanted (suc takes) objects pc h now s.1.0.height
+    order_fits pc h (SendSuper from selector takes objects wanted) now s = message_fits wanted (suc takes) objects pc h now s.1.0.height
+    order_fits pc h (SendTo selector takes objects wanted) now s = message_fits wanted takes (suc objects) pc h now s.1.0.height
+    order_fits pc h (SendToSuper from selector takes objects wanted) now s = message_fits wanted takes (suc objects) pc h now s.1.0.height
+    order_fits pc h (StoreStrong i) now s = within given pc (pc + 1) h _ (order_effect (StoreStrong i)) now s.1.0.height (own h (order_effect (StoreStrong i)))
+    order_fits pc h (StoreGlobal i) now s = within given pc (pc + 1) h _ (order_effect (StoreGlobal i)) now s.1.0.height (own h (order_effect (StoreGlobal i)))
+    order_fits pc h (StoreField class index) now s = within given pc (pc + 1) h _ (order_effect (StoreField class index)) now s.1.0.height (own h (order_effect (StoreField class index)))
+    order_fits pc h (Empty i) now s = within given pc (pc + 1) h _ (order_effect (Empty i)) now s.1.height (own h (order_effect (Empty i)))
     order_fits pc h DropAll now s =
         let low : Height = height h.numbers h.names 0 h.variables in
-        subst (λ x. FitsBetween (record x { temporaries = 0 }) (height_at R (pc + 1)) (on_numbers 0 0)) (sym (there pc h now)) (subst (λ y. FitsBetween low y (on_numbers 0 0)) (sym (there (pc + 1) low s.1.0.height)) (fits low low (on_numbers 0 0) (omega arith) (omega arith) (omega arith) (omega arith)))
+        subst (λ x. FitsBetween (record x { temporaries = 0 }) (height_at R (pc + 1)) (on_numbers 0 0)) (sym (there pc h given now)) (subst (λ y. FitsBetween low y (on_numbers 0 0)) (sym (there (pc + 1) low given s.1.0.height)) (fits low low (on_numbers 0 0) (omega arith) (omega arith) (omega arith) (omega arith)))
+    order_fits pc h Settle now s =
+        let low : Height = height h.numbers h.names (h.temporaries - 1) h.variables in
+        subst (λ x. FitsBetween (record x { temporaries = x.temporaries - 1 }) (height_at R (pc + 1)) (on_numbers 0 0)) (sym (there pc h given now)) (subst (λ y. FitsBetween low y (on_numbers 0 0)) (sym (there (pc + 1) low given s.0.height)) (fits low low (on_numbers 0 0) (omega arith) (omega arith) (omega arith) (omega arith)))
+    order_fits pc h Give now s =
+        subst (λ x. FitsBetween (record x { variables = 0 }) no_height (on_numbers 1 0)) (sym (there pc h given now)) (fits (record h { variables = 0 }) no_height (on_numbers 1 0) (omega (arith, s.0)) (omega (arith, s.1)) (omega (arith, s.2)) (omega arith))
     order_fits pc h Return now s =
-        subst (λ x. FitsBetween (record x { variables = 0 }) no_height (on_numbers 1 0)) (sym (there pc h now)) (fits (record h { variables = 0 }) no_height (on_numbers 1 0) (omega (arith, s.0)) (omega (arith, s.1)) (omega (arith, s.2)) (omega arith))
+        subst (λ x. FitsBetween (record x { variables = 0 }) no_height (on_numbers 1 0)) (sym (there pc h given now)) (fits (record h { variables = 0 }) no_height (on_numbers 1 0) (omega (arith, s.0)) (omega (arith, s.1)) (omega (arith, s.2)) (omega arith))
     order_fits pc h EndStep now s =
-        subst (λ x. FitsBetween x no_height (on_numbers 0 0)) (sym (there pc h now)) (fits h no_height (on_numbers 0 0) (omega (arith, s.0)) (omega (arith, s.1)) (omega (arith, s.2)) (omega (arith, s.3)))
+        subst (λ x. FitsBetween x no_height (on_numbers 0 0)) (sym (there pc h given now)) (fits h no_height (on_numbers 0 0) (omega (arith, s.0)) (omega (arith, s.1)) (omega (arith, s.2)) (omega (arith, s.3)))
+
+    -- a run stays in its function
+    module _ (pc : ℕ) (h : Height) (now : slice_get (table R) pc ≡ Some (h, given)) where
+      same_at : (to : ℕ) (g : Height) → slice_get (table R) to ≡ Some (g, given) → SameResult (bare p) (result_at R) pc to
+      same_at to g next = gives_there to g given next ∙ sym (gives_there pc h given now)
+
+      order_gives : (x : Order) → Steps R (all R) (table R) given h pc x → GivesAt (bare p) (result_at R) pc x
+      order_gives (Plain o) s = same_at (pc + 1) _ s.1.0.height
+      order_gives (PrintText t) s = same_at (pc + 1) _ s.1.0.height
+      order_gives (Jump to) s = same_at (lands pc to) _ s.2.0.height
+      order_gives (JumpZero to) s = (same_at (pc + 1) _ s.1.0.height, same_at (lands pc to) _ s.2.2.0.height)
+      order_gives (Call f wanted) s = (same_at (pc + 1) _ s.1.0.height, λ to found. ap (result_at R) (sym (some_same (entry p f) to found)) ∙ gives_there (entry p f) _ wanted (calls wanted f s.0.1).0.height)
+      order_gives (Send selector takes objects wanted) s = same_at (pc + 1) _ s.1.0.height
+      order_gives (SendSuper from selector takes objects wanted) s = same_at (pc + 1) _ s.1.0.height
+      order_gives (SendTo selector takes objects wanted) s = same_at (pc + 1) _ s.1.0.height
+      order_gives (SendToSuper from selector takes objects wanted) s = same_at (pc + 1) _ s.1.0.height
+      order_gives (StoreStrong i) s = same_at (pc + 1) _ s.1.0.height
+      order_gives (StoreGlobal i) s = same_at (pc + 1) _ s.1.0.height
+      order_gives (StoreField class index) s = same_at (pc + 1) _ s.1.0.height
+      order_gives (Empty i) s = same_at (pc + 1) _ s.1.height
+      order_gives DropAll s = same_at (pc + 1) _ s.1.0.height
+      order_gives Settle s = same_at (pc + 1) _ s.0.height
+      order_gives Give s = gives_there pc h given now ∙ s.3
+      order_gives Return s = gives_there pc h given now ∙ s.3
+      order_gives EndStep s = tt
 
   -- an action fits where its order does
   action_fits : (x : Action) (pc : ℕ) → FitsAt (bare p) (height_at R) pc (order x) → FitsAt (linked p) (height_at R) pc x
   action_fits (Plain o) pc h = h
   action_fits _ pc h = h
+
+  action_gives : (x : Action) (pc : ℕ) → GivesAt (bare p) (result_at R) pc (order x) → GivesAt (linked p) (result_at R) pc x
+  action_gives (Plain o) pc h = h
+  action_gives _ pc h = h
 
   order_at : (xs : List Action) (pc : ℕ) (x : Action) → slice_get xs pc ≡ Some x → slice_get (orders xs) pc ≡ Some (order x)
   order_at [] pc x e = cc
@@ -102,41 +203,29 @@ module _ (p : Program) (R : resolved.Program) where
   order_at (y ∷ xs) (suc pc) x e = order_at xs pc x e
 
   module _ (is : orders p.actions ≡ lowered R) (entries : p.entries ≡ entries_of R) where
-    number_by : (f : ℕ) (b : Bool) → nat_lt f (length R.functions) ≡ b → f ≤ length R.functions → (if b then f else length R.functions) ≡ f
-    number_by f true e le = refl
-    number_by f false e le = let past = ltb-false f (length R.functions) e in omega (arith, le, past)
-
     -- a function is entered with its variables
-    pub entry_goes : (f : ℕ) → f ≤ length R.functions → Goes R (all R) (table R) (entry p f) (height (slots_of R f) (parameters_of R f) 0 0)
-    entry_goes f le =
-        let there : Entered R (entries_of R) (number_of R f) (slots_of R f) (parameters_of R f) = entered_at R f in
-        let same : number_of R f ≡ f = number_by f (nat_lt f (length R.functions)) refl le in
+    pub entry_goes : (wanted : Gives) (f : ℕ) → IsCalled R wanted f → Goes R (all R) (table R) wanted (entry p f) (height (slots_of R wanted f) (parameters_of R wanted f) 0 0)
+    entry_goes wanted f same =
+        let there : Entered R (entries_of R) (number_of R wanted f) (function_at R wanted f) = entered_at R wanted f in
+        let begun = height (slots_of R wanted f) (parameters_of R wanted f) 0 0 in
         let found : get_or p.entries f (length p.actions) ≡ there.at = get_there p.entries f there.at (length p.actions) (ap (λ l. slice_get l f) entries ∙ ap (slice_get (entries_of R)) (sym same) ∙ there.is) in
-        subst (λ n. Goes R (all R) (table R) n (height (slots_of R f) (parameters_of R f) 0 0)) (sym found) there.goes
-
-    begun_by : (f : ℕ) (b : Bool) → nat_lt f (length R.functions) ≡ b → (slots_of R f ≤ (height_at R (entry p f)).numbers) × (parameters_of R f ≤ (height_at R (entry p f)).names)
-    begun_by f true e =
-        let lt = ltb-true f (length R.functions) e in
-        let same = there (entry p f) (height (slots_of R f) (parameters_of R f) 0 0) (entry_goes f (omega (arith, lt))).0.height in
-        (omega (arith, ap (λ (x : Height). x.numbers) same), omega (arith, ap (λ (x : Height). x.names) same))
-    begun_by f false e =
-        let past = out_of_list R.functions R.main R.globals R.strong_globals R.classes f (ltb-false f (length R.functions) e) in
-        let none : 0 ≡ slots_of R f = ap (λ (g : Function). g.slots) past in
-        let no_object : 0 ≡ parameters_of R f = ap object_parameters past in
-        (omega (arith, none), omega (arith, no_object))
+        subst (λ n. Goes R (all R) (table R) wanted n begun) (sym found) (subst (λ g. Goes R (all R) (table R) g there.at begun) (gives_wanted R wanted f) there.goes)
 
     few : (pc : ℕ) → AtMost (height_at R pc) (greatest_height R)
     few pc = none_greater (lowered_heights R) no_height no_height pc (omega arith, omega arith, omega arith, omega arith)
 
-    pub heights_fit : p.classes ≡ classes_linked R → HeightsFit (linked p) (height_at R) (greatest_height R).numbers (greatest_height R).names (places_in (greatest_height R))
+    pub heights_fit : p.classes ≡ classes_linked R → HeightsFit (linked p) (height_at R) (result_at R) (greatest_height R).numbers (greatest_height R).names (places_in (greatest_height R))
     heights_fit classes = record {
       at = λ pc x e.
           let s = steps_at R pc (order x) (subst (λ l. slice_get l pc ≡ Some (order x)) is (order_at p.actions pc x e)) in
-          action_fits x pc (order_fits (λ f. begun_by f (nat_lt f (length R.functions)) refl) pc s.0 (order x) s.1 s.2);
-      methods = λ from sign selector takes objects to e.
-          let found = methods_go R from sign selector takes objects to (subst (λ cs. lookup cs from sign selector takes objects ≡ Some to) classes e) in
-          let same = there to (height (passes sign takes) objects 0 0) found.0.height in
-          (omega (arith, ap (λ (x : Height). x.numbers) same), omega (arith, ap (λ (x : Height). x.names) same));
+          action_fits x pc (order_fits entry_goes s.0.1 pc s.0.0 (order x) s.1 s.2);
+      results = λ pc x e.
+          let s = steps_at R pc (order x) (subst (λ l. slice_get l pc ≡ Some (order x)) is (order_at p.actions pc x e)) in
+          action_gives x pc (order_gives entry_goes s.0.1 pc s.0.0 s.1 (order x) s.2);
+      methods = λ from sign selector takes objects wanted to e.
+          let found = methods_go R from sign selector takes objects wanted to (subst (λ cs. lookup cs from sign selector takes objects wanted ≡ Some to) classes e) in
+          let same = there to (height (passes sign takes) objects 0 0) wanted found.0.height in
+          (omega (arith, ap (λ (x : Height). x.numbers) same), omega (arith, ap (λ (x : Height). x.names) same), gives_there to (height (passes sign takes) objects 0 0) wanted found.0.height);
       numbers_most = λ pc. (few pc).0;
       names_most = λ pc. (few pc).1;
       places_most = λ pc. let f = few pc in omega (arith, f.2, f.3);

@@ -1,29 +1,35 @@
 -- A run does what a function does, and leaves it.
-use Rattle.std.proofs.Common.{◌≡◌, ℕ, zero, suc, ◌+◌, ◌-◌, ◌≤◌, ℤ, Bool, true, false, nat_lt, if◌then◌else◌, List, [], ◌∷◌, ◌++◌, length, take, Some, None, slice_get, slice_set, refl, sym, ap, ◌∙◌, subst, arith, append_assoc, length-append}
-use Rattle.std.proofs.lemmas.Bool.{ltb-true, ltb-false}
+use Rattle.std.proofs.Common.{◌≡◌, ℕ, zero, suc, ◌+◌, ◌-◌, ◌≤◌, ℤ, Bool, true, false, not, ◌&&◌, inl, inr, nat_lt, if◌then◌else◌, List, [], ◌∷◌, ◌++◌, length, take, Some, None, slice_get, slice_set, refl, sym, ap, ◌∙◌, subst, arith, append_assoc, length-append}
+use Rattle.std.proofs.lemmas.Bool.{ltb-true, ltb-false, true≢false}
 use Rattle.std.proofs.lemmas.List.{append-nil}
-use Rattle.arc_spec.specs.Classes.{lesser}
-use Rattle.arc_spec.specs.Objects.{nils}
-use Rattle.arc_spec.specs.Resolved.{Value, Command, Sequence, Evaluate, EvaluateReference, Begin, Choose, Repeat, RepeatAfter, Break, Continue, Commands, no_commands, and_command}
+use Rattle.arc_spec.specs.declared.class.Gives.{Gives}
+use Rattle.arc_spec.specs.declared.class.Gives.TheVariants as gives
+use Rattle.arc_spec.specs.Classes.{lesser, same_gives}
+use Rattle.arc_spec.specs.Objects.{nils, object_at, is_live, names}
+use Rattle.arc_spec.specs.Resolved.{Value, Command, Sequence, Evaluate, EvaluateReference, Begin, Give, Choose, Repeat, RepeatAfter, Break, Continue, Commands, no_commands, and_command}
 use Rattle.arc_spec.specs.Resolved as resolved
-use Rattle.arc_spec.specs.Meaning.{Deeper, Flow, given, variables_dropped, called, all_executed}
-use Rattle.arc_spec.specs.World.{World, Outcome, Done, Faulted, Cut, Finished, then_do, Given, stacked, first_frame, first_locals, first_names, entered, left}
-use Rattle.arc_spec.specs.Holding.{Held, Frame, Calling, Ending, Clearing, all_nil, on_left, on_named, raised, with_variables}
+use Rattle.arc_spec.specs.Meaning.{Deeper, Flow, given, answer, released, all_dropped, variables_dropped, function_places, called, all_executed}
+use Rattle.arc_spec.specs.World as world
+use Rattle.arc_spec.specs.World.{World, Outcome, Done, Faulted, Cut, Finished, finished, then_do, Given, stacked, places, name_at, first_frame, first_locals, first_names, and_self, takes, with_temporaries, entered, left}
+use Rattle.arc_spec.specs.Holding.{Held, Frame, Calling, Ending, Clearing, all_nil, on_left, on_last, on_result, on_named, named, raised, with_variables}
 use Rattle.arc_spec.specs.Stepping.{Next, Reached, follow, on_found}
+use Rattle.arc_code.specs.Instructions as instructions
 use Rattle.arc_ir.specs.Acting.{Program, State}
 use Rattle.arc_ir.specs.Acting as acting
-use Rattle.arc_code.specs.declared.instr.Op.TheVariants.{Declare, Forget}
-use Rattle.arc_code.specs.declared.instr.Instr.TheVariants.{Plain, StoreStrong, Return}
-use Rattle.arc_lower.specs.Lowered.{all_empty_orders, keep_orders, leave_orders, declare_orders, take_orders, opening_orders, no_turn, Between, Block, Clear, Then, Quit, Advance, flat, whole_block, nothing_given, does_nothing, loop_block, command_block, commands_block, body_block, body_orders}
+use Rattle.arc_code.specs.declared.instr.Op.TheVariants.{Declare, Forget, ReadSelf}
+use Rattle.arc_code.specs.declared.instr.Instr.TheVariants.{Plain, StoreStrong, DropAll, Return}
+use Rattle.arc_code.specs.declared.instr.Instr.TheVariants as instrs
+use Rattle.arc_lower.specs.Order.{Order}
+use Rattle.arc_lower.specs.Lowered.{all_empty_orders, keep_orders, leaving_order, leave_orders, declare_orders, take_orders, own_orders, object_parameters, opening_orders, no_turn, Between, Block, Clear, Then, Quit, Advance, flat, whole_block, nothing_given, does_nothing, loop_block, command_block, commands_block, body_block, body_orders}
 use Rattle.arc_lower.proofs.Leading as leading
 use Rattle.arc_lower.proofs.Leading.{Runs, leads_runs, stuck_runs, ends_here, then_runs, then_at}
 use Rattle.arc_lower.proofs.Recounting.{recount, moves, at, held_of}
-use Rattle.arc_lower.proofs.Doing.{HasAt, has_front, has_back}
+use Rattle.arc_lower.proofs.Doing.{bare, HasAt, has_front, has_back}
 use Rattle.arc_lower.proofs.Segments.{running, one_runs, quiet, quiet_runs, Passes, then_passes, one_passes, no_passes}
 use Rattle.arc_lower.proofs.Stacking.{onto}
 use Rattle.arc_lower.proofs.Printing.{keep_passes}
-use Rattle.arc_lower.proofs.Releasing.{Kept, only_runs, named_runs, emptied, empties_run}
-use Rattle.arc_lower.proofs.Shaping.{push, Way, Out, left_by}
+use Rattle.arc_lower.proofs.Releasing.{Kept, Stays, only_runs, named_runs, emptied, empties_run, dropped_runs}
+use Rattle.arc_lower.proofs.Shaping.{push, Way, Out, left_by, same_depth}
 use Rattle.arc_lower.proofs.Executing.{calm, body_is}
 use Rattle.arc_lower.proofs.Quiet.{takes_none, both_true}
 use Rattle.arc_lower.proofs.Running.{Deep, Good, Leaves, emptied_good, kept_good, block_runs}
@@ -73,27 +79,28 @@ onto_last [] rest r = refl
 onto_last (q ∷ first) rest r = onto_last first (q ∷ rest) r
 
 -- no statement has a temporary behind it
-loop_quiet : (without_step : Bool) (step body : Block) (test : Value) → takes_none step ≡ true → takes_none body ≡ true → takes_none (loop_block without_step step (whole_block test) body) ≡ true
-loop_quiet true step body test e f = f
-loop_quiet false step body test e f = both_true (takes_none step) (takes_none body) e f
+loop_quiet : (R : resolved.Program) (without_step : Bool) (step body : Block) (test : Value) → takes_none R step ≡ true → takes_none R body ≡ true → takes_none R (loop_block without_step step (whole_block test) body) ≡ true
+loop_quiet R true step body test e f = f
+loop_quiet R false step body test e f = both_true (takes_none R step) (takes_none R body) e f
 
 mutual
-  command_quiet : (exit : ℕ) (breaks continues : Block) → takes_none breaks ≡ true → takes_none continues ≡ true → (c : Command) → takes_none (command_block exit breaks continues c) ≡ true
-  command_quiet exit b n e f (Sequence first count all) = both_true (takes_none (commands_block exit (Then (Clear first count) b) (Then (Clear first count) n) all)) true (commands_quiet exit (Then (Clear first count) b) (Then (Clear first count) n) e f all) refl
-  command_quiet exit b n e f (Evaluate a) = refl
-  command_quiet exit b n e f (EvaluateReference a) = refl
-  command_quiet exit b n e f (Begin i a) = refl
-  command_quiet exit b n e f (resolved.Return None) = refl
-  command_quiet exit b n e f (resolved.Return (Some a)) = refl
-  command_quiet exit b n e f (Choose test x y) = both_true (takes_none (command_block exit b n x)) (takes_none (command_block exit b n y)) (command_quiet exit b n e f x) (command_quiet exit b n e f y)
-  command_quiet exit b n e f (Repeat test step body) = loop_quiet (does_nothing step) (command_block exit b n step) (command_block exit Quit Advance body) test (command_quiet exit b n e f step) (command_quiet exit Quit Advance refl refl body)
-  command_quiet exit b n e f (RepeatAfter body test) = command_quiet exit Quit Advance refl refl body
-  command_quiet exit b n e f Break = e
-  command_quiet exit b n e f Continue = f
+  command_quiet : (R : resolved.Program) (exit : ℕ) (breaks continues : Block) → takes_none R breaks ≡ true → takes_none R continues ≡ true → (c : Command) → takes_none R (command_block exit breaks continues c) ≡ true
+  command_quiet R exit b n e f (Sequence first count all) = both_true (takes_none R (commands_block exit (Then (Clear first count) b) (Then (Clear first count) n) all)) true (commands_quiet R exit (Then (Clear first count) b) (Then (Clear first count) n) e f all) refl
+  command_quiet R exit b n e f (Evaluate a) = refl
+  command_quiet R exit b n e f (EvaluateReference a) = refl
+  command_quiet R exit b n e f (Begin i a) = refl
+  command_quiet R exit b n e f (resolved.Return None) = refl
+  command_quiet R exit b n e f (resolved.Return (Some a)) = refl
+  command_quiet R exit b n e f (Give a) = refl
+  command_quiet R exit b n e f (Choose test x y) = both_true (takes_none R (command_block exit b n x)) (takes_none R (command_block exit b n y)) (command_quiet R exit b n e f x) (command_quiet R exit b n e f y)
+  command_quiet R exit b n e f (Repeat test step body) = loop_quiet R (does_nothing step) (command_block exit b n step) (command_block exit Quit Advance body) test (command_quiet R exit b n e f step) (command_quiet R exit Quit Advance refl refl body)
+  command_quiet R exit b n e f (RepeatAfter body test) = command_quiet R exit Quit Advance refl refl body
+  command_quiet R exit b n e f Break = e
+  command_quiet R exit b n e f Continue = f
 
-  commands_quiet : (exit : ℕ) (breaks continues : Block) → takes_none breaks ≡ true → takes_none continues ≡ true → (all : Commands) → takes_none (commands_block exit breaks continues all) ≡ true
-  commands_quiet exit b n e f no_commands = refl
-  commands_quiet exit b n e f (and_command c others) = both_true (takes_none (command_block exit b n c)) (takes_none (commands_block exit b n others)) (command_quiet exit b n e f c) (commands_quiet exit b n e f others)
+  commands_quiet : (R : resolved.Program) (exit : ℕ) (breaks continues : Block) → takes_none R breaks ≡ true → takes_none R continues ≡ true → (all : Commands) → takes_none R (commands_block exit breaks continues all) ≡ true
+  commands_quiet R exit b n e f no_commands = refl
+  commands_quiet R exit b n e f (and_command c others) = both_true (takes_none R (command_block exit b n c)) (takes_none R (commands_block exit b n others)) (command_quiet R exit b n e f c) (commands_quiet R exit b n e f others)
 
 -- what a run does of what is left in some way
 ways_back : {S A : Type 0} (step : S → Next S) (bound : ℕ) (r : Reached S) (way : A → Way) (end : Way → World → Reached S → Type 0) (o : Outcome A) → Runs step bound r end (left_by way o) → Runs step bound r (λ a w to. end (way a) w to) o
@@ -101,15 +108,44 @@ ways_back step bound r way end (Done a w) h = h
 ways_back step bound r way end (Faulted f w) h = h
 ways_back step bound r way end (Cut w) h = h
 
-given_later : (D : Deeper) (names : ℕ) (before : World) (o : Outcome Flow) → then_do (then_do o (λ flow w. Done (given flow) w)) (λ v w. then_do (variables_dropped D 0 names w) (λ _ w2. Done v (left before w2))) ≡ then_do o (λ flow w. then_do (variables_dropped D 0 names w) (λ _ w2. Done (given flow) (left before w2)))
-given_later D names before (Done flow w) = refl
-given_later D names before (Faulted f w) = refl
-given_later D names before (Cut w) = refl
+-- the answer of a function, by the number with which it is left
+abbrev answer_with : resolved.Function → ℤ → World → world.Answer
+answer_with F v w = record { number = v; object = name_at w.frame.strong F.names }
+
+given_later : (D : Deeper) (F : resolved.Function) (before : World) (o : Outcome Flow) → then_do (then_do o (λ flow w. Done (given flow) w)) (λ v w. then_do (variables_dropped D 0 F.names w) (λ _ w2. Done (answer_with F v w2) (left before w2))) ≡ then_do o (λ flow w. then_do (variables_dropped D 0 F.names w) (λ _ w2. Done (answer F flow w2) (left before w2)))
+given_later D F before (Done flow w) = refl
+given_later D F before (Faulted f w) = refl
+given_later D F before (Cut w) = refl
+
+-- what is done leads to one end
+done_then : {S A B : Type 0} (step : S → Next S) (bound : ℕ) (r : Reached S) (middle : A → World → Reached S → Type 0) (end : B → World → Reached S → Type 0) (a : A) (w : World) (o : Outcome B) → Runs step bound r middle (Done a w) → ((to : Reached S) → middle a w to → Runs step bound to end o) → Runs step bound r end o
+done_then step bound r middle end a w o (inl p) next = inl p
+done_then step bound r middle end a w o (inr p) next = leads_runs step bound r p.0 end o p.1 (next p.0 p.2)
+
+get_behind : (head l : List ℕ) (n : ℕ) → slice_get (head ++ l) (length head + n) ≡ slice_get l n
+get_behind [] l n = let e : 0 + n ≡ n = omega arith in ap (slice_get l) e
+get_behind (r ∷ head) l n =
+    let e : length (r ∷ head) + n ≡ suc (length head + n) = omega arith in
+    ap (slice_get (r ∷ head ++ l)) e ∙ get_behind head l n
+
+set_behind : (head l : List ℕ) (n r : ℕ) → slice_set (head ++ l) (length head + n) r ≡ head ++ slice_set l n r
+set_behind [] l n r = let e : 0 + n ≡ n = omega arith in ap (λ m. slice_set l m r) e
+set_behind (q ∷ head) l n r =
+    let e : length (q ∷ head) + n ≡ suc (length head + n) = omega arith in
+    ap (λ m. slice_set (q ∷ head ++ l) m r) e ∙ ap (λ l. q ∷ l) (set_behind head l n r)
+
+-- what another place names doesn't end where one place names it no more
+released_named : (D : Deeper) (r : ℕ) (w : World) → names r (places w) ≡ true → released D r w ≡ Done finished w
+released_named D r w e = ap (λ b. if is_live (object_at w.objects r) && not b then D.end_of r w else Done finished w) e ∙ by (is_live (object_at w.objects r))
+  where
+    by : (b : Bool) → (if b && false then D.end_of r w else Done finished w) ≡ Done finished w
+    by true = refl
+    by false = refl
 
 -- a function that was entered, and is left for what waited for it before
-module _ (p : Program) (frames : List Frame) (bound : ℕ) (R : resolved.Program) (slots names self : ℕ) (before : World) (below : List ℤ) (rs : List ℕ) (D : Deeper) (deep : Deep p frames bound R D) (exit : ℕ) where
+module _ (p : Program) (frames : List Frame) (bound : ℕ) (R : resolved.Program) (F : resolved.Function) (self : ℕ) (before : World) (below : List ℤ) (rs : List ℕ) (D : Deeper) (deep : Deep p frames bound R D) (exit : ℕ) where
   abbrev Fine : Bool → World → Type 0
-  Fine c w = Good p frames bound R slots names self (stacked before) below D deep c w
+  Fine c w = Good p frames bound R F.slots (function_places F) self (stacked before) below D deep c w
 
   abbrev vars : World → List ℤ
   vars w = onto w.frame.locals below
@@ -118,61 +154,104 @@ module _ (p : Program) (frames : List Frame) (bound : ℕ) (R : resolved.Program
   abbrev pub bared : World → World
   bared w = record w { frame = record first_frame { self = self }; waiting = stacked before }
 
-  -- the last step of a function
-  abbrev pub leaving : ℤ → World → Reached State
-  leaving v w = follow (recount (acting.leaves p (at frames 0 (v ∷ below) (held_of rs (bared w))) frames v below (held_of rs (bared w)))) w.input w.trace
+  -- what leaves a function
+  abbrev pub leaves_with : (wanted : Gives) → State → List Frame → world.Answer → Held → Next State
+  leaves_with gives.Number s fs a h = acting.leaves p s fs a.number below h
+  leaves_with gives.Object s fs a h = instructions.hands_over (bare p) s fs a.object below h
 
-  abbrev pub Left : ℤ → World → Reached State → Type 0
-  Left v w to = (to ≡ leaving v w) × Kept before w
+  -- the last step of a function
+  abbrev pub leaving : (wanted : Gives) → world.Answer → World → Reached State
+  leaving wanted a w = follow (recount (leaves_with wanted (at frames 0 (a.number ∷ below) (held_of rs (bared w))) frames a (held_of rs (bared w)))) w.input w.trace
+
+  abbrev pub Left : (wanted : Gives) → world.Answer → World → Reached State → Type 0
+  Left wanted a w to = (to ≡ leaving wanted a w) × Kept before w
 
   -- how a function is left doesn't depend on the counts, nor on where it is left
-  counts_aside : (fs : List Frame) (pc : ℕ) (stack : List ℤ) (held other h : Held) (c : ℕ → ℕ) (v : ℤ) → recount (acting.leaves p (at frames pc stack held) fs v below h) ≡ recount (acting.leaves p (at frames 0 stack other) fs v below (record h { counts = c }))
-  counts_aside [] pc stack held other h c v = refl
-  counts_aside (Calling back waits ∷ fs) pc stack held other h c v = refl
-  counts_aside (Ending back waits o next n ∷ fs) pc stack held other h c v = refl
-  counts_aside (Clearing back waits o fields ∷ fs) pc stack held other h c v = refl
+  counts_aside : (wanted : Gives) (fs : List Frame) (pc : ℕ) (stack : List ℤ) (held other h : Held) (c : ℕ → ℕ) (a : world.Answer) → recount (leaves_with wanted (at frames pc stack held) fs a h) ≡ recount (leaves_with wanted (at frames 0 stack other) fs a (record h { counts = c }))
+  counts_aside gives.Number [] pc stack held other h c a = refl
+  counts_aside gives.Number (Calling back waits ∷ fs) pc stack held other h c a = refl
+  counts_aside gives.Number (Ending back waits o next n ∷ fs) pc stack held other h c a = refl
+  counts_aside gives.Number (Clearing back waits o fields ∷ fs) pc stack held other h c a = refl
+  counts_aside gives.Object [] pc stack held other h c a = refl
+  counts_aside gives.Object (Calling back waits ∷ fs) pc stack held other h c a = refl
+  counts_aside gives.Object (Ending back waits o next n ∷ fs) pc stack held other h c a = refl
+  counts_aside gives.Object (Clearing back waits o fields ∷ fs) pc stack held other h c a = refl
 
-  bared_leaves : (v : ℤ) (w : World) (pc : ℕ) → Fine false w → w.frame.temporaries ≡ [] → recount (acting.leaves p (at frames pc (v ∷ below) (held_of rs w)) frames v below (with_variables (held_of rs w) [])) ≡ recount (acting.leaves p (at frames 0 (v ∷ below) (held_of rs (bared w))) frames v below (held_of rs (bared w)))
-  bared_leaves v w pc g none =
+  bared_leaves : (wanted : Gives) (a : world.Answer) (w : World) (pc : ℕ) → Fine false w → w.frame.temporaries ≡ [] → recount (leaves_with wanted (at frames pc (a.number ∷ below) (held_of rs w)) frames a (with_variables (held_of rs w) [])) ≡ recount (leaves_with wanted (at frames 0 (a.number ∷ below) (held_of rs (bared w))) frames a (held_of rs (bared w)))
+  bared_leaves wanted a w pc g none =
       let c = (held_of rs (bared w)).counts in
-      let s = at frames 0 (v ∷ below) (held_of rs (bared w)) in
+      let s = at frames 0 (a.number ∷ below) (held_of rs (bared w)) in
       let held : (ts : List ℕ) (itself : ℕ) (waits : List ℕ) → Held = λ ts itself waits. record { temporaries = ts; variables = []; self = itself; places = waits; names = rs; objects = w.objects; counts = c; globals = w.globals; strong_globals = w.strong_globals } in
-      counts_aside frames pc (v ∷ below) (held_of rs w) (held_of rs (bared w)) (with_variables (held_of rs w) []) c v
-      ∙ ap (λ ts. recount (acting.leaves p s frames v below (held ts w.frame.self w.waiting))) none
-      ∙ ap (λ x. recount (acting.leaves p s frames v below (held [] x w.waiting))) g.0.itself
-      ∙ ap (λ l. recount (acting.leaves p s frames v below (held [] self l))) g.0.waits
+      counts_aside wanted frames pc (a.number ∷ below) (held_of rs w) (held_of rs (bared w)) (with_variables (held_of rs w) []) c a
+      ∙ ap (λ ts. recount (leaves_with wanted s frames a (held ts w.frame.self w.waiting))) none
+      ∙ ap (λ x. recount (leaves_with wanted s frames a (held [] x w.waiting))) g.0.itself
+      ∙ ap (λ l. recount (leaves_with wanted s frames a (held [] self l))) g.0.waits
 
-  -- it is left only without temporaries
-  left_runs : (ts : List ℕ) (h : Held) (v : ℤ) (w : World) (go : Held → Next State) → (ts ≡ [] → Runs (moves p) bound (follow (recount (go (with_variables h []))) w.input w.trace) Left (Done v (left before w))) → Runs (moves p) bound (follow (recount (on_left ts h go)) w.input w.trace) Left (Done v (left before w))
-  left_runs [] h v w go next = only_runs p bound w.input w.trace Left (Done v (left before w)) (all_nil h.variables) (go (with_variables h [])) (next refl)
-  left_runs (r ∷ others) h v w go next = stuck_runs (moves p) bound w.input w.trace Left (Done v (left before w))
+  module _ {A : Type 0} (w : World) (end : A → World → Reached State → Type 0) (o : Outcome A) where
+    abbrev Goes_to : Next State → Type 0
+    Goes_to next = Runs (moves p) bound (follow (recount next) w.input w.trace) end o
+
+    -- a function is left only without temporaries
+    left_runs : (ts : List ℕ) (h : Held) (go : Held → Next State) → (ts ≡ [] → Goes_to (go (with_variables h []))) → Goes_to (on_left ts h go)
+    left_runs [] h go next = only_runs p bound w.input w.trace end o (all_nil h.variables) (go (with_variables h [])) (next refl)
+    left_runs (r ∷ others) h go next = stuck_runs (moves p) bound w.input w.trace end o
+
+    -- the last variable is the result
+    last_runs : (variables : List ℕ) (n : ℕ) (go : ℕ → Next State) → length variables ≡ suc n → Goes_to (go (name_at variables n)) → Goes_to (on_last variables go)
+    last_runs [] n go size next = absurd (omega (arith, size))
+    last_runs (r ∷ []) zero go size next = next
+    last_runs (r ∷ []) (suc n) go size next = absurd (omega (arith, size))
+    last_runs (zero ∷ q ∷ others) zero go size next = absurd (omega (arith, size))
+    last_runs (zero ∷ q ∷ others) (suc n) go size next = last_runs (q ∷ others) n go (omega (arith, size)) next
+    last_runs (suc k ∷ q ∷ others) n go size next = stuck_runs (moves p) bound w.input w.trace end o
+
+    result_runs : (ts : List ℕ) (h : Held) (n : ℕ) (go : ℕ → Held → Next State) → length h.variables ≡ suc n → (ts ≡ [] → Goes_to (go (name_at h.variables n) (with_variables h []))) → Goes_to (on_result ts h go)
+    result_runs [] h n go size next = last_runs h.variables n (λ r. go r (with_variables h [])) size (next refl)
+    result_runs (r ∷ others) h n go size next = stuck_runs (moves p) bound w.input w.trace end o
+
+  -- the last action of a function
+  last_step_runs : (wanted : Gives) (v : ℤ) (w : World) (pc : ℕ) → Fine false w → length w.frame.strong ≡ (if same_gives wanted gives.Object then suc F.names else F.names) → HasAt p pc (leaving_order wanted ∷ [])
+      → Runs (moves p) bound (running frames rs pc (v ∷ below) w) (Left wanted) (Done (answer_with F v w) (left before w))
+  last_step_runs gives.Number v w pc g size has =
+      let h = held_of rs w in
+      let s = at frames pc (v ∷ below) h in
+      let a = answer_with F v w in
+      let o = Done a (left before w) in
+      one_runs p frames bound rs Return pc (v ∷ below) w (Left gives.Number) o has
+      (left_runs w (Left gives.Number) o w.frame.temporaries h (acting.leaves p s frames v below) (λ none.
+      ends_here (moves p) bound _ (Left gives.Number) a (left before w) (ap (λ n. follow n w.input w.trace) (bared_leaves gives.Number a w pc g none), record { frame = refl; waiting = refl })))
+  last_step_runs gives.Object v w pc g size has =
+      let h = held_of rs w in
+      let s = at frames pc (v ∷ below) h in
+      let a = answer_with F v w in
+      let o = Done a (left before w) in
+      one_runs p frames bound rs instrs.Give pc (v ∷ below) w (Left gives.Object) o has
+      (result_runs w (Left gives.Object) o w.frame.temporaries h F.names (λ r. instructions.hands_over (bare p) s frames r below) size (λ none.
+      ends_here (moves p) bound _ (Left gives.Object) a (left before w) (ap (λ n. follow n w.input w.trace) (bared_leaves gives.Object a w pc g none), record { frame = refl; waiting = refl })))
 
   -- the variables are emptied, and the result is put in their place
-  leave_runs : (v : ℤ) (w : World) → Fine false w → HasAt p exit (leave_orders slots names) → Runs (moves p) bound (running frames rs exit (v ∷ vars w) w) Left (then_do (variables_dropped D 0 names w) (λ _ w2. Done v (left before w2)))
+  leave_runs : (v : ℤ) (w : World) → Fine false w → HasAt p exit (leave_orders F) → Runs (moves p) bound (running frames rs exit (v ∷ vars w) w) (Left F.gives) (then_do (variables_dropped D 0 F.names w) (λ _ w2. Done (answer_with F v w2) (left before w2)))
   leave_runs v w g has =
-      let xs = all_empty_orders names 0 names in
-      let keep = keep_orders slots in
+      let count = function_places F in
+      let xs = all_empty_orders count 0 F.names in
+      let keep = keep_orders F.slots in
+      let last : List Order = leaving_order F.gives ∷ [] in
       let stack = v ∷ vars w in
       let q = exit + length xs in
       let end = q + length keep in
-      let later = has_back p exit xs (keep ++ Return ∷ []) has in
-      let last = has_back p q keep (Return ∷ []) later in
-      then_at (moves p) bound (running frames rs exit stack w) (λ (done : Finished) w1. Kept (emptied 0 names w) w1) (λ done w1. running frames rs q stack w1) Left (variables_dropped D 0 names w) (λ _ w2. Done v (left before w2)) (empties_run p frames bound rs D deep.ends names 0 names stack w exit g.0.strong (has_front p exit xs (keep ++ Return ∷ []) has)) (λ done w1 k.
-      let g1 = kept_good p frames bound R slots names self (stacked before) below D deep false (emptied 0 names w) w1 (emptied_good p frames bound R slots names self (stacked before) below D deep false 0 names w g) k in
-      let kept = subst (λ n. HasAt p q (keep_orders n) → leading.Leads (moves p) (running frames rs q stack w1) (running frames rs (q + length (keep_orders n)) (v ∷ below) w1)) g.0.locals (λ h. keep_passes p frames bound rs w.frame.locals below v w1 q h) (has_front p q keep (Return ∷ []) later) in
-      let h = held_of rs w1 in
-      let s = at frames end (v ∷ below) h in
-      let o = Done v (left before w1) in
-      leads_runs (moves p) bound (running frames rs q stack w1) (running frames rs end (v ∷ below) w1) Left o kept
-      (one_runs p frames bound rs Return end (v ∷ below) w1 Left o last
-      (left_runs w1.frame.temporaries h v w1 (acting.leaves p s frames v below) (λ none.
-      ends_here (moves p) bound _ Left v (left before w1) (ap (λ n. follow n w1.input w1.trace) (bared_leaves v w1 end g1 none), record { frame = refl; waiting = refl })))))
+      let later = has_back p exit xs (keep ++ last) has in
+      let has_last = has_back p q keep last later in
+      then_at (moves p) bound (running frames rs exit stack w) (λ (done : Finished) w1. Kept (emptied 0 F.names w) w1) (λ done w1. running frames rs q stack w1) (Left F.gives) (variables_dropped D 0 F.names w) (λ _ w2. Done (answer_with F v w2) (left before w2)) (empties_run p frames bound rs D deep.ends count 0 F.names stack w exit g.0.strong (has_front p exit xs (keep ++ last) has)) (λ done w1 k.
+      let g1 = kept_good p frames bound R F.slots count self (stacked before) below D deep false (emptied 0 F.names w) w1 (emptied_good p frames bound R F.slots count self (stacked before) below D deep false 0 F.names w g) k in
+      let kept = subst (λ n. HasAt p q (keep_orders n) → leading.Leads (moves p) (running frames rs q stack w1) (running frames rs (q + length (keep_orders n)) (v ∷ below) w1)) g.0.locals (λ h. keep_passes p frames bound rs w.frame.locals below v w1 q h) (has_front p q keep last later) in
+      leads_runs (moves p) bound (running frames rs q stack w1) (running frames rs end (v ∷ below) w1) (Left F.gives) (Done (answer_with F v w1) (left before w1)) kept
+      (last_step_runs F.gives v w1 end g1 g1.0.strong has_last))
 
   -- ---- the beginning
 
   -- the function as it begins, with so many variables that are nil, and others
   abbrev begun_with : Given → (strong : List ℕ) → World
-  begun_with given_to strong = record before { frame = record { self = self; locals = first_locals slots given_to.numbers; strong = strong; temporaries = [] }; waiting = stacked before }
+  begun_with given_to strong = record before { frame = record { self = self; locals = first_locals F.slots given_to.numbers; strong = strong; temporaries = [] }; waiting = stacked before }
 
   declares_pass : (n m : ℕ) (given_to : Given) (names1 : List ℕ) (stack : List ℤ) → Passes p frames bound names1 (declare_orders n) stack (begun_with given_to (nils m)) stack (begun_with given_to (nils (n + m)))
   declares_pass zero m given_to names1 stack = let e : m ≡ 0 + m = omega arith in no_passes p frames bound names1 stack (begun_with given_to (nils m)) stack (begun_with given_to (nils (0 + m))) refl (ap (λ k. begun_with given_to (nils k)) e)
@@ -183,40 +262,69 @@ module _ (p : Program) (frames : List Frame) (bound : ℕ) (R : resolved.Program
       subst (λ k. Passes p frames bound names1 (declare_orders (suc n)) stack w stack (begun_with given_to (nils k))) e
       (then_passes p frames bound names1 (Plain Declare ∷ []) (declare_orders n) stack w stack w1 stack (begun_with given_to (nils (n + suc m))) (one_passes p frames bound names1 (Plain Declare) stack w stack w1 (λ pc. quiet p frames bound names1 (pc + 1) stack w1)) (declares_pass n (suc m) given_to names1 stack))
 
-  -- the first variables take what the function was given, the last one first
-  takes_run : {A : Type 0} (n : ℕ) (objects tail : List ℕ) (given_to : Given) (stack : List ℤ) (pc : ℕ) (end : A → World → Reached State → Type 0) (o : Outcome A) → length objects ≡ n → HasAt p pc (take_orders n)
-      → Runs (moves p) bound (running frames rs (pc + length (take_orders n)) stack (begun_with given_to (objects ++ tail))) end o
-      → Runs (moves p) bound (running frames (onto objects rs) pc stack (begun_with given_to (nils n ++ tail))) end o
-  takes_run zero [] tail given_to stack pc end o size has go = let e : pc + 0 ≡ pc = omega arith in subst (λ q. Runs (moves p) bound (running frames rs q stack (begun_with given_to tail)) end o) e go
-  takes_run zero (r ∷ objects) tail given_to stack pc end o size has go = absurd (omega (arith, size))
-  takes_run (suc n) objects tail given_to stack pc end o size has go =
+  -- behind these variables the next ones take what the function was given, the last one first
+  takes_run : {A : Type 0} (head : List ℕ) (n : ℕ) (objects tail : List ℕ) (given_to : Given) (stack : List ℤ) (pc : ℕ) (end : A → World → Reached State → Type 0) (o : Outcome A) → length objects ≡ n → HasAt p pc (take_orders (length head) n)
+      → Runs (moves p) bound (running frames rs (pc + length (take_orders (length head) n)) stack (begun_with given_to (head ++ (objects ++ tail)))) end o
+      → Runs (moves p) bound (running frames (onto objects rs) pc stack (begun_with given_to (head ++ (nils n ++ tail)))) end o
+  takes_run head zero [] tail given_to stack pc end o size has go = let e : pc + 0 ≡ pc = omega arith in subst (λ q. Runs (moves p) bound (running frames rs q stack (begun_with given_to (head ++ tail))) end o) e go
+  takes_run head zero (r ∷ objects) tail given_to stack pc end o size has go = absurd (omega (arith, size))
+  takes_run head (suc n) objects tail given_to stack pc end o size has go =
+      let k = length head in
       let last = last_of n objects size in
       let r = last.one in
       let first = last.first in
       let names1 = r ∷ onto first rs in
-      let begin = nils (suc n) ++ tail in
-      let next = nils n ++ r ∷ tail in
+      let begin = head ++ (nils (suc n) ++ tail) in
+      let next = head ++ (nils n ++ r ∷ tail) in
       let w = begun_with given_to begin in
       let w1 = begun_with given_to next in
       let h = held_of names1 w in
       let st = at frames pc stack h in
-      let after = raised r (with_variables h (slice_set begin n r)) in
-      let found : slice_get begin n ≡ Some 0 = nil_there n tail in
-      let set : slice_set begin n r ≡ next = nil_set n tail r in
+      let after = raised r (with_variables h (slice_set begin (k + n) r)) in
+      let found : slice_get begin (k + n) ≡ Some 0 = get_behind head (nils (suc n) ++ tail) n ∙ nil_there n tail in
+      let set : slice_set begin (k + n) r ≡ next = set_behind head (nils (suc n) ++ tail) n r ∙ ap (λ l. head ++ l) (nil_set n tail r) in
       let names_are : onto objects rs ≡ names1 = ap (λ l. onto l rs) last.is ∙ onto_last first rs r in
-      let rest : begun_with given_to (objects ++ tail) ≡ begun_with given_to (first ++ r ∷ tail) = ap (λ l. begun_with given_to (l ++ tail)) last.is ∙ ap (begun_with given_to) (append_assoc first (r ∷ []) tail) in
-      let place : pc + length (take_orders (suc n)) ≡ pc + 1 + 1 + length (take_orders n) = omega arith in
-      let deep = takes_run n first (r ∷ tail) given_to stack (pc + 1 + 1) end o last.size has.1.1
-      (subst (λ q. Runs (moves p) bound (running frames rs q stack (begun_with given_to (first ++ r ∷ tail))) end o) place (subst (λ (x : World). Runs (moves p) bound (running frames rs (pc + length (take_orders (suc n))) stack x) end o) rest go)) in
+      let rest : begun_with given_to (head ++ (objects ++ tail)) ≡ begun_with given_to (head ++ (first ++ r ∷ tail)) = ap (λ l. begun_with given_to (head ++ (l ++ tail))) last.is ∙ ap (λ l. begun_with given_to (head ++ l)) (append_assoc first (r ∷ []) tail) in
+      let place : pc + length (take_orders k (suc n)) ≡ pc + 1 + 1 + length (take_orders k n) = omega arith in
+      let deep = takes_run head n first (r ∷ tail) given_to stack (pc + 1 + 1) end o last.size has.1.1
+      (subst (λ q. Runs (moves p) bound (running frames rs q stack (begun_with given_to (head ++ (first ++ r ∷ tail)))) end o) place (subst (λ (x : World). Runs (moves p) bound (running frames rs (pc + length (take_orders k (suc n))) stack x) end o) rest go)) in
       let forgotten : Runs (moves p) bound (running frames names1 (pc + 1) stack w1) end o =
       one_runs p frames bound names1 (Plain Forget) (pc + 1) stack w1 end o (has.1.0, tt) (quiet_runs p frames bound (onto first rs) (pc + 1 + 1) stack w1 end o deep) in
       let stored : Runs (moves p) bound (running frames names1 pc stack w) end o =
-      one_runs p frames bound names1 (StoreStrong n) pc stack w end o (has.0, tt)
+      one_runs p frames bound names1 (StoreStrong (k + n)) pc stack w end o (has.0, tt)
       (subst (λ f. Runs (moves p) bound (follow (recount (on_found f (λ q. on_named r h (acting.releases p st q after)))) w.input w.trace) end o) (sym found)
       (named_runs p bound w.input w.trace end o r h (acting.releases p st 0 after)
       (subst (λ l. Runs (moves p) bound (follow (recount (acting.keeps st stack (with_variables h l))) w.input w.trace) end o) (sym set)
       (quiet_runs p frames bound names1 (pc + 1) stack w1 end o forgotten)))) in
       subst (λ l. Runs (moves p) bound (running frames l pc stack w) end o) (sym names_are) stored
+
+  -- the first variable takes `self`, and holds it where the temporary is dropped
+  owns_run : {A : Type 0} (tail : List ℕ) (given_to : Given) (stack : List ℤ) (pc : ℕ) (end : A → World → Reached State → Type 0) (o : Outcome A) → HasAt p pc (Plain ReadSelf ∷ StoreStrong 0 ∷ Plain Forget ∷ DropAll ∷ [])
+      → Runs (moves p) bound (running frames rs (pc + 1 + 1 + 1 + 1) stack (begun_with given_to (self ∷ tail))) end o
+      → Runs (moves p) bound (running frames rs pc stack (begun_with given_to (0 ∷ tail))) end o
+  owns_run tail given_to stack pc end o has go =
+      let w = begun_with given_to (0 ∷ tail) in
+      let w1 = takes self w in
+      let w3 = begun_with given_to (self ∷ tail) in
+      let w2 = takes self w3 in
+      let names1 = self ∷ rs in
+      let h1 = held_of names1 w1 in
+      let st1 = at frames (pc + 1) stack h1 in
+      let after = raised self (with_variables h1 (self ∷ tail)) in
+      let q = pc + 1 + 1 + 1 in
+      let held : released D self w3 ≡ Done finished w3 = released_named D self w3 (same_depth self true (names self ((tail ++ stacked before) ++ (w3.strong_globals ++ Rattle.arc_spec.specs.Objects.field_places w3.objects)))) in
+      let none : all_dropped D w2 ≡ Done finished w3 = ap (λ x. then_do x (λ _ w4. Done finished w4)) held in
+      let dropped : Runs (moves p) bound (running frames rs q stack w2) end o =
+      done_then (moves p) bound (running frames rs q stack w2) (Stays frames rs stack (q + 1) w3) end finished w3 o
+      (subst (Runs (moves p) bound (running frames rs q stack w2) (Stays frames rs stack (q + 1) w3)) none (dropped_runs p frames bound rs D deep.ends stack w2 q has.1.1.1))
+      (λ to m. subst (λ r. Runs (moves p) bound r end o) (sym m.0) go) in
+      let forgotten : Runs (moves p) bound (running frames names1 (pc + 1 + 1) stack w2) end o =
+      one_runs p frames bound names1 (Plain Forget) (pc + 1 + 1) stack w2 end o (has.1.1.0, tt) (quiet_runs p frames bound rs q stack w2 end o dropped) in
+      let stored : Runs (moves p) bound (running frames names1 (pc + 1) stack w1) end o =
+      one_runs p frames bound names1 (StoreStrong 0) (pc + 1) stack w1 end o (has.1.0, tt)
+      (named_runs p bound w.input w.trace end o self h1 (acting.releases p st1 0 after) (quiet_runs p frames bound names1 (pc + 1 + 1) stack w2 end o forgotten)) in
+      one_runs p frames bound rs (Plain ReadSelf) pc stack w end o (has.0, tt)
+      (named_runs p bound w.input w.trace end o self (named self (held_of rs w)) _ (quiet_runs p frames bound names1 (pc + 1) stack w1 end o stored))
 
   -- what the first variables took, and nil for all others
   first_are : (n count parameters : ℕ) (objects : List ℕ) → n ≡ lesser parameters count → first_names n objects ++ nils (count - n) ≡ first_names count (take parameters objects)
@@ -253,45 +361,94 @@ module _ (p : Program) (frames : List Frame) (bound : ℕ) (R : resolved.Program
           let none : count - count ≡ 0 = omega arith in
           ap (λ k. first_names k objects ++ nils (count - k)) is ∙ ap (λ k. first_names count objects ++ nils k) none ∙ all count parameters objects most
 
-  -- a function that is entered comes to its last step
-  pub function_runs : (body : Commands) (parameters entry : ℕ) (arguments : Given) → length (first_locals slots arguments.numbers) ≡ slots → HasAt p exit (leave_orders slots names) → HasAt p entry (body_orders R exit entry (record { slots = slots; names = names; parameters = parameters; body = body }))
-      → Runs (moves p) bound (running frames (onto (first_names (lesser parameters names) arguments.objects) rs) entry (onto (first_locals slots arguments.numbers) below) (entered slots 0 0 self arguments before)) Left (called D bound (record { slots = slots; names = names; parameters = parameters; body = body }) self arguments before)
-  function_runs body parameters entry arguments size leave has =
-      let few = lesser parameters names in
-      let objects = first_names few arguments.objects in
-      let opening = opening_orders names few in
-      let declares = declare_orders names in
-      let takes = take_orders few in
-      let middle = entry + length declares in
-      let place = entry + length opening in
-      let b = body_block exit body in
-      let spot = Between place no_turn in
-      let xs = flat R slots names spot b in
-      let none_given = nothing_given exit in
-      let w0 = entered slots names parameters self arguments before in
-      let F : resolved.Function = record { slots = slots; names = names; parameters = parameters; body = body } in
-      let stack = onto (first_locals slots arguments.numbers) below in
-      let all_names = onto objects rs in
-      let s = calm rs in
-      let has_opening = has_front p entry opening xs has in
-      let e : names + 0 ≡ names = omega arith in
-      let there : middle + length takes ≡ place = omega (arith, length-append declares takes) in
-      let parts : nils names ≡ nils few ++ nils (names - few) = nils_split few (names - few) names (few_of parameters names) refl in
-      let is : begun_with arguments (objects ++ nils (names - few)) ≡ w0 = ap (begun_with arguments) (first_are few names parameters arguments.objects refl) in
-      let declared = begun_with arguments (nils few ++ nils (names - few)) in
+  -- what a function begins with, where it owns `self` and where it doesn't
+  abbrev opens : (owns : Bool) → (count few : ℕ) → List Order
+  opens owns count few = declare_orders count ++ (take_orders (if owns then 1 else 0) few ++ (if owns then own_orders count else []))
+
+  abbrev first_strong : (owns : Bool) → (count : ℕ) → Given → List ℕ
+  first_strong owns count arguments = first_names count (and_self owns self (take F.parameters arguments.objects))
+
+  declared_leads : (head : List ℕ) (count few rest : ℕ) (arguments : Given) (all_names : List ℕ) (stack : List ℤ) (entry : ℕ) → nils count ≡ head ++ (nils few ++ nils rest) → HasAt p entry (declare_orders count)
+      → leading.Leads (moves p) (running frames all_names entry stack (begun_with arguments [])) (running frames all_names (entry + length (declare_orders count)) stack (begun_with arguments (head ++ (nils few ++ nils rest))))
+  declared_leads head count few rest arguments all_names stack entry parts has =
+      let e : count + 0 ≡ count = omega arith in
       let start = running frames all_names entry stack (begun_with arguments []) in
-      let first = subst (λ l. leading.Leads (moves p) start (running frames all_names middle stack (begun_with arguments l))) parts
-      (subst (λ n. leading.Leads (moves p) start (running frames all_names middle stack (begun_with arguments (nils n)))) e (declares_pass names 0 arguments all_names stack entry (has_front p entry declares takes has_opening))) in
-      let strong : length (first_names names (take parameters arguments.objects)) ≡ names = names_length names (take parameters arguments.objects) in
+      let middle = entry + length (declare_orders count) in
+      subst (λ l. leading.Leads (moves p) start (running frames all_names middle stack (begun_with arguments l))) parts
+      (subst (λ n. leading.Leads (moves p) start (running frames all_names middle stack (begun_with arguments (nils n)))) e (declares_pass count 0 arguments all_names stack entry has))
+
+  opening_runs : {A : Type 0} (owns : Bool) (count few : ℕ) (arguments : Given) (stack : List ℤ) (entry : ℕ) (end : A → World → Reached State → Type 0) (o : Outcome A) → few ≡ lesser F.parameters (count - (if owns then 1 else 0)) → HasAt p entry (opens owns count few)
+      → Runs (moves p) bound (running frames rs (entry + length (opens owns count few)) stack (begun_with arguments (first_strong owns count arguments))) end o
+      → Runs (moves p) bound (running frames (onto (first_names few arguments.objects) rs) entry stack (begun_with arguments [])) end o
+  opening_runs false count few arguments stack entry end o few_is has go =
+      let e : count - 0 ≡ count = omega arith in
+      let is : few ≡ lesser F.parameters count = few_is ∙ ap (lesser F.parameters) e in
+      let le : few ≤ count = omega (arith, is, few_of F.parameters count) in
+      let objects = first_names few arguments.objects in
+      let all_names = onto objects rs in
+      let declares = declare_orders count in
+      let takes1 = take_orders 0 few in
+      let middle = entry + length declares in
+      let there : middle + length takes1 ≡ entry + length (declares ++ (takes1 ++ [])) = omega (arith, length-append declares (takes1 ++ []), length-append takes1 []) in
+      let same : objects ++ nils (count - few) ≡ first_strong false count arguments = first_are few count F.parameters arguments.objects is in
+      leads_runs (moves p) bound (running frames all_names entry stack (begun_with arguments [])) (running frames all_names middle stack (begun_with arguments (nils few ++ nils (count - few)))) end o
+      (declared_leads [] count few (count - few) arguments all_names stack entry (nils_split few (count - few) count le refl) (has_front p entry declares (takes1 ++ []) has))
+      (takes_run [] few objects (nils (count - few)) arguments stack middle end o (names_length few arguments.objects) (has_front p middle takes1 [] (has_back p entry declares (takes1 ++ []) has))
+      (subst (λ q. Runs (moves p) bound (running frames rs q stack (begun_with arguments (objects ++ nils (count - few)))) end o) (sym there)
+      (subst (λ l. Runs (moves p) bound (running frames rs (entry + length (opens false count few)) stack (begun_with arguments l)) end o) (sym same) go)))
+  opening_runs true zero few arguments stack entry end o few_is has go =
+      let e : 0 - 1 ≡ 0 = omega arith in
+      let is : few ≡ lesser F.parameters 0 = few_is ∙ ap (lesser F.parameters) e in
+      let none : 0 ≡ few = omega (arith, is, few_of F.parameters 0) in
+      let here : entry + 0 ≡ entry = omega arith in
+      subst (λ n. Runs (moves p) bound (running frames rs (entry + length (opens true zero n)) stack (begun_with arguments [])) end o → Runs (moves p) bound (running frames (onto (first_names n arguments.objects) rs) entry stack (begun_with arguments [])) end o) none
+      (λ go1. subst (λ q. Runs (moves p) bound (running frames rs q stack (begun_with arguments [])) end o) here go1) go
+  opening_runs true (suc m) few arguments stack entry end o few_is has go =
+      let e : suc m - 1 ≡ m = omega arith in
+      let is : few ≡ lesser F.parameters m = few_is ∙ ap (lesser F.parameters) e in
+      let le : few ≤ m = omega (arith, is, few_of F.parameters m) in
+      let objects = first_names few arguments.objects in
+      let all_names = onto objects rs in
+      let declares = declare_orders (suc m) in
+      let takes1 = take_orders 1 few in
+      let owned = own_orders (suc m) in
+      let four : length owned ≡ 4 = refl in
+      let middle = entry + length declares in
+      let q = middle + length takes1 in
+      let there : q + 1 + 1 + 1 + 1 ≡ entry + length (declares ++ (takes1 ++ owned)) = omega (arith, length-append declares (takes1 ++ owned), length-append takes1 owned, four) in
+      let tail = objects ++ nils (m - few) in
+      let same : tail ≡ first_names m (take F.parameters arguments.objects) = first_are few m F.parameters arguments.objects is in
+      let has_behind = has_back p entry declares (takes1 ++ owned) has in
+      leads_runs (moves p) bound (running frames all_names entry stack (begun_with arguments [])) (running frames all_names middle stack (begun_with arguments (0 ∷ (nils few ++ nils (m - few))))) end o
+      (declared_leads (0 ∷ []) (suc m) few (m - few) arguments all_names stack entry (ap (λ l. 0 ∷ l) (nils_split few (m - few) m le refl)) (has_front p entry declares (takes1 ++ owned) has))
+      (takes_run (0 ∷ []) few objects (nils (m - few)) arguments stack middle end o (names_length few arguments.objects) (has_front p middle takes1 owned has_behind)
+      (owns_run tail arguments stack q end o (has_back p middle takes1 owned has_behind)
+      (subst (λ n. Runs (moves p) bound (running frames rs n stack (begun_with arguments (self ∷ tail))) end o) (sym there)
+      (subst (λ l. Runs (moves p) bound (running frames rs (entry + length (opens true (suc m) few)) stack (begun_with arguments (self ∷ l))) end o) (sym same) go))))
+
+  -- a function that is entered comes to its last step
+  pub function_runs : (entry : ℕ) (arguments : Given) → length (first_locals F.slots arguments.numbers) ≡ F.slots → HasAt p exit (leave_orders F) → HasAt p entry (body_orders R exit entry F)
+      → Runs (moves p) bound (running frames (onto (first_names (object_parameters F) arguments.objects) rs) entry (onto (first_locals F.slots arguments.numbers) below) (entered F.slots 0 0 false self arguments before)) (Left F.gives) (called D bound F self arguments before)
+  function_runs entry arguments size leave has =
+      let count = function_places F in
+      let opening = opening_orders F in
+      let place = entry + length opening in
+      let b = body_block exit F.body in
+      let spot = Between place no_turn in
+      let xs = flat R F.slots count spot b in
+      let none_given = nothing_given exit in
+      let w0 = entered F.slots count F.parameters F.owns self arguments before in
+      let stack = onto (first_locals F.slots arguments.numbers) below in
+      let s = calm rs in
+      let meant = called D bound F self arguments before in
+      let strong : length w0.frame.strong ≡ count = names_length count (and_self F.owns self (take F.parameters arguments.objects)) in
       let good : Fine true w0 = (record { locals = size; strong = strong; itself = refl; waits = refl }, λ x. refl) in
-      let end = Leaves p frames bound R slots names self (stacked before) below D deep no_turn true (place + length xs) in
-      let o = then_do (all_executed D bound body w0) (λ flow w1. Done (given flow) w1) in
-      let runs = subst (Runs (moves p) bound (running frames rs place stack w0) end) (body_is D bound exit rs body w0) (block_runs p frames bound R slots names self (stacked before) below D deep spot no_turn true true (λ x. x) b (λ x. both_true (takes_none (commands_block exit none_given none_given body)) true (commands_quiet exit none_given none_given refl refl body) refl) place refl s w0 good (has_back p entry opening xs has)) in
-      let ready : Runs (moves p) bound (running frames rs place stack w0) Left (called D bound F self arguments before) =
-      subst (Runs (moves p) bound (running frames rs place stack w0) Left) (given_later D names before (all_executed D bound body w0))
-      (then_runs (moves p) bound (running frames rs place stack w0) (λ v w1 to. end (Out exit (push v s)) w1 to) Left o (λ v w1. then_do (variables_dropped D 0 names w1) (λ _ w2. Done v (left before w2))) (ways_back (moves p) bound (running frames rs place stack w0) (λ v. Out exit (push v s)) end o runs) (λ v w1 to m.
-      subst (λ r. Runs (moves p) bound r Left (then_do (variables_dropped D 0 names w1) (λ _ w2. Done v (left before w2)))) (sym m.0) (leave_runs v w1 m.1 leave))) in
-      leads_runs (moves p) bound start (running frames all_names middle stack declared) Left (called D bound F self arguments before) first
-      (takes_run few objects (nils (names - few)) arguments stack middle Left (called D bound F self arguments before) (names_length few arguments.objects) (has_back p entry declares takes has_opening)
-      (subst (λ q. Runs (moves p) bound (running frames rs q stack (begun_with arguments (objects ++ nils (names - few)))) Left (called D bound F self arguments before)) (sym there)
-      (subst (λ (x : World). Runs (moves p) bound (running frames rs place stack x) Left (called D bound F self arguments before)) (sym is) ready)))
+      let end = Leaves p frames bound R F.slots count self (stacked before) below D deep no_turn true (place + length xs) in
+      let o = then_do (all_executed D bound F.body w0) (λ flow w1. Done (given flow) w1) in
+      let quiet_body = both_true (takes_none R (commands_block exit none_given none_given F.body)) true (commands_quiet R exit none_given none_given refl refl F.body) refl in
+      let runs = subst (Runs (moves p) bound (running frames rs place stack w0) end) (body_is D bound exit rs F.body w0) (block_runs p frames bound R F.slots count self (stacked before) below D deep 0 spot no_turn true true (λ x. x) (λ x. absurd (true≢false x)) b (λ x. quiet_body) place refl s w0 good (has_back p entry opening xs has)) in
+      let ready : Runs (moves p) bound (running frames rs place stack w0) (Left F.gives) meant =
+      subst (Runs (moves p) bound (running frames rs place stack w0) (Left F.gives)) (given_later D F before (all_executed D bound F.body w0))
+      (then_runs (moves p) bound (running frames rs place stack w0) (λ v w1 to. end (Out exit (push v s)) w1 to) (Left F.gives) o (λ v w1. then_do (variables_dropped D 0 F.names w1) (λ _ w2. Done (answer_with F v w2) (left before w2))) (ways_back (moves p) bound (running frames rs place stack w0) (λ v. Out exit (push v s)) end o runs) (λ v w1 to m.
+      subst (λ r. Runs (moves p) bound r (Left F.gives) (then_do (variables_dropped D 0 F.names w1) (λ _ w2. Done (answer_with F v w2) (left before w2)))) (sym m.0) (leave_runs v w1 m.1 leave))) in
+      opening_runs F.owns count (object_parameters F) arguments stack entry (Left F.gives) meant refl (has_front p entry opening xs has) ready

@@ -1,19 +1,23 @@
 -- Each function stands at its entry.
-use Rattle.std.proofs.Common.{◌≡◌, ℕ, ℤ, zero, suc, ◌+◌, ◌<◌, ◌≤◌, Bool, true, false, nat_lt, if◌then◌else◌, List, [], ◌∷◌, ◌++◌, length, Some, refl, ap, ◌∙◌, subst, arith, slice_get, slice_index_or, get_or}
-use Rattle.std.proofs.lemmas.Bool.{ltb-true, ltb-false}
-use Rattle.arc_spec.specs.Classes.{Class}
+use Rattle.std.proofs.Common.{◌≡◌, ℕ, ℤ, zero, suc, ◌+◌, Bool, true, false, nat_lt, if◌then◌else◌, List, [], ◌∷◌, ◌++◌, length, Some, refl, sym, ap, ◌∙◌, subst, arith, slice_get, slice_index_or, get_or}
+use Rattle.std.proofs.lemmas.Bool.{true≢false}
+use Rattle.arc_spec.specs.declared.class.Gives.{Gives}
+use Rattle.arc_spec.specs.declared.class.Gives.TheVariants as gives
+use Rattle.arc_spec.specs.Classes.{Class, same_gives}
 use Rattle.arc_spec.specs.Resolved.{Function}
 use Rattle.arc_spec.specs.Resolved as resolved
-use Rattle.arc_spec.specs.Meaning.{function_at, most_levels}
+use Rattle.arc_spec.specs.Meaning.{function_at, nothing_giving, most_levels}
 use Rattle.arc_spec.specs.Holding.{Held, Frame}
 use Rattle.arc_ir.specs.Acting as acting
 use Rattle.arc_ir.specs.Acting.{Program, has_level, enters, step}
 use Rattle.arc_code.specs.declared.instr.Instr.TheVariants.{Call, Return, EndStep}
 use Rattle.arc_lower.specs.Order.{Order, orders}
-use Rattle.arc_lower.specs.Lowered.{nothing, all_functions, number_of, call_orders, end_step_of, entry_of, function_orders, functions_orders, entries_from, start_orders, running_orders, lowered, entries_of, classes_orders}
+use Rattle.arc_lower.specs.Lowered.{all_functions, gives_at, number_of_nothing, number_of, call_orders, end_step_of, entry_of, function_orders, functions_orders, entries_from, start_orders, running_orders, lowered, entries_of, classes_orders}
 use Rattle.arc_lower.proofs.Rows.{call_length}
 use Rattle.arc_lower.proofs.Recounting.{at}
 use Rattle.arc_lower.proofs.Doing.{HasAt, has_front, has_back, has_all}
+use Rattle.arc_lower.proofs.Callees.{with_functions}
+use Rattle.arc_lower.proofs.Finding.{gives_same}
 
 -- where a function begins, and where it is entered
 pub record Begins (p : Program) (R : resolved.Program) (n : ℕ) (f : Function) : Type 0 where
@@ -23,10 +27,10 @@ pub record Begins (p : Program) (R : resolved.Program) (n : ℕ) (f : Function) 
   pub code : HasAt p place (function_orders R place f)
 
 -- the step of a call
-pub call_enters : (p : Program) (R : resolved.Program) (f : ℕ) (b : Begins p R (number_of R f) (function_at R f)) (pc : ℕ) (frames : List Frame) (stack : List ℤ) (held : Held) (more : Bool) → HasAt p pc (Call (number_of R f) ∷ []) → nat_lt (length frames) most_levels ≡ more → step p (at frames pc stack held) ≡ enters (at frames pc stack held) (entry_of b.place (function_at R f)) 0 more
-call_enters p R f b pc frames stack held more has e =
+pub call_enters : (p : Program) (R : resolved.Program) (wanted : Gives) (f : ℕ) (b : Begins p R (number_of R wanted f) (function_at R wanted f)) (pc : ℕ) (frames : List Frame) (stack : List ℤ) (held : Held) (more : Bool) → HasAt p pc (Call (number_of R wanted f) wanted ∷ []) → nat_lt (length frames) most_levels ≡ more → step p (at frames pc stack held) ≡ enters (at frames pc stack held) (entry_of b.place (function_at R wanted f)) 0 more
+call_enters p R wanted f b pc frames stack held more has e =
     let s = at frames pc stack held in
-    has.0 frames stack held ∙ ap (λ to. enters s to 0 (has_level s)) b.entry ∙ ap (enters s (entry_of b.place (function_at R f)) 0) e
+    has.0 frames stack held ∙ ap (λ to. enters s to 0 (has_level s)) b.entry ∙ ap (enters s (entry_of b.place (function_at R wanted f)) 0) e
 
 record Found (p : Program) (R : resolved.Program) (entries : List ℕ) (n : ℕ) (f : Function) : Type 0 where
   place : ℕ
@@ -49,26 +53,52 @@ find p R (g ∷ fs) place (suc n) f e has =
     let there = find p R fs (place + length xs) n f e (has_back p place xs (functions_orders R (place + length xs) fs) has) in
     record { place = there.place; entry = there.entry; code = there.code }
 
-in_list : (fs : List Function) (main : ℕ) (gs : List ℤ) (sg : ℕ) (cs : List Class) (f : ℕ) → f < length fs → slice_get (fs ++ nothing ∷ []) f ≡ Some (function_at (record { functions = fs; main = main; globals = gs; strong_globals = sg; classes = cs }) f)
-in_list [] main gs sg cs f lt = absurd (omega (arith, lt))
-in_list (g ∷ fs) main gs sg cs zero lt = refl
-in_list (g ∷ fs) main gs sg cs (suc f) lt = in_list fs main gs sg cs f (omega (arith, lt))
+-- the functions that do nothing
+abbrev last_two : List Function
+last_two = nothing_giving gives.Number ∷ nothing_giving gives.Object ∷ []
 
-pub out_of_list : (fs : List Function) (main : ℕ) (gs : List ℤ) (sg : ℕ) (cs : List Class) (f : ℕ) → length fs ≤ f → nothing ≡ function_at (record { functions = fs; main = main; globals = gs; strong_globals = sg; classes = cs }) f
-out_of_list [] main gs sg cs f le = refl
-out_of_list (g ∷ fs) main gs sg cs zero le = absurd (omega (arith, le))
-out_of_list (g ∷ fs) main gs sg cs (suc f) le = out_of_list fs main gs sg cs f (omega (arith, le))
+last_first : (fs : List Function) → slice_get (fs ++ last_two) (length fs) ≡ Some (nothing_giving gives.Number)
+last_first [] = refl
+last_first (g ∷ fs) = last_first fs
 
-last_one : (fs : List Function) → slice_get (fs ++ nothing ∷ []) (length fs) ≡ Some nothing
-last_one [] = refl
-last_one (g ∷ fs) = last_one fs
+last_second : (fs : List Function) → slice_get (fs ++ last_two) (suc (length fs)) ≡ Some (nothing_giving gives.Object)
+last_second [] = refl
+last_second (g ∷ fs) = last_second fs
 
-numbered_by : (R : resolved.Program) (f : ℕ) (b : Bool) → nat_lt f (length R.functions) ≡ b → slice_get (all_functions R) (if b then f else length R.functions) ≡ Some (function_at R f)
-numbered_by R f true e = in_list R.functions R.main R.globals R.strong_globals R.classes f (ltb-true f (length R.functions) e)
-numbered_by R f false e = last_one R.functions ∙ ap Some (out_of_list R.functions R.main R.globals R.strong_globals R.classes f (ltb-false f (length R.functions) e))
+module _ (main : ℕ) (gs : List ℤ) (sg : ℕ) (cs : List Class) (wanted : Gives) where
+  in_list : (fs : List Function) (f : ℕ) → gives_at (with_functions fs main gs sg cs) wanted f ≡ true → slice_get (fs ++ last_two) f ≡ Some (function_at (with_functions fs main gs sg cs) wanted f)
+  in_list [] f e = absurd (true≢false (sym e))
+  in_list (g ∷ fs) zero e = ap (λ b. Some (if b then g else nothing_giving wanted)) (sym e)
+  in_list (g ∷ fs) (suc f) e = in_list fs f e
 
-pub numbered : (R : resolved.Program) (f : ℕ) → slice_get (all_functions R) (number_of R f) ≡ Some (function_at R f)
-numbered R f = numbered_by R f (nat_lt f (length R.functions)) refl
+  pub out_of_list : (fs : List Function) (f : ℕ) → gives_at (with_functions fs main gs sg cs) wanted f ≡ false → nothing_giving wanted ≡ function_at (with_functions fs main gs sg cs) wanted f
+  out_of_list [] f e = refl
+  out_of_list (g ∷ fs) zero e = ap (λ b. if b then g else nothing_giving wanted) (sym e)
+  out_of_list (g ∷ fs) (suc f) e = out_of_list fs f e
+
+  one_gives : (b : Bool) (g : Function) → same_gives g.gives wanted ≡ b → (if b then g else nothing_giving wanted).gives ≡ wanted
+  one_gives true g e = gives_same g.gives wanted e
+  one_gives false g e = refl
+
+  found_gives : (fs : List Function) (f : ℕ) → (function_at (with_functions fs main gs sg cs) wanted f).gives ≡ wanted
+  found_gives [] f = refl
+  found_gives (g ∷ fs) zero = one_gives (same_gives g.gives wanted) g refl
+  found_gives (g ∷ fs) (suc f) = found_gives fs f
+
+-- a function gives what is wanted of it
+pub function_gives : (R : resolved.Program) (wanted : Gives) (f : ℕ) → (function_at R wanted f).gives ≡ wanted
+function_gives R wanted f = found_gives R.main R.globals R.strong_globals R.classes wanted R.functions f
+
+nothing_numbered : (R : resolved.Program) (wanted : Gives) → slice_get (all_functions R) (number_of_nothing R wanted) ≡ Some (nothing_giving wanted)
+nothing_numbered R gives.Number = last_first R.functions
+nothing_numbered R gives.Object = last_second R.functions
+
+numbered_by : (R : resolved.Program) (wanted : Gives) (f : ℕ) (b : Bool) → gives_at R wanted f ≡ b → slice_get (all_functions R) (if b then f else number_of_nothing R wanted) ≡ Some (function_at R wanted f)
+numbered_by R wanted f true e = in_list R.main R.globals R.strong_globals R.classes wanted R.functions f e
+numbered_by R wanted f false e = nothing_numbered R wanted ∙ ap Some (out_of_list R.main R.globals R.strong_globals R.classes wanted R.functions f e)
+
+pub numbered : (R : resolved.Program) (wanted : Gives) (f : ℕ) → slice_get (all_functions R) (number_of R wanted f) ≡ Some (function_at R wanted f)
+numbered R wanted f = numbered_by R wanted f (gives_at R wanted f) refl
 
 get_index : (list : List ℕ) (n x : ℕ) → slice_get list n ≡ Some x → slice_index_or list n 0 ≡ x
 get_index [] n x e = cc
@@ -93,10 +123,10 @@ module _ (p : Program) (R : resolved.Program) (is : orders p.actions ≡ lowered
   -- the action at which the ends of objects go on
   pub has_end : p.end_step ≡ end_step_of R → HasAt p p.end_step (EndStep ∷ [])
   has_end at_end =
-      let call = call_orders R R.main 0 0 in
+      let call = call_orders R gives.Number R.main 0 0 in
       let rest = Return ∷ (EndStep ∷ []) in
       let has = has_back p 0 call rest has_start in
-      let e : 0 + length call + 1 ≡ p.end_step = omega (arith, call_length R R.main, at_end) in
+      let e : 0 + length call + 1 ≡ p.end_step = omega (arith, call_length R gives.Number R.main, at_end) in
       subst (λ n. HasAt p n (EndStep ∷ [])) e has.1
 
   pub has_stubs : HasAt p (length (running_orders R)) stubs
@@ -104,16 +134,16 @@ module _ (p : Program) (R : resolved.Program) (is : orders p.actions ≡ lowered
       let zero_is : 0 + length (running_orders R) ≡ length (running_orders R) = omega arith in
       subst (λ n. HasAt p n stubs) zero_is (has_back p 0 (running_orders R) stubs (subst (HasAt p 0) is (has_all p)))
 
-  pub begins : (f : ℕ) → Begins p R (number_of R f) (function_at R f)
-  begins f =
+  pub begins : (wanted : Gives) (f : ℕ) → Begins p R (number_of R wanted f) (function_at R wanted f)
+  begins wanted f =
       let start = start_orders R in
       let all = functions_orders R (length start) (all_functions R) in
       let zero_is : 0 + length start ≡ length start = omega arith in
       let has = subst (λ n. HasAt p n all) zero_is (has_back p 0 start all has_running) in
-      let there = find p R (all_functions R) (length start) (number_of R f) (function_at R f) (numbered R f) has in
+      let there = find p R (all_functions R) (length start) (number_of R wanted f) (function_at R wanted f) (numbered R wanted f) has in
       record {
         place = there.place;
-        entry = found_entry p.entries (number_of R f) (length p.actions) (entry_of there.place (function_at R f)) (ap (λ l. slice_get l (number_of R f)) entries ∙ there.entry);
-        first = get_index (entries_of R) (number_of R f) (entry_of there.place (function_at R f)) there.entry;
+        entry = found_entry p.entries (number_of R wanted f) (length p.actions) (entry_of there.place (function_at R wanted f)) (ap (λ l. slice_get l (number_of R wanted f)) entries ∙ there.entry);
+        first = get_index (entries_of R) (number_of R wanted f) (entry_of there.place (function_at R wanted f)) there.entry;
         code = there.code;
       }

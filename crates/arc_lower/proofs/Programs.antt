@@ -1,35 +1,49 @@
 -- Each order of a lowered program has what it needs, with the heights before it.
-use Rattle.std.proofs.Common.{◌≡◌, inl, inr, ℕ, zero, suc, ◌+◌, ◌≤◌, pos, Bool, true, false, if◌then◌else◌, nat_lt, List, [], ◌∷◌, ◌++◌, length, Option, Some, None, refl, sym, ap, ◌∙◌, subst, arith, length-append, append_assoc, slice_get, slice_index_or}
+use Rattle.std.proofs.Common.{◌≡◌, inl, inr, ℕ, zero, suc, ◌+◌, ◌-◌, ◌≤◌, pos, Bool, true, false, if◌then◌else◌, nat_lt, List, [], ◌∷◌, ◌++◌, length, Option, Some, None, refl, sym, ap, ◌∙◌, subst, arith, length-append, append_assoc, slice_get, slice_index_or}
 use Rattle.std.proofs.lemmas.Bool.{ltb-true, ltb-false, false≢true}
 use Rattle.arc_ast.specs.declared.tree.Sign.{Sign}
+use Rattle.arc_spec.specs.declared.class.Gives.{Gives}
+use Rattle.arc_spec.specs.declared.class.Gives.TheVariants as gives
 use Rattle.arc_spec.specs.declared.class.Method.{Method}
-use Rattle.arc_spec.specs.Classes.{Class, answers, found, own_methods, or_else, first_that_has, superclasses, ancestry, lookup, lesser}
+use Rattle.arc_spec.specs.Classes.{Class, answers, found, own_methods, or_else, first_that_has, superclasses, ancestry, lookup, lesser, same_gives}
 use Rattle.arc_spec.specs.Resolved.{Function, Commands}
 use Rattle.arc_spec.specs.Resolved as resolved
-use Rattle.arc_spec.specs.Meaning.{function_at}
+use Rattle.arc_spec.specs.Meaning.{function_at, function_places}
 use Rattle.arc_code.specs.declared.effect.Height.{Height}
 use Rattle.arc_code.specs.declared.instr.Op.TheVariants.{Num}
 use Rattle.arc_code.specs.declared.instr.Instr.TheVariants.{Plain, Jump, Call, Return, Empty, EndStep}
-use Rattle.arc_code.specs.Effects.{passes}
+use Rattle.arc_code.specs.Effects.{passes, as_object}
 use Rattle.arc_ir.specs.declared.action.Target.TheVariants.{At}
 use Rattle.arc_lower.specs.Order.{Order}
-use Rattle.arc_lower.specs.Lowered.{all_functions, number_of, slots_of, parameters_of, object_parameters, call_orders, passing_orders, opening_orders, take_orders, leave_orders, body_orders, declare_orders, pop_orders, keep_orders, all_empty_orders, no_turn, Spot, Between, Block, nothing_given, commands_block, flat, function_orders, functions_orders, entries_from, start_orders, end_step_of, entry_of, entries_of, stub_orders, methods_orders, dealloc_orders, class_orders, classes_orders, linked_methods, linked_dealloc, linked_classes, running_orders, lowered, classes_linked}
-use Rattle.arc_lower.specs.Heights.{height, between, next_height, walk, Walk, next_walk, last_walk, walk_heights, heights, start_heights, function_heights, functions_heights, stub_heights, methods_heights, dealloc_heights, class_heights, classes_heights, lowered_heights}
+use Rattle.arc_lower.specs.Lowered.{all_functions, number_of, slots_of, parameters_of, object_parameters, call_orders, passing_orders, opening_orders, take_orders, own_orders, owned_by, leaving_order, leave_orders, body_orders, declare_orders, pop_orders, keep_orders, all_empty_orders, no_turn, Spot, Between, Block, nothing_given, commands_block, flat, function_orders, functions_orders, entries_from, start_orders, end_step_of, entry_of, entries_of, stub_orders, methods_orders, dealloc_orders, class_orders, classes_orders, linked_methods, linked_dealloc, linked_classes, running_orders, lowered, classes_linked}
+use Rattle.arc_lower.specs.Heights.{height, between, next_height, walk, Walk, next_walk, last_walk, walk_heights, heights, start_heights, function_heights, stub_heights, dealloc_heights, in_function, functions_marks, methods_marks, class_marks, classes_marks, lowered_marks}
 use Rattle.arc_lower.proofs.Rows.{call_length}
 use Rattle.arc_lower.proofs.Linking.{numbered}
-use Rattle.arc_lower.proofs.Finding.{passes_same}
-use Rattle.arc_lower.proofs.Typing.{heights_same, slots_same, parameters_same, number_there, Types, types_then, types_same, types_last, tested, keep_types, passing_types, declare_types, take_types, BlockTypes}
+use Rattle.arc_lower.proofs.Finding.{answers_as}
+use Rattle.arc_lower.proofs.Typing.{heights_same, slots_same, parameters_same, number_there, Types, types_then, types_same, types_last, tested, keep_types, passing_types, declare_types, take_types, own_types, gives_wanted, BlockTypes}
 use Rattle.arc_lower.proofs.HeightsEnd.{last_append, Keeps, block_ends}
 use Rattle.arc_lower.proofs.Forms.{nothing_types, commands_type}
-use Rattle.arc_lower.proofs.Stepping.{some_same, HasPart, part_front, part_back, has_whole, types_ordinary, Takes, Clears, Stands, Goes, StepsAt, AllStep, step_then, IsReturn, opens_goes, none_goes, Row, row_of, row_front, row_back, Follows, goes_here, typed_steps, AllTake, takes_stand, takes_step, block_ordinary, block_steps}
+use Rattle.arc_lower.proofs.Stepping.{some_same, HasPart, part_front, part_back, has_whole, types_ordinary, Takes, Clears, Stands, Goes, Free, free_at, Steps, StepsAt, AllStep, step_then, IsLeave, leaves_keep, opens_goes, none_goes, Row, row_of, row_front, row_back, Follows, goes_here, typed_steps, AllTake, takes_stand, takes_step, block_ordinary, block_steps}
 
 heights_length : (R : resolved.Program) (base : Height) (w : Walk) (xs : List Order) → length (walk_heights R base w xs) ≡ length xs
 heights_length R base w [] = refl
 heights_length R base w (x ∷ xs) = ap suc (heights_length R base (next_walk R base x w) xs)
 
-abbrev NoReturn : Order → Type 0
-NoReturn Return = ⊥
-NoReturn _ = Unit {0}
+in_length : (given : Gives) (hs : List Height) → length (in_function given hs) ≡ length hs
+in_length given [] = refl
+in_length given (h ∷ hs) = ap suc (in_length given hs)
+
+in_append : (given : Gives) (a b : List Height) → in_function given (a ++ b) ≡ in_function given a ++ in_function given b
+in_append given [] b = refl
+in_append given (h ∷ a) b = ap (λ l. (h, given) ∷ l) (in_append given a b)
+
+leaving_is : (given : Gives) → IsLeave (leaving_order given)
+leaving_is gives.Number = tt
+leaving_is gives.Object = tt
+
+places_by : (given : Gives) (n : ℕ) → (if same_gives given gives.Object then suc n else n) ≡ n + as_object given
+places_by gives.Number n = omega arith
+places_by gives.Object n = omega arith
 
 -- an order that isn't the last step of an object's end
 abbrev NoEnd : Order → Type 0
@@ -40,20 +54,20 @@ module _ (R : resolved.Program) where
   abbrev pub all : List Order
   all = lowered R
 
-  abbrev pub table : List Height
-  table = lowered_heights R
+  abbrev pub table : List (Height × Gives)
+  table = lowered_marks R
 
   -- orders and their heights stand there
-  abbrev Both : ℕ → List Height → List Order → Type 0
+  abbrev Both : ℕ → List (Height × Gives) → List Order → Type 0
   Both pc hs xs = HasPart table pc hs × HasPart all pc xs × (length hs ≡ length xs)
 
-  both_front : (pc : ℕ) (a b : List Height) (xs ys : List Order) → length a ≡ length xs → Both pc (a ++ b) (xs ++ ys) → Both pc a xs
+  both_front : (pc : ℕ) (a b : List (Height × Gives)) (xs ys : List Order) → length a ≡ length xs → Both pc (a ++ b) (xs ++ ys) → Both pc a xs
   both_front pc a b xs ys e f = (part_front table pc a b f.0, part_front all pc xs ys f.1, e)
 
-  both_back : (pc : ℕ) (a b : List Height) (xs ys : List Order) → length a ≡ length xs → Both pc (a ++ b) (xs ++ ys) → Both (pc + length xs) b ys
+  both_back : (pc : ℕ) (a b : List (Height × Gives)) (xs ys : List Order) → length a ≡ length xs → Both pc (a ++ b) (xs ++ ys) → Both (pc + length xs) b ys
   both_back pc a b xs ys e f = (subst (λ n. HasPart table (pc + n) b) e (part_back table pc a b f.0), part_back all pc xs ys f.1, omega (arith, e, f.2, length-append a b, length-append xs ys))
 
-  abbrev Goes_to : ℕ → Height → Type 0
+  abbrev Goes_to : Gives → ℕ → Height → Type 0
   Goes_to = Goes R all table
 
   abbrev Step_all : ℕ → List Order → Type 0
@@ -61,7 +75,7 @@ module _ (R : resolved.Program) where
 
   -- ---- one function
 
-  module _ (place slots names objects : ℕ) (few : objects ≤ names) (cs : Commands) where
+  module _ (place slots names kept objects : ℕ) (given : Gives) (opening : List Order) (opening_typed : Types R 0 0 (height slots objects 0 0) opening (between slots names)) (places : names ≡ kept + as_object given) (cs : Commands) where
     abbrev base : Height
     base = between slots names
 
@@ -75,8 +89,11 @@ module _ (R : resolved.Program) where
     abbrev keep : List Order
     keep = keep_orders slots
 
+    abbrev last_order : Order
+    last_order = leaving_order given
+
     abbrev leave : List Order
-    leave = emptied names ++ (keep ++ Return ∷ [])
+    leave = emptied kept ++ (keep ++ last_order ∷ [])
 
     abbrev entered : ℕ
     entered = place + length leave
@@ -85,11 +102,8 @@ module _ (R : resolved.Program) where
     abbrev begun : Height
     begun = height slots objects 0 0
 
-    abbrev declared : List Order
-    declared = opening_orders names objects
-
     abbrev start : ℕ
-    start = entered + length declared
+    start = entered + length opening
 
     -- what leaves it without a value
     abbrev none : Block
@@ -105,10 +119,10 @@ module _ (R : resolved.Program) where
     end = Plain (Num (pos 0)) ∷ Jump (At place) ∷ []
 
     abbrev body : List Order
-    body = declared ++ (statements ++ end)
+    body = opening ++ (statements ++ end)
 
     abbrev Rows : ℕ → Height → List Order → Type 0
-    Rows pc h = Row R all table base pc (walk h [])
+    Rows pc h = Row R all table given base pc (walk h [])
 
     statements_type : BlockTypes R 0 0 slots names place false true base (commands_block place none none cs) base
     statements_type = commands_type R slots names place false none none (nothing_types R slots names place false) (nothing_types R slots names place false) cs
@@ -124,11 +138,11 @@ module _ (R : resolved.Program) where
     emptied_ends zero = refl
     emptied_ends (suc n) = last_append R base (walk leaving []) (if nat_lt (0 + n) names then Empty (0 + n) ∷ [] else []) (emptied n) ∙ ap (λ w. last_walk R base w (emptied n)) (empty_ends (nat_lt (0 + n) names) (0 + n)) ∙ emptied_ends n
 
-    pops_take : (n : ℕ) → AllTake R all table base (pop_orders n)
+    pops_take : (n : ℕ) → AllTake R all table given base (pop_orders n)
     pops_take zero = tt
     pops_take (suc n) = (tt, pops_take n)
 
-    keep_takes : (n : ℕ) → AllTake R all table base (keep_orders n)
+    keep_takes : (n : ℕ) → AllTake R all table given base (keep_orders n)
     keep_takes zero = tt
     keep_takes (suc n) = (tt, pops_take n)
 
@@ -137,7 +151,7 @@ module _ (R : resolved.Program) where
 
     -- before so many variables are emptied the others are nil
     abbrev Emptying : ℕ → ℕ → Type 0
-    Emptying n pc = Step_all pc (emptied n) × Stands R all table pc leaving × ((k : ℕ) → Clears R all table k pc → k ≡ n)
+    Emptying n pc = Step_all pc (emptied n) × Stands R all table given pc leaving × ((k : ℕ) → Clears R all table k pc → k ≡ n) × Free R all table pc
 
     same_place : (i j : ℕ) (x y : Order) → x ≡ Empty i → y ≡ Empty j → x ≡ y → i ≡ j
     same_place i j x y e f same = cc
@@ -145,101 +159,104 @@ module _ (R : resolved.Program) where
     other_order : (i : ℕ) (x y : Order) → Takes y → x ≡ Empty i → x ≡ y → ⊥
     other_order i x y takes e same = subst Takes (sym same ∙ e) takes
 
-    other_return : (i : ℕ) (x y : Order) → x ≡ Empty i → y ≡ Return → x ≡ y → ⊥
-    other_return i x y e f same = subst NoReturn (sym e ∙ same ∙ f) tt
-
-    emptying : (n pc : ℕ) → n ≤ names → Rows pc leaving (emptied n ++ (keep ++ Return ∷ [])) → Emptying n pc
-    emptying zero pc le f = let there = takes_stand R all table base pc (walk leaving []) keep (keep_takes slots) f in (tt, there.0, there.1)
+    emptying : (n pc : ℕ) → n ≤ names → Rows pc leaving (emptied n ++ (keep ++ last_order ∷ [])) → Emptying n pc
+    emptying zero pc le f = let there = takes_stand R all table given base pc (walk leaving []) keep last_order (leaving_is given) (keep_takes slots) f in (tt, there.0, there.1, there.2)
     emptying (suc n) pc le f = by (nat_lt (0 + n) names) refl (λ rest. emptying n (pc + 1) (omega (arith, le)) rest) f
       where
         only : slice_get all pc ≡ Some (Empty (0 + n)) → (k : ℕ) → Clears R all table k pc → k ≡ suc n
-        only is zero (zero, e) = absurd (other_return (0 + n) (Empty (0 + n)) Return refl refl (some_same {A = Order} (Empty (0 + n)) Return (sym is ∙ e)))
+        only is zero (zero, y) = absurd (leaves_keep y.0 (0 + n) y.2 (some_same {A = Order} y.0 (Empty (0 + n)) (sym y.1 ∙ is)))
         only is zero (suc m, y) = absurd (other_order (0 + n) (Empty (0 + n)) y.0 y.2 refl (some_same {A = Order} (Empty (0 + n)) y.0 (sym is ∙ y.1)))
         only is (suc j) c = let i = same_place j (0 + n) (Empty j) (Empty (0 + n)) refl refl (some_same {A = Order} (Empty j) (Empty (0 + n)) (sym c.0 ∙ is)) in omega (arith, i)
 
-        by : (b : Bool) → nat_lt (0 + n) names ≡ b → (Rows (pc + 1) leaving (emptied n ++ (keep ++ Return ∷ [])) → Emptying n (pc + 1)) → Rows pc leaving (((if b then Empty (0 + n) ∷ [] else []) ++ emptied n) ++ (keep ++ Return ∷ [])) → Step_all pc ((if b then Empty (0 + n) ∷ [] else []) ++ emptied n) × Stands R all table pc leaving × ((k : ℕ) → Clears R all table k pc → k ≡ suc n)
+        by : (b : Bool) → nat_lt (0 + n) names ≡ b → (Rows (pc + 1) leaving (emptied n ++ (keep ++ last_order ∷ [])) → Emptying n (pc + 1)) → Rows pc leaving (((if b then Empty (0 + n) ∷ [] else []) ++ emptied n) ++ (keep ++ last_order ∷ [])) → Step_all pc ((if b then Empty (0 + n) ∷ [] else []) ++ emptied n) × Stands R all table given pc leaving × ((k : ℕ) → Clears R all table k pc → k ≡ suc n) × Free R all table pc
         by false e others f = let ge = ltb-false (0 + n) names e in absurd (omega (arith, le, ge))
         by true e others f =
-            let rest = others (subst (λ h. Rows (pc + 1) h (emptied n ++ (keep ++ Return ∷ []))) (empty_stays (0 + n)) f.2) in (
-              ((leaving, f.0, (omega (arith, le), subst (Stands R all table (pc + 1)) (sym (empty_stays (0 + n))) rest.1, λ k c. let is = rest.2 k c in inl (omega (arith, is)))), rest.0),
+            let rest = others (subst (λ h. Rows (pc + 1) h (emptied n ++ (keep ++ last_order ∷ []))) (empty_stays (0 + n)) f.2) in (
+              (((leaving, given), f.0, (omega (arith, le), subst (Stands R all table given (pc + 1)) (sym (empty_stays (0 + n))) rest.1, λ k c. let is = rest.2 k c in inl (omega (arith, is)), rest.3)), rest.0),
               record { height = f.0; order = Empty (0 + n); is = f.1; no_end = λ same. subst NoEnd same tt },
               only f.1,
+              free_at R all table pc (Empty (0 + n)) f.1 (λ settles. settles) (λ message. absurd message),
             )
 
     module _ (leave_row : Rows place leaving leave) (body_row : Rows entered begun body) where
-      exit : Emptying names place
-      exit = emptying names place (omega arith) leave_row
+      exit : Emptying kept place
+      exit = emptying kept place (omega (arith, places)) leave_row
 
-      exit_goes : Goes_to place leaving
-      exit_goes = (exit.1, λ k c. let e = exit.2 k c in omega (arith, e))
-
-      declared_typed : Types R 0 0 begun declared base
-      declared_typed =
-          let all_declared = height slots objects 0 names in
-          types_then R 0 0 begun (declare_orders names) all_declared (take_orders objects) base
-          (types_same R 0 0 begun (declare_orders names) (height slots objects 0 (names + 0)) all_declared (heights_same _ _ _ _ slots objects 0 names refl refl refl (omega arith)) (declare_types R 0 0 names slots objects 0))
-          (subst (λ n. Types R 0 0 (height slots n 0 names) (take_orders objects) base) (omega arith) (take_types R 0 0 objects slots 0 0 names (omega (arith, few))))
+      exit_goes : Goes_to given place leaving
+      exit_goes = (exit.1, λ k c. let e = exit.2 k c in omega (arith, e, places), exit.3)
 
       rows : Rows start base (statements ++ end)
-      rows = subst (λ w. Row R all table base start w (statements ++ end)) (types_last R 0 0 base begun [] declared base declared_typed) (row_back R all table base entered (walk begun []) declared (statements ++ end) body_row)
+      rows = subst (λ w. Row R all table given base start w (statements ++ end)) (types_last R 0 0 base begun [] opening base opening_typed) (row_back R all table given base entered (walk begun []) opening (statements ++ end) body_row)
 
       ends : (after : List Height) × (last_walk R base (walk base []) statements ≡ walk base after) × Keeps R 0 0 slots names place base true [] after
       ends = block_ends R 0 0 slots names place base here false true (commands_block place none none cs) base base [] (refl, tt, tt) statements_type
 
-      last : Row R all table base (start + length statements) (walk base ends.0) end
-      last = subst (λ w. Row R all table base (start + length statements) w end) ends.1 (row_back R all table base start (walk base []) statements end rows)
+      last : Row R all table given base (start + length statements) (walk base ends.0) end
+      last = subst (λ w. Row R all table given base (start + length statements) w end) ends.1 (row_back R all table given base start (walk base []) statements end rows)
 
-      statements_follow : Follows R all table base start (walk base []) statements
-      statements_follow = row_front R all table base start (walk base []) statements end (subst (λ w. Goes_to (start + length statements) w.height) (sym ends.1) (opens_goes R all table (start + length statements) base (Plain (Num (pos 0))) tt last.0 last.1)) rows
+      statements_follow : Follows R all table given base start (walk base []) statements
+      statements_follow = row_front R all table given base start (walk base []) statements end (subst (λ w. Goes_to given (start + length statements) w.height) (sym ends.1) (opens_goes R all table given (start + length statements) base (Plain (Num (pos 0))) tt last.0 last.1)) rows
 
-      declared_follow : Follows R all table base entered (walk begun []) declared
-      declared_follow =
-          row_front R all table base entered (walk begun []) declared (statements ++ end)
-          (subst (λ w. Goes_to start w.height) (sym (types_last R 0 0 base begun [] declared base declared_typed)) (goes_here R all table base start (walk base []) statements (block_ordinary R all table slots names place here false true (commands_block place none none cs) base base statements_type) statements_follow)) body_row
+      opening_follow : Follows R all table given base entered (walk begun []) opening
+      opening_follow =
+          row_front R all table given base entered (walk begun []) opening (statements ++ end)
+          (subst (λ w. Goes_to given start w.height) (sym (types_last R 0 0 base begun [] opening base opening_typed)) (goes_here R all table given base start (walk base []) statements (block_ordinary R all table given slots names place here false true (commands_block place none none cs) base base statements_type) statements_follow)) body_row
 
-      pub entry_goes : Goes_to entered begun
-      entry_goes = goes_here R all table base entered (walk begun []) declared (types_ordinary R begun declared base declared_typed) declared_follow
+      pub entry_goes : Goes_to given entered begun
+      entry_goes = goes_here R all table given base entered (walk begun []) opening (types_ordinary R begun opening base opening_typed) opening_follow
+
+      -- where its last order stands
+      last_step : (pc : ℕ) (g : Gives) → given ≡ g → Steps R all table given (height 1 0 0 names) pc (leaving_order g)
+      last_step pc gives.Number e = (refl, refl, refl, e)
+      last_step pc gives.Object e = (refl, refl, refl, e, omega (arith, places, ap as_object e))
 
       leave_steps : Step_all place leave
       leave_steps =
-          let q = place + length (emptied names) in
-          let behind = subst (λ w. Row R all table base q w (keep ++ Return ∷ [])) (emptied_ends names) (row_back R all table base place (walk leaving []) (emptied names) (keep ++ Return ∷ []) leave_row) in
-          let one = subst (λ w. Row R all table base (q + length keep) w (Return ∷ [])) (types_last R 0 0 base leaving [] keep (height 1 0 0 names) keep_typed) (row_back R all table base q (walk leaving []) keep (Return ∷ []) behind) in
-          step_then R all table place (emptied names) (keep ++ Return ∷ []) exit.0
-          (step_then R all table q keep (Return ∷ []) (takes_step R all table base q leaving [] keep (height 1 0 0 names) (keep_takes slots) keep_typed behind) ((height 1 0 0 names, one.0, (refl, refl, refl)), tt))
+          let q = place + length (emptied kept) in
+          let behind = subst (λ w. Row R all table given base q w (keep ++ last_order ∷ [])) (emptied_ends kept) (row_back R all table given base place (walk leaving []) (emptied kept) (keep ++ last_order ∷ []) leave_row) in
+          let one = subst (λ w. Row R all table given base (q + length keep) w (last_order ∷ [])) (types_last R 0 0 base leaving [] keep (height 1 0 0 names) keep_typed) (row_back R all table given base q (walk leaving []) keep (last_order ∷ []) behind) in
+          step_then R all table place (emptied kept) (keep ++ last_order ∷ []) exit.0
+          (step_then R all table q keep (last_order ∷ []) (takes_step R all table given base q leaving [] keep (height 1 0 0 names) last_order (leaving_is given) (keep_takes slots) keep_typed behind) (((height 1 0 0 names, given), one.0, last_step (q + length keep) given refl), tt))
 
       pub function_steps : Step_all place (leave ++ body)
       function_steps =
           let up : next_height R (Plain (Num (pos 0))) base ≡ leaving = heights_same _ _ _ _ (suc slots) 0 0 names (omega arith) (omega arith) (omega arith) (omega arith) in
           let q = start + length statements in
-          let jump = opens_goes R all table (q + 1) _ (Jump (At place)) tt last.2.0 last.2.1 in
+          let jump = opens_goes R all table given (q + 1) _ (Jump (At place)) tt last.2.0 last.2.1 in
           step_then R all table place leave body leave_steps
-          (step_then R all table entered declared (statements ++ end) (typed_steps R all table base entered begun [] declared base declared_typed declared_follow)
-          (step_then R all table start statements end (block_steps R all table slots names place exit_goes here no_turn false true (commands_block place none none cs) base base start [] (λ s. refl) (λ s. absurd (false≢true s)) (refl, tt, tt) statements_type statements_follow)
-          ((base, last.0, (tt, (jump.0, λ k c. inr (jump.1 k c)))), ((leaving, last.2.0 ∙ ap Some up, (0, omega arith, exit_goes)), tt))))
+          (step_then R all table entered opening (statements ++ end) (typed_steps R all table given base entered begun [] opening base opening_typed opening_follow)
+          (step_then R all table start statements end (block_steps R all table given slots names place exit_goes here no_turn false true (commands_block place none none cs) base base start [] (λ s. refl) (λ s. absurd (false≢true s)) (refl, tt, tt) statements_type statements_follow)
+          (((base, given), last.0, (tt, (jump.0, λ k c. inr (jump.1 k c)), inl jump.2)), (((leaving, given), last.2.0 ∙ ap (λ h. Some (h, given)) up, (0, omega arith, exit_goes)), tt))))
 
   -- ---- all functions
 
-  abbrev row : (base h : Height) (pc : ℕ) (xs : List Order) → Both pc (heights R base h xs) xs → Row R all table base pc (walk h []) xs
-  row base h pc xs f = row_of R all table base pc (walk h []) xs f.0 f.1
+  abbrev row : (given : Gives) (base h : Height) (pc : ℕ) (xs : List Order) → Both pc (in_function given (heights R base h xs)) xs → Row R all table given base pc (walk h []) xs
+  row given base h pc xs f = row_of R all table given base pc (walk h []) xs f.0 f.1
 
-  function_length : (place : ℕ) (g : Function) → length (function_heights R place g) ≡ length (function_orders R place g)
+  -- as many marks as orders
+  marks_length : (given : Gives) (base : Height) (w : Walk) (xs : List Order) → length (in_function given (walk_heights R base w xs)) ≡ length xs
+  marks_length given base w xs = in_length given (walk_heights R base w xs) ∙ heights_length R base w xs
+
+  abbrev g_first_height : Function → Height
+  g_first_height g = between (suc g.slots) (function_places g)
+
+  function_length : (place : ℕ) (g : Function) → length (in_function g.gives (function_heights R place g)) ≡ length (function_orders R place g)
   function_length place g =
-      let leave = leave_orders g.slots g.names in
+      let leave = leave_orders g in
       let body = body_orders R place (entry_of place g) g in
-      let base = between g.slots g.names in
-      let first = height (suc g.slots) 0 0 g.names in
+      let base = between g.slots (function_places g) in
+      let first = g_first_height g in
       let entered = height g.slots (object_parameters g) 0 0 in
       let one = heights_length R base (walk first []) leave in
       let other = heights_length R base (walk entered []) body in
       let orders = length-append leave body in
       let heights_too = length-append (heights R base first leave) (heights R base entered body) in
-      omega (arith, one, other, orders, heights_too)
+      omega (arith, one, other, orders, heights_too, in_length g.gives (function_heights R place g))
 
-  pub record Entered (entries : List ℕ) (n slots objects : ℕ) : Type 0 where
+  pub record Entered (entries : List ℕ) (n : ℕ) (f : Function) : Type 0 where
     pub at : ℕ
     pub is : slice_get entries n ≡ Some at
-    pub goes : Goes R all table at (height slots objects 0 0)
+    pub goes : Goes R all table f.gives at (height f.slots (object_parameters f) 0 0)
 
   objects_few : (a b : ℕ) → lesser a b ≤ b
   objects_few a b = by (nat_lt a b) refl
@@ -248,157 +265,201 @@ module _ (R : resolved.Program) where
       by true e = let lt = ltb-true a b e in omega (arith, lt)
       by false e = omega arith
 
+  places_same : (g : Function) → function_places g ≡ g.names + as_object g.gives
+  places_same g = places_by g.gives g.names
+
+  own_typed : (b : Bool) (slots places : ℕ) → Types R 0 0 (height slots 0 0 places) (if b then own_orders places else []) (height slots 0 0 places)
+  own_typed true slots places = own_types R 0 0 places slots places (omega arith)
+  own_typed false slots places = refl
+
+  -- a function begins with its places, and takes what it is given
+  opening_types : (g : Function) → Types R 0 0 (height g.slots (object_parameters g) 0 0) (opening_orders g) (between g.slots (function_places g))
+  opening_types g =
+      let slots = g.slots in
+      let places = function_places g in
+      let objects = object_parameters g in
+      let begun = height slots objects 0 0 in
+      let base = between slots places in
+      let all_declared = height slots objects 0 places in
+      let own = if g.owns then own_orders places else [] in
+      types_then R 0 0 begun (declare_orders places) all_declared (take_orders (owned_by g) objects ++ own) base
+      (types_same R 0 0 begun (declare_orders places) (height slots objects 0 (places + 0)) all_declared (heights_same _ _ _ _ slots objects 0 places refl refl refl (omega arith)) (declare_types R 0 0 places slots objects 0))
+      (types_then R 0 0 all_declared (take_orders (owned_by g) objects) base own base
+      (subst (λ n. Types R 0 0 (height slots n 0 places) (take_orders (owned_by g) objects) base) (omega arith) (take_types R 0 0 (owned_by g) objects slots 0 0 places (omega (arith, objects_few g.parameters (places - owned_by g)))))
+      (own_typed g.owns slots places))
+
   -- the rows of one function
-  module _ (place : ℕ) (g : Function) (here : Both place (function_heights R place g) (function_orders R place g)) where
+  module _ (place : ℕ) (g : Function) (here : Both place (in_function g.gives (function_heights R place g)) (function_orders R place g)) where
     abbrev g_leave : List Order
-    g_leave = leave_orders g.slots g.names
+    g_leave = leave_orders g
 
     abbrev g_body : List Order
     g_body = body_orders R place (entry_of place g) g
 
     abbrev g_base : Height
-    g_base = between g.slots g.names
+    g_base = between g.slots (function_places g)
 
     abbrev g_first : Height
-    g_first = height (suc g.slots) 0 0 g.names
+    g_first = g_first_height g
 
     abbrev g_entered : Height
     g_entered = height g.slots (object_parameters g) 0 0
 
-    leave_length : length (heights R g_base g_first g_leave) ≡ length g_leave
-    leave_length = heights_length R g_base (walk g_first []) g_leave
+    abbrev g_marks : Height → List Order → List (Height × Gives)
+    g_marks h xs = in_function g.gives (heights R g_base h xs)
 
-    g_leave_row : Row R all table g_base place (walk g_first []) g_leave
-    g_leave_row = row g_base g_first place g_leave (both_front place (heights R g_base g_first g_leave) (heights R g_base g_entered g_body) g_leave g_body leave_length here)
+    both : Both place (g_marks g_first g_leave ++ g_marks g_entered g_body) (g_leave ++ g_body)
+    both = subst (λ l. Both place l (g_leave ++ g_body)) (in_append g.gives (heights R g_base g_first g_leave) (heights R g_base g_entered g_body)) here
 
-    g_body_row : Row R all table g_base (entry_of place g) (walk g_entered []) g_body
-    g_body_row = row g_base g_entered (entry_of place g) g_body (both_back place (heights R g_base g_first g_leave) (heights R g_base g_entered g_body) g_leave g_body leave_length here)
+    leave_length : length (g_marks g_first g_leave) ≡ length g_leave
+    leave_length = marks_length g.gives g_base (walk g_first []) g_leave
 
-    g_goes : Goes_to (entry_of place g) g_entered
-    g_goes = entry_goes place g.slots g.names (object_parameters g) (objects_few g.parameters g.names) g.body g_leave_row g_body_row
+    g_leave_row : Row R all table g.gives g_base place (walk g_first []) g_leave
+    g_leave_row = row g.gives g_base g_first place g_leave (both_front place (g_marks g_first g_leave) (g_marks g_entered g_body) g_leave g_body leave_length both)
+
+    g_body_row : Row R all table g.gives g_base (entry_of place g) (walk g_entered []) g_body
+    g_body_row = row g.gives g_base g_entered (entry_of place g) g_body (both_back place (g_marks g_first g_leave) (g_marks g_entered g_body) g_leave g_body leave_length both)
+
+    g_goes : Goes_to g.gives (entry_of place g) g_entered
+    g_goes = entry_goes place g.slots (function_places g) g.names (object_parameters g) g.gives (opening_orders g) (opening_types g) (places_same g) g.body g_leave_row g_body_row
 
     g_steps : Step_all place (function_orders R place g)
-    g_steps = function_steps place g.slots g.names (object_parameters g) (objects_few g.parameters g.names) g.body g_leave_row g_body_row
+    g_steps = function_steps place g.slots (function_places g) g.names (object_parameters g) g.gives (opening_orders g) (opening_types g) (places_same g) g.body g_leave_row g_body_row
 
-  functions_begin : (fs : List Function) (place n : ℕ) (f : Function) → Both place (functions_heights R place fs) (functions_orders R place fs) → slice_get fs n ≡ Some f → Entered (entries_from R place fs) n f.slots (object_parameters f)
+  functions_begin : (fs : List Function) (place n : ℕ) (f : Function) → Both place (functions_marks R place fs) (functions_orders R place fs) → slice_get fs n ≡ Some f → Entered (entries_from R place fs) n f
   functions_begin [] place n f has e = cc
   functions_begin (g ∷ fs) place zero f has e =
       let same : g ≡ f = cc in
       let xs = function_orders R place g in
-      let here = both_front place (function_heights R place g) (functions_heights R (place + length xs) fs) xs _ (function_length place g) has in
-      record { at = entry_of place g; is = refl; goes = subst (λ (h : Function). Goes_to (entry_of place g) (height h.slots (object_parameters h) 0 0)) same (g_goes place g here) }
+      let here = both_front place (in_function g.gives (function_heights R place g)) (functions_marks R (place + length xs) fs) xs _ (function_length place g) has in
+      record { at = entry_of place g; is = refl; goes = subst (λ (h : Function). Goes_to h.gives (entry_of place g) (height h.slots (object_parameters h) 0 0)) same (g_goes place g here) }
   functions_begin (g ∷ fs) place (suc n) f has e =
       let xs = function_orders R place g in
-      let there = functions_begin fs (place + length xs) n f (both_back place (function_heights R place g) (functions_heights R (place + length xs) fs) xs _ (function_length place g) has) e in
+      let there = functions_begin fs (place + length xs) n f (both_back place (in_function g.gives (function_heights R place g)) (functions_marks R (place + length xs) fs) xs _ (function_length place g) has) e in
       record { at = there.at; is = there.is; goes = there.goes }
 
-  functions_step : (fs : List Function) (place : ℕ) → Both place (functions_heights R place fs) (functions_orders R place fs) → Step_all place (functions_orders R place fs)
+  functions_step : (fs : List Function) (place : ℕ) → Both place (functions_marks R place fs) (functions_orders R place fs) → Step_all place (functions_orders R place fs)
   functions_step [] place has = tt
   functions_step (g ∷ fs) place has =
       let xs = function_orders R place g in
-      let rest = functions_heights R (place + length xs) fs in
-      step_then R all table place xs (functions_orders R (place + length xs) fs) (g_steps place g (both_front place (function_heights R place g) rest xs _ (function_length place g) has))
-      (functions_step fs (place + length xs) (both_back place (function_heights R place g) rest xs _ (function_length place g) has))
+      let marks = in_function g.gives (function_heights R place g) in
+      let rest = functions_marks R (place + length xs) fs in
+      step_then R all table place xs (functions_orders R (place + length xs) fs) (g_steps place g (both_front place marks rest xs _ (function_length place g) has))
+      (functions_step fs (place + length xs) (both_back place marks rest xs _ (function_length place g) has))
 
-  functions_length : (fs : List Function) (place : ℕ) → length (functions_heights R place fs) ≡ length (functions_orders R place fs)
+  functions_length : (fs : List Function) (place : ℕ) → length (functions_marks R place fs) ≡ length (functions_orders R place fs)
   functions_length [] place = refl
   functions_length (g ∷ fs) place =
       let xs = function_orders R place g in
-      omega (arith, length-append (function_heights R place g) (functions_heights R (place + length xs) fs), length-append xs (functions_orders R (place + length xs) fs), function_length place g, functions_length fs (place + length xs))
+      omega (arith, length-append (in_function g.gives (function_heights R place g)) (functions_marks R (place + length xs) fs), length-append xs (functions_orders R (place + length xs) fs), function_length place g, functions_length fs (place + length xs))
 
   -- ---- stubs
 
   abbrev zeroed : Height
   zeroed = height 0 0 0 0
 
-  abbrev stub : (values objects f : ℕ) → List Order
-  stub values objects f = stub_orders R (entries_of R) values objects f
+  abbrev stub : (wanted : Gives) → (values objects f : ℕ) → List Order
+  stub wanted values objects f = stub_orders R (entries_of R) wanted values objects f
 
-  stub_length : (values objects f : ℕ) → length (stub_heights R (entries_of R) values objects f) ≡ length (stub values objects f)
-  stub_length values objects f = heights_length R zeroed (walk (height values objects 0 0) []) (stub values objects f)
+  abbrev stub_marks : (wanted : Gives) → (values objects f : ℕ) → List (Height × Gives)
+  stub_marks wanted values objects f = in_function wanted (stub_heights R (entries_of R) wanted values objects f)
 
-  fit_typed : (values objects f : ℕ) → Types R 0 0 (height values objects 0 0) (passing_orders R f values objects) (height (slots_of R f) (parameters_of R f) 0 0)
-  fit_typed values objects f =
-      subst (λ h. Types R 0 0 h (passing_orders R f values objects) (height (slots_of R f) (parameters_of R f) 0 0)) (heights_same (values + 0) (objects + 0) 0 0 values objects 0 0 (omega arith) (omega arith) refl refl)
-      (types_same R 0 0 (height (values + 0) (objects + 0) 0 0) (passing_orders R f values objects) (height (slots_of R f + 0) (parameters_of R f + 0) 0 0) (height (slots_of R f) (parameters_of R f) 0 0)
-      (heights_same (slots_of R f + 0) (parameters_of R f + 0) 0 0 (slots_of R f) (parameters_of R f) 0 0 (omega arith) (omega arith) refl refl) (passing_types R 0 0 f values objects 0 0 0 0))
+  stub_length : (wanted : Gives) (values objects f : ℕ) → length (stub_marks wanted values objects f) ≡ length (stub wanted values objects f)
+  stub_length wanted values objects f = marks_length wanted zeroed (walk (height values objects 0 0) []) (stub wanted values objects f)
 
-  module _ (values objects f place : ℕ) (has : Both place (stub_heights R (entries_of R) values objects f) (stub values objects f)) where
+  fit_typed : (wanted : Gives) (values objects f : ℕ) → Types R 0 0 (height values objects 0 0) (passing_orders R wanted f values objects) (height (slots_of R wanted f) (parameters_of R wanted f) 0 0)
+  fit_typed wanted values objects f =
+      let slots = slots_of R wanted f in
+      let parameters = parameters_of R wanted f in
+      subst (λ h. Types R 0 0 h (passing_orders R wanted f values objects) (height slots parameters 0 0)) (heights_same (values + 0) (objects + 0) 0 0 values objects 0 0 (omega arith) (omega arith) refl refl)
+      (types_same R 0 0 (height (values + 0) (objects + 0) 0 0) (passing_orders R wanted f values objects) (height (slots + 0) (parameters + 0) 0 0) (height slots parameters 0 0)
+      (heights_same (slots + 0) (parameters + 0) 0 0 slots parameters 0 0 (omega arith) (omega arith) refl refl) (passing_types R 0 0 wanted f values objects 0 0 0 0))
+
+  module _ (wanted : Gives) (values objects f place : ℕ) (has : Both place (stub_marks wanted values objects f) (stub wanted values objects f)) where
     abbrev fit : List Order
-    fit = passing_orders R f values objects
+    fit = passing_orders R wanted f values objects
 
     abbrev begin : Height
     begin = height values objects 0 0
 
     abbrev ready : Height
-    ready = height (slots_of R f) (parameters_of R f) 0 0
+    ready = height (slots_of R wanted f) (parameters_of R wanted f) 0 0
 
     abbrev to : ℕ
-    to = slice_index_or (entries_of R) (number_of R f) 0
+    to = slice_index_or (entries_of R) (number_of R wanted f) 0
 
-    stub_row : Row R all table zeroed place (walk begin []) (stub values objects f)
-    stub_row = row zeroed begin place (stub values objects f) has
+    stub_row : Row R all table wanted zeroed place (walk begin []) (stub wanted values objects f)
+    stub_row = row wanted zeroed begin place (stub wanted values objects f) has
 
-    stub_last : Row R all table zeroed (place + length fit) (walk ready []) (Jump (At to) ∷ [])
-    stub_last = subst (λ w. Row R all table zeroed (place + length fit) w (Jump (At to) ∷ [])) (types_last R 0 0 zeroed begin [] fit ready (fit_typed values objects f)) (row_back R all table zeroed place (walk begin []) fit (Jump (At to) ∷ []) stub_row)
+    stub_last : Row R all table wanted zeroed (place + length fit) (walk ready []) (Jump (At to) ∷ [])
+    stub_last = subst (λ w. Row R all table wanted zeroed (place + length fit) w (Jump (At to) ∷ [])) (types_last R 0 0 zeroed begin [] fit ready (fit_typed wanted values objects f)) (row_back R all table wanted zeroed place (walk begin []) fit (Jump (At to) ∷ []) stub_row)
 
-    stub_follows : Follows R all table zeroed place (walk begin []) fit
-    stub_follows = row_front R all table zeroed place (walk begin []) fit (Jump (At to) ∷ []) (subst (λ w. Goes_to (place + length fit) w.height) (sym (types_last R 0 0 zeroed begin [] fit ready (fit_typed values objects f))) (opens_goes R all table (place + length fit) ready (Jump (At to)) tt stub_last.0 stub_last.1)) stub_row
+    stub_follows : Follows R all table wanted zeroed place (walk begin []) fit
+    stub_follows = row_front R all table wanted zeroed place (walk begin []) fit (Jump (At to) ∷ []) (subst (λ w. Goes_to wanted (place + length fit) w.height) (sym (types_last R 0 0 zeroed begin [] fit ready (fit_typed wanted values objects f))) (opens_goes R all table wanted (place + length fit) ready (Jump (At to)) tt stub_last.0 stub_last.1)) stub_row
 
-    pub stub_goes : Goes_to place begin
-    stub_goes = goes_here R all table zeroed place (walk begin []) fit (types_ordinary R begin fit ready (fit_typed values objects f)) stub_follows
+    pub stub_goes : Goes_to wanted place begin
+    stub_goes = goes_here R all table wanted zeroed place (walk begin []) fit (types_ordinary R begin fit ready (fit_typed wanted values objects f)) stub_follows
 
-    stub_steps : Goes_to to ready → Step_all place (stub values objects f)
-    stub_steps goes = step_then R all table place fit (Jump (At to) ∷ []) (typed_steps R all table zeroed place begin [] fit ready (fit_typed values objects f) stub_follows) ((ready, stub_last.0, (0, omega arith, goes)), tt)
+    stub_steps : Goes_to wanted to ready → Step_all place (stub wanted values objects f)
+    stub_steps goes = step_then R all table place fit (Jump (At to) ∷ []) (typed_steps R all table wanted zeroed place begin [] fit ready (fit_typed wanted values objects f) stub_follows) (((ready, wanted), stub_last.0, (0, omega arith, goes)), tt)
 
-  methods_length : (ms : List Method) → length (methods_heights R (entries_of R) ms) ≡ length (methods_orders R (entries_of R) ms)
+  abbrev method_marks : Method → List (Height × Gives)
+  method_marks m = stub_marks m.gives (passes m.sign m.takes) m.objects m.runs
+
+  abbrev method_stub : Method → List Order
+  method_stub m = stub m.gives (passes m.sign m.takes) m.objects m.runs
+
+  method_length : (m : Method) → length (method_marks m) ≡ length (method_stub m)
+  method_length m = stub_length m.gives (passes m.sign m.takes) m.objects m.runs
+
+  methods_length : (ms : List Method) → length (methods_marks R (entries_of R) ms) ≡ length (methods_orders R (entries_of R) ms)
   methods_length [] = refl
-  methods_length (m ∷ others) =
-      let n = passes m.sign m.takes in
-      omega (arith, length-append (stub_heights R (entries_of R) n m.objects m.runs) (methods_heights R (entries_of R) others), length-append (stub n m.objects m.runs) (methods_orders R (entries_of R) others), stub_length n m.objects m.runs, methods_length others)
+  methods_length (m ∷ others) = omega (arith, length-append (method_marks m) (methods_marks R (entries_of R) others), length-append (method_stub m) (methods_orders R (entries_of R) others), method_length m, methods_length others)
 
-  dealloc_length : (d : Option ℕ) → length (dealloc_heights R (entries_of R) d) ≡ length (dealloc_orders R (entries_of R) d)
+  abbrev dealloc_marks : Option ℕ → List (Height × Gives)
+  dealloc_marks d = in_function gives.Number (dealloc_heights R (entries_of R) d)
+
+  dealloc_length : (d : Option ℕ) → length (dealloc_marks d) ≡ length (dealloc_orders R (entries_of R) d)
   dealloc_length None = refl
-  dealloc_length (Some f) = stub_length 0 0 f
+  dealloc_length (Some f) = stub_length gives.Number 0 0 f
 
-  class_length : (c : Class) → length (class_heights R (entries_of R) c) ≡ length (class_orders R (entries_of R) c)
-  class_length c = omega (arith, length-append (dealloc_heights R (entries_of R) c.dealloc) (methods_heights R (entries_of R) c.methods), length-append (dealloc_orders R (entries_of R) c.dealloc) (methods_orders R (entries_of R) c.methods), dealloc_length c.dealloc, methods_length c.methods)
+  class_length : (c : Class) → length (class_marks R (entries_of R) c) ≡ length (class_orders R (entries_of R) c)
+  class_length c = omega (arith, length-append (dealloc_marks c.dealloc) (methods_marks R (entries_of R) c.methods), length-append (dealloc_orders R (entries_of R) c.dealloc) (methods_orders R (entries_of R) c.methods), dealloc_length c.dealloc, methods_length c.methods)
 
   -- the stubs of a class, and those of the classes behind it
   abbrev Methods : ℕ → List Method → Type 0
-  Methods place ms = Both place (methods_heights R (entries_of R) ms) (methods_orders R (entries_of R) ms)
+  Methods place ms = Both place (methods_marks R (entries_of R) ms) (methods_orders R (entries_of R) ms)
 
   abbrev Classes : ℕ → List Class → Type 0
-  Classes place cs = Both place (classes_heights R (entries_of R) cs) (classes_orders R (entries_of R) cs)
+  Classes place cs = Both place (classes_marks R (entries_of R) cs) (classes_orders R (entries_of R) cs)
 
-  first_method : (place : ℕ) (m : Method) (others : List Method) → Methods place (m ∷ others) → Both place (stub_heights R (entries_of R) (passes m.sign m.takes) m.objects m.runs) (stub (passes m.sign m.takes) m.objects m.runs)
-  first_method place m others has = both_front place _ (methods_heights R (entries_of R) others) _ _ (stub_length (passes m.sign m.takes) m.objects m.runs) has
+  first_method : (place : ℕ) (m : Method) (others : List Method) → Methods place (m ∷ others) → Both place (method_marks m) (method_stub m)
+  first_method place m others has = both_front place (method_marks m) (methods_marks R (entries_of R) others) _ _ (method_length m) has
 
-  other_methods : (place : ℕ) (m : Method) (others : List Method) → Methods place (m ∷ others) → Methods (place + length (stub (passes m.sign m.takes) m.objects m.runs)) others
-  other_methods place m others has = both_back place (stub_heights R (entries_of R) (passes m.sign m.takes) m.objects m.runs) _ (stub (passes m.sign m.takes) m.objects m.runs) _ (stub_length (passes m.sign m.takes) m.objects m.runs) has
+  other_methods : (place : ℕ) (m : Method) (others : List Method) → Methods place (m ∷ others) → Methods (place + length (method_stub m)) others
+  other_methods place m others has = both_back place (method_marks m) _ (method_stub m) _ (method_length m) has
 
-  first_class : (place : ℕ) (c : Class) (others : List Class) → Classes place (c ∷ others) → Both place (class_heights R (entries_of R) c) (class_orders R (entries_of R) c)
-  first_class place c others has = both_front place _ (classes_heights R (entries_of R) others) _ _ (class_length c) has
+  first_class : (place : ℕ) (c : Class) (others : List Class) → Classes place (c ∷ others) → Both place (class_marks R (entries_of R) c) (class_orders R (entries_of R) c)
+  first_class place c others has = both_front place (class_marks R (entries_of R) c) (classes_marks R (entries_of R) others) _ _ (class_length c) has
 
   other_classes : (place : ℕ) (c : Class) (others : List Class) → Classes place (c ∷ others) → Classes (place + length (class_orders R (entries_of R) c)) others
-  other_classes place c others has = both_back place (class_heights R (entries_of R) c) _ (class_orders R (entries_of R) c) _ (class_length c) has
+  other_classes place c others has = both_back place (class_marks R (entries_of R) c) _ (class_orders R (entries_of R) c) _ (class_length c) has
 
-  class_dealloc : (place : ℕ) (c : Class) → Both place (class_heights R (entries_of R) c) (class_orders R (entries_of R) c) → Both place (dealloc_heights R (entries_of R) c.dealloc) (dealloc_orders R (entries_of R) c.dealloc)
-  class_dealloc place c has = both_front place _ (methods_heights R (entries_of R) c.methods) _ _ (dealloc_length c.dealloc) has
+  class_dealloc : (place : ℕ) (c : Class) → Both place (class_marks R (entries_of R) c) (class_orders R (entries_of R) c) → Both place (dealloc_marks c.dealloc) (dealloc_orders R (entries_of R) c.dealloc)
+  class_dealloc place c has = both_front place (dealloc_marks c.dealloc) (methods_marks R (entries_of R) c.methods) _ _ (dealloc_length c.dealloc) has
 
-  class_methods : (place : ℕ) (c : Class) → Both place (class_heights R (entries_of R) c) (class_orders R (entries_of R) c) → Methods (place + length (dealloc_orders R (entries_of R) c.dealloc)) c.methods
-  class_methods place c has = both_back place (dealloc_heights R (entries_of R) c.dealloc) _ (dealloc_orders R (entries_of R) c.dealloc) _ (dealloc_length c.dealloc) has
+  class_methods : (place : ℕ) (c : Class) → Both place (class_marks R (entries_of R) c) (class_orders R (entries_of R) c) → Methods (place + length (dealloc_orders R (entries_of R) c.dealloc)) c.methods
+  class_methods place c has = both_back place (dealloc_marks c.dealloc) _ (dealloc_orders R (entries_of R) c.dealloc) _ (dealloc_length c.dealloc) has
 
-  module _ (target : (f : ℕ) → Goes_to (slice_index_or (entries_of R) (number_of R f) 0) (height (slots_of R f) (parameters_of R f) 0 0)) where
+  module _ (target : (wanted : Gives) (f : ℕ) → Goes_to wanted (slice_index_or (entries_of R) (number_of R wanted f) 0) (height (slots_of R wanted f) (parameters_of R wanted f) 0 0)) where
     methods_step : (ms : List Method) (place : ℕ) → Methods place ms → Step_all place (methods_orders R (entries_of R) ms)
     methods_step [] place has = tt
     methods_step (m ∷ others) place has =
-        let n = passes m.sign m.takes in
-        step_then R all table place (stub n m.objects m.runs) (methods_orders R (entries_of R) others) (stub_steps n m.objects m.runs place (first_method place m others has) (target m.runs)) (methods_step others (place + length (stub n m.objects m.runs)) (other_methods place m others has))
+        step_then R all table place (method_stub m) (methods_orders R (entries_of R) others) (stub_steps m.gives (passes m.sign m.takes) m.objects m.runs place (first_method place m others has) (target m.gives m.runs)) (methods_step others (place + length (method_stub m)) (other_methods place m others has))
 
-    dealloc_steps : (d : Option ℕ) (place : ℕ) → Both place (dealloc_heights R (entries_of R) d) (dealloc_orders R (entries_of R) d) → Step_all place (dealloc_orders R (entries_of R) d)
+    dealloc_steps : (d : Option ℕ) (place : ℕ) → Both place (dealloc_marks d) (dealloc_orders R (entries_of R) d) → Step_all place (dealloc_orders R (entries_of R) d)
     dealloc_steps None place has = tt
-    dealloc_steps (Some f) place has = stub_steps 0 0 f place has (target f)
+    dealloc_steps (Some f) place has = stub_steps gives.Number 0 0 f place has (target gives.Number f)
 
     classes_step : (cs : List Class) (place : ℕ) → Classes place cs → Step_all place (classes_orders R (entries_of R) cs)
     classes_step [] place has = tt
@@ -411,37 +472,41 @@ module _ (R : resolved.Program) where
 
   -- ---- what messages and ends of objects find
 
-  found_goes : (ms : List Method) (place : ℕ) → Methods place ms → (sign : Sign) (selector takes objects to : ℕ) → found sign selector takes objects (linked_methods R (entries_of R) place ms) ≡ Some to → Goes_to to (height (passes sign takes) objects 0 0)
-  found_goes [] place has sign selector takes objects to e = cc
-  found_goes (m ∷ others) place has sign selector takes objects to e =
-      by (found_goes others (place + length (stub (passes m.sign m.takes) m.objects m.runs)) (other_methods place m others has) sign selector takes objects to)
-      (stub_goes (passes m.sign m.takes) m.objects m.runs place (first_method place m others has)) (answers sign selector takes objects m) refl e
+  found_goes : (ms : List Method) (place : ℕ) → Methods place ms → (sign : Sign) (selector takes objects : ℕ) (wanted : Gives) (to : ℕ) → found sign selector takes objects wanted (linked_methods R (entries_of R) place ms) ≡ Some to → Goes_to wanted to (height (passes sign takes) objects 0 0)
+  found_goes [] place has sign selector takes objects wanted to e = cc
+  found_goes (m ∷ others) place has sign selector takes objects wanted to e =
+      by (found_goes others (place + length (method_stub m)) (other_methods place m others has) sign selector takes objects wanted to)
+      (stub_goes m.gives (passes m.sign m.takes) m.objects m.runs place (first_method place m others has)) (answers sign selector takes objects wanted m) refl e
     where
-      by : (found sign selector takes objects (linked_methods R (entries_of R) (place + length (stub (passes m.sign m.takes) m.objects m.runs)) others) ≡ Some to → Goes_to to (height (passes sign takes) objects 0 0)) → Goes_to place (height (passes m.sign m.takes) m.objects 0 0) → (t : Bool) → answers sign selector takes objects m ≡ t
-          → (if t then Some place else found sign selector takes objects (linked_methods R (entries_of R) (place + length (stub (passes m.sign m.takes) m.objects m.runs)) others)) ≡ Some to → Goes_to to (height (passes sign takes) objects 0 0)
-      by rest here true is e = subst (λ n. Goes_to n (height (passes sign takes) objects 0 0)) (some_same place to e) (let same = passes_same sign selector takes objects m is in subst (λ n. Goes_to place (height (passes sign takes) n 0 0)) same.1 (subst (λ n. Goes_to place (height n m.objects 0 0)) same.0 here))
+      by : (found sign selector takes objects wanted (linked_methods R (entries_of R) (place + length (method_stub m)) others) ≡ Some to → Goes_to wanted to (height (passes sign takes) objects 0 0)) → Goes_to m.gives place (height (passes m.sign m.takes) m.objects 0 0) → (t : Bool) → answers sign selector takes objects wanted m ≡ t
+          → (if t then Some place else found sign selector takes objects wanted (linked_methods R (entries_of R) (place + length (method_stub m)) others)) ≡ Some to → Goes_to wanted to (height (passes sign takes) objects 0 0)
+      by rest here true is e =
+          let same = answers_as sign selector takes objects wanted m is in
+          subst (λ n. Goes_to wanted n (height (passes sign takes) objects 0 0)) (some_same place to e)
+          (subst (λ g. Goes_to g place (height (passes sign takes) objects 0 0)) same.same
+          (subst (λ n. Goes_to m.gives place (height (passes sign takes) n 0 0)) same.references (subst (λ n. Goes_to m.gives place (height n m.objects 0 0)) same.numbers here)))
       by rest here false is e = rest e
 
   -- the classes of a program, with their stubs
   record Finds (d : Class) : Type 0 where
-    methods : (sign : Sign) (selector takes objects to : ℕ) → found sign selector takes objects d.methods ≡ Some to → Goes R all table to (height (passes sign takes) objects 0 0)
-    dealloc : (to : ℕ) → d.dealloc ≡ Some to → Goes R all table to (height 0 0 0 0)
+    methods : (sign : Sign) (selector takes objects : ℕ) (wanted : Gives) (to : ℕ) → found sign selector takes objects wanted d.methods ≡ Some to → Goes R all table wanted to (height (passes sign takes) objects 0 0)
+    dealloc : (to : ℕ) → d.dealloc ≡ Some to → Goes R all table gives.Number to (height 0 0 0 0)
 
-  stub_found : (d : Option ℕ) (place to : ℕ) → Both place (dealloc_heights R (entries_of R) d) (dealloc_orders R (entries_of R) d) → linked_dealloc place d ≡ Some to → Goes_to to zeroed
+  stub_found : (d : Option ℕ) (place to : ℕ) → Both place (dealloc_marks d) (dealloc_orders R (entries_of R) d) → linked_dealloc place d ≡ Some to → Goes_to gives.Number to zeroed
   stub_found None place to has e = cc
-  stub_found (Some f) place to has e = subst (λ n. Goes_to n zeroed) (some_same place to e) (stub_goes 0 0 f place has)
+  stub_found (Some f) place to has e = subst (λ n. Goes_to gives.Number n zeroed) (some_same place to e) (stub_goes gives.Number 0 0 f place has)
 
   class_finds : (cs : List Class) (place i : ℕ) (d : Class) → Classes place cs → slice_get (linked_classes R (entries_of R) place cs) i ≡ Some d → Finds d
   class_finds [] place i d has e = cc
   class_finds (c ∷ others) place zero d has e =
       let here = first_class place c others has in
       let q = place + length (dealloc_orders R (entries_of R) c.dealloc) in
-      subst Finds (some_same _ d e) (record { methods = λ sign selector takes objects to e. found_goes c.methods q (class_methods place c here) sign selector takes objects to e; dealloc = λ to e. stub_found c.dealloc place to (class_dealloc place c here) e })
+      subst Finds (some_same _ d e) (record { methods = λ sign selector takes objects wanted to e. found_goes c.methods q (class_methods place c here) sign selector takes objects wanted to e; dealloc = λ to e. stub_found c.dealloc place to (class_dealloc place c here) e })
   class_finds (c ∷ others) place (suc i) d has e = class_finds others (place + length (class_orders R (entries_of R) c)) i d (other_classes place c others has) e
 
-  own_goes : (o : Option Class) → ((d : Class) → o ≡ Some d → Finds d) → (sign : Sign) (selector takes objects to : ℕ) → found sign selector takes objects (own_methods o) ≡ Some to → Goes_to to (height (passes sign takes) objects 0 0)
-  own_goes None finds sign selector takes objects to e = cc
-  own_goes (Some d) finds sign selector takes objects to e = (finds d refl).methods sign selector takes objects to e
+  own_goes : (o : Option Class) → ((d : Class) → o ≡ Some d → Finds d) → (sign : Sign) (selector takes objects : ℕ) (wanted : Gives) (to : ℕ) → found sign selector takes objects wanted (own_methods o) ≡ Some to → Goes_to wanted to (height (passes sign takes) objects 0 0)
+  own_goes None finds sign selector takes objects wanted to e = cc
+  own_goes (Some d) finds sign selector takes objects wanted to e = (finds d refl).methods sign selector takes objects wanted to e
 
   first_of : (Q : Type 0) (go : ℕ → Option ℕ) (to : ℕ) → ((c : ℕ) → go c ≡ Some to → Q) → (cs : List ℕ) → first_that_has go cs ≡ Some to → Q
   first_of Q go to one [] e = cc
@@ -453,30 +518,30 @@ module _ (R : resolved.Program) where
 
   -- ---- the program
 
-  abbrev first : List Height
-  first = start_heights R
+  abbrev first : List (Height × Gives)
+  first = in_function gives.Number (start_heights R)
 
-  abbrev functions : List Height
-  functions = functions_heights R (length (start_orders R)) (all_functions R)
+  abbrev functions : List (Height × Gives)
+  functions = functions_marks R (length (start_orders R)) (all_functions R)
 
   abbrev function_list : List Order
   function_list = functions_orders R (length (start_orders R)) (all_functions R)
 
   start_length : length first ≡ length (start_orders R)
-  start_length = heights_length R zeroed (walk zeroed []) (start_orders R)
+  start_length = marks_length gives.Number zeroed (walk zeroed []) (start_orders R)
 
   running_length : length (first ++ functions) ≡ length (running_orders R)
   running_length = omega (arith, length-append first functions, length-append (start_orders R) function_list, start_length, functions_length (all_functions R) (length (start_orders R)))
 
-  classes_length : (cs : List Class) → length (classes_heights R (entries_of R) cs) ≡ length (classes_orders R (entries_of R) cs)
+  classes_length : (cs : List Class) → length (classes_marks R (entries_of R) cs) ≡ length (classes_orders R (entries_of R) cs)
   classes_length [] = refl
-  classes_length (c ∷ others) = omega (arith, length-append (class_heights R (entries_of R) c) (classes_heights R (entries_of R) others), length-append (class_orders R (entries_of R) c) (classes_orders R (entries_of R) others), class_length c, classes_length others)
+  classes_length (c ∷ others) = omega (arith, length-append (class_marks R (entries_of R) c) (classes_marks R (entries_of R) others), length-append (class_orders R (entries_of R) c) (classes_orders R (entries_of R) others), class_length c, classes_length others)
 
   has_all : Both 0 table all
-  has_all = (has_whole table, has_whole all, omega (arith, length-append (first ++ functions) (classes_heights R (entries_of R) R.classes), length-append (running_orders R) (classes_orders R (entries_of R) R.classes), running_length, classes_length R.classes))
+  has_all = (has_whole table, has_whole all, omega (arith, length-append (first ++ functions) (classes_marks R (entries_of R) R.classes), length-append (running_orders R) (classes_orders R (entries_of R) R.classes), running_length, classes_length R.classes))
 
   has_running : Both 0 (first ++ functions) (running_orders R)
-  has_running = both_front 0 (first ++ functions) (classes_heights R (entries_of R) R.classes) (running_orders R) (classes_orders R (entries_of R) R.classes) running_length has_all
+  has_running = both_front 0 (first ++ functions) (classes_marks R (entries_of R) R.classes) (running_orders R) (classes_orders R (entries_of R) R.classes) running_length has_all
 
   none_more : (n : ℕ) → 0 + n ≡ n
   none_more n = omega arith
@@ -488,77 +553,84 @@ module _ (R : resolved.Program) where
   has_functions = subst (λ n. Both n functions function_list) (none_more (length (start_orders R))) (both_back 0 first functions (start_orders R) function_list start_length has_running)
 
   has_stubs : Classes (length (running_orders R)) R.classes
-  has_stubs = subst (λ n. Classes n R.classes) (none_more (length (running_orders R))) (both_back 0 (first ++ functions) (classes_heights R (entries_of R) R.classes) (running_orders R) (classes_orders R (entries_of R) R.classes) running_length has_all)
+  has_stubs = subst (λ n. Classes n R.classes) (none_more (length (running_orders R))) (both_back 0 (first ++ functions) (classes_marks R (entries_of R) R.classes) (running_orders R) (classes_orders R (entries_of R) R.classes) running_length has_all)
 
   -- a function is entered with its variables
-  pub entered_at : (f : ℕ) → Entered (entries_of R) (number_of R f) (slots_of R f) (parameters_of R f)
-  entered_at f = functions_begin (all_functions R) (length (start_orders R)) (number_of R f) (function_at R f) has_functions (numbered R f)
+  pub entered_at : (wanted : Gives) (f : ℕ) → Entered (entries_of R) (number_of R wanted f) (function_at R wanted f)
+  entered_at wanted f = functions_begin (all_functions R) (length (start_orders R)) (number_of R wanted f) (function_at R wanted f) has_functions (numbered R wanted f)
 
   get_index : (list : List ℕ) (n x : ℕ) → slice_get list n ≡ Some x → slice_index_or list n 0 ≡ x
   get_index [] n x e = cc
   get_index (y ∷ list) zero x e = cc
   get_index (y ∷ list) (suc n) x e = get_index list n x e
 
-  target : (f : ℕ) → Goes_to (slice_index_or (entries_of R) (number_of R f) 0) (height (slots_of R f) (parameters_of R f) 0 0)
-  target f = let e = entered_at f in subst (λ n. Goes_to n (height (slots_of R f) (parameters_of R f) 0 0)) (sym (get_index (entries_of R) (number_of R f) e.at e.is)) e.goes
+  target : (wanted : Gives) (f : ℕ) → Goes_to wanted (slice_index_or (entries_of R) (number_of R wanted f) 0) (height (slots_of R wanted f) (parameters_of R wanted f) 0 0)
+  target wanted f =
+      let e = entered_at wanted f in
+      subst (λ n. Goes_to wanted n (height (slots_of R wanted f) (parameters_of R wanted f) 0 0)) (sym (get_index (entries_of R) (number_of R wanted f) e.at e.is))
+      (subst (λ g. Goes_to g e.at (height (slots_of R wanted f) (parameters_of R wanted f) 0 0)) (gives_wanted R wanted f) e.goes)
 
-  pub methods_go : (from : Option ℕ) (sign : Sign) (selector takes objects to : ℕ) → lookup (classes_linked R) from sign selector takes objects ≡ Some to → Goes_to to (height (passes sign takes) objects 0 0)
-  methods_go from sign selector takes objects to e =
-      first_of (Goes_to to (height (passes sign takes) objects 0 0)) (λ c. found sign selector takes objects (own_methods (slice_get (classes_linked R) c))) to (λ c f.
-      own_goes (slice_get (classes_linked R) c) (λ d is. class_finds R.classes (length (running_orders R)) c d has_stubs is) sign selector takes objects to f) (ancestry (superclasses (classes_linked R)) from) e
+  pub methods_go : (from : Option ℕ) (sign : Sign) (selector takes objects : ℕ) (wanted : Gives) (to : ℕ) → lookup (classes_linked R) from sign selector takes objects wanted ≡ Some to → Goes_to wanted to (height (passes sign takes) objects 0 0)
+  methods_go from sign selector takes objects wanted to e =
+      first_of (Goes_to wanted to (height (passes sign takes) objects 0 0)) (λ c. found sign selector takes objects wanted (own_methods (slice_get (classes_linked R) c))) to (λ c f.
+      own_goes (slice_get (classes_linked R) c) (λ d is. class_finds R.classes (length (running_orders R)) c d has_stubs is) sign selector takes objects wanted to f) (ancestry (superclasses (classes_linked R)) from) e
 
-  pub dealloc_goes : (i : ℕ) (d : Class) (to : ℕ) → slice_get (classes_linked R) i ≡ Some d → d.dealloc ≡ Some to → Goes_to to (height 0 0 0 0)
+  pub dealloc_goes : (i : ℕ) (d : Class) (to : ℕ) → slice_get (classes_linked R) i ≡ Some d → d.dealloc ≡ Some to → Goes_to gives.Number to (height 0 0 0 0)
   dealloc_goes i d to is e = (class_finds R.classes (length (running_orders R)) i d has_stubs is).dealloc to e
 
   abbrev zeros : List Order
-  zeros = passing_orders R R.main 0 0
+  zeros = passing_orders R gives.Number R.main 0 0
 
   abbrev main_ready : Height
-  main_ready = height (slots_of R R.main) (parameters_of R R.main) 0 0
+  main_ready = height (slots_of R gives.Number R.main) (parameters_of R gives.Number R.main) 0 0
+
+  abbrev main_call : Order
+  main_call = Call (number_of R gives.Number R.main) gives.Number
 
   abbrev call : List Order
-  call = Call (number_of R R.main) ∷ (Return ∷ (EndStep ∷ []))
+  call = main_call ∷ (Return ∷ (EndStep ∷ []))
 
   zeros_typed : Types R 0 0 zeroed zeros main_ready
-  zeros_typed = fit_typed 0 0 R.main
+  zeros_typed = fit_typed gives.Number 0 0 R.main
 
   -- the call comes before the end
   start_is : start_orders R ≡ zeros ++ call
-  start_is = append_assoc zeros (Call (number_of R R.main) ∷ []) (Return ∷ (EndStep ∷ []))
+  start_is = append_assoc zeros (main_call ∷ []) (Return ∷ (EndStep ∷ []))
 
-  start_row : Row R all table zeroed 0 (walk zeroed []) (zeros ++ call)
-  start_row = subst (Row R all table zeroed 0 (walk zeroed [])) start_is (row zeroed zeroed 0 (start_orders R) has_start)
+  start_row : Row R all table gives.Number zeroed 0 (walk zeroed []) (zeros ++ call)
+  start_row = subst (Row R all table gives.Number zeroed 0 (walk zeroed [])) start_is (row gives.Number zeroed zeroed 0 (start_orders R) has_start)
 
-  call_row : Row R all table zeroed (0 + length zeros) (walk main_ready []) call
-  call_row = subst (λ w. Row R all table zeroed (0 + length zeros) w call) (types_last R 0 0 zeroed zeroed [] zeros main_ready zeros_typed) (row_back R all table zeroed 0 (walk zeroed []) zeros call start_row)
+  call_row : Row R all table gives.Number zeroed (0 + length zeros) (walk main_ready []) call
+  call_row = subst (λ w. Row R all table gives.Number zeroed (0 + length zeros) w call) (types_last R 0 0 zeroed zeroed [] zeros main_ready zeros_typed) (row_back R all table gives.Number zeroed 0 (walk zeroed []) zeros call start_row)
 
-  zeros_follow : Follows R all table zeroed 0 (walk zeroed []) zeros
-  zeros_follow = row_front R all table zeroed 0 (walk zeroed []) zeros call (subst (λ w. Goes_to (0 + length zeros) w.height) (sym (types_last R 0 0 zeroed zeroed [] zeros main_ready zeros_typed)) (opens_goes R all table (0 + length zeros) main_ready (Call (number_of R R.main)) tt call_row.0 call_row.1)) start_row
+  zeros_follow : Follows R all table gives.Number zeroed 0 (walk zeroed []) zeros
+  zeros_follow = row_front R all table gives.Number zeroed 0 (walk zeroed []) zeros call (subst (λ w. Goes_to gives.Number (0 + length zeros) w.height) (sym (types_last R 0 0 zeroed zeroed [] zeros main_ready zeros_typed)) (opens_goes R all table gives.Number (0 + length zeros) main_ready main_call tt call_row.0 call_row.1)) start_row
 
-  pub start_goes : Goes_to 0 zeroed
-  start_goes = goes_here R all table zeroed 0 (walk zeroed []) zeros (types_ordinary R zeroed zeros main_ready zeros_typed) zeros_follow
+  pub start_goes : Goes_to gives.Number 0 zeroed
+  start_goes = goes_here R all table gives.Number zeroed 0 (walk zeroed []) zeros (types_ordinary R zeroed zeros main_ready zeros_typed) zeros_follow
 
   -- the order at which the ends of objects go on
   pub end_is : slice_get all (end_step_of R) ≡ Some EndStep
   end_is =
       let size = ap length start_is in
       let both = length-append zeros call in
-      let whole = length-append (call_orders R R.main 0 0) (Return ∷ (EndStep ∷ [])) in
-      let e : 0 + length zeros + 1 + 1 ≡ end_step_of R = omega (arith, call_length R R.main, size, both, whole) in
+      let whole = length-append (call_orders R gives.Number R.main 0 0) (Return ∷ (EndStep ∷ [])) in
+      let e : 0 + length zeros + 1 + 1 ≡ end_step_of R = omega (arith, call_length R gives.Number R.main, size, both, whole) in
       subst (λ n. slice_get all n ≡ Some EndStep) e call_row.2.2.1
 
   start_steps : Step_all 0 (start_orders R)
   start_steps =
       let q = 0 + length zeros in
       let rest = call_row.2 in
-      let same = slots_same R R.main in
-      let other = parameters_same R R.main in
-      let called : next_height R (Call (number_of R R.main)) main_ready ≡ height 1 0 0 0 = heights_same _ _ _ _ 1 0 0 0 (omega (arith, same)) (omega (arith, other)) (omega arith) (omega arith) in
-      let one = rest.0 ∙ ap Some called in
-      let home : Stands R all table (q + 1) (height 1 0 0 0) = record { height = one; order = Return; is = rest.1; no_end = λ same. subst IsReturn same tt } in
-      subst (Step_all 0) (sym start_is) (step_then R all table 0 zeros call (typed_steps R all table zeroed 0 zeroed [] zeros main_ready zeros_typed zeros_follow) (
-        (main_ready, call_row.0, ((omega (arith, same), number_there R R.main, omega (arith, other)), subst (Goes_to (q + 1)) (sym called) (none_goes R all table (q + 1) (height 1 0 0 0) home refl))),
-        ((height 1 0 0 0, one, (refl, refl, refl)), ((zeroed, rest.2.0, (refl, refl, refl, refl)), tt)),
+      let same = slots_same R gives.Number R.main in
+      let other = parameters_same R gives.Number R.main in
+      let called : next_height R main_call main_ready ≡ height 1 0 0 0 = heights_same _ _ _ _ 1 0 0 0 (omega (arith, same)) (omega (arith, other)) (omega arith) (omega arith) in
+      let one = rest.0 ∙ ap (λ h. Some (h, gives.Number)) called in
+      let home : Stands R all table gives.Number (q + 1) (height 1 0 0 0) = record { height = one; order = Return; is = rest.1; no_end = λ same. subst IsLeave same tt } in
+      let free = free_at R all table (q + 1) Return rest.1 (λ settles. settles) (λ message. absurd message) in
+      subst (Step_all 0) (sym start_is) (step_then R all table 0 zeros call (typed_steps R all table gives.Number zeroed 0 zeroed [] zeros main_ready zeros_typed zeros_follow) (
+        ((main_ready, gives.Number), call_row.0, ((omega (arith, same), number_there R gives.Number R.main, omega (arith, other)), subst (Goes_to gives.Number (q + 1)) (sym called) (none_goes R all table gives.Number (q + 1) (height 1 0 0 0) home refl free))),
+        (((height 1 0 0 0, gives.Number), one, (refl, refl, refl, refl)), (((zeroed, gives.Number), rest.2.0, (refl, refl, refl, refl)), tt)),
       ))
 
   program_steps : Step_all 0 (lowered R)

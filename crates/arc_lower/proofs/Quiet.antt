@@ -4,23 +4,29 @@ use Rattle.std.proofs.lemmas.Bool.{true≢false}
 use Rattle.std.specs.List.{list_any}
 use Rattle.std.proofs.lemmas.List.Folds.{list_any-append}
 use Rattle.arc_spec.specs.declared.location.Location.TheVariants.{Local, Global}
+use Rattle.arc_spec.specs.declared.class.Gives.TheVariants as gives
+use Rattle.arc_spec.specs.Classes.{same_gives}
 use Rattle.arc_spec.specs.Resolved.{Program}
 use Rattle.arc_code.specs.declared.instr.Op.TheVariants.{Nil, ReadRef, Hold}
-use Rattle.arc_code.specs.declared.instr.Instr.TheVariants.{Plain, Jump, JumpZero}
+use Rattle.arc_code.specs.declared.instr.Instr.TheVariants.{Plain, Call, Jump, JumpZero}
 use Rattle.arc_code.specs.Effects.{operation_effect}
 use Rattle.arc_ir.specs.declared.action.Target.TheVariants.{Skip, Back}
 use Rattle.arc_lower.specs.Order.{Order}
-use Rattle.arc_lower.specs.Lowered.{Entry, AtStep, AtTest, AtBody, enter_orders, Inside, Block, One, Read, Then, Fork, Loop, Full, flat, order_takes, drop_orders}
+use Rattle.arc_lower.specs.Lowered.{Entry, AtStep, AtTest, AtBody, enter_orders, Inside, Block, One, Read, Calls, Tells, Making, IfNew, Then, Fork, Loop, Full, ToClass, ToSuperClass, ToObject, ToSuper, has_new, flat, number_of, passing_orders, order_takes, drop_orders}
 
 -- whether no temporary of a block is there behind it
-abbrev pub takes_none : Block → Bool
-takes_none (One o) = not (nat_lt 0 (operation_effect o).temporaries)
-takes_none (Read i) = false
-takes_none (Then a b) = takes_none a && takes_none b
-takes_none (Fork a b) = takes_none a && takes_none b
-takes_none (Loop entry step test body) = takes_none step && (takes_none test && takes_none body)
-takes_none (Full a b) = takes_none b
-takes_none _ = true
+abbrev pub takes_none : Program → Block → Bool
+takes_none P (One o) = not (nat_lt 0 (operation_effect o).temporaries)
+takes_none P (Read i) = false
+takes_none P (Calls wanted f n m) = same_gives wanted gives.Number
+takes_none P (Tells wanted message n m) = same_gives wanted gives.Number
+takes_none P Making = false
+takes_none P (IfNew class a b) = if has_new P class then takes_none P a else takes_none P b
+takes_none P (Then a b) = takes_none P a && takes_none P b
+takes_none P (Fork a b) = takes_none P a && takes_none P b
+takes_none P (Loop entry step test body) = takes_none P step && (takes_none P test && takes_none P body)
+takes_none P (Full a b) = takes_none P b
+takes_none P _ = true
 
 pub both_true : (a b : Bool) → a ≡ true → b ≡ true → (a && b) ≡ true
 both_true true b e f = f
@@ -53,18 +59,31 @@ module _ (P : Program) (slots names : ℕ) where
   behind_enter AtTest n m xs e = e
   behind_enter AtBody n m xs e = e
 
-  pub quiet_flat : (b : Block) → none (flat P slots names Inside b) → takes_none b ≡ true
+  one_quiet : (t : Bool) (xs ys : List Order) (m n : Bool) → none (if t then xs else ys) → (none xs → m ≡ true) → (none ys → n ≡ true) → (if t then m else n) ≡ true
+  one_quiet true xs ys m n e h k = h e
+  one_quiet false xs ys m n e h k = k e
+
+  pub quiet_flat : (b : Block) → none (flat P slots names Inside b) → takes_none P b ≡ true
   quiet_flat (One o) e = ap not (or_first (nat_lt 0 (operation_effect o).temporaries) false e)
   quiet_flat (Read (Global i)) e = sym e
   quiet_flat (Read (Local i)) e = read_takes (nat_lt i names) i e
+  quiet_flat (Calls gives.Number f n m) e = refl
+  quiet_flat (Calls gives.Object f n m) e = sym (none_back (passing_orders P gives.Object f n m) (Call (number_of P gives.Object f) gives.Object ∷ []) e)
+  quiet_flat (Tells gives.Number message n m) e = refl
+  quiet_flat (Tells gives.Object (ToClass selector) n m) e = sym e
+  quiet_flat (Tells gives.Object (ToSuperClass from selector) n m) e = sym e
+  quiet_flat (Tells gives.Object (ToObject selector) n m) e = sym e
+  quiet_flat (Tells gives.Object (ToSuper from selector) n m) e = sym e
+  quiet_flat Making e = sym e
+  quiet_flat (IfNew class a b) e = one_quiet (has_new P class) (flat P slots names Inside a) (flat P slots names Inside b) (takes_none P a) (takes_none P b) e (quiet_flat a) (quiet_flat b)
   quiet_flat (Then a b) e =
       let xs = flat P slots names Inside a in
       let ys = flat P slots names Inside b in
-      both_true (takes_none a) (takes_none b) (quiet_flat a (none_front xs ys e)) (quiet_flat b (none_back xs ys e))
+      both_true (takes_none P a) (takes_none P b) (quiet_flat a (none_front xs ys e)) (quiet_flat b (none_back xs ys e))
   quiet_flat (Fork a b) e =
       let xs = flat P slots names Inside a in
       let ys = flat P slots names Inside b in
-      both_true (takes_none a) (takes_none b) (quiet_flat a (none_front xs (Jump (Skip (length ys)) ∷ ys) e)) (quiet_flat b (none_back xs (Jump (Skip (length ys)) ∷ ys) e))
+      both_true (takes_none P a) (takes_none P b) (quiet_flat a (none_front xs (Jump (Skip (length ys)) ∷ ys) e)) (quiet_flat b (none_back xs (Jump (Skip (length ys)) ∷ ys) e))
   quiet_flat (Loop entry a b c) e =
       let xs = flat P slots names Inside a in
       let ys = flat P slots names Inside b in
@@ -73,7 +92,7 @@ module _ (P : Program) (slots names : ℕ) where
       let test : Order = JumpZero (Skip (suc (length zs))) in
       let turn = behind_enter entry (length xs) (length ys) (xs ++ (ys ++ (test ∷ (zs ++ last)))) e in
       let rest = none_back xs (ys ++ (test ∷ (zs ++ last))) turn in
-      both_true (takes_none a) (takes_none b && takes_none c) (quiet_flat a (none_front xs (ys ++ (test ∷ (zs ++ last))) turn)) (both_true (takes_none b) (takes_none c) (quiet_flat b (none_front ys (test ∷ (zs ++ last)) rest)) (quiet_flat c (none_front zs last (none_back ys (test ∷ (zs ++ last)) rest))))
+      both_true (takes_none P a) (takes_none P b && takes_none P c) (quiet_flat a (none_front xs (ys ++ (test ∷ (zs ++ last))) turn)) (both_true (takes_none P b) (takes_none P c) (quiet_flat b (none_front ys (test ∷ (zs ++ last)) rest)) (quiet_flat c (none_front zs last (none_back ys (test ∷ (zs ++ last)) rest))))
   quiet_flat (Full a b) e =
       let xs = flat P slots names Inside a in
       let ys = flat P slots names Inside b in

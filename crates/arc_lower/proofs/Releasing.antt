@@ -7,12 +7,12 @@ use Rattle.arc_spec.specs.declared.location.Location.TheVariants.{Local, Global}
 use Rattle.arc_spec.specs.Objects.{Object, Dying, object_at, with_object, in_phase, with_strong_fields, is_live, names, field_places}
 use Rattle.arc_spec.specs.World as world
 use Rattle.arc_spec.specs.World.{World, Outcome, Done, finished, Finished, then_do, places, stacked, with_temporaries, with_strong, stores, name_at}
-use Rattle.arc_spec.specs.Meaning.{Deeper, released, field_stores, temporaries_dropped, all_dropped, assigned, variables_dropped}
+use Rattle.arc_spec.specs.Meaning.{Deeper, released, field_stores, temporaries_dropped, second_dropped, all_dropped, assigned, variables_dropped}
 use Rattle.arc_spec.specs.Holding.{Held, Frame, holders, is_there, on_object, on_named, with_things, with_variables, with_strong_globals, with_strong_field, on_place, raised, lowered}
 use Rattle.arc_spec.specs.Stepping.{Next, Reached, on_found, only_if, follow}
 use Rattle.arc_code.specs.Instructions as instructions
 use Rattle.arc_ir.specs.Acting.{Program, State, keeps, has_level, begins_end, releases}
-use Rattle.arc_code.specs.declared.instr.Instr.TheVariants.{DropAll, Empty}
+use Rattle.arc_code.specs.declared.instr.Instr.TheVariants.{DropAll, Settle, Empty}
 use Rattle.arc_lower.specs.Order.{Order}
 use Rattle.arc_lower.specs.Lowered.{empty_orders, all_empty_orders}
 use Rattle.arc_lower.proofs.CountsPlaces.{tally, one_more_if, one_less_if, tally_same, holders_head, holders_append, holders_set, last_one}
@@ -131,6 +131,13 @@ dropped_count r k rest e =
     let one : tally (suc k) r ≡ 1 = ap (tally (suc k)) e ∙ tally_same (suc k) in
     omega (arith, holders_head (suc k) r rest, one)
 
+-- the count of what the temporary before the last one named that is dropped
+settled_count : (x r k : ℕ) (ts : List ℕ) (w : World) → w.frame.temporaries ≡ x ∷ r ∷ ts → r ≡ suc k → holders (suc k) (places w) ≡ suc (holders (suc k) (places (with_temporaries w (x ∷ ts))))
+settled_count x r k ts w these e =
+    let one : tally (suc k) r ≡ 1 = ap (tally (suc k)) e ∙ tally_same (suc k) in
+    let all : holders (suc k) w.frame.temporaries ≡ holders (suc k) (x ∷ r ∷ ts) = ap (holders (suc k)) these in
+    omega (arith, parts_holders (suc k) w, parts_holders (suc k) (with_temporaries w (x ∷ ts)), all, holders_head (suc k) x (r ∷ ts), holders_head (suc k) r ts, holders_head (suc k) x ts, one)
+
 -- once what was dropped is counted no more, the counts are those of the rest
 less_count : (c : ℕ → ℕ) (r j : ℕ) (rest : List ℕ) → c (suc j) ≡ holders (suc j) (r ∷ rest) → (if nat_eq (suc j) r then c (suc j) - 1 else c (suc j)) ≡ holders (suc j) rest
 less_count c r j rest e = omega (arith, one_less_if (nat_eq (suc j) r) (c (suc j)), e, holders_head (suc j) r rest)
@@ -228,6 +235,16 @@ module _ (p : Program) (frames : List Frame) (bound : ℕ) (rs : List ℕ) (D : 
   -- all temporaries
   pub dropped_runs : (stack : List ℤ) (w : World) (pc : ℕ) → HasAt p pc (DropAll ∷ []) → Runs (moves p) bound (running frames rs pc stack w) (stays stack (pc + 1) (with_temporaries w [])) (all_dropped D w)
   dropped_runs stack w pc has = met_again w.frame.temporaries stack pc w has (drops_run w.frame.temporaries stack pc has) refl
+
+  -- the temporary before the last one
+  pub settled_runs : (x r : ℕ) (ts : List ℕ) (stack : List ℤ) (w : World) (pc : ℕ) → w.frame.temporaries ≡ x ∷ r ∷ ts → HasAt p pc (Settle ∷ []) → Runs (moves p) bound (running frames rs pc stack w) (stays stack (pc + 1) (with_temporaries w (x ∷ ts))) (second_dropped D w.frame.temporaries w)
+  settled_runs x r ts stack w pc these has =
+      let w1 = with_temporaries w (x ∷ ts) in
+      let s = at frames pc stack (held_of rs w) in
+      let end = stays stack (pc + 1) w1 in
+      one_runs p frames bound rs Settle pc stack w end (second_dropped D w.frame.temporaries w) has
+      (subst (λ l. Runs (moves p) bound (follow (recount (instructions.settles (bare p) s l)) w.input w.trace) end (second_dropped D l w)) (sym these)
+      (release_runs r (held_of rs w).counts (held_of rs w) stack w1 pc (λ k e. settled_count x r k ts w these e)))
 
   -- ---- variables
 

@@ -2,6 +2,7 @@
 use Rattle.std.proofs.Common.{◌≡◌, ℕ, zero, suc, ◌+◌, ◌-◌, ◌/◌, ◌<◌, arith, pos, List, [], ◌∷◌, ◌++◌, length, take, drop, length-drop, length-append, append_assoc, refl, ap, ◌∙◌, add-one}
 use Rattle.arc_check.specs.declared.checked.CheckedFunction.{CheckedFunction}
 use Rattle.arc_check.specs.Checked.{functions}
+use Rattle.arc_spec.specs.declared.class.Gives.{Gives}
 use Rattle.arc_spec.specs.Resolved.{Program}
 use Rattle.arc_code.specs.declared.instr.Op.TheVariants.{Num, Pop, Declare, Forget, Nil}
 use Rattle.arc_code.specs.declared.instr.Instr.TheVariants.{Plain, PrintText, Call, StoreStrong}
@@ -49,9 +50,12 @@ nils_snoc (suc n) = ap (λ l. Plain Nil ∷ l) (nils_snoc n)
 pub nils_more : (n : ℕ) → nil_orders (n + 1) ≡ nil_orders n ++ Plain Nil ∷ []
 nils_more n = rw add-one (nils_snoc n)
 
-pub takes_more : (n : ℕ) → 0 < n → take_orders n ≡ StoreStrong (n - 1) ∷ Plain Forget ∷ take_orders (n - 1)
-takes_more zero lt = absurd (omega (arith, lt))
-takes_more (suc n) lt = let e : n ≡ suc n - 1 = omega arith in ap (λ m. StoreStrong m ∷ Plain Forget ∷ take_orders m) e
+pub takes_more : (first count passed : ℕ) → passed < count → take_orders first (count - passed) ≡ StoreStrong (first + (count - 1 - passed)) ∷ Plain Forget ∷ take_orders first (count - (passed + 1))
+takes_more first count passed lt =
+    let left = count - (passed + 1) in
+    let e : count - passed ≡ suc left = omega (arith, lt) in
+    let f : left ≡ count - 1 - passed = omega arith in
+    ap (take_orders first) e ∙ ap (λ n. StoreStrong (first + n) ∷ Plain Forget ∷ take_orders first left) f
 
 -- two actions more behind others
 pub two_more : (old middle last left : List Order) (a b : Order) → middle ≡ old ++ a ∷ [] → last ≡ middle ++ b ∷ [] → last ++ left ≡ old ++ a ∷ b ∷ left
@@ -82,17 +86,17 @@ pub pops_length : (n : ℕ) → length (pop_orders n) ≡ n
 pops_length zero = refl
 pops_length (suc n) = ap suc (pops_length n)
 
-fits_from_nothing : (slots parameters number : ℕ) → length ((fit_orders 0 slots ++ fit_object_orders 0 parameters) ++ Call number ∷ []) ≡ slots + parameters + 1
-fits_from_nothing slots parameters number =
-    let whole = length-append (fit_orders 0 slots ++ fit_object_orders 0 parameters) (Call number ∷ []) in
+fits_from_nothing : (slots parameters number : ℕ) (wanted : Gives) → length ((fit_orders 0 slots ++ fit_object_orders 0 parameters) ++ Call number wanted ∷ []) ≡ slots + parameters + 1
+fits_from_nothing slots parameters number wanted =
+    let whole = length-append (fit_orders 0 slots ++ fit_object_orders 0 parameters) (Call number wanted ∷ []) in
     let both = length-append (fit_orders 0 slots) (fit_object_orders 0 parameters) in
     let numbers = length-append (pop_orders (0 - slots)) (zero_orders (slots - 0)) in
     let objects = length-append (forget_orders (0 - parameters)) (nil_orders (parameters - 0)) in
     omega (arith, whole, both, numbers, objects, pops_length (0 - slots), zeros_length (slots - 0), forgets_length (0 - parameters), nils_length (parameters - 0))
 
 -- how many actions a call is that passes nothing
-pub call_length : (P : Program) (f : ℕ) → length (call_orders P f 0 0) ≡ slots_of P f + parameters_of P f + 1
-call_length P f = fits_from_nothing (slots_of P f) (parameters_of P f) (number_of P f)
+pub call_length : (P : Program) (wanted : Gives) (f : ℕ) → length (call_orders P wanted f 0 0) ≡ slots_of P wanted f + parameters_of P wanted f + 1
+call_length P wanted f = fits_from_nothing (slots_of P wanted f) (parameters_of P wanted f) (number_of P wanted f) wanted
 
 pub functions_length : (all : List CheckedFunction) → length (functions all) ≡ length all
 functions_length [] = refl

@@ -1,20 +1,22 @@
 -- Steps do what blocks mean.
-use Rattle.std.proofs.Common.{◌≡◌, ℕ, zero, suc, ◌+◌, ◌-◌, ◌≤◌, ◌<◌, ℤ, pos, Bool, true, false, not, ◌&&◌, nat_eq, nat_lt, if◌then◌else◌, ◌⊎◌, inl, inr, List, [], ◌∷◌, ◌++◌, length, take, drop, Option, Some, None, slice_get, slice_set, refl, sym, ap, ◌∙◌, subst, arith, length-append}
+use Rattle.std.proofs.Common.{◌≡◌, ℕ, zero, suc, ◌+◌, ◌-◌, ◌≤◌, ◌<◌, ℤ, pos, Bool, true, false, not, ◌&&◌, is_some, nat_eq, nat_lt, if◌then◌else◌, ◌⊎◌, inl, inr, List, [], ◌∷◌, ◌++◌, length, take, drop, Option, Some, None, slice_get, slice_set, refl, sym, ap, ◌∙◌, subst, arith, length-append}
 use Rattle.std.proofs.lemmas.Bool.{ltb-true, ltb-false, eqb-true, and_parts, false≢true}
 use Rattle.std.proofs.lemmas.List.{length-set, get_or_past, set_past}
 use Rattle.arc_ast.specs.declared.tree.Sign.{Sign}
 use Rattle.arc_ast.specs.declared.tree.Sign.TheVariants as signs
 use Rattle.arc_spec.specs.declared.event.Fault.TheVariants.{Unrecognized, FieldClass, Resurrected}
-use Rattle.arc_spec.specs.Classes.{class_at, lookup, descends, strong_count}
+use Rattle.arc_spec.specs.declared.class.Gives.{Gives}
+use Rattle.arc_spec.specs.declared.class.Gives.TheVariants as gives
+use Rattle.arc_spec.specs.Classes.{class_at, lookup, same_gives, new_selector, init_selector, is_root_init, descends, strong_count}
 use Rattle.arc_spec.specs.Number.{converted, applied, combined, byte_or_end, is_zero}
 use Rattle.arc_spec.specs.Objects.{Object, object_at, with_object, with_fields, with_strong_fields, is_emptying, new_object}
 use Rattle.arc_spec.specs.Resolved as resolved
 use Rattle.arc_spec.specs.declared.location.Location.{Location}
 use Rattle.arc_spec.specs.declared.location.Location.TheVariants.{Local, Global}
 use Rattle.arc_spec.specs.Resolved.{Piece}
-use Rattle.arc_spec.specs.Meaning.{Deeper, held_at, holds, chosen, temporaries_dropped, released, and_number, field_stores, dispatched, finds, runs_found, class_in, sent_from, next_object, field_count, made, in_object, difference, formatted, byte_count, or_fault, assigned, all_dropped, variables_dropped}
+use Rattle.arc_spec.specs.Meaning.{Deeper, held_at, holds, chosen, temporaries_dropped, released, and_number, field_stores, dispatched, finds, gives_object, runs_found, class_in, sent, sent_from, object_given, next_object, field_count, made, made_new, second_dropped, result_place, in_object, difference, formatted, byte_count, or_fault, assigned, all_dropped, variables_dropped}
 use Rattle.arc_spec.specs.World as world
-use Rattle.arc_spec.specs.World.{World, Outcome, Done, Faulted, Cut, Finished, finished, then_do, Given, prints, next_number, after_next, has_read, with_locals, with_objects, with_temporaries, local_at, name_at, named_at, first_locals, first_names, with_strong_globals, takes, stores}
+use Rattle.arc_spec.specs.World.{World, Outcome, Done, Faulted, Cut, Finished, finished, then_do, Given, nothing_given, prints, next_number, after_next, has_read, with_locals, with_objects, with_temporaries, local_at, name_at, named_at, first_locals, first_names, with_strong_globals, takes, stores}
 use Rattle.arc_spec.specs.Holding.{Held, Frame, is_there, on_field, count_of, with_field, with_names, with_strong_field, on_place, lets_go, named, raised, with_variables}
 use Rattle.arc_spec.specs.Stepping.{Next, Goes, Faults, Reached, follow, fed, on_found}
 use Rattle.arc_ir.specs.declared.action.Target.{Target}
@@ -23,52 +25,62 @@ use Rattle.arc_ir.specs.Acting.{Program, State, lands, onward, goes, keeps, answ
 use Rattle.arc_ir.specs.Acting as acting
 use Rattle.arc_code.specs.Instructions as instructions
 use Rattle.arc_code.specs.declared.instr.Op.{Op}
-use Rattle.arc_code.specs.declared.instr.Op.TheVariants.{Num, Bin, Un, Narrow, Pop, Get, Set, GetChar, Nil, ReadSelf, ReadRef, ReadGlobal, ReadField, Hold, Forget, Alloc, GetField, SetField, Differ, IsObject}
+use Rattle.arc_code.specs.declared.instr.Op.TheVariants.{Num, Bin, Un, Narrow, Pop, Get, Set, GetChar, Nil, ReadSelf, ReadRef, ReadGlobal, ReadField, Hold, Forget, Alloc, Finds, GetField, SetField, Differ, IsObject}
 use Rattle.arc_code.specs.declared.instr.Op.TheVariants as ops
-use Rattle.arc_code.specs.declared.instr.Instr.TheVariants.{Plain, Jump, JumpZero, Call, StoreStrong, StoreGlobal, StoreField, DropAll}
+use Rattle.arc_code.specs.declared.instr.Instr.TheVariants.{Plain, Jump, JumpZero, Call, SendTo, StoreStrong, StoreGlobal, StoreField, DropAll, Settle}
 use Rattle.arc_code.specs.Effects.{passes}
 use Rattle.arc_lower.specs.Order.{Order}
 use Rattle.arc_lower.specs.declared.frame.Turn.{Turn}
-use Rattle.arc_lower.specs.Lowered.{Message, ToClass, ToSuperClass, ToObject, ToSuper, message_order, Block, Idle, One, Load, Store, Read, Assign, AssignField, Clear, Format, Calls, Tells, Then, Fork, Loop, Quit, Advance, Full, Leave, Entry, AtStep, AtTest, AtBody, enter_orders, enter_size, no_turn, Spot, Inside, Between, past, turn_at, body_spot, flat, print_orders, get_orders, set_orders, read_orders, store_orders, all_empty_orders, order_takes, forget_orders, passing_orders, number_of, slots_of, parameters_of, call_orders}
+use Rattle.arc_lower.specs.Lowered.{Message, ToClass, ToSuperClass, ToObject, ToSuper, message_order, Block, Idle, One, Load, Store, Read, Assign, AssignField, Clear, Format, Calls, Tells, Making, IfNew, Answer, Then, Fork, Loop, Quit, Advance, Full, Leave, making_orders, has_new, Entry, AtStep, AtTest, AtBody, enter_orders, enter_size, no_turn, Spot, Inside, Between, past, turn_at, body_spot, flat, print_orders, get_orders, set_orders, read_orders, store_orders, all_empty_orders, order_takes, forget_orders, passing_orders, number_of, slots_of, parameters_of, call_orders}
 use Rattle.std.specs.List.{list_any}
 use Rattle.arc_lower.proofs.Leading.{Leads, leads_same, leads_trans, leads_step, Runs, leads_runs, later_runs, fewer_runs, ends_here, then_runs}
 use Rattle.arc_lower.proofs.Recounting.{fresh, recount, moves, at, held_of}
-use Rattle.arc_lower.proofs.Doing.{does, HasAt, has_front, has_back}
+use Rattle.arc_lower.proofs.Doing.{bare, does, HasAt, has_front, has_back}
 use Rattle.arc_lower.proofs.Segments.{running, one_runs, quiet, quiet_runs, Passes, then_passes, one_passes, no_passes}
 use Rattle.arc_lower.proofs.Stacking.{onto, Peels, peels_onto, drop_onto, without_below, get_onto, get_local, set_local, get_below, set_below}
 use Rattle.arc_lower.proofs.Printing.{print_passes}
 use Rattle.arc_lower.proofs.Fitting.{forgets_shift, passing_leads}
-use Rattle.arc_lower.proofs.Releasing.{Kept, Ends, Stays, object_runs, there_runs, place_runs, named_runs, global_runs, strong_field_runs, emptied, empties, get_front, dropped_runs, no_variable, changes_runs, empties_run}
-use Rattle.arc_lower.proofs.Shaping.{Operands, push, name, Way, On, Out, Quits, Turns, Lost, left_by, on_way, and_then, only_on, after_turn, on_test, top_of, values_of, objects_of, on_given, pushes, passes_by, operation, told, block_turns, loop_entered, block}
+use Rattle.arc_lower.proofs.Releasing.{Kept, kept_same, Ends, Stays, object_runs, there_runs, place_runs, named_runs, global_runs, strong_field_runs, emptied, empties, get_front, dropped_runs, settled_runs, no_variable, changes_runs, empties_run}
+use Rattle.arc_lower.proofs.Shaping.{Operands, push, name, Way, On, Out, Quits, Turns, Lost, left_by, on_way, and_then, only_on, after_turn, on_test, top_of, values_of, objects_of, on_given, pushes, answers_left, passes_by, operation, told, block_turns, loop_entered, block}
 use Rattle.arc_lower.proofs.Quiet.{takes_none, quiet_flat}
 
--- behind a call, with its value on top
-abbrev pub behind_call : (frames : List Frame) (rs : List ℕ) (pc : ℕ) (stack : List ℤ) → ℤ → World → Reached State
-behind_call frames rs pc stack v w = running frames rs (pc + 1) (v ∷ stack) w
+-- behind a call, with its number on top, or with its object, which the last reference names and the last temporary
+abbrev pub behind_call : (wanted : Gives) (frames : List Frame) (rs : List ℕ) (pc : ℕ) (stack : List ℤ) → world.Answer → World → Reached State
+behind_call gives.Number frames rs pc stack a w = running frames rs (pc + 1) (a.number ∷ stack) w
+behind_call gives.Object frames rs pc stack a w = running frames (a.object ∷ rs) (pc + 1) stack (takes a.object w)
 
-abbrev pub Returns : (frames : List Frame) (rs : List ℕ) (pc : ℕ) (stack : List ℤ) → World → ℤ → World → Reached State → Type 0
-Returns frames rs pc stack before v w to = (to ≡ behind_call frames rs pc stack v w) × Kept before w
+abbrev pub Returns : (wanted : Gives) (frames : List Frame) (rs : List ℕ) (pc : ℕ) (stack : List ℤ) → World → world.Answer → World → Reached State → Type 0
+Returns wanted frames rs pc stack before a w to = (to ≡ behind_call wanted frames rs pc stack a w) × Kept before w
 
 -- what a message does by what it has found
-abbrev pub answered : Deeper → Option ℕ → (self : ℕ) → Given → World → Outcome ℤ
-answered D None self given w = Faulted Unrecognized w
-answered D (Some f) self given w = D.call f self given w
+abbrev pub answered : Deeper → (wanted : Gives) → Option ℕ → (self : ℕ) → Given → World → Outcome world.Answer
+answered D wanted None self given w = Faulted Unrecognized w
+answered D wanted (Some f) self given w = D.call wanted f self given w
 
-dispatched_answers : (D : Deeper) (found : Option ℕ) (class : ℤ) (given : Given) (w : World) → answered D found 0 (and_number class given) w ≡ dispatched D found class given w
-dispatched_answers D None class given w = refl
-dispatched_answers D (Some f) class given w = refl
+dispatched_answers : (D : Deeper) (wanted : Gives) (found : Option ℕ) (class : ℤ) (given : Given) (w : World) → answered D wanted found 0 (and_number class given) w ≡ dispatched D wanted found class given w
+dispatched_answers D wanted None class given w = refl
+dispatched_answers D wanted (Some f) class given w = refl
 
-found_answers : (D : Deeper) (found : Option ℕ) (self : ℕ) (given : Given) (w : World) → answered D found self given w ≡ runs_found D found self given w
-found_answers D None self given w = refl
-found_answers D (Some f) self given w = refl
+-- what follows an object that is given
+object_then : {B : Type 0} (o : Outcome world.Answer) (go : ℕ → World → Outcome B) → then_do o (λ a w. go a.object (takes a.object w)) ≡ then_do (object_given o) go
+object_then (Done a w) go = refl
+object_then (Faulted f w) go = refl
+object_then (Cut w) go = refl
+
+-- nothing lies on others
+onto_none : {A : Type 0} (values rest : List A) → length values ≡ 0 → onto values rest ≡ rest
+onto_none [] rest e = refl
+onto_none (v ∷ values) rest e = absurd (omega (arith, e))
 
 -- calls of functions, messages and ends of objects do what is meant, and classes are as they are meant
 pub record Deep (p : Program) (frames : List Frame) (bound : ℕ) (R : resolved.Program) (D : Deeper) : Type 0 where
-  pub invokes : (f : ℕ) (given : Given) (stack : List ℤ) (rs : List ℕ) (w : World) (pc : ℕ) → HasAt p pc (Call (number_of R f) ∷ [])
-      → Runs (moves p) bound (running frames (onto (first_names (parameters_of R f) given.objects) rs) pc (onto (first_locals (slots_of R f) given.numbers) stack) w) (Returns frames rs pc stack w) (D.call f 0 given w)
-  pub tells : (sign : Sign) (from : Option ℕ) (selector arguments objects self : ℕ) (given : Given) (stack : List ℤ) (rs : List ℕ) (w : World) (pc : ℕ) → length given.numbers ≡ passes sign arguments → length given.objects ≡ objects
-      → Runs (moves p) bound (follow (recount (answers (at frames pc (onto given.numbers stack) (held_of (onto given.objects rs) w)) self (lookup p.classes from sign selector arguments objects))) w.input w.trace) (Returns frames rs pc stack w) (answered D (lookup D.classes from sign selector arguments objects) self given w)
+  pub invokes : (wanted : Gives) (f : ℕ) (given : Given) (stack : List ℤ) (rs : List ℕ) (w : World) (pc : ℕ) → HasAt p pc (Call (number_of R wanted f) wanted ∷ [])
+      → Runs (moves p) bound (running frames (onto (first_names (parameters_of R wanted f) given.objects) rs) pc (onto (first_locals (slots_of R wanted f) given.numbers) stack) w) (Returns wanted frames rs pc stack w) (D.call wanted f 0 given w)
+  pub tells : (sign : Sign) (from : Option ℕ) (selector arguments objects : ℕ) (wanted : Gives) (self : ℕ) (given : Given) (stack : List ℤ) (rs : List ℕ) (w : World) (pc : ℕ) → length given.numbers ≡ passes sign arguments → length given.objects ≡ objects
+      → Runs (moves p) bound (follow (recount (answers (at frames pc (onto given.numbers stack) (held_of (onto given.objects rs) w)) self (lookup p.classes from sign selector arguments objects wanted))) w.input w.trace) (Returns wanted frames rs pc stack w) (answered D wanted (lookup D.classes from sign selector arguments objects wanted) self given w)
   pub ends : Ends p frames bound D
+  pub same_found : (from : Option ℕ) (sign : Sign) (selector arguments objects : ℕ) (wanted : Gives) → is_some (lookup p.classes from sign selector arguments objects wanted) ≡ is_some (lookup D.classes from sign selector arguments objects wanted)
+  pub same_classes : D.classes ≡ R.classes
   pub same_descent : (from : Option ℕ) (other : ℕ) → descends p.classes from other ≡ descends D.classes from other
   pub same_fields : (class : ℕ) → count_of (slice_get p.classes class) ≡ field_count (slice_get D.classes class)
   pub same_strong : (class : ℕ) → strong_count (slice_get p.classes class) ≡ strong_count (slice_get D.classes class)
@@ -162,10 +174,15 @@ module _ (p : Program) (frames : List Frame) (bound : ℕ) (R : resolved.Program
   taken_good : (calm : Bool) (r : ℕ) (w : World) → (calm ≡ true → false ≡ true) → Good calm w → Good calm (takes r w)
   taken_good calm r w free g = (record { locals = g.0.locals; strong = g.0.strong; itself = g.0.itself; waits = g.0.waits }, λ e. absurd (false≢true (free e)))
 
-  -- what was called or sent leaves its value above the operands
-  returned : (turn : Turn) (calm : Bool) (pc : ℕ) (s : Operands) (w : World) (from : Reached State) (o : Outcome ℤ) → Good calm w → Runs (moves p) bound from (Returns frames s.names pc (s.numbers ++ vars w) w) o → Goes_on turn calm from (pc + 1) (pushes s o)
-  returned turn calm pc s w from o g h = then_runs (moves p) bound from (Returns frames s.names pc (s.numbers ++ vars w) w) (Leaves turn calm (pc + 1)) o (λ v w1. Done (On (push v s)) w1) h (λ v w1 to m.
-      ends_here (moves p) bound to (Leaves turn calm (pc + 1)) (On (push v s)) w1 (m.0 ∙ kept_standing (pc + 1) (push v s) w w1 m.1, kept_good calm w w1 g m.1))
+  -- what was called or sent leaves its number above the operands, or its object, which a temporary takes
+  returned : (turn : Turn) (calm : Bool) (wanted : Gives) (pc : ℕ) (s : Operands) (w : World) (from : Reached State) (o : Outcome world.Answer) → (calm ≡ true → same_gives wanted gives.Number ≡ true) → Good calm w → Runs (moves p) bound from (Returns wanted frames s.names pc (s.numbers ++ vars w) w) o → Goes_on turn calm from (pc + 1) (answers_left wanted s o)
+  returned turn calm gives.Number pc s w from o free g h = then_runs (moves p) bound from (Returns gives.Number frames s.names pc (s.numbers ++ vars w) w) (Leaves turn calm (pc + 1)) o (λ a w1. Done (On (push a.number s)) w1) h (λ a w1 to m.
+      ends_here (moves p) bound to (Leaves turn calm (pc + 1)) (On (push a.number s)) w1 (m.0 ∙ kept_standing (pc + 1) (push a.number s) w w1 m.1, kept_good calm w w1 g m.1))
+  returned turn calm gives.Object pc s w from o free g h = then_runs (moves p) bound from (Returns gives.Object frames s.names pc (s.numbers ++ vars w) w) (Leaves turn calm (pc + 1)) o (λ a w1. Done (On (name a.object s)) (takes a.object w1)) h (λ a w1 to m.
+      ends_here (moves p) bound to (Leaves turn calm (pc + 1)) (On (name a.object s)) (takes a.object w1) (
+        m.0 ∙ ap (λ (f : world.Frame). running frames (a.object ∷ s.names) (pc + 1) (s.numbers ++ onto f.locals below) (takes a.object w1)) (sym m.1.frame),
+        taken_good calm a.object w1 free (kept_good calm w w1 g m.1),
+      ))
 
   -- what drops places leaves the operands as they were
   stayed : (turn : Turn) (calm : Bool) (pc q : ℕ) (s : Operands) (w before : World) (from : Reached State) (o : Outcome Finished) → before.frame.locals ≡ w.frame.locals → Good calm before → Runs (moves p) bound from (Stays frames s.names (s.numbers ++ vars w) q before) o → q ≡ pc → Goes_on turn calm from pc (passes_by s o)
@@ -214,7 +231,7 @@ module _ (p : Program) (frames : List Frame) (bound : ℕ) (R : resolved.Program
       subst (λ f. Goes_on turn calm (next_of (if descends p.classes (Some o.class) class then next o else Faults FieldClass) w) pc (left_by way (in_object D class f go w))) (sym found)
       (subst (λ b. Goes_on turn calm (next_of (if b then next o else Faults FieldClass) w) pc (left_by way (in_object D class (Some o) go w))) (sym (deep.same_descent (Some o.class) class)) (by_descent turn calm (descends D.classes (Some o.class) class) pc way w (next o) (go o) (h k o refl found there))))
 
-  operation_runs : (turn : Turn) (calm : Bool) (o : Op) (pc : ℕ) (numbers : List ℤ) (rs : List ℕ) (w : World) → (calm ≡ true → takes_none (One o) ≡ true) → Good calm w → Goes_on turn calm (next_of (does p (Plain o) (state pc (record { numbers = numbers; names = rs }) w)) w) (pc + 1) (operation D o (record { numbers = numbers; names = rs }) w)
+  operation_runs : (turn : Turn) (calm : Bool) (o : Op) (pc : ℕ) (numbers : List ℤ) (rs : List ℕ) (w : World) → (calm ≡ true → takes_none R (One o) ≡ true) → Good calm w → Goes_on turn calm (next_of (does p (Plain o) (state pc (record { numbers = numbers; names = rs }) w)) w) (pc + 1) (operation D o (record { numbers = numbers; names = rs }) w)
   operation_runs turn calm (Num n) pc numbers rs w free g = quietly turn calm (pc + 1) (push n (record { numbers = numbers; names = rs })) w g
   operation_runs turn calm (Bin operator kind) pc [] rs w free g = lost turn calm _ (pc + 1) w
   operation_runs turn calm (Bin operator kind) pc (y ∷ []) rs w free g = lost turn calm _ (pc + 1) w
@@ -249,6 +266,11 @@ module _ (p : Program) (frames : List Frame) (bound : ℕ) (R : resolved.Program
   operation_runs turn calm Forget pc numbers (r ∷ rs) w free g = quietly turn calm (pc + 1) (record { numbers = numbers; names = rs }) w g
   operation_runs turn calm Alloc pc [] rs w free g = lost turn calm _ (pc + 1) w
   operation_runs turn calm Alloc pc (v ∷ numbers) rs w free g = making turn calm (class_at v) pc v (record { numbers = numbers; names = rs }) w free g
+  operation_runs turn calm (Finds selector) pc [] rs w free g = lost turn calm _ (pc + 1) w
+  operation_runs turn calm (Finds selector) pc (v ∷ numbers) rs w free g =
+      let there : Bool → Operands = λ b. record { numbers = instructions.one_if b ∷ v ∷ numbers; names = rs } in
+      let found = is_some (lookup p.classes (class_at v) signs.Class selector 0 0 gives.Object) in
+      subst (λ b. Goes_on turn calm (follow (Goes (state (pc + 1) (there found) w) []) w.input w.trace) (pc + 1) (Done (On (there b)) w)) (deep.same_found (class_at v) signs.Class selector 0 0 gives.Object) (quietly turn calm (pc + 1) (there found) w g)
   operation_runs turn calm (GetField class index) pc numbers [] w free g = lost turn calm _ (pc + 1) w
   operation_runs turn calm (GetField class index) pc numbers (r ∷ rs) w free g =
       let s : Operands = record { numbers = numbers; names = rs } in
@@ -381,55 +403,98 @@ module _ (p : Program) (frames : List Frame) (bound : ℕ) (R : resolved.Program
       (leads_runs (moves p) bound (running frames s.names middle stack w) (standing q s1 w1) (Leaves turn calm q) (Done (On s1) w1) printed
       (here turn calm q s1 w1 (record { locals = g.0.locals; strong = g.0.strong; itself = g.0.itself; waits = g.0.waits }, g.1))))
 
-  calls_run : (turn : Turn) (calm : Bool) (f pc n m : ℕ) (given : Given) (s : Operands) (w : World) → length given.numbers ≡ n → length given.objects ≡ m → Good calm w → HasAt p pc (call_orders R f n m)
-      → Goes_on turn calm (running frames (onto given.objects s.names) pc (onto given.numbers (s.numbers ++ vars w)) w) (pc + length (call_orders R f n m)) (pushes s (D.call f 0 given w))
-  calls_run turn calm f pc n m given s w e1 e2 g has =
+  calls_run : (turn : Turn) (calm : Bool) (wanted : Gives) (f pc n m : ℕ) (given : Given) (s : Operands) (w : World) → length given.numbers ≡ n → length given.objects ≡ m → (calm ≡ true → same_gives wanted gives.Number ≡ true) → Good calm w → HasAt p pc (call_orders R wanted f n m)
+      → Goes_on turn calm (running frames (onto given.objects s.names) pc (onto given.numbers (s.numbers ++ vars w)) w) (pc + length (call_orders R wanted f n m)) (answers_left wanted s (D.call wanted f 0 given w))
+  calls_run turn calm wanted f pc n m given s w e1 e2 free g has =
       let stack = s.numbers ++ vars w in
-      let fits = passing_orders R f n m in
-      let call : List Order = Call (number_of R f) ∷ [] in
+      let fits = passing_orders R wanted f n m in
+      let call : List Order = Call (number_of R wanted f) wanted ∷ [] in
       let q = pc + length fits in
       let e : q + 1 ≡ pc + length (fits ++ call) = omega (arith, length-append fits call) in
       let start = running frames (onto given.objects s.names) pc (onto given.numbers stack) w in
-      let from = running frames (onto (first_names (parameters_of R f) given.objects) s.names) q (onto (first_locals (slots_of R f) given.numbers) stack) w in
-      subst (λ k. Goes_on turn calm start k (pushes s (D.call f 0 given w))) e
-      (leads_runs (moves p) bound start from (Leaves turn calm (q + 1)) (pushes s (D.call f 0 given w)) (passing_leads p frames (slots_of R f) (parameters_of R f) n m given stack s.names w pc e1 e2 (has_front p pc fits call has))
-      (returned turn calm q s w from (D.call f 0 given w) g (deep.invokes f given stack s.names w q (has_back p pc fits call has))))
+      let from = running frames (onto (first_names (parameters_of R wanted f) given.objects) s.names) q (onto (first_locals (slots_of R wanted f) given.numbers) stack) w in
+      let meant = answers_left wanted s (D.call wanted f 0 given w) in
+      subst (λ k. Goes_on turn calm start k meant) e
+      (leads_runs (moves p) bound start from (Leaves turn calm (q + 1)) meant (passing_leads p frames (slots_of R wanted f) (parameters_of R wanted f) n m given stack s.names w pc e1 e2 (has_front p pc fits call has))
+      (returned turn calm wanted q s w from (D.call wanted f 0 given w) free g (deep.invokes wanted f given stack s.names w q (has_back p pc fits call has))))
 
   -- ---- messages
 
-  to_class : (turn : Turn) (calm : Bool) (from : Option ℕ) (class : ℤ) (selector pc : ℕ) (given : Given) (s : Operands) (w : World) (next : Next State) → Good calm w
-      → next ≡ answers (at frames pc (onto given.numbers (class ∷ (s.numbers ++ vars w))) (held_of (onto given.objects s.names) w)) 0 (lookup p.classes from signs.Class selector (length given.numbers) (length given.objects))
-      → Goes_on turn calm (next_of next w) (pc + 1) (pushes s (dispatched D (finds D from signs.Class selector given) class given w))
-  to_class turn calm from class selector pc given s w next g e =
-      let found = lookup D.classes from signs.Class selector (length given.numbers) (length given.objects) in
-      subst (λ n. Goes_on turn calm (next_of n w) (pc + 1) (pushes s (dispatched D found class given w))) (sym e)
-      (subst (λ o. Goes_on turn calm (next_of (answers (at frames pc (onto given.numbers (class ∷ (s.numbers ++ vars w))) (held_of (onto given.objects s.names) w)) 0 (lookup p.classes from signs.Class selector (length given.numbers) (length given.objects))) w) (pc + 1) (pushes s o)) (dispatched_answers D found class given w)
-      (returned turn calm pc s w _ (answered D found 0 (and_number class given) w) g (deep.tells signs.Class from selector (length given.numbers) (length given.objects) 0 (and_number class given) (s.numbers ++ vars w) s.names w pc refl refl)))
+  -- what gets a message, and its arguments, are taken, and it comes back behind it
+  abbrev Comes_back : (wanted : Gives) (pc : ℕ) (stack : List ℤ) (rs : List ℕ) (w : World) → Next State → Outcome world.Answer → Type 0
+  Comes_back wanted pc stack rs w next o = Runs (moves p) bound (next_of next w) (Returns wanted frames rs pc stack w) o
 
-  nil_runs : (turn : Turn) (calm : Bool) (pc : ℕ) (given : Given) (before : List ℕ) (s : Operands) (w : World) → Good calm w
-      → Goes_on turn calm (next_of (taken (length given.numbers) (onto given.numbers (s.numbers ++ vars w)) (λ rest. keeps (at frames pc (onto given.numbers (s.numbers ++ vars w)) (held_of before w)) (pos 0 ∷ rest) (with_names (held_of before w) (drop (length given.objects) (onto given.objects s.names))))) w) (pc + 1) (Done (On (push (pos 0) s)) w)
-  nil_runs turn calm pc given before s w g =
+  to_class : (wanted : Gives) (from : Option ℕ) (class : ℤ) (selector pc : ℕ) (given : Given) (stack : List ℤ) (rs : List ℕ) (w : World) (next : Next State)
+      → next ≡ answers (at frames pc (onto given.numbers (class ∷ stack)) (held_of (onto given.objects rs) w)) 0 (lookup p.classes from signs.Class selector (length given.numbers) (length given.objects) wanted)
+      → Comes_back wanted pc stack rs w next (dispatched D wanted (finds D wanted from signs.Class selector given) class given w)
+  to_class wanted from class selector pc given stack rs w next e =
+      let found = lookup D.classes from signs.Class selector (length given.numbers) (length given.objects) wanted in
+      let stands = lookup p.classes from signs.Class selector (length given.numbers) (length given.objects) wanted in
+      subst (λ n. Comes_back wanted pc stack rs w n (dispatched D wanted found class given w)) (sym e)
+      (subst (λ o. Comes_back wanted pc stack rs w (answers (at frames pc (onto given.numbers (class ∷ stack)) (held_of (onto given.objects rs) w)) 0 stands) o) (dispatched_answers D wanted found class given w)
+      (deep.tells signs.Class from selector (length given.numbers) (length given.objects) wanted 0 (and_number class given) stack rs w pc refl refl))
+
+  -- what is wanted is given without a call
+  at_once_runs : (wanted : Gives) (object pc : ℕ) (all : List ℤ) (before : List ℕ) (stack : List ℤ) (rs : List ℕ) (w : World)
+      → Comes_back wanted pc stack rs w (instructions.gives_at_once (bare p) (at frames pc all (held_of before w)) wanted object stack rs) (Done (gives_object object) w)
+  at_once_runs gives.Number object pc all before stack rs w =
+      let end = Returns gives.Number frames rs pc stack w in
+      quiet_runs p frames bound rs (pc + 1) (pos 0 ∷ stack) w end (Done (gives_object object) w) (ends_here (moves p) bound (running frames rs (pc + 1) (pos 0 ∷ stack) w) end (gives_object object) w (refl, kept_same w))
+  at_once_runs gives.Object object pc all before stack rs w =
+      let end = Returns gives.Object frames rs pc stack w in
+      let o = Done (gives_object object) w in
+      named_runs p bound w.input w.trace end o object (held_of (object ∷ rs) w) _
+      (quiet_runs p frames bound (object ∷ rs) (pc + 1) stack (takes object w) end o (ends_here (moves p) bound (running frames (object ∷ rs) (pc + 1) stack (takes object w)) end (gives_object object) w (refl, kept_same w)))
+
+  nil_runs : (wanted : Gives) (pc : ℕ) (given : Given) (before : List ℕ) (stack : List ℤ) (rs : List ℕ) (w : World)
+      → Comes_back wanted pc stack rs w (taken (length given.numbers) (onto given.numbers stack) (λ rest. instructions.gives_at_once (bare p) (at frames pc (onto given.numbers stack) (held_of before w)) wanted 0 rest (drop (length given.objects) (onto given.objects rs)))) (Done (gives_object 0) w)
+  nil_runs wanted pc given before stack rs w =
       let values = given.numbers in
-      let stack = onto values (s.numbers ++ vars w) in
-      let go : List ℕ → List ℤ → Next State = λ left rest. keeps (at frames pc stack (held_of before w)) (pos 0 ∷ rest) (with_names (held_of before w) left) in
-      subst (λ l. Goes_on turn calm (next_of (taken (length values) stack (go l)) w) (pc + 1) (Done (On (push (pos 0) s)) w)) (sym (drop_onto given.objects s.names))
-      (subst (λ n. Goes_on turn calm (next_of n w) (pc + 1) (Done (On (push (pos 0) s)) w)) (sym (taken_peels (length values) stack (s.numbers ++ vars w) (go s.names) (peels_onto values (s.numbers ++ vars w)))) (quietly turn calm (pc + 1) (push (pos 0) s) w g))
+      let all = onto values stack in
+      let o = Done (gives_object 0) w in
+      let go : List ℕ → List ℤ → Next State = λ left rest. instructions.gives_at_once (bare p) (at frames pc all (held_of before w)) wanted 0 rest left in
+      subst (λ l. Comes_back wanted pc stack rs w (taken (length values) all (go l)) o) (sym (drop_onto given.objects rs))
+      (subst (λ n. Comes_back wanted pc stack rs w n o) (sym (taken_peels (length values) all stack (go rs) (peels_onto values stack))) (at_once_runs wanted 0 pc all before stack rs w))
 
-  -- a message to an object that is found, by the class from which its method is looked up
-  sends_run : (turn : Turn) (calm : Bool) (class_of : Object → ℕ) (from : Option ℕ) (selector self' pc : ℕ) (given : Given) (before : List ℕ) (s : Operands) (w : World) → Good calm w → ((k : ℕ) (o : Object) → self' ≡ suc k → object_at w.objects (suc k) ≡ Some o → from ≡ Some (class_of o))
-      → Goes_on turn calm (next_of (sends p (at frames pc (onto given.numbers (s.numbers ++ vars w)) (held_of before w)) class_of self' selector (length given.numbers) (length given.objects) (onto given.objects s.names)) w) (pc + 1) (pushes s (sent_from D from self' selector given w))
-  sends_run turn calm class_of from selector zero pc given before s w g same = nil_runs turn calm pc given before s w g
-  sends_run turn calm class_of from selector (suc k) pc given before s w g same =
-      let stack = onto given.numbers (s.numbers ++ vars w) in
+  -- the root's own `init` gives the object
+  root_runs : (wanted : Gives) (selector object pc : ℕ) (given : Given) (all : List ℤ) (before : List ℕ) (stack : List ℤ) (rs : List ℕ) (w : World) (b : Bool) → is_root_init selector (length given.numbers) (length given.objects) wanted ≡ b
+      → Comes_back wanted pc stack rs w (if b then instructions.gives_at_once (bare p) (at frames pc all (held_of before w)) wanted object (onto given.numbers stack) (onto given.objects rs) else Faults Unrecognized) (if b then Done (gives_object object) w else Faulted Unrecognized w)
+  root_runs wanted selector object pc given all before stack rs w false e = inr (leads_same (moves p) _ _ refl)
+  root_runs wanted selector object pc given all before stack rs w true e =
       let n = length given.numbers in
       let m = length given.objects in
-      let found : Option ℕ → Option ℕ = λ f. lookup D.classes f signs.Instance selector n m in
-      let meant : Option ℕ → Outcome Way = λ f. pushes s (runs_found D (found f) (suc k) given w) in
-      let next : Object → Next State = λ o. answers (at frames pc stack (with_names (held_of before w) (onto given.objects s.names))) (suc k) (lookup p.classes (Some (class_of o)) signs.Instance selector n m) in
-      object_runs p bound w.input w.trace (Leaves turn calm (pc + 1)) (meant from) (object_at w.objects (suc k)) next (λ o there.
-      subst (λ f. Goes_on turn calm (next_of (next o) w) (pc + 1) (meant f)) (sym (same k o refl there))
-      (subst (λ o1. Goes_on turn calm (next_of (next o) w) (pc + 1) (pushes s o1)) (found_answers D (found (Some (class_of o))) (suc k) given w)
-      (returned turn calm pc s w (next_of (next o) w) (answered D (found (Some (class_of o))) (suc k) given w) g (deep.tells signs.Instance (Some (class_of o)) selector n m (suc k) given (s.numbers ++ vars w) s.names w pc refl refl))))
+      let few = nat_eq m 0 && same_gives wanted gives.Object in
+      let counts = and_parts (nat_eq n 0) few (and_parts (nat_eq selector init_selector) (nat_eq n 0 && few) e).1 in
+      let o = Done (gives_object object) w in
+      let go : List ℤ → List ℕ → Next State = λ l names1. instructions.gives_at_once (bare p) (at frames pc all (held_of before w)) wanted object l names1 in
+      subst (λ l. Comes_back wanted pc stack rs w (go l (onto given.objects rs)) o) (sym (onto_none given.numbers stack (eqb-true n 0 counts.0)))
+      (subst (λ l. Comes_back wanted pc stack rs w (go stack l) o) (sym (onto_none given.objects rs (eqb-true m 0 (and_parts (nat_eq m 0) (same_gives wanted gives.Object) counts.1).0))) (at_once_runs wanted object pc all before stack rs w))
+
+  -- a message to an object, by what it finds
+  found_runs : (wanted : Gives) (selector object pc : ℕ) (given : Given) (stack : List ℤ) (rs : List ℕ) (w : World) (stands meant : Option ℕ) → is_some stands ≡ is_some meant
+      → Comes_back wanted pc stack rs w (answers (at frames pc (onto given.numbers stack) (held_of (onto given.objects rs) w)) object stands) (answered D wanted meant object given w)
+      → Comes_back wanted pc stack rs w (instructions.answers_object (bare p) (at frames pc (onto given.numbers stack) (held_of (onto given.objects rs) w)) wanted object selector (length given.numbers) (length given.objects) stands) (runs_found D wanted meant object selector given w)
+  found_runs wanted selector object pc given stack rs w (Some to) (Some f) e h = h
+  found_runs wanted selector object pc given stack rs w None None e h =
+      root_runs wanted selector object pc given (onto given.numbers stack) (onto given.objects rs) stack rs w (is_root_init selector (length given.numbers) (length given.objects) wanted) refl
+  found_runs wanted selector object pc given stack rs w (Some to) None e h = cc
+  found_runs wanted selector object pc given stack rs w None (Some f) e h = cc
+
+  -- a message to an object that is found, by the class from which its method is looked up
+  sends_run : (wanted : Gives) (class_of : Object → ℕ) (from : Option ℕ) (selector self' pc : ℕ) (given : Given) (before : List ℕ) (stack : List ℤ) (rs : List ℕ) (w : World) → ((k : ℕ) (o : Object) → self' ≡ suc k → object_at w.objects (suc k) ≡ Some o → from ≡ Some (class_of o))
+      → Comes_back wanted pc stack rs w (sends p (at frames pc (onto given.numbers stack) (held_of before w)) wanted class_of self' selector (length given.numbers) (length given.objects) (onto given.objects rs)) (sent_from D wanted from self' selector given w)
+  sends_run wanted class_of from selector zero pc given before stack rs w same = nil_runs wanted pc given before stack rs w
+  sends_run wanted class_of from selector (suc k) pc given before stack rs w same =
+      let n = length given.numbers in
+      let m = length given.objects in
+      let stands : Object → Option ℕ = λ o. lookup p.classes (Some (class_of o)) signs.Instance selector n m wanted in
+      let found : Option ℕ → Option ℕ = λ f. lookup D.classes f signs.Instance selector n m wanted in
+      let meant : Option ℕ → Outcome world.Answer = λ f. runs_found D wanted (found f) (suc k) selector given w in
+      let next : Object → Next State = λ o. instructions.answers_object (bare p) (at frames pc (onto given.numbers stack) (held_of (onto given.objects rs) w)) wanted (suc k) selector n m (stands o) in
+      object_runs p bound w.input w.trace (Returns wanted frames rs pc stack w) (meant from) (object_at w.objects (suc k)) next (λ o there.
+      subst (λ f. Comes_back wanted pc stack rs w (next o) (meant f)) (sym (same k o refl there))
+      (found_runs wanted selector (suc k) pc given stack rs w (stands o) (found (Some (class_of o))) (deep.same_found (Some (class_of o)) signs.Instance selector n m wanted)
+      (deep.tells signs.Instance (Some (class_of o)) selector n m wanted (suc k) given stack rs w pc refl refl)))
 
   -- what gets a message lies below its arguments
   receiver_goes : (objects rest : List ℕ) (r : ℕ) (go : ℕ → List ℕ → Next State) → instructions.on_receiver (length objects) (onto objects (r ∷ rest)) go ≡ go r (onto objects rest)
@@ -437,27 +502,113 @@ module _ (p : Program) (frames : List Frame) (bound : ℕ) (R : resolved.Program
       ap (λ found. on_found found (λ q. go q (take (length objects) (onto objects (r ∷ rest)) ++ drop (suc (length objects)) (onto objects (r ∷ rest))))) (get_onto objects rest r)
       ∙ ap (go r) (without_below objects rest r)
 
-  to_object : (turn : Turn) (calm : Bool) (class_of : Object → ℕ) (from : Option ℕ) (selector r pc : ℕ) (given : Given) (numbers : List ℤ) (rs : List ℕ) (w : World) → Good calm w → ((k : ℕ) (o : Object) → r ≡ suc k → object_at w.objects (suc k) ≡ Some o → from ≡ Some (class_of o))
-      → Goes_on turn calm (next_of (instructions.on_receiver (length given.objects) (onto given.objects (r ∷ rs)) (λ q rest. sends p (at frames pc (onto given.numbers (numbers ++ vars w)) (held_of (onto given.objects (r ∷ rs)) w)) class_of q selector (length given.numbers) (length given.objects) rest)) w) (pc + 1)
-      (pushes (record { numbers = numbers; names = rs }) (sent_from D from r selector given w))
-  to_object turn calm class_of from selector r pc given numbers rs w g same =
-      let st = at frames pc (onto given.numbers (numbers ++ vars w)) (held_of (onto given.objects (r ∷ rs)) w) in
-      subst (λ n. Goes_on turn calm (next_of n w) (pc + 1) (pushes (record { numbers = numbers; names = rs }) (sent_from D from r selector given w)))
-      (sym (receiver_goes given.objects rs r (λ q rest. sends p st class_of q selector (length given.numbers) (length given.objects) rest)))
-      (sends_run turn calm class_of from selector r pc given (onto given.objects (r ∷ rs)) (record { numbers = numbers; names = rs }) w g same)
+  to_object : (wanted : Gives) (class_of : Object → ℕ) (from : Option ℕ) (selector r pc : ℕ) (given : Given) (stack : List ℤ) (rs : List ℕ) (w : World) → ((k : ℕ) (o : Object) → r ≡ suc k → object_at w.objects (suc k) ≡ Some o → from ≡ Some (class_of o))
+      → Comes_back wanted pc stack rs w (instructions.on_receiver (length given.objects) (onto given.objects (r ∷ rs)) (λ q rest. sends p (at frames pc (onto given.numbers stack) (held_of (onto given.objects (r ∷ rs)) w)) wanted class_of q selector (length given.numbers) (length given.objects) rest)) (sent_from D wanted from r selector given w)
+  to_object wanted class_of from selector r pc given stack rs w same =
+      let st = at frames pc (onto given.numbers stack) (held_of (onto given.objects (r ∷ rs)) w) in
+      subst (λ n. Comes_back wanted pc stack rs w n (sent_from D wanted from r selector given w))
+      (sym (receiver_goes given.objects rs r (λ q rest. sends p st wanted class_of q selector (length given.numbers) (length given.objects) rest)))
+      (sends_run wanted class_of from selector r pc given (onto given.objects (r ∷ rs)) stack rs w same)
 
-  tells_run : (turn : Turn) (calm : Bool) (message : Message) (pc : ℕ) (given : Given) (numbers : List ℤ) (rs : List ℕ) (w : World) → Good calm w
-      → Goes_on turn calm (next_of (does p (message_order message (length given.numbers) (length given.objects)) (at frames pc (onto given.numbers (numbers ++ vars w)) (held_of (onto given.objects rs) w))) w) (pc + 1) (told D message given (record { numbers = numbers; names = rs }) w)
-  tells_run turn calm (ToClass selector) pc given [] rs w g = lost turn calm _ (pc + 1) w
-  tells_run turn calm (ToClass selector) pc given (class ∷ numbers) rs w g =
+  -- the class of what gets a message
+  class_found : (w : World) (r k : ℕ) (o : Object) → r ≡ suc k → object_at w.objects (suc k) ≡ Some o → class_in (object_at w.objects r) ≡ Some o.class
+  class_found w r k o e found = ap (λ i. class_in (object_at w.objects i)) e ∙ ap class_in found
+
+  tells_run : (turn : Turn) (calm : Bool) (wanted : Gives) (message : Message) (pc : ℕ) (given : Given) (numbers : List ℤ) (rs : List ℕ) (w : World) → (calm ≡ true → same_gives wanted gives.Number ≡ true) → Good calm w
+      → Goes_on turn calm (next_of (does p (message_order wanted message (length given.numbers) (length given.objects)) (at frames pc (onto given.numbers (numbers ++ vars w)) (held_of (onto given.objects rs) w))) w) (pc + 1) (told D wanted message given (record { numbers = numbers; names = rs }) w)
+  tells_run turn calm wanted (ToClass selector) pc given [] rs w free g = lost turn calm _ (pc + 1) w
+  tells_run turn calm wanted (ToClass selector) pc given (class ∷ numbers) rs w free g =
       let st = at frames pc (onto given.numbers (class ∷ (numbers ++ vars w))) (held_of (onto given.objects rs) w) in
-      to_class turn calm (class_at class) class selector pc given (record { numbers = numbers; names = rs }) w _ g (ap (λ o. on_found o (λ v. answers st 0 (lookup p.classes (class_at v) signs.Class selector (length given.numbers) (length given.objects)))) (get_onto given.numbers (numbers ++ vars w) class))
-  tells_run turn calm (ToSuperClass from selector) pc given [] rs w g = lost turn calm _ (pc + 1) w
-  tells_run turn calm (ToSuperClass from selector) pc given (class ∷ numbers) rs w g = to_class turn calm (Some from) class selector pc given (record { numbers = numbers; names = rs }) w _ g refl
-  tells_run turn calm (ToObject selector) pc given numbers [] w g = lost turn calm _ (pc + 1) w
-  tells_run turn calm (ToObject selector) pc given numbers (r ∷ rs) w g = to_object turn calm (λ o. o.class) (class_in (object_at w.objects r)) selector r pc given numbers rs w g (λ k o e found. ap (λ i. class_in (object_at w.objects i)) e ∙ ap class_in found)
-  tells_run turn calm (ToSuper from selector) pc given numbers [] w g = lost turn calm _ (pc + 1) w
-  tells_run turn calm (ToSuper from selector) pc given numbers (r ∷ rs) w g = to_object turn calm (λ o. from) (Some from) selector r pc given numbers rs w g (λ k o e found. refl)
+      returned turn calm wanted pc (record { numbers = numbers; names = rs }) w _ (dispatched D wanted (finds D wanted (class_at class) signs.Class selector given) class given w) free g
+      (to_class wanted (class_at class) class selector pc given (numbers ++ vars w) rs w _ (ap (λ o. on_found o (λ v. answers st 0 (lookup p.classes (class_at v) signs.Class selector (length given.numbers) (length given.objects) wanted))) (get_onto given.numbers (numbers ++ vars w) class)))
+  tells_run turn calm wanted (ToSuperClass from selector) pc given [] rs w free g = lost turn calm _ (pc + 1) w
+  tells_run turn calm wanted (ToSuperClass from selector) pc given (class ∷ numbers) rs w free g =
+      returned turn calm wanted pc (record { numbers = numbers; names = rs }) w _ (dispatched D wanted (finds D wanted (Some from) signs.Class selector given) class given w) free g
+      (to_class wanted (Some from) class selector pc given (numbers ++ vars w) rs w _ refl)
+  tells_run turn calm wanted (ToObject selector) pc given numbers [] w free g = lost turn calm _ (pc + 1) w
+  tells_run turn calm wanted (ToObject selector) pc given numbers (r ∷ rs) w free g =
+      returned turn calm wanted pc (record { numbers = numbers; names = rs }) w _ (sent_from D wanted (class_in (object_at w.objects r)) r selector given w) free g
+      (to_object wanted (λ o. o.class) (class_in (object_at w.objects r)) selector r pc given (numbers ++ vars w) rs w (class_found w r))
+  tells_run turn calm wanted (ToSuper from selector) pc given numbers [] w free g = lost turn calm _ (pc + 1) w
+  tells_run turn calm wanted (ToSuper from selector) pc given numbers (r ∷ rs) w free g =
+      returned turn calm wanted pc (record { numbers = numbers; names = rs }) w _ (sent_from D wanted (Some from) r selector given w) free g
+      (to_object wanted (λ o. from) (Some from) selector r pc given (numbers ++ vars w) rs w (λ k o e found. refl))
+
+  -- ---- what the root's `new` does
+
+  -- an object that is new, which a temporary takes
+  abbrev with_new : (class : ℕ) → World → World
+  with_new class w = takes (next_object w) (with_objects w (w.objects ++ new_object class (field_count (slice_get D.classes class)) (strong_count (slice_get D.classes class)) ∷ []))
+
+  -- behind it the object is given, and its temporary is the last one
+  abbrev Made_at : (turn : Turn) (calm : Bool) → ℕ → Operands → ℕ → World → Reached State → Type 0
+  Made_at turn calm q s r w to = Leaves turn calm q (On (name r s)) w to
+
+  -- the temporary of what was made is dropped behind what `init` gives
+  settling : (turn : Turn) (calm : Bool) (pc r : ℕ) (s : Operands) (w w2 : World) (a : world.Answer) (ts : List ℕ) → (calm ≡ true → false ≡ true) → Good calm w → w2.frame.locals ≡ w.frame.locals → IsFramed slots names self waiting w2 → w2.frame.temporaries ≡ r ∷ ts → HasAt p pc (Settle ∷ [])
+      → Runs (moves p) bound (running frames (a.object ∷ s.names) pc (s.numbers ++ vars w) (takes a.object w2)) (Made_at turn calm (pc + 1) s) (then_do (second_dropped D (takes a.object w2).frame.temporaries (takes a.object w2)) (λ _ w4. Done a.object w4))
+  settling turn calm pc r s w w2 a ts free g same framed these has =
+      let w3 = takes a.object w2 in
+      let w3' = with_temporaries w3 (a.object ∷ ts) in
+      let stack = s.numbers ++ vars w in
+      let rs = a.object ∷ s.names in
+      let good : Good calm w3' = (record { locals = framed.locals; strong = framed.strong; itself = framed.itself; waits = framed.waits }, λ e. absurd (false≢true (free e))) in
+      then_runs (moves p) bound (running frames rs pc stack w3) (Stays frames rs stack (pc + 1) w3') (Made_at turn calm (pc + 1) s) (second_dropped D w3.frame.temporaries w3) (λ _ w4. Done a.object w4)
+      (settled_runs p frames bound rs D deep.ends a.object r ts stack w3 pc (ap (λ l. a.object ∷ l) these) has) (λ done w4 to m.
+      ends_here (moves p) bound to (Made_at turn calm (pc + 1) s) a.object w4 (
+        m.0 ∙ ap (λ l. running frames rs (pc + 1) (s.numbers ++ onto l below) w4) (sym same) ∙ ap (λ (f : world.Frame). running frames rs (pc + 1) (s.numbers ++ onto f.locals below) w4) (sym m.1.frame),
+        kept_good calm w3' w4 good m.1,
+      ))
+
+  -- the made object gets `init`
+  initializing : (turn : Turn) (calm : Bool) (class pc : ℕ) (s : Operands) (w : World) → (calm ≡ true → false ≡ true) → Good calm w → HasAt p pc (SendTo init_selector 0 0 gives.Object ∷ Settle ∷ [])
+      → Runs (moves p) bound (running frames (next_object w ∷ s.names) pc (s.numbers ++ vars w) (with_new class w)) (Made_at turn calm (pc + 1 + 1) s) (made_new D (Some class) w)
+  initializing turn calm class pc s w free g has =
+      let r = next_object w in
+      let w1 = with_new class w in
+      let stack = s.numbers ++ vars w in
+      let end = Made_at turn calm (pc + 1 + 1) s in
+      let init = sent D gives.Object (Rattle.arc_spec.specs.Meaning.ToObject r) init_selector nothing_given w1 in
+      let rest : ℕ → World → Outcome ℕ = λ a w3. then_do (second_dropped D w3.frame.temporaries w3) (λ _ w4. Done a w4) in
+      let start = running frames (r ∷ s.names) pc stack w1 in
+      let framed : (w2 : World) → Kept w1 w2 → IsFramed slots names self waiting w2 = λ w2 k. record {
+        locals = ap (λ (f : world.Frame). length f.locals) k.frame ∙ g.0.locals;
+        strong = ap (λ (f : world.Frame). length f.strong) k.frame ∙ g.0.strong;
+        itself = ap (λ (f : world.Frame). f.self) k.frame ∙ g.0.itself;
+        waits = k.waiting ∙ g.0.waits;
+      } in
+      subst (Runs (moves p) bound start end) (object_then init rest)
+      (then_runs (moves p) bound start (Returns gives.Object frames s.names pc stack w1) end init (λ a w2. rest a.object (takes a.object w2))
+      (one_runs p frames bound (r ∷ s.names) (SendTo init_selector 0 0 gives.Object) pc stack w1 (Returns gives.Object frames s.names pc stack w1) init (has.0, tt)
+      (to_object gives.Object (λ o. o.class) (class_in (object_at w1.objects r)) init_selector r pc nothing_given stack s.names w1 (class_found w1 r))) (λ a w2 to m.
+      subst (λ q. Runs (moves p) bound q end (rest a.object (takes a.object w2))) (sym m.0)
+      (settling turn calm (pc + 1) r s w w2 a w.frame.temporaries free g (ap (λ (f : world.Frame). f.locals) m.1.frame) (framed w2 m.1) (ap (λ (f : world.Frame). f.temporaries) m.1.frame) has.1)))
+
+  makes_new : (turn : Turn) (calm : Bool) (found : Option ℕ) (pc : ℕ) (v : ℤ) (s : Operands) (w : World) → (calm ≡ true → false ≡ true) → Good calm w → HasAt p (pc + 1) (SendTo init_selector 0 0 gives.Object ∷ Settle ∷ [])
+      → Runs (moves p) bound (next_of (allocates p.classes (state pc (push v s) w) (s.numbers ++ vars w) found) w) (Made_at turn calm (pc + 1 + 1 + 1) s) (made_new D found w)
+  makes_new turn calm None pc v s w free g has = inr (leads_same (moves p) _ _ refl)
+  makes_new turn calm (Some class) pc v s w free g has =
+      let r = next_object w in
+      let end = Made_at turn calm (pc + 1 + 1 + 1) s in
+      let made_with : (fields strong : ℕ) → World = λ fields strong. takes r (with_objects w (w.objects ++ new_object class fields strong ∷ [])) in
+      let from : World → Reached State = λ w1. follow (Goes (state (pc + 1) (name r s) w1) []) w.input w.trace in
+      let meant = made_new D (Some class) w in
+      subst (λ m. Runs (moves p) bound (from (made_with m (strong_count (slice_get p.classes class)))) end meant) (sym (deep.same_fields class))
+      (subst (λ m. Runs (moves p) bound (from (made_with (field_count (slice_get D.classes class)) m)) end meant) (sym (deep.same_strong class))
+      (quiet_runs p frames bound (r ∷ s.names) (pc + 1) (s.numbers ++ vars w) (with_new class w) end meant (initializing turn calm class (pc + 1) s w free g has)))
+
+  making_runs : (turn : Turn) (calm : Bool) (pc : ℕ) (numbers : List ℤ) (rs : List ℕ) (w : World) → (calm ≡ true → false ≡ true) → Good calm w → HasAt p pc making_orders → Goes_on turn calm (standing pc (record { numbers = numbers; names = rs }) w) (pc + length making_orders) (block D bound 0 false Making (record { numbers = numbers; names = rs }) w)
+  making_runs turn calm pc [] rs w free g has = lost turn calm _ (pc + length making_orders) w
+  making_runs turn calm pc (v ∷ numbers) rs w free g has =
+      let s : Operands = record { numbers = numbers; names = rs } in
+      let q = pc + 1 + 1 + 1 in
+      let e : q ≡ pc + 3 = omega arith in
+      let start = standing pc (push v s) w in
+      let meant = made_new D (class_at v) w in
+      subst (λ k. Goes_on turn calm start k (left_by (λ r. On (name r s)) meant)) e
+      (then_runs (moves p) bound start (Made_at turn calm q s) (Leaves turn calm q) meant (λ r w1. Done (On (name r s)) w1)
+      (one_runs p frames bound rs (Plain Alloc) pc (v ∷ (numbers ++ vars w)) w (Made_at turn calm q s) meant (has.0, tt) (makes_new turn calm (class_at v) pc v s w free g has.1)) (λ r w1 to m.
+      ends_here (moves p) bound to (Leaves turn calm q) (On (name r s)) w1 m))
 
   -- ---- variables that name objects
 
@@ -527,7 +678,7 @@ module _ (p : Program) (frames : List Frame) (bound : ℕ) (R : resolved.Program
   stored_good calm (Local i) r w g = (record { locals = g.0.locals; strong = length-set w.frame.strong i r ∙ g.0.strong; itself = g.0.itself; waits = g.0.waits }, g.1)
   stored_good calm (Global i) r w g = (record { locals = g.0.locals; strong = g.0.strong; itself = g.0.itself; waits = g.0.waits }, g.1)
 
-  assign_runs : (turn : Turn) (calm : Bool) (i : Location) (pc : ℕ) (numbers : List ℤ) (rs : List ℕ) (w : World) → Good calm w → HasAt p pc (store_orders names i) → Goes_on turn calm (standing pc (record { numbers = numbers; names = rs }) w) (pc + length (store_orders names i)) (block D bound false (Assign i) (record { numbers = numbers; names = rs }) w)
+  assign_runs : (turn : Turn) (calm : Bool) (i : Location) (pc : ℕ) (numbers : List ℤ) (rs : List ℕ) (w : World) → Good calm w → HasAt p pc (store_orders names i) → Goes_on turn calm (standing pc (record { numbers = numbers; names = rs }) w) (pc + length (store_orders names i)) (block D bound 0 false (Assign i) (record { numbers = numbers; names = rs }) w)
   assign_runs turn calm i pc numbers [] w g has = lost turn calm _ (pc + length (store_orders names i)) w
   assign_runs turn calm (Global i) pc numbers (r ∷ rs) w g has =
       let s : Operands = record { numbers = numbers; names = rs } in
@@ -563,14 +714,14 @@ module _ (p : Program) (frames : List Frame) (bound : ℕ) (R : resolved.Program
       subst (λ q. Goes_on turn calm (next_of (releases p st old (raised r (with_strong_field (held_of rs w) (suc k) o index r))) w) (pc + 1) (passes_by (name r s) (released D q w1))) (sym (found_name o.strong index old named))
       (stayed turn calm (pc + 1) (pc + 1) (name r s) w w1 (next_of (releases p st old (raised r (with_strong_field (held_of rs w) (suc k) o index r))) w) (released D old w1) refl good (strong_field_runs p frames bound rs D deep.ends k o index r old (held_of before w) stack w pc found there named) refl)))
 
-  assign_field_runs : (turn : Turn) (calm : Bool) (class index pc : ℕ) (numbers : List ℤ) (rs : List ℕ) (w : World) → Good calm w → HasAt p pc (StoreField class index ∷ []) → Goes_on turn calm (standing pc (record { numbers = numbers; names = rs }) w) (pc + 1) (block D bound false (AssignField class index) (record { numbers = numbers; names = rs }) w)
+  assign_field_runs : (turn : Turn) (calm : Bool) (class index pc : ℕ) (numbers : List ℤ) (rs : List ℕ) (w : World) → Good calm w → HasAt p pc (StoreField class index ∷ []) → Goes_on turn calm (standing pc (record { numbers = numbers; names = rs }) w) (pc + 1) (block D bound 0 false (AssignField class index) (record { numbers = numbers; names = rs }) w)
   assign_field_runs turn calm class index pc numbers [] w g has = lost turn calm _ (pc + 1) w
   assign_field_runs turn calm class index pc numbers (r ∷ []) w g has = lost turn calm _ (pc + 1) w
   assign_field_runs turn calm class index pc numbers (r ∷ x ∷ rs) w g has =
       let s : Operands = record { numbers = numbers; names = rs } in
       let before = r ∷ x ∷ rs in
       let end = Leaves turn calm (pc + 1) in
-      let o = block D bound false (AssignField class index) (record { numbers = numbers; names = before }) w in
+      let o = block D bound 0 false (AssignField class index) (record { numbers = numbers; names = before }) w in
       one_runs p frames bound before (StoreField class index) pc (numbers ++ vars w) w end o has
       (named_runs p bound w.input w.trace end o r (held_of before w) _ (field_runs turn calm class x (pc + 1) before (λ _. On (name r s)) w _ _ (λ k ob e found there.
       field_stored turn calm (is_emptying ob.phase) x r index pc before s w k ob e found there g)))
@@ -760,7 +911,7 @@ module _ (p : Program) (frames : List Frame) (bound : ℕ) (R : resolved.Program
   store_by turn calm depth i pc v s w true e g has = passing turn calm (set_orders slots depth i) pc (push v s) (push v s) w (holds i v w) refl (set_good calm i v w g) has (storing i s v w depth g.0.locals (eqb-true depth (length s.numbers) e))
   store_by turn calm depth i pc v s w false e g has = lost turn calm (standing pc (push v s) w) (pc + length (set_orders slots depth i)) w
 
-  store_runs : (turn : Turn) (calm : Bool) (depth : ℕ) (i : Location) (pc : ℕ) (numbers : List ℤ) (rs : List ℕ) (w : World) → Good calm w → HasAt p pc (set_orders slots depth i) → Goes_on turn calm (standing pc (record { numbers = numbers; names = rs }) w) (pc + length (set_orders slots depth i)) (block D bound false (Store depth i) (record { numbers = numbers; names = rs }) w)
+  store_runs : (turn : Turn) (calm : Bool) (depth : ℕ) (i : Location) (pc : ℕ) (numbers : List ℤ) (rs : List ℕ) (w : World) → Good calm w → HasAt p pc (set_orders slots depth i) → Goes_on turn calm (standing pc (record { numbers = numbers; names = rs }) w) (pc + length (set_orders slots depth i)) (block D bound 0 false (Store depth i) (record { numbers = numbers; names = rs }) w)
   store_runs turn calm depth i pc [] rs w g has = lost turn calm _ (pc + length (set_orders slots depth i)) w
   store_runs turn calm depth i pc (v ∷ numbers) rs w g has = store_by turn calm depth i pc v (record { numbers = numbers; names = rs }) w (nat_eq depth (length numbers)) refl g has
 
@@ -822,32 +973,51 @@ module _ (p : Program) (frames : List Frame) (bound : ℕ) (R : resolved.Program
   entered_size AtTest n m = refl
   entered_size AtBody n m = refl
 
-  pub block_runs : (e : Spot) (turn : Turn) (calm between : Bool) → (between ≡ true → calm ≡ true) → (b : Block) → (calm ≡ true → takes_none b ≡ true) → (pc : ℕ) → Stands between e pc turn → (s : Operands) (w : World) → Good calm w → HasAt p pc (actions e b) → Goes_on turn calm (standing pc s w) (pc + length (actions e b)) (block D bound between b s w)
-  block_runs e turn calm m h Idle free pc stands s w g has = let same : pc ≡ pc + 0 = omega arith in ends_at turn calm pc (pc + 0) (standing pc s w) (Done (On s) w) same (here turn calm pc s w g)
-  block_runs e turn calm m h (One o) free pc stands s w g has = one_runs p frames bound s.names (Plain o) pc (s.numbers ++ vars w) w (Leaves turn calm (pc + 1)) (operation D o s w) has (operation_runs turn calm o pc s.numbers s.names w free g)
-  block_runs e turn calm m h (Load depth i) free pc stands s w g has = load_by turn calm depth i pc s w (nat_eq depth (length s.numbers)) refl g has
-  block_runs e turn calm m h (Store depth i) free pc stands s w g has = store_runs turn calm depth i pc s.numbers s.names w g has
-  block_runs e turn calm m h (Read i) free pc stands s w g has = read_runs turn calm i pc s w free g has
-  block_runs e turn calm m h (Assign i) free pc stands s w g has = assign_runs turn calm i pc s.numbers s.names w g has
-  block_runs e turn calm m h (Clear first count) free pc stands s w g has = clear_runs turn calm first count pc s w g has
-  block_runs e turn calm m h (AssignField class index) free pc stands s w g has = assign_field_runs turn calm class index pc s.numbers s.names w g has
-  block_runs e turn calm m h (Format pieces n k) free pc stands s w g has = on_given_runs turn calm pc (pc + length (forget_orders k ++ print_orders pieces n)) n k s w (λ given rest. Done (On (push (byte_count (formatted pieces given.numbers)) rest)) (prints (formatted pieces given.numbers) w)) (λ given rest size few. format_runs turn calm pieces pc n k given rest w size few g has)
-  block_runs e turn calm m h (Calls f n k) free pc stands s w g has = on_given_runs turn calm pc (pc + length (call_orders R f n k)) n k s w (λ given rest. pushes rest (D.call f 0 given w)) (λ given rest size few. calls_run turn calm f pc n k given rest w size few g has)
-  block_runs e turn calm m h (Tells message n k) free pc stands s w g has = on_given_runs turn calm pc (pc + 1) n k s w (λ given rest. told D message given rest w) (λ given rest size few.
+  -- one of two blocks
+  either_runs : (turn : Turn) (calm : Bool) (pc : ℕ) (from : Reached State) (t : Bool) (xs ys : List Order) (x y : Outcome Way) (m n : Bool) → (calm ≡ true → (if t then m else n) ≡ true) → HasAt p pc (if t then xs else ys)
+      → ((calm ≡ true → m ≡ true) → HasAt p pc xs → Goes_on turn calm from (pc + length xs) x) → ((calm ≡ true → n ≡ true) → HasAt p pc ys → Goes_on turn calm from (pc + length ys) y)
+      → Goes_on turn calm from (pc + length (if t then xs else ys)) (if t then x else y)
+  either_runs turn calm pc from true xs ys x y m n free has h k = h free has
+  either_runs turn calm pc from false xs ys x y m n free has h k = k free has
+
+  pub block_runs : (place : ℕ) (e : Spot) (turn : Turn) (calm between : Bool) → (between ≡ true → calm ≡ true) → (between ≡ false → place ≡ names - 1) → (b : Block) → (calm ≡ true → takes_none R b ≡ true) → (pc : ℕ) → Stands between e pc turn → (s : Operands) (w : World) → Good calm w → HasAt p pc (actions e b) → Goes_on turn calm (standing pc s w) (pc + length (actions e b)) (block D bound place between b s w)
+  block_runs place e turn calm m h placed Idle free pc stands s w g has = let same : pc ≡ pc + 0 = omega arith in ends_at turn calm pc (pc + 0) (standing pc s w) (Done (On s) w) same (here turn calm pc s w g)
+  block_runs place e turn calm m h placed (One o) free pc stands s w g has = one_runs p frames bound s.names (Plain o) pc (s.numbers ++ vars w) w (Leaves turn calm (pc + 1)) (operation D o s w) has (operation_runs turn calm o pc s.numbers s.names w free g)
+  block_runs place e turn calm m h placed (Load depth i) free pc stands s w g has = load_by turn calm depth i pc s w (nat_eq depth (length s.numbers)) refl g has
+  block_runs place e turn calm m h placed (Store depth i) free pc stands s w g has = store_runs turn calm depth i pc s.numbers s.names w g has
+  block_runs place e turn calm m h placed (Read i) free pc stands s w g has = read_runs turn calm i pc s w free g has
+  block_runs place e turn calm m h placed (Assign i) free pc stands s w g has = assign_runs turn calm i pc s.numbers s.names w g has
+  block_runs place e turn calm m h placed (Clear first count) free pc stands s w g has = clear_runs turn calm first count pc s w g has
+  block_runs place e turn calm m h placed (AssignField class index) free pc stands s w g has = assign_field_runs turn calm class index pc s.numbers s.names w g has
+  block_runs place e turn calm m h placed (Format pieces n k) free pc stands s w g has = on_given_runs turn calm pc (pc + length (forget_orders k ++ print_orders pieces n)) n k s w (λ given rest. Done (On (push (byte_count (formatted pieces given.numbers)) rest)) (prints (formatted pieces given.numbers) w)) (λ given rest size few. format_runs turn calm pieces pc n k given rest w size few g has)
+  block_runs place e turn calm m h placed (Calls wanted f n k) free pc stands s w g has = on_given_runs turn calm pc (pc + length (call_orders R wanted f n k)) n k s w (λ given rest. answers_left wanted rest (D.call wanted f 0 given w)) (λ given rest size few. calls_run turn calm wanted f pc n k given rest w size few free g has)
+  block_runs place e turn calm m h placed (Tells wanted message n k) free pc stands s w g has = on_given_runs turn calm pc (pc + 1) n k s w (λ given rest. told D wanted message given rest w) (λ given rest size few.
       let names1 = onto given.objects rest.names in
       let stack = onto given.numbers (rest.numbers ++ vars w) in
-      one_runs p frames bound names1 (message_order message n k) pc stack w (Leaves turn calm (pc + 1)) (told D message given rest w) has
-      (subst (λ q. Goes_on turn calm (next_of (does p (message_order message q k) (at frames pc stack (held_of names1 w))) w) (pc + 1) (told D message given rest w)) size
-      (subst (λ q. Goes_on turn calm (next_of (does p (message_order message (length given.numbers) q) (at frames pc stack (held_of names1 w))) w) (pc + 1) (told D message given rest w)) few (tells_run turn calm message pc given rest.numbers rest.names w g))))
-  block_runs e turn calm m h (Then a b) free pc stands s w g has =
+      one_runs p frames bound names1 (message_order wanted message n k) pc stack w (Leaves turn calm (pc + 1)) (told D wanted message given rest w) has
+      (subst (λ q. Goes_on turn calm (next_of (does p (message_order wanted message q k) (at frames pc stack (held_of names1 w))) w) (pc + 1) (told D wanted message given rest w)) size
+      (subst (λ q. Goes_on turn calm (next_of (does p (message_order wanted message (length given.numbers) q) (at frames pc stack (held_of names1 w))) w) (pc + 1) (told D wanted message given rest w)) few (tells_run turn calm wanted message pc given rest.numbers rest.names w free g))))
+  block_runs place e turn calm m h placed Making free pc stands s w g has = making_runs turn calm pc s.numbers s.names w free g has
+  block_runs place e turn calm m h placed (IfNew class a b) free pc stands s w g has =
+      let xs = actions e a in
+      let ys = actions e b in
+      let first = block D bound place m a s w in
+      let second = block D bound place m b s w in
+      subst (λ classes. Goes_on turn calm (standing pc s w) (pc + length (actions e (IfNew class a b))) (if is_some (lookup classes (Some class) signs.Class new_selector 0 0 gives.Object) then first else second)) (sym deep.same_classes)
+      (either_runs turn calm pc (standing pc s w) (has_new R class) xs ys first second (takes_none R a) (takes_none R b) free has
+      (λ free1 has1. block_runs place e turn calm m h placed a free1 pc stands s w g has1) (λ free1 has1. block_runs place e turn calm m h placed b free1 pc stands s w g has1))
+  block_runs place e turn calm false h placed Answer free pc stands s w g has =
+      subst (λ i. Goes_on turn calm (standing pc s w) (pc + length (store_orders names (Local (names - 1)))) (block D bound i false Answer s w)) (sym (placed refl)) (assign_runs turn calm (Local (names - 1)) pc s.numbers s.names w g has)
+  block_runs place e turn calm true h placed Answer free pc stands s w g has = lost turn calm (standing pc s w) (pc + length (store_orders names (Local (names - 1)))) w
+  block_runs place e turn calm m h placed (Then a b) free pc stands s w g has =
       let xs = actions e a in
       let ys = actions (past (length xs) e) b in
       let q = pc + length xs in
       let size : q + length ys ≡ pc + length (xs ++ ys) = omega (arith, length-append xs ys) in
-      ends_at turn calm (q + length ys) (pc + length (xs ++ ys)) (standing pc s w) (block D bound m (Then a b) s w) size
-      (then_way turn calm bound q (q + length ys) (standing pc s w) (block D bound m a s w) (block D bound m b) (block_runs e turn calm m h a (first_none calm (takes_none a) (takes_none b) free) pc stands s w g (has_front p pc xs ys has)) (λ s1 w1 g1.
-      block_runs (past (length xs) e) turn calm m h b (second_none calm (takes_none a) (takes_none b) free) q (past_stands m (length xs) pc turn e stands) s1 w1 g1 (has_back p pc xs ys has)))
-  block_runs e turn calm m h (Fork a b) free pc stands s w g has =
+      ends_at turn calm (q + length ys) (pc + length (xs ++ ys)) (standing pc s w) (block D bound place m (Then a b) s w) size
+      (then_way turn calm bound q (q + length ys) (standing pc s w) (block D bound place m a s w) (block D bound place m b) (block_runs place e turn calm m h placed a (first_none calm (takes_none R a) (takes_none R b) free) pc stands s w g (has_front p pc xs ys has)) (λ s1 w1 g1.
+      block_runs place (past (length xs) e) turn calm m h placed b (second_none calm (takes_none R a) (takes_none R b) free) q (past_stands m (length xs) pc turn e stands) s1 w1 g1 (has_back p pc xs ys has)))
+  block_runs place e turn calm m h placed (Fork a b) free pc stands s w g has =
       let e1 = past 1 e in
       let xs = actions e1 a in
       let e2 = past 1 (past (length xs) e1) in
@@ -860,12 +1030,12 @@ module _ (p : Program) (frames : List Frame) (bound : ℕ) (R : resolved.Program
       let there : two ≡ lands pc (Skip (suc (length xs))) = omega arith in
       let over : lands (one + length xs) (Skip (length ys)) ≡ end = omega arith in
       let size : end ≡ pc + length (JumpZero (Skip (suc (length xs))) ∷ (xs ++ Jump (Skip (length ys)) ∷ ys)) = omega (arith, length-append xs (Jump (Skip (length ys)) ∷ ys)) in
-      ends_at turn calm end (pc + length (actions e (Fork a b))) (standing pc s w) (block D bound m (Fork a b) s w) size
-      (branching turn calm bound pc two end (Skip (suc (length xs))) s.numbers s.names w (λ v rest. block D bound m a rest w) (λ v rest. block D bound m b rest w) there (has.0, tt)
-      (λ v rest. jumps_on turn calm (one + length xs) end (Skip (length ys)) (standing one rest w) (block D bound m a rest w) (behind_one.0, tt) over (block_runs e1 turn calm m h a (first_none calm (takes_none a) (takes_none b) free) one at1 rest w g (has_front p one xs (Jump (Skip (length ys)) ∷ ys) has.1)))
-      (λ v rest. block_runs e2 turn calm m h b (second_none calm (takes_none a) (takes_none b) free) two (past_stands m 1 (one + length xs) turn (past (length xs) e1) (past_stands m (length xs) one turn e1 at1)) rest w g behind_one.1))
-  block_runs e turn calm false h (Loop entry step test body) free pc stands s w g has = lost turn calm (standing pc s w) (pc + length (actions e (Loop entry step test body))) w
-  block_runs e turn calm true h (Loop entry step test body) free pc stands s w g has =
+      ends_at turn calm end (pc + length (actions e (Fork a b))) (standing pc s w) (block D bound place m (Fork a b) s w) size
+      (branching turn calm bound pc two end (Skip (suc (length xs))) s.numbers s.names w (λ v rest. block D bound place m a rest w) (λ v rest. block D bound place m b rest w) there (has.0, tt)
+      (λ v rest. jumps_on turn calm (one + length xs) end (Skip (length ys)) (standing one rest w) (block D bound place m a rest w) (behind_one.0, tt) over (block_runs place e1 turn calm m h placed a (first_none calm (takes_none R a) (takes_none R b) free) one at1 rest w g (has_front p one xs (Jump (Skip (length ys)) ∷ ys) has.1)))
+      (λ v rest. block_runs place e2 turn calm m h placed b (second_none calm (takes_none R a) (takes_none R b) free) two (past_stands m 1 (one + length xs) turn (past (length xs) e1) (past_stands m (length xs) one turn e1 at1)) rest w g behind_one.1))
+  block_runs place e turn calm false h placed (Loop entry step test body) free pc stands s w g has = lost turn calm (standing pc s w) (pc + length (actions e (Loop entry step test body))) w
+  block_runs place e turn calm true h placed (Loop entry step test body) free pc stands s w g has =
       let k = enter_size entry in
       let e0 = past k e in
       let first = pc + k in
@@ -891,23 +1061,23 @@ module _ (p : Program) (frames : List Frame) (bound : ℕ) (R : resolved.Program
       let has_test = has_back p first zs (ts ++ rest) has_turn in
       let has_out = has_back p second ts rest has_test in
       let size : end ≡ pc + length (enters ++ (zs ++ (ts ++ rest))) = omega (arith, length-append enters (zs ++ (ts ++ rest)), entered_size entry (length zs) (length ts), length-append zs (ts ++ rest), length-append ts rest, length-append xs last) in
-      ends_at turn calm end (pc + length (actions e (Loop entry step test body))) (standing pc s w) (block D bound true (Loop entry step test body) s w) size
-      (entering turn inner calm first second q end q1 (Skip (suc (length xs))) (Back (suc (length zs + length ts + length xs))) (block D bound true step) (block D bound true test) (block D bound true body) (has_out.0, tt) there (has_back p one xs last has_out.1) home refl refl
-      (λ s1 w1 g1. block_runs e0 turn calm true h step (first_none calm (takes_none step) (takes_none test && takes_none body) free) first at0 s1 w1 g1 (has_front p first zs (ts ++ rest) has_turn))
-      (λ s1 w1 g1. block_runs e1 turn calm true h test (first_none calm (takes_none test) (takes_none body) (second_none calm (takes_none step) (takes_none test && takes_none body) free)) second at1 s1 w1 g1 (has_front p second ts rest has_test))
-      (λ s1 w1 g1. block_runs (body_spot (length zs) (length ts) e0) inner calm true h body (second_none calm (takes_none test) (takes_none body) (second_none calm (takes_none step) (takes_none test && takes_none body) free)) one (ap (body_spot (length zs) (length ts)) at0) s1 w1 g1 (has_front p one xs last has_out.1))
+      ends_at turn calm end (pc + length (actions e (Loop entry step test body))) (standing pc s w) (block D bound place true (Loop entry step test body) s w) size
+      (entering turn inner calm first second q end q1 (Skip (suc (length xs))) (Back (suc (length zs + length ts + length xs))) (block D bound place true step) (block D bound place true test) (block D bound place true body) (has_out.0, tt) there (has_back p one xs last has_out.1) home refl refl
+      (λ s1 w1 g1. block_runs place e0 turn calm true h placed step (first_none calm (takes_none R step) (takes_none R test && takes_none R body) free) first at0 s1 w1 g1 (has_front p first zs (ts ++ rest) has_turn))
+      (λ s1 w1 g1. block_runs place e1 turn calm true h placed test (first_none calm (takes_none R test) (takes_none R body) (second_none calm (takes_none R step) (takes_none R test && takes_none R body) free)) second at1 s1 w1 g1 (has_front p second ts rest has_test))
+      (λ s1 w1 g1. block_runs place (body_spot (length zs) (length ts) e0) inner calm true h placed body (second_none calm (takes_none R test) (takes_none R body) (second_none calm (takes_none R step) (takes_none R test && takes_none R body) free)) one (ap (body_spot (length zs) (length ts)) at0) s1 w1 g1 (has_front p one xs last has_out.1))
       entry pc (length zs) (length ts) refl refl refl (has_front p pc enters (zs ++ (ts ++ rest)) has) s w g)
-  block_runs e turn calm m h Quit free pc stands s w g has =
+  block_runs place e turn calm m h placed Quit free pc stands s w g has =
       one_runs p frames bound s.names (Plain (Num (pos 0))) pc (s.numbers ++ vars w) w (Leaves turn calm (pc + 2)) (Done (Quits s) w) (has.0, tt)
       (quiet_runs p frames bound s.names (pc + 1) (pos 0 ∷ (s.numbers ++ vars w)) w (Leaves turn calm (pc + 2)) (Done (Quits s) w)
       (leads_runs (moves p) bound (standing (pc + 1) (push (pos 0) s) w) (standing (turn_at e).out (push (pos 0) s) w) (Leaves turn calm (pc + 2)) (Done (Quits s) w) (moving (pc + 1) (At (turn_at e).out) (push (pos 0) s) w has.1)
       (ends_here (moves p) bound (standing (turn_at e).out (push (pos 0) s) w) (Leaves turn calm (pc + 2)) (Quits s) w (ap (λ (t : Turn). standing t.out (push (pos 0) s) w) (turn_is m pc turn e stands), g))))
-  block_runs e turn calm m h Advance free pc stands s w g has =
+  block_runs place e turn calm m h placed Advance free pc stands s w g has =
       leads_runs (moves p) bound (standing pc s w) (standing (turn_at e).begin s w) (Leaves turn calm (pc + 1)) (Done (Turns s) w) (moving pc (At (turn_at e).begin) s w has)
       (ends_here (moves p) bound (standing (turn_at e).begin s w) (Leaves turn calm (pc + 1)) (Turns s) w (ap (λ (t : Turn). standing t.begin s w) (turn_is m pc turn e stands), g))
-  block_runs e turn calm false h (Full a b) free pc stands s w g has = lost turn calm (standing pc s w) (pc + length (actions e (Full a b))) w
-  block_runs e turn false true h (Full a b) free pc stands s w g has = absurd (false≢true (h refl))
-  block_runs e turn true true h (Full a b) free pc stands s w g has =
+  block_runs place e turn calm false h placed (Full a b) free pc stands s w g has = lost turn calm (standing pc s w) (pc + length (actions e (Full a b))) w
+  block_runs place e turn false true h placed (Full a b) free pc stands s w g has = absurd (false≢true (h refl))
+  block_runs place e turn true true h placed (Full a b) free pc stands s w g has =
       let xs = actions Inside a in
       let ys = actions Inside b in
       let some = list_any order_takes xs in
@@ -917,9 +1087,10 @@ module _ (p : Program) (frames : List Frame) (bound : ℕ) (R : resolved.Program
       let size : r + length zs ≡ pc + length (xs ++ (ys ++ zs)) = omega (arith, length-append xs (ys ++ zs), length-append ys zs) in
       let behind_first = has_back p pc xs (ys ++ zs) has in
       let calm = not some in
-      ends_at turn true (r + length zs) (pc + length (xs ++ (ys ++ zs))) (standing pc s w) (block D bound true (Full a b) s w) size
-      (full_way no_turn turn calm (standing pc s w) r (r + length zs) (and_then (block D bound false a s w) (block D bound false b)) (λ s1 w1. passes_by s1 (all_dropped D w1))
-      (then_way no_turn calm bound q r (standing pc s w) (block D bound false a s w) (block D bound false b) (block_runs Inside no_turn calm false (λ x. absurd (false≢true x)) a (λ x. quiet_flat R slots names a (not_some some x)) pc refl s w (g.0, λ x. g.1 refl) (has_front p pc xs (ys ++ zs) has)) (λ s1 w1 g1.
-      block_runs Inside no_turn calm false (λ x. absurd (false≢true x)) b (λ x. free refl) q refl s1 w1 g1 (has_front p q ys zs behind_first)))
+      let inside = result_place w in
+      ends_at turn true (r + length zs) (pc + length (xs ++ (ys ++ zs))) (standing pc s w) (block D bound place true (Full a b) s w) size
+      (full_way no_turn turn calm (standing pc s w) r (r + length zs) (and_then (block D bound inside false a s w) (block D bound inside false b)) (λ s1 w1. passes_by s1 (all_dropped D w1))
+      (then_way no_turn calm bound q r (standing pc s w) (block D bound inside false a s w) (block D bound inside false b) (block_runs inside Inside no_turn calm false (λ x. absurd (false≢true x)) (λ x. ap (λ n. n - 1) g.0.strong) a (λ x. quiet_flat R slots names a (not_some some x)) pc refl s w (g.0, λ x. g.1 refl) (has_front p pc xs (ys ++ zs) has)) (λ s1 w1 g1.
+      block_runs inside Inside no_turn calm false (λ x. absurd (false≢true x)) (λ x. ap (λ n. n - 1) g.0.strong) b (λ x. free refl) q refl s1 w1 g1 (has_front p q ys zs behind_first)))
       (λ s1 w1 g1. drops_by turn some r s1 w1 g1 (has_back p q ys zs behind_first)))
-  block_runs e turn calm m h (Leave exit) free pc stands s w g has = leads_runs (moves p) bound (standing pc s w) (standing exit s w) (Leaves turn calm (pc + 1)) (Done (Out exit s) w) (moving pc (At exit) s w has) (ends_here (moves p) bound (standing exit s w) (Leaves turn calm (pc + 1)) (Out exit s) w (refl, (g.0, λ x. absurd (false≢true x))))
+  block_runs place e turn calm m h placed (Leave exit) free pc stands s w g has = leads_runs (moves p) bound (standing pc s w) (standing exit s w) (Leaves turn calm (pc + 1)) (Done (Out exit s) w) (moving pc (At exit) s w has) (ends_here (moves p) bound (standing exit s w) (Leaves turn calm (pc + 1)) (Out exit s) w (refl, (g.0, λ x. absurd (false≢true x))))

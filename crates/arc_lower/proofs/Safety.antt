@@ -1,40 +1,42 @@
 -- No action lacks what it takes, whatever is read, and the counts are right: what runs and what waits have as many numbers, references and places as the heights of a program say.
-use Rattle.std.proofs.Common.{◌≡◌, ◌⊎◌, inl, inr, ℕ, zero, suc, ◌+◌, ◌-◌, ◌<◌, ◌≤◌, ℤ, pos, Bool, true, false, ◌&&◌, nat_eq, if◌then◌else◌, List, [], ◌∷◌, ◌++◌, length, take, drop, Option, Some, None, ⊎_elim, refl, sym, ap, ◌∙◌, subst, arith, append_assoc, length-append, slice_get, slice_set, slice_index_or}
+use Rattle.std.proofs.Common.{◌≡◌, ◌⊎◌, inl, inr, ℕ, zero, suc, ◌+◌, ◌-◌, ◌<◌, ◌≤◌, ℤ, pos, Bool, true, false, ◌&&◌, nat_eq, if◌then◌else◌, List, [], ◌∷◌, ◌++◌, length, take, drop, is_some, Option, Some, None, ⊎_elim, refl, sym, ap, ◌∙◌, subst, arith, append_assoc, length-append, slice_get, slice_set, slice_index_or}
 use Rattle.std.proofs.Math.Seq.{take-append_seam, drop-append_seam}
-use Rattle.std.proofs.lemmas.Bool.{and_parts}
+use Rattle.std.proofs.lemmas.Bool.{and_parts, eqb-true}
 use Rattle.std.proofs.lemmas.List.{length-set}
 use Rattle.std.specs.Fmt.{signed_decimal}
 use Rattle.arc_ast.specs.declared.tree.Sign.{Sign}
 use Rattle.arc_ast.specs.declared.tree.Sign.TheVariants as signs
-use Rattle.arc_spec.specs.Classes.{Class, class_at, lookup, descends, field_order}
+use Rattle.arc_spec.specs.declared.class.Gives.{Gives}
+use Rattle.arc_spec.specs.declared.class.Gives.TheVariants as gives
+use Rattle.arc_spec.specs.Classes.{Class, class_at, lookup, is_root_init, same_gives, init_selector, descends, field_order}
 use Rattle.arc_spec.specs.World.{name_at}
-use Rattle.arc_spec.specs.declared.event.Fault.TheVariants.{FieldClass, Resurrected}
+use Rattle.arc_spec.specs.declared.event.Fault.TheVariants.{FieldClass, Resurrected, Unrecognized}
 use Rattle.arc_spec.specs.Meaning.{chosen}
 use Rattle.arc_spec.specs.Number.{converted, applied, combined, counted, low_byte, byte_or_end, is_zero}
 use Rattle.arc_spec.specs.Objects.{Object, Dying, Emptying, Gone, object_at, with_object, with_fields, with_strong_fields, in_phase, is_live, is_emptying, fields_of}
 use Rattle.arc_spec.specs.Resolved as resolved
-use Rattle.arc_spec.specs.Holding.{Held, nothing_held, Frame, Calling, Ending, Clearing, Waiter, Counted, holders, is_there, stacked, with_strong_globals, with_strong_field, on_place, turned_in, with_temporaries, with_variables, with_names, with_things, with_globals, lowered, raised, named, taken_by, gone_in, on_named, on_reference, on_field, declares, lets_go, resumed, all_nil, on_left, makes, with_field}
+use Rattle.arc_spec.specs.Holding.{Held, nothing_held, Frame, Calling, Ending, Clearing, Waiter, Counted, holders, is_there, stacked, with_strong_globals, with_strong_field, on_place, turned_in, with_temporaries, with_variables, with_names, with_things, with_globals, lowered, raised, named, taken_by, gone_in, on_named, on_reference, on_field, declares, lets_go, resumed, all_nil, on_left, on_last, on_result, given_back, makes, with_field}
 use Rattle.arc_spec.specs.Stepping.{Next, Goes, Asks, Ends, Faults, Stuck, Along, Safe, Sound, on_top, on_found, only_if}
 use Rattle.arc_ir.specs.Acting.{Action, Program, State, lands, start, step, entry, keeps, goes, or_fault, has_level, enters, answers, taken, sends, allocates, difference, operates, begins_end, releases, runs_dealloc, clears, after_deallocs, clears_next, ends_class, end_goes_on, leaves, executes}
 use Rattle.arc_code.specs.declared.effect.Height.{Height}
 use Rattle.arc_code.specs.declared.instr.Op.{Op}
 use Rattle.arc_code.specs.declared.instr.Op.TheVariants as ops
-use Rattle.arc_code.specs.declared.instr.Op.TheVariants.{Num, Bin, Un, Narrow, Pop, Get, Set, PrintNum, PrintByte, GetChar, Declare, Nil, ReadSelf, ReadRef, ReadGlobal, ReadField, Hold, Forget, Alloc, GetField, SetField, Differ, IsObject}
-use Rattle.arc_code.specs.declared.instr.Instr.TheVariants.{Plain, PrintText, Jump, JumpZero, Call, Send, SendSuper, SendTo, SendToSuper, StoreStrong, StoreGlobal, StoreField, Empty, DropAll, Return, EndStep}
-use Rattle.arc_code.specs.Effects.{passes}
+use Rattle.arc_code.specs.declared.instr.Op.TheVariants.{Num, Bin, Un, Narrow, Pop, Get, Set, PrintNum, PrintByte, GetChar, Declare, Nil, ReadSelf, ReadRef, ReadGlobal, ReadField, Hold, Forget, Alloc, Finds, GetField, SetField, Differ, IsObject}
+use Rattle.arc_code.specs.declared.instr.Instr.TheVariants.{Plain, PrintText, Jump, JumpZero, Call, Send, SendSuper, SendTo, SendToSuper, StoreStrong, StoreGlobal, StoreField, Empty, DropAll, Settle, Give, Return, EndStep}
+use Rattle.arc_code.specs.Effects.{passes, as_number, as_object}
 use Rattle.arc_code.specs.Instructions as instructions
 use Rattle.arc_lower.specs.Order.{Order, order, orders}
 use Rattle.arc_lower.specs.Lowered.{slots_of, parameters_of, entries_of, end_step_of, lowered as lowered_orders, classes_linked}
 use Rattle.arc_lower.specs.Heights.{height, next_height}
 use Rattle.arc_lower.proofs.CountsThere.{IsThere, AllThere, object_goes, named_goes, set_here}
-use Rattle.arc_lower.proofs.CountsKept.{Sane, Drops, nothing_sane, sane_moved, sane_names, sane_globals, sane_start, sane_entered, sane_take, sane_declare, variable_there, waiting_there, stacked_there, globals_there, fields_there, name_there, sane_store, sane_store_global, sane_store_field, sane_drop, drops_there, sane_nil, sane_last, sane_other, sane_make, sane_field, sane_empty, sane_gone}
+use Rattle.arc_lower.proofs.CountsKept.{Sane, Drops, nothing_sane, sane_moved, sane_names, sane_globals, sane_start, sane_entered, sane_take, sane_declare, variable_there, waiting_there, stacked_there, globals_there, fields_there, name_there, sane_store, sane_store_global, sane_store_field, sane_drop, sane_settle, drops_there, sane_nil, sane_last, sane_other, sane_make, sane_field, sane_empty, sane_gone}
 use Rattle.arc_lower.proofs.CountsHeld.{all_holders, live_there, there_fields}
 use Rattle.arc_lower.proofs.CountsPlaces.{holders_head, holders_nil, holders_append}
 use Rattle.arc_lower.proofs.Recounting.{at}
 use Rattle.arc_lower.proofs.Doing.{bare, does, acts_does}
 use Rattle.arc_lower.proofs.Standing.{no_nil, ending, AllDying, IsDying, NilBut, Alive, nil_alive, ends_there, ending_alive, IsHeld, last_held, held_there, held_within, made_dying, changed_dying, IsApart, live_apart, apart_dying, stored_far, fields_far, one_nil, no_field, nil_named, all_in_order}
-use Rattle.arc_lower.proofs.Typing.{Reaches}
-use Rattle.arc_lower.proofs.Stepping.{some_same, Clears, opens_clears, Stands, Onward, Steps}
+use Rattle.arc_lower.proofs.Typing.{Reaches, IsCalled}
+use Rattle.arc_lower.proofs.Stepping.{some_same, Clears, opens_clears, Stands, Quiet, Free, free_at, Onward, Steps}
 use Rattle.arc_lower.proofs.Stepping as stepping
 use Rattle.arc_lower.proofs.Programs.{all, table, methods_go, dealloc_goes, start_goes, end_is, steps_at}
 use Rattle.arc_lower.proofs.HeightsFit.{entry_goes}
@@ -62,6 +64,66 @@ nil_from_set zero [] h = tt
 nil_from_set zero (r ∷ rest) h = (refl, h)
 nil_from_set (suc n) [] h = tt
 nil_from_set (suc n) (r ∷ rest) h = nil_from_set n rest h
+
+-- none behind the first n names an object, but for the last one
+abbrev NilLess : ℕ → List ℕ → Type 0
+NilLess n [] = Unit {0}
+NilLess n (r ∷ []) = Unit {0}
+NilLess zero (r ∷ q ∷ rest) = (r ≡ 0) × NilLess zero (q ∷ rest)
+NilLess (suc n) (r ∷ q ∷ rest) = NilLess n (q ∷ rest)
+
+nil_less_end : (variables : List ℕ) (n : ℕ) → length variables ≤ n + 1 → NilLess n variables
+nil_less_end [] n le = tt
+nil_less_end (r ∷ []) n le = tt
+nil_less_end (r ∷ q ∷ rest) zero le = absurd (omega (arith, le))
+nil_less_end (r ∷ q ∷ rest) (suc n) le = nil_less_end (q ∷ rest) n (omega (arith, le))
+
+nil_less_set : (n : ℕ) (variables : List ℕ) → NilLess (suc n) variables → NilLess n (slice_set variables n 0)
+nil_less_set zero [] h = tt
+nil_less_set (suc n) [] h = tt
+nil_less_set zero (r ∷ []) h = tt
+nil_less_set (suc n) (r ∷ []) h = tt
+nil_less_set zero (r ∷ q ∷ rest) h = (refl, h)
+nil_less_set (suc zero) (r ∷ q ∷ rest) h = nil_less_set zero (q ∷ rest) h
+nil_less_set (suc (suc n)) (r ∷ q ∷ rest) h = nil_less_set (suc n) (q ∷ rest) h
+
+-- none behind the first n names an object, but for the place of an object that is given
+abbrev Shut : Gives → ℕ → List ℕ → Type 0
+Shut gives.Number n variables = NilFrom n variables
+Shut gives.Object n variables = NilLess n variables
+
+shut_end : (mine : Gives) (variables : List ℕ) (n : ℕ) → length variables ≤ n + as_object mine → Shut mine n variables
+shut_end gives.Number variables n le = nil_from_end variables n (omega (arith, le))
+shut_end gives.Object variables n le = nil_less_end variables n le
+
+shut_set : (mine : Gives) (n : ℕ) (variables : List ℕ) → Shut mine (suc n) variables → Shut mine n (slice_set variables n 0)
+shut_set gives.Number n variables h = nil_from_set n variables h
+shut_set gives.Object n variables h = nil_less_set n variables h
+
+-- all but the last one are nil, and that names this
+abbrev LastIs : ℕ → List ℕ → Type 0
+LastIs r [] = ⊥
+LastIs r (q ∷ []) = q ≡ r
+LastIs r (q ∷ next ∷ rest) = (q ≡ 0) × LastIs r (next ∷ rest)
+
+last_there : (variables : List ℕ) → 1 ≤ length variables → NilLess 0 variables → (r : ℕ) × LastIs r variables
+last_there [] some h = absurd (omega (arith, some))
+last_there (r ∷ []) some h = (r, refl)
+last_there (r ∷ q ∷ rest) some h =
+    let deep = last_there (q ∷ rest) (omega arith) h.1 in
+    (deep.0, (h.0, deep.1))
+
+last_goes : {S : Type 0} (r : ℕ) (variables : List ℕ) (go : ℕ → Next S) → LastIs r variables → on_last variables go ≡ go r
+last_goes r [] go h = absurd h
+last_goes r (q ∷ []) go h = ap go h
+last_goes r (zero ∷ q ∷ rest) go h = last_goes r (q ∷ rest) go h.1
+last_goes r (suc k ∷ q ∷ rest) go h = absurd (omega (arith, h.0))
+
+last_holders : (k r : ℕ) (variables : List ℕ) → LastIs r variables → holders (suc k) variables ≡ holders (suc k) (r ∷ [])
+last_holders k r [] h = absurd h
+last_holders k r (q ∷ []) h = ap (λ x. holders (suc k) (x ∷ [])) h
+last_holders k r (zero ∷ q ∷ rest) h = omega (arith, holders_nil k (q ∷ rest), last_holders k r (q ∷ rest) h.1)
+last_holders k r (suc j ∷ q ∷ rest) h = absurd (omega (arith, h.0))
 
 nil_seen : (variables : List ℕ) → AllNil variables → all_nil variables ≡ true
 nil_seen [] nil = refl
@@ -114,6 +176,30 @@ parted (suc n) (r ∷ own) le =
     let deep = parted n own (omega (arith, le)) in
     record { first = r ∷ deep.first; rest = deep.rest; is = ap (λ l. r ∷ l) deep.is; many = ap suc deep.many; left = omega (arith, deep.left) }
 
+two_of : (own : List ℕ) (n : ℕ) → length own ≡ suc (suc n) → (r : ℕ) × (q : ℕ) × (rest : List ℕ) × (own ≡ r ∷ q ∷ rest)
+two_of [] n e = absurd (omega (arith, e))
+two_of (r ∷ []) n e = absurd (omega (arith, e))
+two_of (r ∷ q ∷ rest) n e = (r, q, rest, refl)
+
+-- an object was made, which the last reference names and the last temporary holds; the others hold the other references
+record Made (own temporaries waiting : List ℕ) : Type 0 where
+  made : ℕ
+  rest : List ℕ
+  others : List ℕ
+  names_are : own ≡ made ∷ rest
+  places_are : temporaries ≡ made ∷ others
+  kept : AllHeld rest (others ++ waiting)
+
+-- what its `init` gives is there before it
+record Initialized (own temporaries waiting : List ℕ) : Type 0 where
+  given : ℕ
+  made : ℕ
+  rest : List ℕ
+  others : List ℕ
+  names_are : own ≡ given ∷ rest
+  places_are : temporaries ≡ given ∷ made ∷ others
+  kept : AllHeld rest (others ++ waiting)
+
 first_of : (own : List ℕ) → 1 ≤ length own → (r : ℕ) × (rest : List ℕ) × (own ≡ r ∷ rest)
 first_of [] some = absurd (omega (arith, some))
 first_of (r ∷ rest) some = (r, rest, refl)
@@ -133,6 +219,10 @@ executes_at : (p : Program) (xs : List Action) (pc : ℕ) (x : Order) (s : State
 executes_at p [] pc x s e = cc
 executes_at p (y ∷ xs) zero x s e = acts_does p y s ∙ ap (λ z. does p z s) (some_same (order y) x e)
 executes_at p (y ∷ xs) (suc pc) x s e = executes_at p xs pc x s e
+
+-- a message drops no temporary
+message_stays : (selector takes objects : ℕ) (wanted : Gives) (x : Order) → x ≡ SendTo selector takes objects wanted → Some x ≡ Some Settle → ⊥
+message_stays selector takes objects wanted x is same = cc
 
 -- ---- the places of a function that waits
 
@@ -174,15 +264,30 @@ again_sane w h s none nil sane = sane_moved h (again w s h) refl refl (λ k.
     let h1 = again w s h in
     omega (arith, ap (holders (suc k)) s.is, holders_append (suc k) (s.temporaries ++ s.variables) s.waiting, holders_append (suc k) s.temporaries s.variables, all_holders (suc k) h1, all_holders (suc k) h, nil_holders k h.variables nil, ap (holders (suc k)) none)) sane
 
+-- the function that is left has no temporary, and of its variables the last one alone names something: that is a temporary of the one that runs again
+given_sane : {classes : List Class} (w : Waiter) (h : Held) (s : Splits w h.places) (r : ℕ) → h.temporaries ≡ [] → LastIs r h.variables → Sane classes h → Sane classes (given_back r (again w s (with_variables h [])))
+given_sane w h s r none last sane =
+    let h1 = given_back r (again w s (with_variables h [])) in
+    sane_moved h h1 refl refl (λ k.
+    omega (arith, ap (holders (suc k)) s.is, holders_append (suc k) (s.temporaries ++ s.variables) s.waiting, holders_append (suc k) s.temporaries s.variables, all_holders (suc k) h1, all_holders (suc k) h, last_holders k r h.variables last, holders_head (suc k) r s.temporaries, holders_head (suc k) r [], ap (holders (suc k)) none)) sane
+
 left_sane : {classes : List Class} (h : Held) → h.temporaries ≡ [] → AllNil h.variables → Sane classes h → Sane classes (with_variables h [])
 left_sane h none nil sane = sane_moved h (with_variables h []) refl refl (λ k. omega (arith, all_holders (suc k) (with_variables h []), all_holders (suc k) h, nil_holders k h.variables nil)) sane
 
 module _ (p : Program) (R : resolved.Program) where
-  abbrev Goes_to : ℕ → Height → Type 0
-  Goes_to = stepping.Goes R (all R) (table R)
+  -- in a function that gives this
+  abbrev Goes_to : Gives → ℕ → Height → Type 0
+  Goes_to mine = stepping.Goes R (all R) (table R) mine
 
   abbrev Clear : ℕ → ℕ → Type 0
   Clear = Clears R (all R) (table R)
+
+  abbrev Is_free : ℕ → Type 0
+  Is_free = Free R (all R) (table R)
+
+  -- where the temporary before the last one is dropped, or the made object gets `init`, the last references and the last temporaries are those of that object
+  abbrev Ready : ℕ → (own temporaries waiting : List ℕ) → Type 0
+  Ready pc own temporaries waiting = Is_free pc ⊎ ((Quiet R (all R) (table R) pc × Made own temporaries waiting) ⊎ ((slice_get (all R) pc ≡ Some Settle) × Initialized own temporaries waiting))
 
   -- ---- what runs, and what waits
 
@@ -196,10 +301,10 @@ module _ (p : Program) (R : resolved.Program) where
   IsEnding (Clearing back w o fields ∷ others) = Unit {0}
   IsEnding _ = ⊥
 
-  -- with so many numbers, these references and these places a function goes on at a place, above those that wait
-  pub record Resumes (back self : ℕ) (others : List Frame) (numbers below : ℕ) (names deeper temporaries variables waiting : List ℕ) : Type 0 where
+  -- with so many numbers, these references and these places a function that gives this goes on at a place, above those that wait
+  pub record Resumes (mine : Gives) (back self : ℕ) (others : List Frame) (numbers below : ℕ) (names deeper temporaries variables waiting : List ℕ) : Type 0 where
     high : Height
-    stands : Stands R (all R) (table R) back high
+    stands : Stands R (all R) (table R) mine back high
     count : numbers ≡ high.numbers + below
     own : List ℕ
     is : names ≡ own ++ deeper
@@ -207,7 +312,8 @@ module _ (p : Program) (R : resolved.Program) where
     few : length temporaries ≤ high.temporaries
     many : length variables ≡ high.variables
     held : AllHeld own (temporaries ++ waiting)
-    nil : (k : ℕ) → Clear k back → NilFrom k variables
+    nil : (k : ℕ) → Clear k back → Shut mine k variables
+    ready : Ready back own temporaries waiting
     alive : Alive others waiting self
     running : Runs others
 
@@ -219,23 +325,34 @@ module _ (p : Program) (R : resolved.Program) where
     empty : variables ≡ []
     alive : Alive others waiting self
 
-  -- so many numbers, and these references and places, wait; a call gives a number, which isn't there yet
-  abbrev pub Waits : List Frame → ℕ → (names places : List ℕ) → Type 0
-  Waits [] n names places = Unit {0}
-  Waits (Calling back w ∷ others) n names places =
-      (below : ℕ) × (deeper : List ℕ) × (s : Splits w places) × Resumes back w.self others (n + 1) below names deeper s.temporaries s.variables s.waiting × Waits others below deeper s.waiting
-  Waits (Ending back w o next left ∷ others) n names places = IsApart o (ending others) × (s : Splits w places)
-      × (((below : ℕ) × (deeper : List ℕ) × Resumes back w.self others n below names deeper s.temporaries s.variables s.waiting × Waits others below deeper s.waiting)
-      ⊎ (EndsAgain back w.self others s.temporaries s.variables s.waiting × Waits others n names s.waiting))
-  Waits (Clearing back w o fields ∷ others) n names places = IsApart o (ending others) × (s : Splits w places)
-      × (((below : ℕ) × (deeper : List ℕ) × Resumes back w.self others n below names deeper s.temporaries s.variables s.waiting × Waits others below deeper s.waiting)
-      ⊎ (EndsAgain back w.self others s.temporaries s.variables s.waiting × Waits others n names s.waiting))
+  -- the same once what is wanted of a call is there: one number more, or an object, which is the last reference and the last temporary
+  abbrev pub Comes_back : (wanted mine : Gives) (back self : ℕ) (others : List Frame) (numbers below : ℕ) (names deeper temporaries variables waiting : List ℕ) → Type 0
+  Comes_back gives.Number mine back self others numbers below names deeper temporaries variables waiting = Resumes mine back self others (numbers + 1) below names deeper temporaries variables waiting
+  Comes_back gives.Object mine back self others numbers below names deeper temporaries variables waiting = (r : ℕ) → Resumes mine back self others numbers below (r ∷ names) deeper (r ∷ temporaries) variables waiting
+
+  -- only of a function that gives a number
+  abbrev pub Numbers : Gives → Type 0 → Type 0
+  Numbers gives.Number A = A
+  Numbers gives.Object A = ⊥
+
+  -- so many numbers, and these references and places, wait for a function that gives this; what a call gives isn't there yet
+  abbrev pub Waits : Gives → List Frame → ℕ → (names places : List ℕ) → Type 0
+  Waits given [] n names places = Numbers given (Unit {0})
+  Waits given (Calling back w ∷ others) n names places =
+      (mine : Gives) × (below : ℕ) × (deeper : List ℕ) × (s : Splits w places) × Comes_back given mine back w.self others n below names deeper s.temporaries s.variables s.waiting × Waits mine others below deeper s.waiting
+  Waits given (Ending back w o next left ∷ others) n names places = Numbers given (IsApart o (ending others) × (s : Splits w places)
+      × (((mine : Gives) × (below : ℕ) × (deeper : List ℕ) × Resumes mine back w.self others n below names deeper s.temporaries s.variables s.waiting × Waits mine others below deeper s.waiting)
+      ⊎ (EndsAgain back w.self others s.temporaries s.variables s.waiting × Waits gives.Number others n names s.waiting)))
+  Waits given (Clearing back w o fields ∷ others) n names places = Numbers given (IsApart o (ending others) × (s : Splits w places)
+      × (((mine : Gives) × (below : ℕ) × (deeper : List ℕ) × Resumes mine back w.self others n below names deeper s.temporaries s.variables s.waiting × Waits mine others below deeper s.waiting)
+      ⊎ (EndsAgain back w.self others s.temporaries s.variables s.waiting × Waits gives.Number others n names s.waiting)))
 
   pub record InFunction (s : State) : Type 0 where
+    mine : Gives
     below : ℕ
     deeper : List ℕ
-    resumes : Resumes s.at s.held.self s.frames (length s.stack) below s.held.names deeper s.held.temporaries s.held.variables s.held.places
-    waits : Waits s.frames below deeper s.held.places
+    resumes : Resumes mine s.at s.held.self s.frames (length s.stack) below s.held.names deeper s.held.temporaries s.held.variables s.held.places
+    waits : Waits mine s.frames below deeper s.held.places
 
   -- where the end of an object goes on
   pub record InEnd (s : State) : Type 0 where
@@ -244,7 +361,7 @@ module _ (p : Program) (R : resolved.Program) where
     none : s.held.temporaries ≡ []
     empty : s.held.variables ≡ []
     alive : Alive s.frames s.held.places s.held.self
-    waits : Waits s.frames (length s.stack) s.held.names s.held.places
+    waits : Waits gives.Number s.frames (length s.stack) s.held.names s.held.places
 
   abbrev pub Good : State → Type 0
   Good s = (InFunction s ⊎ InEnd s) × AllDying s.held.objects (ending s.frames) × Sane p.classes s.held
@@ -326,21 +443,43 @@ module _ (p : Program) (R : resolved.Program) where
       by true t = e k there.0 refl there.1 (and_parts (is_live (Some there.0)) (nat_eq (held.counts (suc k)) 1) t).0
       by false t = h (sane_other held k there.0 there.1 t drops)
 
-  -- a function is left
-  leaves_lead : (frames : List Frame) (below : ℕ) (deeper : List ℕ) (pc : ℕ) (v : ℤ) (stack rest : List ℤ) (held : Held) → Waits frames below deeper held.places → Alive frames held.places held.self → length stack ≡ suc (length rest) → below ≡ length rest → held.names ≡ deeper → held.temporaries ≡ [] → AllNil held.variables → AllDying held.objects (ending frames) → Sane p.classes held → Runs frames
+  last_leads : (r : ℕ) (temporaries : List ℕ) (held : Held) (go : ℕ → Held → Next State) → temporaries ≡ [] → LastIs r held.variables → Leads (go r (with_variables held [])) → Leads (on_result temporaries held go)
+  last_leads r [] held go none last h = subst Leads (sym (last_goes r held.variables (λ q. go q (with_variables held [])) last)) h
+  last_leads r (q ∷ others) held go none last h = absurd (no_list none)
+    where
+      no_list : q ∷ others ≡ [] → ⊥
+      no_list e = cc
+
+  -- a function is left that gives a number
+  leaves_lead : (frames : List Frame) (below : ℕ) (deeper : List ℕ) (pc : ℕ) (v : ℤ) (stack rest : List ℤ) (held : Held) → Waits gives.Number frames below deeper held.places → Alive frames held.places held.self → length stack ≡ suc (length rest) → below ≡ length rest → held.names ≡ deeper → held.temporaries ≡ [] → AllNil held.variables → AllDying held.objects (ending frames) → Sane p.classes held → Runs frames
       → Leads (leaves p (at frames pc stack held) frames v rest (with_variables held []))
   leaves_lead [] below deeper pc v stack rest held waits alive size e f none nil dying sane running = tt
   leaves_lead (Calling back w ∷ others) below deeper pc v stack rest held waits alive size e f none nil dying sane running =
       let h = with_variables held [] in
-      let s = waits.2 in
+      let mine = waits.0 in
+      let s = waits.3 in
       let more : below + 1 ≡ length stack = omega (arith, size, e) in
-      let resumes = subst (λ l. Resumes back w.self others (length stack) waits.0 l waits.1 s.temporaries s.variables s.waiting) (sym f) (subst (λ n. Resumes back w.self others n waits.0 deeper waits.1 s.temporaries s.variables s.waiting) more waits.3) in
+      let resumes = subst (λ l. Resumes mine back w.self others (length stack) waits.1 l waits.2 s.temporaries s.variables s.waiting) (sym f) (subst (λ n. Resumes mine back w.self others n waits.1 deeper waits.2 s.temporaries s.variables s.waiting) more waits.4) in
       subst (λ h1. Good (at others back stack h1)) (sym (resumes_again w h s))
-      (inl (record { below = waits.0; deeper = waits.1; resumes = resumes; waits = waits.4 }), dying, again_sane w h s none tt (left_sane held none nil sane))
+      (inl (record { mine = mine; below = waits.1; deeper = waits.2; resumes = resumes; waits = waits.5 }), dying, again_sane w h s none tt (left_sane held none nil sane))
   leaves_lead (Ending back w o next left ∷ others) below deeper pc v stack rest held waits alive size e f none nil dying sane running =
       let frames = Ending back w o next left ∷ others in
-      (inr (record { at_end = refl; is_ending = tt; none = none; empty = refl; alive = alive; waits = subst (λ l. Waits frames (length rest) l held.places) (sym f) (subst (λ n. Waits frames n deeper held.places) e waits) }), dying, left_sane held none nil sane)
+      (inr (record { at_end = refl; is_ending = tt; none = none; empty = refl; alive = alive; waits = subst (λ l. Waits gives.Number frames (length rest) l held.places) (sym f) (subst (λ n. Waits gives.Number frames n deeper held.places) e waits) }), dying, left_sane held none nil sane)
   leaves_lead (Clearing back w o fields ∷ others) below deeper pc v stack rest held waits alive size e f none nil dying sane running = absurd running
+
+  -- one that gives an object, which was called
+  hands_lead : (frames : List Frame) (below : ℕ) (deeper : List ℕ) (pc r : ℕ) (stack rest : List ℤ) (held : Held) → Waits gives.Object frames below deeper held.places → below ≡ length rest → held.names ≡ deeper → held.temporaries ≡ [] → LastIs r held.variables → AllDying held.objects (ending frames) → Sane p.classes held
+      → Leads (instructions.hands_over (bare p) (at frames pc stack held) frames r rest (with_variables held []))
+  hands_lead [] below deeper pc r stack rest held waits e f none last dying sane = absurd waits
+  hands_lead (Calling back w ∷ others) below deeper pc r stack rest held waits e f none last dying sane =
+      let h = with_variables held [] in
+      let mine = waits.0 in
+      let s = waits.3 in
+      let resumes = subst (λ l. Resumes mine back w.self others (length rest) waits.1 (r ∷ l) waits.2 (r ∷ s.temporaries) s.variables s.waiting) (sym f) (subst (λ n. Resumes mine back w.self others n waits.1 (r ∷ deeper) waits.2 (r ∷ s.temporaries) s.variables s.waiting) e (waits.4 r)) in
+      subst (λ h1. Good (at others back rest (given_back r h1))) (sym (resumes_again w h s))
+      (inl (record { mine = mine; below = waits.1; deeper = waits.2; resumes = resumes; waits = waits.5 }), dying, given_sane w held s r none last sane)
+  hands_lead (Ending back w o next left ∷ others) below deeper pc r stack rest held waits e f none last dying sane = absurd waits
+  hands_lead (Clearing back w o fields ∷ others) below deeper pc r stack rest held waits e f none last dying sane = absurd waits
 
   -- ---- ends that begin
 
@@ -352,7 +491,7 @@ module _ (p : Program) (R : resolved.Program) where
 
   -- what was dropped ends, and what runs waits
   begins_lead : (frames : List Frame) (b : Bool) (k to pc : ℕ) (ob : Object) (stack : List ℤ) (before held : Held) → object_at held.objects (suc k) ≡ Some ob → is_live (Some ob) ≡ true → AllDying held.objects (ending frames) → Drops p.classes (suc k) held
-      → (IsApart (suc k) (ending frames) → Waits (Ending to (waits_as held) (suc k) (Some ob.class) (length p.classes) ∷ frames) (length stack) held.names (stacked held))
+      → (IsApart (suc k) (ending frames) → Waits gives.Number (Ending to (waits_as held) (suc k) (Some ob.class) (length p.classes) ∷ frames) (length stack) held.names (stacked held))
       → Leads (begins_end p (at frames pc stack before) to (suc k) ob.class (with_things (lowered (suc k) held) (with_object held.objects (suc k) (in_phase Dying ob))) b)
   begins_lead frames false k to pc ob stack before held found live dying drops waits = tt
   begins_lead frames true k to pc ob stack before held found live dying drops waits =
@@ -368,7 +507,7 @@ module _ (p : Program) (R : resolved.Program) where
 
   -- ---- one step of a function
 
-  module _ (frames : List Frame) (below : ℕ) (deeper waiting : List ℕ) (self : ℕ) (alive : Alive frames waiting self) (waits : Waits frames below deeper waiting) (running : Runs frames) where
+  module _ (mine : Gives) (frames : List Frame) (below : ℕ) (deeper waiting : List ℕ) (self : ℕ) (alive : Alive frames waiting self) (waits : Waits mine frames below deeper waiting) (running : Runs frames) where
     -- these are the references of the running function
     record Owns (own : List ℕ) (held : Held) : Type 0 where
       is : held.names ≡ own ++ deeper
@@ -380,28 +519,29 @@ module _ (p : Program) (R : resolved.Program) where
 
     -- a function to which the run comes back
     abbrev Back : ℕ → ℕ → List ℕ → Held → Type 0
-    Back to numbers names held = Resumes to self frames numbers below names deeper held.temporaries held.variables waiting
+    Back to numbers names held = Resumes mine to self frames numbers below names deeper held.temporaries held.variables waiting
 
-    back : (to : ℕ) (h : Height) → Stands R (all R) (table R) to h → (numbers : ℕ) (own : List ℕ) (held : Held) → ((k : ℕ) → Clear k to → NilFrom k held.variables) → numbers ≡ h.numbers + below → length own ≡ h.names → length held.temporaries ≤ h.temporaries → length held.variables ≡ h.variables → AllHeld own (held.temporaries ++ waiting) → Back to numbers (own ++ deeper) held
-    back to h stands numbers own held nil count size few many keeps = record { high = h; stands = stands; count = count; own = own; is = refl; size = size; few = few; many = many; held = keeps; nil = nil; alive = alive; running = running }
+    back : (to : ℕ) (h : Height) → Stands R (all R) (table R) mine to h → (numbers : ℕ) (own : List ℕ) (held : Held) → ((k : ℕ) → Clear k to → Shut mine k held.variables) → Ready to own held.temporaries waiting → numbers ≡ h.numbers + below → length own ≡ h.names → length held.temporaries ≤ h.temporaries → length held.variables ≡ h.variables → AllHeld own (held.temporaries ++ waiting) → Back to numbers (own ++ deeper) held
+    back to h stands numbers own held nil ready count size few many keeps = record { high = h; stands = stands; count = count; own = own; is = refl; size = size; few = few; many = many; held = keeps; nil = nil; ready = ready; alive = alive; running = running }
 
-    goes_nil : (to : ℕ) (h : Height) → Goes_to to h → (variables : List ℕ) → length variables ≡ h.variables → (k : ℕ) → Clear k to → NilFrom k variables
-    goes_nil to h g variables many k c = let le = g.1 k c in nil_from_end variables k (omega (arith, many, le))
+    goes_nil : (to : ℕ) (h : Height) → ((k : ℕ) → Clear k to → h.variables ≤ k + as_object mine) → (variables : List ℕ) → length variables ≡ h.variables → (k : ℕ) → Clear k to → Shut mine k variables
+    goes_nil to h g variables many k c = let le = g k c in shut_end mine variables k (omega (arith, many, le))
 
     run_on : (to : ℕ) (stack : List ℤ) (held : Held) (own : List ℕ) → Owns own held → Back to (length stack) (own ++ deeper) held → Good (at frames to stack held)
     run_on to stack held own o b = (
       inl (record {
+        mine = mine;
         below = below;
         deeper = deeper;
-        resumes = subst (λ l. Resumes to held.self frames (length stack) below held.names deeper held.temporaries held.variables l) (sym o.places) (subst (λ l. Resumes to held.self frames (length stack) below l deeper held.temporaries held.variables waiting) (sym o.is) (subst (λ x. Resumes to x frames (length stack) below (own ++ deeper) deeper held.temporaries held.variables waiting) (sym o.itself) b));
-        waits = subst (Waits frames below deeper) (sym o.places) waits;
+        resumes = subst (λ l. Resumes mine to held.self frames (length stack) below held.names deeper held.temporaries held.variables l) (sym o.places) (subst (λ l. Resumes mine to held.self frames (length stack) below l deeper held.temporaries held.variables waiting) (sym o.is) (subst (λ x. Resumes mine to x frames (length stack) below (own ++ deeper) deeper held.temporaries held.variables waiting) (sym o.itself) b));
+        waits = subst (Waits mine frames below deeper) (sym o.places) waits;
       }),
       o.dying,
       o.sane,
     )
 
-    go_on : (to : ℕ) (h : Height) → Goes_to to h → (stack : List ℤ) (held : Held) (own : List ℕ) → length stack ≡ h.numbers + below → length own ≡ h.names → length held.temporaries ≤ h.temporaries → length held.variables ≡ h.variables → Owns own held → Good (at frames to stack held)
-    go_on to h g stack held own count size few many o = run_on to stack held own o (back to h g.0 (length stack) own held (goes_nil to h g held.variables many) count size few many o.keeps)
+    go_on : (to : ℕ) (h : Height) → Goes_to mine to h → (stack : List ℤ) (held : Held) (own : List ℕ) → length stack ≡ h.numbers + below → length own ≡ h.names → length held.temporaries ≤ h.temporaries → length held.variables ≡ h.variables → Owns own held → Good (at frames to stack held)
+    go_on to h g stack held own count size few many o = run_on to stack held own o (back to h g.0 (length stack) own held (goes_nil to h g.1 held.variables many) (inl g.2) count size few many o.keeps)
 
     -- what is held is there
     own_there : (own : List ℕ) (held : Held) → Owns own held → (r : ℕ) → IsHeld r (held.temporaries ++ waiting) → IsThere held.objects r
@@ -414,58 +554,64 @@ module _ (p : Program) (R : resolved.Program) where
     begins_leads b k to pc ob stack before held same there found live dying drops home =
         let w : Waiter = waits_as held in
         let splits : Splits w (stacked held) = splits_as held in
-        let home1 = subst (λ l. Resumes to held.self frames (length stack) below held.names deeper held.temporaries held.variables l) (sym there) (subst (λ x. Resumes to x frames (length stack) below held.names deeper held.temporaries held.variables waiting) (sym same) home) in
-        begins_lead frames b k to pc ob stack before held found live dying drops (λ apart. (apart, splits, inl (below, deeper, home1, subst (Waits frames below deeper) (sym there) waits)))
+        let home1 = subst (λ l. Resumes mine to held.self frames (length stack) below held.names deeper held.temporaries held.variables l) (sym there) (subst (λ x. Resumes mine to x frames (length stack) below held.names deeper held.temporaries held.variables waiting) (sym same) home) in
+        begins_lead frames b k to pc ob stack before held found live dying drops (λ apart. (apart, splits, inl (mine, below, deeper, home1, subst (Waits mine frames below deeper) (sym there) waits)))
 
     -- a place that named this names another, or nil
     releases_lead : (r pc : ℕ) (stack : List ℤ) (before held : Held) (own : List ℕ) → held.names ≡ own ++ deeper → held.places ≡ waiting → held.self ≡ self → AllHeld own (held.temporaries ++ waiting) → AllDying held.objects (ending frames) → Drops p.classes r held → Back (pc + 1) (length stack) held.names held → Leads (releases p (at frames pc stack before) r held)
     releases_lead r pc stack before held own is places same keeps dying drops home = lets_go_leads r held _ _ drops
-        (λ sane. run_on (pc + 1) stack (lowered r held) own (record { is = is; places = places; itself = same; keeps = keeps; dying = dying; sane = sane }) (subst (λ l. Resumes (pc + 1) self frames (length stack) below l deeper held.temporaries held.variables waiting) is home))
+        (λ sane. run_on (pc + 1) stack (lowered r held) own (record { is = is; places = places; itself = same; keeps = keeps; dying = dying; sane = sane }) (subst (λ l. Resumes mine (pc + 1) self frames (length stack) below l deeper held.temporaries held.variables waiting) is home))
         (λ k ob e found live. begins_leads (has_level (at frames pc stack before)) k (pc + 1) pc ob stack before held same places found live dying (subst (λ q. Drops p.classes q held) e drops) home)
 
+    -- where the running function goes on behind a call that takes so many numbers and the references before these
+    abbrev Home : (wanted : Gives) → ℕ → (numbers : ℕ) → List ℕ → Held → Type 0
+    Home wanted pc numbers rest held = Comes_back wanted mine (pc + 1) self frames numbers below rest deeper held.temporaries held.variables waiting
+
     -- what is entered has so many numbers, which lie on the stack, and these references
-    enters_lead : (b : Bool) (to self1 passed pc : ℕ) (given rest : List ℕ) (stack : List ℤ) (held : Held) → Goes_to to (height passed (length given) 0 0) → passed ≤ length stack → held.names ≡ given ++ rest → AllHeld given (held.temporaries ++ waiting) → Alive frames (stacked held) self1 → held.self ≡ self → held.places ≡ waiting → AllDying held.objects (ending frames) → Sane p.classes held → Back (pc + 1) (length stack - passed + 1) rest held
+    enters_lead : (b : Bool) (wanted : Gives) (to self1 passed pc : ℕ) (given rest : List ℕ) (stack : List ℤ) (held : Held) → Goes_to wanted to (height passed (length given) 0 0) → passed ≤ length stack → held.names ≡ given ++ rest → AllHeld given (held.temporaries ++ waiting) → Alive frames (stacked held) self1 → held.self ≡ self → held.places ≡ waiting → AllDying held.objects (ending frames) → Sane p.classes held → Home wanted pc (length stack - passed) rest held
         → Leads (enters (at frames pc stack held) to self1 b)
-    enters_lead false to self1 passed pc given rest stack held g le is keeps living same there dying sane home = tt
-    enters_lead true to self1 passed pc given rest stack held g le is keeps living same there dying sane home =
+    enters_lead false wanted to self1 passed pc given rest stack held g le is keeps living same there dying sane home = tt
+    enters_lead true wanted to self1 passed pc given rest stack held g le is keeps living same there dying sane home =
         let w : Waiter = waits_as held in
+        let n = length stack - passed in
         let splits : Splits w (stacked held) = splits_as held in
-        let home1 = subst (λ l. Resumes (pc + 1) held.self frames (length stack - passed + 1) below rest deeper held.temporaries held.variables l) (sym there) (subst (λ x. Resumes (pc + 1) x frames (length stack - passed + 1) below rest deeper held.temporaries held.variables waiting) (sym same) home) in
+        let home1 = subst (λ l. Comes_back wanted mine (pc + 1) held.self frames n below rest deeper held.temporaries held.variables l) (sym there) (subst (λ x. Comes_back wanted mine (pc + 1) x frames n below rest deeper held.temporaries held.variables waiting) (sym same) home) in
         let held_there = subst (λ l. AllHeld given ((held.temporaries ++ held.variables) ++ l)) (sym there) (all_within held.temporaries held.variables waiting given keeps) in (
           inl (record {
-            below = length stack - passed;
+            mine = wanted;
+            below = n;
             deeper = rest;
-            resumes = record { high = height passed (length given) 0 0; stands = g.0; count = omega (arith, le); own = given; is = is; size = refl; few = omega arith; many = refl; held = held_there; nil = λ k c. nil_from_end [] k (omega arith); alive = living; running = tt };
-            waits = (below, deeper, splits, home1, subst (Waits frames below deeper) (sym there) waits);
+            resumes = record { high = height passed (length given) 0 0; stands = g.0; count = omega (arith, le); own = given; is = is; size = refl; few = omega arith; many = refl; held = held_there; nil = λ k c. shut_end wanted [] k (omega arith); ready = inl g.2; alive = living; running = tt };
+            waits = (mine, below, deeper, splits, home1, subst (Waits mine frames below deeper) (sym there) waits);
           }),
           dying,
           sane_entered held self1 sane,
         )
 
-    answers_lead : (found : Option ℕ) (self1 passed pc : ℕ) (given rest : List ℕ) (stack : List ℤ) (held : Held) → ((to : ℕ) → found ≡ Some to → Goes_to to (height passed (length given) 0 0)) → passed ≤ length stack → held.names ≡ given ++ rest → AllHeld given (held.temporaries ++ waiting) → Alive frames (stacked held) self1 → held.self ≡ self → held.places ≡ waiting → AllDying held.objects (ending frames) → Sane p.classes held → Back (pc + 1) (length stack - passed + 1) rest held
+    answers_lead : (found : Option ℕ) (wanted : Gives) (self1 passed pc : ℕ) (given rest : List ℕ) (stack : List ℤ) (held : Held) → ((to : ℕ) → found ≡ Some to → Goes_to wanted to (height passed (length given) 0 0)) → passed ≤ length stack → held.names ≡ given ++ rest → AllHeld given (held.temporaries ++ waiting) → Alive frames (stacked held) self1 → held.self ≡ self → held.places ≡ waiting → AllDying held.objects (ending frames) → Sane p.classes held → Home wanted pc (length stack - passed) rest held
         → Leads (answers (at frames pc stack held) self1 found)
-    answers_lead None self1 passed pc given rest stack held begins le is keeps living same there dying sane home = tt
-    answers_lead (Some to) self1 passed pc given rest stack held begins le is keeps living same there dying sane home = enters_lead (has_level (at frames pc stack held)) to self1 passed pc given rest stack held (begins to refl) le is keeps living same there dying sane home
+    answers_lead None wanted self1 passed pc given rest stack held begins le is keeps living same there dying sane home = tt
+    answers_lead (Some to) wanted self1 passed pc given rest stack held begins le is keeps living same there dying sane home = enters_lead (has_level (at frames pc stack held)) wanted to self1 passed pc given rest stack held (begins to refl) le is keeps living same there dying sane home
 
     -- the temporaries are dropped, where there is no reference
-    drops_lead : (temporaries : List ℕ) (pc : ℕ) (h : Height) (stack : List ℤ) (before held : Held) → held.temporaries ≡ temporaries → Stands R (all R) (table R) pc h → Goes_to (pc + 1) (record h { temporaries = 0 }) → ((k : ℕ) → Clear k pc → NilFrom k held.variables) → length stack ≡ h.numbers + below → 0 ≡ h.names → length temporaries ≤ h.temporaries → length held.variables ≡ h.variables → Owns [] held
+    drops_lead : (temporaries : List ℕ) (pc : ℕ) (h : Height) (stack : List ℤ) (before held : Held) → held.temporaries ≡ temporaries → Stands R (all R) (table R) mine pc h → Is_free pc → Goes_to mine (pc + 1) (record h { temporaries = 0 }) → ((k : ℕ) → Clear k pc → Shut mine k held.variables) → length stack ≡ h.numbers + below → 0 ≡ h.names → length temporaries ≤ h.temporaries → length held.variables ≡ h.variables → Owns [] held
         → Leads (instructions.drops_all (bare p) (at frames pc stack before) temporaries held)
-    drops_lead [] pc h stack before held is stands g nil count size few many o = go_on (pc + 1) (record h { temporaries = 0 }) g stack held [] count size (let none = ap length is in omega (arith, none)) many o
-    drops_lead (r ∷ others) pc h stack before held is stands g nil count size few many o =
+    drops_lead [] pc h stack before held is stands free g nil count size few many o = go_on (pc + 1) (record h { temporaries = 0 }) g stack held [] count size (let none = ap length is in omega (arith, none)) many o
+    drops_lead (r ∷ others) pc h stack before held is stands free g nil count size few many o =
         let held1 = with_temporaries held others in
         lets_go_leads r held1 _ _ (sane_drop held r others is o.sane)
-        (λ sane. drops_lead others pc h stack before (lowered r held1) refl stands g nil count size (omega (arith, few)) many (record { is = o.is; places = o.places; itself = o.itself; keeps = tt; dying = o.dying; sane = sane }))
+        (λ sane. drops_lead others pc h stack before (lowered r held1) refl stands free g nil count size (omega (arith, few)) many (record { is = o.is; places = o.places; itself = o.itself; keeps = tt; dying = o.dying; sane = sane }))
         (λ k ob e found live. begins_leads (has_level (at frames pc stack before)) k pc pc ob stack before held1 o.itself o.places found live o.dying (subst (λ q. Drops p.classes q held1) e (sane_drop held r others is o.sane))
-        (subst (λ l. Resumes pc self frames (length stack) below l deeper others held.variables waiting) (sym o.is) (back pc h stands (length stack) [] held1 nil count size (omega (arith, few)) many tt)))
+        (subst (λ l. Resumes mine pc self frames (length stack) below l deeper others held.variables waiting) (sym o.is) (back pc h stands (length stack) [] held1 nil (inl free) count size (omega (arith, few)) many tt)))
 
     -- ---- one order
 
-    module _ (classes : p.classes ≡ classes_linked R) (calls : (f : ℕ) → f ≤ length R.functions → Goes_to (entry p f) (height (slots_of R f) (parameters_of R f) 0 0)) (pc : ℕ) (h : Height) (stack : List ℤ) (held : Held) (own : List ℕ) (count : length stack ≡ h.numbers + below) (size : length own ≡ h.names) (few : length held.temporaries ≤ h.temporaries) (many : length held.variables ≡ h.variables) (o : Owns own held) where
+    module _ (classes : p.classes ≡ classes_linked R) (calls : (wanted : Gives) (f : ℕ) → IsCalled R wanted f → Goes_to wanted (entry p f) (height (slots_of R wanted f) (parameters_of R wanted f) 0 0)) (pc : ℕ) (h : Height) (stack : List ℤ) (held : Held) (own : List ℕ) (count : length stack ≡ h.numbers + below) (size : length own ≡ h.names) (few : length held.temporaries ≤ h.temporaries) (many : length held.variables ≡ h.variables) (o : Owns own held) where
       abbrev s : State
       s = at frames pc stack held
 
-      finds : (from : Option ℕ) (sign : Sign) (selector takes objects to : ℕ) → lookup p.classes from sign selector takes objects ≡ Some to → Goes_to to (height (passes sign takes) objects 0 0)
-      finds from sign selector takes objects to e = methods_go R from sign selector takes objects to (subst (λ cs. lookup cs from sign selector takes objects ≡ Some to) classes e)
+      finds : (from : Option ℕ) (sign : Sign) (selector takes objects : ℕ) (wanted : Gives) (to : ℕ) → lookup p.classes from sign selector takes objects wanted ≡ Some to → Goes_to wanted to (height (passes sign takes) objects 0 0)
+      finds from sign selector takes objects wanted to e = methods_go R from sign selector takes objects wanted to (subst (λ cs. lookup cs from sign selector takes objects wanted ≡ Some to) classes e)
 
       self_there : IsThere held.objects held.self
       self_there = subst (IsThere held.objects) (sym o.itself) (alive held.objects (subst (AllThere held.objects) o.places (waiting_there held o.sane)) (ends_there held.objects frames o.dying))
@@ -484,109 +630,117 @@ module _ (p : Program) (R : resolved.Program) where
       keeps_of r rest e = subst (λ l. AllHeld l (held.temporaries ++ waiting)) e o.keeps
 
       -- behind an operation that leaves the variables as they are
-      next : (nil : (k : ℕ) → Clear k pc → NilFrom k held.variables) (g : Height) → Onward R (all R) (table R) pc (pc + 1) g → (stack1 : List ℤ) (held1 : Held) (own1 : List ℕ) → held1.variables ≡ held.variables → length stack1 ≡ g.numbers + below → length own1 ≡ g.names → length held1.temporaries ≤ g.temporaries → h.variables ≡ g.variables → Owns own1 held1 → Good (at frames (pc + 1) stack1 held1)
-      next nil g on stack1 held1 own1 same count1 size1 few1 many1 o1 =
+      next : (nil : (k : ℕ) → Clear k pc → Shut mine k held.variables) (g : Height) → Onward R (all R) (table R) mine pc (pc + 1) g → (stack1 : List ℤ) (held1 : Held) (own1 : List ℕ) → Ready (pc + 1) own1 held1.temporaries waiting → held1.variables ≡ held.variables → length stack1 ≡ g.numbers + below → length own1 ≡ g.names → length held1.temporaries ≤ g.temporaries → h.variables ≡ g.variables → Owns own1 held1 → Good (at frames (pc + 1) stack1 held1)
+      next nil g on stack1 held1 own1 ready1 same count1 size1 few1 many1 o1 =
           let every = ap length same in
-          run_on (pc + 1) stack1 held1 own1 o1 (back (pc + 1) g on.0 (length stack1) own1 held1 (λ k c. subst (NilFrom k) (sym same) (⊎_elim (λ before. nil k before) (λ le. nil_from_end held.variables k (omega (arith, many, many1, le))) (on.1 k c))) count1 size1 few1 (omega (arith, every, many, many1)) o1.keeps)
+          run_on (pc + 1) stack1 held1 own1 o1 (back (pc + 1) g on.0 (length stack1) own1 held1 (λ k c. subst (Shut mine k) (sym same) (⊎_elim (λ before. nil k before) (λ le. shut_end mine held.variables k (omega (arith, many, many1, le))) (on.1 k c))) ready1 count1 size1 few1 (omega (arith, every, many, many1)) o1.keeps)
 
-      module _ (nil : (k : ℕ) → Clear k pc → NilFrom k held.variables) (x : Op) (g : Onward R (all R) (table R) pc (pc + 1) (next_height R (Plain x) h)) where
+      module _ (nil : (k : ℕ) → Clear k pc → Shut mine k held.variables) (x : Op) (g : Onward R (all R) (table R) mine pc (pc + 1) (next_height R (Plain x) h)) (free : Is_free (pc + 1) ⊎ ((x ≡ Alloc) × Quiet R (all R) (table R) (pc + 1))) where
         abbrev to : Height
         to = next_height R (Plain x) h
 
+        -- an operation that makes no object
+        no_object : to.temporaries ≡ h.temporaries → (own1 temporaries1 : List ℕ) → Ready (pc + 1) own1 temporaries1 waiting
+        no_object same own1 temporaries1 = ⊎_elim (λ f. inl f) (λ q.
+            let e : to.temporaries ≡ h.temporaries + 1 = ap (λ y. (next_height R (Plain y) h).temporaries) q.0 in
+            absurd (omega (arith, e, same))) free
+
         -- behind an operation on numbers
         counts : (stack1 : List ℤ) → length stack1 ≡ to.numbers + below → to.names ≡ h.names → to.temporaries ≡ h.temporaries → to.variables ≡ h.variables → Good (at frames (pc + 1) stack1 held)
-        counts stack1 count1 a b c = next nil to g stack1 held own refl count1 (omega (arith, size, a)) (omega (arith, few, b)) (omega (arith, c)) o
+        counts stack1 count1 a b c = next nil to g stack1 held own (no_object b own held.temporaries) refl count1 (omega (arith, size, a)) (omega (arith, few, b)) (omega (arith, c)) o
 
         -- behind one that takes references
         refers : (stack1 : List ℤ) (held1 : Held) (own1 : List ℕ) → held1.names ≡ own1 ++ deeper → held1.places ≡ held.places → held1.self ≡ held.self → held1.temporaries ≡ held.temporaries → held1.variables ≡ held.variables → AllHeld own1 (held.temporaries ++ waiting) → AllDying held1.objects (ending frames) → Sane p.classes held1 → length stack1 ≡ to.numbers + below → length own1 ≡ to.names → to.temporaries ≡ h.temporaries → to.variables ≡ h.variables → Good (at frames (pc + 1) stack1 held1)
         refers stack1 held1 own1 is places itself temporaries variables keeps dying sane count1 size1 b c =
             let long = ap length temporaries in
-            next nil to g stack1 held1 own1 variables count1 size1 (omega (arith, few, b, long)) (omega (arith, c)) (record { is = is; places = places ∙ o.places; itself = itself ∙ o.itself; keeps = subst (λ l. AllHeld own1 (l ++ waiting)) (sym temporaries) keeps; dying = dying; sane = sane })
+            next nil to g stack1 held1 own1 (no_object b own1 held1.temporaries) variables count1 size1 (omega (arith, few, b, long)) (omega (arith, c)) (record { is = is; places = places ∙ o.places; itself = itself ∙ o.itself; keeps = subst (λ l. AllHeld own1 (l ++ waiting)) (sym temporaries) keeps; dying = dying; sane = sane })
 
         -- behind one by which a temporary takes an object, and with these references
-        takes : (r : ℕ) (names own1 : List ℕ) → names ≡ own1 ++ deeper → IsThere held.objects r → AllHeld own1 (r ∷ (held.temporaries ++ waiting)) → to.numbers ≡ h.numbers → length own1 ≡ to.names → to.temporaries ≡ h.temporaries + 1 → to.variables ≡ h.variables → Good (at frames (pc + 1) stack (taken_by r (with_names held names)))
-        takes r names own1 is there keeps a size1 b c = next nil to g stack (taken_by r (with_names held names)) own1 refl (omega (arith, count, a)) size1 (omega (arith, few, b)) (omega (arith, c)) (record { is = is; places = o.places; itself = o.itself; keeps = keeps; dying = o.dying; sane = sane_take (with_names held names) r there (sane_names held names o.sane) })
+        takes : (not_made : x ≡ Alloc → ⊥) (r : ℕ) (names own1 : List ℕ) → names ≡ own1 ++ deeper → IsThere held.objects r → AllHeld own1 (r ∷ (held.temporaries ++ waiting)) → to.numbers ≡ h.numbers → length own1 ≡ to.names → to.temporaries ≡ h.temporaries + 1 → to.variables ≡ h.variables → Good (at frames (pc + 1) stack (taken_by r (with_names held names)))
+        takes not_made r names own1 is there keeps a size1 b c = next nil to g stack (taken_by r (with_names held names)) own1 (⊎_elim (λ f. inl f) (λ q. absurd (not_made q.0)) free) refl (omega (arith, count, a)) size1 (omega (arith, few, b)) (omega (arith, c)) (record { is = is; places = o.places; itself = o.itself; keeps = keeps; dying = o.dying; sane = sane_take (with_names held names) r there (sane_names held names o.sane) })
 
       or_fault_leads : (v : Option ℤ) (rest : List ℤ) → ((x : ℤ) → Good (at frames (pc + 1) (x ∷ rest) held)) → Leads (or_fault v s rest)
       or_fault_leads None rest g = tt
       or_fault_leads (Some v) rest g = g v
 
-      made_leads : (nil : (k : ℕ) → Clear k pc → NilFrom k held.variables) (found : Option ℕ) (rest : List ℤ) → 1 ≤ h.numbers → Onward R (all R) (table R) pc (pc + 1) (next_height R (Plain Alloc) h) → length stack ≡ suc (length rest) → Leads (allocates p.classes s rest found)
-      made_leads nil None rest some g e = tt
-      made_leads nil (Some c) rest some g e =
+      made_leads : (nil : (k : ℕ) → Clear k pc → Shut mine k held.variables) (found : Option ℕ) (rest : List ℤ) → 1 ≤ h.numbers → Onward R (all R) (table R) mine pc (pc + 1) (next_height R (Plain Alloc) h) → Is_free (pc + 1) ⊎ ((Alloc ≡ Alloc) × Quiet R (all R) (table R) (pc + 1)) → length stack ≡ suc (length rest) → Leads (allocates p.classes s rest found)
+      made_leads nil None rest some g free e = tt
+      made_leads nil (Some c) rest some g free e =
           let r = suc (length held.objects) in
-          next nil (next_height R (Plain Alloc) h) g rest (makes p.classes c held) (r ∷ own) refl (omega (arith, some, count, e)) (omega (arith, size)) (omega (arith, few)) (omega arith)
+          let made : Made (r ∷ own) (r ∷ held.temporaries) waiting = record { made = r; rest = own; others = held.temporaries; names_are = refl; places_are = refl; kept = o.keeps } in
+          next nil (next_height R (Plain Alloc) h) g rest (makes p.classes c held) (r ∷ own) (⊎_elim (λ f. inl f) (λ q. inr (inl (q.1, made))) free) refl (omega (arith, some, count, e)) (omega (arith, size)) (omega (arith, few)) (omega arith)
           (record { is = ap (λ l. r ∷ l) o.is; places = o.places; itself = o.itself; keeps = (last_held r (held.temporaries ++ waiting), all_more r own (held.temporaries ++ waiting) o.keeps); dying = made_dying held.objects _ (ending frames) o.dying; sane = sane_make held c o.sane })
 
       field_dies : (j : ℕ) (ob : Object) (fields : List ℤ) (r : ℕ) → r ≡ suc j → object_at held.objects (suc j) ≡ Some ob → AllDying (with_object held.objects r (with_fields ob fields)) (ending frames)
       field_dies j ob fields r same found = subst (λ q. AllDying (with_object held.objects q (with_fields ob fields)) (ending frames)) (sym same) (changed_dying held.objects j (with_fields ob fields) (ending frames) (fields_far held.objects j ob fields found) o.dying)
 
-      operation_leads : (x : Op) → slice_get (all R) pc ≡ Some (Plain x) → (nil : (k : ℕ) → Clear k pc → NilFrom k held.variables) → Reaches x h → Onward R (all R) (table R) pc (pc + 1) (next_height R (Plain x) h) → Leads (operates p.classes x s)
-      operation_leads (Num n) is nil needs g = counts nil (Num n) g (n ∷ stack) (omega (arith, count)) (omega arith) (omega arith) (omega arith)
-      operation_leads (Bin operator kind) is nil needs g = top_leads stack _ (omega (arith, count, needs)) (λ y rest e. top_leads rest _ (omega (arith, count, needs, e)) (λ x others e2. or_fault_leads (combined operator kind x y) others (λ v. counts nil (Bin operator kind) g (v ∷ others) (omega (arith, count, needs, e, e2)) (omega arith) (omega arith) (omega arith))))
-      operation_leads (Un operator kind) is nil needs g = top_leads stack _ (omega (arith, count, needs)) (λ x rest e. counts nil (Un operator kind) g (applied operator kind x ∷ rest) (omega (arith, count, needs, e)) (omega arith) (omega arith) (omega arith))
-      operation_leads (Narrow kind) is nil needs g = top_leads stack _ (omega (arith, count, needs)) (λ x rest e. counts nil (Narrow kind) g (converted kind x ∷ rest) (omega (arith, count, needs, e)) (omega arith) (omega arith) (omega arith))
-      operation_leads Pop is nil needs g = top_leads stack _ (omega (arith, count, needs)) (λ x rest e. counts nil Pop g rest (omega (arith, count, needs, e)) (omega arith) (omega arith) (omega arith))
-      operation_leads (Get depth) is nil needs g = found_leads stack depth _ (omega (arith, count, needs)) (λ v _. counts nil (Get depth) g (v ∷ stack) (omega (arith, count)) (omega arith) (omega arith) (omega arith))
-      operation_leads (Set depth) is nil needs g = top_leads stack _ (omega (arith, count, needs)) (λ v rest e. found_leads rest depth _ (omega (arith, count, needs, e)) (λ u _. counts nil (Set depth) g (slice_set rest depth v) (omega (arith, count, needs, e, length-set rest depth v)) (omega arith) (omega arith) (omega arith)))
-      operation_leads (ops.GetGlobal i) is nil needs g = counts nil (ops.GetGlobal i) g (slice_index_or held.globals i (pos 0) ∷ stack) (omega (arith, count)) (omega arith) (omega arith) (omega arith)
-      operation_leads (ops.SetGlobal i) is nil needs g = top_leads stack _ (omega (arith, count, needs)) (λ v rest e.
+      operation_leads : (x : Op) → slice_get (all R) pc ≡ Some (Plain x) → (nil : (k : ℕ) → Clear k pc → Shut mine k held.variables) → Reaches x h → Onward R (all R) (table R) mine pc (pc + 1) (next_height R (Plain x) h) → Is_free (pc + 1) ⊎ ((x ≡ Alloc) × Quiet R (all R) (table R) (pc + 1)) → Leads (operates p.classes x s)
+      operation_leads (Num n) is nil needs g free = counts nil (Num n) g free (n ∷ stack) (omega (arith, count)) (omega arith) (omega arith) (omega arith)
+      operation_leads (Bin operator kind) is nil needs g free = top_leads stack _ (omega (arith, count, needs)) (λ y rest e. top_leads rest _ (omega (arith, count, needs, e)) (λ x others e2. or_fault_leads (combined operator kind x y) others (λ v. counts nil (Bin operator kind) g free (v ∷ others) (omega (arith, count, needs, e, e2)) (omega arith) (omega arith) (omega arith))))
+      operation_leads (Un operator kind) is nil needs g free = top_leads stack _ (omega (arith, count, needs)) (λ x rest e. counts nil (Un operator kind) g free (applied operator kind x ∷ rest) (omega (arith, count, needs, e)) (omega arith) (omega arith) (omega arith))
+      operation_leads (Narrow kind) is nil needs g free = top_leads stack _ (omega (arith, count, needs)) (λ x rest e. counts nil (Narrow kind) g free (converted kind x ∷ rest) (omega (arith, count, needs, e)) (omega arith) (omega arith) (omega arith))
+      operation_leads Pop is nil needs g free = top_leads stack _ (omega (arith, count, needs)) (λ x rest e. counts nil Pop g free rest (omega (arith, count, needs, e)) (omega arith) (omega arith) (omega arith))
+      operation_leads (Get depth) is nil needs g free = found_leads stack depth _ (omega (arith, count, needs)) (λ v _. counts nil (Get depth) g free (v ∷ stack) (omega (arith, count)) (omega arith) (omega arith) (omega arith))
+      operation_leads (Set depth) is nil needs g free = top_leads stack _ (omega (arith, count, needs)) (λ v rest e. found_leads rest depth _ (omega (arith, count, needs, e)) (λ u _. counts nil (Set depth) g free (slice_set rest depth v) (omega (arith, count, needs, e, length-set rest depth v)) (omega arith) (omega arith) (omega arith)))
+      operation_leads (ops.GetGlobal i) is nil needs g free = counts nil (ops.GetGlobal i) g free (slice_index_or held.globals i (pos 0) ∷ stack) (omega (arith, count)) (omega arith) (omega arith) (omega arith)
+      operation_leads (ops.SetGlobal i) is nil needs g free = top_leads stack _ (omega (arith, count, needs)) (λ v rest e.
           let globals = slice_set held.globals i v in
-          refers nil (ops.SetGlobal i) g rest (with_globals held globals) own o.is refl refl refl refl o.keeps o.dying (sane_globals held globals o.sane) (omega (arith, count, needs, e)) (omega (arith, size)) (omega arith) (omega arith))
-      operation_leads PrintNum is nil needs g = top_leads stack _ (omega (arith, count, needs)) (λ v rest e. top_leads rest _ (omega (arith, count, needs, e)) (λ c others e2. counts nil PrintNum g (counted c (signed_decimal v) ∷ others) (omega (arith, count, needs, e, e2)) (omega arith) (omega arith) (omega arith)))
-      operation_leads PrintByte is nil needs g = top_leads stack _ (omega (arith, count, needs)) (λ v rest e. top_leads rest _ (omega (arith, count, needs, e)) (λ c others e2. counts nil PrintByte g (counted c (low_byte v ∷ []) ∷ others) (omega (arith, count, needs, e, e2)) (omega arith) (omega arith) (omega arith)))
-      operation_leads GetChar is nil needs g = λ answer. counts nil GetChar g (byte_or_end answer ∷ stack) (omega (arith, count)) (omega arith) (omega arith) (omega arith)
-      operation_leads Declare is nil needs g =
+          refers nil (ops.SetGlobal i) g free rest (with_globals held globals) own o.is refl refl refl refl o.keeps o.dying (sane_globals held globals o.sane) (omega (arith, count, needs, e)) (omega (arith, size)) (omega arith) (omega arith))
+      operation_leads PrintNum is nil needs g free = top_leads stack _ (omega (arith, count, needs)) (λ v rest e. top_leads rest _ (omega (arith, count, needs, e)) (λ c others e2. counts nil PrintNum g free (counted c (signed_decimal v) ∷ others) (omega (arith, count, needs, e, e2)) (omega arith) (omega arith) (omega arith)))
+      operation_leads PrintByte is nil needs g free = top_leads stack _ (omega (arith, count, needs)) (λ v rest e. top_leads rest _ (omega (arith, count, needs, e)) (λ c others e2. counts nil PrintByte g free (counted c (low_byte v ∷ []) ∷ others) (omega (arith, count, needs, e, e2)) (omega arith) (omega arith) (omega arith)))
+      operation_leads GetChar is nil needs g free = λ answer. counts nil GetChar g free (byte_or_end answer ∷ stack) (omega (arith, count)) (omega arith) (omega arith) (omega arith)
+      operation_leads Declare is nil needs g free =
           let none = none_of held.temporaries (omega (arith, few, needs)) in
           let held1 = raised 0 (with_variables held (0 ∷ held.variables)) in
           subst (λ l. Leads (declares l held (keeps s stack))) (sym none)
           (run_on (pc + 1) stack held1 own (record { is = o.is; places = o.places; itself = o.itself; keeps = o.keeps; dying = o.dying; sane = sane_declare held o.sane })
-          (back (pc + 1) (next_height R (Plain Declare) h) g.0 (length stack) own held1 (λ k c. ⊎_elim (λ before. absurd (opens_clears R (all R) (table R) pc (Plain Declare) tt is k before)) (λ le. nil_from_end (0 ∷ held.variables) k (omega (arith, many, le))) (g.1 k c)) (omega (arith, count)) (omega (arith, size)) (omega (arith, few)) (omega (arith, many)) o.keeps))
-      operation_leads Nil is nil needs g = refers nil Nil g stack (named 0 held) (0 ∷ own) (ap (λ l. 0 ∷ l) o.is) refl refl refl refl (tt, o.keeps) o.dying (sane_names held (0 ∷ held.names) o.sane) (omega (arith, count)) (omega (arith, size)) (omega arith) (omega arith)
-      operation_leads ReadSelf is nil needs g =
+          (back (pc + 1) (next_height R (Plain Declare) h) g.0 (length stack) own held1 (λ k c. ⊎_elim (λ before. absurd (opens_clears R (all R) (table R) pc (Plain Declare) tt is k before)) (λ le. shut_end mine (0 ∷ held.variables) k (omega (arith, many, le))) (g.1 k c)) (no_object nil Declare g free (omega arith) own held.temporaries) (omega (arith, count)) (omega (arith, size)) (omega (arith, few)) (omega (arith, many)) o.keeps))
+      operation_leads Nil is nil needs g free = refers nil Nil g free stack (named 0 held) (0 ∷ own) (ap (λ l. 0 ∷ l) o.is) refl refl refl refl (tt, o.keeps) o.dying (sane_names held (0 ∷ held.names) o.sane) (omega (arith, count)) (omega (arith, size)) (omega arith) (omega arith)
+      operation_leads ReadSelf is nil needs g free =
           let r = held.self in
-          named_leads r _ _ self_there (takes nil ReadSelf g r (r ∷ held.names) (r ∷ own) (ap (λ l. r ∷ l) o.is) self_there (last_held r (held.temporaries ++ waiting), all_more r own (held.temporaries ++ waiting) o.keeps) (omega arith) (omega (arith, size)) (omega arith) (omega arith))
-      operation_leads (ReadRef i) is nil needs g = found_leads held.variables i _ (omega (arith, many, needs)) (λ r found.
+          named_leads r _ _ self_there (takes nil ReadSelf g free (λ same. cc) r (r ∷ held.names) (r ∷ own) (ap (λ l. r ∷ l) o.is) self_there (last_held r (held.temporaries ++ waiting), all_more r own (held.temporaries ++ waiting) o.keeps) (omega arith) (omega (arith, size)) (omega arith) (omega arith))
+      operation_leads (ReadRef i) is nil needs g free = found_leads held.variables i _ (omega (arith, many, needs)) (λ r found.
           let there = variable_there held i r found o.sane in
-          named_leads r _ _ there (takes nil (ReadRef i) g r (r ∷ held.names) (r ∷ own) (ap (λ l. r ∷ l) o.is) there (last_held r (held.temporaries ++ waiting), all_more r own (held.temporaries ++ waiting) o.keeps) (omega arith) (omega (arith, size)) (omega arith) (omega arith)))
-      operation_leads (ReadGlobal i) is nil needs g =
+          named_leads r _ _ there (takes nil (ReadRef i) g free (λ same. cc) r (r ∷ held.names) (r ∷ own) (ap (λ l. r ∷ l) o.is) there (last_held r (held.temporaries ++ waiting), all_more r own (held.temporaries ++ waiting) o.keeps) (omega arith) (omega (arith, size)) (omega arith) (omega arith)))
+      operation_leads (ReadGlobal i) is nil needs g free =
           let r = name_at held.strong_globals i in
           let there = name_there held.objects held.strong_globals i (globals_there held o.sane) in
-          named_leads r _ _ there (takes nil (ReadGlobal i) g r (r ∷ held.names) (r ∷ own) (ap (λ l. r ∷ l) o.is) there (last_held r (held.temporaries ++ waiting), all_more r own (held.temporaries ++ waiting) o.keeps) (omega arith) (omega (arith, size)) (omega arith) (omega arith))
-      operation_leads (ReadField class index) is nil needs g =
+          named_leads r _ _ there (takes nil (ReadGlobal i) g free (λ same. cc) r (r ∷ held.names) (r ∷ own) (ap (λ l. r ∷ l) o.is) there (last_held r (held.temporaries ++ waiting), all_more r own (held.temporaries ++ waiting) o.keeps) (omega arith) (omega (arith, size)) (omega arith) (omega arith))
+      operation_leads (ReadField class index) is nil needs g free =
           let f = first_of own (omega (arith, needs, size)) in
           let shorter = ap length f.2 in
           let kept = keeps_of f.0 f.1 f.2 in
           reference_leads f.0 held.names (f.1 ++ deeper) _ (top_is f.0 f.1 f.2) (field_leads class f.0 held _ (is_held f.0 kept.0) (λ j ob same found is_there_now.
           let r = name_at ob.strong index in
           let there = name_there held.objects ob.strong index (fields_there held j ob found is_there_now o.sane) in
-          named_leads r _ _ there (takes nil (ReadField class index) g r (r ∷ (f.1 ++ deeper)) (r ∷ f.1) refl there (last_held r (held.temporaries ++ waiting), all_more r f.1 (held.temporaries ++ waiting) kept.1) (omega arith) (omega (arith, size, needs, shorter)) (omega arith) (omega arith))))
-      operation_leads Hold is nil needs g =
+          named_leads r _ _ there (takes nil (ReadField class index) g free (λ same. cc) r (r ∷ (f.1 ++ deeper)) (r ∷ f.1) refl there (last_held r (held.temporaries ++ waiting), all_more r f.1 (held.temporaries ++ waiting) kept.1) (omega arith) (omega (arith, size, needs, shorter)) (omega arith) (omega arith))))
+      operation_leads Hold is nil needs g free =
           let f = first_of own (omega (arith, needs, size)) in
           let there = is_held f.0 (keeps_of f.0 f.1 f.2).0 in
-          reference_leads f.0 held.names (f.1 ++ deeper) _ (top_is f.0 f.1 f.2) (named_leads f.0 held _ there (takes nil Hold g f.0 held.names own o.is there (all_more f.0 own (held.temporaries ++ waiting) o.keeps) (omega arith) (omega (arith, size, needs)) (omega arith) (omega arith)))
-      operation_leads ops.Again is nil needs g =
+          reference_leads f.0 held.names (f.1 ++ deeper) _ (top_is f.0 f.1 f.2) (named_leads f.0 held _ there (takes nil Hold g free (λ same. cc) f.0 held.names own o.is there (all_more f.0 own (held.temporaries ++ waiting) o.keeps) (omega arith) (omega (arith, size, needs)) (omega arith) (omega arith)))
+      operation_leads ops.Again is nil needs g free =
           let f = first_of own (omega (arith, needs, size)) in
-          reference_leads f.0 held.names (f.1 ++ deeper) _ (top_is f.0 f.1 f.2) (refers nil ops.Again g stack (named f.0 held) (f.0 ∷ own) (ap (λ l. f.0 ∷ l) o.is) refl refl refl refl ((keeps_of f.0 f.1 f.2).0, o.keeps) o.dying (sane_names held (f.0 ∷ held.names) o.sane) (omega (arith, count)) (omega (arith, size, needs)) (omega arith) (omega arith))
-      operation_leads Forget is nil needs g =
+          reference_leads f.0 held.names (f.1 ++ deeper) _ (top_is f.0 f.1 f.2) (refers nil ops.Again g free stack (named f.0 held) (f.0 ∷ own) (ap (λ l. f.0 ∷ l) o.is) refl refl refl refl ((keeps_of f.0 f.1 f.2).0, o.keeps) o.dying (sane_names held (f.0 ∷ held.names) o.sane) (omega (arith, count)) (omega (arith, size, needs)) (omega arith) (omega arith))
+      operation_leads Forget is nil needs g free =
           let f = first_of own (omega (arith, needs, size)) in
           let shorter = ap length f.2 in
-          reference_leads f.0 held.names (f.1 ++ deeper) _ (top_is f.0 f.1 f.2) (refers nil Forget g stack (with_names held (f.1 ++ deeper)) f.1 refl refl refl refl refl (keeps_of f.0 f.1 f.2).1 o.dying (sane_names held (f.1 ++ deeper) o.sane) (omega (arith, count)) (omega (arith, size, shorter)) (omega arith) (omega arith))
-      operation_leads Alloc is nil needs g = top_leads stack _ (omega (arith, count, needs)) (λ v rest e. made_leads nil (class_at v) rest needs g e)
-      operation_leads (GetField class index) is nil needs g =
+          reference_leads f.0 held.names (f.1 ++ deeper) _ (top_is f.0 f.1 f.2) (refers nil Forget g free stack (with_names held (f.1 ++ deeper)) f.1 refl refl refl refl refl (keeps_of f.0 f.1 f.2).1 o.dying (sane_names held (f.1 ++ deeper) o.sane) (omega (arith, count)) (omega (arith, size, shorter)) (omega arith) (omega arith))
+      operation_leads Alloc is nil needs g free = top_leads stack _ (omega (arith, count, needs)) (λ v rest e. made_leads nil (class_at v) rest needs g free e)
+      operation_leads (Finds selector) is nil needs g free = top_leads stack _ (omega (arith, count, needs)) (λ v rest e. counts nil (Finds selector) g free (instructions.one_if (is_some (lookup p.classes (class_at v) signs.Class selector 0 0 gives.Object)) ∷ stack) (omega (arith, count, needs)) (omega arith) (omega arith) (omega arith))
+      operation_leads (GetField class index) is nil needs g free =
           let f = first_of own (omega (arith, needs, size)) in
           let shorter = ap length f.2 in
           reference_leads f.0 held.names (f.1 ++ deeper) _ (top_is f.0 f.1 f.2) (field_leads class f.0 held _ (is_held f.0 (keeps_of f.0 f.1 f.2).0) (λ j ob same found _.
-          refers nil (GetField class index) g (slice_index_or ob.fields index (pos 0) ∷ stack) (with_names held (f.1 ++ deeper)) f.1 refl refl refl refl refl (keeps_of f.0 f.1 f.2).1 o.dying (sane_names held (f.1 ++ deeper) o.sane) (omega (arith, count)) (omega (arith, size, shorter)) (omega arith) (omega arith)))
-      operation_leads (SetField class index) is nil needs g =
+          refers nil (GetField class index) g free (slice_index_or ob.fields index (pos 0) ∷ stack) (with_names held (f.1 ++ deeper)) f.1 refl refl refl refl refl (keeps_of f.0 f.1 f.2).1 o.dying (sane_names held (f.1 ++ deeper) o.sane) (omega (arith, count)) (omega (arith, size, shorter)) (omega arith) (omega arith)))
+      operation_leads (SetField class index) is nil needs g free =
           let f = first_of own (omega (arith, needs.1, size)) in
           let r = f.0 in
           let shorter = ap length f.2 in
           reference_leads r held.names (f.1 ++ deeper) _ (top_is r f.1 f.2) (top_leads stack _ (omega (arith, count, needs.0)) (λ v rest e. field_leads class r held _ (is_held r (keeps_of r f.1 f.2).0) (λ j ob same found there.
           let fields = slice_set ob.fields index v in
           let set : Sane p.classes (with_field held r ob index v) = subst (λ q. Sane p.classes (with_things held (with_object held.objects q (with_fields ob fields)))) (sym same) (sane_field held j ob fields found there o.sane) in
-          refers nil (SetField class index) g stack (with_names (with_field held r ob index v) (f.1 ++ deeper)) f.1 refl refl refl refl refl (keeps_of r f.1 f.2).1 (field_dies j ob fields r same found) (sane_names (with_field held r ob index v) (f.1 ++ deeper) set) (omega (arith, count, needs.0)) (omega (arith, size, shorter)) (omega arith) (omega arith))))
-      operation_leads Differ is nil needs g =
+          refers nil (SetField class index) g free stack (with_names (with_field held r ob index v) (f.1 ++ deeper)) f.1 refl refl refl refl refl (keeps_of r f.1 f.2).1 (field_dies j ob fields r same found) (sane_names (with_field held r ob index v) (f.1 ++ deeper) set) (omega (arith, count, needs.0)) (omega (arith, size, shorter)) (omega arith) (omega arith))))
+      operation_leads Differ is nil needs g free =
           let f = first_of own (omega (arith, needs, size)) in
           let shorter = ap length f.2 in
           let q = first_of f.1 (omega (arith, needs, size, shorter)) in
@@ -595,76 +749,158 @@ module _ (p : Program) (R : resolved.Program) where
           let second = subst (λ l. AllHeld l (held.temporaries ++ waiting)) q.2 first.1 in
           reference_leads f.0 held.names (f.1 ++ deeper) _ (top_is f.0 f.1 f.2) (reference_leads q.0 (f.1 ++ deeper) (q.1 ++ deeper) _ (ap (λ l. l ++ deeper) q.2)
           (named_leads f.0 held _ (is_held f.0 first.0) (named_leads q.0 held _ (is_held q.0 second.0)
-          (refers nil Differ g (difference q.0 f.0 ∷ stack) (with_names held (q.1 ++ deeper)) q.1 refl refl refl refl refl second.1 o.dying (sane_names held (q.1 ++ deeper) o.sane) (omega (arith, count)) (omega (arith, size, shorter, least)) (omega arith) (omega arith)))))
-      operation_leads IsObject is nil needs g =
+          (refers nil Differ g free (difference q.0 f.0 ∷ stack) (with_names held (q.1 ++ deeper)) q.1 refl refl refl refl refl second.1 o.dying (sane_names held (q.1 ++ deeper) o.sane) (omega (arith, count)) (omega (arith, size, shorter, least)) (omega arith) (omega arith)))))
+      operation_leads IsObject is nil needs g free =
           let f = first_of own (omega (arith, needs, size)) in
           let shorter = ap length f.2 in
           let first = keeps_of f.0 f.1 f.2 in
           reference_leads f.0 held.names (f.1 ++ deeper) _ (top_is f.0 f.1 f.2) (named_leads f.0 held _ (is_held f.0 first.0)
-          (refers nil IsObject g (difference f.0 0 ∷ stack) (with_names held (f.1 ++ deeper)) f.1 refl refl refl refl refl first.1 o.dying (sane_names held (f.1 ++ deeper) o.sane) (omega (arith, count)) (omega (arith, size, shorter)) (omega arith) (omega arith)))
+          (refers nil IsObject g free (difference f.0 0 ∷ stack) (with_names held (f.1 ++ deeper)) f.1 refl refl refl refl refl first.1 o.dying (sane_names held (f.1 ++ deeper) o.sane) (omega (arith, count)) (omega (arith, size, shorter)) (omega arith) (omega arith)))
+
+      -- where a run stands behind a call
+      abbrev Behind_call : Height → Type 0
+      Behind_call x = Stands R (all R) (table R) mine (pc + 1) x × ((k : ℕ) → Clear k (pc + 1) → x.variables ≤ k + as_object mine)
+
+      -- what is there behind a call that takes the references before these
+      abbrev Ready_behind : (wanted : Gives) → (rest : List ℕ) → Type 0
+      Ready_behind gives.Number rest = Ready (pc + 1) rest held.temporaries waiting
+      Ready_behind gives.Object rest = (r : ℕ) → Ready (pc + 1) (r ∷ rest) (r ∷ held.temporaries) waiting
+
+      always_ready : (wanted : Gives) (rest : List ℕ) → Is_free (pc + 1) → Ready_behind wanted rest
+      always_ready gives.Number rest f = inl f
+      always_ready gives.Object rest f = λ r. inl f
 
       -- where a call comes back, with these references
-      home : (x : Height) (passed : ℕ) (rest : List ℕ) → Goes_to (pc + 1) x → AllHeld rest (held.temporaries ++ waiting) → length stack - passed + 1 ≡ x.numbers + below → length rest ≡ x.names → x.temporaries ≡ h.temporaries → x.variables ≡ h.variables → Back (pc + 1) (length stack - passed + 1) (rest ++ deeper) held
-      home x passed rest g keeps count1 size1 b c = back (pc + 1) x g.0 (length stack - passed + 1) rest held (goes_nil (pc + 1) x g held.variables (omega (arith, many, c))) count1 size1 (omega (arith, few, b)) (omega (arith, many, c)) keeps
+      home : (wanted : Gives) (x : Height) (n : ℕ) (rest : List ℕ) → Behind_call x → Ready_behind wanted rest → AllHeld rest (held.temporaries ++ waiting) → n + as_number wanted ≡ x.numbers + below → length rest + as_object wanted ≡ x.names → x.temporaries ≡ h.temporaries + as_object wanted → x.variables ≡ h.variables → Home wanted pc n (rest ++ deeper) held
+      home gives.Number x n rest g ready keeps count1 size1 b c = back (pc + 1) x g.0 (n + 1) rest held (goes_nil (pc + 1) x g.1 held.variables (omega (arith, many, c))) ready count1 (omega (arith, size1)) (omega (arith, few, b)) (omega (arith, many, c)) keeps
+      home gives.Object x n rest g ready keeps count1 size1 b c = λ r. record {
+        high = x;
+        stands = g.0;
+        count = omega (arith, count1);
+        own = r ∷ rest;
+        is = refl;
+        size = omega (arith, size1);
+        few = omega (arith, few, b);
+        many = omega (arith, many, c);
+        held = (last_held r (held.temporaries ++ waiting), all_more r rest (held.temporaries ++ waiting) keeps);
+        nil = goes_nil (pc + 1) x g.1 held.variables (omega (arith, many, c));
+        ready = ready r;
+        alive = alive;
+        running = running;
+      }
+
+      -- what is wanted is given without a call
+      at_once_leads : (wanted : Gives) (object : ℕ) (stack0 stack1 : List ℤ) (names0 rest : List ℕ) → Home wanted pc (length stack1) (rest ++ deeper) held → IsThere held.objects object → AllHeld rest (held.temporaries ++ waiting) → Leads (instructions.gives_at_once (bare p) (at frames pc stack0 (with_names held names0)) wanted object stack1 (rest ++ deeper))
+      at_once_leads gives.Number object stack0 stack1 names0 rest home1 there kept =
+          let more : length stack1 + 1 ≡ length (pos 0 ∷ stack1) = omega arith in
+          run_on (pc + 1) (pos 0 ∷ stack1) (with_names held (rest ++ deeper)) rest
+          (record { is = refl; places = o.places; itself = o.itself; keeps = kept; dying = o.dying; sane = sane_names held (rest ++ deeper) o.sane })
+          (subst (λ n. Resumes mine (pc + 1) self frames n below (rest ++ deeper) deeper held.temporaries held.variables waiting) more home1)
+      at_once_leads gives.Object object stack0 stack1 names0 rest home1 there kept =
+          let names1 = object ∷ (rest ++ deeper) in
+          named_leads object (with_names held names1) _ there
+          (run_on (pc + 1) stack1 (taken_by object (with_names held names1)) (object ∷ rest)
+          (record { is = refl; places = o.places; itself = o.itself; keeps = (last_held object (held.temporaries ++ waiting), all_more object rest (held.temporaries ++ waiting) kept); dying = o.dying; sane = sane_take (with_names held names1) object there (sane_names held names1 o.sane) })
+          (home1 object))
+
+      -- the root's own `init` takes no argument
+      root_leads : (wanted : Gives) (selector takes objects object : ℕ) (given rest : List ℕ) (b : Bool) → is_root_init selector takes objects wanted ≡ b → length given ≡ objects → Home wanted pc (length stack - takes) (rest ++ deeper) held → IsThere held.objects object → AllHeld rest (held.temporaries ++ waiting)
+          → Leads (if b then instructions.gives_at_once (bare p) (at frames pc stack (with_names held (given ++ (rest ++ deeper)))) wanted object stack (given ++ (rest ++ deeper)) else Faults Unrecognized)
+      root_leads wanted selector takes objects object given rest false e some home1 there kept = tt
+      root_leads wanted selector takes objects object given rest true e some home1 there kept =
+          let few1 = nat_eq objects 0 && same_gives wanted gives.Object in
+          let parts = and_parts (nat_eq takes 0) few1 (and_parts (nat_eq selector init_selector) (nat_eq takes 0 && few1) e).1 in
+          let no_numbers = eqb-true takes 0 parts.0 in
+          let no_objects = eqb-true objects 0 (and_parts (nat_eq objects 0) (same_gives wanted gives.Object) parts.1).0 in
+          let none : given ≡ [] = none_of given (omega (arith, some, no_objects)) in
+          let same : given ++ (rest ++ deeper) ≡ rest ++ deeper = ap (λ l. l ++ (rest ++ deeper)) none in
+          let all_left : length stack - takes ≡ length stack = omega (arith, no_numbers) in
+          subst (λ l. Leads (instructions.gives_at_once (bare p) (at frames pc stack (with_names held (given ++ (rest ++ deeper)))) wanted object stack l)) (sym same)
+          (at_once_leads wanted object stack stack (given ++ (rest ++ deeper)) rest (subst (λ n. Home wanted pc n (rest ++ deeper) held) all_left home1) there kept)
+
+      -- a message to an object, by what it finds
+      object_answers_lead : (found : Option ℕ) (wanted : Gives) (selector takes objects object : ℕ) (given rest : List ℕ) → ((to : ℕ) → found ≡ Some to → Goes_to wanted to (height takes (length given) 0 0)) → takes ≤ length stack → length given ≡ objects → AllHeld given (held.temporaries ++ waiting) → IsHeld object (held.temporaries ++ waiting) → AllHeld rest (held.temporaries ++ waiting) → Home wanted pc (length stack - takes) (rest ++ deeper) held
+          → Leads (instructions.answers_object (bare p) (at frames pc stack (with_names held (given ++ (rest ++ deeper)))) wanted object selector takes objects found)
+      object_answers_lead None wanted selector takes objects object given rest begins le some kept_first kept kept_rest home1 =
+          root_leads wanted selector takes objects object given rest (is_root_init selector takes objects wanted) refl some home1 (is_held object kept) kept_rest
+      object_answers_lead (Some to) wanted selector takes objects object given rest begins le some kept_first kept kept_rest home1 =
+          let held1 = with_names held (given ++ (rest ++ deeper)) in
+          enters_lead (has_level (at frames pc stack held1)) wanted to object takes pc given (rest ++ deeper) stack held1 (begins to refl) le refl kept_first (held_alive object kept) o.itself o.places o.dying (sane_names held (given ++ (rest ++ deeper)) o.sane) home1
 
       -- a message to the object of the reference below its arguments
-      told : (from : Object → ℕ) (r : ℕ) (given rest : List ℕ) (selector takes objects : ℕ) (x : Height) → own ≡ given ++ r ∷ rest → length given ≡ objects → takes ≤ h.numbers → Goes_to (pc + 1) x → x.numbers ≡ h.numbers - takes + 1 → x.names + suc objects ≡ h.names → x.temporaries ≡ h.temporaries → x.variables ≡ h.variables
-          → Leads (sends p s from r selector takes objects (given ++ (rest ++ deeper)))
-      told from zero given rest selector takes objects x e some le g a b c d =
+      told : (wanted : Gives) (from : Object → ℕ) (r : ℕ) (given rest : List ℕ) (selector takes objects : ℕ) (x : Height) → own ≡ given ++ r ∷ rest → length given ≡ objects → takes ≤ h.numbers → Behind_call x → Ready_behind wanted rest → x.numbers ≡ h.numbers - takes + as_number wanted → x.names + suc objects ≡ h.names + as_object wanted → x.temporaries ≡ h.temporaries + as_object wanted → x.variables ≡ h.variables
+          → Leads (sends p s wanted from r selector takes objects (given ++ (rest ++ deeper)))
+      told wanted from zero given rest selector takes objects x e some le g ready a b c d =
           let shorter = ap length e in
           let both = length-append given (zero ∷ rest) in
           let kept = held_rest given (zero ∷ rest) (held.temporaries ++ waiting) (subst (λ l. AllHeld l (held.temporaries ++ waiting)) e o.keeps) in
           let names_is : drop objects (given ++ (rest ++ deeper)) ≡ rest ++ deeper = ap (λ n. drop n (given ++ (rest ++ deeper))) (sym some) ∙ drop-append_seam given (rest ++ deeper) in
           taken_leads takes stack _ (omega (arith, count, le)) (λ numbers m.
-          subst (λ l. Good (at frames (pc + 1) (pos 0 ∷ numbers) (with_names held l))) (sym names_is)
-          (go_on (pc + 1) x g (pos 0 ∷ numbers) (with_names held (rest ++ deeper)) rest (omega (arith, count, le, m, a)) (omega (arith, size, shorter, both, some, b)) (omega (arith, few, c)) (omega (arith, many, d))
-          (record { is = refl; places = o.places; itself = o.itself; keeps = kept.1; dying = o.dying; sane = sane_names held (rest ++ deeper) o.sane })))
-      told from (suc j) given rest selector takes objects x e some le g a b c d =
+          subst (λ l. Leads (instructions.gives_at_once (bare p) s wanted 0 numbers l)) (sym names_is)
+          (at_once_leads wanted 0 stack numbers held.names rest (home wanted x (length numbers) rest g ready kept.1 (omega (arith, count, le, m, a)) (omega (arith, size, shorter, both, some, b)) c d) tt kept.1))
+      told wanted from (suc j) given rest selector takes objects x e some le g ready a b c d =
           let shorter = ap length e in
           let both = length-append given (suc j ∷ rest) in
           let all_kept = subst (λ l. AllHeld l (held.temporaries ++ waiting)) e o.keeps in
           let kept = held_rest given (suc j ∷ rest) (held.temporaries ++ waiting) all_kept in
           let there = is_held (suc j) kept.0 in
-          let names1 = given ++ (rest ++ deeper) in
-          let held1 = with_names held names1 in
-          subst Leads (sym (object_goes (object_at held.objects (suc j)) there.0 (λ ob. answers (at frames pc stack held1) (suc j) (lookup p.classes (Some (from ob)) signs.Instance selector takes objects)) there.1 there.2))
-          (answers_lead (lookup p.classes (Some (from there.0)) signs.Instance selector takes objects) (suc j) takes pc given (rest ++ deeper) stack held1
-          (λ to f. subst (λ n. Goes_to to (height takes n 0 0)) (sym some) (finds (Some (from there.0)) signs.Instance selector takes objects to f))
-          (omega (arith, count, le)) refl (held_first given (suc j ∷ rest) (held.temporaries ++ waiting) all_kept) (held_alive (suc j) kept.0) o.itself o.places o.dying (sane_names held names1 o.sane)
-          (home x takes rest g kept.1 (omega (arith, count, le, a)) (omega (arith, size, shorter, both, some, b)) c d))
+          let found : Object → Option ℕ = λ ob. lookup p.classes (Some (from ob)) signs.Instance selector takes objects wanted in
+          let st = at frames pc stack (with_names held (given ++ (rest ++ deeper))) in
+          subst Leads (sym (object_goes (object_at held.objects (suc j)) there.0 (λ ob. instructions.answers_object (bare p) st wanted (suc j) selector takes objects (found ob)) there.1 there.2))
+          (object_answers_lead (found there.0) wanted selector takes objects (suc j) given rest
+          (λ to f. subst (λ n. Goes_to wanted to (height takes n 0 0)) (sym some) (finds (Some (from there.0)) signs.Instance selector takes objects wanted to f))
+          (omega (arith, count, le)) some (held_first given (suc j ∷ rest) (held.temporaries ++ waiting) all_kept) kept.0 kept.1
+          (home wanted x (length stack - takes) rest g ready kept.1 (omega (arith, count, le, a)) (omega (arith, size, shorter, both, some, b)) c d))
 
       -- a message to an object, with what gets it below its arguments
-      message_leads : (from : Object → ℕ) (selector takes objects : ℕ) (x : Height) → (takes ≤ h.numbers) × (suc objects ≤ h.names) → Goes_to (pc + 1) x → x.numbers ≡ h.numbers - takes + 1 → x.names ≡ h.names - suc objects → x.temporaries ≡ h.temporaries → x.variables ≡ h.variables
-          → Leads (instructions.on_receiver objects held.names (λ r rest. sends p s from r selector takes objects rest))
-      message_leads from selector takes objects x needs g a b c d =
+      message_leads : (wanted : Gives) (from : Object → ℕ) (selector takes objects : ℕ) (x : Height) → (takes ≤ h.numbers) × (suc objects ≤ h.names) → Behind_call x → ((given rest : List ℕ) (r : ℕ) → own ≡ given ++ r ∷ rest → length given ≡ objects → Ready_behind wanted rest) → x.numbers ≡ h.numbers - takes + as_number wanted → x.names ≡ h.names - suc objects + as_object wanted → x.temporaries ≡ h.temporaries + as_object wanted → x.variables ≡ h.variables
+          → Leads (instructions.on_receiver objects held.names (λ r rest. sends p s wanted from r selector takes objects rest))
+      message_leads wanted from selector takes objects x needs g ready a b c d =
           let part = parted objects own (omega (arith, needs.1, size)) in
           let f = first_of part.rest (omega (arith, needs.1, size, part.left)) in
           let is : own ≡ part.first ++ f.0 ∷ f.1 = part.is ∙ ap (λ l. part.first ++ l) f.2 in
           let names_is : held.names ≡ part.first ++ f.0 ∷ (f.1 ++ deeper) = o.is ∙ ap (λ l. l ++ deeper) is ∙ append_assoc part.first (f.0 ∷ f.1) deeper in
-          subst (λ l. Leads (instructions.on_receiver objects l (λ r rest. sends p s from r selector takes objects rest))) (sym names_is)
-          (subst Leads (sym (receiver_goes objects part.first (f.1 ++ deeper) f.0 (λ r rest. sends p s from r selector takes objects rest) part.many))
-          (told from f.0 part.first f.1 selector takes objects x is part.many needs.0 g a (omega (arith, b, needs.1)) c d))
+          subst (λ l. Leads (instructions.on_receiver objects l (λ r rest. sends p s wanted from r selector takes objects rest))) (sym names_is)
+          (subst Leads (sym (receiver_goes objects part.first (f.1 ++ deeper) f.0 (λ r rest. sends p s wanted from r selector takes objects rest) part.many))
+          (told wanted from f.0 part.first f.1 selector takes objects x is part.many needs.0 g (ready part.first f.1 f.0 is part.many) a (omega (arith, b, needs.1)) c d))
 
       -- a call that takes no reference below what it passes
-      own_home : (x : Height) (passed : ℕ) (given rest : List ℕ) → own ≡ given ++ rest → Goes_to (pc + 1) x → length stack - passed + 1 ≡ x.numbers + below → length rest ≡ x.names → x.temporaries ≡ h.temporaries → x.variables ≡ h.variables → Back (pc + 1) (length stack - passed + 1) (rest ++ deeper) held
-      own_home x passed given rest is g a b c d = home x passed rest g (held_rest given rest (held.temporaries ++ waiting) (subst (λ l. AllHeld l (held.temporaries ++ waiting)) is o.keeps)) a b c d
+      own_home : (wanted : Gives) (x : Height) (n : ℕ) (given rest : List ℕ) → own ≡ given ++ rest → Goes_to mine (pc + 1) x → n + as_number wanted ≡ x.numbers + below → length rest + as_object wanted ≡ x.names → x.temporaries ≡ h.temporaries + as_object wanted → x.variables ≡ h.variables → Home wanted pc n (rest ++ deeper) held
+      own_home wanted x n given rest is g a b c d = home wanted x n rest (g.0, g.1) (always_ready wanted rest g.2) (held_rest given rest (held.temporaries ++ waiting) (subst (λ l. AllHeld l (held.temporaries ++ waiting)) is o.keeps)) a b c d
 
-      class_told : (from : Option ℕ) (selector takes objects : ℕ) (x : Height) → (suc takes ≤ h.numbers) × (objects ≤ h.names) → Goes_to (pc + 1) x → x.numbers ≡ h.numbers - suc takes + 1 → x.names ≡ h.names - objects → x.temporaries ≡ h.temporaries → x.variables ≡ h.variables
-          → Leads (answers s 0 (lookup p.classes from signs.Class selector takes objects))
-      class_told from selector takes objects x needs g a b c d =
+      class_told : (wanted : Gives) (from : Option ℕ) (selector takes objects : ℕ) (x : Height) → (suc takes ≤ h.numbers) × (objects ≤ h.names) → Goes_to mine (pc + 1) x → x.numbers ≡ h.numbers - suc takes + as_number wanted → x.names ≡ h.names - objects + as_object wanted → x.temporaries ≡ h.temporaries + as_object wanted → x.variables ≡ h.variables
+          → Leads (answers s 0 (lookup p.classes from signs.Class selector takes objects wanted))
+      class_told wanted from selector takes objects x needs g a b c d =
           let part = parted objects own (omega (arith, needs.1, size)) in
           let names_is : held.names ≡ part.first ++ (part.rest ++ deeper) = o.is ∙ ap (λ l. l ++ deeper) part.is ∙ append_assoc part.first part.rest deeper in
-          answers_lead (lookup p.classes from signs.Class selector takes objects) 0 (suc takes) pc part.first (part.rest ++ deeper) stack held
-          (λ to f. subst (λ n. Goes_to to (height (suc takes) n 0 0)) (sym part.many) (finds from signs.Class selector takes objects to f))
+          answers_lead (lookup p.classes from signs.Class selector takes objects wanted) wanted 0 (suc takes) pc part.first (part.rest ++ deeper) stack held
+          (λ to f. subst (λ n. Goes_to wanted to (height (suc takes) n 0 0)) (sym part.many) (finds from signs.Class selector takes objects wanted to f))
           (omega (arith, count, needs.0)) names_is (held_first part.first part.rest (held.temporaries ++ waiting) (subst (λ l. AllHeld l (held.temporaries ++ waiting)) part.is o.keeps)) (nil_alive frames (stacked held)) o.itself o.places o.dying o.sane
-          (own_home x (suc takes) part.first part.rest part.is g (omega (arith, count, needs.0, a)) (omega (arith, size, part.left, b)) c d)
+          (own_home wanted x (length stack - suc takes) part.first part.rest part.is g (omega (arith, count, needs.0, a)) (omega (arith, size, part.left, needs.1, b)) c d)
+
+      -- behind a message to a made object what `init` gives is there, and elsewhere nothing matters
+      init_ready : (wanted : Gives) (selector takes objects : ℕ) → slice_get (all R) pc ≡ Some (SendTo selector takes objects wanted) → Ready pc own held.temporaries waiting
+          → Is_free (pc + 1) ⊎ ((takes ≡ 0) × (objects ≡ 0) × (wanted ≡ gives.Object) × (slice_get (all R) (pc + 1) ≡ Some Settle))
+          → (given rest : List ℕ) (r : ℕ) → own ≡ given ++ r ∷ rest → length given ≡ objects → Ready_behind wanted rest
+      init_ready wanted selector takes objects is ready (inl f) given rest r e some = always_ready wanted rest f
+      init_ready wanted selector takes objects is ready (inr q) given rest r e some =
+          subst (λ g. Ready_behind g rest) (sym q.2) (⊎_elim
+          (λ (f : Is_free pc). absurd (f.1 (SendTo selector takes objects wanted) is tt Settle q.3 tt))
+          (λ more. ⊎_elim
+          (λ made.
+          let m = made.1 in
+          let none : given ≡ [] = none_of given (omega (arith, some, q.1)) in
+          let names_same : r ∷ rest ≡ m.made ∷ m.rest = ap (λ l. l ++ r ∷ rest) (sym none) ∙ sym e ∙ m.names_are in
+          let rest_same : m.rest ≡ rest = cc in
+          λ r1. inr (inr (q.3, record { given = r1; made = m.made; rest = rest; others = m.others; names_are = refl; places_are = ap (λ l. r1 ∷ l) m.places_are; kept = subst (λ l. AllHeld l (m.others ++ waiting)) rest_same m.kept })))
+          (λ over. absurd (message_stays selector takes objects wanted (SendTo selector takes objects wanted) refl (sym is ∙ over.0))) more) ready)
 
       chosen_leads : (b : Bool) (x y : Next State) → Leads x → Leads y → Leads (chosen b x y)
       chosen_leads false x y f g = f
       chosen_leads true x y f g = g
 
       -- a field of an object takes what a reference names
-      stored : (b : Bool) (j : ℕ) (ob : Object) {q : ℕ} → q ≡ suc j → object_at held.objects (suc j) ≡ Some ob → is_there ob.phase ≡ true → (index r : ℕ) → IsThere held.objects r → (own1 : List ℕ) → AllHeld own1 (held.temporaries ++ waiting) → (x : Height) → Goes_to (pc + 1) x
+      stored : (b : Bool) (j : ℕ) (ob : Object) {q : ℕ} → q ≡ suc j → object_at held.objects (suc j) ≡ Some ob → is_there ob.phase ≡ true → (index r : ℕ) → IsThere held.objects r → (own1 : List ℕ) → AllHeld own1 (held.temporaries ++ waiting) → (x : Height) → Goes_to mine (pc + 1) x
           → length stack ≡ x.numbers + below → length own1 ≡ x.names → x.temporaries ≡ h.temporaries → x.variables ≡ h.variables → is_emptying ob.phase ≡ b
           → Leads (if b then Faults Resurrected else on_place (slice_get ob.strong index) (keeps s stack (with_names held (own1 ++ deeper))) (λ old. releases p s old (raised r (with_strong_field (with_names held (own1 ++ deeper)) q ob index r))))
       stored true j ob same found is_there_now index r there own1 kept x g a b c d e = tt
@@ -679,29 +915,31 @@ module _ (p : Program) (R : resolved.Program) where
           let dying1 = changed_dying held.objects j (with_strong_fields ob strong) (ending frames) (stored_far held.objects j ob strong found e) o.dying in
           subst (λ k. Leads (releases p s old (raised r (with_strong_field held1 k ob index r)))) (sym same)
           (releases_lead old pc stack held held2 own1 refl o.places o.itself kept dying1 (sane_store_field held1 j ob index old r found is_there_now named there sane1)
-          (back (pc + 1) x g.0 (length stack) own1 held1 (goes_nil (pc + 1) x g held.variables (omega (arith, many, d))) a b (omega (arith, few, c)) (omega (arith, many, d)) kept)))
+          (back (pc + 1) x g.0 (length stack) own1 held1 (goes_nil (pc + 1) x g.1 held.variables (omega (arith, many, d))) (inl g.2) a b (omega (arith, few, c)) (omega (arith, many, d)) kept)))
 
-      order_leads : (x : Order) → slice_get (all R) pc ≡ Some x → Stands R (all R) (table R) pc h → (x ≡ EndStep → ⊥) → (nil : (k : ℕ) → Clear k pc → NilFrom k held.variables) → Steps R (all R) (table R) h pc x → Leads (does p x s)
-      order_leads (Plain x) is stands no_end nil st = operation_leads x is nil st.0 st.1
-      order_leads (PrintText bytes) is stands no_end nil st = top_leads stack _ (omega (arith, count, st.0)) (λ c rest e. go_on (pc + 1) _ st.1 (counted c bytes ∷ rest) held own (omega (arith, count, st.0, e)) (omega (arith, size)) (omega (arith, few)) (omega (arith, many)) o)
-      order_leads (Jump to) is stands no_end nil st = go_on (lands pc to) _ st.2 stack held own count size (omega (arith, few, st.1)) many o
-      order_leads (JumpZero to) is stands no_end nil st = top_leads stack _ (omega (arith, count, st.0)) (λ v rest e. chosen_leads (is_zero v) _ _
+      order_leads : (x : Order) → slice_get (all R) pc ≡ Some x → Stands R (all R) (table R) mine pc h → (x ≡ EndStep → ⊥) → (nil : (k : ℕ) → Clear k pc → Shut mine k held.variables) → Ready pc own held.temporaries waiting → Steps R (all R) (table R) mine h pc x → Leads (does p x s)
+      order_leads (Plain x) is stands no_end nil ready st = operation_leads x is nil st.0 st.1 st.2
+      order_leads (PrintText bytes) is stands no_end nil ready st = top_leads stack _ (omega (arith, count, st.0)) (λ c rest e. go_on (pc + 1) _ st.1 (counted c bytes ∷ rest) held own (omega (arith, count, st.0, e)) (omega (arith, size)) (omega (arith, few)) (omega (arith, many)) o)
+      order_leads (Jump to) is stands no_end nil ready st = go_on (lands pc to) _ st.2 stack held own count size (omega (arith, few, st.1)) many o
+      order_leads (JumpZero to) is stands no_end nil ready st = top_leads stack _ (omega (arith, count, st.0)) (λ v rest e. chosen_leads (is_zero v) _ _
           (go_on (pc + 1) _ st.1 rest held own (omega (arith, count, st.0, e)) (omega (arith, size)) (omega (arith, few)) (omega (arith, many)) o)
           (go_on (lands pc to) _ st.2.2 rest held own (omega (arith, count, st.0, e)) (omega (arith, size)) (omega (arith, few, st.2.1)) (omega (arith, many)) o))
-      order_leads (Call f) is stands no_end nil st =
-          let n = parameters_of R f in
-          let x = next_height R (Call f) h in
+      order_leads (Call f wanted) is stands no_end nil ready st =
+          let n = parameters_of R wanted f in
+          let x = next_height R (Call f wanted) h in
           let part = parted n own (omega (arith, st.0.2, size)) in
           let names_is : held.names ≡ part.first ++ (part.rest ++ deeper) = o.is ∙ ap (λ l. l ++ deeper) part.is ∙ append_assoc part.first part.rest deeper in
-          enters_lead (has_level s) (entry p f) 0 (slots_of R f) pc part.first (part.rest ++ deeper) stack held
-          (subst (λ m. Goes_to (entry p f) (height (slots_of R f) m 0 0)) (sym part.many) (calls f st.0.1))
+          enters_lead (has_level s) wanted (entry p f) 0 (slots_of R wanted f) pc part.first (part.rest ++ deeper) stack held
+          (subst (λ m. Goes_to wanted (entry p f) (height (slots_of R wanted f) m 0 0)) (sym part.many) (calls wanted f st.0.1))
           (omega (arith, count, st.0.0)) names_is (held_first part.first part.rest (held.temporaries ++ waiting) (subst (λ l. AllHeld l (held.temporaries ++ waiting)) part.is o.keeps)) (nil_alive frames (stacked held)) o.itself o.places o.dying o.sane
-          (own_home x (slots_of R f) part.first part.rest part.is st.1 (omega (arith, count, st.0.0)) (omega (arith, size, part.left)) (omega arith) (omega arith))
-      order_leads (Send selector takes objects) is stands no_end nil st = found_leads stack takes _ (omega (arith, count, st.0.0)) (λ class _. class_told (class_at class) selector takes objects (next_height R (Send selector takes objects) h) st.0 st.1 (omega arith) (omega arith) (omega arith) (omega arith))
-      order_leads (SendSuper from selector takes objects) is stands no_end nil st = class_told (Some from) selector takes objects (next_height R (SendSuper from selector takes objects) h) st.0 st.1 (omega arith) (omega arith) (omega arith) (omega arith)
-      order_leads (SendTo selector takes objects) is stands no_end nil st = message_leads (λ ob. ob.class) selector takes objects (next_height R (SendTo selector takes objects) h) st.0 st.1 (omega arith) (omega arith) (omega arith) (omega arith)
-      order_leads (SendToSuper from selector takes objects) is stands no_end nil st = message_leads (λ ob. from) selector takes objects (next_height R (SendToSuper from selector takes objects) h) st.0 st.1 (omega arith) (omega arith) (omega arith) (omega arith)
-      order_leads (StoreStrong i) is stands no_end nil st =
+          (own_home wanted x (length stack - slots_of R wanted f) part.first part.rest part.is st.1 (omega (arith, count, st.0.0)) (omega (arith, size, part.left)) (omega arith) (omega arith))
+      order_leads (Send selector takes objects wanted) is stands no_end nil ready st = found_leads stack takes _ (omega (arith, count, st.0.0)) (λ class _. class_told wanted (class_at class) selector takes objects (next_height R (Send selector takes objects wanted) h) st.0 st.1 (omega arith) (omega arith) (omega arith) (omega arith))
+      order_leads (SendSuper from selector takes objects wanted) is stands no_end nil ready st = class_told wanted (Some from) selector takes objects (next_height R (SendSuper from selector takes objects wanted) h) st.0 st.1 (omega arith) (omega arith) (omega arith) (omega arith)
+      order_leads (SendTo selector takes objects wanted) is stands no_end nil ready st =
+          message_leads wanted (λ ob. ob.class) selector takes objects (next_height R (SendTo selector takes objects wanted) h) st.0 st.1 (init_ready wanted selector takes objects is ready st.2) (omega arith) (omega arith) (omega arith) (omega arith)
+      order_leads (SendToSuper from selector takes objects wanted) is stands no_end nil ready st =
+          message_leads wanted (λ ob. from) selector takes objects (next_height R (SendToSuper from selector takes objects wanted) h) st.0 (st.1.0, st.1.1) (λ given rest r e some. always_ready wanted rest st.1.2) (omega arith) (omega arith) (omega arith) (omega arith)
+      order_leads (StoreStrong i) is stands no_end nil ready st =
           let f = first_of own (omega (arith, st.0.0, size)) in
           let r = f.0 in
           let there = is_held r (keeps_of r f.1 f.2).0 in
@@ -710,8 +948,8 @@ module _ (p : Program) (R : resolved.Program) where
           let long = length-set held.variables i r in
           let every : length held1.variables ≡ (next_height R (StoreStrong i) h).variables = omega (arith, many, long) in
           releases_lead old pc stack held held1 own o.is o.places o.itself o.keeps o.dying (sane_store held i old r found there o.sane)
-          (subst (λ l. Resumes (pc + 1) self frames (length stack) below l deeper held.temporaries held1.variables waiting) (sym o.is) (back (pc + 1) (next_height R (StoreStrong i) h) st.1.0 (length stack) own held1 (goes_nil (pc + 1) (next_height R (StoreStrong i) h) st.1 held1.variables every) (omega (arith, count)) (omega (arith, size, st.0.0)) (omega (arith, few)) every o.keeps)))))
-      order_leads (StoreGlobal i) is stands no_end nil st =
+          (subst (λ l. Resumes mine (pc + 1) self frames (length stack) below l deeper held.temporaries held1.variables waiting) (sym o.is) (back (pc + 1) (next_height R (StoreStrong i) h) st.1.0 (length stack) own held1 (goes_nil (pc + 1) (next_height R (StoreStrong i) h) st.1.1 held1.variables every) (inl st.1.2) (omega (arith, count)) (omega (arith, size, st.0.0)) (omega (arith, few)) every o.keeps)))))
+      order_leads (StoreGlobal i) is stands no_end nil ready st =
           let f = first_of own (omega (arith, st.0, size)) in
           let r = f.0 in
           let there = is_held r (keeps_of r f.1 f.2).0 in
@@ -721,8 +959,8 @@ module _ (p : Program) (R : resolved.Program) where
           (λ old found.
           let held1 = raised r (with_strong_globals held (slice_set held.strong_globals i r)) in
           releases_lead old pc stack held held1 own o.is o.places o.itself o.keeps o.dying (sane_store_global held i old r found there o.sane)
-          (subst (λ l. Resumes (pc + 1) self frames (length stack) below l deeper held.temporaries held.variables waiting) (sym o.is) (back (pc + 1) x st.1.0 (length stack) own held (goes_nil (pc + 1) x st.1 held.variables (omega (arith, many))) (omega (arith, count)) (omega (arith, size, st.0)) (omega (arith, few)) (omega (arith, many)) o.keeps)))))
-      order_leads (StoreField class index) is stands no_end nil st =
+          (subst (λ l. Resumes mine (pc + 1) self frames (length stack) below l deeper held.temporaries held.variables waiting) (sym o.is) (back (pc + 1) x st.1.0 (length stack) own held (goes_nil (pc + 1) x st.1.1 held.variables (omega (arith, many))) (inl st.1.2) (omega (arith, count)) (omega (arith, size, st.0)) (omega (arith, few)) (omega (arith, many)) o.keeps)))))
+      order_leads (StoreField class index) is stands no_end nil ready st =
           let f = first_of own (omega (arith, st.0, size)) in
           let r = f.0 in
           let shorter = ap length f.2 in
@@ -739,23 +977,49 @@ module _ (p : Program) (R : resolved.Program) where
           reference_leads r held.names (f.1 ++ deeper) _ (top_is r f.1 f.2) (reference_leads q.0 (f.1 ++ deeper) (q.1 ++ deeper) _ (ap (λ l. l ++ deeper) q.2)
           (named_leads r held _ there (field_leads class q.0 held _ (is_held q.0 second.0) (λ j ob same found is_there_now.
           stored (is_emptying ob.phase) j ob same found is_there_now index r there own1 kept x st.1 (omega (arith, count)) (omega (arith, size, st.0, shorter, least)) (omega arith) (omega arith) refl))))
-      order_leads (Empty i) is stands no_end nil st = found_leads held.variables i _ (omega (arith, many, st.0)) (λ r found.
+      order_leads (Empty i) is stands no_end nil ready st = found_leads held.variables i _ (omega (arith, many, st.0)) (λ r found.
           let held1 = raised 0 (with_variables held (slice_set held.variables i 0)) in
           let long = length-set held.variables i 0 in
           releases_lead r pc stack held held1 own o.is o.places o.itself o.keeps o.dying (sane_store held i r 0 found tt o.sane)
-          (subst (λ l. Resumes (pc + 1) self frames (length stack) below l deeper held.temporaries held1.variables waiting) (sym o.is) (back (pc + 1) (next_height R (Empty i) h) st.1 (length stack) own held1 (λ k c. ⊎_elim (λ same. nil_from k (subst (λ j. Clear j (pc + 1)) same c) same) (λ le. nil_from_end held1.variables k (omega (arith, many, long, le))) (st.2 k c)) (omega (arith, count)) (omega (arith, size)) (omega (arith, few)) (omega (arith, many, long)) o.keeps)))
+          (subst (λ l. Resumes mine (pc + 1) self frames (length stack) below l deeper held.temporaries held1.variables waiting) (sym o.is) (back (pc + 1) (next_height R (Empty i) h) st.1 (length stack) own held1 (λ k c. ⊎_elim (λ same. nil_from k (subst (λ j. Clear j (pc + 1)) same c) same) (λ le. shut_end mine held1.variables k (omega (arith, many, long, le))) (st.2 k c)) (inl st.3) (omega (arith, count)) (omega (arith, size)) (omega (arith, few)) (omega (arith, many, long)) o.keeps)))
         where
-          nil_from : (k : ℕ) → Clear i (pc + 1) → k ≡ i → NilFrom k (slice_set held.variables i 0)
-          nil_from k c same = subst (λ j. NilFrom j (slice_set held.variables i 0)) (sym same) (nil_from_set i held.variables (nil (suc i) (is, c)))
-      order_leads DropAll is stands no_end nil st =
+          nil_from : (k : ℕ) → Clear i (pc + 1) → k ≡ i → Shut mine k (slice_set held.variables i 0)
+          nil_from k c same = subst (λ j. Shut mine j (slice_set held.variables i 0)) (sym same) (shut_set mine i held.variables (nil (suc i) (is, c)))
+      order_leads DropAll is stands no_end nil ready st =
           let none = none_of own (omega (arith, size, st.0)) in
-          drops_lead held.temporaries pc h stack held held refl stands st.1 nil count (omega (arith, st.0)) few many (subst (λ l. Owns l held) none o)
-      order_leads Return is stands no_end nil st =
+          let free = free_at R (all R) (table R) pc DropAll is (λ e. e) (λ e. absurd e) in
+          drops_lead held.temporaries pc h stack held held refl stands free st.1 nil count (omega (arith, st.0)) few many (subst (λ l. Owns l held) none o)
+      order_leads Settle is stands no_end nil ready st = ⊎_elim
+          (λ (f : Is_free pc). absurd (f.0 Settle is tt))
+          (λ more. ⊎_elim (λ made. absurd (made.0 Settle is tt)) (λ over. settles_lead over.1 st) more)
+          ready
+        where
+          settles_lead : Initialized own held.temporaries waiting → Goes_to mine (pc + 1) (next_height R Settle h) → Leads (does p Settle s)
+          settles_lead m g =
+              let held1 = with_temporaries held (m.given ∷ m.others) in
+              let own1 = m.given ∷ m.rest in
+              let is1 : held.names ≡ own1 ++ deeper = o.is ∙ ap (λ l. l ++ deeper) m.names_are in
+              let keeps1 : AllHeld own1 (held1.temporaries ++ waiting) = (last_held m.given (m.others ++ waiting), all_more m.given m.rest (m.others ++ waiting) m.kept) in
+              let x = next_height R Settle h in
+              let names_size = ap length m.names_are in
+              let places_size = ap length m.places_are in
+              subst (λ l. Leads (instructions.settles (bare p) s l)) (sym m.places_are)
+              (releases_lead m.made pc stack held held1 own1 is1 o.places o.itself keeps1 o.dying (sane_settle held m.given m.made m.others m.places_are o.sane)
+              (subst (λ l. Resumes mine (pc + 1) self frames (length stack) below l deeper held1.temporaries held.variables waiting) (sym is1) (back (pc + 1) x g.0 (length stack) own1 held1 (goes_nil (pc + 1) x g.1 held.variables (omega (arith, many))) (inl g.2) (omega (arith, count)) (omega (arith, size, names_size)) (omega (arith, few, places_size)) (omega (arith, many)) keeps1)))
+      order_leads Give is stands no_end nil ready st =
           let none = none_of held.temporaries (omega (arith, few, st.2)) in
-          let empty = nil 0 (0, is) in
+          let clears : Clear 0 pc = (0, (Give, is, tt)) in
+          let shut = subst (λ g. Shut g 0 held.variables) st.3 (nil 0 clears) in
+          let last = last_there held.variables (omega (arith, many, st.4)) shut in
+          top_leads stack _ (omega (arith, count, st.0)) (λ v rest e. last_leads last.0 held.temporaries held _ none last.1
+          (hands_lead frames below deeper pc last.0 stack rest held (subst (λ g. Waits g frames below deeper held.places) st.3 (subst (Waits mine frames below deeper) (sym o.places) waits)) (omega (arith, count, st.0, e)) (o.is ∙ ap (λ l. l ++ deeper) (none_of own (omega (arith, size, st.1)))) none last.1 o.dying o.sane))
+      order_leads Return is stands no_end nil ready st =
+          let none = none_of held.temporaries (omega (arith, few, st.2)) in
+          let clears : Clear 0 pc = (0, (Return, is, tt)) in
+          let empty = subst (λ g. Shut g 0 held.variables) st.3 (nil 0 clears) in
           top_leads stack _ (omega (arith, count, st.0)) (λ v rest e. left_leads held.temporaries held _ none empty
-          (leaves_lead frames below deeper pc v stack rest held (subst (Waits frames below deeper) (sym o.places) waits) (subst (λ l. Alive frames l held.self) (sym o.places) (subst (Alive frames waiting) (sym o.itself) alive)) e (omega (arith, count, st.0, e)) (o.is ∙ ap (λ l. l ++ deeper) (none_of own (omega (arith, size, st.1)))) none empty o.dying o.sane running))
-      order_leads EndStep is stands no_end nil st = absurd (no_end refl)
+          (leaves_lead frames below deeper pc v stack rest held (subst (λ g. Waits g frames below deeper held.places) st.3 (subst (Waits mine frames below deeper) (sym o.places) waits)) (subst (λ l. Alive frames l held.self) (sym o.places) (subst (Alive frames waiting) (sym o.itself) alive)) e (omega (arith, count, st.0, e)) (o.is ∙ ap (λ l. l ++ deeper) (none_of own (omega (arith, size, st.1)))) none empty o.dying o.sane running))
+      order_leads EndStep is stands no_end nil ready st = absurd (no_end refl)
 
   -- ---- the end of an object
 
@@ -766,8 +1030,8 @@ module _ (p : Program) (R : resolved.Program) where
     -- what waits for the end of this object
     abbrev Behind : (back : ℕ) → Waiter → ℕ → List Frame → Type 0
     Behind back w o others = IsApart o (ending others) × (s : Splits w held.places)
-        × (((below : ℕ) × (deeper : List ℕ) × Resumes back w.self others (length stack) below held.names deeper s.temporaries s.variables s.waiting × Waits others below deeper s.waiting)
-        ⊎ (EndsAgain back w.self others s.temporaries s.variables s.waiting × Waits others (length stack) held.names s.waiting))
+        × (((mine : Gives) × (below : ℕ) × (deeper : List ℕ) × Resumes mine back w.self others (length stack) below held.names deeper s.temporaries s.variables s.waiting × Waits mine others below deeper s.waiting)
+        ⊎ (EndsAgain back w.self others s.temporaries s.variables s.waiting × Waits gives.Number others (length stack) held.names s.waiting))
 
     -- an object is gone, whose fields name nothing
     ends_lead : (b : Bool) (back : ℕ) (w : Waiter) (o : ℕ) (others frames : List Frame) (ob : Object) → object_at held.objects o ≡ Some ob → ((k : ℕ) → holders (suc k) (fields_of ob) ≡ 0) → AllDying held.objects (ending others) → nat_eq (held.counts o) 0 ≡ b → Behind back w o others
@@ -787,7 +1051,7 @@ module _ (p : Program) (R : resolved.Program) where
         (subst (λ l. Good (at others back stack (resumed w (with_things (with_variables held []) l)))) (sym gone_is)
         (subst (λ q. Good (at others back stack q)) (sym (resumes_again w h split))
         (⊎_elim
-        (λ f. (inl (record { below = f.0; deeper = f.1; resumes = f.2; waits = f.3 }), still, sane1))
+        (λ f. (inl (record { mine = f.0; below = f.1; deeper = f.2; resumes = f.3; waits = f.4 }), still, sane1))
         (λ f. (inr (record { at_end = f.0.at_end; is_ending = f.0.is_ending; none = f.0.none; empty = f.0.empty; alive = f.0.alive; waits = f.1 }), still, sane1))
         behind.2)))
 
@@ -845,16 +1109,17 @@ module _ (p : Program) (R : resolved.Program) where
       abbrev here : State
       here = at frames p.end_step stack held
 
-      dealloc_leads : (d : Option ℕ) (next : Option ℕ) (left : ℕ) → ((to : ℕ) → d ≡ Some to → Goes_to to (height 0 0 0 0)) → Leads (runs_dealloc d here (Ending back w o next left ∷ others))
+      dealloc_leads : (d : Option ℕ) (next : Option ℕ) (left : ℕ) → ((to : ℕ) → d ≡ Some to → Goes_to gives.Number to (height 0 0 0 0)) → Leads (runs_dealloc d here (Ending back w o next left ∷ others))
       dealloc_leads None next left goes = (inr (record { at_end = refl; is_ending = tt; none = none; empty = empty; alive = alive next left; waits = behind }), dying next left, sane)
       dealloc_leads (Some to) next left goes =
           let g = goes to refl in
           let few = ap length none in
           let many = ap length empty in (
             inl (record {
+              mine = gives.Number;
               below = length stack;
               deeper = held.names;
-              resumes = record { high = height 0 0 0 0; stands = g.0; count = omega arith; own = []; is = refl; size = refl; few = omega (arith, few); many = many; held = tt; nil = λ k c. nil_from_end held.variables k (omega (arith, many)); alive = alive next left; running = tt };
+              resumes = record { high = height 0 0 0 0; stands = g.0; count = omega arith; own = []; is = refl; size = refl; few = omega (arith, few); many = many; held = tt; nil = λ k c. nil_from_end held.variables k (omega (arith, many)); ready = inl g.2; alive = alive next left; running = tt };
               waits = behind;
             }),
             dying next left,
@@ -865,7 +1130,7 @@ module _ (p : Program) (R : resolved.Program) where
       class_leads i None left e = after_lead back w o others frames (dying None left).0 (dying None left).1 (alive None 0) behind
       class_leads i (Some d) left e = dealloc_leads d.dealloc d.superclass left (λ to f. dealloc_goes R i d to (ap (λ cs. slice_get cs i) (sym classes) ∙ e) f)
 
-    goes_on_leads : (frames : List Frame) → IsEnding frames → Alive frames held.places held.self → Waits frames (length stack) held.names held.places → AllDying held.objects (ending frames) → Leads (end_goes_on p (at frames p.end_step stack held) frames)
+    goes_on_leads : (frames : List Frame) → IsEnding frames → Alive frames held.places held.self → Waits gives.Number frames (length stack) held.names held.places → AllDying held.objects (ending frames) → Leads (end_goes_on p (at frames p.end_step stack held) frames)
     goes_on_leads [] is alive waits dying = absurd is
     goes_on_leads (Calling back w ∷ others) is alive waits dying = absurd is
     goes_on_leads (Ending back w o None left ∷ others) is alive waits dying = after_lead back w o others (Ending back w o None left ∷ others) dying.0 dying.1 alive waits
@@ -887,10 +1152,11 @@ module _ (p : Program) (R : resolved.Program) where
         let r = f.resumes in
         let x = r.stands.order in
         let st = steps_at R s.at x r.stands.is in
-        let same : st.0 ≡ r.high = some_same st.0 r.high (sym st.1 ∙ r.stands.height) in
-        let steps = subst (λ h. Steps R (all R) (table R) h s.at x) same st.2 in
+        let mark : Height × Gives = (r.high, f.mine) in
+        let same : st.0 ≡ mark = some_same st.0 mark (sym st.1 ∙ r.stands.height) in
+        let steps = subst (λ (m : Height × Gives). Steps R (all R) (table R) m.1 m.0 s.at x) same st.2 in
         subst Leads (sym (step_does s x r.stands.is))
-        (order_leads s.frames f.below f.deeper s.held.places s.held.self r.alive f.waits r.running classes (λ g le. entry_goes p R is entries g le) s.at r.high s.stack s.held r.own r.count r.size r.few r.many (record { is = r.is; places = refl; itself = refl; keeps = r.held; dying = dying; sane = sane }) x r.stands.is r.stands r.stands.no_end r.nil steps)
+        (order_leads f.mine s.frames f.below f.deeper s.held.places s.held.self r.alive f.waits r.running classes (λ wanted g called. entry_goes p R is entries wanted g called) s.at r.high s.stack s.held r.own r.count r.size r.few r.many (record { is = r.is; places = refl; itself = refl; keeps = r.held; dying = dying; sane = sane }) x r.stands.is r.stands r.stands.no_end r.nil r.ready steps)
 
     end_leads : (s : State) → InEnd s → AllDying s.held.objects (ending s.frames) → Sane p.classes s.held → Leads (step p s)
     end_leads s f dying sane =
@@ -905,7 +1171,7 @@ module _ (p : Program) (R : resolved.Program) where
     safe (suc n) s good = along_map Good (Safe (step p) (λ t. Counted t.held) n) (safe n) (step p s) (step_leads s good)
 
     pub start_good : Good (start p)
-    start_good = (inl (record { below = 0; deeper = []; resumes = record { high = height 0 0 0 0; stands = (start_goes R).0; count = refl; own = []; is = refl; size = refl; few = omega arith; many = refl; held = tt; nil = λ k c. nil_from_end [] k (omega arith); alive = nil_alive [] []; running = tt }; waits = tt }), tt, sane_start (with_globals nothing_held p.globals) p.strong_globals refl (sane_globals nothing_held p.globals nothing_sane))
+    start_good = (inl (record { mine = gives.Number; below = 0; deeper = []; resumes = record { high = height 0 0 0 0; stands = (start_goes R).0; count = refl; own = []; is = refl; size = refl; few = omega arith; many = refl; held = tt; nil = λ k c. nil_from_end [] k (omega arith); ready = inl (start_goes R).2; alive = nil_alive [] []; running = tt }; waits = tt }), tt, sane_start (with_globals nothing_held p.globals) p.strong_globals refl (sane_globals nothing_held p.globals nothing_sane))
 
     -- the actions of a lowered program are never stuck, and their counts are right
     pub lowered_never_stuck : Sound (step p) (λ s. Counted s.held) (start p)

@@ -1,15 +1,21 @@
 -- What blocks mean, without steps.
-use Rattle.std.proofs.Common.{◌≡◌, ℕ, zero, suc, ℤ, Bool, true, false, nat_eq, if◌then◌else◌, List, [], ◌∷◌, length, Some, refl, sym, ap, ◌∙◌}
+use Rattle.std.proofs.Common.{◌≡◌, ℕ, zero, suc, ℤ, Bool, true, false, nat_eq, is_some, if◌then◌else◌, List, [], ◌∷◌, length, Option, Some, refl, sym, ap, ◌∙◌}
 use Rattle.std.proofs.lemmas.Bool.{eq-eqb}
-use Rattle.arc_spec.specs.Classes.{class_at}
+use Rattle.arc_ast.specs.declared.tree.Sign.TheVariants as signs
+use Rattle.arc_spec.specs.declared.class.Gives.{Gives}
+use Rattle.arc_spec.specs.declared.class.Gives.TheVariants as gives
+use Rattle.arc_spec.specs.declared.location.Location.TheVariants.{Local}
+use Rattle.arc_spec.specs.Classes.{class_at, lookup, new_selector}
 use Rattle.arc_spec.specs.Number.{converted, applied, combined, is_zero}
 use Rattle.arc_spec.specs.World.{World, Outcome, Done, Faulted, Cut, Finished, then_do, Given, prints, next_number, has_read, named_at, takes}
+use Rattle.arc_spec.specs.World as world
 use Rattle.arc_spec.specs.Meaning as meaning
-use Rattle.arc_spec.specs.Meaning.{Deeper, held_at, holds, chosen, sent, made, field_read, field_set, object_field_read, object_field_set, difference, formatted, byte_count, or_fault, all_dropped, assigned, variables_dropped}
+use Rattle.arc_spec.specs.Meaning.{Deeper, held_at, holds, chosen, sent, made, made_new, result_place, field_read, field_set, object_field_read, object_field_set, difference, formatted, byte_count, or_fault, all_dropped, assigned, variables_dropped}
+use Rattle.arc_code.specs.Instructions.{one_if}
 use Rattle.arc_code.specs.declared.instr.Op.{Op}
 use Rattle.arc_code.specs.declared.instr.Op.TheVariants as ops
-use Rattle.arc_code.specs.declared.instr.Op.TheVariants.{Num, Bin, Un, Narrow, Pop, Get, GetChar, Nil, ReadSelf, ReadField, Hold, Forget, Alloc, GetField, SetField, Differ, IsObject}
-use Rattle.arc_lower.specs.Lowered.{Message, ToClass, ToSuperClass, ToObject, ToSuper, Entry, AtStep, AtTest, AtBody, Block, Idle, One, Load, Store, Read, Assign, AssignField, Clear, Format, Calls, Tells, Then, Fork, Loop, Quit, Advance, Full, Leave}
+use Rattle.arc_code.specs.declared.instr.Op.TheVariants.{Num, Bin, Un, Narrow, Pop, Get, GetChar, Nil, ReadSelf, ReadField, Hold, Forget, Alloc, Finds, GetField, SetField, Differ, IsObject}
+use Rattle.arc_lower.specs.Lowered.{Message, ToClass, ToSuperClass, ToObject, ToSuper, Entry, AtStep, AtTest, AtBody, Block, Idle, One, Load, Store, Read, Assign, AssignField, Clear, Format, Calls, Tells, Making, IfNew, Answer, Then, Fork, Loop, Quit, Advance, Full, Leave}
 use Rattle.arc_lower.proofs.Stacking.{onto}
 
 -- operands: numbers and references, the last one first
@@ -82,6 +88,18 @@ on_given n m s w go = values_of n [] s.numbers s.names w (λ values rest. object
 abbrev pub pushes : Operands → Outcome ℤ → Outcome Way
 pushes s o = left_by (λ v. On (push v s)) o
 
+-- what an answer leaves: its number, or its object, which a temporary takes
+abbrev pub answer_left : Gives → Operands → world.Answer → World → Outcome Way
+answer_left gives.Number s a w = Done (On (push a.number s)) w
+answer_left gives.Object s a w = Done (On (name a.object s)) (takes a.object w)
+
+abbrev pub answers_left : Gives → Operands → Outcome world.Answer → Outcome Way
+answers_left wanted s o = then_do o (answer_left wanted s)
+
+-- whether a class, or one above it, has a `new` of its own
+abbrev pub knows_new : Deeper → Option ℕ → Bool
+knows_new D class = is_some (lookup D.classes class signs.Class new_selector 0 0 gives.Object)
+
 -- an operation on operands and temporaries
 abbrev pub operation : Deeper → Op → Operands → World → Outcome Way
 operation D (Num n) s w = Done (On (push n s)) w
@@ -98,6 +116,7 @@ operation D Hold s w = on_name s w (λ r rest. Done (On (name r rest)) (takes r 
 operation D ops.Again s w = on_name s w (λ r rest. Done (On (name r (name r rest))) w)
 operation D Forget s w = on_name s w (λ r rest. Done (On rest) w)
 operation D Alloc s w = on_number s w (λ v rest. left_by (λ r. On (name r rest)) (made D (class_at v) w))
+operation D (Finds selector) s w = on_number s w (λ v rest. Done (On (push (one_if (is_some (lookup D.classes (class_at v) signs.Class selector 0 0 gives.Object))) (push v rest))) w)
 operation D (GetField class index) s w = on_name s w (λ r rest. pushes rest (field_read D r class index w))
 operation D (SetField class index) s w = on_name s w (λ r above. on_number above w (λ v rest. pushes rest (field_set D r class index v w)))
 operation D Differ s w = on_name s w (λ y above. on_name above w (λ x rest. Done (On (push (difference x y) rest)) w))
@@ -105,11 +124,11 @@ operation D IsObject s w = on_name s w (λ x rest. Done (On (push (difference x 
 operation D _ s w = Done Lost w
 
 -- a message, with what it passes; what gets it is a number or a reference
-abbrev pub told : Deeper → Message → Given → Operands → World → Outcome Way
-told D (ToClass selector) given s w = on_number s w (λ self rest. pushes rest (sent D (meaning.ToClass (class_at self) self) selector given w))
-told D (ToSuperClass from selector) given s w = on_number s w (λ self rest. pushes rest (sent D (meaning.ToClass (Some from) self) selector given w))
-told D (ToObject selector) given s w = on_name s w (λ self rest. pushes rest (sent D (meaning.ToObject self) selector given w))
-told D (ToSuper from selector) given s w = on_name s w (λ self rest. pushes rest (sent D (meaning.ToSuper from self) selector given w))
+abbrev pub told : Deeper → (wanted : Gives) → Message → Given → Operands → World → Outcome Way
+told D wanted (ToClass selector) given s w = on_number s w (λ self rest. answers_left wanted rest (sent D wanted (meaning.ToClass (class_at self) self) selector given w))
+told D wanted (ToSuperClass from selector) given s w = on_number s w (λ self rest. answers_left wanted rest (sent D wanted (meaning.ToClass (Some from) self) selector given w))
+told D wanted (ToObject selector) given s w = on_name s w (λ self rest. answers_left wanted rest (sent D wanted (meaning.ToObject self) selector given w))
+told D wanted (ToSuper from selector) given s w = on_name s w (λ self rest. answers_left wanted rest (sent D wanted (meaning.ToSuper from self) selector given w))
 
 -- what follows a loop's body
 abbrev pub after_turn : (Operands → World → Outcome Way) → Way → World → Outcome Way
@@ -142,28 +161,32 @@ abbrev pub only_on : (Operands → World → Outcome Way) → Way → World → 
 only_on go (On s) w = go s w
 only_on go way w = Done Lost w
 
--- what a block means; full-expressions and loops stand only between others
-abbrev pub block : Deeper → (bound : ℕ) → (between : Bool) → Block → Operands → World → Outcome Way
-block D bound m Idle s w = Done (On s) w
-block D bound m (One o) s w = operation D o s w
-block D bound m (Load depth i) s w = if nat_eq depth (length s.numbers) then Done (On (push (held_at i w) s)) w else Done Lost w
-block D bound m (Store depth i) s w = on_number s w (λ x rest. if nat_eq depth (length rest.numbers) then Done (On s) (holds i x w) else Done Lost w)
-block D bound m (Read i) s w = Done (On (name (named_at i w) s)) (takes (named_at i w) w)
-block D bound m (Assign i) s w = on_name s w (λ r rest. passes_by s (assigned D i r w))
-block D bound m (AssignField class index) s w = on_name s w (λ r above. on_name above w (λ x rest. passes_by (name r rest) (object_field_set D x class index r w)))
-block D bound m (Clear first count) s w = passes_by s (variables_dropped D first count w)
-block D bound m (Format pieces n k) s w = on_given n k s w (λ given rest. Done (On (push (byte_count (formatted pieces given.numbers)) rest)) (prints (formatted pieces given.numbers) w))
-block D bound m (Calls f n k) s w = on_given n k s w (λ given rest. pushes rest (D.call f 0 given w))
-block D bound m (Tells message n k) s w = on_given n k s w (λ given rest. told D message given rest w)
-block D bound m (Then a b) s w = and_then (block D bound m a s w) (block D bound m b)
-block D bound m (Fork a b) s w = on_number s w (λ v rest. chosen (is_zero v) (block D bound m a rest w) (block D bound m b rest w))
-block D bound true (Loop entry step test body) s w = loop_entered entry bound (block D bound true step) (block D bound true test) (block D bound true body) s w
-block D bound false (Loop entry step test body) s w = Done Lost w
-block D bound m Quit s w = Done (Quits s) w
-block D bound m Advance s w = Done (Turns s) w
-block D bound true (Full a b) s w = then_do (and_then (block D bound false a s w) (block D bound false b)) (only_on (λ s1 w1. passes_by s1 (all_dropped D w1)))
-block D bound false (Full a b) s w = Done Lost w
-block D bound m (Leave exit) s w = Done (Out exit s) w
+-- What a block means; full-expressions and loops stand only between others. The place of the result is that of the world in which the full-expression began.
+abbrev pub block : Deeper → (bound place : ℕ) → (between : Bool) → Block → Operands → World → Outcome Way
+block D bound place m Idle s w = Done (On s) w
+block D bound place m (One o) s w = operation D o s w
+block D bound place m (Load depth i) s w = if nat_eq depth (length s.numbers) then Done (On (push (held_at i w) s)) w else Done Lost w
+block D bound place m (Store depth i) s w = on_number s w (λ x rest. if nat_eq depth (length rest.numbers) then Done (On s) (holds i x w) else Done Lost w)
+block D bound place m (Read i) s w = Done (On (name (named_at i w) s)) (takes (named_at i w) w)
+block D bound place m (Assign i) s w = on_name s w (λ r rest. passes_by s (assigned D i r w))
+block D bound place m (AssignField class index) s w = on_name s w (λ r above. on_name above w (λ x rest. passes_by (name r rest) (object_field_set D x class index r w)))
+block D bound place m (Clear first count) s w = passes_by s (variables_dropped D first count w)
+block D bound place m (Format pieces n k) s w = on_given n k s w (λ given rest. Done (On (push (byte_count (formatted pieces given.numbers)) rest)) (prints (formatted pieces given.numbers) w))
+block D bound place m (Calls wanted f n k) s w = on_given n k s w (λ given rest. answers_left wanted rest (D.call wanted f 0 given w))
+block D bound place m (Tells wanted message n k) s w = on_given n k s w (λ given rest. told D wanted message given rest w)
+block D bound place m Making s w = on_number s w (λ class rest. left_by (λ r. On (name r rest)) (made_new D (class_at class) w))
+block D bound place m (IfNew class a b) s w = if knows_new D (Some class) then block D bound place m a s w else block D bound place m b s w
+block D bound place false Answer s w = on_name s w (λ r rest. passes_by s (assigned D (Local place) r w))
+block D bound place true Answer s w = Done Lost w
+block D bound place m (Then a b) s w = and_then (block D bound place m a s w) (block D bound place m b)
+block D bound place m (Fork a b) s w = on_number s w (λ v rest. chosen (is_zero v) (block D bound place m a rest w) (block D bound place m b rest w))
+block D bound place true (Loop entry step test body) s w = loop_entered entry bound (block D bound place true step) (block D bound place true test) (block D bound place true body) s w
+block D bound place false (Loop entry step test body) s w = Done Lost w
+block D bound place m Quit s w = Done (Quits s) w
+block D bound place m Advance s w = Done (Turns s) w
+block D bound place true (Full a b) s w = then_do (and_then (block D bound (result_place w) false a s w) (block D bound (result_place w) false b)) (only_on (λ s1 w1. passes_by s1 (all_dropped D w1)))
+block D bound place false (Full a b) s w = Done Lost w
+block D bound place m (Leave exit) s w = Done (Out exit s) w
 
 -- ---- one block behind another
 

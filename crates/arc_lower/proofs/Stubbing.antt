@@ -11,7 +11,7 @@ use Rattle.arc_lower.specs.Heights.{greatest, stub_heights, methods_heights, cla
 use Rattle.arc_lower.proofs.Laying.{greatest_append}
 
 abbrev running_at : Method → (place : ℕ) → Method
-running_at m place = record { sign = m.sign; selector = m.selector; takes = m.takes; objects = m.objects; runs = place }
+running_at m place = record { sign = m.sign; selector = m.selector; takes = m.takes; objects = m.objects; gives = m.gives; runs = place }
 
 -- with these methods still to come, all comes out as from the start
 pub record MethodsLaid (P : Program) (entries : List ℕ) (o0 : List Order) (h0 : Height) (all : List Method) (o : List Order) (h : Height) (linked : List Method) (left : List Method) : Type 0 where
@@ -19,15 +19,15 @@ pub record MethodsLaid (P : Program) (entries : List ℕ) (o0 : List Order) (h0 
   pub methods : linked ++ linked_methods P entries (length o) left ≡ linked_methods P entries (length o0) all
   pub most : greatest (methods_heights P entries left) h ≡ greatest (methods_heights P entries all) h0
 
-pub methods_more : (P : Program) (entries : List ℕ) (o0 : List Order) (h0 : Height) (all : List Method) (o : List Order) (h : Height) (linked : List Method) (m : Method) (left : List Method) (o' : List Order) (h' : Height) (linked' : List Method) (place : ℕ) → MethodsLaid P entries o0 h0 all o h linked (m ∷ left) → o' ≡ o ++ stub_orders P entries (passes m.sign m.takes) m.objects m.runs → place ≡ length o → linked' ≡ linked ++ record { sign = m.sign; selector = m.selector; takes = m.takes; objects = m.objects; runs = place } ∷ [] → h' ≡ greatest (stub_heights P entries (passes m.sign m.takes) m.objects m.runs) h → MethodsLaid P entries o0 h0 all o' h' linked' left
+pub methods_more : (P : Program) (entries : List ℕ) (o0 : List Order) (h0 : Height) (all : List Method) (o : List Order) (h : Height) (linked : List Method) (m : Method) (left : List Method) (o' : List Order) (h' : Height) (linked' : List Method) (place : ℕ) → MethodsLaid P entries o0 h0 all o h linked (m ∷ left) → o' ≡ o ++ stub_orders P entries m.gives (passes m.sign m.takes) m.objects m.runs → place ≡ length o → linked' ≡ linked ++ record { sign = m.sign; selector = m.selector; takes = m.takes; objects = m.objects; gives = m.gives; runs = place } ∷ [] → h' ≡ greatest (stub_heights P entries m.gives (passes m.sign m.takes) m.objects m.runs) h → MethodsLaid P entries o0 h0 all o' h' linked' left
 methods_more P entries o0 h0 all o h linked m left o' h' linked' place laid eo ep el eh =
-    let is = stub_orders P entries (passes m.sign m.takes) m.objects m.runs in
+    let is = stub_orders P entries m.gives (passes m.sign m.takes) m.objects m.runs in
     let now = running_at m in
     let n = ap length eo ∙ length-append o is in
     record {
       actions = ap (λ l. l ++ methods_orders P entries left) eo ∙ append_assoc o is (methods_orders P entries left) ∙ laid.actions;
       methods = ap (λ l. l ++ linked_methods P entries (length o') left) (el ∙ ap (λ q. linked ++ now q ∷ []) ep) ∙ append_assoc linked (now (length o) ∷ []) (linked_methods P entries (length o') left) ∙ ap (λ q. linked ++ now (length o) ∷ linked_methods P entries q left) n ∙ laid.methods;
-      most = ap (greatest (methods_heights P entries left)) eh ∙ sym (greatest_append (stub_heights P entries (passes m.sign m.takes) m.objects m.runs) (methods_heights P entries left) h) ∙ laid.most;
+      most = ap (greatest (methods_heights P entries left)) eh ∙ sym (greatest_append (stub_heights P entries m.gives (passes m.sign m.takes) m.objects m.runs) (methods_heights P entries left) h) ∙ laid.most;
     }
 
 -- the same of classes

@@ -1,52 +1,97 @@
 -- Orders that go on with the next one each: how many numbers, references, temporaries and variables there are behind them, where each of them has as many as it needs.
-use Rattle.std.proofs.Common.{◌≡◌, ℕ, zero, suc, pred, ◌+◌, ◌-◌, ◌/◌, ◌<◌, ◌≤◌, Bool, true, false, if◌then◌else◌, nat_lt, List, [], ◌∷◌, ◌++◌, length, take, drop, refl, sym, ap, ◌∙◌, subst, arith, pos}
-use Rattle.std.proofs.lemmas.Bool.{ltb-true, ltb-false}
+use Rattle.std.proofs.Common.{◌≡◌, ℕ, zero, suc, pred, ◌+◌, ◌-◌, ◌/◌, ◌<◌, ◌≤◌, Bool, true, false, if◌then◌else◌, nat_lt, List, [], ◌∷◌, ◌++◌, ℤ, length, take, drop, refl, sym, ap, ◌∙◌, subst, arith, pos}
+use Rattle.std.proofs.lemmas.Bool.{ltb-true}
 use Rattle.arc_ast.specs.declared.tree.Kind.TheVariants as k
 use Rattle.arc_ast.specs.declared.tree.Sign.TheVariants as signs
 use Rattle.arc_spec.specs.declared.location.Location.{Location}
 use Rattle.arc_spec.specs.declared.location.Location.TheVariants.{Local, Global}
+use Rattle.arc_spec.specs.declared.class.Gives.{Gives}
+use Rattle.arc_spec.specs.declared.class.Gives.TheVariants as gives
+use Rattle.arc_spec.specs.Classes.{Class, same_gives, init_selector}
 use Rattle.arc_spec.specs.Resolved.{Piece, Bytes, Decimal, Character, Function, Program}
+use Rattle.arc_spec.specs.Meaning.{function_at, nothing_giving}
 use Rattle.arc_code.specs.declared.instr.Op.{Op}
 use Rattle.arc_code.specs.declared.instr.Op.TheVariants as ops
-use Rattle.arc_code.specs.declared.instr.Op.TheVariants.{Num, Bin, Un, Narrow, Pop, Get, Set, PrintNum, PrintByte, Declare, Nil, ReadRef, Hold, Forget, Alloc, GetField, SetField, Differ, IsObject}
-use Rattle.arc_code.specs.declared.instr.Instr.TheVariants.{Plain, PrintText, Jump, JumpZero, Call, Send, SendSuper, SendTo, SendToSuper, StoreStrong, StoreGlobal, StoreField, Empty, DropAll, Return}
+use Rattle.arc_code.specs.declared.instr.Op.TheVariants.{Num, Bin, Un, Narrow, Pop, Get, Set, PrintNum, PrintByte, Declare, Nil, ReadRef, Hold, Forget, Alloc, Finds, GetField, SetField, Differ, IsObject}
+use Rattle.arc_code.specs.declared.instr.Instr.TheVariants.{Plain, PrintText, Jump, JumpZero, Call, Send, SendSuper, SendTo, SendToSuper, StoreStrong, StoreGlobal, StoreField, Empty, DropAll, Settle, Give, Return}
 use Rattle.arc_code.specs.declared.effect.Effect.{Effect}
 use Rattle.arc_code.specs.declared.effect.Height.{Height}
-use Rattle.arc_code.specs.Effects.{on_numbers, operation_effect, passes}
+use Rattle.arc_code.specs.Effects.{on_numbers, as_number, as_object, operation_effect, passes}
 use Rattle.arc_ir.specs.declared.action.Target.TheVariants.{Skip}
 use Rattle.arc_lower.specs.Order.{Order}
-use Rattle.arc_lower.specs.Lowered.{conversion_orders, part_orders, piece_orders, left_behind, format_orders, pop_orders, keep_orders, print_orders, get_orders, set_orders, zero_orders, fit_orders, declare_orders, read_orders, store_orders, drop_orders, empty_orders, all_empty_orders, number_of, slots_of, parameters_of, object_parameters, forget_orders, nil_orders, fit_object_orders, passing_orders, take_orders, call_orders, Inside, Block, Then, Fork, Loop, Quit, Advance, Full, Leave, flat}
+use Rattle.arc_lower.specs.Lowered.{conversion_orders, part_orders, piece_orders, left_behind, format_orders, pop_orders, keep_orders, print_orders, get_orders, set_orders, zero_orders, fit_orders, declare_orders, read_orders, store_orders, drop_orders, empty_orders, all_empty_orders, number_of_nothing, gives_at, number_of, slots_of, parameters_of, object_parameters, forget_orders, nil_orders, fit_object_orders, passing_orders, take_orders, own_orders, call_orders, Inside, Block, Making, IfNew, has_new, Then, Fork, Loop, Quit, Advance, Full, Leave, flat}
 use Rattle.arc_lower.specs.Heights.{height, between, after_effect, next_height, Walk, walk, next_walk, last_walk}
-use Rattle.arc_lower.proofs.Linking.{out_of_list}
+use Rattle.arc_lower.proofs.Finding.{gives_same}
 
-slots_by : (P : Program) (f : ℕ) (b : Bool) → nat_lt f (length P.functions) ≡ b → slots_of P (if b then f else length P.functions) ≡ slots_of P f
-slots_by P f true e = refl
-slots_by P f false e =
-    let past = out_of_list P.functions P.main P.globals P.strong_globals P.classes (length P.functions) (omega arith) in
-    let other = out_of_list P.functions P.main P.globals P.strong_globals P.classes f (ltb-false f (length P.functions) e) in
-    ap (λ (g : Function). g.slots) (sym past ∙ other)
+-- ---- the function that is called
 
--- a function that there isn't has as many variables as the one that is called for it
-pub slots_same : (P : Program) (f : ℕ) → slots_of P (number_of P f) ≡ slots_of P f
-slots_same P f = slots_by P f (nat_lt f (length P.functions)) refl
+module _ (main : ℕ) (gs : List ℤ) (sg : ℕ) (cs : List Class) (wanted : Gives) where
+  abbrev with_functions : List Function → Program
+  with_functions fs = record { functions = fs; main = main; globals = gs; strong_globals = sg; classes = cs }
 
-parameters_by : (P : Program) (f : ℕ) (b : Bool) → nat_lt f (length P.functions) ≡ b → parameters_of P (if b then f else length P.functions) ≡ parameters_of P f
-parameters_by P f true e = refl
-parameters_by P f false e =
-    let past = out_of_list P.functions P.main P.globals P.strong_globals P.classes (length P.functions) (omega arith) in
-    let other = out_of_list P.functions P.main P.globals P.strong_globals P.classes f (ltb-false f (length P.functions) e) in
-    ap object_parameters (sym past ∙ other)
+  nothing_past : (fs : List Function) (f : ℕ) → length fs ≤ f → nothing_giving wanted ≡ function_at (with_functions fs) wanted f
+  nothing_past [] f le = refl
+  nothing_past (g ∷ fs) zero le = absurd (omega (arith, le))
+  nothing_past (g ∷ fs) (suc f) le = nothing_past fs f (omega (arith, le))
+
+  nothing_else : (fs : List Function) (f : ℕ) → gives_at (with_functions fs) wanted f ≡ false → nothing_giving wanted ≡ function_at (with_functions fs) wanted f
+  nothing_else [] f e = refl
+  nothing_else (g ∷ fs) zero e = ap (λ b. if b then g else nothing_giving wanted) (sym e)
+  nothing_else (g ∷ fs) (suc f) e = nothing_else fs f e
+
+  none_gives : (fs : List Function) (f : ℕ) → length fs ≤ f → gives_at (with_functions fs) wanted f ≡ false
+  none_gives [] f le = refl
+  none_gives (g ∷ fs) zero le = absurd (omega (arith, le))
+  none_gives (g ∷ fs) (suc f) le = none_gives fs f (omega (arith, le))
+
+  wanted_given : (g : Function) (b : Bool) → same_gives g.gives wanted ≡ b → (if b then g else nothing_giving wanted).gives ≡ wanted
+  wanted_given g true e = gives_same g.gives wanted e
+  wanted_given g false e = refl
+
+  function_gives : (fs : List Function) (f : ℕ) → (function_at (with_functions fs) wanted f).gives ≡ wanted
+  function_gives [] f = refl
+  function_gives (g ∷ fs) zero = wanted_given g (same_gives g.gives wanted) refl
+  function_gives (g ∷ fs) (suc f) = function_gives fs f
+
+past_all : (P : Program) (wanted : Gives) → length P.functions ≤ number_of_nothing P wanted
+past_all P gives.Number = omega arith
+past_all P gives.Object = omega arith
+
+-- a number of a function that gives what is wanted, or of one that does nothing
+abbrev pub IsCalled : Program → Gives → ℕ → Type 0
+IsCalled P wanted f = number_of P wanted f ≡ f
+
+called_by : (P : Program) (wanted : Gives) (f : ℕ) (b : Bool) → gives_at P wanted f ≡ b → IsCalled P wanted (if b then f else number_of_nothing P wanted)
+called_by P wanted f true e = ap (λ c. if c then f else number_of_nothing P wanted) e
+called_by P wanted f false e =
+    let n = number_of_nothing P wanted in
+    ap (λ c. if c then n else n) (none_gives P.main P.globals P.strong_globals P.classes wanted P.functions n (past_all P wanted))
+
+pub number_there : (P : Program) (wanted : Gives) (f : ℕ) → IsCalled P wanted (number_of P wanted f)
+number_there P wanted f = called_by P wanted f (gives_at P wanted f) refl
+
+same_by : (P : Program) (wanted : Gives) (f : ℕ) (b : Bool) → gives_at P wanted f ≡ b → function_at P wanted (if b then f else number_of_nothing P wanted) ≡ function_at P wanted f
+same_by P wanted f true e = refl
+same_by P wanted f false e =
+    sym (nothing_past P.main P.globals P.strong_globals P.classes wanted P.functions (number_of_nothing P wanted) (past_all P wanted))
+    ∙ nothing_else P.main P.globals P.strong_globals P.classes wanted P.functions f e
+
+-- a function that there isn't is as the one that is called for it
+pub function_same : (P : Program) (wanted : Gives) (f : ℕ) → function_at P wanted (number_of P wanted f) ≡ function_at P wanted f
+function_same P wanted f = same_by P wanted f (gives_at P wanted f) refl
+
+pub slots_same : (P : Program) (wanted : Gives) (f : ℕ) → slots_of P wanted (number_of P wanted f) ≡ slots_of P wanted f
+slots_same P wanted f = ap (λ (g : Function). g.slots) (function_same P wanted f)
 
 -- and takes as many objects
-pub parameters_same : (P : Program) (f : ℕ) → parameters_of P (number_of P f) ≡ parameters_of P f
-parameters_same P f = parameters_by P f (nat_lt f (length P.functions)) refl
+pub parameters_same : (P : Program) (wanted : Gives) (f : ℕ) → parameters_of P wanted (number_of P wanted f) ≡ parameters_of P wanted f
+parameters_same P wanted f = ap object_parameters (function_same P wanted f)
 
-number_by : (P : Program) (f : ℕ) (b : Bool) → nat_lt f (length P.functions) ≡ b → (if b then f else length P.functions) ≤ length P.functions
-number_by P f true e = let lt = ltb-true f (length P.functions) e in omega (arith, lt)
-number_by P f false e = omega arith
+-- what is called gives what is wanted
+pub gives_wanted : (P : Program) (wanted : Gives) (f : ℕ) → (function_at P wanted f).gives ≡ wanted
+gives_wanted P wanted f = function_gives P.main P.globals P.strong_globals P.classes wanted P.functions f
 
-pub number_there : (P : Program) (f : ℕ) → number_of P f ≤ length P.functions
-number_there P f = number_by P f (nat_lt f (length P.functions)) refl
+-- ---- heights
 
 pub heights_same : (a b c d n m t v : ℕ) → a ≡ n → b ≡ m → c ≡ t → d ≡ v → height a b c d ≡ height n m t v
 heights_same a b c d n m t v e f g h = ap (λ x. height x b c d) e ∙ ap (λ x. height n x c d) f ∙ ap (λ x. height n m x d) g ∙ ap (height n m t) h
@@ -84,6 +129,7 @@ Reaches Hold h = 1 ≤ h.names
 Reaches ops.Again h = 1 ≤ h.names
 Reaches Forget h = 1 ≤ h.names
 Reaches Alloc h = 1 ≤ h.numbers
+Reaches (Finds selector) h = 1 ≤ h.numbers
 Reaches (GetField class index) h = 1 ≤ h.names
 Reaches (SetField class index) h = (1 ≤ h.numbers) × (1 ≤ h.names)
 Reaches Differ h = 2 ≤ h.names
@@ -95,11 +141,11 @@ module _ (P : Program) where
   abbrev pub Needs : Order → Height → Type 0
   Needs (Plain o) h = Reaches o h
   Needs (PrintText t) h = 1 ≤ h.numbers
-  Needs (Call f) h = (slots_of P f ≤ h.numbers) × (f ≤ length P.functions) × (parameters_of P f ≤ h.names)
-  Needs (Send selector takes objects) h = (passes signs.Class takes ≤ h.numbers) × (objects ≤ h.names)
-  Needs (SendSuper from selector takes objects) h = (passes signs.Class takes ≤ h.numbers) × (objects ≤ h.names)
-  Needs (SendTo selector takes objects) h = (takes ≤ h.numbers) × (suc objects ≤ h.names)
-  Needs (SendToSuper from selector takes objects) h = (takes ≤ h.numbers) × (suc objects ≤ h.names)
+  Needs (Call f wanted) h = (slots_of P wanted f ≤ h.numbers) × IsCalled P wanted f × (parameters_of P wanted f ≤ h.names)
+  Needs (Send selector takes objects wanted) h = (passes signs.Class takes ≤ h.numbers) × (objects ≤ h.names)
+  Needs (SendSuper from selector takes objects wanted) h = (passes signs.Class takes ≤ h.numbers) × (objects ≤ h.names)
+  Needs (SendTo selector takes objects wanted) h = (takes ≤ h.numbers) × (suc objects ≤ h.names)
+  Needs (SendToSuper from selector takes objects wanted) h = (takes ≤ h.numbers) × (suc objects ≤ h.names)
   Needs (StoreStrong i) h = (1 ≤ h.names) × (i < h.variables)
   Needs (StoreGlobal i) h = 1 ≤ h.names
   Needs (StoreField class index) h = 2 ≤ h.names
@@ -111,6 +157,8 @@ pub next_same : (P : Program) (base : Height) (x : Order) (w : Walk) (u : Height
 next_same P base (Jump to) w u needs = absurd needs
 next_same P base (JumpZero to) w u needs = absurd needs
 next_same P base Return w u needs = absurd needs
+next_same P base Give w u needs = absurd needs
+next_same P base Settle w u needs = absurd needs
 next_same P base _ w u needs = refl
 
 module _ (P : Program) (r s : ℕ) where
@@ -249,19 +297,25 @@ module _ (P : Program) (r s : ℕ) where
   fit_object_types objects parameters a b c d = fit_objects_by objects parameters a b c d (objects - parameters) (parameters - objects) refl refl
 
   -- so many numbers and references become what a function takes
-  pub passing_types : (f values objects a b c d : ℕ) → Types (height (values + a) (objects + b) c d) (passing_orders P f values objects) (height (slots_of P f + a) (parameters_of P f + b) c d)
-  passing_types f values objects a b c d =
-      types_then (height (values + a) (objects + b) c d) (fit_orders values (slots_of P f)) (height (slots_of P f + a) (objects + b) c d) (fit_object_orders objects (parameters_of P f)) (height (slots_of P f + a) (parameters_of P f + b) c d)
-      (fit_types (objects + b) c d values (slots_of P f) a)
-      (fit_object_types objects (parameters_of P f) (slots_of P f + a) b c d)
+  pub passing_types : (wanted : Gives) (f values objects a b c d : ℕ) → Types (height (values + a) (objects + b) c d) (passing_orders P wanted f values objects) (height (slots_of P wanted f + a) (parameters_of P wanted f + b) c d)
+  passing_types wanted f values objects a b c d =
+      let slots = slots_of P wanted f in
+      let parameters = parameters_of P wanted f in
+      types_then (height (values + a) (objects + b) c d) (fit_orders values slots) (height (slots + a) (objects + b) c d) (fit_object_orders objects parameters) (height (slots + a) (parameters + b) c d)
+      (fit_types (objects + b) c d values slots a)
+      (fit_object_types objects parameters (slots + a) b c d)
 
-  pub call_types : (b c d f values objects a : ℕ) → Types (height (values + a) (objects + b) c d) (call_orders P f values objects) (height (suc a) b c d)
-  call_types b c d f values objects a =
-      let same = slots_same P f in
-      let other = parameters_same P f in
-      types_then (height (values + a) (objects + b) c d) (passing_orders P f values objects) (height (slots_of P f + a) (parameters_of P f + b) c d) (Call (number_of P f) ∷ []) (height (suc a) b c d)
-      (passing_types f values objects a b c d)
-      ((omega (arith, same), number_there P f, omega (arith, other)), heights_same _ _ _ _ (suc a) b c d (omega (arith, same)) (omega (arith, other)) (omega arith) (omega arith))
+  -- a call leaves a number, or a reference and a temporary
+  pub call_types : (wanted : Gives) (b c d f values objects a : ℕ) → Types (height (values + a) (objects + b) c d) (call_orders P wanted f values objects) (height (as_number wanted + a) (as_object wanted + b) (c + as_object wanted) d)
+  call_types wanted b c d f values objects a =
+      let same = slots_same P wanted f in
+      let other = parameters_same P wanted f in
+      let slots = slots_of P wanted f in
+      let parameters = parameters_of P wanted f in
+      let end = height (as_number wanted + a) (as_object wanted + b) (c + as_object wanted) d in
+      types_then (height (values + a) (objects + b) c d) (passing_orders P wanted f values objects) (height (slots + a) (parameters + b) c d) (Call (number_of P wanted f) wanted ∷ []) end
+      (passing_types wanted f values objects a b c d)
+      ((omega (arith, same), number_there P wanted f, omega (arith, other)), heights_same _ _ _ _ (as_number wanted + a) (as_object wanted + b) (c + as_object wanted) d (omega (arith, same)) (omega (arith, other)) (omega arith) (omega arith))
 
   -- ---- variables that name objects
 
@@ -293,12 +347,20 @@ module _ (P : Program) (r s : ℕ) where
         by true e = let lt = ltb-true i names e in ((some, omega (arith, lt, room)), heights_same _ _ _ _ a b c d (omega arith) (omega (arith, some)) (omega arith) (omega arith))
         by false e = refl
 
-  -- the first variables take what the last references name
-  pub take_types : (n a b c d : ℕ) → n ≤ d + s → Types (height a (n + b) c d) (take_orders n) (height a b c d)
-  take_types zero a b c d room = heights_same a (0 + b) c d a b c d refl (omega arith) refl refl
-  take_types (suc n) a b c d room = (
+  -- so many variables, from the first one on, take what the last references name
+  pub take_types : (first n a b c d : ℕ) → n ≤ d + s - first → Types (height a (n + b) c d) (take_orders first n) (height a b c d)
+  take_types first zero a b c d room = heights_same a (0 + b) c d a b c d refl (omega arith) refl refl
+  take_types first (suc n) a b c d room = (
     (omega arith, omega (arith, room)),
-    (omega arith, subst (λ h. Types h (take_orders n) (height a b c d)) (heights_same a (n + b) c d _ _ _ _ (omega arith) (omega arith) (omega arith) (omega arith)) (take_types n a b c d (omega (arith, room)))),
+    (omega arith, subst (λ h. Types h (take_orders first n) (height a b c d)) (heights_same a (n + b) c d _ _ _ _ (omega arith) (omega arith) (omega arith) (omega arith)) (take_types first n a b c d (omega (arith, room)))),
+  )
+
+  -- the first variable takes `self`
+  pub own_types : (names a d : ℕ) → names ≤ d + s → Types (height a 0 0 d) (own_orders names) (height a 0 0 d)
+  own_types zero a d room = refl
+  own_types (suc n) a d room = (
+    tt,
+    ((omega arith, omega (arith, room)), (omega arith, (omega arith, heights_same _ _ _ _ a 0 0 d (omega arith) (omega arith) refl (omega arith)))),
   )
 
   pub read_types : (names : ℕ) (i : Location) (a b c d : ℕ) → names ≤ d + s → Types (height a b c d) (read_orders names i) (height a (suc b) (c + 1) d)
@@ -327,8 +389,17 @@ pub record Forks (P : Program) (h i : Height) (more : ℕ) (g : Height) : Type 0
   pub first : i.temporaries ≤ more
   pub next : more ≤ g.temporaries
 
+-- the height that making an object and sending it `init` leave
+abbrev pub made_height : Program → Height → Height
+made_height P h = next_height P Settle (next_height P (SendTo init_selector 0 0 gives.Object) (next_height P (Plain Alloc) h))
+
 abbrev pub with_temporaries : Height → ℕ → Height
 with_temporaries h more = record h { temporaries = more }
+
+-- the first where it is so, else the second
+abbrev pub ByTest : Bool → (A B : Type 0) → Type 0
+ByTest true A B = A
+ByTest false A B = B
 
 -- below lie so many numbers and variables more, in a function with so many variables that is left from a place
 module _ (P : Program) (r s slots names exit : ℕ) where
@@ -345,6 +416,8 @@ module _ (P : Program) (r s slots names exit : ℕ) where
 
   -- the same of a block, which stands in the body of a loop or doesn't, between statements or within an expression
   abbrev pub BlockTypes : (looping statement : Bool) → Height → Block → Height → Type 0
+  BlockTypes looping statement h Making g = (1 ≤ h.numbers) × (made_height P h ≡ g)
+  BlockTypes looping statement h (IfNew class x y) g = ByTest (has_new P class) (BlockTypes looping statement h x g) (BlockTypes looping statement h y g)
   BlockTypes looping statement h (Then x y) g = (i : Height) × BlockTypes looping statement h x i × BlockTypes looping statement i y g
   BlockTypes looping statement h (Fork x y) g =
       (i : Height) × (more : ℕ) × Forks P h i more g × Leaves statement i × BlockTypes looping statement i x (with_temporaries g more) × BlockTypes looping statement (with_temporaries i more) y g

@@ -1,5 +1,5 @@
 -- What an expression is of its parts, and how much of it is left to lower: that falls with each call.
-use Rattle.std.proofs.Common.{rules, arith, ◌≡◌, ℕ, zero, suc, ◌+◌, ◌<◌, ◌≤◌, List, [], ◌∷◌, Box, Global, length, get_or, refl, sym, ap, subst, ◌∙◌}
+use Rattle.std.proofs.Common.{rules, arith, ◌≡◌, ℕ, zero, suc, ◌+◌, ◌<◌, ◌≤◌, List, [], ◌∷◌, Box, Global, Option, length, get_or, refl, sym, ap, subst, ◌∙◌}
 use Rattle.arc_ast.specs.declared.tree.Kind.{Kind}
 use Rattle.arc_ast.specs.declared.tree.Moment.{Moment}
 use Rattle.arc_ast.specs.declared.tree.UnaryOperator.{UnaryOperator}
@@ -10,7 +10,7 @@ use Rattle.arc_check.specs.declared.checked.Receiver as rc
 use Rattle.arc_check.specs.declared.checked.Argument as g
 use Rattle.arc_check.specs.declared.checked.Argument.TheVariants.{Number', Object'}
 use Rattle.arc_spec.specs.declared.location.Location.{Location}
-use Rattle.arc_spec.specs.Resolved.{Value, Number, ReadByte, Print, Applied, Combined, Choice, Converted, Read, Assigned, Updated, Invoked, Sent, Receiver, ClassValue, ClassSuper, ObjectValue, ObjectSuper, Field, FieldAssigned, FieldUpdated, Differ, IsObject, Reference, Nil, Itself, Variable, Chosen, Stored, ObjectField, ObjectFieldStored, Made, Initialized, Arguments, no_arguments, number_argument, object_argument}
+use Rattle.arc_spec.specs.Resolved.{Value, Number, ReadByte, Print, Applied, Combined, Choice, Converted, Read, Assigned, Updated, Invoked, Sent, Receiver, ClassValue, ClassSuper, ObjectValue, ObjectSuper, Field, FieldAssigned, FieldUpdated, Differ, IsObject, Reference, Nil, Itself, Variable, Chosen, Stored, ObjectField, ObjectFieldStored, Made, New, ObjectInvoked, ObjectSent, Arguments, no_arguments, number_argument, object_argument}
 use Rattle.arc_check.specs.Checked.{value, arguments, and_argument, reference, receiver}
 use Rattle.arc_lower.specs.Lowered.{unused}
 
@@ -43,13 +43,15 @@ abbrev mutual
   reference_weight (ObjectField a class index) = 2 + reference_weight a
   reference_weight (ObjectFieldStored a class index b) = 2 + reference_weight a + reference_weight b
   reference_weight (Made a) = 2 + value_weight a
-  reference_weight (Initialized a) = 2 + reference_weight a
+  reference_weight (New from a) = 2 + value_weight a
+  reference_weight (ObjectInvoked f arguments) = 2 + arguments_weight arguments
+  reference_weight (ObjectSent receiver selector arguments) = 2 + receiver_weight receiver + arguments_weight arguments
 
   pub receiver_weight : Receiver → ℕ
   receiver_weight (ClassValue a) = suc (value_weight a)
   receiver_weight (ClassSuper from) = 1
   receiver_weight (ObjectValue a) = suc (reference_weight a)
-  receiver_weight (ObjectSuper from) = 1
+  receiver_weight (ObjectSuper a from) = suc (reference_weight a)
 
   pub arguments_weight : Arguments → ℕ
   arguments_weight no_arguments = 0
@@ -157,8 +159,8 @@ is_object_field_stored v a class index b object operand is same_object same =
 pub is_made : (v : r.Reference) (a : Box c.Value Global) (this : c.Value) → v ≡ r.Made a → this ≡ a.value → reference v ≡ Made (value this)
 is_made v a this is same = ap reference is ∙ ap (λ x. Made (value x)) (sym same)
 
-pub is_initialized : (v : r.Reference) (a : Box r.Reference Global) (this : r.Reference) → v ≡ r.Initialized a → this ≡ a.value → reference v ≡ Initialized (reference this)
-is_initialized v a this is same = ap reference is ∙ ap (λ x. Initialized (reference x)) (sym same)
+pub is_new : (v : r.Reference) (from : Option ℕ) (a : Box c.Value Global) (this : c.Value) → v ≡ r.New from a → this ≡ a.value → reference v ≡ New from (value this)
+is_new v from a this is same = ap reference is ∙ ap (λ x. New from (value x)) (sym same)
 
 -- what a receiver and an argument are of their parts
 pub is_class_value : (v : rc.Receiver) (a : Box c.Value Global) (this : c.Value) → v ≡ rc.ClassValue a → this ≡ a.value → receiver v ≡ ClassValue (value this)
@@ -166,6 +168,9 @@ is_class_value v a this is same = ap receiver is ∙ ap (λ x. ClassValue (value
 
 pub is_object_value : (v : rc.Receiver) (a : Box r.Reference Global) (this : r.Reference) → v ≡ rc.ObjectValue a → this ≡ a.value → receiver v ≡ ObjectValue (reference this)
 is_object_value v a this is same = ap receiver is ∙ ap (λ x. ObjectValue (reference x)) (sym same)
+
+pub is_object_super : (v : rc.Receiver) (a : Box r.Reference Global) (from : ℕ) (this : r.Reference) → v ≡ rc.ObjectSuper a from → this ≡ a.value → receiver v ≡ ObjectSuper (reference this) from
+is_object_super v a from this is same = ap receiver is ∙ ap (λ x. ObjectSuper (reference x) from) (sym same)
 
 pub is_number_argument : (v : g.Argument) (a : Box c.Value Global) (this : c.Value) (others : Arguments) → v ≡ g.Number a → this ≡ a.value → and_argument v others ≡ number_argument (value this) others
 is_number_argument v a this others is same = ap (λ x. and_argument x others) is ∙ ap (λ x. number_argument (value x) others) (sym same)

@@ -1,6 +1,7 @@
 -- The actions of a checked program perform it.
 use Rattle.std.proofs.Common.{◌≡◌, ℕ, ◌+◌, ◌≤◌, ℤ, List, [], ◌∷◌, ◌++◌, length, length-append, ap, sym, ◌∙◌, arith, refl, subst, inl, inr}
 use Rattle.arc_ast.specs.declared.tree.Kind.TheVariants as k
+use Rattle.arc_spec.specs.declared.class.Gives.TheVariants as gives
 use Rattle.arc_spec.specs.Number.{converted}
 use Rattle.arc_spec.specs.Resolved as resolved
 use Rattle.arc_spec.specs.World as world
@@ -51,8 +52,8 @@ module _ (p : Program) (R : resolved.Program) (is : orders p.actions ≡ lowered
   program_runs : (input : List ℕ) (bound : ℕ) → Runs (moves p) bound (running [] [] 0 [] (first_world R.globals R.strong_globals input)) Ends_with (mean R input bound)
   program_runs input bound =
       let w = first_world R.globals R.strong_globals input in
-      let fits = passing_orders R R.main 0 0 in
-      let call = Call (number_of R R.main) ∷ [] in
+      let fits = passing_orders R gives.Number R.main 0 0 in
+      let call = Call (number_of R gives.Number R.main) gives.Number ∷ [] in
       let last_orders = Return ∷ (EndStep ∷ []) in
       let q = 0 + length fits in
       let has = has_start p R is entries in
@@ -60,15 +61,16 @@ module _ (p : Program) (R : resolved.Program) (is : orders p.actions ≡ lowered
       let behind = has_back p 0 (fits ++ call) last_orders has in
       let size : 0 + length (fits ++ call) ≡ q + 1 = omega (arith, length-append fits call) in
       let last = subst (λ n. HasAt p n last_orders) size behind in
-      let s = onto (first_locals (slots_of R R.main) []) [] in
-      let names = onto (first_names (parameters_of R R.main) []) [] in
-      let o = (level R bound most_levels).call R.main 0 nothing_given w in
-      let end = Returns [] [] q [] w in
-      let ready = passing_leads p [] (slots_of R R.main) (parameters_of R R.main) 0 0 nothing_given [] [] w 0 refl refl (has_front p 0 fits call has_call) in
-      let called = (calls_run p R bound (begins p R is entries) links (has_end p R is entries end_at) most_levels [] none).invokes R.main nothing_given [] [] w q (has_back p 0 fits call has_call) in
-      then_runs (moves p) bound (running [] [] 0 [] w) end Ends_with o (λ v w1. Done (converted k.Int v) w1)
+      let s = onto (first_locals (slots_of R gives.Number R.main) []) [] in
+      let names = onto (first_names (parameters_of R gives.Number R.main) []) [] in
+      let o = (level R bound most_levels).call gives.Number R.main 0 nothing_given w in
+      let end = Returns gives.Number [] [] q [] w in
+      let ready = passing_leads p [] (slots_of R gives.Number R.main) (parameters_of R gives.Number R.main) 0 0 nothing_given [] [] w 0 refl refl (has_front p 0 fits call has_call) in
+      let called = (calls_run p R bound (begins p R is entries) links (has_end p R is entries end_at) most_levels [] none).invokes gives.Number R.main nothing_given [] [] w q (has_back p 0 fits call has_call) in
+      then_runs (moves p) bound (running [] [] 0 [] w) end Ends_with o (λ a w1. Done (converted k.Int a.number) w1)
       (leads_runs (moves p) bound (running [] [] 0 [] w) (running [] names q s w) end o ready called)
-      (λ v w1 to m.
+      (λ a w1 to m.
+      let v = a.number in
       let from = running [] [] (q + 1) (v ∷ []) w1 in
       leads_runs (moves p) bound to from Ends_with (Done (converted k.Int v) w1) (leads_same (moves p) to from m.0)
       (inr (Ended (converted k.Int v) w1.input w1.trace, leads_step (moves p) (at [] (q + 1) (v ∷ []) (held_of [] w1)) w1.input w1.trace (Ends (converted k.Int v)) (ap recount (last.0 [] (v ∷ []) (held_of [] w1)) ∙ main_ends v w1 m.1.frame), refl)))

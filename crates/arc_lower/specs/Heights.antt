@@ -2,11 +2,14 @@
 use Rattle.std.specs.Prelude.{ℕ, suc, ◌+◌, ◌-◌, max, List, [], ◌∷◌, ◌++◌, length, drop, get_or, Option, Some, None}
 use Rattle.arc_spec.specs.Resolved.{Function, Program}
 use Rattle.arc_spec.specs.declared.class.Method.{Method}
+use Rattle.arc_spec.specs.declared.class.Gives.{Gives}
+use Rattle.arc_spec.specs.declared.class.Gives.TheVariants as gives
 use Rattle.arc_spec.specs.Classes.{Class}
-use Rattle.arc_code.specs.declared.instr.Instr.TheVariants.{Jump, JumpZero, Call, DropAll, Return}
+use Rattle.arc_spec.specs.Meaning.{function_places}
+use Rattle.arc_code.specs.declared.instr.Instr.TheVariants.{Jump, JumpZero, Call, DropAll, Settle, Give, Return}
 use Rattle.arc_code.specs.declared.effect.Effect.{Effect}
 use Rattle.arc_code.specs.declared.effect.Height.{Height}
-use Rattle.arc_code.specs.Effects.{effect, of_names, passes, no_height, room_for}
+use Rattle.arc_code.specs.Effects.{effect, giving, passes, no_height, room_for}
 use Rattle.arc_lower.specs.Order.{Order}
 use Rattle.arc_lower.specs.Lowered.{all_functions, slots_of, parameters_of, object_parameters, start_orders, leave_orders, entry_of, body_orders, function_orders, stub_orders, entries_of}
 
@@ -22,7 +25,7 @@ highest a b = height (max a.numbers b.numbers) (max a.names b.names) (max a.temp
 
 -- what an action takes and gives; a call takes the variables of the function that hold numbers, and the references of its parameters
 abbrev pub effect_in : Program → Order → Effect
-effect_in P (Call f) = of_names (slots_of P f) 1 (parameters_of P f)
+effect_in P (Call f wanted) = giving wanted (slots_of P wanted f) (parameters_of P wanted f)
 effect_in P x = effect x
 
 -- the height once an effect has taken what it takes, and what it gives is there
@@ -33,6 +36,7 @@ after_effect h e =
 -- the height after an action that goes on with the next one
 abbrev pub next_height : Program → Order → Height → Height
 next_height P DropAll h = record h { temporaries = 0 }
+next_height P Settle h = record h { temporaries = h.temporaries - 1 }
 next_height P x h = after_effect h (effect_in P x)
 
 -- where a walk over actions is: the height there, and those at which the parts begin that tests may lead to, the last test first
@@ -53,6 +57,7 @@ abbrev pub next_walk : Program → (base : Height) → Order → Walk → Walk
 next_walk P base (Jump to) w = walk (other_part base w) (drop 1 w.pending)
 next_walk P base (JumpZero to) w = let h = next_height P (JumpZero to) w.height in walk h (h ∷ w.pending)
 next_walk P base Return w = walk (record base { variables = 0 }) w.pending
+next_walk P base Give w = walk (record base { variables = 0 }) w.pending
 next_walk P base x w = walk (next_height P x w.height) w.pending
 
 -- the walk after all of these actions
@@ -83,24 +88,24 @@ start_heights P = heights P no_height no_height (start_orders P)
 -- a function is left with its result above its variables, and entered with the references of its parameters
 abbrev pub function_heights : Program → (place : ℕ) → Function → List Height
 function_heights P place f =
-    let base = between f.slots f.names in
-    heights P base (between (suc f.slots) f.names) (leave_orders f.slots f.names)
+    let base = between f.slots (function_places f) in
+    heights P base (between (suc f.slots) (function_places f)) (leave_orders f)
     ++ heights P base (height f.slots (object_parameters f) 0 0) (body_orders P place (entry_of place f) f)
 
 abbrev pub functions_heights : Program → (place : ℕ) → List Function → List Height
 functions_heights P place [] = []
 functions_heights P place (f ∷ others) = function_heights P place f ++ functions_heights P (place + length (function_orders P place f)) others
 
-abbrev pub stub_heights : Program → (entries : List ℕ) → (values objects f : ℕ) → List Height
-stub_heights P entries values objects f = heights P no_height (height values objects 0 0) (stub_orders P entries values objects f)
+abbrev pub stub_heights : Program → (entries : List ℕ) → (wanted : Gives) → (values objects f : ℕ) → List Height
+stub_heights P entries wanted values objects f = heights P no_height (height values objects 0 0) (stub_orders P entries wanted values objects f)
 
 abbrev pub methods_heights : Program → (entries : List ℕ) → List Method → List Height
 methods_heights P entries [] = []
-methods_heights P entries (m ∷ others) = stub_heights P entries (passes m.sign m.takes) m.objects m.runs ++ methods_heights P entries others
+methods_heights P entries (m ∷ others) = stub_heights P entries m.gives (passes m.sign m.takes) m.objects m.runs ++ methods_heights P entries others
 
 abbrev pub dealloc_heights : Program → (entries : List ℕ) → Option ℕ → List Height
 dealloc_heights P entries None = []
-dealloc_heights P entries (Some f) = stub_heights P entries 0 0 f
+dealloc_heights P entries (Some f) = stub_heights P entries gives.Number 0 0 f
 
 abbrev pub class_heights : Program → (entries : List ℕ) → Class → List Height
 class_heights P entries c = dealloc_heights P entries c.dealloc ++ methods_heights P entries c.methods
@@ -134,3 +139,37 @@ places_of P = room_for (places_in (greatest_height P))
 -- the heights of a program as a table; there is none behind its actions
 abbrev pub height_at : Program → ℕ → Height
 height_at P pc = get_or (lowered_heights P) pc no_height
+
+-- ---- what functions give
+
+-- heights in a function that gives this
+abbrev pub in_function : Gives → List Height → List (Height × Gives)
+in_function given [] = []
+in_function given (h ∷ others) = (h, given) ∷ in_function given others
+
+abbrev pub functions_marks : Program → (place : ℕ) → List Function → List (Height × Gives)
+functions_marks P place [] = []
+functions_marks P place (f ∷ others) = in_function f.gives (function_heights P place f) ++ functions_marks P (place + length (function_orders P place f)) others
+
+abbrev pub methods_marks : Program → (entries : List ℕ) → List Method → List (Height × Gives)
+methods_marks P entries [] = []
+methods_marks P entries (m ∷ others) = in_function m.gives (stub_heights P entries m.gives (passes m.sign m.takes) m.objects m.runs) ++ methods_marks P entries others
+
+abbrev pub class_marks : Program → (entries : List ℕ) → Class → List (Height × Gives)
+class_marks P entries c = in_function gives.Number (dealloc_heights P entries c.dealloc) ++ methods_marks P entries c.methods
+
+abbrev pub classes_marks : Program → (entries : List ℕ) → List Class → List (Height × Gives)
+classes_marks P entries [] = []
+classes_marks P entries (c ∷ others) = class_marks P entries c ++ classes_marks P entries others
+
+-- the heights of all actions of a program, each with what the function gives in which the action stands
+abbrev pub lowered_marks : Program → List (Height × Gives)
+lowered_marks P =
+    (in_function gives.Number (start_heights P) ++ functions_marks P (length (start_orders P)) (all_functions P)) ++ classes_marks P (entries_of P) P.classes
+
+abbrev pub no_mark : Height × Gives
+no_mark = (no_height, gives.Number)
+
+-- the same as a table
+abbrev pub result_at : Program → ℕ → Gives
+result_at P pc = (get_or (lowered_marks P) pc no_mark).1

@@ -4,3 +4,5 @@ pub mod Lowered
 pub mod Surroundings
 pub mod Heights
 pub mod Promise
+pub mod Definitions
+pub mod Entered

@@ -1,7 +1,7 @@
 -- Which actions a checked program becomes. A function's variables lie on the stack, the first one deepest, and its operands above them. An expression leaves one
 -- number more on the stack, or one reference more, and a statement leaves both as they were. Temporaries hold what references name, and are dropped together, at
 -- the end of the full-expression.
-use Rattle.std.specs.Prelude.{ℕ, zero, suc, pred, ◌+◌, ◌-◌, ◌/◌, Bool, true, false, nat_lt, if◌then◌else◌, pos, List, [], ◌∷◌, ◌++◌, length, take, drop, slice_index_or, Option, Some, None}
+use Rattle.std.specs.Prelude.{ℕ, zero, suc, pred, ◌+◌, ◌-◌, ◌/◌, Bool, true, false, nat_lt, if◌then◌else◌, pos, List, [], ◌∷◌, ◌++◌, length, take, drop, slice_get, slice_index_or, is_some, Option, Some, None}
 use Rattle.std.specs.List.{list_any}
 use Rattle.arc_ast.specs.declared.tree.BinaryOperator.{BinaryOperator}
 use Rattle.arc_ast.specs.declared.tree.Kind.{Kind}
@@ -10,15 +10,19 @@ use Rattle.arc_ast.specs.declared.tree.Moment.{Moment}
 use Rattle.arc_ast.specs.declared.tree.Moment.TheVariants.{Before, After}
 use Rattle.arc_spec.specs.declared.location.Location.{Location}
 use Rattle.arc_spec.specs.declared.location.Location.TheVariants.{Local, Global}
-use Rattle.arc_spec.specs.Resolved.{Piece, Bytes, Decimal, Character, Value, Number, ReadByte, Print, Applied, Combined, Choice, Converted, Assigned, Updated, Invoked, Sent, Receiver, ClassValue, ClassSuper, ObjectValue, ObjectSuper, Field, FieldAssigned, FieldUpdated, Reference, Itself, Variable, Chosen, Stored, ObjectField, ObjectFieldStored, Made, Initialized, Arguments, no_arguments, number_argument, object_argument, Command, Sequence, Evaluate, EvaluateReference, Begin, Choose, Repeat, RepeatAfter, Break, Continue, Commands, no_commands, and_command, Function, Program}
+use Rattle.arc_spec.specs.Resolved.{Piece, Bytes, Decimal, Character, Value, Number, ReadByte, Print, Applied, Combined, Choice, Converted, Assigned, Updated, Invoked, Sent, Receiver, ClassValue, ClassSuper, ObjectValue, ObjectSuper, Field, FieldAssigned, FieldUpdated, Reference, Itself, Variable, Chosen, Stored, ObjectField, ObjectFieldStored, Made, New, ObjectInvoked, ObjectSent, Arguments, no_arguments, number_argument, object_argument, Command, Sequence, Evaluate, EvaluateReference, Begin, Give, Choose, Repeat, RepeatAfter, Break, Continue, Commands, no_commands, and_command, Function, Program}
 use Rattle.arc_spec.specs.Resolved as resolved
 use Rattle.arc_spec.specs.declared.class.Method.{Method}
-use Rattle.arc_spec.specs.Classes.{Class, lesser}
-use Rattle.arc_spec.specs.Meaning.{function_at}
+use Rattle.arc_spec.specs.declared.class.Gives.{Gives}
+use Rattle.arc_spec.specs.declared.class.Gives.TheVariants as gives
+use Rattle.arc_spec.specs.Classes.{Class, lookup, lesser, same_gives, new_selector, init_selector}
+use Rattle.arc_spec.specs.Meaning.{function_at, nothing_giving, function_places}
+use Rattle.arc_ast.specs.declared.tree.Sign.TheVariants as signs
 use Rattle.arc_code.specs.declared.instr.Op.{Op}
-use Rattle.arc_code.specs.declared.instr.Op.TheVariants.{Num, Bin, Un, Narrow, Pop, Get, Set, PrintNum, PrintByte, GetChar, Declare, Nil, ReadSelf, ReadRef, ReadGlobal, ReadField, Hold, Forget, Alloc, GetField, SetField, Differ, IsObject}
+use Rattle.arc_code.specs.declared.instr.Op.TheVariants.{Num, Bin, Un, Narrow, Pop, Get, Set, PrintNum, PrintByte, GetChar, Declare, Nil, ReadSelf, ReadRef, ReadGlobal, ReadField, Hold, Forget, Alloc, Finds, GetField, SetField, Differ, IsObject}
 use Rattle.arc_code.specs.declared.instr.Op.TheVariants as ops
-use Rattle.arc_code.specs.declared.instr.Instr.TheVariants.{Plain, PrintText, Jump, JumpZero, Call, Send, SendSuper, SendTo, SendToSuper, StoreStrong, StoreGlobal, StoreField, Empty, DropAll, Return, EndStep}
+use Rattle.arc_code.specs.declared.instr.Instr.TheVariants.{Plain, PrintText, Jump, JumpZero, Call, Send, SendSuper, SendTo, SendToSuper, StoreStrong, StoreGlobal, StoreField, Empty, DropAll, Settle, Return, EndStep}
+use Rattle.arc_code.specs.declared.instr.Instr.TheVariants as instrs
 use Rattle.arc_code.specs.Effects.{effect, passes}
 use Rattle.arc_ir.specs.declared.action.Target.TheVariants.{Skip, Back, At}
 use Rattle.arc_lower.specs.declared.frame.Turn.{Turn}
@@ -119,10 +123,15 @@ abbrev pub declare_orders : ℕ → List Order
 declare_orders zero = []
 declare_orders (suc n) = Plain Declare ∷ declare_orders n
 
--- so many variables, the first ones, take what the last references name, the last one first; the references are taken
-abbrev pub take_orders : ℕ → List Order
-take_orders zero = []
-take_orders (suc n) = StoreStrong n ∷ Plain Forget ∷ take_orders n
+-- so many variables, from the first one on, take what the last references name, the last one first; the references are taken
+abbrev pub take_orders : (first count : ℕ) → List Order
+take_orders first zero = []
+take_orders first (suc n) = StoreStrong (first + n) ∷ Plain Forget ∷ take_orders first n
+
+-- the first variable of so many takes `self`
+abbrev pub own_orders : (names : ℕ) → List Order
+own_orders zero = []
+own_orders (suc n) = Plain ReadSelf ∷ StoreStrong 0 ∷ Plain Forget ∷ DropAll ∷ []
 
 -- names what a variable names, and a temporary takes it; nil for a variable that there isn't
 abbrev pub read_orders : (names : ℕ) → Location → List Order
@@ -151,33 +160,49 @@ abbrev pub all_empty_orders : (names first count : ℕ) → List Order
 all_empty_orders names first zero = []
 all_empty_orders names first (suc n) = empty_orders names (first + n) ++ all_empty_orders names first n
 
--- a function that gives 0, which stands behind the others: one that there isn't is called as this one
-abbrev pub nothing : Function
-nothing = record { slots = 0; names = 0; parameters = 0; body = no_commands }
-
+-- A function that gives 0 stands behind the others, and one that gives nil: one that there isn't, or that gives something else than is wanted, is called as one of these.
 abbrev pub all_functions : Program → List Function
-all_functions P = P.functions ++ nothing ∷ []
+all_functions P = P.functions ++ nothing_giving gives.Number ∷ nothing_giving gives.Object ∷ []
 
-abbrev pub number_of : Program → (f : ℕ) → ℕ
-number_of P f = if nat_lt f (length P.functions) then f else length P.functions
+abbrev pub number_of_nothing : Program → (wanted : Gives) → ℕ
+number_of_nothing P gives.Number = length P.functions
+number_of_nothing P gives.Object = suc (length P.functions)
 
-abbrev pub slots_of : Program → (f : ℕ) → ℕ
-slots_of P f = (function_at P f).slots
+abbrev pub gives_at : Program → (wanted : Gives) → (f : ℕ) → Bool
+gives_at P wanted f = gives_of (slice_get P.functions f)
+  where
+    gives_of : Option Function → Bool
+    gives_of None = false
+    gives_of (Some g) = same_gives g.gives wanted
 
--- how many objects a function takes: it has no more parameters than variables
+abbrev pub number_of : Program → (wanted : Gives) → (f : ℕ) → ℕ
+number_of P wanted f = if gives_at P wanted f then f else number_of_nothing P wanted
+
+abbrev pub slots_of : Program → (wanted : Gives) → (f : ℕ) → ℕ
+slots_of P wanted f = (function_at P wanted f).slots
+
+-- how many of the variables of a function that name objects come before its parameters
+abbrev pub owned_by : Function → ℕ
+owned_by f = if f.owns then 1 else 0
+
+-- how many objects a function takes: it has no more parameters than places after `self`
 abbrev pub object_parameters : Function → ℕ
-object_parameters f = lesser f.parameters f.names
+object_parameters f = lesser f.parameters (function_places f - owned_by f)
 
-abbrev pub parameters_of : Program → (f : ℕ) → ℕ
-parameters_of P f = object_parameters (function_at P f)
+abbrev pub parameters_of : Program → (wanted : Gives) → (f : ℕ) → ℕ
+parameters_of P wanted f = object_parameters (function_at P wanted f)
 
 -- makes so many numbers and so many references what a function takes
-abbrev pub passing_orders : Program → (f values objects : ℕ) → List Order
-passing_orders P f values objects = fit_orders values (slots_of P f) ++ fit_object_orders objects (parameters_of P f)
+abbrev pub passing_orders : Program → (wanted : Gives) → (f values objects : ℕ) → List Order
+passing_orders P wanted f values objects = fit_orders values (slots_of P wanted f) ++ fit_object_orders objects (parameters_of P wanted f)
 
 -- calls a function with so many numbers and so many objects
-abbrev pub call_orders : Program → (f values objects : ℕ) → List Order
-call_orders P f values objects = passing_orders P f values objects ++ Call (number_of P f) ∷ []
+abbrev pub call_orders : Program → (wanted : Gives) → (f values objects : ℕ) → List Order
+call_orders P wanted f values objects = passing_orders P wanted f values objects ++ Call (number_of P wanted f) wanted ∷ []
+
+-- makes an object of the class on top, and gives what `init` of it gives, of which alone a temporary is left
+abbrev pub making_orders : List Order
+making_orders = Plain Alloc ∷ SendTo init_selector 0 0 gives.Object ∷ Settle ∷ []
 
 -- who gets a message: a class, `super` in a class method, an object, or `super`
 pub data Message : Type 0 where
@@ -208,10 +233,16 @@ pub data Block : Type 0 where
   AssignField : (class index : ℕ) → Block
   -- so many variables are emptied, from the first one on
   Clear : (first count : ℕ) → Block
-  -- a format, a call and a message, with so many numbers and so many objects
+  -- a format, a call and a message, with so many numbers and so many objects; a call and a message want a number or an object
   Format : List Piece → (values objects : ℕ) → Block
-  Calls : (f values objects : ℕ) → Block
-  Tells : Message → (values objects : ℕ) → Block
+  Calls : (wanted : Gives) → (f values objects : ℕ) → Block
+  Tells : (wanted : Gives) → Message → (values objects : ℕ) → Block
+  -- what the root's `new` does with the class on top
+  Making : Block
+  -- the first where a class, or one above it, has a `new` of its own, else the second
+  IfNew : (class : ℕ) → Block → Block → Block
+  -- the place of the result takes what the last reference names
+  Answer : Block
   -- one after another
   Then : Block → Block → Block
   -- takes a number: the first where it isn't 0, else the second
@@ -227,11 +258,15 @@ pub data Block : Type 0 where
   -- leaves the function at its exit, with its result on top
   Leave : (exit : ℕ) → Block
 
-abbrev pub message_order : Message → (values objects : ℕ) → Order
-message_order (ToClass selector) n m = Send selector n m
-message_order (ToSuperClass from selector) n m = SendSuper from selector n m
-message_order (ToObject selector) n m = SendTo selector n m
-message_order (ToSuper from selector) n m = SendToSuper from selector n m
+abbrev pub message_order : (wanted : Gives) → Message → (values objects : ℕ) → Order
+message_order wanted (ToClass selector) n m = Send selector n m wanted
+message_order wanted (ToSuperClass from selector) n m = SendSuper from selector n m wanted
+message_order wanted (ToObject selector) n m = SendTo selector n m wanted
+message_order wanted (ToSuper from selector) n m = SendToSuper from selector n m wanted
+
+-- whether a class has a `new` of its own, or one above it has
+abbrev pub has_new : Program → (class : ℕ) → Bool
+has_new P class = is_some (lookup P.classes (Some class) signs.Class new_selector 0 0 gives.Object)
 
 -- where no loop's turn is
 abbrev pub no_turn : Turn
@@ -285,8 +320,11 @@ flat P slots names e (Assign i) = store_orders names i
 flat P slots names e (Clear first count) = all_empty_orders names first count
 flat P slots names e (AssignField class index) = StoreField class index ∷ []
 flat P slots names e (Format pieces n m) = forget_orders m ++ print_orders pieces n
-flat P slots names e (Calls f n m) = call_orders P f n m
-flat P slots names e (Tells message n m) = message_order message n m ∷ []
+flat P slots names e (Calls wanted f n m) = call_orders P wanted f n m
+flat P slots names e (Tells wanted message n m) = message_order wanted message n m ∷ []
+flat P slots names e Making = making_orders
+flat P slots names e (IfNew class a b) = if has_new P class then flat P slots names e a else flat P slots names e b
+flat P slots names e Answer = store_orders names (Local (names - 1))
 flat P slots names e (Then a b) =
     let xs = flat P slots names e a in
     xs ++ flat P slots names (past (length xs) e) b
@@ -335,13 +373,20 @@ abbrev pub below_arguments : Receiver → (depth : ℕ) → ℕ
 below_arguments (ClassValue a) depth = suc depth
 below_arguments (ClassSuper from) depth = suc depth
 below_arguments (ObjectValue a) depth = depth
-below_arguments (ObjectSuper from) depth = depth
+below_arguments (ObjectSuper a from) depth = depth
 
 abbrev pub message_to : Receiver → (selector : ℕ) → Message
 message_to (ClassValue a) selector = ToClass selector
 message_to (ClassSuper from) selector = ToSuperClass from selector
 message_to (ObjectValue a) selector = ToObject selector
-message_to (ObjectSuper from) selector = ToSuper from selector
+message_to (ObjectSuper a from) selector = ToSuper from selector
+
+-- What `new` does, behind the number of the class that gets it, where its method is looked up from a class, or from that of the number: the class's own method is found
+-- when the program is lowered, where it is known.
+abbrev pub new_block : (from : Option ℕ) → (class : Value) → Block
+new_block (Some from) class = IfNew from (Tells gives.Object (ToSuperClass from new_selector) 0 0) Making
+new_block None (Number (pos c)) = IfNew c (Tells gives.Object (ToClass new_selector) 0 0) Making
+new_block None class = Then (One (Finds new_selector)) (Fork (Tells gives.Object (ToClass new_selector) 0 0) Making)
 
 -- An expression leaves one operand more. What gets a message lies below its arguments; one to `super` goes to `self`, in a class method the first variable.
 abbrev mutual
@@ -358,10 +403,10 @@ abbrev mutual
   value_block depth (Updated moment i operator computed kept a) =
       let below = below_new moment depth in
       Then (Load depth i) (update_block moment (value_block (suc below) a) operator computed kept (Store below i))
-  value_block depth (Invoked f arguments) = Then (arguments_block depth arguments) (Calls f (number_count arguments) (object_count arguments))
+  value_block depth (Invoked f arguments) = Then (arguments_block depth arguments) (Calls gives.Number f (number_count arguments) (object_count arguments))
   value_block depth (Sent receiver selector arguments) =
       Then (receiver_block depth receiver) (Then (arguments_block (below_arguments receiver depth) arguments)
-      (Tells (message_to receiver selector) (number_count arguments) (object_count arguments)))
+      (Tells gives.Number (message_to receiver selector) (number_count arguments) (object_count arguments)))
   value_block depth (Field a class index) = Then (reference_block depth a) (One (GetField class index))
   value_block depth (FieldAssigned a class index b) = Then (reference_block depth a) (Then (value_block depth b) (One (SetField class index)))
   value_block depth (FieldUpdated moment a class index operator computed kept b) =
@@ -381,14 +426,18 @@ abbrev mutual
   reference_block depth (ObjectFieldStored a class index b) =
       Then (reference_block depth a) (Then (reference_block depth b) (Then (AssignField class index) (One Hold)))
   reference_block depth (Made a) = Then (value_block depth a) (One Alloc)
-  reference_block depth (Initialized a) = Then (reference_block depth a) (One Hold)
+  reference_block depth (New from a) = Then (value_block depth a) (new_block from a)
+  reference_block depth (ObjectInvoked f arguments) = Then (arguments_block depth arguments) (Calls gives.Object f (number_count arguments) (object_count arguments))
+  reference_block depth (ObjectSent receiver selector arguments) =
+      Then (receiver_block depth receiver) (Then (arguments_block (below_arguments receiver depth) arguments)
+      (Tells gives.Object (message_to receiver selector) (number_count arguments) (object_count arguments)))
 
   -- leaves the class that gets a message as one operand more, or a reference to the object
   pub receiver_block : (depth : ℕ) → Receiver → Block
   receiver_block depth (ClassValue a) = value_block depth a
   receiver_block depth (ClassSuper from) = Load depth (Local 0)
   receiver_block depth (ObjectValue a) = reference_block depth a
-  receiver_block depth (ObjectSuper from) = One ReadSelf
+  receiver_block depth (ObjectSuper a from) = reference_block depth a
 
   -- leaves an operand for each number, and a reference for each object
   pub arguments_block : (depth : ℕ) → Arguments → Block
@@ -406,6 +455,10 @@ whole_reference_block a = Full (reference_block 0 a) (One Forget)
 -- a variable begins with an object
 abbrev pub begin_block : ℕ → Reference → Block
 begin_block i a = Full (reference_block 0 a) (Then (Assign (Local i)) (One Forget))
+
+-- an object is the result
+abbrev pub answer_block : Reference → Block
+answer_block a = Full (reference_block 0 a) (Then Answer (One Forget))
 
 -- An expression that does the same, where nobody uses the number that it gives: an update gives the new number then, for which no copy of the old one is kept.
 abbrev pub unused : Value → Value
@@ -438,6 +491,7 @@ abbrev mutual
   command_block exit breaks continues (Begin i a) = begin_block i a
   command_block exit breaks continues (resolved.Return None) = nothing_given exit
   command_block exit breaks continues (resolved.Return (Some a)) = Then (whole_block a) (Leave exit)
+  command_block exit breaks continues (Give a) = Then (answer_block a) (nothing_given exit)
   command_block exit breaks continues (Choose test a b) = Then (whole_block test) (Fork (command_block exit breaks continues a) (command_block exit breaks continues b))
   command_block exit breaks continues (Repeat test step body) =
       loop_block (does_nothing step) (command_block exit breaks continues step) (whole_block test) (command_block exit Quit Advance body)
@@ -480,6 +534,20 @@ receiver_orders P slots names depth a = flat P slots names Inside (receiver_bloc
 abbrev pub argument_orders : Program → (slots names depth : ℕ) → Arguments → List Order
 argument_orders P slots names depth all = flat P slots names Inside (arguments_block depth all)
 
+-- those of a call and of a message, and of `new` of the class on top, of which the program finds out whether it has such a method
+abbrev pub invoked_orders : Program → (slots names depth : ℕ) → (wanted : Gives) → (f : ℕ) → Arguments → List Order
+invoked_orders P slots names depth wanted f arguments =
+    flat P slots names Inside (Then (arguments_block depth arguments) (Calls wanted f (number_count arguments) (object_count arguments)))
+
+abbrev pub sent_orders : Program → (slots names depth : ℕ) → (wanted : Gives) → Receiver → (selector : ℕ) → Arguments → List Order
+sent_orders P slots names depth wanted receiver selector arguments =
+    flat P slots names Inside (Then (receiver_block depth receiver) (Then (arguments_block (below_arguments receiver depth) arguments)
+    (Tells wanted (message_to receiver selector) (number_count arguments) (object_count arguments))))
+
+abbrev pub new_found_orders : List Order
+new_found_orders =
+    Plain (Finds new_selector) ∷ JumpZero (Skip 2) ∷ Send new_selector 0 0 gives.Object ∷ Jump (Skip 3) ∷ making_orders
+
 abbrev pub whole_orders : Program → (slots names : ℕ) → Value → List Order
 whole_orders P slots names a = flat P slots names Inside (whole_block a)
 
@@ -488,6 +556,9 @@ whole_reference_orders P slots names a = flat P slots names Inside (whole_refere
 
 abbrev pub begin_orders : Program → (slots names i : ℕ) → Reference → List Order
 begin_orders P slots names i a = flat P slots names Inside (begin_block i a)
+
+abbrev pub answer_orders : Program → (slots names : ℕ) → Reference → List Order
+answer_orders P slots names a = flat P slots names Inside (answer_block a)
 
 -- Where a statement stands in a function: the place where that is left, the loop in whose body it is, where there is one, and the scopes between the two, or those
 -- of the function, the innermost first.
@@ -525,27 +596,33 @@ command_orders P slots names here s c = flat P slots names (spot here s.turn) (c
 abbrev pub commands_orders : Program → (slots names here : ℕ) → Surroundings → Commands → List Order
 commands_orders P slots names here s all = flat P slots names (spot here s.turn) (commands_block s.exit (breaking s) (continuing s) all)
 
--- what a function begins with: its variables that name objects, of which the first take what it is given
-abbrev pub opening_orders : (names parameters : ℕ) → List Order
-opening_orders names parameters = declare_orders names ++ take_orders parameters
+-- what a function begins with: its places of objects, of which the first take `self`, where it owns that, and what it is given
+abbrev pub opening_orders : Function → List Order
+opening_orders f =
+    declare_orders (function_places f) ++ (take_orders (owned_by f) (object_parameters f) ++ (if f.owns then own_orders (function_places f) else []))
 
 -- what a function does from its entry on, which is at this place
 abbrev pub body_orders : Program → (exit entry : ℕ) → Function → List Order
 body_orders P exit entry f =
-    let opening = opening_orders f.names (object_parameters f) in
-    opening ++ flat P f.slots f.names (Between (entry + length opening) no_turn) (body_block exit f.body)
+    let opening = opening_orders f in
+    opening ++ flat P f.slots (function_places f) (Between (entry + length opening) no_turn) (body_block exit f.body)
 
--- leaves a function with so many variables of each kind: those that name objects are emptied, and its result, on top, is put in the place of the others
-abbrev pub leave_orders : (slots names : ℕ) → List Order
-leave_orders slots names = all_empty_orders names 0 names ++ (keep_orders slots ++ Return ∷ [])
+abbrev pub leaving_order : Gives → Order
+leaving_order gives.Number = Return
+leaving_order gives.Object = instrs.Give
+
+-- leaves a function: its variables that name objects are emptied, and the number on top is put in the place of those that hold numbers, as its result, or as one that
+-- nobody uses, where it gives an object
+abbrev pub leave_orders : Function → List Order
+leave_orders f = all_empty_orders (function_places f) 0 f.names ++ (keep_orders f.slots ++ leaving_order f.gives ∷ [])
 
 -- where a function is entered whose first action has this number
 abbrev pub entry_of : (place : ℕ) → Function → ℕ
-entry_of place f = place + length (leave_orders f.slots f.names)
+entry_of place f = place + length (leave_orders f)
 
 -- a function: what leaves it stands before its entry
 abbrev pub function_orders : Program → (place : ℕ) → Function → List Order
-function_orders P place f = leave_orders f.slots f.names ++ body_orders P place (entry_of place f) f
+function_orders P place f = leave_orders f ++ body_orders P place (entry_of place f) f
 
 -- functions, one behind the other
 abbrev pub functions_orders : Program → (place : ℕ) → List Function → List Order
@@ -561,28 +638,28 @@ entries_from P place (f ∷ others) = entry_of place f ∷ entries_from P (place
 
 -- where a program begins: a call of main without arguments, and the end; and behind it where the ends of objects go on
 abbrev pub start_orders : Program → List Order
-start_orders P = call_orders P P.main 0 0 ++ (Return ∷ [] ++ EndStep ∷ [])
+start_orders P = call_orders P gives.Number P.main 0 0 ++ (Return ∷ [] ++ EndStep ∷ [])
 
 -- where the ends of objects go on
 abbrev pub end_step_of : Program → ℕ
-end_step_of P = slots_of P P.main + parameters_of P P.main + 2
+end_step_of P = slots_of P gives.Number P.main + parameters_of P gives.Number P.main + 2
 
 abbrev pub entries_of : Program → List ℕ
 entries_of P = entries_from P (length (start_orders P)) (all_functions P)
 
 -- A stub, to which a message goes, or the end of an object: it makes so many numbers and objects what a function takes, and goes on where that is entered.
-abbrev pub stub_orders : Program → (entries : List ℕ) → (values objects f : ℕ) → List Order
-stub_orders P entries values objects f = passing_orders P f values objects ++ Jump (At (slice_index_or entries (number_of P f) 0)) ∷ []
+abbrev pub stub_orders : Program → (entries : List ℕ) → (wanted : Gives) → (values objects f : ℕ) → List Order
+stub_orders P entries wanted values objects f = passing_orders P wanted f values objects ++ Jump (At (slice_index_or entries (number_of P wanted f) 0)) ∷ []
 
 -- the stubs of methods, one behind the other
 abbrev pub methods_orders : Program → (entries : List ℕ) → List Method → List Order
 methods_orders P entries [] = []
-methods_orders P entries (m ∷ others) = stub_orders P entries (passes m.sign m.takes) m.objects m.runs ++ methods_orders P entries others
+methods_orders P entries (m ∷ others) = stub_orders P entries m.gives (passes m.sign m.takes) m.objects m.runs ++ methods_orders P entries others
 
 -- the stub of a dealloc, where there is one
 abbrev pub dealloc_orders : Program → (entries : List ℕ) → Option ℕ → List Order
 dealloc_orders P entries None = []
-dealloc_orders P entries (Some f) = stub_orders P entries 0 0 f
+dealloc_orders P entries (Some f) = stub_orders P entries gives.Number 0 0 f
 
 -- the stub of a class's dealloc, and those of its methods
 abbrev pub class_orders : Program → (entries : List ℕ) → Class → List Order
@@ -596,8 +673,8 @@ classes_orders P entries (c ∷ others) = class_orders P entries c ++ classes_or
 abbrev pub linked_methods : Program → (entries : List ℕ) → (place : ℕ) → List Method → List Method
 linked_methods P entries place [] = []
 linked_methods P entries place (m ∷ others) =
-    record { sign = m.sign; selector = m.selector; takes = m.takes; objects = m.objects; runs = place }
-    ∷ linked_methods P entries (place + length (stub_orders P entries (passes m.sign m.takes) m.objects m.runs)) others
+    record { sign = m.sign; selector = m.selector; takes = m.takes; objects = m.objects; gives = m.gives; runs = place }
+    ∷ linked_methods P entries (place + length (stub_orders P entries m.gives (passes m.sign m.takes) m.objects m.runs)) others
 
 -- a dealloc runs its stub at this place
 abbrev pub linked_dealloc : (place : ℕ) → Option ℕ → Option ℕ

@@ -1,5 +1,5 @@
 //! From expressions to actions that leave a number on the stack, or a reference to an object.
-ghost use Rattle.std.specs.Prelude.{◌≡◌, ◌++◌, suc, [], ◌∷◌, OnOk, IfOk};
+ghost use Rattle.std.specs.Prelude.{◌≡◌, ◌++◌, suc, [], ◌∷◌, if◌then◌else◌, OnOk, IfOk};
 ghost use Rattle.arc_check.specs.Checked as checked;
 ghost use Rattle.arc_check.specs.Checked.{value, reference, receiver as receiver_of, arguments as arguments_of, program_of};
 ghost use Rattle.arc_spec.specs.Resolved as resolved;
@@ -7,7 +7,7 @@ ghost use Rattle.arc_lower.specs.Order.{order, orders};
 ghost use Rattle.arc_lower.specs.Known.{combined_kind};
 ghost use Rattle.arc_code.specs.declared.instr.Op.TheVariants.{Bin};
 ghost use Rattle.arc_code.specs.declared.instr.Instr.TheVariants.{Plain};
-ghost use Rattle.arc_lower.specs.Lowered.{old_orders, narrow_orders, unused, value_orders, reference_orders, receiver_orders, argument_orders, number_count, object_count, below_arguments, message_to, message_order};
+ghost use Rattle.arc_lower.specs.Lowered.{old_orders, narrow_orders, unused, value_orders, reference_orders, receiver_orders, argument_orders, number_count, object_count, below_arguments, message_to, message_order, invoked_orders, sent_orders, has_new, making_orders, new_found_orders};
 
 use crate::call::append_call;
 use crate::frame::Frame;
@@ -17,10 +17,11 @@ use crate::place::{append_forgets, append_read, append_store};
 use crate::print::append_print;
 use crate::update::{Update, append_given, append_narrow, append_new, append_old, below_new};
 use crate::variable::{append_get, append_set, one_more};
-use arc_ast::tree::{Kind, Moment};
+use arc_ast::tree::{Kind, Moment, Sign};
 use arc_check::checked::{Argument, Checked, Piece, Receiver, Reference, Value};
 use arc_code::instr::{Instr, Op};
 use arc_ir::action::{Action, Target};
+use arc_spec::class::{Gives, look_up};
 use arc_spec::event::NoMemory;
 use arc_spec::location::Location;
 use std::alloc::Global;
@@ -84,11 +85,26 @@ pub(crate) fn append_value(
             append_updated(alloc, actions, program, frame, *location, update, operand)
         }
         Value::Invoked(function, arguments) => {
-            append_invoked(alloc, actions, program, frame, *function, arguments)
+            append_invoked(
+                alloc,
+                actions,
+                program,
+                frame,
+                Gives::Number,
+                *function,
+                arguments,
+            )
         }
         Value::Sent(receiver, selector, arguments) => {
             append_sent(
-                alloc, actions, program, frame, receiver, *selector, arguments,
+                alloc,
+                actions,
+                program,
+                frame,
+                Gives::Number,
+                receiver,
+                *selector,
+                arguments,
             )
         }
         Value::Field(object, class, index) => {
@@ -382,15 +398,17 @@ fn append_invoked(
     actions: &mut Vec<Action>,
     program: &Checked,
     frame: Frame,
+    wanted: Gives,
     function: usize,
     arguments: &[Argument],
 ) -> Result<(), NoMemory>
-    ensures { OnOk result (orders actions.new.items ≡ orders actions.old.items ++ value_orders (program_of program.now) frame.slots frame.names frame.operands (resolved.Invoked function (arguments_of arguments.now))) }
+    ensures { OnOk result (orders actions.new.items ≡ orders actions.old.items ++ invoked_orders (program_of program.now) frame.slots frame.names frame.operands wanted function (arguments_of arguments.now)) }
 {
     append_arguments(alloc, actions, program, frame, arguments)?;
     append_call(
         actions,
         program,
+        wanted,
         function,
         count_numbers(arguments),
         count_objects(arguments),
@@ -404,11 +422,12 @@ fn append_sent(
     actions: &mut Vec<Action>,
     program: &Checked,
     frame: Frame,
+    wanted: Gives,
     receiver: &Receiver,
     selector: usize,
     arguments: &[Argument],
 ) -> Result<(), NoMemory>
-    ensures { OnOk result (orders actions.new.items ≡ orders actions.old.items ++ value_orders (program_of program.now) frame.slots frame.names frame.operands (resolved.Sent (receiver_of receiver.now) selector (arguments_of arguments.now))) }
+    ensures { OnOk result (orders actions.new.items ≡ orders actions.old.items ++ sent_orders (program_of program.now) frame.slots frame.names frame.operands wanted (receiver_of receiver.now) selector (arguments_of arguments.now)) }
 {
     append_receiver(alloc, actions, program, frame, receiver)?;
     let operands = below_arguments(receiver, frame.operands)?;
@@ -416,7 +435,95 @@ fn append_sent(
     append_arguments(alloc, actions, program, above, arguments)?;
     let numbers = count_numbers(arguments);
     let objects = count_objects(arguments);
-    append(actions, message(receiver, selector, numbers, objects))
+    append(
+        actions,
+        message(wanted, receiver, selector, numbers, objects),
+    )
+}
+
+/// Appends the actions of `new`, the class that gets it first: that of its own method, where the class or one above it
+/// has one, or else of `alloc` and `init`.
+#[cycle(expression)]
+fn append_new_object(
+    alloc: Global,
+    actions: &mut Vec<Action>,
+    program: &Checked,
+    frame: Frame,
+    from: Option<usize>,
+    class: &Value,
+) -> Result<(), NoMemory>
+    ensures { OnOk result (orders actions.new.items ≡ orders actions.old.items ++ reference_orders (program_of program.now) frame.slots frame.names frame.operands (resolved.New from (value class.now))) }
+{
+    append_value(alloc, actions, program, frame, class)?;
+    match (from, class) {
+        (Some(from), _) => {
+            let found = Instr::SendSuper(from, NEW_SELECTOR, 0, 0, Gives::Object);
+            append_new_from(actions, program, from, found)
+        }
+        (None, Value::Number(number)) if *number >= 0 => {
+            let found = Instr::Send(NEW_SELECTOR, 0, 0, Gives::Object);
+            append_new_from(actions, program, *number as usize, found)
+        }
+        (None, _) => append_new_found(actions),
+    }
+}
+
+/// The number of the selector `new`.
+const NEW_SELECTOR: usize = 1;
+
+/// The number of the selector `init`.
+const INIT_SELECTOR: usize = 2;
+
+/// Whether the class, or one above it, has a `new` of its own.
+fn has_new(program: &Checked, class: usize) -> bool
+    ensures { result ≡ has_new (program_of program.now) class }
+{
+    let found = look_up(
+        &program.classes,
+        Some(class),
+        Sign::Class,
+        NEW_SELECTOR,
+        0,
+        0,
+        Gives::Object,
+    );
+    found.is_some()
+}
+
+/// Appends the actions of the root's `new` of the class on top.
+fn append_making(actions: &mut Vec<Action>) -> Result<(), NoMemory>
+    ensures { OnOk result (orders actions.new.items ≡ orders actions.old.items ++ making_orders) }
+{
+    append(actions, Instr::Plain(Op::Alloc))?;
+    append(actions, Instr::SendTo(INIT_SELECTOR, 0, 0, Gives::Object))?;
+    append(actions, Instr::Settle)
+}
+
+/// Appends this action, where the class or one above it has a `new` of its own, or else those of the root's.
+fn append_new_from(
+    actions: &mut Vec<Action>,
+    program: &Checked,
+    class: usize,
+    found: Action,
+) -> Result<(), NoMemory>
+    ensures { OnOk result (orders actions.new.items ≡ orders actions.old.items ++ (if has_new (program_of program.now) class then order found ∷ [] else making_orders)) }
+{
+    if has_new(program, class) {
+        append(actions, found)
+    } else {
+        append_making(actions)
+    }
+}
+
+/// Appends the actions of `new` of the class on top, of which the program finds out whether it has such a method.
+fn append_new_found(actions: &mut Vec<Action>) -> Result<(), NoMemory>
+    ensures { OnOk result (orders actions.new.items ≡ orders actions.old.items ++ new_found_orders) }
+{
+    append(actions, Instr::Plain(Op::Finds(NEW_SELECTOR)))?;
+    append(actions, Instr::JumpZero(Target::Skip(2)))?;
+    append(actions, Instr::Send(NEW_SELECTOR, 0, 0, Gives::Object))?;
+    append(actions, Instr::Jump(Target::Skip(3)))?;
+    append_making(actions)
 }
 
 /// Appends the actions of what gets a message: a class, which lies below the arguments, or an object; `super`
@@ -437,7 +544,9 @@ fn append_receiver(
             append_get(actions, frame.slots, frame.operands, Location::Local(0))
         }
         Receiver::ObjectValue(object) => append_reference(alloc, actions, program, frame, object),
-        Receiver::ObjectSuper(_) => append(actions, Instr::Plain(Op::ReadSelf)),
+        Receiver::ObjectSuper(object, _) => {
+            append_reference(alloc, actions, program, frame, object)
+        }
     }
 }
 
@@ -447,19 +556,27 @@ fn below_arguments(receiver: &Receiver, operands: usize) -> Result<usize, NoMemo
 {
     match receiver {
         Receiver::ClassValue(_) | Receiver::ClassSuper(_) => one_more(operands),
-        Receiver::ObjectValue(_) | Receiver::ObjectSuper(_) => Ok(operands),
+        Receiver::ObjectValue(_) | Receiver::ObjectSuper(_, _) => Ok(operands),
     }
 }
 
 /// The action that sends a message with so many numbers and so many objects as arguments.
-fn message(receiver: &Receiver, selector: usize, numbers: usize, objects: usize) -> Action
-    ensures { order result ≡ message_order (message_to (receiver_of receiver.now) selector) numbers objects }
+fn message(
+    wanted: Gives,
+    receiver: &Receiver,
+    selector: usize,
+    numbers: usize,
+    objects: usize,
+) -> Action
+    ensures { order result ≡ message_order wanted (message_to (receiver_of receiver.now) selector) numbers objects }
 {
     match receiver {
-        Receiver::ClassValue(_) => Instr::Send(selector, numbers, objects),
-        Receiver::ClassSuper(from) => Instr::SendSuper(*from, selector, numbers, objects),
-        Receiver::ObjectValue(_) => Instr::SendTo(selector, numbers, objects),
-        Receiver::ObjectSuper(from) => Instr::SendToSuper(*from, selector, numbers, objects),
+        Receiver::ClassValue(_) => Instr::Send(selector, numbers, objects, wanted),
+        Receiver::ClassSuper(from) => Instr::SendSuper(*from, selector, numbers, objects, wanted),
+        Receiver::ObjectValue(_) => Instr::SendTo(selector, numbers, objects, wanted),
+        Receiver::ObjectSuper(_, from) => {
+            Instr::SendToSuper(*from, selector, numbers, objects, wanted)
+        }
     }
 }
 
@@ -564,9 +681,31 @@ pub(crate) fn append_reference(
                 Instr::Plain(Op::Alloc),
             )
         }
-        Reference::Initialized(operand) => {
-            let action = Instr::Plain(Op::Hold);
-            append_reference_then(alloc, actions, program, frame, operand, action)
+        Reference::New(from, class) => {
+            append_new_object(alloc, actions, program, frame, *from, class)
+        }
+        Reference::ObjectInvoked(function, arguments) => {
+            append_invoked(
+                alloc,
+                actions,
+                program,
+                frame,
+                Gives::Object,
+                *function,
+                arguments,
+            )
+        }
+        Reference::ObjectSent(receiver, selector, arguments) => {
+            append_sent(
+                alloc,
+                actions,
+                program,
+                frame,
+                Gives::Object,
+                receiver,
+                *selector,
+                arguments,
+            )
         }
         Reference::Chosen(test, first, second) => {
             append_chosen(alloc, actions, program, frame, test, first, second)

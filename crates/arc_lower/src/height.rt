@@ -91,9 +91,9 @@ fn effect_in(program: &Checked, action: &Action) -> Result<Effect, NoMemory>
         return Err(NoMemory);
     };
     match action {
-        Instr::Call(function) => Ok(Effect {
-            numbers_taken: slots_of(program, *function),
-            names_taken: parameters_of(program, *function),
+        Instr::Call(function, wanted) => Ok(Effect {
+            numbers_taken: slots_of(program, *wanted, *function),
+            names_taken: parameters_of(program, *wanted, *function),
             ..effect
         }),
         _ => Ok(effect),
@@ -127,15 +127,21 @@ fn next_height(
             temporaries: 0,
             ..before
         }),
-        Instr::Return => Ok(Height {
+        Instr::Settle => Ok(Height {
+            temporaries: before.temporaries.saturating_sub(1),
+            ..before
+        }),
+        Instr::Return | Instr::Give => Ok(Height {
             variables: 0,
             ..base
         }),
-        Instr::Plain(_) | Instr::PrintText(_) | Instr::Call(_) | Instr::EndStep => {
+        Instr::Plain(_) | Instr::PrintText(_) | Instr::Call(_, _) | Instr::EndStep => {
             after_effect(before, effect)
         }
-        Instr::Send(_, _, _) | Instr::SendSuper(_, _, _, _) => after_effect(before, effect),
-        Instr::SendTo(_, _, _) | Instr::SendToSuper(_, _, _, _) => after_effect(before, effect),
+        Instr::Send(_, _, _, _) | Instr::SendSuper(_, _, _, _, _) => after_effect(before, effect),
+        Instr::SendTo(_, _, _, _) | Instr::SendToSuper(_, _, _, _, _) => {
+            after_effect(before, effect)
+        }
         Instr::StoreStrong(_) | Instr::StoreGlobal(_) => after_effect(before, effect),
         Instr::StoreField(_, _) | Instr::Empty(_) => after_effect(before, effect),
     }

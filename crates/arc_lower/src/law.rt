@@ -6,7 +6,7 @@ ghost use Rattle.arc_ir.specs.Acting as acting;
 ghost use Rattle.arc_lower.specs.Order.{orders};
 ghost use Rattle.arc_lower.specs.Lowered.{whole_orders, whole_reference_orders, Surroundings, command_orders, lowered, entries_of, end_step_of, classes_linked};
 ghost use Rattle.arc_code.specs.declared.effect.Height.{Height};
-ghost use Rattle.arc_lower.specs.Heights.{between, walk, last_walk, last_height, greatest_height, places_in, height_at};
+ghost use Rattle.arc_lower.specs.Heights.{between, walk, last_walk, last_height, greatest_height, places_in, height_at, result_at};
 
 /// A full-expression leaves one number more where it is an int, no reference and no temporary, and the parts that tests
 /// before it may lead to as they are.
@@ -23,7 +23,7 @@ pub fn statements_end()
 /// The heights of a program's actions fit them: no run has more numbers, references or places than all levels together
 /// may have by the greatest heights, and with that room the actions are sound.
 pub fn heights_fit()
-    ensures fit { (p : acting.Program) (P : Program) → orders p.actions ≡ lowered P → p.entries ≡ entries_of P → p.classes ≡ classes_linked P → HeightsFit (acting.linked p) (height_at P) (greatest_height P).numbers (greatest_height P).names (places_in (greatest_height P)) }
+    ensures fit { (p : acting.Program) (P : Program) → orders p.actions ≡ lowered P → p.entries ≡ entries_of P → p.classes ≡ classes_linked P → HeightsFit (acting.linked p) (height_at P) (result_at P) (greatest_height P).numbers (greatest_height P).names (places_in (greatest_height P)) }
     ensures bounded { (p : acting.Program) (P : Program) → orders p.actions ≡ lowered P → p.entries ≡ entries_of P → p.classes ≡ classes_linked P → NeverHasMore (acting.linked p) (room_for (greatest_height P).numbers) (room_for (greatest_height P).names) (room_for (places_in (greatest_height P))) }
     ensures sound { (p : acting.Program) (P : Program) → orders p.actions ≡ lowered P → p.entries ≡ entries_of P → p.classes ≡ classes_linked P → p.end_step ≡ end_step_of P → room_for (greatest_height P).numbers ≤ p.room → room_for (greatest_height P).names ≤ p.names → room_for (places_in (greatest_height P)) ≤ p.places → acting.IsSound p }
 {}

@@ -1,18 +1,20 @@
 //! From a program to its actions.
-ghost use Rattle.std.specs.Prelude.{◌≡◌, ◌+◌, ◌++◌, [], ◌∷◌, length, IfOk, OnOk};
+ghost use Rattle.std.specs.Prelude.{◌≡◌, ◌+◌, ◌++◌, [], ◌∷◌, length, if◌then◌else◌, IfOk, OnOk};
 ghost use Rattle.arc_code.specs.Effects.{room_for};
 ghost use Rattle.arc_ir.specs.Acting as acting;
-ghost use Rattle.arc_check.specs.Checked.{commands, program_of};
+ghost use Rattle.arc_spec.specs.Meaning.{nothing_giving};
+ghost use Rattle.arc_check.specs.Checked.{program_of};
+ghost use Rattle.arc_lower.specs.Entered.{function_of};
 ghost use Rattle.arc_lower.specs.Order.{orders};
-ghost use Rattle.arc_lower.specs.Lowered.{body_orders, entry_of, function_orders, functions_orders, entries_from, start_orders, end_step_of, all_functions};
+ghost use Rattle.arc_lower.specs.Lowered.{own_orders, opening_orders, body_orders, entry_of, function_orders, functions_orders, entries_from, start_orders, end_step_of, all_functions};
 ghost use Rattle.arc_lower.specs.Heights.{greatest, start_heights, function_heights, functions_heights};
 ghost use Rattle.arc_lower.specs.Promise.{Performs, IsLowered};
 
-use crate::call::{append_call, append_leave, lesser};
+use crate::call::{append_call, append_leave, function_places, object_parameters, owned_by};
 use crate::expression::append;
 use crate::frame::Body;
 use crate::height::{between, greatest, no_height, passed};
-use crate::place::{append_declares, append_takes};
+use crate::place::{append_declares, append_own, append_takes};
 use crate::statement::append_commands;
 use crate::stub::append_classes;
 use crate::variable::{add_operands, one_more};
@@ -21,6 +23,7 @@ use arc_code::effect::Height;
 use arc_code::instr::{Instr, Op};
 use arc_family::owned::Owned;
 use arc_ir::action::{Action, Ir, Target};
+use arc_spec::class::Gives;
 use arc_spec::event::NoMemory;
 use std::alloc::Global;
 
@@ -81,7 +84,7 @@ fn append_call_of_main(actions: &mut Vec<Action>, program: &Checked) -> Result<u
     ensures actions { OnOk result (orders actions.new.items ≡ orders actions.old.items ++ start_orders (program_of program.now)) }
     ensures end_step { IfOk result (λ place. place ≡ length (orders actions.old.items) + end_step_of (program_of program.now)) }
 {
-    append_call(actions, program, program.main, 0, 0)?;
+    append_call(actions, program, Gives::Number, program.main, 0, 0)?;
     append(actions, Instr::Return)?;
     let end_step = actions.len();
     append(actions, Instr::EndStep)?;
@@ -125,28 +128,43 @@ fn append_functions(
             slots: function.slots,
             names: function.names,
             parameters: function.parameters,
+            gives: function.gives,
+            owns: function.owns,
             body: &function.body,
         };
         append_function(alloc, actions, entries, program, function, most)?;
     }
-    let nothing = Definition {
-        slots: 0,
-        names: 0,
-        parameters: 0,
-        body: &[],
-    };
-    append_function(alloc, actions, entries, program, nothing, most)?;
+    let number = nothing_giving(Gives::Number);
+    append_function(alloc, actions, entries, program, number, most)?;
+    let object = nothing_giving(Gives::Object);
+    append_function(alloc, actions, entries, program, object, most)?;
     Ok(())
 }
 
-/// A function: how many variables it has that hold numbers and that name objects, of which so many are
-/// parameters, and what it does.
+/// A function: how many variables it has that hold numbers and that name objects, how many objects it is passed, what it
+/// gives, whether it owns `self`, and what it does.
 #[derive(Clone, Copy)]
 struct Definition<'p> {
     slots: usize,
     names: usize,
     parameters: usize,
+    gives: Gives,
+    owns: bool,
     body: &'p [Command],
+}
+
+/// A function that does nothing, and gives 0 or nil.
+fn nothing_giving<'p>(gives: Gives) -> Definition<'p>
+    ensures { function_of result ≡ nothing_giving gives }
+{
+    Definition {
+        slots: 0,
+        names: 0,
+        parameters: 0,
+        gives,
+        owns: false,
+        body: &[],
+    }
 }
 
 /// Appends the actions of a function, and where it is entered. Raises the greatest height to theirs.
@@ -158,21 +176,56 @@ fn append_function(
     function: Definition<'_>,
     most: &mut Height,
 ) -> Result<(), NoMemory>
-    ensures actions { OnOk result (orders actions.new.items ≡ orders actions.old.items ++ function_orders (program_of program.now) (length (orders actions.old.items)) (record { slots = function.entry.slots; names = function.entry.names; parameters = function.entry.parameters; body = commands function.entry.body.now })) }
-    ensures entries { OnOk result (entries.new.items ≡ entries.old.items ++ entry_of (length (orders actions.old.items)) (record { slots = function.entry.slots; names = function.entry.names; parameters = function.entry.parameters; body = commands function.entry.body.now }) ∷ []) }
-    ensures most { OnOk result (most.new ≡ greatest (function_heights (program_of program.now) (length (orders actions.old.items)) (record { slots = function.entry.slots; names = function.entry.names; parameters = function.entry.parameters; body = commands function.entry.body.now })) most.old) }
+    ensures actions { OnOk result (orders actions.new.items ≡ orders actions.old.items ++ function_orders (program_of program.now) (length (orders actions.old.items)) (function_of function.entry)) }
+    ensures entries { OnOk result (entries.new.items ≡ entries.old.items ++ entry_of (length (orders actions.old.items)) (function_of function.entry) ∷ []) }
+    ensures most { OnOk result (most.new ≡ greatest (function_heights (program_of program.now) (length (orders actions.old.items)) (function_of function.entry)) most.old) }
 {
     let exit = actions.len();
-    append_leave(actions, function.slots, function.names)?;
-    let base = between(function.slots, function.names);
-    let left = between(one_more(function.slots)?, function.names);
+    let names = function_places(function.names, function.gives)?;
+    append_leave(actions, function.slots, function.names, function.gives)?;
+    let base = between(function.slots, names);
+    let left = between(one_more(function.slots)?, names);
     *most = greatest(alloc, program, base, left, &actions[exit..], *most)?;
     let entry = actions.len();
     entries.push(entry)?;
     append_body(alloc, actions, program, exit, function)?;
-    let entered = passed(function.slots, lesser(function.parameters, function.names));
+    let given = object_parameters(
+        function.parameters,
+        function.names,
+        function.gives,
+        function.owns,
+    );
+    let entered = passed(function.slots, given);
     *most = greatest(alloc, program, base, entered, &actions[entry..], *most)?;
     Ok(())
+}
+
+/// Appends what a function begins with: its places of objects, of which the first take `self`, where it owns that, and
+/// what it is given.
+fn append_opening(actions: &mut Vec<Action>, function: Definition<'_>) -> Result<(), NoMemory>
+    ensures { OnOk result (orders actions.new.items ≡ orders actions.old.items ++ opening_orders (function_of function.entry)) }
+{
+    let names = function_places(function.names, function.gives)?;
+    append_declares(actions, names)?;
+    let given = object_parameters(
+        function.parameters,
+        function.names,
+        function.gives,
+        function.owns,
+    );
+    append_takes(actions, owned_by(function.owns), given)?;
+    append_owned(actions, function.owns, names)
+}
+
+/// Appends what takes `self`, where it is owned.
+fn append_owned(actions: &mut Vec<Action>, owns: bool, names: usize) -> Result<(), NoMemory>
+    ensures { OnOk result (orders actions.new.items ≡ orders actions.old.items ++ (if owns then own_orders names else [])) }
+{
+    if owns {
+        append_own(actions, names)
+    } else {
+        Ok(())
+    }
 }
 
 /// Appends what a function does from its entry on, which is left at this action.
@@ -183,16 +236,16 @@ fn append_body(
     exit: usize,
     function: Definition<'_>,
 ) -> Result<(), NoMemory>
-    ensures { OnOk result (orders actions.new.items ≡ orders actions.old.items ++ body_orders (program_of program.now) exit (length (orders actions.old.items)) (record { slots = function.entry.slots; names = function.entry.names; parameters = function.entry.parameters; body = commands function.entry.body.now })) }
+    ensures { OnOk result (orders actions.new.items ≡ orders actions.old.items ++ body_orders (program_of program.now) exit (length (orders actions.old.items)) (function_of function.entry)) }
 {
+    let names = function_places(function.names, function.gives)?;
     let body = Body {
         slots: function.slots,
-        names: function.names,
+        names,
         exit,
         turn: None,
     };
-    append_declares(actions, function.names)?;
-    append_takes(actions, lesser(function.parameters, function.names))?;
+    append_opening(actions, function)?;
     append_commands(
         alloc,
         actions,

@@ -6,12 +6,13 @@ ghost use Rattle.arc_code.specs.declared.instr.Op.TheVariants.{Forget};
 ghost use Rattle.arc_code.specs.declared.instr.Instr.TheVariants.{Plain, DropAll};
 ghost use Rattle.arc_spec.specs.declared.location.Location.TheVariants.{Local};
 ghost use Rattle.arc_lower.specs.Order.{order, orders};
-ghost use Rattle.arc_lower.specs.Lowered.{declare_orders, forget_orders, nil_orders, take_orders, read_orders, store_orders, order_takes, empty_orders, all_empty_orders};
+ghost use Rattle.arc_lower.specs.Lowered.{declare_orders, forget_orders, nil_orders, take_orders, own_orders, read_orders, store_orders, order_takes, empty_orders, all_empty_orders};
 
 use crate::expression::append;
 use crate::variable::add_operands;
 use arc_code::instr::{Instr, Op};
 use arc_ir::action::Action;
+use arc_spec::class::Gives;
 use arc_spec::event::NoMemory;
 use arc_spec::location::Location;
 
@@ -45,15 +46,33 @@ pub(crate) fn append_nils(actions: &mut Vec<Action>, count: usize) -> Result<(),
     Ok(())
 }
 
-/// Appends the actions by which the first `count` variables take what the last references name, which are taken.
-pub(crate) fn append_takes(actions: &mut Vec<Action>, count: usize) -> Result<(), NoMemory>
-    ensures { OnOk result (orders actions.new.items ≡ orders actions.old.items ++ take_orders count) }
+/// Appends the actions by which `count` variables from `first` on take what the last references name, which are taken.
+pub(crate) fn append_takes(
+    actions: &mut Vec<Action>,
+    first: usize,
+    count: usize,
+) -> Result<(), NoMemory>
+    ensures { OnOk result (orders actions.new.items ≡ orders actions.old.items ++ take_orders first count) }
 {
-    for variable in (0..count).rev() {
+    for passed in 0..count {
+        let variable = add_operands(first, count - 1 - passed)?;
         append(actions, Instr::StoreStrong(variable))?;
         append(actions, Instr::Plain(Op::Forget))?;
     }
     Ok(())
+}
+
+/// Appends the actions by which the first of `names` variables takes `self`.
+pub(crate) fn append_own(actions: &mut Vec<Action>, names: usize) -> Result<(), NoMemory>
+    ensures { OnOk result (orders actions.new.items ≡ orders actions.old.items ++ own_orders names) }
+{
+    if names == 0 {
+        return Ok(());
+    }
+    append(actions, Instr::Plain(Op::ReadSelf))?;
+    append(actions, Instr::StoreStrong(0))?;
+    append(actions, Instr::Plain(Op::Forget))?;
+    append(actions, Instr::DropAll)
 }
 
 /// Appends the actions that name what a variable names, which a temporary takes.
@@ -117,7 +136,7 @@ fn operation_takes(operation: Op) -> bool
         Op::Num(_) | Op::Bin(_, _) | Op::Un(_, _) | Op::Narrow(_) | Op::Pop | Op::Get(_) => false,
         Op::Set(_) | Op::GetGlobal(_) | Op::SetGlobal(_) | Op::PrintNum | Op::PrintByte => false,
         Op::Again | Op::Forget | Op::GetField(_, _) | Op::SetField(_, _) | Op::Differ => false,
-        Op::GetChar | Op::Declare | Op::Nil | Op::IsObject => false,
+        Op::GetChar | Op::Declare | Op::Nil | Op::IsObject | Op::Finds(_) => false,
     }
 }
 
@@ -127,11 +146,15 @@ fn takes(action: &Action) -> bool
 {
     match action {
         Instr::Plain(operation) => operation_takes(*operation),
-        Instr::PrintText(_) | Instr::Jump(_) | Instr::JumpZero(_) | Instr::Call(_) => false,
-        Instr::Send(_, _, _) | Instr::SendSuper(_, _, _, _) | Instr::SendTo(_, _, _) => false,
-        Instr::SendToSuper(_, _, _, _) | Instr::StoreStrong(_) | Instr::StoreGlobal(_) => false,
+        Instr::Call(_, gives)
+        | Instr::Send(_, _, _, gives)
+        | Instr::SendSuper(_, _, _, _, gives)
+        | Instr::SendTo(_, _, _, gives)
+        | Instr::SendToSuper(_, _, _, _, gives) => *gives == Gives::Object,
+        Instr::PrintText(_) | Instr::Jump(_) | Instr::JumpZero(_) => false,
+        Instr::StoreStrong(_) | Instr::StoreGlobal(_) => false,
         Instr::StoreField(_, _) | Instr::Empty(_) => false,
-        Instr::DropAll | Instr::Return | Instr::EndStep => false,
+        Instr::DropAll | Instr::Settle | Instr::Give | Instr::Return | Instr::EndStep => false,
     }
 }
 

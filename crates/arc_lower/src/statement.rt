@@ -1,12 +1,12 @@
 //! From statements to actions.
 ghost use Rattle.std.specs.Prelude.{◌≡◌, ℕ, ◌+◌, ◌<◌, List, [], ◌∷◌, ◌++◌, length, reverse, OnOk, IfOk, option_map};
-ghost use Rattle.arc_spec.specs.Resolved.{Program, Sequence, Return, Break, Continue};
+ghost use Rattle.arc_spec.specs.Resolved.{Program, Sequence, Return, Give, Break, Continue};
 ghost use Rattle.arc_check.specs.Checked.{value as value_of, reference as reference_of, command, commands, program_of};
 ghost use Rattle.arc_code.specs.declared.instr.Op.TheVariants.{Pop};
 ghost use Rattle.arc_code.specs.declared.instr.Instr.TheVariants.{Plain, Jump, JumpZero};
 ghost use Rattle.arc_ir.specs.declared.action.Target.TheVariants.{At, Skip};
 ghost use Rattle.arc_lower.specs.Order.{order, orders};
-ghost use Rattle.arc_lower.specs.Lowered.{whole_orders, whole_reference_orders, begin_orders, unused, scopes_orders, does_nothing, command_orders, commands_orders};
+ghost use Rattle.arc_lower.specs.Lowered.{whole_orders, whole_reference_orders, begin_orders, answer_orders, unused, scopes_orders, does_nothing, command_orders, commands_orders};
 ghost use Rattle.arc_lower.specs.Surroundings.{surroundings, step_begin, step_orders, turn_orders_of, with_turn};
 
 use crate::expression::{append, append_reference, append_unused, append_value};
@@ -137,6 +137,7 @@ pub(crate) fn append_command(
             append_begin(alloc, actions, program, body, *index, reference)
         }
         Command::Return(value) => append_return(alloc, actions, program, body, value),
+        Command::Give(object) => append_give(alloc, actions, program, body, object),
         Command::Choose(test, first, second) => {
             append_whole(alloc, actions, program, body, test)?;
             let branch = actions.len();
@@ -349,6 +350,41 @@ fn append_return(
         None => append(actions, Instr::Plain(Op::Num(0)))?,
         Some(value) => append_whole(alloc, actions, program, body, value)?,
     }
+    append_exit(actions, body)
+}
+
+/// Appends the actions by which the place of the result takes an object or nil.
+fn append_answer(
+    alloc: Global,
+    actions: &mut Vec<Action>,
+    program: &Checked,
+    body: Body,
+    expression: &Reference,
+) -> Result<(), NoMemory>
+    ensures { OnOk result (orders actions.new.items ≡ orders actions.old.items ++ answer_orders (program_of program.now) body.slots body.names (reference_of expression.now)) }
+{
+    append_begin(
+        alloc,
+        actions,
+        program,
+        body,
+        body.names.saturating_sub(1),
+        expression,
+    )
+}
+
+/// Appends the actions of a return of an object or nil.
+fn append_give(
+    alloc: Global,
+    actions: &mut Vec<Action>,
+    program: &Checked,
+    body: Body,
+    object: &Reference,
+) -> Result<(), NoMemory>
+    ensures { (scopes : List Scope) → OnOk result (orders actions.new.items ≡ orders actions.old.items ++ command_orders (program_of program.now) body.slots body.names (length (orders actions.old.items)) (surroundings body scopes) (Give (reference_of object.now))) }
+{
+    append_answer(alloc, actions, program, body, object)?;
+    append(actions, Instr::Plain(Op::Num(0)))?;
     append_exit(actions, body)
 }
 

@@ -16,7 +16,7 @@ use arc_check::checked::Checked;
 use arc_code::effect::Height;
 use arc_code::instr::Instr;
 use arc_ir::action::{Action, Target};
-use arc_spec::class::{Class, Method};
+use arc_spec::class::{Class, Gives, Method};
 use arc_spec::event::NoMemory;
 use std::alloc::Global;
 
@@ -47,14 +47,15 @@ fn append_jump_to(
     actions: &mut Vec<Action>,
     program: &Checked,
     entries: &[usize],
+    wanted: Gives,
     count: usize,
     objects: usize,
     function: usize,
 ) -> Result<(), NoMemory>
-    ensures { OnOk result (orders actions.new.items ≡ orders actions.old.items ++ stub_orders (program_of program.now) entries.now count objects function) }
+    ensures { OnOk result (orders actions.new.items ≡ orders actions.old.items ++ stub_orders (program_of program.now) entries.now wanted count objects function) }
 {
-    append_passing(actions, program, function, count, objects)?;
-    let entry = entry_of(entries, number_of(program, function));
+    append_passing(actions, program, wanted, function, count, objects)?;
+    let entry = entry_of(entries, number_of(program, wanted, function));
     append(actions, Instr::Jump(Target::At(entry)))
 }
 
@@ -65,16 +66,17 @@ fn append_stub(
     actions: &mut Vec<Action>,
     program: &Checked,
     entries: &[usize],
+    wanted: Gives,
     count: usize,
     objects: usize,
     function: usize,
     most: &mut Height,
 ) -> Result<(), NoMemory>
-    ensures actions { OnOk result (orders actions.new.items ≡ orders actions.old.items ++ stub_orders (program_of program.now) entries.now count objects function) }
-    ensures most { OnOk result (most.new ≡ greatest (stub_heights (program_of program.now) entries.now count objects function) most.old) }
+    ensures actions { OnOk result (orders actions.new.items ≡ orders actions.old.items ++ stub_orders (program_of program.now) entries.now wanted count objects function) }
+    ensures most { OnOk result (most.new ≡ greatest (stub_heights (program_of program.now) entries.now wanted count objects function) most.old) }
 {
     let begin = actions.len();
-    append_jump_to(actions, program, entries, count, objects, function)?;
+    append_jump_to(actions, program, entries, wanted, count, objects, function)?;
     let first = passed(count, objects);
     *most = greatest(alloc, program, no_height(), first, &actions[begin..], *most)?;
     Ok(())
@@ -101,6 +103,7 @@ fn append_methods(
             selector: method.selector,
             takes: method.takes,
             objects: method.objects,
+            gives: method.gives,
             runs: actions.len(),
         })?;
         let count = numbers_passed(method.sign, method.takes)?;
@@ -109,6 +112,7 @@ fn append_methods(
             actions,
             program,
             entries,
+            method.gives,
             count,
             method.objects,
             method.runs,
@@ -136,7 +140,17 @@ fn append_dealloc(
         return Ok(None);
     };
     let place = actions.len();
-    append_stub(alloc, actions, program, entries, 0, 0, function, most)?;
+    append_stub(
+        alloc,
+        actions,
+        program,
+        entries,
+        Gives::Number,
+        0,
+        0,
+        function,
+        most,
+    )?;
     Ok(Some(place))
 }
 

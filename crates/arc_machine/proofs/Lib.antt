@@ -18,10 +18,12 @@ pub mod FieldStores
 pub mod FieldWords
 pub mod Fielded
 pub mod Fields
+pub mod Finding
 pub mod Finished
 pub mod Finishing
 pub mod Framed
 pub mod Globals
+pub mod Handed
 pub mod Holdings
 pub mod LastFields
 pub mod Letting
@@ -41,6 +43,7 @@ pub mod Put
 pub mod Putting
 pub mod Reading
 pub mod Replaced
+pub mod Settled
 pub mod Sliding
 pub mod Standings
 pub mod Starting

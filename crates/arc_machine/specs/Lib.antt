@@ -14,3 +14,4 @@ pub mod Storing
 pub mod Told
 pub mod Views
 pub mod Words
+pub mod Giving

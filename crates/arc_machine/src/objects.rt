@@ -7,7 +7,7 @@ ghost use Rattle.arc_machine.specs.declared.waiting.Waiting.{Waiting};
 ghost use Rattle.arc_machine.specs.declared.waiting.Waiting.TheVariants as waits;
 ghost use Rattle.arc_machine.specs.Cells.{Cell, IsCell, HasField, with_count, with_phase, with_value, with_word};
 ghost use Rattle.arc_machine.specs.Refusals.{Refuses};
-ghost use Rattle.arc_machine.specs.Standing.{NamesBlock, Alters, IsLast, NewIn, Turns, no_objects, memory_of, with_places, with_names, with_frames, with_globals, with_strong_globals, order_at, next_in, taking, dropping, declaring, undeclaring, words_of, entering, resuming};
+ghost use Rattle.arc_machine.specs.Standing.{NamesBlock, Alters, IsLast, NewIn, Turns, no_objects, memory_of, with_places, with_names, with_frames, with_globals, with_strong_globals, order_at, next_in, taking, dropping, declaring, undeclaring, words_of, entering, resuming, settling, handing_over};
 ghost use Rattle.arc_machine.specs.Words.{Took};
 
 use crate::cell;
@@ -197,6 +197,17 @@ impl<S: Store + Drop> Objects<S> {
         self.places.pop()
     }
 
+    /// The temporary before the last one is gone.
+    #[inline(always)]
+    pub fn settle(&mut self)
+        requires some { 1 < self.old.temporaries }
+        requires place { 1 < length self.old.places }
+        ensures { self.new ≡ settling self.old }
+    {
+        let _ = self.places.remove(1);
+        self.temporaries -= 1;
+    }
+
     /// A further variable, which is nil.
     #[inline(always)]
     pub fn declare(&mut self)
@@ -379,6 +390,26 @@ impl<S: Store + Drop> Objects<S> {
         self.temporaries = waiter.temporaries;
         self.variables = waiter.variables;
         self.receiver = waiter.receiver;
+    }
+
+    /// The running function is left with an object: its variables are gone but for the last one, its result. That is a
+    /// temporary of what waited for it, which runs on, and the last reference names it.
+    #[inline(always)]
+    pub fn hand_over(&mut self, waiter: Waiter)
+        requires waits { 0 < length self.old.frames }
+        requires some { 0 < self.old.variables }
+        requires places { self.old.variables ≤ length self.old.places }
+        requires few { waiter.temporaries < 2 ^ 64 - 1 }
+        requires names { length self.old.names < self.old.names_room }
+        ensures { self.new ≡ handing_over self.old waiter }
+    {
+        self.places.forget(self.variables - 1);
+        let result = self.places.top();
+        let _ = self.frames.pop();
+        self.temporaries = waiter.temporaries + 1;
+        self.variables = waiter.variables;
+        self.receiver = waiter.receiver;
+        self.names.push(result);
     }
 
     // ---- objects

@@ -1,23 +1,26 @@
 -- Calls, ends of objects and places that are dropped, of which the parts are known.
-use Rattle.std.proofs.Common.{arith, ◌≡◌, ℕ, zero, suc, ◌+◌, ◌-◌, ◌<◌, ◌≤◌, ℤ, pos, List, [], ◌∷◌, length, take, drop, reverse, get_or, Option, Some, None, option_map, Result, Err, slice_get, refl, sym, ap, subst, ◌∙◌}
+use Rattle.std.proofs.Common.{arith, ◌≡◌, ℕ, zero, suc, ◌+◌, ◌-◌, ◌<◌, ◌≤◌, ℤ, true, false, List, [], ◌∷◌, length, take, drop, reverse, get_or, Option, Some, None, option_map, Result, Err, slice_get, refl, sym, ap, subst, ◌∙◌}
 use Rattle.std.proofs.lemmas.List.{reverse-reverse, length-reverse, drop_more}
 use Rattle.std.proofs.lemmas.Option.{slice_get-map}
 use Rattle.arc_check.specs.declared.checked.CheckedFunction.{CheckedFunction}
 use Rattle.arc_check.specs.Checked.{functions, program_of}
 use Rattle.arc_spec.specs.declared.class.Class as declared
-use Rattle.arc_spec.specs.Classes.{Class, field_order, class_of, classes_of, superclasses, ancestry_within}
+use Rattle.arc_spec.specs.Classes.{Class, same_gives, field_order, class_of, classes_of, superclasses, ancestry_within}
 use Rattle.arc_spec.proofs.Deallocs.{dealloc_and_above, deallocs_from}
 use Rattle.arc_ast.specs.declared.tree.Sign.TheVariants as signs
-use Rattle.arc_spec.specs.Resolved.{Function, Program, no_commands}
+use Rattle.arc_spec.specs.declared.class.Gives.{Gives}
+use Rattle.arc_spec.specs.declared.class.Gives.TheVariants as gives
+use Rattle.arc_spec.specs.Resolved.{Function, Program}
 use Rattle.arc_spec.specs.declared.location.Location.TheVariants.{Local}
-use Rattle.arc_spec.specs.World.{Frame, World, Outcome, Done, then_do, Finished, finished, Given, entered, left, name_at, named_at, stores, with_temporaries}
+use Rattle.arc_spec.specs.World.{Frame, World, Outcome, Done, then_do, Finished, finished, Given, Answer, entered, left, name_at, named_at, stores, with_temporaries}
 use Rattle.arc_spec.specs.Objects.{Object, Emptying, object_at}
-use Rattle.arc_spec.specs.Meaning.{Deeper, Flow, given, called, all_executed, variables_dropped, released, temporaries_dropped, all_dropped, function_at, dealloc_run, deallocs_run, finds, sent_from, runs_found, field_dropped, fields_dropped, emptied, turned, class_in}
+use Rattle.arc_spec.specs.Meaning.{Deeper, Flow, given, gives_object, answer, function_places, nothing_giving, called, all_executed, variables_dropped, released, temporaries_dropped, all_dropped, function_at, dealloc_run, deallocs_run, finds, sent_from, runs_found, field_dropped, fields_dropped, emptied, turned, class_in}
 use Rattle.arc_plain.specs.declared.context.Context.{Context}
+use Rattle.arc_plain.specs.declared.given.Answered.{Answered}
 use Rattle.arc_plain.specs.declared.halt.Halt.{Halt}
-use Rattle.arc_plain.specs.Views.{Tells, left_at, function_of, named_in, cleared}
+use Rattle.arc_plain.specs.Views.{answer_of, Tells, left_at, function_of, named_in, cleared}
 use Rattle.arc_plain.proofs.Keeping.{Waits, Same, Steady, after_done, commands_wait, variables_wait, released_same}
-use Rattle.arc_plain.proofs.Turns.{tells_through, nothing_below, function_found, function_missing}
+use Rattle.arc_plain.proofs.Turns.{tells_through, nothing_below, giving_same, giving_other, function_found, function_missing}
 
 -- ---- calls
 
@@ -27,58 +30,76 @@ same_below old begun now count w1 w3 first last same below =
     let there : now ≡ begun = sym (reverse-reverse now) ∙ ap reverse (sym last ∙ (same ∙ first)) ∙ reverse-reverse begun in
     ap (take count) there ∙ below
 
-module _ (D : Deeper) (steady : Steady D) (bound : ℕ) (f : Function) (self : ℕ) (passed : Given) (w0 w1 : World) (begins : w1 ≡ entered f.slots f.names f.parameters self passed w0) where
+module _ (D : Deeper) (steady : Steady D) (bound : ℕ) (f : Function) (self : ℕ) (passed : Given) (w0 w1 : World) (begins : w1 ≡ entered f.slots (function_places f) f.parameters f.owns self passed w0) where
+  -- what follows the body
+  abbrev behind_call : Flow → World → Outcome Answer
+  behind_call flow v = then_do (variables_dropped D 0 f.names v) (λ _ v1. Done (answer f flow v1) (left w0 v1))
+
+  meant_call : called D bound f self passed w0 ≡ then_do (all_executed D bound f.body w1) behind_call
+  meant_call = ap (λ w. then_do (all_executed D bound f.body w) behind_call) (sym begins)
+
   -- a call whose body and whose variables were done
-  pub call_told : (w2 w3 w4 : World) (flow : Flow) (n : ℤ) (count : ℕ) (old begun now : List ℕ)
+  pub call_told : (w2 w3 w4 : World) (flow : Flow) (n : ℤ) (r count : ℕ) (old begun now : List ℕ)
       → all_executed D bound f.body w1 ≡ Done flow w2 → variables_dropped D 0 f.names w2 ≡ Done finished w3
       → w0.waiting ≡ reverse old → w1.waiting ≡ reverse begun → w3.waiting ≡ reverse now → take count begun ≡ old
-      → w4 ≡ left_at w0.frame (take count now) w3 → n ≡ given flow → called D bound f self passed w0 ≡ Done n w4
-  call_told w2 w3 w4 flow n count old begun now body dropped waits first last below leaves gives =
+      → w4 ≡ left_at w0.frame (take count now) w3 → n ≡ given flow → r ≡ name_at w3.frame.strong f.names → called D bound f self passed w0 ≡ Done (record { number = n; object = r }) w4
+  call_told w2 w3 w4 flow n r count old begun now body dropped waits first last below leaves gives names =
       let between : w2.waiting ≡ w1.waiting = after_done (Waits w1) (all_executed D bound f.body w1) flow w2 (commands_wait D steady bound f.body w1) body in
       let behind : w3.waiting ≡ w2.waiting = after_done (Waits w2) (variables_dropped D 0 f.names w2) finished w3 (variables_wait D steady 0 f.names w2) dropped in
       let back : reverse (take count now) ≡ w0.waiting = ap reverse (same_below old begun now count w1 w3 first last (behind ∙ between) below) ∙ sym waits in
       let there : w4 ≡ left w0 w3 = leaves ∙ ap (λ (l : List ℕ). record w3 { frame = w0.frame; waiting = l }) back in
-      let meant : called D bound f self passed w0 ≡ then_do (all_executed D bound f.body w1) (λ flow1 v1. then_do (variables_dropped D 0 f.names v1) (λ _ v2. Done (given flow1) (left w0 v2))) =
-      ap (λ w. then_do (all_executed D bound f.body w) (λ flow1 v1. then_do (variables_dropped D 0 f.names v1) (λ _ v2. Done (given flow1) (left w0 v2)))) (sym begins) in
-      meant ∙ ap (λ o. then_do o (λ flow1 v1. then_do (variables_dropped D 0 f.names v1) (λ _ v2. Done (given flow1) (left w0 v2)))) body
-      ∙ ap (λ o. then_do o (λ _ v2. Done (given flow) (left w0 v2))) dropped
-      ∙ ap (λ w. Done (given flow) w) (sym there) ∙ ap (λ m. Done m w4) (sym gives)
+      meant_call ∙ ap (λ o. then_do o behind_call) body
+      ∙ ap (λ o. then_do o (λ _ v1. Done (answer f flow v1) (left w0 v1))) dropped
+      ∙ ap (λ w. Done (answer f flow w3) w) (sym there)
+      ∙ ap (λ m. Done (record { number = m; object = name_at w3.frame.strong f.names }) w4) (sym gives)
+      ∙ ap (λ m. Done (record { number = n; object = m }) w4) (sym names)
 
   -- one whose body fails
-  pub body_failed : {A : Type 0} (view : A → Flow) (e : Halt) (r : Result ℤ Halt) (after : World) → r ≡ Err e → Tells view (Err e) (all_executed D bound f.body w1) after
-      → Tells (λ n. n) r (called D bound f self passed w0) after
+  pub body_failed : {A : Type 0} (view : A → Flow) (e : Halt) (r : Result Answered Halt) (after : World) → r ≡ Err e → Tells view (Err e) (all_executed D bound f.body w1) after
+      → Tells answer_of r (called D bound f self passed w0) after
   body_failed view e r after failed h =
-      let go = λ (flow1 : Flow) (v1 : World). then_do (variables_dropped D 0 f.names v1) (λ _ v2. Done (given flow1) (left w0 v2)) in
-      let meant : called D bound f self passed w0 ≡ then_do (all_executed D bound f.body w1) go = ap (λ w. then_do (all_executed D bound f.body w) go) (sym begins) in
-      subst (λ x. Tells (λ n. n) x (called D bound f self passed w0) after) (sym failed)
-      (tells_through e view (λ n. n) after go (all_executed D bound f.body w1) (called D bound f self passed w0) meant h)
+      subst (λ x. Tells answer_of x (called D bound f self passed w0) after) (sym failed)
+      (tells_through e view answer_of after behind_call (all_executed D bound f.body w1) (called D bound f self passed w0) meant_call h)
 
   -- one whose variables fail to be dropped
-  pub drop_failed : {A : Type 0} (view : A → Finished) (flow : Flow) (w2 : World) (e : Halt) (r : Result ℤ Halt) (after : World) → all_executed D bound f.body w1 ≡ Done flow w2 → r ≡ Err e
-      → Tells view (Err e) (variables_dropped D 0 f.names w2) after → Tells (λ n. n) r (called D bound f self passed w0) after
+  pub drop_failed : {A : Type 0} (view : A → Finished) (flow : Flow) (w2 : World) (e : Halt) (r : Result Answered Halt) (after : World) → all_executed D bound f.body w1 ≡ Done flow w2 → r ≡ Err e
+      → Tells view (Err e) (variables_dropped D 0 f.names w2) after → Tells answer_of r (called D bound f self passed w0) after
   drop_failed view flow w2 e r after body failed h =
-      let go = λ (flow1 : Flow) (v1 : World). then_do (variables_dropped D 0 f.names v1) (λ _ v2. Done (given flow1) (left w0 v2)) in
-      let meant : called D bound f self passed w0 ≡ then_do (variables_dropped D 0 f.names w2) (λ _ v2. Done (given flow) (left w0 v2)) =
-      ap (λ w. then_do (all_executed D bound f.body w) go) (sym begins) ∙ ap (λ o. then_do o go) body in
-      subst (λ x. Tells (λ n. n) x (called D bound f self passed w0) after) (sym failed)
-      (tells_through e view (λ n. n) after (λ _ v2. Done (given flow) (left w0 v2)) (variables_dropped D 0 f.names w2) (called D bound f self passed w0) meant h)
+      subst (λ x. Tells answer_of x (called D bound f self passed w0) after) (sym failed)
+      (tells_through e view answer_of after (λ _ v1. Done (answer f flow v1) (left w0 v1)) (variables_dropped D 0 f.names w2) (called D bound f self passed w0)
+      (meant_call ∙ ap (λ o. then_do o behind_call) body) h)
 
--- the function of a number, where it was found and where it wasn't
-pub function_there : (context : Context) (all : List CheckedFunction) (f : ℕ) (g : CheckedFunction) → all ≡ context.program.now.functions.items → f < length all → g ≡ get_or all f g
-    → function_at (program_of context.program.now) f ≡ function_of g
-function_there context all f g same below is =
-    let program = context.program.now in
-    ap (λ l. function_at (record { functions = functions l; main = program.main; globals = program.globals.items; strong_globals = program.strong_globals; classes = classes_of program.classes.items }) f) (sym same) ∙ function_found all (classes_of program.classes.items) program.globals.items program.strong_globals program.main f g below is
+-- the function of a number, where it was found, where it gives something else, and where there is none
+module _ (context : Context) (all : List CheckedFunction) (wanted : Gives) (f : ℕ) (same : all ≡ context.program.now.functions.items) where
+  same_functions : function_at (program_of context.program.now) wanted f
+      ≡ function_at (record { functions = functions all; main = context.program.now.main; globals = context.program.now.globals.items; strong_globals = context.program.now.strong_globals; classes = classes_of context.program.now.classes.items }) wanted f
+  same_functions =
+      let program = context.program.now in
+      ap (λ l. function_at (record { functions = functions l; main = program.main; globals = program.globals.items; strong_globals = program.strong_globals; classes = classes_of program.classes.items }) wanted f) (sym same)
 
-pub function_absent : (context : Context) (all : List CheckedFunction) (f : ℕ) → all ≡ context.program.now.functions.items → length all ≤ f
-    → function_at (program_of context.program.now) f ≡ record { slots = 0; names = 0; parameters = 0; body = no_commands }
-function_absent context all f same past =
-    let program = context.program.now in
-    ap (λ l. function_at (record { functions = functions l; main = program.main; globals = program.globals.items; strong_globals = program.strong_globals; classes = classes_of program.classes.items }) f) (sym same) ∙ function_missing all (classes_of program.classes.items) program.globals.items program.strong_globals program.main f past
+  pub function_there : (g : CheckedFunction) → f < length all → g ≡ get_or all f g → same_gives g.gives wanted ≡ true → function_at (program_of context.program.now) wanted f ≡ function_of g
+  function_there g below is gives =
+      let program = context.program.now in
+      same_functions ∙ function_found all (classes_of program.classes.items) program.globals.items program.strong_globals program.main wanted f g below is ∙ giving_same wanted (function_of g) gives
+
+  pub function_unwanted : (g : CheckedFunction) → f < length all → g ≡ get_or all f g → same_gives g.gives wanted ≡ false → function_at (program_of context.program.now) wanted f ≡ nothing_giving wanted
+  function_unwanted g below is other =
+      let program = context.program.now in
+      same_functions ∙ function_found all (classes_of program.classes.items) program.globals.items program.strong_globals program.main wanted f g below is ∙ giving_other wanted (function_of g) other
+
+  pub function_absent : length all ≤ f → function_at (program_of context.program.now) wanted f ≡ nothing_giving wanted
+  function_absent past =
+      let program = context.program.now in
+      same_functions ∙ function_missing all (classes_of program.classes.items) program.globals.items program.strong_globals program.main wanted f past
 
 -- a function that there isn't does nothing
-pub nothing_called : (D : Deeper) (bound self : ℕ) (passed : Given) (w : World) → called D bound (record { slots = 0; names = 0; parameters = 0; body = no_commands }) self passed w ≡ Done (pos 0) w
-nothing_called D bound self passed w = refl
+pub nothing_called : (D : Deeper) (bound self : ℕ) (wanted : Gives) (passed : Given) (w : World) → called D bound (nothing_giving wanted) self passed w ≡ Done (gives_object 0) w
+nothing_called D bound self gives.Number passed w = refl
+nothing_called D bound self gives.Object passed w = refl
+
+pub nothing_told : (D : Deeper) (bound self : ℕ) (wanted : Gives) (passed : Given) (w : World) (f : Function) (a : Answer) → f ≡ nothing_giving wanted → a ≡ gives_object 0 → called D bound f self passed w ≡ Done a w
+nothing_told D bound self wanted passed w f a is same =
+    ap (λ g. called D bound g self passed w) is ∙ nothing_called D bound self wanted passed w ∙ ap (λ x. Done x w) (sym same)
 
 -- ---- places that are dropped
 
@@ -144,10 +165,10 @@ no_temporary D whole w after old none rest same =
 -- ---- messages and ends of objects
 
 -- a message to what isn't nil
-pub object_sent : (D : Deeper) (from : Option ℕ) (self selector : ℕ) (passed : Given) (w : World) → 0 < self
-    → sent_from D from self selector passed w ≡ runs_found D (finds D from signs.Instance selector passed) self passed w
-object_sent D from zero selector passed w some = nothing_below some
-object_sent D from (suc k) selector passed w some = refl
+pub object_sent : (D : Deeper) (wanted : Gives) (from : Option ℕ) (self selector : ℕ) (passed : Given) (w : World) → 0 < self
+    → sent_from D wanted from self selector passed w ≡ runs_found D wanted (finds D wanted from signs.Instance selector passed) self selector passed w
+object_sent D wanted from zero selector passed w some = nothing_below some
+object_sent D wanted from (suc k) selector passed w some = refl
 
 module _ (P : Program) (D : Deeper) (bound : ℕ) (all : List declared.Class) (o : ℕ) (classes : P.classes ≡ classes_of all) where
   found_here : (number : ℕ) (c : Option declared.Class) → slice_get all number ≡ c → slice_get P.classes number ≡ option_map class_of c

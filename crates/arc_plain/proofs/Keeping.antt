@@ -1,17 +1,19 @@
 -- What a part of a program leaves as it was: the places that wait and, where only objects end, the running function.
-use Rattle.std.proofs.Common.{◌≡◌, ℕ, zero, suc, ◌+◌, ℤ, pos, List, [], ◌∷◌, Option, Some, None, Bool, true, false, not, ◌&&◌, slice_get, refl, ◌∙◌}
+use Rattle.std.proofs.Common.{◌≡◌, ℕ, zero, suc, ◌+◌, ℤ, pos, List, [], ◌∷◌, length, Option, Some, None, Bool, true, false, not, ◌&&◌, slice_get, refl, ◌∙◌}
 use Rattle.std.specs.Prelude.{slice_set, slice_index_or, if◌then◌else◌}
 use Rattle.arc_ast.specs.declared.tree.BinaryOperator.{BinaryOperator}
 use Rattle.arc_ast.specs.declared.tree.Kind.{Kind}
-use Rattle.arc_spec.specs.Classes.{superclasses, ancestry, own_dealloc, class_at, descends, field_order}
+use Rattle.arc_spec.specs.declared.class.Gives.{Gives}
+use Rattle.arc_spec.specs.declared.class.Gives.TheVariants as gives
+use Rattle.arc_spec.specs.Classes.{superclasses, ancestry, own_dealloc, class_at, descends, field_order, is_root_init, init_selector}
 use Rattle.arc_spec.specs.Number.{converted, applied, combined, is_zero}
 use Rattle.arc_spec.specs.Objects.{Object, Phase, Emptying, is_emptying, object_at, is_live, names, with_object, with_fields}
 use Rattle.arc_ast.specs.declared.tree.Sign.TheVariants as signs
 use Rattle.arc_spec.specs.declared.location.Location.{Location}
 use Rattle.arc_spec.specs.declared.location.Location.TheVariants.{Local, Global}
-use Rattle.arc_spec.specs.Resolved.{Value, Number, ReadByte, Print, Applied, Combined, Choice, Converted, Read, Assigned, Updated, Invoked, Sent, Receiver, ClassValue, ClassSuper, ObjectValue, ObjectSuper, Field, FieldAssigned, FieldUpdated, Differ, IsObject, Reference, Nil, Itself, Variable, Chosen, Stored, ObjectField, ObjectFieldStored, Made, Initialized, Arguments, no_arguments, number_argument, object_argument, Command, Sequence, Evaluate, EvaluateReference, Begin, Return, Choose, Repeat, RepeatAfter, Break, Continue, Commands, no_commands, and_command, Function, Program}
-use Rattle.arc_spec.specs.World.{World, Outcome, Done, Faulted, Cut, then_do, Finished, finished, places, prints, Given, nothing_given, entered, left, takes, named_at, stores, with_temporaries, with_objects, name_at}
-use Rattle.arc_spec.specs.Meaning.{Deeper, held_at, holds, formatted, byte_count, or_fault, updated, given_by, released, temporaries_dropped, all_dropped, assigned, variables_dropped, and_number, and_object, dispatched, finds, runs_found, class_in, sent_from, Target, ToClass, ToObject, ToSuper, sent, made, in_object, field_read, field_set, object_field_read, field_stores, field_assigned, object_field_set, difference, evaluated, referred, received, all_evaluated, whole, whole_reference, begun, Flow, Normal, Broken, Continued, Returned, if_normal, in_turn, after_body, chosen, turns, turns_after, scope_left, normally, executed, all_executed, given, function_at, called, dealloc_run, deallocs_run, turned, gone, dying, field_dropped, fields_dropped, emptied, ended, level}
+use Rattle.arc_spec.specs.Resolved.{Value, Number, ReadByte, Print, Applied, Combined, Choice, Converted, Read, Assigned, Updated, Invoked, Sent, Receiver, ClassValue, ClassSuper, ObjectValue, ObjectSuper, Field, FieldAssigned, FieldUpdated, Differ, IsObject, Reference, Nil, Itself, Variable, Chosen, Stored, ObjectField, ObjectFieldStored, Made, New, ObjectInvoked, ObjectSent, Arguments, no_arguments, number_argument, object_argument, Command, Sequence, Evaluate, EvaluateReference, Begin, Return, Give, Choose, Repeat, RepeatAfter, Break, Continue, Commands, no_commands, and_command, Function, Program}
+use Rattle.arc_spec.specs.World.{World, Outcome, Done, Faulted, Cut, then_do, Finished, finished, places, prints, Given, nothing_given, Answer, entered, left, takes, named_at, stores, with_temporaries, with_objects, name_at}
+use Rattle.arc_spec.specs.Meaning.{Deeper, held_at, holds, formatted, byte_count, or_fault, updated, given_by, released, temporaries_dropped, all_dropped, assigned, variables_dropped, and_number, and_object, dispatched, finds, gives_object, runs_found, class_in, sent_from, Target, ToClass, ToObject, ToSuper, sent, number_given, object_given, made, second_dropped, made_new, new_found, new_sent, in_object, field_read, field_set, object_field_read, field_stores, field_assigned, object_field_set, difference, evaluated, referred, received, all_evaluated, whole, whole_reference, begun, result_place, Flow, Normal, Broken, Continued, Returned, if_normal, in_turn, after_body, chosen, turns, turns_after, scope_left, normally, executed, all_executed, answer, function_places, function_at, called, dealloc_run, deallocs_run, turned, gone, dying, field_dropped, fields_dropped, emptied, ended, level}
 
 -- what holds of the world behind a part that was done
 abbrev pub After : {A : Type 0} → (World → Type 0) → Outcome A → Type 0
@@ -71,20 +73,22 @@ after_chosen P false x y h k = h
 
 -- a level at which calls and ends leave these as they were
 pub record Steady (D : Deeper) : Type 0 where
-  pub calls : (f self : ℕ) (passed : Given) (w : World) → After (Same w) (D.call f self passed w)
+  pub calls : (wanted : Gives) (f self : ℕ) (passed : Given) (w : World) → After (Same w) (D.call wanted f self passed w)
   pub ends : (o : ℕ) (w : World) → After (Same w) (D.end_of o w)
 
 called_same : (D : Deeper) (bound : ℕ) (f : Function) (self : ℕ) (passed : Given) (w : World) → After (Same w) (called D bound f self passed w)
 called_same D bound f self passed w =
-    after_then (λ w1. Unit {0}) (Same w) (all_executed D bound f.body (entered f.slots f.names f.parameters self passed w)) (λ flow w1. then_do (variables_dropped D 0 f.names w1) (λ _ w2. Done (given flow) (left w w2)))
-    (after_any (all_executed D bound f.body (entered f.slots f.names f.parameters self passed w)))
-    (λ flow w1 _. after_then (λ w2. Unit {0}) (Same w) (variables_dropped D 0 f.names w1) (λ _ w2. Done (given flow) (left w w2))
+    let begins = entered f.slots (function_places f) f.parameters f.owns self passed w in
+    after_then (λ w1. Unit {0}) (Same w) (all_executed D bound f.body begins) (λ flow w1. then_do (variables_dropped D 0 f.names w1) (λ _ w2. Done (answer f flow w2) (left w w2)))
+    (after_any (all_executed D bound f.body begins))
+    (λ flow w1 _. after_then (λ w2. Unit {0}) (Same w) (variables_dropped D 0 f.names w1) (λ _ w2. Done (answer f flow w2) (left w w2))
     (after_any (variables_dropped D 0 f.names w1)) (λ _ w2 _. record { frame = refl; waiting = refl }))
 
 dealloc_same : (P : Program) (D : Deeper) (bound : ℕ) (f : Option ℕ) (o : ℕ) (w : World) → After (Same w) (dealloc_run P D bound f o w)
 dealloc_same P D bound None o w = same_refl w
 dealloc_same P D bound (Some f) o w =
-    same_then w (called D bound (function_at P f) o nothing_given w) (λ _ w1. Done finished w1) (called_same D bound (function_at P f) o nothing_given w) (λ _ w1. same_refl w1)
+    let function = function_at P gives.Number f in
+    same_then w (called D bound function o nothing_given w) (λ _ w1. Done finished w1) (called_same D bound function o nothing_given w) (λ _ w1. same_refl w1)
 
 deallocs_same : (P : Program) (D : Deeper) (bound : ℕ) (classes : List ℕ) (o : ℕ) (w : World) → After (Same w) (deallocs_run P D bound classes o w)
 deallocs_same P D bound [] o w = same_refl w
@@ -136,9 +140,9 @@ ended_same P D steady bound o w =
     (λ _ w1. same_then w1 (emptied D o (object_at w1.objects o) w1) (λ _ w2. gone o w2) (emptied_same D steady o (object_at w1.objects o) w1) (λ _ w2. gone_same o w2)))
 
 pub level_steady : (P : Program) (bound levels : ℕ) → Steady (level P bound levels)
-level_steady P bound zero = record { calls = λ f self passed w. tt; ends = λ o w. tt }
+level_steady P bound zero = record { calls = λ wanted f self passed w. tt; ends = λ o w. tt }
 level_steady P bound (suc n) = record {
-  calls = λ f self passed w. called_same (level P bound n) bound (function_at P f) self passed w;
+  calls = λ wanted f self passed w. called_same (level P bound n) bound (function_at P wanted f) self passed w;
   ends = λ o w. ended_same P (level P bound n) (level_steady P bound n) bound o w;
 }
 
@@ -167,29 +171,58 @@ module _ (D : Deeper) (steady : Steady D) where
 
   -- ---- expressions
 
-  call_waits : (f self : ℕ) (passed : Given) (w : World) → After (Waits w) (D.call f self passed w)
-  call_waits f self passed w = after_weaker (Same w) (Waits w) (D.call f self passed w) (λ w1 s. s.waiting) (steady.calls f self passed w)
+  call_waits : (wanted : Gives) (f self : ℕ) (passed : Given) (w : World) → After (Waits w) (D.call wanted f self passed w)
+  call_waits wanted f self passed w = after_weaker (Same w) (Waits w) (D.call wanted f self passed w) (λ w1 s. s.waiting) (steady.calls wanted f self passed w)
 
-  dispatched_waits : (f : Option ℕ) (class : ℤ) (passed : Given) (w : World) → After (Waits w) (dispatched D f class passed w)
-  dispatched_waits None class passed w = tt
-  dispatched_waits (Some f) class passed w = call_waits f 0 (and_number class passed) w
+  dispatched_waits : (wanted : Gives) (f : Option ℕ) (class : ℤ) (passed : Given) (w : World) → After (Waits w) (dispatched D wanted f class passed w)
+  dispatched_waits wanted None class passed w = tt
+  dispatched_waits wanted (Some f) class passed w = call_waits wanted f 0 (and_number class passed) w
 
-  found_waits : (f : Option ℕ) (self : ℕ) (passed : Given) (w : World) → After (Waits w) (runs_found D f self passed w)
-  found_waits None self passed w = tt
-  found_waits (Some f) self passed w = call_waits f self passed w
+  found_waits : (wanted : Gives) (f : Option ℕ) (self selector : ℕ) (passed : Given) (w : World) → After (Waits w) (runs_found D wanted f self selector passed w)
+  found_waits wanted None self selector passed w =
+      after_if (Waits w) (is_root_init selector (length passed.numbers) (length passed.objects) wanted) (Done (gives_object self) w) (Faulted _ w) refl tt
+  found_waits wanted (Some f) self selector passed w = call_waits wanted f self passed w
 
-  sent_waits : (from : Option ℕ) (self selector : ℕ) (passed : Given) (w : World) → After (Waits w) (sent_from D from self selector passed w)
-  sent_waits from zero selector passed w = refl
-  sent_waits from (suc k) selector passed w = found_waits _ (suc k) passed w
+  sent_waits : (wanted : Gives) (from : Option ℕ) (self selector : ℕ) (passed : Given) (w : World) → After (Waits w) (sent_from D wanted from self selector passed w)
+  sent_waits wanted from zero selector passed w = refl
+  sent_waits wanted from (suc k) selector passed w = found_waits wanted _ (suc k) selector passed w
 
-  target_waits : (target : Target) (selector : ℕ) (passed : Given) (w : World) → After (Waits w) (sent D target selector passed w)
-  target_waits (ToClass from class) selector passed w = dispatched_waits (finds D from signs.Class selector passed) class passed w
-  target_waits (ToObject self) selector passed w = sent_waits (class_in (object_at w.objects self)) self selector passed w
-  target_waits (ToSuper from self) selector passed w = sent_waits (Some from) self selector passed w
+  target_waits : (wanted : Gives) (target : Target) (selector : ℕ) (passed : Given) (w : World) → After (Waits w) (sent D wanted target selector passed w)
+  target_waits wanted (ToClass from class) selector passed w = dispatched_waits wanted (finds D wanted from signs.Class selector passed) class passed w
+  target_waits wanted (ToObject self) selector passed w = sent_waits wanted (class_in (object_at w.objects self)) self selector passed w
+  target_waits wanted (ToSuper from self) selector passed w = sent_waits wanted (Some from) self selector passed w
+
+  number_waits : (o : Outcome Answer) (w : World) → After (Waits w) o → After (Waits w) (number_given o)
+  number_waits o w h = waits_then w o (λ a w1. Done a.number w1) h (λ a w1. refl)
+
+  object_waits : (o : Outcome Answer) (w : World) → After (Waits w) o → After (Waits w) (object_given o)
+  object_waits o w h = waits_then w o (λ a w1. Done a.object (takes a.object w1)) h (λ a w1. refl)
 
   made_waits : (class : Option ℕ) (w : World) → After (Waits w) (made D class w)
   made_waits None w = tt
   made_waits (Some c) w = refl
+
+  second_waits : (all : List ℕ) (w : World) → After (Waits w) (second_dropped D all w)
+  second_waits [] w = refl
+  second_waits (r ∷ []) w = refl
+  second_waits (r ∷ made_first ∷ others) w =
+      let next = with_temporaries w (r ∷ others) in
+      after_weaker (Same next) (Waits w) (released D made_first next) (λ w1 s. s.waiting) (released_same D steady made_first next)
+
+  made_new_waits : (class : Option ℕ) (w : World) → After (Waits w) (made_new D class w)
+  made_new_waits class w =
+      let last : ℕ → World → Outcome ℕ = λ a w2. then_do (second_dropped D w2.frame.temporaries w2) (λ _ w3. Done a w3) in
+      let initialized : ℕ → World → Outcome ℕ = λ r w1. object_given (sent D gives.Object (ToObject r) init_selector nothing_given w1) in
+      waits_then w (made D class w) (λ r w1. then_do (initialized r w1) last) (made_waits class w)
+      (λ r w1. waits_then w1 (initialized r w1) last
+      (object_waits (sent D gives.Object (ToObject r) init_selector nothing_given w1) w1 (target_waits gives.Object (ToObject r) init_selector nothing_given w1))
+      (λ a w2. waits_then w2 (second_dropped D w2.frame.temporaries w2) (λ _ w3. Done a w3) (second_waits w2.frame.temporaries w2) (λ _ w3. refl)))
+
+  new_waits : (f : Option ℕ) (class : ℤ) (w : World) → After (Waits w) (new_found D f class w)
+  new_waits None class w = made_new_waits (class_at class) w
+  new_waits (Some f) class w =
+      let passed = and_number class nothing_given in
+      object_waits (D.call gives.Object f 0 passed w) w (call_waits gives.Object f 0 passed w)
 
   in_object_waits : {A : Type 0} (class : ℕ) (ob : Option Object) (go : Object → Outcome A) (w : World) → ((o : Object) → After (Waits w) (go o)) → After (Waits w) (in_object D class ob go w)
   in_object_waits class None go w h = tt
@@ -245,10 +278,13 @@ module _ (D : Deeper) (steady : Steady D) where
         let stored : ℤ → World → Outcome ℤ = λ new w2. Done (given_by moment old new) (holds i new w2) in
         waits_then w (evaluated D a w) (λ x w1. then_do (updated operator computed kept old x w1) stored) (value_waits a w)
         (λ x w1. waits_then w1 (updated operator computed kept old x w1) stored (updated_waits operator computed kept old x w1) (λ new w2. holds_waits i new w2))
-    value_waits (Invoked f arguments) w = waits_then w (all_evaluated D arguments w) (λ passed w1. D.call f 0 passed w1) (arguments_wait arguments w) (λ passed w1. call_waits f 0 passed w1)
+    value_waits (Invoked f arguments) w = waits_then w (all_evaluated D arguments w) (λ passed w1. number_given (D.call gives.Number f 0 passed w1)) (arguments_wait arguments w)
+        (λ passed w1. number_waits (D.call gives.Number f 0 passed w1) w1 (call_waits gives.Number f 0 passed w1))
     value_waits (Sent receiver selector arguments) w =
-        waits_then w (received D receiver w) (λ target w1. then_do (all_evaluated D arguments w1) (λ passed w2. sent D target selector passed w2)) (receiver_waits receiver w)
-        (λ target w1. waits_then w1 (all_evaluated D arguments w1) (λ passed w2. sent D target selector passed w2) (arguments_wait arguments w1) (λ passed w2. target_waits target selector passed w2))
+        let go : Target → Given → World → Outcome ℤ = λ target passed w2. number_given (sent D gives.Number target selector passed w2) in
+        waits_then w (received D receiver w) (λ target w1. then_do (all_evaluated D arguments w1) (go target)) (receiver_waits receiver w)
+        (λ target w1. waits_then w1 (all_evaluated D arguments w1) (go target) (arguments_wait arguments w1)
+        (λ passed w2. number_waits (sent D gives.Number target selector passed w2) w2 (target_waits gives.Number target selector passed w2)))
     value_waits (Field a class index) w =
         waits_then w (referred D a w) (λ r w1. field_read D r class index w1) (reference_waits a w)
         (λ r w1. read_waits r class index w1)
@@ -288,13 +324,21 @@ module _ (D : Deeper) (steady : Steady D) where
         (λ r w1. waits_then w1 (referred D b w1) (set r) (reference_waits b w1)
         (λ value w2. waits_then w2 (object_field_set D r class index value w2) (taken value) (object_set_waits r class index value w2) (λ _ w3. refl)))
     reference_waits (Made a) w = waits_then w (evaluated D a w) (λ class w1. made D (class_at class) w1) (value_waits a w) (λ class w1. made_waits (class_at class) w1)
-    reference_waits (Initialized a) w = waits_then w (referred D a w) (λ r w1. Done r (takes r w1)) (reference_waits a w) (λ r w1. refl)
+    reference_waits (New from a) w = waits_then w (evaluated D a w) (λ class w1. new_sent D from class w1) (value_waits a w) (λ class w1. new_waits _ class w1)
+    reference_waits (ObjectInvoked f arguments) w =
+        waits_then w (all_evaluated D arguments w) (λ passed w1. object_given (D.call gives.Object f 0 passed w1)) (arguments_wait arguments w)
+        (λ passed w1. object_waits (D.call gives.Object f 0 passed w1) w1 (call_waits gives.Object f 0 passed w1))
+    reference_waits (ObjectSent receiver selector arguments) w =
+        let go : Target → Given → World → Outcome ℕ = λ target passed w2. object_given (sent D gives.Object target selector passed w2) in
+        waits_then w (received D receiver w) (λ target w1. then_do (all_evaluated D arguments w1) (go target)) (receiver_waits receiver w)
+        (λ target w1. waits_then w1 (all_evaluated D arguments w1) (go target) (arguments_wait arguments w1)
+        (λ passed w2. object_waits (sent D gives.Object target selector passed w2) w2 (target_waits gives.Object target selector passed w2)))
 
     receiver_waits : (receiver : Receiver) (w : World) → After (Waits w) (received D receiver w)
     receiver_waits (ClassValue a) w = waits_then w (evaluated D a w) (λ class w1. Done (ToClass (class_at class) class) w1) (value_waits a w) (λ class w1. refl)
     receiver_waits (ClassSuper from) w = refl
     receiver_waits (ObjectValue a) w = waits_then w (referred D a w) (λ self w1. Done (ToObject self) w1) (reference_waits a w) (λ self w1. refl)
-    receiver_waits (ObjectSuper from) w = refl
+    receiver_waits (ObjectSuper a from) w = waits_then w (referred D a w) (λ self w1. Done (ToSuper from self) w1) (reference_waits a w) (λ self w1. refl)
 
     arguments_wait : (all : Arguments) (w : World) → After (Waits w) (all_evaluated D all w)
     arguments_wait no_arguments w = refl
@@ -376,6 +420,9 @@ module _ (D : Deeper) (steady : Steady D) where
     command_waits bound (Begin i a) w = normally_waits (begun D i a w) w (begun_waits i a w)
     command_waits bound (Return None) w = refl
     command_waits bound (Return (Some a)) w = waits_then w (whole D a w) (λ v w1. Done (Returned v) w1) (whole_waits a w) (λ v w1. refl)
+    command_waits bound (Give a) w =
+        let place = result_place w in
+        waits_then w (begun D place a w) (λ _ w1. Done (Returned (pos 0)) w1) (begun_waits place a w) (λ _ w1. refl)
     command_waits bound (Choose test a b) w =
         waits_then w (whole D test w) (λ v w1. chosen (is_zero v) (executed D bound a w1) (executed D bound b w1)) (whole_waits test w)
         (λ v w1. after_chosen (Waits w1) (is_zero v) (executed D bound a w1) (executed D bound b w1) (command_waits bound a w1) (command_waits bound b w1))

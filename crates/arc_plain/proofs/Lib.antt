@@ -6,3 +6,5 @@ pub mod Whole
 pub mod Keeping
 pub mod Calls
 pub mod Objects
+pub mod Results
+pub mod Places

@@ -1,4 +1,5 @@
 -- The interpreter's loops, and its parts' failures.
+use Rattle.std.specs.Prelude.{if◌then◌else◌}
 use Rattle.std.proofs.Common.{rules, Bool, true, ◌≡◌, ℕ, zero, suc, ◌+◌, ◌-◌, ◌<◌, ◌≤◌, ℤ, false, List, [], ◌∷◌, ◌++◌, length, get_or, drop, Option, Some, None, Result, Err, Box, Global, append_assoc, refl, sym, ap, subst, ◌∙◌}
 use Rattle.std.proofs.lemmas.List.{drop_more}
 use native.Mathlib.Omega.{arith}
@@ -8,15 +9,16 @@ use Rattle.arc_check.specs.declared.checked.Reference.{Reference}
 use Rattle.arc_check.specs.declared.checked.Argument as g
 use Rattle.arc_check.specs.declared.checked.Argument.{Argument}
 use Rattle.arc_check.specs.Checked.{functions, value, reference, arguments, and_argument, command}
+use Rattle.arc_spec.specs.declared.class.Gives.{Gives}
 use Rattle.arc_spec.specs.Resolved as resolved
-use Rattle.arc_spec.specs.Classes.{Class}
+use Rattle.arc_spec.specs.Classes.{Class, same_gives}
 use Rattle.arc_spec.specs.World.{World, Outcome, Done, Faulted, Cut, then_do, Given}
 use Rattle.arc_spec.specs.Number.{is_zero}
 use Rattle.arc_check.specs.declared.checked.CheckedFunction.{CheckedFunction}
 use Rattle.arc_plain.specs.declared.halt.Halt.{Halt}
 use Rattle.arc_plain.specs.declared.halt.Halt.TheVariants.{Stopped, Cut, Memory}
 use Rattle.arc_spec.specs.Meaning as meaning
-use Rattle.arc_spec.specs.Meaning.{Deeper, Normal, Broken, Continued, Returned, level, called, and_number, and_object, turns, turns_after, chosen, if_normal, in_turn, after_body, function_at, ended, evaluated, referred, all_evaluated, executed}
+use Rattle.arc_spec.specs.Meaning.{Deeper, Normal, Broken, Continued, Returned, level, called, and_number, and_object, turns, turns_after, chosen, if_normal, in_turn, after_body, nothing_giving, function_at, ended, evaluated, referred, all_evaluated, executed}
 use Rattle.arc_plain.specs.declared.statement.Flow.{Flow}
 use Rattle.arc_plain.specs.Views.{Tells, flow_of, function_of, leaving, step_of, test_of, behind_body, turn_of}
 
@@ -212,9 +214,9 @@ turn_after_failed view bound i test body whole e r w after below old failed h =
     (tells_through e view flow_of after (λ o w1. goes_on o (turns_after (bound - (i + 1)) test body) w1) (turn_of (test_of test) body w) whole (turns_after_on bound i test body whole w below old) h)
 
 -- a call and an end, one level deeper
-pub call_is : (P : resolved.Program) (bound levels n f self : ℕ) (passed : Given) (w : World) → levels ≡ suc n
-    → (level P bound levels).call f self passed w ≡ called (level P bound n) bound (function_at P f) self passed w
-call_is P bound levels n f self passed w is = ap (λ m. (level P bound m).call f self passed w) is
+pub call_is : (P : resolved.Program) (bound levels n : ℕ) (wanted : Gives) (f self : ℕ) (passed : Given) (w : World) → levels ≡ suc n
+    → (level P bound levels).call wanted f self passed w ≡ called (level P bound n) bound (function_at P wanted f) self passed w
+call_is P bound levels n wanted f self passed w is = ap (λ m. (level P bound m).call wanted f self passed w) is
 
 pub end_is : (P : resolved.Program) (bound levels n o : ℕ) (w : World) → levels ≡ suc n → (level P bound levels).end_of o w ≡ ended P (level P bound n) bound o w
 end_is P bound levels n o w is = ap (λ m. (level P bound m).end_of o w) is
@@ -224,14 +226,24 @@ pub level_classes : (P : resolved.Program) (bound levels : ℕ) → (level P bou
 level_classes P bound zero = refl
 level_classes P bound (suc n) = refl
 
-pub function_found : (cs : List CheckedFunction) (classes : List Class) (globals : List ℤ) (strong main f : ℕ) (g : CheckedFunction) → f < length cs → g ≡ get_or cs f g
-    → function_at (record { functions = functions cs; main = main; globals = globals; strong_globals = strong; classes = classes }) f ≡ function_of g
-function_found [] classes globals strong main f g below is = nothing_below below
-function_found (c ∷ cs) classes globals strong main zero g below is = ap function_of (sym is)
-function_found (c ∷ cs) classes globals strong main (suc f) g below is = function_found cs classes globals strong main f g (omega (arith, below)) is
+-- the function of a number, where it gives what is wanted
+abbrev pub giving : Gives → resolved.Function → resolved.Function
+giving wanted f = if same_gives f.gives wanted then f else nothing_giving wanted
 
-pub function_missing : (cs : List CheckedFunction) (classes : List Class) (globals : List ℤ) (strong main f : ℕ) → length cs ≤ f
-    → function_at (record { functions = functions cs; main = main; globals = globals; strong_globals = strong; classes = classes }) f ≡ record { slots = 0; names = 0; parameters = 0; body = resolved.no_commands }
-function_missing [] classes globals strong main f past = refl
-function_missing (c ∷ cs) classes globals strong main zero past = nothing_below past
-function_missing (c ∷ cs) classes globals strong main (suc f) past = function_missing cs classes globals strong main f (omega (arith, past))
+pub giving_same : (wanted : Gives) (f : resolved.Function) → same_gives f.gives wanted ≡ true → giving wanted f ≡ f
+giving_same wanted f same = ap (λ b. if b then f else nothing_giving wanted) same
+
+pub giving_other : (wanted : Gives) (f : resolved.Function) → same_gives f.gives wanted ≡ false → giving wanted f ≡ nothing_giving wanted
+giving_other wanted f other = ap (λ b. if b then f else nothing_giving wanted) other
+
+pub function_found : (cs : List CheckedFunction) (classes : List Class) (globals : List ℤ) (strong main : ℕ) (wanted : Gives) (f : ℕ) (g : CheckedFunction) → f < length cs → g ≡ get_or cs f g
+    → function_at (record { functions = functions cs; main = main; globals = globals; strong_globals = strong; classes = classes }) wanted f ≡ giving wanted (function_of g)
+function_found [] classes globals strong main wanted f g below is = nothing_below below
+function_found (c ∷ cs) classes globals strong main wanted zero g below is = ap (λ x. giving wanted (function_of x)) (sym is)
+function_found (c ∷ cs) classes globals strong main wanted (suc f) g below is = function_found cs classes globals strong main wanted f g (omega (arith, below)) is
+
+pub function_missing : (cs : List CheckedFunction) (classes : List Class) (globals : List ℤ) (strong main : ℕ) (wanted : Gives) (f : ℕ) → length cs ≤ f
+    → function_at (record { functions = functions cs; main = main; globals = globals; strong_globals = strong; classes = classes }) wanted f ≡ nothing_giving wanted
+function_missing [] classes globals strong main wanted f past = refl
+function_missing (c ∷ cs) classes globals strong main wanted zero past = nothing_below past
+function_missing (c ∷ cs) classes globals strong main wanted (suc f) past = function_missing cs classes globals strong main wanted f (omega (arith, past))

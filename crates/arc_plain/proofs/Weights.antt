@@ -1,6 +1,7 @@
 -- How much of a program is left to go through: the interpreter ends, since that falls with each call.
 use Rattle.std.proofs.Common.{arith, ◌≡◌, ℕ, zero, suc, ◌+◌, ◌<◌, ◌≤◌, List, [], ◌∷◌, Some, None, Vec, Box, Global, length, get_or, sym, ap, subst}
 use Rattle.arc_check.specs.declared.checked.Value as c
+use Rattle.arc_check.specs.declared.checked.Reference as r
 use Rattle.arc_check.specs.declared.checked.Receiver as rc
 use Rattle.arc_check.specs.declared.checked.Argument as g
 use Rattle.arc_check.specs.declared.checked.Argument.TheVariants.{Number', Object'}
@@ -8,9 +9,9 @@ use Rattle.arc_check.specs.declared.checked.Command as d
 use Rattle.arc_check.specs.declared.checked.Piece.{Piece}
 use Rattle.arc_check.specs.declared.checked.CheckedFunction.{CheckedFunction}
 use Rattle.arc_check.specs.declared.checked.Checked.{Checked}
-use Rattle.arc_spec.specs.Resolved.{Value, Number, ReadByte, Print, Applied, Combined, Choice, Converted, Read, Assigned, Updated, Invoked, Sent, Receiver, ClassValue, ClassSuper, ObjectValue, ObjectSuper, Field, FieldAssigned, FieldUpdated, Differ, IsObject, Reference, Nil, Itself, Variable, Chosen, Stored, ObjectField, ObjectFieldStored, Made, Initialized, Arguments, no_arguments, number_argument, object_argument, Command, Sequence, Evaluate, EvaluateReference, Begin, Return, Choose, Repeat, RepeatAfter, Break, Continue, Commands, no_commands, and_command, Function}
-use Rattle.arc_check.specs.Checked.{program_of, functions, value, arguments, and_argument, receiver, command, commands}
-use Rattle.arc_check.proofs.Trees.{is_print, is_invoked, is_sent, is_sequence}
+use Rattle.arc_spec.specs.Resolved.{Value, Number, ReadByte, Print, Applied, Combined, Choice, Converted, Read, Assigned, Updated, Invoked, Sent, Receiver, ClassValue, ClassSuper, ObjectValue, ObjectSuper, Field, FieldAssigned, FieldUpdated, Differ, IsObject, Reference, Nil, Itself, Variable, Chosen, Stored, ObjectField, ObjectFieldStored, Made, New, ObjectInvoked, ObjectSent, Arguments, no_arguments, number_argument, object_argument, Command, Sequence, Evaluate, EvaluateReference, Begin, Return, Give, Choose, Repeat, RepeatAfter, Break, Continue, Commands, no_commands, and_command, Function}
+use Rattle.arc_check.specs.Checked.{program_of, functions, value, arguments, and_argument, reference, receiver, command, commands}
+use Rattle.arc_check.proofs.Trees.{is_print, is_invoked, is_sent, is_object_invoked, is_object_sent, is_sequence}
 use Rattle.arc_plain.proofs.Turns.{nothing_below}
 use Rattle.arc_plain.specs.declared.context.Context.{Context}
 
@@ -43,13 +44,15 @@ abbrev mutual
   reference_weight (ObjectField a class index) = suc (reference_weight a)
   reference_weight (ObjectFieldStored a class index b) = 4 + reference_weight a + reference_weight b
   reference_weight (Made a) = suc (value_weight a)
-  reference_weight (Initialized a) = suc (reference_weight a)
+  reference_weight (New from a) = 5 + value_weight a
+  reference_weight (ObjectInvoked f arguments) = 2 + arguments_weight arguments
+  reference_weight (ObjectSent receiver selector arguments) = 3 + receiver_weight receiver + arguments_weight arguments
 
   pub receiver_weight : Receiver → ℕ
   receiver_weight (ClassValue a) = suc (value_weight a)
   receiver_weight (ClassSuper from) = 1
   receiver_weight (ObjectValue a) = suc (reference_weight a)
-  receiver_weight (ObjectSuper from) = 1
+  receiver_weight (ObjectSuper a from) = suc (reference_weight a)
 
   pub arguments_weight : Arguments → ℕ
   arguments_weight no_arguments = 0
@@ -65,9 +68,10 @@ abbrev mutual
   command_weight (Sequence first count all) = 4 + commands_weight all
   command_weight (Evaluate a) = 4 + value_weight a
   command_weight (EvaluateReference a) = 3 + reference_weight a
-  command_weight (Begin i a) = 3 + reference_weight a
+  command_weight (Begin i a) = 4 + reference_weight a
   command_weight (Return None) = 1
   command_weight (Return (Some a)) = 4 + value_weight a
+  command_weight (Give a) = 4 + reference_weight a
   command_weight (Choose test a b) = 4 + value_weight test + command_weight a + command_weight b
   command_weight (Repeat test a b) = 6 + value_weight test + command_weight a + command_weight b
   command_weight (RepeatAfter a test) = 7 + value_weight test + command_weight a
@@ -117,7 +121,7 @@ pub receiver_counts : (x : Receiver) → 0 < receiver_weight x
 receiver_counts (ClassValue a) = omega arith
 receiver_counts (ClassSuper from) = omega arith
 receiver_counts (ObjectValue a) = omega arith
-receiver_counts (ObjectSuper from) = omega arith
+receiver_counts (ObjectSuper a from) = omega arith
 
 pub command_in : (cs : List d.Command) (i : ℕ) (v : d.Command) → i < length cs → v ≡ get_or cs i v → command_weight (command v) < commands_weight (commands cs)
 command_in [] i v below is = nothing_below below
@@ -138,6 +142,16 @@ pub sent_lighter : (v : c.Value) (a : Box rc.Receiver Global) (selector : ℕ) (
     → v ≡ c.Sent a selector given → got ≡ a.value → these ≡ given.items → 2 + receiver_weight (receiver got) + arguments_weight (arguments these) < value_weight (value v)
 sent_lighter v a selector given got these is same_receiver same =
     omega (arith, ap value_weight (is_sent v a selector given got these is same_receiver same))
+
+pub object_call_lighter : (v : r.Reference) (f : ℕ) (given : Vec g.Argument Global) (these : List g.Argument) → v ≡ r.ObjectInvoked f given → these ≡ given.items
+    → suc (arguments_weight (arguments these)) < reference_weight (reference v)
+object_call_lighter v f given these is same =
+    omega (arith, ap reference_weight (is_object_invoked v f given these is same))
+
+pub object_sent_lighter : (v : r.Reference) (a : Box rc.Receiver Global) (selector : ℕ) (given : Vec g.Argument Global) (got : rc.Receiver) (these : List g.Argument)
+    → v ≡ r.ObjectSent a selector given → got ≡ a.value → these ≡ given.items → 2 + receiver_weight (receiver got) + arguments_weight (arguments these) < reference_weight (reference v)
+object_sent_lighter v a selector given got these is same_receiver same =
+    omega (arith, ap reference_weight (is_object_sent v a selector given got these is same_receiver same))
 
 pub sequence_lighter : (v : d.Command) (first count : ℕ) (all : Vec d.Command Global) (these : List d.Command) → v ≡ d.Sequence first count all → these ≡ all.items
     → 3 + commands_weight (commands these) < command_weight (command v)

@@ -1,15 +1,17 @@
 -- What is told of main's call is told of the program.
-use Rattle.std.proofs.Common.{◌≡◌, ℕ, ℤ, List, Result, subst}
+use Rattle.std.proofs.Common.{◌≡◌, ℕ, List, Result, subst}
+use Rattle.arc_spec.specs.declared.class.Gives.TheVariants.{Number}
 use Rattle.arc_spec.specs.Resolved.{Program}
 use Rattle.arc_spec.specs.World.{World, nothing_given, first_world}
 use Rattle.arc_spec.specs.Meaning.{level}
 use Rattle.arc_spec.specs.Correct.{meaning_seen}
+use Rattle.arc_plain.specs.declared.given.Answered.{Answered}
 use Rattle.arc_plain.specs.declared.halt.Halt.{Halt}
 use Rattle.arc_plain.specs.declared.interpret.PlainStop.{PlainStop}
-use Rattle.arc_plain.specs.Views.{Tells, Stops, as_int, stop_of}
+use Rattle.arc_plain.specs.Views.{answer_of, Tells, Stops, as_int, stop_of}
 
-pub main_told : (P : Program) (bound levels main : ℕ) (input : List ℕ) (left : Result ℤ Halt) (start after : World) (stop : PlainStop) → start ≡ first_world P.globals P.strong_globals input
-    → Tells (λ n. n) left ((level P bound levels).call main 0 nothing_given start) after → Stops left stop
-    → meaning_seen (as_int ((level P bound levels).call main 0 nothing_given (first_world P.globals P.strong_globals input))) ≡ record { trace = after.trace; stop = stop_of stop }
+pub main_told : (P : Program) (bound levels main : ℕ) (input : List ℕ) (left : Result Answered Halt) (start after : World) (stop : PlainStop) → start ≡ first_world P.globals P.strong_globals input
+    → Tells answer_of left ((level P bound levels).call Number main 0 nothing_given start) after → Stops left stop
+    → meaning_seen (as_int ((level P bound levels).call Number main 0 nothing_given (first_world P.globals P.strong_globals input))) ≡ record { trace = after.trace; stop = stop_of stop }
 main_told P bound levels main input left start after stop begins told stops =
-    stops ((level P bound levels).call main 0 nothing_given (first_world P.globals P.strong_globals input)) after (subst (λ w. Tells (λ n. n) left ((level P bound levels).call main 0 nothing_given w) after) begins told)
+    stops ((level P bound levels).call Number main 0 nothing_given (first_world P.globals P.strong_globals input)) after (subst (λ w. Tells answer_of left ((level P bound levels).call Number main 0 nothing_given w) after) begins told)

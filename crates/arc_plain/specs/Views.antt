@@ -1,6 +1,7 @@
 -- What the interpreter's values stand for. The interpreter is this project's own.
 use Rattle.std.specs.Prelude.{Option, None, ◌≡◌, ℕ, ℤ, List, ◌∷◌, ◌++◌, map, reverse, if◌then◌else◌, Some, Result, Ok, Err}
-use Rattle.arc_spec.specs.Resolved.{Piece, Function}
+use Rattle.arc_spec.specs.declared.class.Gives.{Gives}
+use Rattle.arc_spec.specs.Resolved.{Piece, Function, Arguments, Receiver}
 use Rattle.arc_spec.specs.Objects as objects
 use Rattle.arc_spec.specs.Objects.{object_at, with_object, is_emptying}
 use Rattle.arc_spec.specs.World as worlds
@@ -14,6 +15,7 @@ use Rattle.arc_check.specs.Checked.{program_of, commands}
 use Rattle.arc_plain.specs.declared.context.Context.{Context}
 use Rattle.arc_plain.specs.declared.frame.Frame.{Frame}
 use Rattle.arc_plain.specs.declared.given.Given.{Given}
+use Rattle.arc_plain.specs.declared.given.Answered.{Answered}
 use Rattle.arc_plain.specs.declared.message.Target.{Target}
 use Rattle.arc_plain.specs.declared.message.Target.TheVariants as targets
 use Rattle.arc_spec.specs.declared.event.Fault.TheVariants.{Resurrected}
@@ -92,6 +94,22 @@ object_field_replaced D r class index value w = in_object D class (object_at w.o
 abbrev pub given_of : Given → worlds.Given
 given_of given = record { numbers = given.numbers.items; objects = given.objects.items }
 
+-- what is given, without where it lies in memory
+abbrev pub answer_of : Answered → worlds.Answer
+answer_of a = record { number = a.number; object = a.object }
+
+-- what is second of some places, and the others
+abbrev pub FollowsLast : List ℕ → (second : ℕ) → (others : List ℕ) → Type 0
+FollowsLast places second others = (last : ℕ) × ((rest : List ℕ) × ((places ≡ last ∷ second ∷ rest) × (others ≡ last ∷ rest)))
+
+-- a call and a message, with what is evaluated for them
+abbrev pub invoked : Deeper → (wanted : Gives) → (f : ℕ) → Arguments → World → Outcome worlds.Answer
+invoked D wanted f arguments w = then_do (meaning.all_evaluated D arguments w) (λ given w1. D.call wanted f 0 given w1)
+
+abbrev pub sent_to : Deeper → (wanted : Gives) → Receiver → (selector : ℕ) → Arguments → World → Outcome worlds.Answer
+sent_to D wanted receiver selector arguments w =
+    then_do (meaning.received D receiver w) (λ target w1. then_do (meaning.all_evaluated D arguments w1) (λ given w2. meaning.sent D wanted target selector given w2))
+
 -- who gets a message
 abbrev pub target_of : Target → meaning.Target
 target_of (targets.Class from class) = ToClass from class
@@ -100,7 +118,8 @@ target_of (targets.Super from self) = ToSuper from self
 
 -- a function without where it lies in memory
 abbrev pub function_of : CheckedFunction → Function
-function_of f = record { slots = f.slots; names = f.names; parameters = f.parameters; body = commands f.body.items }
+function_of f =
+    record { slots = f.slots; names = f.names; parameters = f.parameters; gives = f.gives; owns = f.owns; body = commands f.body.items }
 
 -- what a call or an end of an object does in this context
 abbrev pub deeper : Context → Deeper
@@ -168,9 +187,9 @@ abbrev pub seen : Answer → Sight
 seen answer = record { trace = answer.trace.items; stop = stop_of answer.stop }
 
 -- the value of main, as an int
-abbrev pub as_int : Outcome ℤ → Outcome ℤ
-as_int outcome = then_do outcome (λ v w. Done (converted k.Int v) w)
+abbrev pub as_int : Outcome worlds.Answer → Outcome ℤ
+as_int outcome = then_do outcome (λ a w. Done (converted k.Int a.number) w)
 
 -- how a program stops, whatever it means, of whose main this is the answer
-abbrev pub Stops : Result ℤ Halt → PlainStop → Type 0
-Stops left stop = (outcome : Outcome ℤ) (w : World) → Tells (λ n. n) left outcome w → meaning_seen (as_int outcome) ≡ record { trace = w.trace; stop = stop_of stop }
+abbrev pub Stops : Result Answered Halt → PlainStop → Type 0
+Stops left stop = (outcome : Outcome worlds.Answer) (w : World) → Tells answer_of left outcome w → meaning_seen (as_int outcome) ≡ record { trace = w.trace; stop = stop_of stop }

@@ -1,36 +1,39 @@
 //! Calls, places that are dropped, and the ends of objects.
 ghost use Rattle.std.specs.Prelude.{◌≡◌};
-ghost use Rattle.arc_spec.specs.Classes.{superclasses, ancestry};
+ghost use Rattle.arc_spec.specs.Classes.{superclasses, ancestry, same_gives};
 ghost use Rattle.arc_check.specs.Checked.{program_of};
 ghost use Rattle.arc_spec.specs.Objects.{object_at};
-ghost use Rattle.arc_spec.specs.Meaning.{emptied, fields_dropped, called, given, released, all_dropped, variables_dropped, function_at, dealloc_run, deallocs_run};
-ghost use Rattle.arc_plain.specs.Views.{world, given_of, Tells, flow_of, nothing_of, deeper};
+ghost use Rattle.arc_spec.specs.Meaning.{emptied, fields_dropped, called, given, released, all_dropped, second_dropped, variables_dropped, function_at, dealloc_run, deallocs_run};
+ghost use Rattle.arc_plain.specs.Views.{world, given_of, answer_of, Tells, flow_of, nothing_of, deeper};
 
 use crate::context::Context;
 use crate::format::count;
-use crate::given::{Given, nothing};
+use crate::given::{Answered, Given, nothing, object_given};
 use crate::halt::Halt;
 use crate::object::{
     begin_emptying, begin_end, class_of, clear_field, dealloc_from, finish_end, is_live,
 };
-use crate::place::{clear, drop_last, is_named, pop_frame, push_frame};
+use crate::place::{clear, drop_last, drop_second, is_named, name_at, pop_frame, push_frame};
 use crate::progress::Progress;
 use crate::statement::{Flow, execute_all};
+use arc_check::checked::CheckedFunction;
+use arc_spec::class::Gives;
 use arc_spec::event::Fault;
 use arc_spec::order::field_order;
 use std::alloc::Global;
 
-/// Calls the function with this number, one level deeper, with this `self`.
+/// Calls the function with this number that gives this, one level deeper, with this `self`.
 #[cycle(running)]
 pub fn call(
     alloc: Global,
     context: &Context,
     progress: &mut Progress,
+    wanted: Gives,
     function: usize,
     itself: usize,
     given: &Given,
-) -> Result<i64, Halt>
-    ensures { Tells (λ n. n) result ((deeper context.now).call function itself (given_of given.now) (world progress.old)) (world progress.new) }
+) -> Result<Answered, Halt>
+    ensures { Tells answer_of result ((deeper context.now).call wanted function itself (given_of given.now) (world progress.old)) (world progress.new) }
 {
     if context.levels == 0 {
         return Err(Halt::Stopped(Fault::Depth));
@@ -39,31 +42,46 @@ pub fn call(
         levels: context.levels - 1,
         ..*context
     };
-    enter(alloc, &inner, progress, function, itself, given)
+    enter(alloc, &inner, progress, wanted, function, itself, given)
 }
 
-/// Runs a function with variables of its own, which are dropped at its end. After it the caller's are there
-/// again. A function that there isn't does nothing.
+/// Runs a function with variables of its own, which are dropped at its end, but for its result. After it the caller's
+/// are there again. A function that there isn't, or that gives something else, does nothing.
 #[cycle(running)]
 fn enter(
     alloc: Global,
     context: &Context,
     progress: &mut Progress,
+    wanted: Gives,
     function: usize,
     itself: usize,
     given: &Given,
-) -> Result<i64, Halt>
-    ensures { Tells (λ n. n) result (called (deeper context.now) context.now.bound (function_at (program_of context.now.program.now) function) itself (given_of given.now) (world progress.old)) (world progress.new) }
+) -> Result<Answered, Halt>
+    ensures { Tells answer_of result (called (deeper context.now) context.now.bound (function_at (program_of context.now.program.now) wanted function) itself (given_of given.now) (world progress.old)) (world progress.new) }
 {
     let Some(entered) = context.program.functions.get(function) else {
-        return Ok(0);
+        return Ok(object_given(0));
     };
+    if !is_giving(entered, wanted) {
+        return Ok(object_given(0));
+    }
     let waiting = progress.waiting.len();
     let kept = push_frame(alloc, progress, entered, itself, given)?;
     let flow = execute_all(alloc, context, progress, &entered.body)?;
     drop_variables(alloc, context, progress, 0, entered.names)?;
+    let object = name_at(&progress.frame.strong, entered.names);
     pop_frame(progress, kept, waiting);
-    Ok(number_of(flow))
+    Ok(Answered {
+        number: number_of(flow),
+        object,
+    })
+}
+
+/// Whether a function gives this.
+fn is_giving(function: &CheckedFunction, wanted: Gives) -> bool
+    ensures { result ≡ same_gives function.now.gives wanted }
+{
+    function.gives == wanted
 }
 
 /// What a function gives that was left so.
@@ -169,7 +187,15 @@ fn run_dealloc(
     match dealloc {
         Some(function) => {
             let none = nothing(alloc);
-            let _ = enter(alloc, context, progress, function, object, &none)?;
+            let _ = enter(
+                alloc,
+                context,
+                progress,
+                Gives::Number,
+                function,
+                object,
+                &none,
+            )?;
             Ok(())
         }
         None => Ok(()),
@@ -208,6 +234,17 @@ pub fn drop_temporaries(
         release(alloc, context, progress, object)?;
     }
     Ok(())
+}
+
+/// The temporary before the last one is dropped.
+#[cycle(running)]
+pub fn drop_made(alloc: Global, context: &Context, progress: &mut Progress) -> Result<(), Halt>
+    ensures { Tells nothing_of result (second_dropped (deeper context.now) (world progress.old).frame.temporaries (world progress.old)) (world progress.new) }
+{
+    match drop_second(progress) {
+        Some(object) => release(alloc, context, progress, object),
+        None => Ok(()),
+    }
 }
 
 /// So many variables are dropped, from the first one on, in the reverse of their order.

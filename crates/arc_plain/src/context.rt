@@ -5,8 +5,8 @@ use arc_check::checked::Checked;
 /// The program, how many turns each loop may make, and how many calls and ends of objects within one another
 /// may still begin.
 #[derive(Clone, Copy)]
-pub struct Context<'a> {
-    pub program: &'a Checked<'a>,
+pub struct Context<'p, 'a, 't> {
+    pub program: &'p Checked<'a, 't>,
     pub bound: u64,
     pub levels: u32,
 }

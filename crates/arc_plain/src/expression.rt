@@ -2,21 +2,22 @@
 ghost use Rattle.arc_check.specs.Checked as checked;
 ghost use Rattle.arc_spec.specs.Resolved as resolved;
 ghost use Rattle.arc_spec.specs.Meaning.{evaluated, referred, all_evaluated, whole};
-ghost use Rattle.arc_plain.specs.Views.{world, given_of, Tells, printed, deeper};
+ghost use Rattle.arc_plain.specs.Views.{world, given_of, answer_of, invoked, Tells, printed, deeper};
 
 use crate::call::{call, drop_temporaries, release};
 use crate::context::Context;
 use crate::format::{count, format};
-use crate::given::{Given, nothing};
+use crate::given::{Answered, Given, nothing};
 use crate::halt::Halt;
 use crate::message::{class_at, difference};
 use crate::object::{make, read_field, read_object_field, replace_object_field, set_field};
 use crate::place::{name, store, take};
 use crate::progress::{Progress, assign, held, print, read};
-use crate::sending::send;
+use crate::sending::{send, send_new};
 use crate::update::{Update, given_by, renew};
 use arc_ast::tree::{BinaryOperator, Kind};
 use arc_check::checked::{Argument, Piece, Reference, Value};
+use arc_spec::class::Gives;
 use arc_spec::event::Fault;
 use arc_spec::location::Location;
 use arc_spec::number::{apply, combine, convert};
@@ -72,10 +73,16 @@ pub fn evaluate(
             update_variable(alloc, context, progress, *location, update, operand)
         }
         Value::Invoked(function, arguments) => {
-            invoke(alloc, context, progress, *function, arguments)
+            let wanted = Gives::Number;
+            let answered = invoke(alloc, context, progress, wanted, *function, arguments)?;
+            Ok(answered.number)
         }
         Value::Sent(receiver, selector, arguments) => {
-            send(alloc, context, progress, receiver, *selector, arguments)
+            let wanted = Gives::Number;
+            let answered = send(
+                alloc, context, progress, wanted, receiver, *selector, arguments,
+            )?;
+            Ok(answered.number)
         }
         Value::Field(object, class, index) => {
             let number = refer(alloc, context, progress, object)?;
@@ -187,19 +194,20 @@ fn update_variable(
     Ok(given_by(update.moment, old, new))
 }
 
-/// Calls the function with this number with what the expressions give.
+/// Calls the function with this number that gives this with what the expressions give.
 #[cycle(running)]
 fn invoke(
     alloc: Global,
     context: &Context,
     progress: &mut Progress,
+    wanted: Gives,
     function: usize,
     arguments: &[Argument],
-) -> Result<i64, Halt>
-    ensures { Tells (λ n. n) result (evaluated (deeper context.now) (resolved.Invoked function (checked.arguments arguments.now)) (world progress.old)) (world progress.new) }
+) -> Result<Answered, Halt>
+    ensures { Tells answer_of result (invoked (deeper context.now) wanted function (checked.arguments arguments.now) (world progress.old)) (world progress.new) }
 {
     let given = evaluate_all(alloc, context, progress, arguments)?;
-    call(alloc, context, progress, function, 0, &given)
+    call(alloc, context, progress, wanted, function, 0, &given)
 }
 
 /// Gives a field of the object that an expression gives a number; the object is evaluated first.
@@ -303,9 +311,21 @@ pub fn refer(
             let number = evaluate(alloc, context, progress, operand)?;
             make(alloc, context, progress, class_at(number))
         }
-        Reference::Initialized(operand) => {
-            let object = refer(alloc, context, progress, operand)?;
-            take(progress, object)
+        Reference::New(from, operand) => {
+            let class = evaluate(alloc, context, progress, operand)?;
+            send_new(alloc, context, progress, *from, class)
+        }
+        Reference::ObjectInvoked(function, arguments) => {
+            let wanted = Gives::Object;
+            let answered = invoke(alloc, context, progress, wanted, *function, arguments)?;
+            take(progress, answered.object)
+        }
+        Reference::ObjectSent(receiver, selector, arguments) => {
+            let wanted = Gives::Object;
+            let answered = send(
+                alloc, context, progress, wanted, receiver, *selector, arguments,
+            )?;
+            take(progress, answered.object)
         }
     }
 }

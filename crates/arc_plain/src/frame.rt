@@ -1,9 +1,12 @@
 //! The running function.
 ghost use Rattle.std.specs.Prelude.{◌≡◌, ◌∷◌, [], ℕ, suc, take, IfOk};
-ghost use Rattle.arc_spec.specs.World.{first_frame, first_locals, first_names};
-ghost use Rattle.arc_plain.specs.Views.{frame_of, given_of};
+ghost use Rattle.arc_spec.specs.Meaning.{function_places};
+ghost use Rattle.arc_spec.specs.World.{first_frame, first_locals, first_names, and_self};
+ghost use Rattle.arc_plain.specs.Views.{frame_of, given_of, function_of};
 
 use crate::given::Given;
+use arc_check::checked::CheckedFunction;
+use arc_spec::class::Gives;
 use arc_spec::event::NoMemory;
 use std::alloc::Global;
 
@@ -30,22 +33,48 @@ pub fn nothing_runs(alloc: Global) -> Frame
     }
 }
 
-/// A function that begins, with so many variables that hold numbers and that name objects, of which so many are
-/// parameters.
+/// How many places of objects a function has but for its temporaries. NoMemory: more than can be counted.
+fn function_places(function: &CheckedFunction) -> Result<usize, NoMemory>
+    ensures { IfOk result (λ count. count ≡ function_places (function_of function.now)) }
+{
+    match function.gives {
+        Gives::Number => Ok(function.names),
+        Gives::Object => function.names.checked_add(1).ok_or(NoMemory),
+    }
+}
+
+/// What the first variables that name objects name: `self`, where it is owned, and the objects that are given, of which
+/// the function takes some.
+fn first_named(
+    alloc: Global,
+    function: &CheckedFunction,
+    itself: usize,
+    given: &Given,
+) -> Result<Vec<usize>, NoMemory>
+    ensures { IfOk result (λ all. all.items ≡ and_self function.now.owns itself (take function.now.parameters (given_of given.now).objects)) }
+{
+    let mut all = Vec::new(alloc);
+    if function.owns {
+        all.push(itself)?;
+    }
+    all.extend_from_slice(first_objects(&given.objects, function.parameters))?;
+    Ok(all)
+}
+
+/// A function that begins, with this `self` and what it is given.
 pub fn begin(
     alloc: Global,
-    slots: usize,
-    names: usize,
-    parameters: usize,
+    function: &CheckedFunction,
     itself: usize,
     given: &Given,
 ) -> Result<Frame, NoMemory>
-    ensures { IfOk result (λ frame. frame_of frame ≡ record { self = itself; locals = first_locals slots (given_of given.now).numbers; strong = first_names names (take parameters (given_of given.now).objects); temporaries = [] }) }
+    ensures { IfOk result (λ frame. frame_of frame ≡ record { self = itself; locals = first_locals function.now.slots (given_of given.now).numbers; strong = first_names (function_places (function_of function.now)) (and_self function.now.owns itself (take function.now.parameters (given_of given.now).objects)); temporaries = [] }) }
 {
+    let named = first_named(alloc, function, itself, given)?;
     Ok(Frame {
         itself,
-        locals: begin_locals(alloc, slots, &given.numbers)?,
-        strong: begin_names(alloc, names, first_objects(&given.objects, parameters))?,
+        locals: begin_locals(alloc, function.slots, &given.numbers)?,
+        strong: begin_names(alloc, function_places(function)?, &named)?,
         temporaries: Vec::new(alloc),
     })
 }

@@ -1,8 +1,8 @@
 //! What functions and methods are given.
 ghost use Rattle.std.specs.Prelude.{◌≡◌, IfOk};
 ghost use Rattle.arc_spec.specs.World.{nothing_given};
-ghost use Rattle.arc_spec.specs.Meaning.{and_number};
-ghost use Rattle.arc_plain.specs.Views.{given_of};
+ghost use Rattle.arc_spec.specs.Meaning.{and_number, gives_object};
+ghost use Rattle.arc_plain.specs.Views.{given_of, answer_of};
 
 use arc_spec::event::NoMemory;
 use std::alloc::Global;
@@ -12,6 +12,20 @@ use std::alloc::Global;
 pub struct Given {
     pub numbers: Vec<i64>,
     pub objects: Vec<usize>,
+}
+
+/// What a call or a message gives: a number, or an object or nil.
+#[derive(Clone, Copy)]
+pub struct Answered {
+    pub number: i64,
+    pub object: usize,
+}
+
+/// An object or nil is given.
+pub fn object_given(object: usize) -> Answered
+    ensures { answer_of result ≡ gives_object object }
+{
+    Answered { number: 0, object }
 }
 
 /// No arguments.

@@ -7,10 +7,11 @@ ghost use Rattle.arc_plain.specs.Views.{Stops, seen};
 
 use crate::call::call;
 use crate::context::Context;
-use crate::given::nothing;
+use crate::given::{Answered, nothing};
 use crate::halt::Halt;
 use crate::progress::start;
 use arc_check::checked::Checked;
+use arc_spec::class::Gives;
 use arc_spec::event::{Event, Fault, NoMemory};
 use arc_spec::number::low_half;
 use std::alloc::Global;
@@ -49,7 +50,15 @@ pub fn interpret(
         levels: 2_000,
     };
     let none = nothing(alloc);
-    let left = call(alloc, &context, &mut progress, program.main, 0, &none);
+    let left = call(
+        alloc,
+        &context,
+        &mut progress,
+        Gives::Number,
+        program.main,
+        0,
+        &none,
+    );
     let stop = stop_of(left)?;
     Ok(Answer {
         trace: progress.trace,
@@ -58,11 +67,11 @@ pub fn interpret(
 }
 
 /// How a program stopped whose `main` was left so.
-fn stop_of(left: Result<i64, Halt>) -> Result<PlainStop, NoMemory>
+fn stop_of(left: Result<Answered, Halt>) -> Result<PlainStop, NoMemory>
     ensures { IfOk result (λ stop. Stops left stop) }
 {
     match left {
-        Ok(number) => Ok(PlainStop::Ended(low_half(number))),
+        Ok(answered) => Ok(PlainStop::Ended(low_half(answered.number))),
         Err(Halt::Stopped(fault)) => Ok(PlainStop::Fault(fault)),
         Err(Halt::Cut) => Ok(PlainStop::Cut),
         Err(Halt::Memory) => Err(NoMemory),

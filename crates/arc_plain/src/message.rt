@@ -1,6 +1,6 @@
 //! The parts of a message.
-ghost use Rattle.std.specs.Prelude.{◌≡◌};
-ghost use Rattle.arc_spec.specs.Classes.{class_at};
+ghost use Rattle.std.specs.Prelude.{◌≡◌, length};
+ghost use Rattle.arc_spec.specs.Classes.{class_at, is_root_init};
 ghost use Rattle.arc_spec.specs.Meaning.{difference, finds};
 ghost use Rattle.arc_spec.specs.Number.{is_zero};
 ghost use Rattle.arc_plain.specs.Views.{deeper, given_of};
@@ -8,7 +8,7 @@ ghost use Rattle.arc_plain.specs.Views.{deeper, given_of};
 use crate::context::Context;
 use crate::given::Given;
 use arc_ast::tree::Sign;
-use arc_spec::class::look_up;
+use arc_spec::class::{Gives, look_up};
 
 /// The class that a number is the number of; a number below 0 is none's.
 pub fn class_at(number: i64) -> Option<usize>
@@ -31,12 +31,13 @@ pub enum Target {
 /// What a message of this sign with this selector and these arguments runs, from a class up.
 pub fn find_method(
     context: &Context,
+    wanted: Gives,
     from: Option<usize>,
     sign: Sign,
     selector: usize,
     given: &Given,
 ) -> Option<usize>
-    ensures { result ≡ finds (deeper context.now) from sign selector (given_of given.now) }
+    ensures { result ≡ finds (deeper context.now) wanted from sign selector (given_of given.now) }
 {
     look_up(
         &context.program.classes,
@@ -45,7 +46,24 @@ pub fn find_method(
         selector,
         given.numbers.len(),
         given.objects.len(),
+        wanted,
     )
+}
+
+/// The number of the selector `new`.
+pub const NEW_SELECTOR: usize = 1;
+
+/// The number of the selector `init`.
+pub const INIT_SELECTOR: usize = 2;
+
+/// Whether a message is the root's own `init`, where no class has a method that answers it.
+pub fn is_root_init(wanted: Gives, selector: usize, given: &Given) -> bool
+    ensures { result ≡ is_root_init selector (length (given_of given.now).numbers) (length (given_of given.now).objects) wanted }
+{
+    selector == INIT_SELECTOR
+        && given.numbers.is_empty()
+        && given.objects.is_empty()
+        && wanted == Gives::Object
 }
 
 /// 1 where two references differ, else 0.

@@ -1,11 +1,12 @@
 //! Strong places: variables that name objects, and temporaries.
-ghost use Rattle.std.specs.Prelude.{◌≡◌, ◌∷◌, ◌++◌, ◌+◌, [], OnOk, IfOk, MatchOption, length, reverse, map, slice_set};
+ghost use Rattle.std.specs.Prelude.{◌≡◌, ◌∷◌, ◌++◌, ◌+◌, ◌<◌, [], OnOk, IfOk, MatchOption, length, reverse, map, slice_set};
 ghost use Rattle.std.proofs.Common.{take};
+ghost use Rattle.arc_spec.specs.Meaning.{function_places};
 ghost use Rattle.arc_spec.specs.Objects.{names};
 ghost use Rattle.arc_spec.specs.Objects.{fields_of, field_places};
 ghost use Rattle.arc_spec.specs.declared.location.Location.TheVariants.{Local};
 ghost use Rattle.arc_spec.specs.World.{Done, places, takes, name_at, named_at, stores, with_temporaries, entered};
-ghost use Rattle.arc_plain.specs.Views.{world, frame_of, given_of, object_of, Tells, left_at};
+ghost use Rattle.arc_plain.specs.Views.{FollowsLast, function_of, world, frame_of, given_of, object_of, Tells, left_at};
 
 use crate::frame::{Frame, begin};
 use crate::given::Given;
@@ -32,6 +33,18 @@ pub fn drop_last(progress: &mut Progress) -> Option<usize>
     ensures others { world progress.new ≡ with_temporaries (world progress.old) (world progress.new).frame.temporaries }
 {
     progress.frame.temporaries.pop()
+}
+
+/// Drops the temporary before the last one of the running function, where there is one, and gives what it named.
+pub fn drop_second(progress: &mut Progress) -> Option<usize>
+    ensures second { MatchOption result ((length (world progress.old).frame.temporaries < 2) × (world progress.new ≡ world progress.old)) (λ object. FollowsLast (world progress.old).frame.temporaries object (world progress.new).frame.temporaries) }
+    ensures others { world progress.new ≡ with_temporaries (world progress.old) (world progress.new).frame.temporaries }
+{
+    let count = progress.frame.temporaries.len();
+    if count < 2 {
+        return None;
+    }
+    Some(progress.frame.temporaries.remove(count - 2))
 }
 
 /// What a place of these names; one that there isn't names nothing.
@@ -151,19 +164,12 @@ pub fn push_frame(
     itself: usize,
     given: &Given,
 ) -> Result<Frame, NoMemory>
-    ensures world { OnOk result (world progress.new ≡ entered function.now.slots function.now.names function.now.parameters itself (given_of given.now) (world progress.old)) }
+    ensures world { OnOk result (world progress.new ≡ entered function.now.slots (function_places (function_of function.now)) function.now.parameters function.now.owns itself (given_of given.now) (world progress.old)) }
     ensures kept { IfOk result (λ frame. frame_of frame ≡ (world progress.old).frame) }
     ensures below { OnOk result (take (length progress.old.waiting.items) progress.new.waiting.items ≡ progress.old.waiting.items) }
 {
     wait(alloc, &progress.frame, &mut progress.waiting)?;
-    let frame = begin(
-        alloc,
-        function.slots,
-        function.names,
-        function.parameters,
-        itself,
-        given,
-    )?;
+    let frame = begin(alloc, function, itself, given)?;
     Ok(mem::replace(&mut progress.frame, frame))
 }
 

@@ -1,39 +1,42 @@
 //! Messages, and what they find.
 ghost use Rattle.arc_check.specs.Checked as checked;
-ghost use Rattle.arc_spec.specs.Resolved as resolved;
 ghost use Rattle.arc_ast.specs.declared.tree.Sign.TheVariants.{Class};
-ghost use Rattle.arc_spec.specs.Meaning.{evaluated, received, sent, given, dispatched, finds, sent_from};
-ghost use Rattle.arc_plain.specs.Views.{world, given_of, target_of, Tells, deeper};
+ghost use Rattle.arc_spec.specs.Meaning.{received, sent, given, dispatched, finds, sent_from, answered_by_root, new_sent, made_new};
+ghost use Rattle.arc_spec.specs.World.{World};
+ghost use Rattle.arc_plain.specs.Views.{world, given_of, answer_of, target_of, sent_to, Tells, deeper};
 
-use crate::call::call;
+use crate::call::{call, drop_made};
 use crate::context::Context;
 use crate::expression::{evaluate, evaluate_all, refer};
-use crate::given::{Given, with_receiver};
+use crate::given::{Answered, Given, nothing, object_given, with_receiver};
 use crate::halt::Halt;
-use crate::message::{Target, class_at, find_method};
-use crate::object::class_of;
+use crate::message::{INIT_SELECTOR, NEW_SELECTOR, Target, class_at, find_method, is_root_init};
+use crate::object::{class_of, make};
 use crate::place::take;
 use crate::progress::{Progress, local};
 use arc_ast::tree::Sign;
 use arc_check::checked::{Argument, Receiver};
+use arc_spec::class::Gives;
 use arc_spec::event::Fault;
 use std::alloc::Global;
 
-/// Sends a message to what the receiver gives; the receiver is evaluated before the arguments.
+/// Sends a message to what the receiver gives, which wants a number or an object; the receiver is evaluated before the
+/// arguments.
 #[cycle(running)]
 pub fn send(
     alloc: Global,
     context: &Context,
     progress: &mut Progress,
+    wanted: Gives,
     receiver: &Receiver,
     selector: usize,
     arguments: &[Argument],
-) -> Result<i64, Halt>
-    ensures { Tells (λ n. n) result (evaluated (deeper context.now) (resolved.Sent (checked.receiver receiver.now) selector (checked.arguments arguments.now)) (world progress.old)) (world progress.new) }
+) -> Result<Answered, Halt>
+    ensures { Tells answer_of result (sent_to (deeper context.now) wanted (checked.receiver receiver.now) selector (checked.arguments arguments.now) (world progress.old)) (world progress.new) }
 {
     let target = receive(alloc, context, progress, receiver)?;
     let given = evaluate_all(alloc, context, progress, arguments)?;
-    tell(alloc, context, progress, target, selector, given)
+    tell(alloc, context, progress, wanted, target, selector, given)
 }
 
 /// Who gets a message. One to `super` goes to `self`, in a method of a class the first variable.
@@ -56,9 +59,8 @@ fn receive(
             let itself = refer(alloc, context, progress, reference)?;
             Ok(Target::Object(itself))
         }
-        Receiver::ObjectSuper(from) => {
-            let itself = progress.frame.itself;
-            let _ = take(progress, itself)?;
+        Receiver::ObjectSuper(reference, from) => {
+            let itself = refer(alloc, context, progress, reference)?;
             Ok(Target::Super(*from, itself))
         }
     }
@@ -70,23 +72,30 @@ fn tell(
     alloc: Global,
     context: &Context,
     progress: &mut Progress,
+    wanted: Gives,
     target: Target,
     selector: usize,
     given: Given,
-) -> Result<i64, Halt>
-    ensures { Tells (λ n. n) result (sent (deeper context.now) (target_of target) selector (given_of given) (world progress.old)) (world progress.new) }
+) -> Result<Answered, Halt>
+    ensures { Tells answer_of result (sent (deeper context.now) wanted (target_of target) selector (given_of given) (world progress.old)) (world progress.new) }
 {
     match target {
         Target::Class(from, itself) => {
-            dispatch(alloc, context, progress, from, selector, itself, given)
+            dispatch(
+                alloc, context, progress, wanted, from, selector, itself, given,
+            )
         }
         Target::Object(itself) => {
             let from = class_of(&progress.objects, itself);
-            dispatch_to(alloc, context, progress, from, selector, itself, &given)
+            dispatch_to(
+                alloc, context, progress, wanted, from, selector, itself, &given,
+            )
         }
         Target::Super(from, itself) => {
             let from = Some(from);
-            dispatch_to(alloc, context, progress, from, selector, itself, &given)
+            dispatch_to(
+                alloc, context, progress, wanted, from, selector, itself, &given,
+            )
         }
     }
 }
@@ -98,39 +107,117 @@ fn dispatch(
     alloc: Global,
     context: &Context,
     progress: &mut Progress,
+    wanted: Gives,
     from: Option<usize>,
     selector: usize,
     itself: i64,
     given: Given,
-) -> Result<i64, Halt>
-    ensures { Tells (λ n. n) result (dispatched (deeper context.now) (finds (deeper context.now) from Class selector (given_of given)) itself (given_of given) (world progress.old)) (world progress.new) }
+) -> Result<Answered, Halt>
+    ensures { Tells answer_of result (dispatched (deeper context.now) wanted (finds (deeper context.now) wanted from Class selector (given_of given)) itself (given_of given) (world progress.old)) (world progress.new) }
 {
-    let Some(method) = find_method(context, from, Sign::Class, selector, &given) else {
+    let Some(method) = find_method(context, wanted, from, Sign::Class, selector, &given) else {
         return Err(Halt::Stopped(Fault::Unrecognized));
     };
     let passed = with_receiver(alloc, itself, given)?;
-    call(alloc, context, progress, method, 0, &passed)
+    call(alloc, context, progress, wanted, method, 0, &passed)
 }
 
-/// Calls what a message to an object finds from this class up. A message to nil gives 0; one that finds
-/// nothing is a fault.
+/// Calls what a message to an object finds from this class up. A message to nil gives 0 or nil; one that finds
+/// nothing is a fault, or the root's own `init`, which gives the object.
 #[cycle(running)]
 fn dispatch_to(
     alloc: Global,
     context: &Context,
     progress: &mut Progress,
+    wanted: Gives,
     from: Option<usize>,
     selector: usize,
     itself: usize,
     given: &Given,
-) -> Result<i64, Halt>
-    ensures { Tells (λ n. n) result (sent_from (deeper context.now) from itself selector (given_of given.now) (world progress.old)) (world progress.new) }
+) -> Result<Answered, Halt>
+    ensures { Tells answer_of result (sent_from (deeper context.now) wanted from itself selector (given_of given.now) (world progress.old)) (world progress.new) }
 {
     if itself == 0 {
-        return Ok(0);
+        return Ok(object_given(0));
     }
-    let Some(method) = find_method(context, from, Sign::Instance, selector, given) else {
-        return Err(Halt::Stopped(Fault::Unrecognized));
+    let Some(method) = find_method(context, wanted, from, Sign::Instance, selector, given) else {
+        return answer_by_root(wanted, selector, itself, given);
     };
-    call(alloc, context, progress, method, itself, given)
+    call(alloc, context, progress, wanted, method, itself, given)
+}
+
+/// What the root gives for a message that no class has a method for: its `init` gives the object; any other is a fault.
+fn answer_by_root(
+    wanted: Gives,
+    selector: usize,
+    itself: usize,
+    given: &Given,
+) -> Result<Answered, Halt>
+    ensures { (w : World) → Tells answer_of result (answered_by_root wanted itself selector (given_of given.now) w) w }
+{
+    if is_root_init(wanted, selector, given) {
+        Ok(object_given(itself))
+    } else {
+        Err(Halt::Stopped(Fault::Unrecognized))
+    }
+}
+
+/// Sends `new` to the class with the number, whose method is looked up from another one, where that is given.
+#[cycle(running)]
+pub fn send_new(
+    alloc: Global,
+    context: &Context,
+    progress: &mut Progress,
+    from: Option<usize>,
+    class: i64,
+) -> Result<usize, Halt>
+    ensures { Tells (λ n. n) result (new_sent (deeper context.now) from class (world progress.old)) (world progress.new) }
+{
+    let none = nothing(alloc);
+    let first = match from {
+        Some(from) => Some(from),
+        None => class_at(class),
+    };
+    match find_method(
+        context,
+        Gives::Object,
+        first,
+        Sign::Class,
+        NEW_SELECTOR,
+        &none,
+    ) {
+        Some(method) => {
+            let passed = with_receiver(alloc, class, none)?;
+            let answered = call(alloc, context, progress, Gives::Object, method, 0, &passed)?;
+            take(progress, answered.object)
+        }
+        None => make_new(alloc, context, progress, class_at(class)),
+    }
+}
+
+/// The root's `new`: an object of the class is made, and gets `init`. What that gives is left as a temporary.
+#[cycle(running)]
+fn make_new(
+    alloc: Global,
+    context: &Context,
+    progress: &mut Progress,
+    class: Option<usize>,
+) -> Result<usize, Halt>
+    ensures { Tells (λ n. n) result (made_new (deeper context.now) class (world progress.old)) (world progress.new) }
+{
+    let object = make(alloc, context, progress, class)?;
+    let none = nothing(alloc);
+    let target = Target::Object(object);
+    let answered = tell(
+        alloc,
+        context,
+        progress,
+        Gives::Object,
+        target,
+        INIT_SELECTOR,
+        none,
+    )?;
+    let given = take(progress, answered.object)?;
+    drop_made(alloc, context, progress)?;
+    Ok(given)
 }

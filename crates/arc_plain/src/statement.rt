@@ -2,8 +2,8 @@
 ghost use Rattle.std.specs.Prelude.{option_map};
 ghost use Rattle.arc_check.specs.Checked as checked;
 ghost use Rattle.arc_spec.specs.Resolved as resolved;
-ghost use Rattle.arc_spec.specs.Meaning.{whole, executed, all_executed, turns, turns_after};
-ghost use Rattle.arc_plain.specs.Views.{world, Tells, flow_of, step_of, test_of, turn_of, deeper};
+ghost use Rattle.arc_spec.specs.Meaning.{whole, begun, executed, all_executed, turns, turns_after};
+ghost use Rattle.arc_plain.specs.Views.{world, nothing_of, Tells, flow_of, step_of, test_of, turn_of, deeper};
 
 use crate::call::{drop_temporaries, drop_variables, release};
 use crate::context::Context;
@@ -12,7 +12,7 @@ use crate::halt::Halt;
 use crate::message::is_zero;
 use crate::place::store;
 use crate::progress::Progress;
-use arc_check::checked::{Command, Value};
+use arc_check::checked::{Command, Reference, Value};
 use arc_spec::location::Location;
 use std::alloc::Global;
 
@@ -49,11 +49,13 @@ fn execute(
             Ok(Flow::Normal)
         }
         Command::Begin(slot, value) => {
-            let object = refer(alloc, context, progress, value)?;
-            let before = store(progress, Location::Local(*slot), object);
-            release(alloc, context, progress, before)?;
-            drop_temporaries(alloc, context, progress)?;
+            begin(alloc, context, progress, *slot, value)?;
             Ok(Flow::Normal)
+        }
+        Command::Give(value) => {
+            let slot = progress.frame.strong.len().saturating_sub(1);
+            begin(alloc, context, progress, slot, value)?;
+            Ok(Flow::Returned(0))
         }
         Command::Return(None) => Ok(Flow::Returned(0)),
         Command::Return(Some(value)) => {
@@ -70,6 +72,23 @@ fn execute(
         Command::Break => Ok(Flow::Broken),
         Command::Continue => Ok(Flow::Continued),
     }
+}
+
+/// A variable, or the place of the result, begins with what an expression gives.
+#[cycle(running)]
+fn begin(
+    alloc: Global,
+    context: &Context,
+    progress: &mut Progress,
+    slot: usize,
+    value: &Reference,
+) -> Result<(), Halt>
+    ensures { Tells nothing_of result (begun (deeper context.now) slot (checked.reference value.now) (world progress.old)) (world progress.new) }
+{
+    let object = refer(alloc, context, progress, value)?;
+    let before = store(progress, Location::Local(slot), object);
+    release(alloc, context, progress, before)?;
+    drop_temporaries(alloc, context, progress)
 }
 
 /// Does what the statements of a block say, and drops its own variables, however it is left; a return leaves

@@ -11,9 +11,10 @@ pub found-append : (rules : Around → Node → List Violation) (before : Option
 found-append rules before [] ys = refl
 found-append rules before (x ∷ xs) ys = found-append rules (earlier_of before (first (rules x.around x.node))) xs ys
 
--- some sites after others
-pub found_both : (rules : Around → Node → List Violation) (before mid now : Option Violation) (xs ys : List Site) → mid ≡ found_from rules before xs → now ≡ found_from rules mid ys → now ≡ found_from rules before (xs ++ ys)
-found_both rules before mid now xs ys m n = n ∙ ap (λ f. found_from rules f ys) m ∙ sym (found-append rules before xs ys)
+-- some sites after others, by the same rules
+pub found_both : (rules second : Around → Node → List Violation) (before mid now : Option Violation) (xs ys : List Site)
+    → second ≡ rules → mid ≡ found_from rules before xs → now ≡ found_from second mid ys → now ≡ found_from rules before (xs ++ ys)
+found_both rules second before mid now xs ys s m n = n ∙ ap (λ r. found_from r mid ys) s ∙ ap (λ f. found_from rules f ys) m ∙ sym (found-append rules before xs ys)
 
 -- the fold finds the first of all violations at all sites
 pub found_is : (rules : Around → Node → List Violation) (before : Option Violation) (xs : List Site) → found_from rules before xs ≡ earlier_of before (first (violations_of rules xs))
@@ -26,17 +27,17 @@ found_is rules before (x ∷ xs) =
 drop_turn : {A : Type 0} (xs : List A) (i : ℕ) (x : A) → i < length xs → x ≡ get_or xs i x → drop i xs ≡ x ∷ drop (i + 1) xs
 drop_turn xs i x l e = drop-cons xs i x l ∙ rw (sym e, add-one) refl
 
--- The sites of a list are those of its first element and then the rest; one element more is visited.
-pub turn : {A : Type 0} (rules : Around → Node → List Violation) (all_of : List A → List Site) (one rest : List Site) (xs : List A) (i : ℕ) (x : A) (so_far now whole : Option Violation)
-    → all_of (x ∷ drop (i + 1) xs) ≡ one ++ rest → i < length xs → x ≡ get_or xs i x
-    → now ≡ found_from rules so_far one → whole ≡ found_from rules so_far (all_of (drop i xs)) → whole ≡ found_from rules now rest
-turn rules all_of one rest xs i x so_far now whole s l e n w =
-    w ∙ ap (found_from rules so_far) (ap all_of (drop_turn xs i x l e) ∙ s) ∙ found-append rules so_far one rest ∙ ap (λ f. found_from rules f rest) (sym n)
+-- The sites of a list are those of its first element and then the rest; one element more is visited, by the same rules.
+pub turn : {A : Type 0} (rules now_rules : Around → Node → List Violation) (all_of : List A → List Site) (one rest : List Site) (xs : List A) (i : ℕ) (x : A) (so_far now whole : Option Violation)
+    → all_of (x ∷ drop (i + 1) xs) ≡ one ++ rest → now_rules ≡ rules → i < length xs → x ≡ get_or xs i x
+    → now ≡ found_from now_rules so_far one → whole ≡ found_from rules so_far (all_of (drop i xs)) → whole ≡ found_from rules now rest
+turn rules now_rules all_of one rest xs i x so_far now whole s r l e n w =
+    w ∙ ap (found_from rules so_far) (ap all_of (drop_turn xs i x l e) ∙ s) ∙ found-append rules so_far one rest ∙ ap (λ f. found_from rules f rest) (sym (n ∙ ap (λ r. found_from r so_far one) r))
 
 -- some sites after others, and some after both
-pub found_three : (rules : Around → Node → List Violation) (before mid then now : Option Violation) (xs ys zs : List Site)
-    → mid ≡ found_from rules before xs → then ≡ found_from rules mid ys → now ≡ found_from rules then zs → now ≡ found_from rules before (xs ++ (ys ++ zs))
-found_three rules before mid then now xs ys zs m t n = found_both rules before mid now xs (ys ++ zs) m (found_both rules mid then now ys zs t n)
+pub found_three : (rules second third : Around → Node → List Violation) (before mid then now : Option Violation) (xs ys zs : List Site)
+    → second ≡ rules → third ≡ second → mid ≡ found_from rules before xs → then ≡ found_from second mid ys → now ≡ found_from third then zs → now ≡ found_from rules before (xs ++ (ys ++ zs))
+found_three rules second third before mid then now xs ys zs s t m n o = found_both rules second before mid now xs (ys ++ zs) s m (found_both second third mid then now ys zs t n o)
 
 -- at the end of a list the rest has no sites
 pub ended : {A : Type 0} (rules : Around → Node → List Violation) (all_of : List A → List Site) (xs : List A) (i : ℕ) (now whole : Option Violation)

@@ -1,6 +1,6 @@
 -- What a walk through sites finds.
 use Rattle.std.specs.Prelude.{List, [], ◌∷◌, flat_map, Option, option_map}
-use Rattle.arc_ast.specs.Tree.{expr_tree, variable_tree, stmt_tree, type_tree, parameter_tree, function_tree, head_tree}
+use Rattle.arc_ast.specs.Tree.{expr_tree, variable_tree, stmt_tree, type_tree, parameter_tree, function_tree, global_tree, field_tree, head_tree}
 use Rattle.arc_sites.specs.declared.violation.Violation.{Violation}
 use Rattle.arc_sites.specs.declared.message.Message as code_message
 use Rattle.arc_sites.specs.declared.node.Enclosing as code_enclosing
@@ -8,7 +8,7 @@ use Rattle.arc_sites.specs.declared.node.Enclosing.TheVariants as e
 use Rattle.arc_sites.specs.declared.node.Node as code_node
 use Rattle.arc_sites.specs.declared.node.Node.TheVariants as n
 use Rattle.arc_sites.specs.Violations.{first, earlier_of}
-use Rattle.arc_sites.specs.Sites.{Enclosing, InFunction, InMethod, InInterface, Around, Scope, Need, Node, Value, Statement, Variable, Parameter, Function, Declared, Defined, Site}
+use Rattle.arc_sites.specs.Sites.{Enclosing, InFunction, InMethod, InInterface, InImplementation, InSource, Around, Scope, Need, Node, Value, Statement, Variable, Parameter, Function, Global, Field, Declared, Defined, Site}
 use Rattle.arc_sites.specs.Messages.{Message}
 
 -- ---- what the code has of a node, without where it lies in memory
@@ -17,13 +17,17 @@ abbrev pub enclosing_of : code_enclosing.Enclosing → Enclosing
 enclosing_of (e.Function f) = InFunction (function_tree f.now)
 enclosing_of (e.Method class head) = InMethod class.now.name.items (head_tree head.now)
 enclosing_of (e.Interface class) = InInterface class.now.name.items
+enclosing_of (e.Implementation class) = InImplementation class.now.name.items
+enclosing_of e.Source = InSource
 
 abbrev pub node_of : code_node.Node → Node
 node_of (n.Value a) = Value (expr_tree a.now)
 node_of (n.Statement a) = Statement (stmt_tree a.now)
-node_of (n.Variable type v) = Variable (type_tree type.now) (variable_tree v.now)
+node_of (n.Variable qualifiers type v) = Variable qualifiers (type_tree type.now) (variable_tree v.now)
 node_of (n.Parameter p) = Parameter (parameter_tree p.now)
 node_of (n.Function f) = Function (function_tree f.now)
+node_of (n.Global g) = Global (global_tree g.now)
+node_of (n.Field f) = Field (field_tree f.now)
 node_of (n.Declared h) = Declared (head_tree h.now)
 node_of (n.Defined h) = Defined (head_tree h.now)
 

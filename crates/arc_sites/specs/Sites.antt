@@ -6,16 +6,19 @@ use Rattle.arc_ast.specs.declared.tree.UnaryOperator.{UnaryOperator}
 use Rattle.arc_ast.specs.declared.tree.UnaryOperator.TheVariants as u
 use Rattle.arc_ast.specs.declared.tree.OperatorSort.{OperatorSort}
 use Rattle.arc_ast.specs.declared.tree.OperatorSort.TheVariants.{Equality, Logic}
+use Rattle.arc_ast.specs.declared.tree.Qualifiers.{Qualifiers}
 use Rattle.arc_ast.specs.Tree as t
-use Rattle.arc_ast.specs.Tree.{TypeTree, ExprTree, ExprTrees, Paren, Call, Unary, Cast, Binary, Conditional, Arrow, Assign, Update, Send, SendSuper, no_exprs, and_expr, VariableTree, StmtTree, StmtTrees, Block, Empty, Simple, Return, Variables, If, IfElse, While, Do, For, Break, Continue, no_stmts, and_stmt, ParameterTree, ParametersTree, Listed, CountAndTexts, FunctionTree, HeadTree, MethodTree, InterfaceTree, ImplementationTree, UnitTree}
+use Rattle.arc_ast.specs.Tree.{TypeTree, ExprTree, ExprTrees, Paren, Call, Unary, Cast, Binary, Conditional, Arrow, Assign, Update, Send, SendSuper, no_exprs, and_expr, VariableTree, StmtTree, StmtTrees, Block, Empty, Simple, Return, Variables, If, IfElse, While, Do, For, Break, Continue, no_stmts, and_stmt, ParameterTree, ParametersTree, Listed, CountAndTexts, FunctionTree, GlobalTree, FieldTree, HeadTree, MethodTree, InterfaceTree, ImplementationTree, UnitTree}
 
 -- ---- what surrounds a node
 
--- What has a node: a function, a method of the class with a name, or the interface of such a class.
+-- What has a node: a function, a method of the class with a name, the interface or the implementation of such a class, or the source itself.
 pub data Enclosing : Type 0 where
   InFunction : FunctionTree → Enclosing
   InMethod : (class : List ℕ) → HeadTree → Enclosing
   InInterface : (class : List ℕ) → Enclosing
+  InImplementation : (class : List ℕ) → Enclosing
+  InSource : Enclosing
 
 -- a variable or a parameter that is in scope
 pub record Bound : Type 0 where
@@ -49,13 +52,16 @@ pub record Around : Type 0 where
   pub scope : Scope
   pub need : Need
 
--- A node: an expression, a statement, a variable that a declaration makes, a parameter of a body, a function, and a method that is declared or defined.
+-- A node: an expression, a statement, a variable that a declaration makes of a type after qualifiers, a parameter of a body, a function, a variable of the whole program, a
+-- field, and a method that is declared or defined.
 pub data Node : Type 0 where
   Value : ExprTree → Node
   Statement : StmtTree → Node
-  Variable : TypeTree → VariableTree → Node
+  Variable : Qualifiers → TypeTree → VariableTree → Node
   Parameter : ParameterTree → Node
   Function : FunctionTree → Node
+  Global : GlobalTree → Node
+  Field : FieldTree → Node
   Declared : HeadTree → Node
   Defined : HeadTree → Node
 
@@ -85,7 +91,7 @@ with_variables type all s = fold (λ s v. declare v.name type s) s all
 
 -- what is in scope after a statement
 abbrev pub after : Scope → StmtTree → Scope
-after s (Variables at type all) = with_variables type all s
+after s (Variables at qualifiers type all) = with_variables type all s
 after s _ = s
 
 -- before the parameters of a function or of a method; they and the variables of its outermost block are one scope (C99, section 6.9.1)
@@ -154,10 +160,10 @@ maybe_sites m s need a = option_map_or (sites m s need) a []
 -- ---- statements
 
 -- the sites of a declaration's variables; a variable is in scope in its own first value (C99, section 6.2.1)
-abbrev pub variable_sites : Enclosing → TypeTree → Scope → List VariableTree → List Site
-variable_sites m type s [] = []
-variable_sites m type s (v ∷ others) =
-    (site m s (Variable type v) ++ maybe_sites m (declare v.name type s) (Initial type) v.initial) ++ variable_sites m type (declare v.name type s) others
+abbrev pub variable_sites : Enclosing → Qualifiers → TypeTree → Scope → List VariableTree → List Site
+variable_sites m qualifiers type s [] = []
+variable_sites m qualifiers type s (v ∷ others) =
+    (site m s (Variable qualifiers type v) ++ maybe_sites m (declare v.name type s) (Initial type) v.initial) ++ variable_sites m qualifiers type (declare v.name type s) others
 
 -- The sites inside a statement, and of statements. A block is a scope of its own, and so is what an `if` or a loop runs (C99, section 6.8); a `for` is one around
 -- its body, with the variables that are declared before it (section 6.8.5.3).
@@ -167,7 +173,7 @@ abbrev mutual
   within m s (Empty at) = []
   within m s (Simple a) = sites m s Anything a
   within m s (Return at a) = maybe_sites m s Result a
-  within m s (Variables at type all) = variable_sites m type s all
+  within m s (Variables at qualifiers type all) = variable_sites m qualifiers type s all
   within m s (If at c a) = sites m s AValue c ++ (site m (inner false s) (Statement a) ++ within m (inner false s) a)
   within m s (IfElse at c a b) =
       sites m s AValue c ++ ((site m (inner false s) (Statement a) ++ within m (inner false s) a) ++ (site m (inner false s) (Statement b) ++ within m (inner false s) b))
@@ -213,12 +219,18 @@ head_sites class h = site (InInterface class) outermost (Declared h)
 abbrev pub method_sites : (class : List ℕ) → MethodTree → List Site
 method_sites class m = site (InMethod class m.head) outermost (Defined m.head) ++ body_sites (InMethod class m.head) m.head.parameters (Some m.body)
 
+abbrev pub field_sites : Enclosing → List FieldTree → List Site
+field_sites m = flat_map (λ f. site m outermost (Field f))
+
+abbrev pub global_sites : GlobalTree → List Site
+global_sites g = site InSource outermost (Global g)
+
 abbrev pub interface_sites : InterfaceTree → List Site
-interface_sites i = flat_map (head_sites i.name) i.methods
+interface_sites i = field_sites (InInterface i.name) i.fields ++ flat_map (head_sites i.name) i.methods
 
 abbrev pub implementation_sites : ImplementationTree → List Site
-implementation_sites i = flat_map (method_sites i.name) i.methods
+implementation_sites i = field_sites (InImplementation i.name) i.fields ++ flat_map (method_sites i.name) i.methods
 
 -- the sites of a source
 abbrev pub unit_sites : UnitTree → List Site
-unit_sites u = flat_map function_sites u.functions ++ (flat_map interface_sites u.interfaces ++ flat_map implementation_sites u.implementations)
+unit_sites u = flat_map function_sites u.functions ++ (flat_map global_sites u.globals ++ (flat_map interface_sites u.interfaces ++ flat_map implementation_sites u.implementations))

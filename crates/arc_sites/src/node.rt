@@ -1,6 +1,7 @@
 //! The nodes of a tree, and what has them.
 use arc_ast::tree::{
-    Expr, Function, Implementation, Interface, MethodHead, Parameter, Stmt, TypeName, Variable,
+    Expr, Field, Function, Global, Implementation, Interface, MethodHead, Parameter, Qualifiers,
+    Stmt, TypeName, Variable,
 };
 
 /// What has a node.
@@ -10,6 +11,10 @@ pub enum Enclosing<'a> {
     /// A method of an implementation.
     Method(&'a Implementation, &'a MethodHead),
     Interface(&'a Interface),
+    /// An implementation, but for its methods.
+    Implementation(&'a Implementation),
+    /// The source itself.
+    Source,
 }
 
 /// A node of a tree.
@@ -17,11 +22,15 @@ pub enum Enclosing<'a> {
 pub enum Node<'a> {
     Value(&'a Expr),
     Statement(&'a Stmt),
-    /// A variable that a declaration makes, of a type.
-    Variable(&'a TypeName, &'a Variable),
+    /// A variable that a declaration makes, of a type after qualifiers.
+    Variable(Qualifiers, &'a TypeName, &'a Variable),
     /// A parameter of a function or of a method that has a body.
     Parameter(&'a Parameter),
     Function(&'a Function),
+    /// A variable of the whole program.
+    Global(&'a Global),
+    /// A field that an interface or an implementation declares.
+    Field(&'a Field),
     /// A method that an interface declares.
     Declared(&'a MethodHead),
     /// A method that an implementation defines.

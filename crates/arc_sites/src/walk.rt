@@ -1,6 +1,6 @@
 //! A walk through all sites of a source.
 ghost use Rattle.std.specs.Prelude.{◌≡◌, List, Option, flat_map, option_map};
-ghost use Rattle.arc_ast.specs.Tree.{expr_tree, expr_trees, variable_trees, type_tree, stmt_tree, stmt_trees, parameter_trees, parameters_tree, function_tree, function_trees, head_trees, method_tree, method_trees, interface_tree, interface_trees, implementation_tree, implementation_trees, unit_tree};
+ghost use Rattle.arc_ast.specs.Tree.{expr_tree, expr_trees, variable_trees, type_tree, stmt_tree, stmt_trees, parameter_trees, parameters_tree, function_tree, function_trees, global_trees, field_trees, head_trees, method_tree, method_trees, interface_tree, interface_trees, implementation_tree, implementation_trees, unit_tree};
 ghost use Rattle.arc_sites.specs.Violations.{first, earlier_of};
 ghost use Rattle.arc_sites.specs.Sites as sites;
 ghost use Rattle.arc_sites.specs.Sites.{Scope, Need};
@@ -8,8 +8,8 @@ ghost use Rattle.arc_sites.specs.Finding.{enclosing_of, node_of, around, found_f
 
 use crate::node::{Enclosing, Node};
 use arc_ast::tree::{
-    Expr, Function, Implementation, Interface, Method, MethodHead, Parameter, Parameters, Stmt,
-    TranslationUnit, TypeName, Variable,
+    Expr, Field, Function, Global, Implementation, Interface, Method, MethodHead, Parameter,
+    Parameters, Qualifiers, Stmt, TranslationUnit, TypeName, Variable,
 };
 
 /// What looks at each site of a source for violations of some rules.
@@ -18,20 +18,22 @@ pub trait Visitor {
     ghost use Rattle.arc_sites.specs.Sites as sites;
 
     /// What the rules say of a site.
-    ghost violations: { sites.Around → sites.Node → List Violation };
+    ghost violations: { Self → sites.Around → sites.Node → List Violation };
 
     /// The first violation that it has found.
     ghost found: { Self → Option Violation };
 
     /// Looks at a site. The rules ask nothing of scopes and needs.
     fn visit(&mut self, enclosing: Enclosing, node: Node)
-        ensures { (scope : sites.Scope) (need : sites.Need) → found self.new ≡ earlier_of (found self.old) (first (violations (around (enclosing_of enclosing.entry) scope need) (node_of node.entry))) };
+        ensures found { (scope : sites.Scope) (need : sites.Need) → found self.new ≡ earlier_of (found self.old) (first (violations self.old (around (enclosing_of enclosing.entry) scope need) (node_of node.entry))) }
+        ensures same { violations self.new ≡ violations self.old };
 }
 
 /// Visits an expression, and first what is inside it.
 #[cycle(expressions)]
 fn expression<V: Visitor>(visitor: &mut V, enclosing: Enclosing, expr: &Expr)
-    ensures { (scope : Scope) (need : Need) → V.found visitor.new ≡ found_from V.violations (V.found visitor.old) (sites.sites (enclosing_of enclosing.entry) scope need (expr_tree expr.now)) }
+    ensures found { (scope : Scope) (need : Need) → V.found visitor.new ≡ found_from (V.violations visitor.old) (V.found visitor.old) (sites.sites (enclosing_of enclosing.entry) scope need (expr_tree expr.now)) }
+    ensures same { V.violations visitor.new ≡ V.violations visitor.old }
 {
     inside(visitor, enclosing, expr);
     visitor.visit(enclosing, Node::Value(expr));
@@ -40,7 +42,8 @@ fn expression<V: Visitor>(visitor: &mut V, enclosing: Enclosing, expr: &Expr)
 /// Visits what is inside an expression.
 #[cycle(expressions)]
 fn inside<V: Visitor>(visitor: &mut V, enclosing: Enclosing, expr: &Expr)
-    ensures { (scope : Scope) (need : Need) → V.found visitor.new ≡ found_from V.violations (V.found visitor.old) (sites.inside (enclosing_of enclosing.entry) scope need (expr_tree expr.now)) }
+    ensures found { (scope : Scope) (need : Need) → V.found visitor.new ≡ found_from (V.violations visitor.old) (V.found visitor.old) (sites.inside (enclosing_of enclosing.entry) scope need (expr_tree expr.now)) }
+    ensures same { V.violations visitor.new ≡ V.violations visitor.old }
 {
     match expr {
         Expr::Integer(_, _, _)
@@ -81,7 +84,8 @@ fn inside<V: Visitor>(visitor: &mut V, enclosing: Enclosing, expr: &Expr)
 /// Visits arguments.
 #[cycle(expressions)]
 fn arguments<V: Visitor>(visitor: &mut V, enclosing: Enclosing, all: &[Expr])
-    ensures { (scope : Scope) (one others : Need) → V.found visitor.new ≡ found_from V.violations (V.found visitor.old) (sites.arguments (enclosing_of enclosing.entry) scope one others (expr_trees all.now)) }
+    ensures found { (scope : Scope) (one others : Need) → V.found visitor.new ≡ found_from (V.violations visitor.old) (V.found visitor.old) (sites.arguments (enclosing_of enclosing.entry) scope one others (expr_trees all.now)) }
+    ensures same { V.violations visitor.new ≡ V.violations visitor.old }
 {
     for argument in all {
         expression(visitor, enclosing, argument);
@@ -90,7 +94,8 @@ fn arguments<V: Visitor>(visitor: &mut V, enclosing: Enclosing, all: &[Expr])
 
 /// Visits an expression, if there is one.
 fn maybe<V: Visitor>(visitor: &mut V, enclosing: Enclosing, expr: &Option<Expr>)
-    ensures { (scope : Scope) (need : Need) → V.found visitor.new ≡ found_from V.violations (V.found visitor.old) (sites.maybe_sites (enclosing_of enclosing.entry) scope need (option_map expr_tree expr.now)) }
+    ensures found { (scope : Scope) (need : Need) → V.found visitor.new ≡ found_from (V.violations visitor.old) (V.found visitor.old) (sites.maybe_sites (enclosing_of enclosing.entry) scope need (option_map expr_tree expr.now)) }
+    ensures same { V.violations visitor.new ≡ V.violations visitor.old }
 {
     if let Some(expr) = expr {
         expression(visitor, enclosing, expr);
@@ -101,13 +106,15 @@ fn maybe<V: Visitor>(visitor: &mut V, enclosing: Enclosing, expr: &Option<Expr>)
 fn variables<V: Visitor>(
     visitor: &mut V,
     enclosing: Enclosing,
+    qualifiers: Qualifiers,
     type_name: &TypeName,
     all: &[Variable],
 )
-    ensures { (scope : Scope) → V.found visitor.new ≡ found_from V.violations (V.found visitor.old) (sites.variable_sites (enclosing_of enclosing.entry) (type_tree type_name.now) scope (variable_trees all.now)) }
+    ensures found { (scope : Scope) → V.found visitor.new ≡ found_from (V.violations visitor.old) (V.found visitor.old) (sites.variable_sites (enclosing_of enclosing.entry) qualifiers (type_tree type_name.now) scope (variable_trees all.now)) }
+    ensures same { V.violations visitor.new ≡ V.violations visitor.old }
 {
     for variable in all {
-        visitor.visit(enclosing, Node::Variable(type_name, variable));
+        visitor.visit(enclosing, Node::Variable(qualifiers, type_name, variable));
         maybe(visitor, enclosing, &variable.initial);
     }
 }
@@ -115,7 +122,8 @@ fn variables<V: Visitor>(
 /// Visits a statement, and then what is inside it.
 #[cycle(statements)]
 fn statement<V: Visitor>(visitor: &mut V, enclosing: Enclosing, stmt: &Stmt)
-    ensures { (scope : Scope) → V.found visitor.new ≡ found_from V.violations (V.found visitor.old) (sites.stmt_sites (enclosing_of enclosing.entry) scope (stmt_tree stmt.now)) }
+    ensures found { (scope : Scope) → V.found visitor.new ≡ found_from (V.violations visitor.old) (V.found visitor.old) (sites.stmt_sites (enclosing_of enclosing.entry) scope (stmt_tree stmt.now)) }
+    ensures same { V.violations visitor.new ≡ V.violations visitor.old }
 {
     visitor.visit(enclosing, Node::Statement(stmt));
     within(visitor, enclosing, stmt);
@@ -124,14 +132,17 @@ fn statement<V: Visitor>(visitor: &mut V, enclosing: Enclosing, stmt: &Stmt)
 /// Visits what is inside a statement.
 #[cycle(statements)]
 fn within<V: Visitor>(visitor: &mut V, enclosing: Enclosing, stmt: &Stmt)
-    ensures { (scope : Scope) → V.found visitor.new ≡ found_from V.violations (V.found visitor.old) (sites.within (enclosing_of enclosing.entry) scope (stmt_tree stmt.now)) }
+    ensures found { (scope : Scope) → V.found visitor.new ≡ found_from (V.violations visitor.old) (V.found visitor.old) (sites.within (enclosing_of enclosing.entry) scope (stmt_tree stmt.now)) }
+    ensures same { V.violations visitor.new ≡ V.violations visitor.old }
 {
     match stmt {
         Stmt::Block(_, all) => statements(visitor, enclosing, all),
         Stmt::Empty(_) | Stmt::Break(_) | Stmt::Continue(_) => {}
         Stmt::Expr(expr) => expression(visitor, enclosing, expr),
         Stmt::Return(_, expr) => maybe(visitor, enclosing, expr),
-        Stmt::Variables(_, type_name, all) => variables(visitor, enclosing, type_name, all),
+        Stmt::Variables(_, qualifiers, type_name, all) => {
+            variables(visitor, enclosing, *qualifiers, type_name, all)
+        }
         Stmt::If(_, test, then) => {
             expression(visitor, enclosing, test);
             statement(visitor, enclosing, then);
@@ -161,7 +172,8 @@ fn within<V: Visitor>(visitor: &mut V, enclosing: Enclosing, stmt: &Stmt)
 /// Visits the statements of a block.
 #[cycle(statements)]
 fn statements<V: Visitor>(visitor: &mut V, enclosing: Enclosing, all: &[Stmt])
-    ensures { (scope : Scope) → V.found visitor.new ≡ found_from V.violations (V.found visitor.old) (sites.all_sites (enclosing_of enclosing.entry) scope (stmt_trees all.now)) }
+    ensures found { (scope : Scope) → V.found visitor.new ≡ found_from (V.violations visitor.old) (V.found visitor.old) (sites.all_sites (enclosing_of enclosing.entry) scope (stmt_trees all.now)) }
+    ensures same { V.violations visitor.new ≡ V.violations visitor.old }
 {
     for stmt in all {
         statement(visitor, enclosing, stmt);
@@ -170,7 +182,8 @@ fn statements<V: Visitor>(visitor: &mut V, enclosing: Enclosing, all: &[Stmt])
 
 /// Visits the parameters of a body.
 fn parameters<V: Visitor>(visitor: &mut V, enclosing: Enclosing, all: &[Parameter])
-    ensures { (scope : Scope) → V.found visitor.new ≡ found_from V.violations (V.found visitor.old) (sites.parameter_sites (enclosing_of enclosing.entry) scope (parameter_trees all.now)) }
+    ensures found { (scope : Scope) → V.found visitor.new ≡ found_from (V.violations visitor.old) (V.found visitor.old) (sites.parameter_sites (enclosing_of enclosing.entry) scope (parameter_trees all.now)) }
+    ensures same { V.violations visitor.new ≡ V.violations visitor.old }
 {
     for parameter in all {
         visitor.visit(enclosing, Node::Parameter(parameter));
@@ -189,7 +202,8 @@ fn named_parameters(all: &Parameters) -> &[Parameter]
 
 /// Visits a function.
 fn function<V: Visitor>(visitor: &mut V, function: &Function)
-    ensures { V.found visitor.new ≡ found_from V.violations (V.found visitor.old) (sites.function_sites (function_tree function.now)) }
+    ensures found { V.found visitor.new ≡ found_from (V.violations visitor.old) (V.found visitor.old) (sites.function_sites (function_tree function.now)) }
+    ensures same { V.violations visitor.new ≡ V.violations visitor.old }
 {
     let enclosing = Enclosing::Function(function);
     visitor.visit(enclosing, Node::Function(function));
@@ -201,16 +215,38 @@ fn function<V: Visitor>(visitor: &mut V, function: &Function)
 
 /// Visits some functions.
 fn functions<V: Visitor>(visitor: &mut V, all: &[Function])
-    ensures { V.found visitor.new ≡ found_from V.violations (V.found visitor.old) (flat_map sites.function_sites (function_trees all.now)) }
+    ensures found { V.found visitor.new ≡ found_from (V.violations visitor.old) (V.found visitor.old) (flat_map sites.function_sites (function_trees all.now)) }
+    ensures same { V.violations visitor.new ≡ V.violations visitor.old }
 {
     for one in all {
         function(visitor, one);
     }
 }
 
+/// Visits some variables of the whole program.
+fn globals<V: Visitor>(visitor: &mut V, all: &[Global])
+    ensures found { V.found visitor.new ≡ found_from (V.violations visitor.old) (V.found visitor.old) (flat_map sites.global_sites (global_trees all.now)) }
+    ensures same { V.violations visitor.new ≡ V.violations visitor.old }
+{
+    for global in all {
+        visitor.visit(Enclosing::Source, Node::Global(global));
+    }
+}
+
+/// Visits some fields.
+fn fields<V: Visitor>(visitor: &mut V, enclosing: Enclosing, all: &[Field])
+    ensures found { V.found visitor.new ≡ found_from (V.violations visitor.old) (V.found visitor.old) (sites.field_sites (enclosing_of enclosing.entry) (field_trees all.now)) }
+    ensures same { V.violations visitor.new ≡ V.violations visitor.old }
+{
+    for field in all {
+        visitor.visit(enclosing, Node::Field(field));
+    }
+}
+
 /// Visits the methods that an interface declares.
 fn heads<V: Visitor>(visitor: &mut V, interface: &Interface, all: &[MethodHead])
-    ensures { V.found visitor.new ≡ found_from V.violations (V.found visitor.old) (flat_map (sites.head_sites interface.now.name.items) (head_trees all.now)) }
+    ensures found { V.found visitor.new ≡ found_from (V.violations visitor.old) (V.found visitor.old) (flat_map (sites.head_sites interface.now.name.items) (head_trees all.now)) }
+    ensures same { V.violations visitor.new ≡ V.violations visitor.old }
 {
     for head in all {
         visitor.visit(Enclosing::Interface(interface), Node::Declared(head));
@@ -219,16 +255,19 @@ fn heads<V: Visitor>(visitor: &mut V, interface: &Interface, all: &[MethodHead])
 
 /// Visits some interfaces.
 fn interfaces<V: Visitor>(visitor: &mut V, all: &[Interface])
-    ensures { V.found visitor.new ≡ found_from V.violations (V.found visitor.old) (flat_map sites.interface_sites (interface_trees all.now)) }
+    ensures found { V.found visitor.new ≡ found_from (V.violations visitor.old) (V.found visitor.old) (flat_map sites.interface_sites (interface_trees all.now)) }
+    ensures same { V.violations visitor.new ≡ V.violations visitor.old }
 {
     for interface in all {
+        fields(visitor, Enclosing::Interface(interface), &interface.fields);
         heads(visitor, interface, &interface.methods);
     }
 }
 
 /// Visits a method that an implementation defines.
 fn method<V: Visitor>(visitor: &mut V, implementation: &Implementation, method: &Method)
-    ensures { V.found visitor.new ≡ found_from V.violations (V.found visitor.old) (sites.method_sites implementation.now.name.items (method_tree method.now)) }
+    ensures found { V.found visitor.new ≡ found_from (V.violations visitor.old) (V.found visitor.old) (sites.method_sites implementation.now.name.items (method_tree method.now)) }
+    ensures same { V.violations visitor.new ≡ V.violations visitor.old }
 {
     let enclosing = Enclosing::Method(implementation, &method.head);
     visitor.visit(enclosing, Node::Defined(&method.head));
@@ -238,7 +277,8 @@ fn method<V: Visitor>(visitor: &mut V, implementation: &Implementation, method: 
 
 /// Visits the methods that an implementation defines.
 fn methods<V: Visitor>(visitor: &mut V, implementation: &Implementation, all: &[Method])
-    ensures { V.found visitor.new ≡ found_from V.violations (V.found visitor.old) (flat_map (sites.method_sites implementation.now.name.items) (method_trees all.now)) }
+    ensures found { V.found visitor.new ≡ found_from (V.violations visitor.old) (V.found visitor.old) (flat_map (sites.method_sites implementation.now.name.items) (method_trees all.now)) }
+    ensures same { V.violations visitor.new ≡ V.violations visitor.old }
 {
     for one in all {
         method(visitor, implementation, one);
@@ -247,18 +287,26 @@ fn methods<V: Visitor>(visitor: &mut V, implementation: &Implementation, all: &[
 
 /// Visits some implementations.
 fn implementations<V: Visitor>(visitor: &mut V, all: &[Implementation])
-    ensures { V.found visitor.new ≡ found_from V.violations (V.found visitor.old) (flat_map sites.implementation_sites (implementation_trees all.now)) }
+    ensures found { V.found visitor.new ≡ found_from (V.violations visitor.old) (V.found visitor.old) (flat_map sites.implementation_sites (implementation_trees all.now)) }
+    ensures same { V.violations visitor.new ≡ V.violations visitor.old }
 {
     for implementation in all {
+        fields(
+            visitor,
+            Enclosing::Implementation(implementation),
+            &implementation.fields,
+        );
         methods(visitor, implementation, &implementation.methods);
     }
 }
 
 /// Visits each site of a source.
 pub fn walk<V: Visitor>(visitor: &mut V, unit: &TranslationUnit)
-    ensures { V.found visitor.new ≡ found_from V.violations (V.found visitor.old) (sites.unit_sites (unit_tree unit.now)) }
+    ensures found { V.found visitor.new ≡ found_from (V.violations visitor.old) (V.found visitor.old) (sites.unit_sites (unit_tree unit.now)) }
+    ensures same { V.violations visitor.new ≡ V.violations visitor.old }
 {
     functions(visitor, &unit.functions);
+    globals(visitor, &unit.globals);
     interfaces(visitor, &unit.interfaces);
     implementations(visitor, &unit.implementations);
 }

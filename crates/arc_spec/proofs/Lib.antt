@@ -4,3 +4,4 @@ pub mod Ancestry
 pub mod Deallocs
 pub mod Answering
 pub mod Ordering
+pub mod Components

@@ -1,8 +1,12 @@
 -- Classes, and the methods that messages find.
 use Rattle.std.specs.Prelude.{ℕ, zero, suc, ◌-◌, ℤ, pos, negsuc, Bool, true, false, ◌&&◌, nat_eq, nat_lt, List, [], ◌∷◌, ◌++◌, length, map, Option, Some, None, slice_get, if◌then◌else◌}
 use Rattle.std.specs.List.{list_any}
+use Rattle.arc_ast.specs.declared.tree.Kind.{Kind}
+use Rattle.arc_ast.specs.declared.tree.Kind.TheVariants as k
 use Rattle.arc_ast.specs.declared.tree.Sign.{Sign}
 use Rattle.arc_ast.specs.declared.tree.Sign.TheVariants as signs
+use Rattle.arc_spec.specs.declared.class.Gives.{Gives}
+use Rattle.arc_spec.specs.declared.class.Gives.TheVariants as gives
 use Rattle.arc_spec.specs.declared.class.Method.{Method}
 use Rattle.arc_spec.specs.declared.class.Class as declared
 
@@ -26,14 +30,26 @@ same_sign signs.Class signs.Class = true
 same_sign signs.Instance signs.Instance = true
 same_sign a b = false
 
--- whether a method answers a message of this sign with this selector, and so many numbers and objects as arguments
-abbrev pub answers : Sign → (selector takes objects : ℕ) → Method → Bool
-answers sign selector takes objects m = same_sign m.sign sign && (nat_eq m.selector selector && (nat_eq m.takes takes && nat_eq m.objects objects))
+-- what gives a value of a kind, or no value: what has no result gives the number 0
+abbrev pub gives_of : Kind → Gives
+gives_of k.Object = gives.Object
+gives_of _ = gives.Number
+
+abbrev pub same_gives : Gives → Gives → Bool
+same_gives gives.Number gives.Number = true
+same_gives gives.Object gives.Object = true
+same_gives a b = false
+
+-- whether a method answers a message of this sign with this selector, and so many numbers and objects as arguments, which wants a number or an object of it
+abbrev pub answers : Sign → (selector takes objects : ℕ) → (wanted : Gives) → Method → Bool
+answers sign selector takes objects wanted m =
+    same_sign m.sign sign && (nat_eq m.selector selector && (nat_eq m.takes takes && (nat_eq m.objects objects && same_gives m.gives wanted)))
 
 -- what the first method runs that answers a message
-abbrev pub found : Sign → (selector takes objects : ℕ) → List Method → Option ℕ
-found sign selector takes objects [] = None
-found sign selector takes objects (m ∷ others) = if answers sign selector takes objects m then Some m.runs else found sign selector takes objects others
+abbrev pub found : Sign → (selector takes objects : ℕ) → (wanted : Gives) → List Method → Option ℕ
+found sign selector takes objects wanted [] = None
+found sign selector takes objects wanted (m ∷ others) =
+    if answers sign selector takes objects wanted m then Some m.runs else found sign selector takes objects wanted others
 
 -- ---- the classes above a class
 
@@ -74,9 +90,22 @@ own_methods None = []
 own_methods (Some c) = c.methods
 
 -- What a message runs: the method of the first class that has one, from the class with this number up to the root (OPL, "How Messaging Works").
-abbrev pub lookup : List Class → Option ℕ → Sign → (selector takes objects : ℕ) → Option ℕ
-lookup classes from sign selector takes objects =
-    first_that_has (λ class. found sign selector takes objects (own_methods (slice_get classes class))) (ancestry (superclasses classes) from)
+abbrev pub lookup : List Class → Option ℕ → Sign → (selector takes objects : ℕ) → (wanted : Gives) → Option ℕ
+lookup classes from sign selector takes objects wanted =
+    first_that_has (λ class. found sign selector takes objects wanted (own_methods (slice_get classes class))) (ancestry (superclasses classes) from)
+
+-- The numbers of two selectors of the root's own methods (`selectors` of arc_class): `new`, and `init`, which gives the object back that gets it (OPL, "Allocating and
+-- Initializing Objects").
+abbrev pub new_selector : ℕ
+new_selector = 1
+
+abbrev pub init_selector : ℕ
+init_selector = 2
+
+-- whether a message to an object is the root's own `init`, where no class has a method that answers it
+abbrev pub is_root_init : (selector takes objects : ℕ) → (wanted : Gives) → Bool
+is_root_init selector takes objects wanted =
+    nat_eq selector init_selector && (nat_eq takes 0 && (nat_eq objects 0 && same_gives wanted gives.Object))
 
 -- what the dealloc of a class runs
 abbrev pub own_dealloc : Option Class → Option ℕ

@@ -153,6 +153,22 @@ abbrev pub on_left : {S : Type 0} → List ℕ → Held → (Held → Next S) �
 on_left [] h go = only_if (all_nil h.variables) (go (with_variables h []))
 on_left (r ∷ others) h go = Stuck
 
+-- what the last of some places names, where the others are nil
+abbrev pub on_last : {S : Type 0} → List ℕ → (ℕ → Next S) → Next S
+on_last [] go = Stuck
+on_last (r ∷ []) go = go r
+on_last (zero ∷ q ∷ others) go = on_last (q ∷ others) go
+on_last (suc k ∷ q ∷ others) go = Stuck
+
+-- The running function is left with an object: it has no temporary, and its variables, of which all but the last one, its result, are nil, are no more.
+abbrev pub on_result : {S : Type 0} → List ℕ → Held → (ℕ → Held → Next S) → Next S
+on_result [] h go = on_last h.variables (λ r. go r (with_variables h []))
+on_result (r ∷ others) h go = Stuck
+
+-- a result is the last temporary, and the last reference names it: no place more or less names it than before it was handed over
+abbrev pub given_back : ℕ → Held → Held
+given_back r h = named r (with_temporaries h (r ∷ h.temporaries))
+
 -- ---- objects
 
 -- how many fields the objects of a class have that hold numbers

@@ -1,5 +1,6 @@
 pub mod Number
 pub mod Classes
+pub mod Families
 pub mod Objects
 pub mod Resolved
 pub mod World

@@ -1,5 +1,5 @@
 -- What a program means: the events that it shows on an input, and how it ends.
-use Rattle.std.specs.Prelude.{ℕ, zero, suc, ◌+◌, ℤ, pos, List, [], ◌∷◌, ◌++◌, length, Option, Some, None, Bool, true, false, not, ◌&&◌, nat_eq, slice_get, slice_set, slice_index_or, if◌then◌else◌}
+use Rattle.std.specs.Prelude.{ℕ, zero, suc, ◌+◌, ◌-◌, ℤ, pos, List, [], ◌∷◌, ◌++◌, length, Option, Some, None, Bool, true, false, not, ◌&&◌, nat_eq, slice_get, slice_set, slice_index_or, if◌then◌else◌}
 use Rattle.std.specs.Fmt.{signed_decimal}
 use Rattle.arc_ast.specs.declared.tree.BinaryOperator.{BinaryOperator}
 use Rattle.arc_ast.specs.declared.tree.Kind.{Kind}
@@ -10,11 +10,13 @@ use Rattle.arc_ast.specs.declared.tree.Sign.{Sign}
 use Rattle.arc_ast.specs.declared.tree.Sign.TheVariants as signs
 use Rattle.arc_spec.specs.declared.event.Event.TheVariants.{Dealloc}
 use Rattle.arc_spec.specs.declared.event.Fault.TheVariants.{Arithmetic, Unrecognized, NilField, FieldClass, Depth, Resurrected}
-use Rattle.arc_spec.specs.Classes.{Class, superclasses, ancestry, own_dealloc, lookup, descends, class_at, strong_count, field_order}
+use Rattle.arc_spec.specs.declared.class.Gives.{Gives}
+use Rattle.arc_spec.specs.declared.class.Gives.TheVariants as gives
+use Rattle.arc_spec.specs.Classes.{Class, superclasses, ancestry, own_dealloc, lookup, or_else, same_gives, new_selector, init_selector, is_root_init, descends, class_at, strong_count, field_order}
 use Rattle.arc_spec.specs.Number.{converted, applied, combined, low_byte, is_zero}
 use Rattle.arc_spec.specs.Objects.{Object, Phase, Dying, Emptying, Gone, object_at, with_object, in_phase, with_fields, with_strong_fields, is_live, is_emptying, new_object, names}
-use Rattle.arc_spec.specs.Resolved.{Piece, Bytes, Decimal, Character, Value, Number, ReadByte, Print, Applied, Combined, Choice, Converted, Location, Local, Global, Read, Assigned, Updated, Invoked, Sent, Receiver, ClassValue, ClassSuper, ObjectValue, ObjectSuper, Field, FieldAssigned, FieldUpdated, Differ, IsObject, Reference, Nil, Itself, Variable, Chosen, Stored, ObjectField, ObjectFieldStored, Made, Initialized, Arguments, no_arguments, number_argument, object_argument, Command, Sequence, Evaluate, EvaluateReference, Begin, Return, Choose, Repeat, RepeatAfter, Break, Continue, Commands, no_commands, and_command, Function, Program}
-use Rattle.arc_spec.specs.World.{World, Outcome, Done, Faulted, Cut, then_do, Finished, finished, shows, prints, places, first_world, Given, nothing_given, entered, left, takes, named_at, stores, with_objects, with_locals, with_globals, with_temporaries, local_at, name_at, next_number, has_read}
+use Rattle.arc_spec.specs.Resolved.{Piece, Bytes, Decimal, Character, Value, Number, ReadByte, Print, Applied, Combined, Choice, Converted, Location, Local, Global, Read, Assigned, Updated, Invoked, Sent, Receiver, ClassValue, ClassSuper, ObjectValue, ObjectSuper, Field, FieldAssigned, FieldUpdated, Differ, IsObject, Reference, Nil, Itself, Variable, Chosen, Stored, ObjectField, ObjectFieldStored, Made, New, ObjectInvoked, ObjectSent, Arguments, no_arguments, number_argument, object_argument, Command, Sequence, Evaluate, EvaluateReference, Begin, Return, Give, Choose, Repeat, RepeatAfter, Break, Continue, Commands, no_commands, and_command, Function, Program}
+use Rattle.arc_spec.specs.World.{World, Outcome, Done, Faulted, Cut, then_do, Finished, finished, shows, prints, places, first_world, Given, nothing_given, Answer, entered, left, takes, named_at, stores, with_objects, with_locals, with_globals, with_temporaries, local_at, name_at, next_number, has_read}
 
 -- what a format writes of these values, of which each number takes the next (C99, section 7.19.6.1)
 abbrev pub formatted : List Piece → List ℤ → List ℕ
@@ -53,9 +55,10 @@ abbrev pub holds : Location → ℤ → World → World
 holds (Local i) x w = with_locals w (slice_set w.frame.locals i x)
 holds (Global i) x w = with_globals w (slice_set w.globals i x)
 
--- what a call does, one level deeper, with the number of the function, its `self` and what it is given; what the end of an object does; and the classes of the program
+-- what a call does, one level deeper, with what it wants, the number of the function, its `self` and what it is given; what the end of an object does; and the classes of
+-- the program
 pub record Deeper : Type 0 where
-  pub call : ℕ → (self : ℕ) → Given → World → Outcome ℤ
+  pub call : (wanted : Gives) → ℕ → (self : ℕ) → Given → World → Outcome Answer
   pub end_of : ℕ → World → Outcome Finished
   pub classes : List Class
 
@@ -95,28 +98,38 @@ and_object r given = record given { objects = r ∷ given.objects }
 
 -- A message to a class with what it has found: that function runs with the class as its first argument, `self` (OPL, "Using Hidden Arguments"); with none it is a
 -- fault, which is this project's own choice.
-abbrev pub dispatched : Deeper → Option ℕ → (class : ℤ) → Given → World → Outcome ℤ
-dispatched D None class given w = Faulted Unrecognized w
-dispatched D (Some f) class given w = D.call f 0 (and_number class given) w
+abbrev pub dispatched : Deeper → (wanted : Gives) → Option ℕ → (class : ℤ) → Given → World → Outcome Answer
+dispatched D wanted None class given w = Faulted Unrecognized w
+dispatched D wanted (Some f) class given w = D.call wanted f 0 (and_number class given) w
 
 -- the function that a message finds from a class up (OPL, "How Messaging Works")
-abbrev pub finds : Deeper → (from : Option ℕ) → Sign → (selector : ℕ) → Given → Option ℕ
-finds D from sign selector given = lookup D.classes from sign selector (length given.numbers) (length given.objects)
+abbrev pub finds : Deeper → (wanted : Gives) → (from : Option ℕ) → Sign → (selector : ℕ) → Given → Option ℕ
+finds D wanted from sign selector given = lookup D.classes from sign selector (length given.numbers) (length given.objects) wanted
+
+-- an object or nil is given
+abbrev pub gives_object : ℕ → Answer
+gives_object r = record { number = pos 0; object = r }
+
+-- What no class of the source answers, the root may: its `init` gives the object back that gets it, and is no level of its own (OPL, "Allocating and Initializing
+-- Objects").
+abbrev pub answered_by_root : (wanted : Gives) → (self selector : ℕ) → Given → World → Outcome Answer
+answered_by_root wanted self selector given w =
+    if is_root_init selector (length given.numbers) (length given.objects) wanted then Done (gives_object self) w else Faulted Unrecognized w
 
 -- a message to an object, the same
-abbrev pub runs_found : Deeper → Option ℕ → (self : ℕ) → Given → World → Outcome ℤ
-runs_found D None self given w = Faulted Unrecognized w
-runs_found D (Some f) self given w = D.call f self given w
+abbrev pub runs_found : Deeper → (wanted : Gives) → Option ℕ → (self selector : ℕ) → Given → World → Outcome Answer
+runs_found D wanted None self selector given w = answered_by_root wanted self selector given w
+runs_found D wanted (Some f) self selector given w = D.call wanted f self given w
 
 -- the class of an object
 abbrev pub class_in : Option Object → Option ℕ
 class_in None = None
 class_in (Some o) = Some o.class
 
--- a message to what this names, which is looked up from a class; to nil it gives 0 (OPL, "Sending Messages to nil")
-abbrev pub sent_from : Deeper → (from : Option ℕ) → (self selector : ℕ) → Given → World → Outcome ℤ
-sent_from D from zero selector given w = Done (pos 0) w
-sent_from D from (suc k) selector given w = runs_found D (finds D from signs.Instance selector given) (suc k) given w
+-- a message to what this names, which is looked up from a class; to nil it gives 0 or nil (OPL, "Sending Messages to nil")
+abbrev pub sent_from : Deeper → (wanted : Gives) → (from : Option ℕ) → (self selector : ℕ) → Given → World → Outcome Answer
+sent_from D wanted from zero selector given w = Done (gives_object 0) w
+sent_from D wanted from (suc k) selector given w = runs_found D wanted (finds D wanted from signs.Instance selector given) (suc k) selector given w
 
 -- who gets a message: a class, whose method is looked up from this class, an object, or an object whose method is looked up from this class
 pub data Target : Type 0 where
@@ -125,10 +138,18 @@ pub data Target : Type 0 where
   ToSuper : (from self : ℕ) → Target
 
 -- a message with its arguments
-abbrev pub sent : Deeper → Target → (selector : ℕ) → Given → World → Outcome ℤ
-sent D (ToClass from class) selector given w = dispatched D (finds D from signs.Class selector given) class given w
-sent D (ToObject self) selector given w = sent_from D (class_in (object_at w.objects self)) self selector given w
-sent D (ToSuper from self) selector given w = sent_from D (Some from) self selector given w
+abbrev pub sent : Deeper → (wanted : Gives) → Target → (selector : ℕ) → Given → World → Outcome Answer
+sent D wanted (ToClass from class) selector given w = dispatched D wanted (finds D wanted from signs.Class selector given) class given w
+sent D wanted (ToObject self) selector given w = sent_from D wanted (class_in (object_at w.objects self)) self selector given w
+sent D wanted (ToSuper from self) selector given w = sent_from D wanted (Some from) self selector given w
+
+-- the number that a call or a message gives
+abbrev pub number_given : Outcome Answer → Outcome ℤ
+number_given o = then_do o (λ a w. Done a.number w)
+
+-- and the object or nil, which a temporary of the caller takes (ARC, "Retained return values")
+abbrev pub object_given : Outcome Answer → Outcome ℕ
+object_given o = then_do o (λ a w. Done a.object (takes a.object w))
 
 -- ---- objects
 
@@ -146,6 +167,28 @@ abbrev pub made : Deeper → Option ℕ → World → Outcome ℕ
 made D None w = Faulted Unrecognized w
 made D (Some c) w = let class = slice_get D.classes c in
     Done (next_object w) (takes (next_object w) (with_objects w (w.objects ++ new_object c (field_count class) (strong_count class) ∷ [])))
+
+-- the temporary before the last one is dropped
+abbrev pub second_dropped : Deeper → List ℕ → World → Outcome Finished
+second_dropped D [] w = Done finished w
+second_dropped D (r ∷ []) w = Done finished w
+second_dropped D (r ∷ made_first ∷ others) w = released D made_first (with_temporaries w (r ∷ others))
+
+-- The root's `new` is `[[self alloc] init]`, without a level of its own. Of the two temporaries that these take the one that holds what `init` gives stays, as the caller's,
+-- and the one that holds what was made is dropped (OPL, "Allocating and Initializing Objects").
+abbrev pub made_new : Deeper → Option ℕ → World → Outcome ℕ
+made_new D class w =
+    then_do (made D class w) (λ r w1.
+    then_do (object_given (sent D gives.Object (ToObject r) init_selector nothing_given w1)) (λ a w2.
+    then_do (second_dropped D w2.frame.temporaries w2) (λ _ w3. Done a w3)))
+
+-- `new`, where a class of the source has such a method, and else that of the root
+abbrev pub new_found : Deeper → Option ℕ → (class : ℤ) → World → Outcome ℕ
+new_found D None class w = made_new D (class_at class) w
+new_found D (Some f) class w = object_given (D.call gives.Object f 0 (and_number class nothing_given) w)
+
+abbrev pub new_sent : Deeper → (from : Option ℕ) → (class : ℤ) → World → Outcome ℕ
+new_sent D from class w = new_found D (finds D gives.Object (or_else from (class_at class)) signs.Class new_selector nothing_given) class w
 
 -- an object's field is used, whose own class this is: nil has none, and an object of another class hasn't this one (this project's own choice)
 abbrev pub in_object : {A : Type 0} → Deeper → (class : ℕ) → Option Object → (Object → Outcome A) → World → Outcome A
@@ -206,9 +249,9 @@ abbrev mutual
   evaluated D (Updated moment i operator computed kept a) w =
       let old = held_at i w in
       then_do (evaluated D a w) (λ x w1. then_do (updated operator computed kept old x w1) (λ new w2. Done (given_by moment old new) (holds i new w2)))
-  evaluated D (Invoked f arguments) w = then_do (all_evaluated D arguments w) (λ given w1. D.call f 0 given w1)
+  evaluated D (Invoked f arguments) w = then_do (all_evaluated D arguments w) (λ given w1. number_given (D.call gives.Number f 0 given w1))
   evaluated D (Sent receiver selector arguments) w =
-      then_do (received D receiver w) (λ target w1. then_do (all_evaluated D arguments w1) (λ given w2. sent D target selector given w2))
+      then_do (received D receiver w) (λ target w1. then_do (all_evaluated D arguments w1) (λ given w2. number_given (sent D gives.Number target selector given w2)))
   evaluated D (Field a class index) w = then_do (referred D a w) (λ r w1. field_read D r class index w1)
   evaluated D (FieldAssigned a class index b) w = then_do (referred D a w) (λ r w1. then_do (evaluated D b w1) (λ v w2. field_set D r class index v w2))
   evaluated D (FieldUpdated moment a class index operator computed kept b) w =
@@ -228,13 +271,16 @@ abbrev mutual
       then_do (referred D a w) (λ r w1. then_do (referred D b w1) (λ value w2.
       then_do (object_field_set D r class index value w2) (λ _ w3. Done value (takes value w3))))
   referred D (Made a) w = then_do (evaluated D a w) (λ class w1. made D (class_at class) w1)
-  referred D (Initialized a) w = then_do (referred D a w) (λ r w1. Done r (takes r w1))
+  referred D (New from a) w = then_do (evaluated D a w) (λ class w1. new_sent D from class w1)
+  referred D (ObjectInvoked f arguments) w = then_do (all_evaluated D arguments w) (λ given w1. object_given (D.call gives.Object f 0 given w1))
+  referred D (ObjectSent receiver selector arguments) w =
+      then_do (received D receiver w) (λ target w1. then_do (all_evaluated D arguments w1) (λ given w2. object_given (sent D gives.Object target selector given w2)))
 
   pub received : Deeper → Receiver → World → Outcome Target
   received D (ClassValue a) w = then_do (evaluated D a w) (λ class w1. Done (ToClass (class_at class) class) w1)
   received D (ClassSuper from) w = Done (ToClass (Some from) (local_at w.frame.locals 0)) w
   received D (ObjectValue a) w = then_do (referred D a w) (λ self w1. Done (ToObject self) w1)
-  received D (ObjectSuper from) w = Done (ToSuper from w.frame.self) (takes w.frame.self w)
+  received D (ObjectSuper a from) w = then_do (referred D a w) (λ self w1. Done (ToSuper from self) w1)
 
   pub all_evaluated : Deeper → Arguments → World → Outcome Given
   all_evaluated D no_arguments w = Done nothing_given w
@@ -254,7 +300,11 @@ whole_reference D a w = then_do (referred D a w) (λ _ w1. all_dropped D w1)
 abbrev pub begun : Deeper → ℕ → Reference → World → Outcome Finished
 begun D i a w = then_do (referred D a w) (λ r w1. then_do (assigned D (Local i) r w1) (λ _ w2. all_dropped D w2))
 
--- how a statement is left: at its end, by a `break`, by a `continue`, or by a return with a value (C99, section 6.8.6)
+-- the place of the result of the running function, which is its last one
+abbrev pub result_place : World → ℕ
+result_place w = length w.frame.strong - 1
+
+-- how a statement is left: at its end, by a `break`, by a `continue`, or by a return with a value (C99, section 6.8.6); an object that is returned is in its place then
 pub data Flow : Type 0 where
   Normal : Flow
   Broken : Flow
@@ -310,6 +360,7 @@ abbrev mutual
   executed D bound (Begin i a) w = normally (begun D i a w)
   executed D bound (Return None) w = Done (Returned (pos 0)) w
   executed D bound (Return (Some a)) w = then_do (whole D a w) (λ v w1. Done (Returned v) w1)
+  executed D bound (Give a) w = then_do (begun D (result_place w) a w) (λ _ w1. Done (Returned (pos 0)) w1)
   executed D bound (Choose test a b) w = then_do (whole D test w) (λ v w1. chosen (is_zero v) (executed D bound a w1) (executed D bound b w1))
   executed D bound (Repeat test step body) w = turns bound (whole D test) (executed D bound step) (executed D bound body) w
   executed D bound (RepeatAfter body test) w = turns_after bound (whole D test) (executed D bound body) w
@@ -325,27 +376,39 @@ abbrev pub given : Flow → ℤ
 given (Returned v) = v
 given _ = pos 0
 
--- the function of a number; one that there isn't does nothing
-abbrev pub function_at : Program → ℕ → Function
-function_at P f = function_of (slice_get P.functions f)
+-- a function that does nothing, and gives 0 or nil
+abbrev pub nothing_giving : Gives → Function
+nothing_giving wanted = record { slots = 0; names = 0; parameters = 0; gives = wanted; owns = false; body = no_commands }
+
+-- the function of a number, of which this is wanted; one that there isn't, or that gives something else, does nothing
+abbrev pub function_at : Program → (wanted : Gives) → ℕ → Function
+function_at P wanted f = function_of (slice_get P.functions f)
   where
     function_of : Option Function → Function
-    function_of None = record { slots = 0; names = 0; parameters = 0; body = no_commands }
-    function_of (Some g) = g
+    function_of None = nothing_giving wanted
+    function_of (Some g) = if same_gives g.gives wanted then g else nothing_giving wanted
+
+-- how many strong places a function has but for its temporaries: its variables and, where it gives an object, the place of its result
+abbrev pub function_places : Function → ℕ
+function_places f = if same_gives f.gives gives.Object then suc f.names else f.names
+
+-- what a function gives that is left in this way: the place of its result names nothing, where it has none
+abbrev pub answer : Function → Flow → World → Answer
+answer f flow w = record { number = given flow; object = name_at w.frame.strong f.names }
 
 -- A call: the function runs with variables of its own, and after it the caller's are there again. The variables that name objects are dropped at its end, also
--- after a return, and the parameters among them last; those of blocks that were left before name nothing by then.
-abbrev pub called : Deeper → (bound : ℕ) → Function → (self : ℕ) → Given → World → Outcome ℤ
+-- after a return, and the parameters among them last; those of blocks that were left before name nothing by then. Its result isn't dropped.
+abbrev pub called : Deeper → (bound : ℕ) → Function → (self : ℕ) → Given → World → Outcome Answer
 called D bound f self given_to w =
-    then_do (all_executed D bound f.body (entered f.slots f.names f.parameters self given_to w)) (λ flow w1.
-    then_do (variables_dropped D 0 f.names w1) (λ _ w2. Done (given flow) (left w w2)))
+    then_do (all_executed D bound f.body (entered f.slots (function_places f) f.parameters f.owns self given_to w)) (λ flow w1.
+    then_do (variables_dropped D 0 f.names w1) (λ _ w2. Done (answer f flow w2) (left w w2)))
 
 -- ---- the end of an object (ARC, "dealloc")
 
 -- what the dealloc of a class does
 abbrev pub dealloc_run : Program → Deeper → (bound : ℕ) → Option ℕ → (o : ℕ) → World → Outcome Finished
 dealloc_run P D bound None o w = Done finished w
-dealloc_run P D bound (Some f) o w = then_do (called D bound (function_at P f) o nothing_given w) (λ _ w1. Done finished w1)
+dealloc_run P D bound (Some f) o w = then_do (called D bound (function_at P gives.Number f) o nothing_given w) (λ _ w1. Done finished w1)
 
 -- what the deallocs of these classes do, each once (ARC, "dealloc")
 abbrev pub deallocs_run : Program → Deeper → (bound : ℕ) → (classes : List ℕ) → (o : ℕ) → World → Outcome Finished
@@ -391,9 +454,9 @@ ended P D bound o w =
 
 -- calls and ends of objects where so many levels are left: with none they are a fault
 abbrev pub level : Program → (bound levels : ℕ) → Deeper
-level P bound zero = record { call = λ f self given w. Faulted Depth w; end_of = λ o w. Faulted Depth w; classes = P.classes }
+level P bound zero = record { call = λ wanted f self given w. Faulted Depth w; end_of = λ o w. Faulted Depth w; classes = P.classes }
 level P bound (suc n) = record {
-  call = λ f self given w. called (level P bound n) bound (function_at P f) self given w;
+  call = λ wanted f self given w. called (level P bound n) bound (function_at P wanted f) self given w;
   end_of = λ o w. ended P (level P bound n) bound o w;
   classes = P.classes;
 }
@@ -404,4 +467,5 @@ most_levels = 2000
 
 -- the meaning of a program on an input, with a bound on the turns of each loop: main's value, as an int
 abbrev pub mean : Program → List ℕ → (bound : ℕ) → Outcome ℤ
-mean P input bound = then_do ((level P bound most_levels).call P.main 0 nothing_given (first_world P.globals P.strong_globals input)) (λ v w. Done (converted k.Int v) w)
+mean P input bound =
+    then_do ((level P bound most_levels).call gives.Number P.main 0 nothing_given (first_world P.globals P.strong_globals input)) (λ a w. Done (converted k.Int a.number) w)

@@ -1,9 +1,10 @@
 -- A program whose names are resolved, whose kinds are known and whose conversions are written.
-use Rattle.std.specs.Prelude.{ℕ, ℤ, List, Option}
+use Rattle.std.specs.Prelude.{ℕ, ℤ, Bool, List, Option}
 use Rattle.arc_ast.specs.declared.tree.Kind.{Kind}
 use Rattle.arc_ast.specs.declared.tree.Moment.{Moment}
 use Rattle.arc_ast.specs.declared.tree.UnaryOperator.{UnaryOperator}
 use Rattle.arc_ast.specs.declared.tree.BinaryOperator.{BinaryOperator}
+use Rattle.arc_spec.specs.declared.class.Gives.{Gives}
 use Rattle.arc_spec.specs.Classes.{Class}
 pub use Rattle.arc_spec.specs.declared.location.Location.{Location}
 pub use Rattle.arc_spec.specs.declared.location.Location.TheVariants.{Local, Global}
@@ -37,8 +38,9 @@ mutual
     Differ : Reference → Reference → Value
     IsObject : Reference → Value
 
-  -- An expression that gives an object or nil: `nil`, `self`, a variable, an assignment to one, a field, an assignment to one, `alloc` or `new` of a class, and `init`
-  -- of an object. A variable goes by its number among those that name objects, of its function or of the program.
+  -- An expression that gives an object or nil: `nil`, `self`, a variable, an assignment to one, a field, an assignment to one, `alloc` of a class, `new` of a class, a call
+  -- and a message. A variable goes by its number among those that name objects, of its function or of the program. `new` has the class from which its method is looked up,
+  -- where that isn't the class that gets it but one above, as for `super`.
   pub data Reference : Type 0 where
     Nil : Reference
     Itself : Reference
@@ -48,15 +50,17 @@ mutual
     ObjectField : Reference → (class index : ℕ) → Reference
     ObjectFieldStored : Reference → (class index : ℕ) → Reference → Reference
     Made : Value → Reference
-    Initialized : Reference → Reference
+    New : (from : Option ℕ) → Value → Reference
+    ObjectInvoked : ℕ → Arguments → Reference
+    ObjectSent : Receiver → (selector : ℕ) → Arguments → Reference
 
-  -- What gets a message: a class, by its number, or an object. One to `super` goes to `self`, in a class method the class that got the message, and has the class from
-  -- which its method is looked up (OPL, "Messages to self and super").
+  -- What gets a message: a class, by its number, or an object. One to `super` goes to `self`, which in a class method is the class that got the message and in a method of
+  -- objects stands here, and has the class from which its method is looked up (OPL, "Messages to self and super").
   pub data Receiver : Type 0 where
     ClassValue : Value → Receiver
     ClassSuper : (from : ℕ) → Receiver
     ObjectValue : Reference → Receiver
-    ObjectSuper : (from : ℕ) → Receiver
+    ObjectSuper : Reference → (from : ℕ) → Receiver
 
   -- what a function or a method is passed, in its order: numbers, and objects or nil
   pub data Arguments : Type 0 where
@@ -66,13 +70,14 @@ mutual
 
 mutual
   -- A statement. A sequence has so many variables of its own that name objects, from the first one on; the beginning of such a variable is what it names first.
-  -- `Repeat` is a loop that begins with its test, whose step comes after each turn of its body; `RepeatAfter` begins with its body, and tests after each turn.
+  -- `Give` returns an object or nil. `Repeat` is a loop that begins with its test, whose step comes after each turn of its body; `RepeatAfter` begins with its body, and tests after each turn.
   pub data Command : Type 0 where
     Sequence : (first count : ℕ) → Commands → Command
     Evaluate : Value → Command
     EvaluateReference : Reference → Command
     Begin : ℕ → Reference → Command
     Return : Option Value → Command
+    Give : Reference → Command
     Choose : Value → Command → Command → Command
     Repeat : Value → (step body : Command) → Command
     RepeatAfter : (body : Command) → Value → Command
@@ -83,13 +88,16 @@ mutual
     no_commands : Commands
     and_command : Command → Commands → Commands
 
--- A function with how many variables it has that hold numbers, and how many that name objects. Of each sort the first are its parameters; those that name objects are
--- so many. A method is one too; the first number of a class method is `self`, the class that got the message, which is passed to it before its arguments (OPL, "Using
--- Hidden Arguments").
+-- A function with how many variables it has that hold numbers, and how many that name objects; what it gives; and whether it owns `self`. Of each sort the first
+-- variables are its parameters; those that name objects are so many. A method is one too; the first number of a class method is `self`, the class that got the message,
+-- which is passed to it before its arguments (OPL, "Using Hidden Arguments"). In a method that owns `self` this is the first variable that names an object, before the
+-- parameters, so that it may be assigned and is dropped last (ARC, "Semantics of init"; the order is this project's own choice).
 pub record Function : Type 0 where
   pub slots : ℕ
   pub names : ℕ
   pub parameters : ℕ
+  pub gives : Gives
+  pub owns : Bool
   pub body : Commands
 
 -- the functions of a program, which of them is main, what the variables of the whole program hold first that hold numbers, how many variables of the whole program name

@@ -1,5 +1,5 @@
 -- Programs whose meaning is known, to hold the definitions against.
-use Rattle.std.specs.Prelude.{◌≡◌, ℕ, pos, negsuc, List, [], ◌∷◌, ◌++◌, map, codes, Option, Some, None}
+use Rattle.std.specs.Prelude.{◌≡◌, ℕ, true, false, pos, negsuc, List, [], ◌∷◌, ◌++◌, map, codes, Option, Some, None}
 use Rattle.arc_ast.specs.declared.tree.Sign.{Sign}
 use Rattle.arc_ast.specs.declared.tree.Sign.TheVariants as signs
 use Rattle.arc_ast.specs.declared.tree.Kind.TheVariants.{Int, Long}
@@ -7,9 +7,10 @@ use Rattle.arc_ast.specs.declared.tree.UnaryOperator.TheVariants.{Negate}
 use Rattle.arc_ast.specs.declared.tree.BinaryOperator.TheVariants.{Add, Multiply, Divide}
 use Rattle.arc_spec.specs.declared.event.Event.{Event}
 use Rattle.arc_spec.specs.declared.event.Event.TheVariants.{Byte, Dealloc}
+use Rattle.arc_spec.specs.declared.class.Gives.TheVariants as gives
 use Rattle.arc_spec.specs.Classes.{Class}
 use Rattle.arc_spec.specs.declared.class.Method.{Method}
-use Rattle.arc_spec.specs.Resolved.{Value, Number, ReadByte, Print, Applied, Combined, Local, Global, Read, Sent, ClassValue, ClassSuper, ObjectValue, Field, FieldAssigned, Reference, Nil, Itself, Variable, Stored, ObjectField, ObjectFieldStored, Made, Program, no_arguments, number_argument, object_argument, Invoked, Command, Commands, Evaluate, EvaluateReference, Begin, Return, Function, no_commands, and_command, Bytes, Decimal, Character}
+use Rattle.arc_spec.specs.Resolved.{Value, Number, ReadByte, Print, Applied, Combined, Local, Global, Read, Sent, ClassValue, ClassSuper, ObjectValue, Field, FieldAssigned, Reference, Nil, Itself, Variable, Stored, ObjectField, ObjectFieldStored, Made, New, ObjectInvoked, ObjectSent, Program, no_arguments, number_argument, object_argument, Invoked, Command, Commands, Evaluate, EvaluateReference, Begin, Return, Give, Sequence, Function, no_commands, and_command, Bytes, Decimal, Character}
 use Rattle.arc_spec.specs.Correct.{Stop, meaning_seen}
 use Rattle.arc_spec.specs.Meaning.{mean}
 
@@ -23,7 +24,7 @@ Shows P input bytes stop = HasTrace P input (map Byte bytes) stop
 
 -- the same of a program that is this body of main alone
 abbrev pub Prints : Commands → (input bytes : List ℕ) → Stop → Type 0
-Prints body = Shows (record { functions = record { slots = 0; names = 0; parameters = 0; body = body } ∷ []; main = 0; globals = []; strong_globals = 0; classes = [] })
+Prints body = Shows (record { functions = record { slots = 0; names = 0; parameters = 0; gives = gives.Number; owns = false; body = body } ∷ []; main = 0; globals = []; strong_globals = 0; classes = [] })
 
 -- { printf("42"); return 7; }
 abbrev pub forty_two : Commands
@@ -59,7 +60,7 @@ least_long = and_command (Return (Some (Combined Divide Long (Number (negsuc 922
 
 -- a method with this selector and no arguments, which runs a function
 abbrev pub method : Sign → (selector runs : ℕ) → Method
-method sign selector runs = record { sign = sign; selector = selector; takes = 0; objects = 0; runs = runs }
+method sign selector runs = record { sign = sign; selector = selector; takes = 0; objects = 0; gives = gives.Number; runs = runs }
 
 -- a class without fields and dealloc
 abbrev pub plain_class : Option ℕ → List Method → Class
@@ -67,7 +68,7 @@ plain_class superclass methods = record { superclass = superclass; methods = met
 
 -- a method's body that returns this
 abbrev pub returns : Value → Function
-returns a = record { slots = 1; names = 0; parameters = 0; body = and_command (Return (Some a)) no_commands }
+returns a = record { slots = 1; names = 0; parameters = 0; gives = gives.Number; owns = false; body = and_command (Return (Some a)) no_commands }
 
 -- a class's number, as a value
 abbrev pub class_value : ℕ → Value
@@ -81,6 +82,8 @@ class_methods = record {
     slots = 0;
     names = 0;
     parameters = 0;
+    gives = gives.Number;
+    owns = false;
     body = and_command (Evaluate (Print (Decimal ∷ Bytes (codes " ") ∷ Decimal ∷ [])
         (number_argument (Sent (ClassValue (class_value 1)) 1 no_arguments) (number_argument (Sent (ClassValue (class_value 2)) 1 no_arguments) no_arguments))))
         (and_command (Evaluate (Sent (ClassValue (class_value 2)) 2 no_arguments)) no_commands);
@@ -112,9 +115,9 @@ printed text = Evaluate (Print (Bytes text ∷ []) no_arguments)
 -- A class A with a field _v, a method v that gives it, and a dealloc that prints it after a `d`; and main with this body and one variable that names an object.
 abbrev pub with_class_a : Commands → Program
 with_class_a body = record {
-  functions = record { slots = 0; names = 1; parameters = 0; body = body }
-      ∷ record { slots = 0; names = 0; parameters = 0; body = and_command (Return (Some own_field)) no_commands }
-      ∷ record { slots = 0; names = 0; parameters = 0; body = and_command (Evaluate (Print (Bytes (codes "d") ∷ Decimal ∷ []) (number_argument own_field no_arguments))) no_commands } ∷ [];
+  functions = record { slots = 0; names = 1; parameters = 0; gives = gives.Number; owns = false; body = body }
+      ∷ record { slots = 0; names = 0; parameters = 0; gives = gives.Number; owns = false; body = and_command (Return (Some own_field)) no_commands }
+      ∷ record { slots = 0; names = 0; parameters = 0; gives = gives.Number; owns = false; body = and_command (Evaluate (Print (Bytes (codes "d") ∷ Decimal ∷ []) (number_argument own_field no_arguments))) no_commands } ∷ [];
   main = 0;
   globals = [];
   strong_globals = 0;
@@ -156,7 +159,7 @@ dying_class dealloc fields strong_fields = record { superclass = Some 0; methods
 -- a program with a variable that names objects, `g`, a main with this body and one such variable, functions, and the classes after the root
 abbrev pub with_global : Commands → List Function → List Class → Program
 with_global body functions classes = record {
-  functions = record { slots = 0; names = 1; parameters = 0; body = body } ∷ functions;
+  functions = record { slots = 0; names = 1; parameters = 0; gives = gives.Number; owns = false; body = body } ∷ functions;
   main = 0;
   globals = [];
   strong_globals = 1;
@@ -165,7 +168,7 @@ with_global body functions classes = record {
 
 -- a function without variables that does this
 abbrev pub does : Commands → Function
-does body = record { slots = 0; names = 0; parameters = 0; body = body }
+does body = record { slots = 0; names = 0; parameters = 0; gives = gives.Number; owns = false; body = body }
 
 -- a dealloc that prints the field _v of self after a `d`
 abbrev pub prints_v : Function
@@ -192,7 +195,7 @@ replaced_global = with_global
     (and_command (EvaluateReference (Stored (Global 0) Nil))
     (and_command (printed (codes "n")) no_commands))))
     (prints_v
-    ∷ record { slots = 0; names = 1; parameters = 1; body = and_command (EvaluateReference (Stored (Global 0) (Variable (Local 0)))) no_commands } ∷ [])
+    ∷ record { slots = 0; names = 1; parameters = 1; gives = gives.Number; owns = false; body = and_command (EvaluateReference (Stored (Global 0) (Variable (Local 0)))) no_commands } ∷ [])
     (dying_class 1 1 0 ∷ [])
 
 -- what it shows: the variable holds the object after the call
@@ -219,3 +222,55 @@ written_while_destroyed = with_global
 
 abbrev pub written_events : List Event
 written_events = Dealloc 1 1 ∷ Dealloc 2 2 ∷ []
+
+-- ---- families and init
+
+-- A class Z whose init is { self = nil; printf("i"); return nil; }, and its dealloc { printf("z"); }; and { [Z new]; printf("k"); [[Z alloc] init]; }
+abbrev pub init_gives_nil : Program
+init_gives_nil = with_global
+    (and_command (EvaluateReference (New None (class_value 1)))
+    (and_command (printed (codes "k"))
+    (and_command (EvaluateReference (ObjectSent (ObjectValue (Made (class_value 1))) 2 no_arguments)) no_commands)))
+    (record {
+      slots = 0;
+      names = 1;
+      parameters = 0;
+      gives = gives.Object;
+      owns = true;
+      body = and_command (EvaluateReference (Stored (Local 0) Nil)) (and_command (printed (codes "i")) (and_command (Give Nil) no_commands));
+    }
+    ∷ does (and_command (printed (codes "z")) no_commands) ∷ [])
+    (record {
+      superclass = Some 0;
+      methods = record { sign = signs.Instance; selector = 2; takes = 0; objects = 0; gives = gives.Object; runs = 1 } ∷ [];
+      dealloc = Some 2;
+      fields = 0;
+      strong_fields = 0;
+    } ∷ [])
+
+-- what it shows: what new made ends with it, before anything else is done
+abbrev pub init_events : List Event
+init_events = map Byte (codes "i") ++ Dealloc 1 1 ∷ map Byte (codes "zki") ++ Dealloc 2 1 ∷ map Byte (codes "z")
+
+-- f() { A *a = [A new]; { A *b = [A new]; b->_v = 2; return b; } } and { printf("%d", f()->_v); printf("k"); }
+abbrev pub result_of_a_block : Program
+result_of_a_block = with_global
+    (and_command (Evaluate (Print (Decimal ∷ []) (number_argument (Field (ObjectInvoked 2 no_arguments) 1 0) no_arguments)))
+    (and_command (printed (codes "k")) no_commands))
+    (prints_v
+    ∷ record {
+      slots = 0;
+      names = 2;
+      parameters = 0;
+      gives = gives.Object;
+      owns = false;
+      body = and_command (Begin 0 new_a) (and_command (Sequence 1 1
+          (and_command (Begin 1 new_a)
+          (and_command (Evaluate (FieldAssigned (Variable (Local 1)) 1 0 (Number (pos 2))))
+          (and_command (Give (Variable (Local 1))) no_commands)))) no_commands);
+    } ∷ [])
+    (dying_class 1 1 0 ∷ [])
+
+-- what it shows: the function's variables are dropped while the result is held, which ends with the caller's full-expression
+abbrev pub result_events : List Event
+result_events = Dealloc 1 1 ∷ map Byte (codes "d02") ++ Dealloc 2 1 ∷ map Byte (codes "d2k")

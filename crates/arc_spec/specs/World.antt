@@ -1,5 +1,5 @@
 -- What a running program can change and show, and how a part of it ends.
-use Rattle.std.specs.Prelude.{ℕ, zero, suc, slice_index_or, ℤ, pos, negsuc, List, [], ◌∷◌, ◌++◌, map, take, slice_set}
+use Rattle.std.specs.Prelude.{ℕ, zero, suc, Bool, if◌then◌else◌, slice_index_or, ℤ, pos, negsuc, List, [], ◌∷◌, ◌++◌, map, take, slice_set}
 use Rattle.arc_spec.specs.declared.event.Event.{Event}
 use Rattle.arc_spec.specs.declared.event.Event.TheVariants.{Byte}
 use Rattle.arc_spec.specs.declared.event.Fault as faults
@@ -8,8 +8,9 @@ use Rattle.arc_spec.specs.declared.location.Location.TheVariants.{Local, Global}
 use Rattle.arc_spec.specs.Objects.{Object, nils, field_places}
 
 -- The running function: in a method of objects `self`, the variables that hold numbers, those that name objects, of which its parameters are the first, and the
--- temporaries of its full-expression, the last one first. The variables that name objects and the temporaries are strong places (ARC, "Ownership qualification"); `self`
--- is none, since what sent the message holds it.
+-- temporaries of its full-expression, the last one first. After the variables that name objects comes the place of the result, where it gives an object. All of these and
+-- the temporaries are strong places (ARC, "Ownership qualification"); `self` is none but in a method that owns it, where it is a variable too, since what sent the message
+-- holds it.
 pub record Frame : Type 0 where
   pub self : ℕ
   pub locals : List ℤ
@@ -101,14 +102,23 @@ pub record Given : Type 0 where
   pub numbers : List ℤ
   pub objects : List ℕ
 
+-- what a function or a method gives: a number, or an object or nil
+pub record Answer : Type 0 where
+  pub number : ℤ
+  pub object : ℕ
+
 abbrev pub nothing_given : Given
 nothing_given = record { numbers = []; objects = [] }
 
--- A function begins, with so many variables that hold numbers and so many that name objects, of which so many are parameters (C99, section 6.5.2.2): the running one
--- waits for it.
-abbrev pub entered : (slots count parameters self : ℕ) → Given → World → World
-entered slots count parameters self given w = record w {
-  frame = record { self = self; locals = first_locals slots given.numbers; strong = first_names count (take parameters given.objects); temporaries = [] };
+-- what the first variables that name objects name: `self`, where it is owned, and the objects that are given
+abbrev pub and_self : (owns : Bool) → (self : ℕ) → List ℕ → List ℕ
+and_self owns self given = if owns then self ∷ given else given
+
+-- A function begins, with so many variables that hold numbers and so many places for those that name objects, of which so many are given (C99, section 6.5.2.2): the
+-- running one waits for it.
+abbrev pub entered : (slots count parameters : ℕ) → (owns : Bool) → (self : ℕ) → Given → World → World
+entered slots count parameters owns self given w = record w {
+  frame = record { self = self; locals = first_locals slots given.numbers; strong = first_names count (and_self owns self (take parameters given.objects)); temporaries = [] };
   waiting = stacked w;
 }
 

@@ -1,11 +1,28 @@
 //! Classes as running programs know them, and the methods that messages find.
 ghost use Rattle.std.specs.Prelude.{◌≡◌};
-ghost use Rattle.arc_spec.specs.Classes.{answers, classes_of, descends, found, lookup};
+ghost use Rattle.arc_spec.specs.Classes.{answers, classes_of, descends, found, gives_of, lookup};
 
-use arc_ast::tree::Sign;
+use arc_ast::tree::{Kind, Sign};
+
+/// What a function, a method or a message gives: a number, or an object or nil. What has no result gives the number 0.
+#[derive(Clone, Copy, Debug, PartialEq, Eq)]
+pub enum Gives {
+    Number,
+    Object,
+}
+
+/// What gives a value of the kind, or no value.
+pub fn gives_of(kind: Kind) -> Gives
+    ensures { result ≡ gives_of kind }
+{
+    match kind {
+        Kind::Object => Gives::Object,
+        Kind::Void | Kind::Bool | Kind::Int | Kind::Long => Gives::Number,
+    }
+}
 
 /// A method of a class: whether it is sent to the class or to its objects, the number of its selector,
-/// how many numbers and how many objects it takes as arguments, and what it runs, which is the number of
+/// how many numbers and how many objects it takes as arguments, what it gives, and what it runs, which is the number of
 /// a function or the place where its code begins.
 #[derive(Clone, Copy)]
 pub struct Method {
@@ -13,6 +30,7 @@ pub struct Method {
     pub selector: usize,
     pub takes: usize,
     pub objects: usize,
+    pub gives: Gives,
     pub runs: usize,
 }
 
@@ -29,37 +47,46 @@ pub struct Class {
 }
 
 /// Whether the method answers a message of this sign with this selector, and so many numbers and objects
-/// as arguments.
-fn answers(method: &Method, sign: Sign, selector: usize, takes: usize, objects: usize) -> bool
-    ensures { result ≡ answers sign selector takes objects method.now }
+/// as arguments, which wants this of it.
+fn answers(
+    method: &Method,
+    sign: Sign,
+    selector: usize,
+    takes: usize,
+    objects: usize,
+    gives: Gives,
+) -> bool
+    ensures { result ≡ answers sign selector takes objects gives method.now }
 {
     method.sign == sign
         && method.selector == selector
         && method.takes == takes
         && method.objects == objects
+        && method.gives == gives
 }
 
 /// What the first of these methods runs that answers a message of this sign with this selector, and so
-/// many numbers and objects as arguments.
+/// many numbers and objects as arguments, which wants this of it.
 fn find(
     methods: &[Method],
     sign: Sign,
     selector: usize,
     takes: usize,
     objects: usize,
+    gives: Gives,
 ) -> Option<usize>
-    ensures { result ≡ found sign selector takes objects methods.now }
+    ensures { result ≡ found sign selector takes objects gives methods.now }
 {
     for method in methods {
-        if answers(method, sign, selector, takes, objects) {
+        if answers(method, sign, selector, takes, objects, gives) {
             return Some(method.runs);
         }
     }
     None
 }
 
-/// What a message of this sign with this selector runs, and so many numbers and objects as arguments: the
-/// method of the first class that has one, from the class with this number up to the root.
+/// What a message of this sign with this selector runs, and so many numbers and objects as arguments, which
+/// wants a number or an object: the method of the first class that has one, from the class with this number up to the root.
 pub fn look_up(
     classes: &[Class],
     from: Option<usize>,
@@ -67,8 +94,9 @@ pub fn look_up(
     selector: usize,
     takes: usize,
     objects: usize,
+    gives: Gives,
 ) -> Option<usize>
-    ensures { result ≡ lookup (classes_of classes.now) from sign selector takes objects }
+    ensures { result ≡ lookup (classes_of classes.now) from sign selector takes objects gives }
 {
     let mut next = from;
     for _passed in 0..classes.len() {
@@ -78,7 +106,7 @@ pub fn look_up(
         let Some(class) = classes.get(number) else {
             return None;
         };
-        let own = find(&class.methods, sign, selector, takes, objects);
+        let own = find(&class.methods, sign, selector, takes, objects, gives);
         if own.is_some() {
             return own;
         }

@@ -3,7 +3,9 @@
 
 pub mod class;
 pub mod event;
+pub mod family;
 pub mod law;
 pub mod location;
 pub mod number;
 pub mod order;
+pub mod signature;

@@ -7,9 +7,10 @@ ghost use Rattle.arc_grammar.specs.Grammar.{reads};
 ghost use Rattle.arc_grammar.specs.Grammar as grammar;
 
 use crate::simple::{empty, simple, value};
-use crate::variable::{declaration, objects};
-use arc_ast::tree::{Expr, Stmt};
+use crate::variable::{declaration, objects, qualified_declaration};
+use arc_ast::tree::{Expr, Qualifiers, Stmt};
 use arc_expr::full::full;
+use arc_expr::qualifier::sees_qualifier;
 use arc_expr::type_name::begins_plain_type;
 use arc_form::fail::Read;
 use arc_form::step::{expect, keyword, sees_mark, sees_reference};
@@ -56,10 +57,12 @@ fn beginning<'a>(alloc: Global, tokens: &'a [Token]) -> Read<'a, Stmt>
     ensures gives { Gives (λ x. (stmt_tree x.0, toks x.1.now)) result (reads grammar.beginning (toks tokens.now)) }
     ensures shorter { IfOk result (λ x. length x.1.now < length tokens.now) }
 {
-    if begins_plain_type(tokens) {
-        declaration(alloc, tokens)
+    if sees_qualifier(tokens) {
+        qualified_declaration(alloc, tokens)
+    } else if begins_plain_type(tokens) {
+        declaration(alloc, Qualifiers::Unqualified, tokens)
     } else if sees_reference(tokens) {
-        objects(alloc, tokens)
+        objects(alloc, Qualifiers::Unqualified, tokens)
     } else if sees_mark(Mark::Semicolon, tokens) {
         empty(tokens)
     } else {

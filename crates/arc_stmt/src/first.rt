@@ -4,6 +4,7 @@ ghost use Rattle.arc_lex.specs.Tokens.{toks};
 ghost use Rattle.arc_form.specs.Reader.{sees};
 ghost use Rattle.arc_grammar.specs.Grammar as grammar;
 
+use arc_expr::qualifier::sees_qualifier;
 use arc_expr::sign::{sees_counting, sees_sign};
 use arc_expr::type_name::begins_plain_type;
 use arc_form::step::{sees_integer, sees_mark, sees_name, sees_text, sees_word};
@@ -65,5 +66,5 @@ pub fn begins_stmt(tokens: &[Token]) -> bool
 pub fn begins_item(tokens: &[Token]) -> bool
     ensures { result ≡ sees grammar.begins_item (toks tokens.now) }
 {
-    begins_plain_type(tokens) || begins_stmt(tokens)
+    sees_qualifier(tokens) || (begins_plain_type(tokens) || begins_stmt(tokens))
 }

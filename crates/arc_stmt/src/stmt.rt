@@ -11,8 +11,9 @@ ghost use Rattle.arc_grammar.specs.declared.limits.TheConstants.{DEEPEST};
 use crate::clauses::{clauses, controlling, test_after};
 use crate::first::{begins_item, begins_stmt};
 use crate::simple::{breaking, continuing, empty, returned, simple};
-use crate::variable::{declaration, objects};
-use arc_ast::tree::{Expr, Stmt};
+use crate::variable::{declaration, objects, qualified_declaration};
+use arc_ast::tree::{Expr, Qualifiers, Stmt};
+use arc_expr::qualifier::sees_qualifier;
 use arc_expr::type_name::begins_plain_type;
 use arc_form::fail::{Fail, Read};
 use arc_form::step::{expect, keyword, sees_mark, sees_reference, sees_word};
@@ -228,10 +229,12 @@ fn item<'a>(alloc: Global, depth: usize, tokens: &'a [Token]) -> Read<'a, Stmt>
     ensures gives { Gives (λ x. (stmt_tree x.0, toks x.1.now)) result (reads (grammar.item depth) (toks tokens.now)) }
     ensures shorter { IfOk result (λ x. length x.1.now < length tokens.now) }
 {
-    if begins_plain_type(tokens) {
-        declaration(alloc, tokens)
+    if sees_qualifier(tokens) {
+        qualified_declaration(alloc, tokens)
+    } else if begins_plain_type(tokens) {
+        declaration(alloc, Qualifiers::Unqualified, tokens)
     } else if sees_reference(tokens) {
-        objects(alloc, tokens)
+        objects(alloc, Qualifiers::Unqualified, tokens)
     } else {
         stmt(alloc, depth, tokens)
     }

@@ -5,13 +5,15 @@ ghost use Rattle.arc_form.specs.Reader.{Gives};
 ghost use Rattle.arc_form.specs.Views.{all, with_row};
 ghost use Rattle.arc_ast.specs.Tree.{expr_tree, variable_tree, stmt_tree};
 ghost use Rattle.arc_grammar.specs.Grammar.{reads};
+ghost use Rattle.arc_stmt.specs.Declaring.{reads_after};
 ghost use Rattle.arc_grammar.specs.Grammar as grammar;
 
-use arc_ast::tree::{Expr, Stmt, TypeName, Variable};
+use arc_ast::tree::{Expr, Qualifiers, Stmt, TypeName, Variable};
 use arc_expr::full::full;
+use arc_expr::qualifier::{qualifiers, some_qualifiers};
 use arc_expr::type_name::plain_type;
 use arc_form::fail::Read;
-use arc_form::step::{expect, name, sees_mark};
+use arc_form::step::{expect, name, sees_mark, sees_name};
 use arc_lex::token::{Mark, Token};
 use std::alloc::Global;
 
@@ -29,17 +31,19 @@ fn initial<'a>(alloc: Global, tokens: &'a [Token]) -> Read<'a, Option<Expr>>
     Ok((Some(value), rest))
 }
 
-/// A variable's name, and perhaps `=` and what it begins with.
+/// A variable's qualifiers, its name, and perhaps `=` and what it begins with.
 #[tactic(auto, unfolding(arc_grammar::specs::Grammar::variable))]
 fn variable<'a>(alloc: Global, tokens: &'a [Token]) -> Read<'a, Variable>
     ensures gives { Gives (λ x. (variable_tree x.0, toks x.1.now)) result (reads grammar.variable (toks tokens.now)) }
     ensures shorter { IfOk result (λ x. length x.1.now < length tokens.now) }
 {
-    let ((at, called), rest) = name(tokens)?;
+    let (qualifiers, rest) = qualifiers(tokens)?;
+    let ((at, called), rest) = name(rest)?;
     let (initial, rest) = initial(alloc, rest)?;
     Ok((
         Variable {
             at,
+            qualifiers,
             name: Vec::from_slice(alloc, called)?,
             initial,
         },
@@ -115,10 +119,10 @@ fn more_references<'a>(
     Ok((all, rest))
 }
 
-/// A type that names no class, one variable or more and `;`.
+/// A type that names no class, one variable or more and `;`, after qualifiers.
 #[tactic(auto, using(crate::proofs::Trees::variables_is), unfolding(arc_grammar::specs::Grammar::declaration))]
-pub fn declaration<'a>(alloc: Global, tokens: &'a [Token]) -> Read<'a, Stmt>
-    ensures gives { Gives (λ x. (stmt_tree x.0, toks x.1.now)) result (reads grammar.declaration (toks tokens.now)) }
+pub fn declaration<'a>(alloc: Global, qualifiers: Qualifiers, tokens: &'a [Token]) -> Read<'a, Stmt>
+    ensures gives { Gives (λ x. (stmt_tree x.0, toks x.1.now)) result (reads_after grammar.declaration qualifiers (toks tokens.now)) }
     ensures shorter { IfOk result (λ x. length x.1.now < length tokens.now) }
 {
     let ((at, written), rest) = plain_type(tokens)?;
@@ -127,13 +131,13 @@ pub fn declaration<'a>(alloc: Global, tokens: &'a [Token]) -> Read<'a, Stmt>
     all.push(first)?;
     let (all, rest) = more_variables(alloc, all, rest)?;
     let (_, rest) = expect(Mark::Semicolon, rest)?;
-    Ok((Stmt::Variables(at, written, all), rest))
+    Ok((Stmt::Variables(at, qualifiers, written, all), rest))
 }
 
-/// The name of a class, one variable or more, with a `*` each, and `;`.
+/// The name of a class, one variable or more, with a `*` each, and `;`, after qualifiers.
 #[tactic(auto, using(crate::proofs::Trees::variables_is), unfolding(arc_grammar::specs::Grammar::objects))]
-pub fn objects<'a>(alloc: Global, tokens: &'a [Token]) -> Read<'a, Stmt>
-    ensures gives { Gives (λ x. (stmt_tree x.0, toks x.1.now)) result (reads grammar.objects (toks tokens.now)) }
+pub fn objects<'a>(alloc: Global, qualifiers: Qualifiers, tokens: &'a [Token]) -> Read<'a, Stmt>
+    ensures gives { Gives (λ x. (stmt_tree x.0, toks x.1.now)) result (reads_after grammar.objects qualifiers (toks tokens.now)) }
     ensures shorter { IfOk result (λ x. length x.1.now < length tokens.now) }
 {
     let ((at, called), rest) = name(tokens)?;
@@ -143,5 +147,22 @@ pub fn objects<'a>(alloc: Global, tokens: &'a [Token]) -> Read<'a, Stmt>
     all.push(first)?;
     let (all, rest) = more_references(alloc, all, rest)?;
     let (_, rest) = expect(Mark::Semicolon, rest)?;
-    Ok((Stmt::Variables(at, TypeName::Object(at, class), all), rest))
+    Ok((
+        Stmt::Variables(at, qualifiers, TypeName::Object(at, class), all),
+        rest,
+    ))
+}
+
+/// Qualifiers, a type, one variable or more and `;`.
+#[tactic(auto, unfolding(arc_grammar::specs::Grammar::qualified_declaration))]
+pub fn qualified_declaration<'a>(alloc: Global, tokens: &'a [Token]) -> Read<'a, Stmt>
+    ensures gives { Gives (λ x. (stmt_tree x.0, toks x.1.now)) result (reads grammar.qualified_declaration (toks tokens.now)) }
+    ensures shorter { IfOk result (λ x. length x.1.now < length tokens.now) }
+{
+    let (qualifiers, rest) = some_qualifiers(tokens)?;
+    if sees_name(rest) {
+        objects(alloc, qualifiers, rest)
+    } else {
+        declaration(alloc, qualifiers, rest)
+    }
 }

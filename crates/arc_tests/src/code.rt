@@ -5,6 +5,7 @@ use arc_code::code::{Code, IoFault, Piece};
 use arc_code::counted::{Counted, Failed};
 use arc_code::instr::{Instr, Op};
 use arc_code::lines::list;
+use arc_spec::class::Gives;
 use std::alloc::{AllocError, Global};
 use std::io;
 use std::io::{ErrorKind, Read, Write};
@@ -77,11 +78,11 @@ fn each_instruction(alloc: Global) -> Result<Code, AllocError> {
         Instr::Plain(Op::GetChar),
         Instr::Jump(12),
         Instr::JumpZero(7),
-        Instr::Call(0),
-        Instr::Send(3, 1, 2),
-        Instr::SendSuper(1, 2, 0, 3),
-        Instr::SendTo(11, 12, 13),
-        Instr::SendToSuper(14, 15, 16, 17),
+        Instr::Call(0, Gives::Number),
+        Instr::Send(3, 1, 2, Gives::Object),
+        Instr::SendSuper(1, 2, 0, 3, Gives::Number),
+        Instr::SendTo(11, 12, 13, Gives::Object),
+        Instr::SendToSuper(14, 15, 16, 17, Gives::Number),
         Instr::StoreStrong(2),
         Instr::Empty(3),
         Instr::DropAll,
@@ -105,6 +106,9 @@ fn each_instruction(alloc: Global) -> Result<Code, AllocError> {
         Instr::Plain(Op::ReadField(12, 13)),
         Instr::StoreGlobal(14),
         Instr::StoreField(15, 16),
+        Instr::Plain(Op::Finds(17)),
+        Instr::Settle,
+        Instr::Give,
     ];
     Ok(Code {
         instrs: Vec::from_slice(alloc, &instrs)?,
@@ -121,12 +125,13 @@ fn each_instruction(alloc: Global) -> Result<Code, AllocError> {
 
 /// The listing of that code.
 const LISTING: &str = "0 Num -42\n1 Bin 3 2\n2 Un 2 3\n3 Narrow 1\n4 Pop\n5 Get 2\n6 Set 3\n\
-    7 PrintText 10 6\n8 PrintNum\n9 PrintByte\n10 GetChar\n11 Jump 12\n12 JumpZero 7\n13 Call 0\n\
-    14 Send 3 1 2\n15 SendSuper 1 2 0 3\n16 SendTo 11 12 13\n17 SendToSuper 14 15 16 17\n\
+    7 PrintText 10 6\n8 PrintNum\n9 PrintByte\n10 GetChar\n11 Jump 12\n12 JumpZero 7\n13 Call 0 0\n\
+    14 Send 3 1 2 1\n15 SendSuper 1 2 0 3 0\n16 SendTo 11 12 13 1\n17 SendToSuper 14 15 16 17 0\n\
     18 StoreStrong 2\n19 Empty 3\n20 DropAll\n21 Return\n22 EndStep\n23 Declare\n24 Nil\n\
     25 ReadSelf\n26 ReadRef 4\n27 Hold\n28 Forget\n29 Alloc\n30 GetField 5 6\n31 SetField 7 8\n\
     32 Differ\n33 IsObject\n34 Again\n35 GetGlobal 9\n36 SetGlobal 10\n37 ReadGlobal 11\n38 ReadField 12 13\n\
-    39 StoreGlobal 14\n40 StoreField 15 16\n";
+    39 StoreGlobal 14\n40 StoreField 15 16\n\
+    41 Finds 17\n42 Settle\n43 Give\n";
 
 #[test]
 fn code_is_listed(rt: HostRuntime) -> Result<(), Fail> {

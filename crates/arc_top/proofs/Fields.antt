@@ -1,17 +1,18 @@
 -- The fields of classes: the loops that read them.
-use Rattle.std.proofs.Common.{◌≡◌, ℕ, List, [], ◌∷◌, ◌++◌, append_assoc, append-nil, Ok, Err, Bool, true, false, ◌||◌, cond, refl, sym, ap, ◌∙◌}
+use Rattle.std.proofs.Common.{◌≡◌, ℕ, List, [], ◌∷◌, ◌++◌, append_assoc, append-nil, Ok, Err, Bool, true, false, cond, refl, sym, ap, ◌∙◌}
 use Rattle.arc_lex.specs.Tokens.{Tok}
 use Rattle.arc_lex.specs.declared.token.Mark.TheVariants as m
 use Rattle.arc_lex.specs.declared.token.AtWord.TheVariants as words
 use Rattle.arc_ast.specs.declared.tree.Visibility.{Visibility}
 use Rattle.arc_ast.specs.declared.tree.Field.{Field}
+use Rattle.arc_ast.specs.declared.tree.Qualifiers.{Qualifiers}
 use Rattle.arc_ast.specs.Tree.{TypeTree, Object, FieldTree, field_tree, field_trees}
 use Rattle.arc_form.specs.Kinds.{mark, at, name}
 use Rattle.arc_form.specs.Form.{map}
 use Rattle.arc_form.specs.Operators.{fold}
 use Rattle.arc_form.specs.Reader.{Read, Reader, bind, ◌>>=◌, ret, sees, if_sees, take_one, from, named}
 use Rattle.arc_form.proofs.Local.{Local}
-use Rattle.arc_grammar.specs.Grammar.{FieldGroup, OfWord, OfType, reads, plain_type, begins_plain_type, begins_value_type, next_name, more_names, starred_name, next_starred_name, more_starred_names, plain_fields, object_fields, group, groups, fields, fields_of, named_fields, visibility_of, begins_visibility, class_names}
+use Rattle.arc_grammar.specs.Grammar.{QualifiedType, QualifiedName, FieldGroup, OfWord, OfType, reads, qualifiers, plain_type, begins_fields, next_name, more_names, qualified_name, next_qualified_name, more_qualified_names, starred_name, next_starred_name, more_starred_names, plain_fields, object_fields, typed_fields, qualified_fields, group, groups, fields, field_of, fields_of, named_fields, visibility_of, begins_visibility, class_names}
 use Rattle.arc_grammar.proofs.Fits.{lines}
 use Rattle.arc_top.proofs.Rests.{front}
 use Rattle.arc_form.specs.Joining.{joining}
@@ -20,6 +21,10 @@ use Rattle.arc_top.specs.Fields.{begins_group, add_field, add_group, object_fiel
 pub name_front : (j : ℕ) → Local ⊥ 1 j (reads next_name) (reads next_name)
 unfolding lines
 name_front j = front next_name refl refl j
+
+pub qualified_front : (j : ℕ) → Local ⊥ 1 j (reads next_qualified_name) (reads next_qualified_name)
+unfolding lines
+qualified_front j = front next_qualified_name refl refl j
 
 pub starred_front : (j : ℕ) → Local ⊥ 1 j (reads next_starred_name) (reads next_starred_name)
 unfolding lines
@@ -35,48 +40,58 @@ groups_on s = joining begins_group (reads group) add_group s >>= (λ s. ret s.1)
 
 -- a group, part by part
 module _ (v : Visibility) (made : List FieldTree) where
-  abbrev Named : Type 0
-  Named = ℕ × List ℕ
+  abbrev State : Type 0
+  State = Visibility × List FieldTree
 
   abbrev Ended : Type 0
-  Ended = List Named × ℕ
+  Ended = List QualifiedName × ℕ
 
   abbrev Begun : Type 0
-  Begun = Named × Ended
+  Begun = QualifiedName × Ended
 
-  abbrev to_state : Read (List FieldTree) → Read (Visibility × List FieldTree)
+  abbrev to_state : Read (List FieldTree) → Read State
   to_state x = bind x (λ all. ret (v, all))
 
   abbrev end : Reader ℕ
   end = take_one (mark m.Semicolon) from
 
-  abbrev ended : Read (List Named) → Read Ended
+  abbrev ended : Read (List QualifiedName) → Read Ended
   ended x = bind x (λ others. end >>= (λ e. ret (others, e)))
 
+  abbrev Qualifiable : Type 0
+  Qualifiable = Qualifiers × (Qualifiers → FieldGroup)
+
+  -- a group of fields after these qualifiers
+  abbrev after : Qualifiers → Read (Qualifiers → FieldGroup) → Read State
+  after q x = bind {A = FieldGroup} (bind {A = Qualifiable} (bind x (λ make. ret (q, make))) (λ p. ret (p.1 p.0))) (λ g. ret (add_group (v, made) g))
+
   -- fields after what says their type, and then one name or more
-  module _ {H : Type 0} (type_of : H → TypeTree) (one : Reader Named) (more : Reader (List Named)) where
+  module _ (q : Qualifiers) {H : Type 0} (type_of : H → TypeTree) (one : Reader QualifiedName) (more : Reader (List QualifiedName)) where
     abbrev All : Type 0
     All = H × Begun
 
-    abbrev to_group : Read All → Read (Visibility × List FieldTree)
-    to_group x = bind {A = FieldGroup} (bind {A = All} x (λ p. ret (OfType (type_of p.0) (p.1.0 ∷ p.1.1.0)))) (λ g. ret (add_group (v, made) g))
+    abbrev qualified : H → QualifiedType
+    qualified h = (q, type_of h)
 
-    semicolon : (h : H) (n : Named) (others : List Named) (x : Read ℕ)
-        → to_group (bind {A = Begun} (bind {A = Ended} (bind x (λ end. ret (others, end))) (λ p. ret (n, p))) (λ p. ret (h, p))) ≡ to_state (bind x (λ end. ret (fold (add_field v (type_of h)) (add_field v (type_of h) made n) others)))
+    abbrev to_group : Read All → Read State
+    to_group x = after q (bind {A = All} x (λ p. ret (λ q. OfType (q, type_of p.0) (p.1.0 ∷ p.1.1.0))))
+
+    semicolon : (h : H) (n : QualifiedName) (others : List QualifiedName) (x : Read ℕ)
+        → to_group (bind {A = Begun} (bind {A = Ended} (bind x (λ end. ret (others, end))) (λ p. ret (n, p))) (λ p. ret (h, p))) ≡ to_state (bind x (λ end. ret (fold (add_field v (qualified h)) (add_field v (qualified h) made n) others)))
     semicolon h n others (Ok x) = refl
     semicolon h n others (Err x) = refl
 
-    abbrev ended_on : H → Named → Read (List Named) → Read (List FieldTree)
-    ended_on h n x = bind (bind x (λ others. ret (fold (add_field v (type_of h)) (add_field v (type_of h) made n) others))) (λ all. end >>= (λ e. ret all))
+    abbrev ended_on : H → QualifiedName → Read (List QualifiedName) → Read (List FieldTree)
+    ended_on h n x = bind (bind x (λ others. ret (fold (add_field v (qualified h)) (add_field v (qualified h) made n) others))) (λ all. end >>= (λ e. ret all))
 
-    further : (h : H) (n : Named) (x : Read (List Named)) → to_group (bind {A = Begun} (bind {A = Ended} (ended x) (λ p. ret (n, p))) (λ p. ret (h, p))) ≡ to_state (ended_on h n x)
+    further : (h : H) (n : QualifiedName) (x : Read (List QualifiedName)) → to_group (bind {A = Begun} (bind {A = Ended} (ended x) (λ p. ret (n, p))) (λ p. ret (h, p))) ≡ to_state (ended_on h n x)
     further h n (Ok x) = semicolon h n x.0 (end x.1)
     further h n (Err x) = refl
 
-    abbrev begun : Read Named → Read Begun
+    abbrev begun : Read QualifiedName → Read Begun
     begun x = bind x (λ n us. bind {A = Ended} (ended (more us)) (λ p. ret (n, p)))
 
-    called_first : (h : H) (x : Read Named) → to_group (bind {A = Begun} (begun x) (λ p. ret (h, p))) ≡ to_state (bind x (λ n us. ended_on h n (more us)))
+    called_first : (h : H) (x : Read QualifiedName) → to_group (bind {A = Begun} (begun x) (λ p. ret (h, p))) ≡ to_state (bind x (λ n us. ended_on h n (more us)))
     called_first h (Ok x) = further h x.0 (more x.1)
     called_first h (Err x) = refl
 
@@ -88,38 +103,46 @@ module _ (v : Visibility) (made : List FieldTree) where
   of_word (Ok x) = refl
   of_word (Err x) = refl
 
-  abbrev class_of : Named → TypeTree
+  abbrev class_of : ℕ × List ℕ → TypeTree
   class_of class = Object class.0 class.1
 
   abbrev written : ℕ × TypeTree → TypeTree
   written type = type.1
 
-  objects_are : (ts : List Tok) → bind {A = FieldGroup} (reads object_fields ts) (λ g. ret (add_group (v, made) g)) ≡ to_state (object_fields_on v made ts)
+  objects_are : (q : Qualifiers) (ts : List Tok) → after q (reads object_fields ts) ≡ to_state (object_fields_on v q made ts)
   unfolding object_fields more_starred_names
-  objects_are ts = of_fields class_of (reads starred_name) (reads more_starred_names) (take_one name named ts)
+  objects_are q ts = of_fields q class_of (reads starred_name) (reads more_starred_names) (take_one name named ts)
 
-  plain_are : (ts : List Tok) → bind {A = FieldGroup} (reads plain_fields ts) (λ g. ret (add_group (v, made) g)) ≡ to_state (plain_fields_on v made ts)
-  unfolding plain_fields more_names
-  plain_are ts = of_fields written (take_one name named) (reads more_names) (reads plain_type ts)
+  plain_are : (q : Qualifiers) (ts : List Tok) → after q (reads plain_fields ts) ≡ to_state (plain_fields_on v q made ts)
+  unfolding plain_fields more_qualified_names
+  plain_are q ts = of_fields q written (reads qualified_name) (reads more_qualified_names) (reads plain_type ts)
 
-  choice : (is_name is_plain : Bool) (ts : List Tok) → bind {A = FieldGroup} (cond is_name (reads object_fields ts) (cond is_plain (reads plain_fields ts) (bind (take_one begins_visibility (λ t. visibility_of t.sort) ts) (λ a. ret (OfWord a))))) (λ g. ret (add_group (v, made) g))
-      ≡ cond (is_name || is_plain) (to_state (cond is_name (object_fields_on v made ts) (plain_fields_on v made ts))) (bind (take_one begins_visibility (λ t. visibility_of t.sort) ts) (λ next. ret (next, made)))
-  choice true true ts = objects_are ts
-  choice true false ts = objects_are ts
-  choice false true ts = plain_are ts
-  choice false false ts = of_word (take_one begins_visibility (λ t. visibility_of t.sort) ts)
+  typed_are : (q : Qualifiers) (is_name : Bool) (ts : List Tok) → after q (cond is_name (reads object_fields ts) (reads plain_fields ts)) ≡ to_state (cond is_name (object_fields_on v q made ts) (plain_fields_on v q made ts))
+  typed_are q true ts = objects_are q ts
+  typed_are q false ts = plain_are q ts
 
-  pub read_group : (ts : List Tok) → group_on (v, made) ts ≡ if_sees begins_value_type (typed_fields_on v made >>= (λ all. ret (v, all))) (take_one begins_visibility (λ t. visibility_of t.sort) >>= (λ next. ret (next, made))) ts
+  qualified_are : (x : Read Qualifiers) → bind {A = FieldGroup} (bind {A = Qualifiable} (bind x (λ q us. bind (reads typed_fields us) (λ make. ret (q, make)))) (λ p. ret (p.1 p.0))) (λ g. ret (add_group (v, made) g))
+      ≡ bind x (λ q us. to_state (typed_fields_on v q made us))
+  unfolding typed_fields
+  qualified_are (Ok x) = typed_are x.0 (sees name x.1) x.1
+  qualified_are (Err x) = refl
+
+  choice : (is_type : Bool) (ts : List Tok) → bind {A = FieldGroup} (cond is_type (reads qualified_fields ts) (bind (take_one begins_visibility (λ t. visibility_of t.sort) ts) (λ a. ret (OfWord a)))) (λ g. ret (add_group (v, made) g))
+      ≡ cond is_type (bind (reads qualifiers ts) (λ q us. to_state (typed_fields_on v q made us))) (bind (take_one begins_visibility (λ t. visibility_of t.sort) ts) (λ next. ret (next, made)))
+  unfolding qualified_fields
+  choice true ts = qualified_are (reads qualifiers ts)
+  choice false ts = of_word (take_one begins_visibility (λ t. visibility_of t.sort) ts)
+
+  pub read_group : (ts : List Tok) → group_on (v, made) ts ≡ if_sees begins_fields (reads qualifiers >>= (λ q. typed_fields_on v q made >>= (λ all. ret (v, all)))) (take_one begins_visibility (λ t. visibility_of t.sort) >>= (λ next. ret (next, made))) ts
   unfolding group
-  read_group [] = choice false false []
-  read_group (t ∷ ts) = choice (sees name (t ∷ ts)) (sees begins_plain_type (t ∷ ts)) (t ∷ ts)
+  read_group ts = choice (sees begins_fields ts) ts
 
 -- ---- the fields of a class
 
 -- the names of one type
-names_fold : (v : Visibility) (type : TypeTree) (made : List FieldTree) (names : List (ℕ × List ℕ)) (others : List FieldTree) → fold (add_field v type) made names ++ others ≡ made ++ named_fields v type names others
+names_fold : (v : Visibility) (type : QualifiedType) (made : List FieldTree) (names : List QualifiedName) (others : List FieldTree) → fold (add_field v type) made names ++ others ≡ made ++ named_fields v type names others
 names_fold v type made [] others = refl
-names_fold v type made (n ∷ names) others = names_fold v type (add_field v type made n) names others ∙ append_assoc made (record { at = n.0; type = type; name = n.1; visibility = v } ∷ []) (named_fields v type names others)
+names_fold v type made (n ∷ names) others = names_fold v type (add_field v type made n) names others ∙ append_assoc made (field_of v type n ∷ []) (named_fields v type names others)
 
 groups_fold : (s : Visibility × List FieldTree) (all : List FieldGroup) → (fold add_group s all).1 ≡ s.1 ++ fields_of s.0 all
 groups_fold s [] = sym (append-nil s.1)

@@ -1,10 +1,13 @@
 -- What functions promise that read a part of a function's or a method's signature.
-use Rattle.std.specs.Prelude.{ℕ, List, ◌++◌, Bool, true, false, bytes_eq}
-use Rattle.arc_ast.specs.Tree.{ParametersTree}
-use Rattle.arc_form.specs.Kinds.{main_bytes, name}
-use Rattle.arc_form.specs.Form.{map, many}
+use Rattle.std.specs.Prelude.{ℕ, List, ◌∷◌, ◌++◌, Bool, true, false, bytes_eq}
+use Rattle.arc_ast.specs.Tree.{ParameterTree, ParametersTree, Listed}
+use Rattle.arc_form.specs.Kinds.{main_bytes, name, mark}
+use Rattle.arc_form.specs.Form.{map, many, choose, give}
 use Rattle.arc_form.specs.Reader.{Reader, ◌>>=◌, ret}
-use Rattle.arc_grammar.specs.Grammar.{Part, Typed, reads, enclosed, parameters, parameters_of_main, next_typed, selector_of, seconds}
+use Rattle.arc_ast.specs.Tree.{Id}
+use Rattle.arc_ast.specs.declared.tree.Qualifiers.TheVariants.{Unqualified}
+use Rattle.arc_lex.specs.declared.token.Mark.TheVariants as m
+use Rattle.arc_grammar.specs.Grammar.{Part, QualifiedType, Typed, reads, enclosed, enclosed_type, more_parameters, parameters, parameters_of_main, next_typed, selector_of, seconds}
 
 -- what reads a rest that makes a value of one that is there
 abbrev pub reads_after : {A B : Type 0} → Part (A → B) → A → Reader B
@@ -22,6 +25,14 @@ parameters_to called = parameters_if_main (bytes_eq called main_bytes)
 -- the same in parentheses
 unfoldable pub enclosed_to : List ℕ → Part ParametersTree
 enclosed_to called = enclosed (parameters_to called)
+
+-- a parameter that is there, and further ones
+abbrev pub listed_after : ParameterTree → Reader ParametersTree
+listed_after p = reads more_parameters >>= (λ others. ret (Listed (p ∷ others)))
+
+-- in parentheses the type of a parameter of a method, or else `id`
+abbrev pub parameter_type : Reader QualifiedType
+parameter_type = reads (choose (mark m.OpenParen) enclosed_type (give (Unqualified, Id)))
 
 -- further parts of a selector with their parameters, after those that are there (OPL, "Defining a Class")
 unfoldable pub more_typed : Part (Typed → Typed)

@@ -8,9 +8,12 @@ ghost use Rattle.arc_grammar.specs.Grammar.{reads};
 ghost use Rattle.arc_grammar.specs.Grammar as grammar;
 ghost use Rattle.arc_top.specs.Fields.{begins_group, names_on, starred_names_on, plain_fields_on, object_fields_on, typed_fields_on, group_on};
 
-use crate::name::{next_name, next_starred_name, starred_name};
-use crate::value_type::begins_value_type;
-use arc_ast::tree::{Field, TypeName, Visibility};
+use crate::name::{
+    QualifiedName, next_qualified_name, next_starred_name, qualified_name, starred_name,
+};
+use crate::value_type::begins_qualified_type;
+use arc_ast::tree::{Field, Qualifiers, TypeName, Visibility};
+use arc_expr::qualifier::qualifiers;
 use arc_expr::type_name::plain_type;
 use arc_form::fail::{Fail, Read};
 use arc_form::step::{expect, name, sees_at, sees_mark, sees_name};
@@ -54,7 +57,7 @@ fn groups<'a>(alloc: Global, first: Visibility, tokens: &'a [Token]) -> Read<'a,
 fn begins_group(tokens: &[Token]) -> bool
     ensures { result ≡ sees begins_group (toks tokens.now) }
 {
-    begins_value_type(tokens)
+    begins_qualified_type(tokens)
         || (sees_at(AtWord::Private, tokens)
             || sees_at(AtWord::Protected, tokens)
             || sees_at(AtWord::Public, tokens))
@@ -71,8 +74,9 @@ fn group<'a>(
     ensures gives { Gives (λ x. ((x.0.0, field_trees x.0.1.items), toks x.1.now)) result (group_on (now, field_trees before.items) (toks tokens.now)) }
     ensures shorter { IfOk result (λ x. length x.1.now < length tokens.now) }
 {
-    if begins_value_type(tokens) {
-        let (all, rest) = typed_fields(alloc, now, before, tokens)?;
+    if begins_qualified_type(tokens) {
+        let (qualifiers, rest) = qualifiers(tokens)?;
+        let (all, rest) = typed_fields(alloc, now, qualifiers, before, rest)?;
         return Ok(((now, all), rest));
     }
     let (next, rest) = visibility(tokens)?;
@@ -120,16 +124,17 @@ fn visibility(tokens: &[Token]) -> Read<'_, Visibility>
 fn typed_fields<'a>(
     alloc: Global,
     visibility: Visibility,
+    qualifiers: Qualifiers,
     before: Vec<Field>,
     tokens: &'a [Token],
 ) -> Read<'a, Vec<Field>>
-    ensures gives { Gives (λ x. (field_trees x.0.items, toks x.1.now)) result (typed_fields_on visibility (field_trees before.items) (toks tokens.now)) }
+    ensures gives { Gives (λ x. (field_trees x.0.items, toks x.1.now)) result (typed_fields_on visibility qualifiers (field_trees before.items) (toks tokens.now)) }
     ensures shorter { IfOk result (λ x. length x.1.now < length tokens.now) }
 {
     if sees_name(tokens) {
-        object_fields(alloc, visibility, before, tokens)
+        object_fields(alloc, visibility, qualifiers, before, tokens)
     } else {
-        plain_fields(alloc, visibility, before, tokens)
+        plain_fields(alloc, visibility, qualifiers, before, tokens)
     }
 }
 
@@ -138,18 +143,19 @@ fn typed_fields<'a>(
 fn object_fields<'a>(
     alloc: Global,
     visibility: Visibility,
+    qualifiers: Qualifiers,
     before: Vec<Field>,
     tokens: &'a [Token],
 ) -> Read<'a, Vec<Field>>
-    ensures gives { Gives (λ x. (field_trees x.0.items, toks x.1.now)) result (object_fields_on visibility (field_trees before.items) (toks tokens.now)) }
+    ensures gives { Gives (λ x. (field_trees x.0.items, toks x.1.now)) result (object_fields_on visibility qualifiers (field_trees before.items) (toks tokens.now)) }
     ensures shorter { IfOk result (λ x. length x.1.now < length tokens.now) }
 {
     let ((class_at, class), rest) = name(tokens)?;
     let type_name = TypeName::Object(class_at, Vec::from_slice(alloc, class)?);
-    let ((at, called), rest) = starred_name(rest)?;
+    let (named, rest) = starred_name(rest)?;
     let mut all = before;
-    all.push(field(alloc, visibility, &type_name, at, called)?)?;
-    let (all, rest) = more_starred_fields(alloc, visibility, &type_name, all, rest)?;
+    all.push(field(alloc, visibility, qualifiers, &type_name, named)?)?;
+    let (all, rest) = more_starred_fields(alloc, visibility, qualifiers, &type_name, all, rest)?;
     let (_, rest) = expect(Mark::Semicolon, rest)?;
     Ok((all, rest))
 }
@@ -159,17 +165,18 @@ fn object_fields<'a>(
 fn plain_fields<'a>(
     alloc: Global,
     visibility: Visibility,
+    qualifiers: Qualifiers,
     before: Vec<Field>,
     tokens: &'a [Token],
 ) -> Read<'a, Vec<Field>>
-    ensures gives { Gives (λ x. (field_trees x.0.items, toks x.1.now)) result (plain_fields_on visibility (field_trees before.items) (toks tokens.now)) }
+    ensures gives { Gives (λ x. (field_trees x.0.items, toks x.1.now)) result (plain_fields_on visibility qualifiers (field_trees before.items) (toks tokens.now)) }
     ensures shorter { IfOk result (λ x. length x.1.now < length tokens.now) }
 {
     let ((_, type_name), rest) = plain_type(tokens)?;
-    let ((at, called), rest) = name(rest)?;
+    let (named, rest) = qualified_name(rest)?;
     let mut all = before;
-    all.push(field(alloc, visibility, &type_name, at, called)?)?;
-    let (all, rest) = more_fields(alloc, visibility, &type_name, all, rest)?;
+    all.push(field(alloc, visibility, qualifiers, &type_name, named)?)?;
+    let (all, rest) = more_fields(alloc, visibility, qualifiers, &type_name, all, rest)?;
     let (_, rest) = expect(Mark::Semicolon, rest)?;
     Ok((all, rest))
 }
@@ -178,18 +185,19 @@ fn plain_fields<'a>(
 fn more_fields<'a>(
     alloc: Global,
     visibility: Visibility,
+    qualifiers: Qualifiers,
     type_name: &TypeName,
     before: Vec<Field>,
     tokens: &'a [Token],
 ) -> Read<'a, Vec<Field>>
-    ensures gives { Gives (λ x. (field_trees x.0.items, toks x.1.now)) result (names_on visibility (type_tree type_name.now) (field_trees before.items) (toks tokens.now)) }
+    ensures gives { Gives (λ x. (field_trees x.0.items, toks x.1.now)) result (names_on visibility (qualifiers, type_tree type_name.now) (field_trees before.items) (toks tokens.now)) }
     ensures shorter { IfOk result (λ x. length x.1.now ≤ length tokens.now) }
 {
     let mut all = before;
     let mut rest = tokens;
     'fields: while sees_mark(Mark::Comma, rest) {
-        let ((at, called), after) = next_name(rest)?;
-        all.push(field(alloc, visibility, type_name, at, called)?)?;
+        let (named, after) = next_qualified_name(rest)?;
+        all.push(field(alloc, visibility, qualifiers, type_name, named)?)?;
         rest = after;
     }
     Ok((all, rest))
@@ -199,36 +207,39 @@ fn more_fields<'a>(
 fn more_starred_fields<'a>(
     alloc: Global,
     visibility: Visibility,
+    qualifiers: Qualifiers,
     type_name: &TypeName,
     before: Vec<Field>,
     tokens: &'a [Token],
 ) -> Read<'a, Vec<Field>>
-    ensures gives { Gives (λ x. (field_trees x.0.items, toks x.1.now)) result (starred_names_on visibility (type_tree type_name.now) (field_trees before.items) (toks tokens.now)) }
+    ensures gives { Gives (λ x. (field_trees x.0.items, toks x.1.now)) result (starred_names_on visibility (qualifiers, type_tree type_name.now) (field_trees before.items) (toks tokens.now)) }
     ensures shorter { IfOk result (λ x. length x.1.now ≤ length tokens.now) }
 {
     let mut all = before;
     let mut rest = tokens;
     'fields: while sees_mark(Mark::Comma, rest) {
-        let ((at, called), after) = next_starred_name(rest)?;
-        all.push(field(alloc, visibility, type_name, at, called)?)?;
+        let (named, after) = next_starred_name(rest)?;
+        all.push(field(alloc, visibility, qualifiers, type_name, named)?)?;
         rest = after;
     }
     Ok((all, rest))
 }
 
-/// A field of this type and this name, which is at this place.
+/// A field of this type and this name.
 fn field(
     alloc: Global,
     visibility: Visibility,
+    qualifiers: Qualifiers,
     type_name: &TypeName,
-    at: usize,
-    called: &[u8],
+    named: QualifiedName,
 ) -> Result<Field, AllocError>
-    ensures { IfOk result (λ f. field_tree f ≡ record { at = at; type = type_tree type_name.now; name = called.now; visibility = visibility }) }
+    ensures { IfOk result (λ f. field_tree f ≡ grammar.field_of visibility (qualifiers, type_tree type_name.now) (named.entry.0, (named.entry.1.0, named.entry.1.1.now))) }
 {
+    let (own, (at, called)) = named;
     Ok(Field {
         at,
         type_name: type_name.copy(alloc)?,
+        qualifiers: qualifiers.both(own),
         name: Vec::from_slice(alloc, called)?,
         visibility,
     })

@@ -11,10 +11,9 @@ ghost use Rattle.arc_top.specs.Signatures as signatures;
 
 use crate::parameter::{parameters, parameters_of_main};
 use arc_ast::tree::{Function, Parameters, ResultType, Stmt};
-use arc_expr::type_name::number_type;
 use arc_form::fail::Read;
-use arc_form::step::{expect, keyword, name, sees_mark, sees_word};
-use arc_lex::token::{Mark, Token, Word};
+use arc_form::step::{expect, name, sees_mark};
+use arc_lex::token::{Mark, Token};
 use arc_stmt::stmt::items;
 use std::alloc::Global;
 
@@ -38,20 +37,6 @@ pub fn function<'a>(alloc: Global, written: ResultType, tokens: &'a [Token]) -> 
         },
         rest,
     ))
-}
-
-/// `void`, or a type of numbers.
-#[tactic(auto, unfolding(arc_grammar::specs::Grammar::result_type))]
-pub fn result_type(tokens: &[Token]) -> Read<'_, ResultType>
-    ensures gives { Gives (λ x. (result_tree x.0, toks x.1.now)) result (reads grammar.result_type (toks tokens.now)) }
-    ensures shorter { IfOk result (λ x. length x.1.now < length tokens.now) }
-{
-    if sees_word(Word::Void, tokens) {
-        let (_, rest) = keyword(Word::Void, tokens)?;
-        return Ok((ResultType::Void, rest));
-    }
-    let ((_, written), rest) = number_type(tokens)?;
-    Ok((ResultType::Value(written), rest))
 }
 
 /// In parentheses what a function of this name takes.

@@ -10,7 +10,7 @@ ghost use Rattle.arc_top.specs.Globals.{globals_on, global_references_on};
 ghost use Rattle.arc_top.specs.Signatures.{reads_after};
 
 use arc_ast::tree;
-use arc_ast::tree::{Constant, TypeName};
+use arc_ast::tree::{Constant, Qualifiers, TypeName};
 use arc_form::fail::{Fail, Read};
 use arc_form::step::{expect, name, sees_mark};
 use arc_lex::token::{Mark, Token, TokenKind, Word};
@@ -20,32 +20,40 @@ use std::alloc::Global;
 #[tactic(auto, using(crate::proofs::Globals::read_globals))]
 pub fn globals<'a>(
     alloc: Global,
+    qualifiers: Qualifiers,
     type_name: &TypeName,
     tokens: &'a [Token],
 ) -> Read<'a, Vec<tree::Global>>
-    ensures gives { Gives (λ x. (global_trees x.0.items, toks x.1.now)) result (reads_after grammar.globals (type_tree type_name.now) (toks tokens.now)) }
+    ensures gives { Gives (λ x. (global_trees x.0.items, toks x.1.now)) result (reads_after grammar.globals (qualifiers, type_tree type_name.now) (toks tokens.now)) }
     ensures shorter { IfOk result (λ x. length x.1.now < length tokens.now) }
 {
-    let (first, rest) = global(alloc, type_name, tokens)?;
+    let (first, rest) = global(alloc, qualifiers, type_name, tokens)?;
     let mut all = Vec::new(alloc);
     all.push(first)?;
-    let (all, rest) = more_globals(alloc, type_name, all, rest)?;
+    let (all, rest) = more_globals(alloc, qualifiers, type_name, all, rest)?;
     let (_, rest) = expect(Mark::Semicolon, rest)?;
     Ok((all, rest))
 }
 
-/// A name, and perhaps what it begins with, of a variable of a type.
+/// Qualifiers, a name, and perhaps what it begins with, of a variable of a type.
 #[tactic(auto, unfolding(arc_grammar::specs::Grammar::global))]
-fn global<'a>(alloc: Global, type_name: &TypeName, tokens: &'a [Token]) -> Read<'a, tree::Global>
-    ensures gives { Gives (λ x. (global_tree x.0, toks x.1.now)) result (reads_after grammar.global (type_tree type_name.now) (toks tokens.now)) }
+fn global<'a>(
+    alloc: Global,
+    qualifiers: Qualifiers,
+    type_name: &TypeName,
+    tokens: &'a [Token],
+) -> Read<'a, tree::Global>
+    ensures gives { Gives (λ x. (global_tree x.0, toks x.1.now)) result (reads_after grammar.global (qualifiers, type_tree type_name.now) (toks tokens.now)) }
     ensures shorter { IfOk result (λ x. length x.1.now < length tokens.now) }
 {
-    let ((at, called), rest) = name(tokens)?;
+    let (own, rest) = arc_expr::qualifier::qualifiers(tokens)?;
+    let ((at, called), rest) = name(rest)?;
     let (initial, rest) = first_constant(rest)?;
     Ok((
         tree::Global {
             at,
             type_name: type_name.copy(alloc)?,
+            qualifiers: qualifiers.both(own),
             name: Vec::from_slice(alloc, called)?,
             initial,
         },
@@ -57,30 +65,32 @@ fn global<'a>(alloc: Global, type_name: &TypeName, tokens: &'a [Token]) -> Read<
 #[tactic(auto, unfolding(arc_grammar::specs::Grammar::next_global))]
 fn next_global<'a>(
     alloc: Global,
+    qualifiers: Qualifiers,
     type_name: &TypeName,
     tokens: &'a [Token],
 ) -> Read<'a, tree::Global>
-    ensures gives { Gives (λ x. (global_tree x.0, toks x.1.now)) result (reads_after grammar.next_global (type_tree type_name.now) (toks tokens.now)) }
+    ensures gives { Gives (λ x. (global_tree x.0, toks x.1.now)) result (reads_after grammar.next_global (qualifiers, type_tree type_name.now) (toks tokens.now)) }
     ensures shorter { IfOk result (λ x. length x.1.now < length tokens.now) }
 {
     let (_, rest) = expect(Mark::Comma, tokens)?;
-    global(alloc, type_name, rest)
+    global(alloc, qualifiers, type_name, rest)
 }
 
 /// These variables and the further ones of this type, each after a comma.
 fn more_globals<'a>(
     alloc: Global,
+    qualifiers: Qualifiers,
     type_name: &TypeName,
     before: Vec<tree::Global>,
     tokens: &'a [Token],
 ) -> Read<'a, Vec<tree::Global>>
-    ensures gives { Gives (λ x. (global_trees x.0.items, toks x.1.now)) result (globals_on (type_tree type_name.now) (global_trees before.items) (toks tokens.now)) }
+    ensures gives { Gives (λ x. (global_trees x.0.items, toks x.1.now)) result (globals_on (qualifiers, type_tree type_name.now) (global_trees before.items) (toks tokens.now)) }
     ensures shorter { IfOk result (λ x. length x.1.now ≤ length tokens.now) }
 {
     let mut all = before;
     let mut rest = tokens;
     'globals: while sees_mark(Mark::Comma, rest) {
-        let (next, after) = next_global(alloc, type_name, rest)?;
+        let (next, after) = next_global(alloc, qualifiers, type_name, rest)?;
         all.push(next)?;
         rest = after;
     }
@@ -91,64 +101,68 @@ fn more_globals<'a>(
 #[tactic(auto, unfolding(arc_grammar::specs::Grammar::global_reference))]
 fn global_reference<'a>(
     alloc: Global,
+    qualifiers: Qualifiers,
     type_name: &TypeName,
     tokens: &'a [Token],
 ) -> Read<'a, tree::Global>
-    ensures gives { Gives (λ x. (global_tree x.0, toks x.1.now)) result (reads_after grammar.global_reference (type_tree type_name.now) (toks tokens.now)) }
+    ensures gives { Gives (λ x. (global_tree x.0, toks x.1.now)) result (reads_after grammar.global_reference (qualifiers, type_tree type_name.now) (toks tokens.now)) }
     ensures shorter { IfOk result (λ x. length x.1.now < length tokens.now) }
 {
     let (_, rest) = expect(Mark::Star, tokens)?;
-    global(alloc, type_name, rest)
+    global(alloc, qualifiers, type_name, rest)
 }
 
 /// A comma and such a variable.
 #[tactic(auto, unfolding(arc_grammar::specs::Grammar::next_global_reference))]
 fn next_global_reference<'a>(
     alloc: Global,
+    qualifiers: Qualifiers,
     type_name: &TypeName,
     tokens: &'a [Token],
 ) -> Read<'a, tree::Global>
-    ensures gives { Gives (λ x. (global_tree x.0, toks x.1.now)) result (reads_after grammar.next_global_reference (type_tree type_name.now) (toks tokens.now)) }
+    ensures gives { Gives (λ x. (global_tree x.0, toks x.1.now)) result (reads_after grammar.next_global_reference (qualifiers, type_tree type_name.now) (toks tokens.now)) }
     ensures shorter { IfOk result (λ x. length x.1.now < length tokens.now) }
 {
     let (_, rest) = expect(Mark::Comma, tokens)?;
-    global_reference(alloc, type_name, rest)
+    global_reference(alloc, qualifiers, type_name, rest)
 }
 
 /// These variables and the further ones of this class, each after a comma and `*`.
 fn more_global_references<'a>(
     alloc: Global,
+    qualifiers: Qualifiers,
     type_name: &TypeName,
     before: Vec<tree::Global>,
     tokens: &'a [Token],
 ) -> Read<'a, Vec<tree::Global>>
-    ensures gives { Gives (λ x. (global_trees x.0.items, toks x.1.now)) result (global_references_on (type_tree type_name.now) (global_trees before.items) (toks tokens.now)) }
+    ensures gives { Gives (λ x. (global_trees x.0.items, toks x.1.now)) result (global_references_on (qualifiers, type_tree type_name.now) (global_trees before.items) (toks tokens.now)) }
     ensures shorter { IfOk result (λ x. length x.1.now ≤ length tokens.now) }
 {
     let mut all = before;
     let mut rest = tokens;
     'references: while sees_mark(Mark::Comma, rest) {
-        let (next, after) = next_global_reference(alloc, type_name, rest)?;
+        let (next, after) = next_global_reference(alloc, qualifiers, type_name, rest)?;
         all.push(next)?;
         rest = after;
     }
     Ok((all, rest))
 }
 
-/// The variables that name objects of a class, one or more with a `*` each, and `;`
+/// The variables that name objects of a class, the first one, further ones with a `*` each, and `;`
 #[tactic(auto, using(crate::proofs::Globals::read_global_references))]
 pub fn global_references<'a>(
     alloc: Global,
+    qualifiers: Qualifiers,
     type_name: &TypeName,
     tokens: &'a [Token],
 ) -> Read<'a, Vec<tree::Global>>
-    ensures gives { Gives (λ x. (global_trees x.0.items, toks x.1.now)) result (reads_after grammar.global_references (type_tree type_name.now) (toks tokens.now)) }
+    ensures gives { Gives (λ x. (global_trees x.0.items, toks x.1.now)) result (reads_after grammar.global_references (qualifiers, type_tree type_name.now) (toks tokens.now)) }
     ensures shorter { IfOk result (λ x. length x.1.now < length tokens.now) }
 {
-    let (first, rest) = global_reference(alloc, type_name, tokens)?;
+    let (first, rest) = global(alloc, qualifiers, type_name, tokens)?;
     let mut all = Vec::new(alloc);
     all.push(first)?;
-    let (all, rest) = more_global_references(alloc, type_name, all, rest)?;
+    let (all, rest) = more_global_references(alloc, qualifiers, type_name, all, rest)?;
     let (_, rest) = expect(Mark::Semicolon, rest)?;
     Ok((all, rest))
 }

@@ -1,7 +1,7 @@
 //! Reads methods.
 ghost use Rattle.std.specs.Prelude.{◌≡◌, ◌<◌, ◌≤◌, length, IfOk};
 ghost use Rattle.arc_lex.specs.Tokens.{toks};
-ghost use Rattle.arc_ast.specs.Tree.{parameter_tree, head_tree, head_trees, method_tree, method_trees};
+ghost use Rattle.arc_ast.specs.Tree.{type_tree, result_tree, parameter_tree, head_tree, head_trees, method_tree, method_trees};
 ghost use Rattle.arc_form.specs.Reader.{Gives, sees};
 ghost use Rattle.arc_form.specs.Views.{all};
 ghost use Rattle.arc_grammar.specs.Grammar.{reads};
@@ -9,12 +9,14 @@ ghost use Rattle.arc_grammar.specs.Grammar as grammar;
 ghost use Rattle.arc_top.specs.Signatures.{reads_after};
 ghost use Rattle.arc_top.specs.Signatures as signatures;
 
-use crate::function::{braces, result_type};
+use crate::function::braces;
+use crate::parameter::parameter_of;
 use crate::value_type::value_type;
-use arc_ast::tree::{Method, MethodHead, Parameter, Sign};
+use arc_ast::tree::{Method, MethodHead, Parameter, Qualifiers, ResultType, Sign, TypeName};
+use arc_expr::qualifier::qualifiers;
 use arc_form::fail::Read;
-use arc_form::step::{expect, name, sees_mark, sees_name};
-use arc_lex::token::{Mark, Token};
+use arc_form::step::{expect, keyword, name, sees_mark, sees_name, sees_word};
+use arc_lex::token::{Mark, Token, Word};
 use std::alloc::Global;
 
 /// Whether a method can begin with the first token.
@@ -91,16 +93,14 @@ fn perhaps_semicolon(tokens: &[Token]) -> Read<'_, ()>
     Ok(((), rest))
 }
 
-/// `+` or `-`, the type of the result in parentheses, and the selector with the parameters
+/// `+` or `-`, perhaps the type of the result, and the selector with the parameters
 #[tactic(auto, using(crate::proofs::Trees::parameters_is), unfolding(arc_grammar::specs::Grammar::method_head))]
 fn method_head<'a>(alloc: Global, tokens: &'a [Token]) -> Read<'a, MethodHead>
     ensures gives { Gives (λ x. (head_tree x.0, toks x.1.now)) result (reads grammar.method_head (toks tokens.now)) }
     ensures shorter { IfOk result (λ x. length x.1.now < length tokens.now) }
 {
     let ((at, sign), rest) = sign(tokens)?;
-    let (_, rest) = expect(Mark::OpenParen, rest)?;
-    let (result, rest) = result_type(rest)?;
-    let (_, rest) = expect(Mark::CloseParen, rest)?;
+    let (result, rest) = method_result(alloc, rest)?;
     let ((selector, parameters), rest) = selector(alloc, rest)?;
     Ok((
         MethodHead {
@@ -112,6 +112,39 @@ fn method_head<'a>(alloc: Global, tokens: &'a [Token]) -> Read<'a, MethodHead>
         },
         rest,
     ))
+}
+
+/// In parentheses the type of what a method gives, or else `id`.
+#[tactic(auto, unfolding(arc_grammar::specs::Grammar::method_result, arc_grammar::specs::Grammar::enclosed_result))]
+fn method_result<'a>(alloc: Global, tokens: &'a [Token]) -> Read<'a, ResultType>
+    ensures gives { Gives (λ x. (result_tree x.0, toks x.1.now)) result (reads grammar.method_result (toks tokens.now)) }
+    ensures shorter { IfOk result (λ x. length x.1.now ≤ length tokens.now) }
+{
+    if !sees_mark(Mark::OpenParen, tokens) {
+        return Ok((ResultType::Value(TypeName::Id), tokens));
+    }
+    let (_, rest) = expect(Mark::OpenParen, tokens)?;
+    let (result, rest) = result_type(alloc, rest)?;
+    let (_, rest) = expect(Mark::CloseParen, rest)?;
+    Ok((result, rest))
+}
+
+/// `void`, `instancetype`, or the type of a value.
+#[tactic(auto, unfolding(arc_grammar::specs::Grammar::result_type))]
+fn result_type<'a>(alloc: Global, tokens: &'a [Token]) -> Read<'a, ResultType>
+    ensures gives { Gives (λ x. (result_tree x.0, toks x.1.now)) result (reads grammar.result_type (toks tokens.now)) }
+    ensures shorter { IfOk result (λ x. length x.1.now < length tokens.now) }
+{
+    if sees_word(Word::Void, tokens) {
+        let (_, rest) = keyword(Word::Void, tokens)?;
+        return Ok((ResultType::Void, rest));
+    }
+    if sees_word(Word::InstanceType, tokens) {
+        let (_, rest) = keyword(Word::InstanceType, tokens)?;
+        return Ok((ResultType::Related, rest));
+    }
+    let ((_, written), rest) = value_type(alloc, tokens)?;
+    Ok((ResultType::Value(written), rest))
 }
 
 /// `+` or `-`, with its place
@@ -193,23 +226,46 @@ fn next_typed<'a>(alloc: Global, tokens: &'a [Token]) -> Read<'a, (&'a [u8], Par
     Ok(((called, parameter), rest))
 }
 
-/// A colon, a type in parentheses and a name
+/// A type and the qualifiers that stand before and after it.
+type QualifiedType = (Qualifiers, TypeName);
+
+/// In parentheses a type, after and before qualifiers.
+#[tactic(auto, unfolding(arc_grammar::specs::Grammar::enclosed_type))]
+fn enclosed_type<'a>(alloc: Global, tokens: &'a [Token]) -> Read<'a, QualifiedType>
+    ensures gives { Gives (λ x. ((x.0.0, type_tree x.0.1), toks x.1.now)) result (reads grammar.enclosed_type (toks tokens.now)) }
+    ensures shorter { IfOk result (λ x. length x.1.now < length tokens.now) }
+{
+    let (_, rest) = expect(Mark::OpenParen, tokens)?;
+    let (before, rest) = qualifiers(rest)?;
+    let ((_, type_name), rest) = value_type(alloc, rest)?;
+    let (after, rest) = qualifiers(rest)?;
+    let (_, rest) = expect(Mark::CloseParen, rest)?;
+    Ok(((before.both(after), type_name), rest))
+}
+
+/// In parentheses the type of a parameter, or else `id`.
+fn parameter_type<'a>(alloc: Global, tokens: &'a [Token]) -> Read<'a, QualifiedType>
+    ensures gives { Gives (λ x. ((x.0.0, type_tree x.0.1), toks x.1.now)) result (signatures.parameter_type (toks tokens.now)) }
+    ensures shorter { IfOk result (λ x. length x.1.now ≤ length tokens.now) }
+{
+    if sees_mark(Mark::OpenParen, tokens) {
+        enclosed_type(alloc, tokens)
+    } else {
+        Ok(((Qualifiers::Unqualified, TypeName::Id), tokens))
+    }
+}
+
+/// A colon, perhaps a type in parentheses, and a name
 #[tactic(auto, unfolding(arc_grammar::specs::Grammar::typed))]
 fn typed<'a>(alloc: Global, tokens: &'a [Token]) -> Read<'a, Parameter>
     ensures gives { Gives (λ x. (parameter_tree x.0, toks x.1.now)) result (reads grammar.typed (toks tokens.now)) }
     ensures shorter { IfOk result (λ x. length x.1.now < length tokens.now) }
 {
     let (_, rest) = expect(Mark::Colon, tokens)?;
-    let (_, rest) = expect(Mark::OpenParen, rest)?;
-    let ((_, type_name), rest) = value_type(alloc, rest)?;
-    let (_, rest) = expect(Mark::CloseParen, rest)?;
+    let ((qualifiers, type_name), rest) = parameter_type(alloc, rest)?;
     let ((at, called), rest) = name(rest)?;
     Ok((
-        Parameter {
-            at,
-            type_name,
-            name: Vec::from_slice(alloc, called)?,
-        },
+        parameter_of(alloc, qualifiers, type_name, at, called)?,
         rest,
     ))
 }

@@ -1,7 +1,7 @@
 //! Reads what functions take.
 ghost use Rattle.std.specs.Prelude.{◌≡◌, ◌<◌, ◌≤◌, length, IfOk};
 ghost use Rattle.arc_lex.specs.Tokens.{toks};
-ghost use Rattle.arc_ast.specs.Tree.{ParameterTree, parameter_tree, parameters_tree};
+ghost use Rattle.arc_ast.specs.Tree.{ParameterTree, Int, type_tree, parameter_tree, parameters_tree};
 ghost use Rattle.arc_lex.specs.declared.token.Word.TheVariants as w;
 ghost use Rattle.arc_form.specs.Kinds.{◌∪◌};
 ghost use Rattle.arc_form.specs.Kinds as kinds;
@@ -10,13 +10,17 @@ ghost use Rattle.arc_form.specs.Views.{all, with_row};
 ghost use Rattle.arc_grammar.specs.Grammar.{reads};
 ghost use Rattle.arc_grammar.specs.Grammar as grammar;
 ghost use Rattle.arc_top.specs.Signatures.{reads_after};
+ghost use Rattle.arc_top.specs.Signatures as signatures;
 
-use crate::value_type::{begins_other_value_type, begins_value_type, other_value_type, value_type};
-use arc_ast::tree::{Parameter, Parameters, TypeName};
+use crate::value_type::{
+    begins_other_value_type, begins_qualified_type, other_value_type, value_type,
+};
+use arc_ast::tree::{Parameter, Parameters, Qualifiers, TypeName};
+use arc_expr::qualifier::{qualifiers, sees_qualifier, some_qualifiers};
 use arc_form::fail::Read;
 use arc_form::step::{expect, keyword, name, sees_mark, sees_word};
 use arc_lex::token::{Mark, Token, Word};
-use std::alloc::Global;
+use std::alloc::{AllocError, Global};
 
 /// What a function other than `main` takes.
 #[tactic(auto, unfolding(arc_grammar::specs::Grammar::parameters))]
@@ -26,7 +30,7 @@ pub fn parameters<'a>(alloc: Global, tokens: &'a [Token]) -> Read<'a, Parameters
 {
     if sees_word(Word::Void, tokens) {
         void_parameters(alloc, tokens)
-    } else if begins_value_type(tokens) {
+    } else if begins_qualified_type(tokens) {
         some_parameters(alloc, tokens)
     } else {
         Ok((Parameters::Listed(Vec::new(alloc)), tokens))
@@ -41,13 +45,19 @@ pub fn parameters_of_main<'a>(alloc: Global, tokens: &'a [Token]) -> Read<'a, Pa
 {
     if sees_word(Word::Void, tokens) {
         void_parameters(alloc, tokens)
-    } else if sees_word(Word::Int, tokens) {
+    } else if begins_of_main(tokens) {
         some_of_main(alloc, tokens)
-    } else if begins_other_value_type(tokens) {
-        others_of_main(alloc, tokens)
     } else {
         Ok((Parameters::Listed(Vec::new(alloc)), tokens))
     }
+}
+
+/// Whether a parameter of `main` can begin with the first token.
+#[tactic(auto, using(arc_form::proofs::Sets::sees_or))]
+fn begins_of_main(tokens: &[Token]) -> bool
+    ensures { result ≡ sees grammar.begins_of_main (toks tokens.now) }
+{
+    sees_qualifier(tokens) || (sees_word(Word::Int, tokens) || begins_other_value_type(tokens))
 }
 
 /// `void` alone
@@ -73,20 +83,36 @@ fn some_parameters<'a>(alloc: Global, tokens: &'a [Token]) -> Read<'a, Parameter
     Ok((Parameters::Listed(all), rest))
 }
 
-/// A type and a name
+/// A parameter of this type with this name, which is at this place.
+pub fn parameter_of(
+    alloc: Global,
+    qualifiers: Qualifiers,
+    type_name: TypeName,
+    at: usize,
+    called: &[u8],
+) -> Result<Parameter, AllocError>
+    ensures { IfOk result (λ p. parameter_tree p ≡ grammar.parameter_of qualifiers (type_tree type_name) (at, called.now)) }
+{
+    Ok(Parameter {
+        at,
+        type_name,
+        qualifiers,
+        name: Vec::from_slice(alloc, called)?,
+    })
+}
+
+/// A type and a name, each after qualifiers.
 #[tactic(auto, unfolding(arc_grammar::specs::Grammar::parameter))]
 fn parameter<'a>(alloc: Global, tokens: &'a [Token]) -> Read<'a, Parameter>
     ensures gives { Gives (λ x. (parameter_tree x.0, toks x.1.now)) result (reads grammar.parameter (toks tokens.now)) }
     ensures shorter { IfOk result (λ x. length x.1.now < length tokens.now) }
 {
-    let ((_, type_name), rest) = value_type(alloc, tokens)?;
+    let (before, rest) = qualifiers(tokens)?;
+    let ((_, type_name), rest) = value_type(alloc, rest)?;
+    let (after, rest) = qualifiers(rest)?;
     let ((at, called), rest) = name(rest)?;
     Ok((
-        Parameter {
-            at,
-            type_name,
-            name: Vec::from_slice(alloc, called)?,
-        },
+        parameter_of(alloc, before.both(after), type_name, at, called)?,
         rest,
     ))
 }
@@ -120,31 +146,26 @@ fn more_parameters<'a>(
     Ok((all, rest))
 }
 
-/// `int` and a name
-#[tactic(auto, unfolding(arc_grammar::specs::Grammar::count))]
-fn count<'a>(alloc: Global, tokens: &'a [Token]) -> Read<'a, Parameter>
-    ensures gives { Gives (λ x. (parameter_tree x.0, toks x.1.now)) result (reads grammar.count (toks tokens.now)) }
-    ensures shorter { IfOk result (λ x. length x.1.now < length tokens.now) }
+/// This parameter and further ones.
+#[tactic(auto, using(crate::proofs::Trees::parameters_is))]
+fn listed_after<'a>(alloc: Global, first: Parameter, tokens: &'a [Token]) -> Read<'a, Parameters>
+    ensures gives { Gives (λ x. (parameters_tree x.0, toks x.1.now)) result (signatures.listed_after (parameter_tree first) (toks tokens.now)) }
+    ensures shorter { IfOk result (λ x. length x.1.now ≤ length tokens.now) }
 {
-    let (_, rest) = keyword(Word::Int, tokens)?;
-    let ((at, called), rest) = name(rest)?;
-    Ok((
-        Parameter {
-            at,
-            type_name: TypeName::Int,
-            name: Vec::from_slice(alloc, called)?,
-        },
-        rest,
-    ))
+    let mut all = Vec::new(alloc);
+    all.push(first)?;
+    let (all, rest) = more_parameters(alloc, all, tokens)?;
+    Ok((Parameters::Listed(all), rest))
 }
 
-/// One parameter of `main`, which is an `int`, and what may come after it.
-#[tactic(auto, unfolding(arc_grammar::specs::Grammar::some_of_main))]
-fn some_of_main<'a>(alloc: Global, tokens: &'a [Token]) -> Read<'a, Parameters>
-    ensures gives { Gives (λ x. (parameters_tree x.0, toks x.1.now)) result (reads grammar.some_of_main (toks tokens.now)) }
+/// The name of a first parameter of `main` that is an `int`, and what may come after it.
+#[tactic(auto, unfolding(arc_grammar::specs::Grammar::counted_of_main))]
+fn counted_of_main<'a>(alloc: Global, tokens: &'a [Token]) -> Read<'a, Parameters>
+    ensures gives { Gives (λ x. (parameters_tree x.0, toks x.1.now)) result (reads grammar.counted_of_main (toks tokens.now)) }
     ensures shorter { IfOk result (λ x. length x.1.now < length tokens.now) }
 {
-    let (first, rest) = count(alloc, tokens)?;
+    let ((at, called), rest) = name(tokens)?;
+    let first = parameter_of(alloc, Qualifiers::Unqualified, TypeName::Int, at, called)?;
     if sees_mark(Mark::Comma, rest) {
         return second(alloc, first, rest);
     }
@@ -153,22 +174,72 @@ fn some_of_main<'a>(alloc: Global, tokens: &'a [Token]) -> Read<'a, Parameters>
     Ok((Parameters::Listed(all), rest))
 }
 
-/// Parameters of `main` of which the first is no `int`.
-#[tactic(auto, using(crate::proofs::Trees::parameters_is), unfolding(arc_grammar::specs::Grammar::others_of_main))]
+/// Qualifiers and the name of a first parameter of `main` that is an `int`, and further parameters.
+#[tactic(auto, unfolding(arc_grammar::specs::Grammar::qualified_of_main))]
+fn qualified_int_of_main<'a>(alloc: Global, tokens: &'a [Token]) -> Read<'a, Parameters>
+    ensures gives { Gives (λ x. (parameters_tree x.0, toks x.1.now)) result (reads_after grammar.qualified_of_main Int (toks tokens.now)) }
+    ensures shorter { IfOk result (λ x. length x.1.now < length tokens.now) }
+{
+    let (qualifiers, rest) = some_qualifiers(tokens)?;
+    let ((at, called), rest) = name(rest)?;
+    let first = parameter_of(alloc, qualifiers, TypeName::Int, at, called)?;
+    listed_after(alloc, first, rest)
+}
+
+/// Parameters of `main` of which the first begins with `int`.
+#[tactic(auto, unfolding(arc_grammar::specs::Grammar::int_of_main))]
+fn int_of_main<'a>(alloc: Global, tokens: &'a [Token]) -> Read<'a, Parameters>
+    ensures gives { Gives (λ x. (parameters_tree x.0, toks x.1.now)) result (reads grammar.int_of_main (toks tokens.now)) }
+    ensures shorter { IfOk result (λ x. length x.1.now < length tokens.now) }
+{
+    let (_, rest) = keyword(Word::Int, tokens)?;
+    if sees_qualifier(rest) {
+        qualified_int_of_main(alloc, rest)
+    } else {
+        counted_of_main(alloc, rest)
+    }
+}
+
+/// Parameters of `main` of which the first begins with qualifiers.
+#[tactic(auto, unfolding(arc_grammar::specs::Grammar::qualified_type_of_main))]
+fn qualified_type_of_main<'a>(alloc: Global, tokens: &'a [Token]) -> Read<'a, Parameters>
+    ensures gives { Gives (λ x. (parameters_tree x.0, toks x.1.now)) result (reads grammar.qualified_type_of_main (toks tokens.now)) }
+    ensures shorter { IfOk result (λ x. length x.1.now < length tokens.now) }
+{
+    let (before, rest) = some_qualifiers(tokens)?;
+    let ((_, type_name), rest) = value_type(alloc, rest)?;
+    let (after, rest) = qualifiers(rest)?;
+    let ((at, called), rest) = name(rest)?;
+    let first = parameter_of(alloc, before.both(after), type_name, at, called)?;
+    listed_after(alloc, first, rest)
+}
+
+/// Parameters of `main` of which the first begins with a type other than `int`.
+#[tactic(auto, unfolding(arc_grammar::specs::Grammar::others_of_main))]
 fn others_of_main<'a>(alloc: Global, tokens: &'a [Token]) -> Read<'a, Parameters>
     ensures gives { Gives (λ x. (parameters_tree x.0, toks x.1.now)) result (reads grammar.others_of_main (toks tokens.now)) }
     ensures shorter { IfOk result (λ x. length x.1.now < length tokens.now) }
 {
     let ((_, type_name), rest) = other_value_type(alloc, tokens)?;
+    let (qualifiers, rest) = qualifiers(rest)?;
     let ((at, called), rest) = name(rest)?;
-    let mut all = Vec::new(alloc);
-    all.push(Parameter {
-        at,
-        type_name,
-        name: Vec::from_slice(alloc, called)?,
-    })?;
-    let (all, rest) = more_parameters(alloc, all, rest)?;
-    Ok((Parameters::Listed(all), rest))
+    let first = parameter_of(alloc, qualifiers, type_name, at, called)?;
+    listed_after(alloc, first, rest)
+}
+
+/// One parameter of `main` or more.
+#[tactic(auto, unfolding(arc_grammar::specs::Grammar::some_of_main))]
+fn some_of_main<'a>(alloc: Global, tokens: &'a [Token]) -> Read<'a, Parameters>
+    ensures gives { Gives (λ x. (parameters_tree x.0, toks x.1.now)) result (reads grammar.some_of_main (toks tokens.now)) }
+    ensures shorter { IfOk result (λ x. length x.1.now < length tokens.now) }
+{
+    if sees_qualifier(tokens) {
+        qualified_type_of_main(alloc, tokens)
+    } else if sees_word(Word::Int, tokens) {
+        int_of_main(alloc, tokens)
+    } else {
+        others_of_main(alloc, tokens)
+    }
 }
 
 /// The first parameter of `main`, and what is after it: a comma, and texts or further parameters.

@@ -7,18 +7,19 @@ ghost use Rattle.arc_form.specs.Kinds as kinds;
 ghost use Rattle.arc_form.specs.Reader.{Gives, sees, sees_two};
 ghost use Rattle.arc_grammar.specs.Grammar.{reads};
 ghost use Rattle.arc_grammar.specs.Grammar as grammar;
-ghost use Rattle.arc_top.specs.Signatures.{reads_after};
+ghost use Rattle.arc_top.specs.Globals.{function_on};
 ghost use Rattle.arc_top.specs.Tops.{top_tree};
 
 use crate::class::{class_names, implementation, interface};
 use crate::function::function;
 use crate::global::{global_references, globals};
-use crate::value_type::begins_value_type;
+use crate::value_type::{begins_qualified_type, class_type};
 use arc_ast::tree;
-use arc_ast::tree::{Function, Implementation, Interface, ResultType, TypeName};
-use arc_expr::type_name::number_type;
+use arc_ast::tree::{Function, Implementation, Interface, Qualifiers, ResultType, TypeName};
+use arc_expr::qualifier::{sees_qualifier, some_qualifiers};
+use arc_expr::type_name::plain_type;
 use arc_form::fail::Read;
-use arc_form::step::{keyword, name, sees_at, sees_mark, sees_name, sees_word};
+use arc_form::step::{keyword, sees_at, sees_mark, sees_name, sees_word};
 use arc_lex::token::{AtWord, Mark, Token, Word};
 use std::alloc::Global;
 
@@ -42,7 +43,7 @@ pub fn begins_top(tokens: &[Token]) -> bool
         || sees_at(AtWord::Implementation, tokens)
         || sees_word(Word::Static, tokens)
         || sees_word(Word::Void, tokens)
-        || begins_value_type(tokens)
+        || begins_qualified_type(tokens)
 }
 
 /// Names of classes, an interface, an implementation, a function, or variables of the whole program.
@@ -75,12 +76,12 @@ fn external<'a>(alloc: Global, tokens: &'a [Token]) -> Read<'a, Top>
     let (_, rest) = perhaps_static(tokens)?;
     if sees_word(Word::Void, rest) {
         of_void(alloc, rest)
-    } else if sees_word(Word::Id, rest) {
-        of_any_objects(alloc, rest)
+    } else if sees_qualifier(rest) {
+        of_qualified(alloc, rest)
     } else if sees_name(rest) {
         of_objects(alloc, rest)
     } else {
-        of_numbers(alloc, rest)
+        of_plain(alloc, rest)
     }
 }
 
@@ -108,50 +109,57 @@ fn of_void<'a>(alloc: Global, tokens: &'a [Token]) -> Read<'a, Top>
     Ok((Top::Function(function), rest))
 }
 
-/// `id`, and variables.
-#[tactic(auto, unfolding(arc_grammar::specs::Grammar::of_any_objects))]
-fn of_any_objects<'a>(alloc: Global, tokens: &'a [Token]) -> Read<'a, Top>
-    ensures gives { Gives (λ x. (top_tree x.0, toks x.1.now)) result (reads grammar.of_any_objects (toks tokens.now)) }
-    ensures shorter { IfOk result (λ x. length x.1.now < length tokens.now) }
-{
-    let (_, rest) = keyword(Word::Id, tokens)?;
-    let (all, rest) = globals(alloc, &TypeName::Id, rest)?;
-    Ok((Top::Globals(all), rest))
-}
-
-/// A class's name, and variables with a `*` each.
-#[tactic(auto, unfolding(arc_grammar::specs::Grammar::of_objects))]
+/// A class's name and `*`, and a function, or variables of which the others have a `*` each.
+#[tactic(auto, using(crate::proofs::Globals::read_of_objects))]
 fn of_objects<'a>(alloc: Global, tokens: &'a [Token]) -> Read<'a, Top>
     ensures gives { Gives (λ x. (top_tree x.0, toks x.1.now)) result (reads grammar.of_objects (toks tokens.now)) }
     ensures shorter { IfOk result (λ x. length x.1.now < length tokens.now) }
 {
-    let ((at, called), rest) = name(tokens)?;
-    let class = TypeName::Object(at, Vec::from_slice(alloc, called)?);
-    let (all, rest) = global_references(alloc, &class, rest)?;
+    let ((_, written), rest) = class_type(alloc, tokens)?;
+    if sees_function(rest) {
+        return of_function(alloc, written, rest);
+    }
+    let (all, rest) = global_references(alloc, Qualifiers::Unqualified, &written, rest)?;
     Ok((Top::Globals(all), rest))
 }
 
-/// A type of numbers, and a function or variables.
-#[tactic(auto, unfolding(arc_grammar::specs::Grammar::of_numbers))]
-fn of_numbers<'a>(alloc: Global, tokens: &'a [Token]) -> Read<'a, Top>
-    ensures gives { Gives (λ x. (top_tree x.0, toks x.1.now)) result (reads grammar.of_numbers (toks tokens.now)) }
+/// A type that names no class, and a function or variables.
+#[tactic(auto, using(crate::proofs::Globals::read_of_plain))]
+fn of_plain<'a>(alloc: Global, tokens: &'a [Token]) -> Read<'a, Top>
+    ensures gives { Gives (λ x. (top_tree x.0, toks x.1.now)) result (reads grammar.of_plain (toks tokens.now)) }
     ensures shorter { IfOk result (λ x. length x.1.now < length tokens.now) }
 {
-    let ((_, written), rest) = number_type(tokens)?;
-    typed_top(alloc, written, rest)
+    let ((_, written), rest) = plain_type(tokens)?;
+    if sees_function(rest) {
+        return of_function(alloc, written, rest);
+    }
+    let (all, rest) = globals(alloc, Qualifiers::Unqualified, &written, rest)?;
+    Ok((Top::Globals(all), rest))
 }
 
-/// What is after a type of numbers: a function, where a name and `(` are ahead, or variables.
-#[tactic(auto, using(crate::proofs::Globals::read_typed))]
-fn typed_top<'a>(alloc: Global, written: TypeName, tokens: &'a [Token]) -> Read<'a, Top>
-    ensures gives { Gives (λ x. (top_tree x.0, toks x.1.now)) result (reads_after grammar.typed_top (type_tree written) (toks tokens.now)) }
+/// A function whose result has this type.
+fn of_function<'a>(alloc: Global, written: TypeName, tokens: &'a [Token]) -> Read<'a, Top>
+    ensures gives { Gives (λ x. (top_tree x.0, toks x.1.now)) result (function_on (type_tree written) (toks tokens.now)) }
     ensures shorter { IfOk result (λ x. length x.1.now < length tokens.now) }
 {
-    if sees_function(tokens) {
-        let (function, rest) = function(alloc, ResultType::Value(written), tokens)?;
-        return Ok((Top::Function(function), rest));
+    let (function, rest) = function(alloc, ResultType::Value(written), tokens)?;
+    Ok((Top::Function(function), rest))
+}
+
+/// Qualifiers, a type and variables.
+#[tactic(auto, using(crate::proofs::Globals::read_of_qualified))]
+fn of_qualified<'a>(alloc: Global, tokens: &'a [Token]) -> Read<'a, Top>
+    ensures gives { Gives (λ x. (top_tree x.0, toks x.1.now)) result (reads grammar.of_qualified (toks tokens.now)) }
+    ensures shorter { IfOk result (λ x. length x.1.now < length tokens.now) }
+{
+    let (qualifiers, rest) = some_qualifiers(tokens)?;
+    if sees_name(rest) {
+        let ((_, written), rest) = class_type(alloc, rest)?;
+        let (all, rest) = global_references(alloc, qualifiers, &written, rest)?;
+        return Ok((Top::Globals(all), rest));
     }
-    let (all, rest) = globals(alloc, &written, tokens)?;
+    let ((_, written), rest) = plain_type(rest)?;
+    let (all, rest) = globals(alloc, qualifiers, &written, rest)?;
     Ok((Top::Globals(all), rest))
 }
 

@@ -1,5 +1,5 @@
 -- The judgements on expressions: kinds, first broken rules, and how many objects are taken.
-use Rattle.std.specs.Prelude.{◌≡◌, ℕ, zero, suc, Bool, List, [], ◌∷◌, ◌++◌, Option, Some, None, true, false, is_none, option_map, nat_eq}
+use Rattle.std.specs.Prelude.{◌≡◌, ℕ, zero, suc, List, [], ◌∷◌, ◌++◌, Option, Some, None, true, false, is_none, option_map, nat_eq}
 use Rattle.arc_ast.specs.declared.tree.Kind.{Kind}
 use Rattle.arc_ast.specs.Tree.{ExprTree, ExprTrees}
 use Rattle.arc_class.specs.Broken.{first}
@@ -13,7 +13,7 @@ use Rattle.arc_check.specs.declared.taken.Taken.{Taken}
 use Rattle.arc_check.specs.Fault.{told}
 use Rattle.arc_check.specs.Formats.{fits}
 use Rattle.arc_check.specs.Passing.{wanted_by}
-use Rattle.arc_check.specs.Rules.{call_rule, kind_if, kind_of, kinds, is_assignable, broken_at, broken, broken_whole, broken_arguments, taken, unread, all_taken, unless_so}
+use Rattle.arc_check.specs.Rules.{at_if, is_object, call_rule, kind_if, kind_of, kinds, is_assignable, broken_at, broken, broken_whole, broken_arguments, taken, unread, all_taken, unless_so}
 use Rattle.arc_check.specs.Scopes.{Scope, result_kind, is_printf, class_of}
 use Rattle.arc_check.specs.declared.taken.TheConstants.{MOST_TAKEN}
 
@@ -66,9 +66,10 @@ pub record JudgesAll (s : Scope) (before : Taken) (passed : Option (List Kind)) 
   pub taken : judged.taken ≡ counted before (all_taken s all)
 
 -- the same of a call
-pub record JudgesCall (s : Scope) (before : Taken) (at : ℕ) (callee : Callee) (parameters : List Kind) (arguments : ExprTrees) (judged : Judged) : Type 0 where
+pub record JudgesCall (s : Scope) (before : Taken) (at : ℕ) (callee : Callee) (given : Option ℕ) (parameters : List Kind) (arguments : ExprTrees) (judged : Judged) : Type 0 where
   pub kind : judged.kind ≡ kind_if (is_none (call_rule callee arguments (kinds s arguments))) (result_kind callee)
-  pub class : judged.class ≡ None
+  pub class : option_map number_of_class judged.class ≡ given
   pub fault : option_map told judged.fault
       ≡ first (broken_at at (call_rule callee arguments (kinds s arguments)) ++ broken_arguments s (wanted_by callee parameters) (is_printf callee) arguments)
-  pub taken : judged.taken ≡ counted before (all_taken s arguments)
+  pub taken : judged.taken
+      ≡ counted before (at_if (is_object (kind_if (is_none (call_rule callee arguments (kinds s arguments))) (result_kind callee))) at ++ all_taken s arguments)

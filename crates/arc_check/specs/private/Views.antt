@@ -7,7 +7,7 @@ use Rattle.arc_ast.specs.declared.tree.Parameter.{Parameter}
 use Rattle.arc_ast.specs.Tree.{parameter_trees}
 use Rattle.arc_class.specs.Names.{parameter_kinds}
 use Rattle.arc_class.specs.declared.table.ClassTable.{ClassTable}
-use Rattle.arc_class.specs.Table.{function_in, global_in, parameters_in, passed_in, class_in, superclass_in, result_in_table, any_result_in, field_in_table, selector_in, number_of_class}
+use Rattle.arc_class.specs.Table.{function_in, global_in, parameters_in, passed_in, class_in, superclass_in, function_class_in, result_in_table, any_result_in, field_in_table, selector_in, number_of_class}
 use Rattle.arc_spec.specs.Classes.{classes_of, descends}
 use Rattle.arc_check.specs.declared.scope.Bound.{Bound}
 use Rattle.arc_check.specs.declared.scope.Local as declared
@@ -47,6 +47,7 @@ known_in table = record {
   class = class_in table;
   superclass = superclass_in table;
   descends = descends (classes_of table.classes.items);
+  function_class = λ name. option_map number_of_class (function_class_in table name);
   result = result_in_table table;
   result_of_any = any_result_in table;
   selector = selector_in table;
@@ -60,6 +61,7 @@ seen table visible = record {
   class = option_map number_of_class visible.class;
   sign = visible.sign;
   result = visible.result;
+  owns = visible.owns;
   hidden = visible.hidden;
   variables = local_in visible.bound.items;
   next = visible.next;

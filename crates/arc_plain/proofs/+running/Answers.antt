@@ -1,23 +1,25 @@
-use Rattle.std.proofs.Common.{rules, arith, option_map, suc, length, map, take, Some, vec_len, to_z, of_z, w64, ◌∷◌, ◌++◌, [], refl, ◌≡◌, ◌-◌, ◌<◌, ◌≤◌, Err, sym, subst, ap, ◌∙◌}
+use Rattle.std.proofs.Common.{rules, arith, option_map, false, suc, length, map, take, Some, vec_len, to_z, of_z, w64, ◌∷◌, ◌++◌, [], refl, ◌≡◌, ◌-◌, ◌<◌, ◌≤◌, Err, sym, subst, ap, ◌∙◌}
 use Rattle.std.proofs.lemmas.Int.{to_z-of_z}
 use Rattle.std.proofs.lemmas.Bool.{ltb-true, ltb-false}
 use Rattle.std.proofs.lemmas.Result.{err_from_is_err_and}
 use Rattle.arc_check.specs.Checked as checked
-use Rattle.arc_spec.specs.Classes.{classes_of, superclasses, ancestry, field_order}
+use Rattle.arc_spec.specs.declared.class.Gives.TheVariants as gives
+use Rattle.arc_spec.specs.Classes.{same_gives, classes_of, superclasses, ancestry, field_order}
 use Rattle.arc_spec.specs.Number.{is_zero}
 use Rattle.arc_spec.proofs.Ancestry.{all_classes}
 use Rattle.arc_check.specs.Checked.{program_of}
 use Rattle.arc_spec.specs.Meaning.{referred, released, updated, given_by, field_set, evaluated, whole, all_evaluated, all_executed, executed, turns, turns_after, called, function_at, all_dropped, variables_dropped, class_in, deallocs_run, dying, emptied, gone, level}
 use Rattle.arc_spec.specs.Resolved.{Updated, FieldUpdated, ObjectFieldStored, Function, no_arguments}
 use Rattle.arc_spec.specs.Objects.{object_at}
-use Rattle.arc_spec.specs.World.{World, Outcome, Done, then_do, Finished, takes}
-use Rattle.arc_plain.specs.Views.{world, given_of, Tells, deeper, flow_of, nothing_of, object_of, function_of, left_at, object_field_replaced}
-use Rattle.arc_plain.proofs.Calls.{call_told, body_failed, drop_failed, nothing_called, function_there, function_absent, temporary_step, temporaries_fewer, no_temporary, variable_step, variable_failed, layer_done, layer_failed, emptied_is}
+use Rattle.arc_spec.specs.World.{World, Outcome, Done, then_do, Finished, name_at, takes}
+use Rattle.arc_plain.specs.Views.{world, given_of, answer_of, invoked, sent_to, Tells, deeper, flow_of, nothing_of, object_of, function_of, left_at, object_field_replaced}
+use Rattle.arc_plain.proofs.Calls.{call_told, body_failed, drop_failed, nothing_told, function_there, function_unwanted, function_absent, temporary_step, temporaries_fewer, no_temporary, variable_step, variable_failed, layer_done, layer_failed, emptied_is}
 use Rattle.arc_plain.proofs.Keeping.{level_steady}
-use Rattle.arc_check.proofs.Trees.{is_print, is_invoked, is_sent, is_sequence}
+use Rattle.arc_check.proofs.Trees.{is_print, is_invoked, is_sent, is_object_invoked, is_object_sent, is_sequence}
 use Rattle.arc_plain.proofs.Turns.{value_told, command_told, with_numbers, with_named, is_number, is_object, number_step, object_step, test_failed, turns_step, turns_left, turn_failed, turns_after_step, turns_after_left, turn_after_failed, call_is, end_is, level_classes, tells_through}
+use Rattle.arc_plain.proofs.Results.{number_invoked, number_sent, object_invoked, object_sent, number_told, number_failed, object_told, object_failed}
 use Rattle.arc_plain.proofs.Updates.{variable_stored, field_stored, variable_updated, field_updated, field_named}
-use Rattle.arc_plain.proofs.Weights.{print_lighter, call_lighter, sent_lighter, sequence_lighter, number_lighter, object_lighter, receiver_counts, command_in, commands_weight, level_lighter, body_lighter}
+use Rattle.arc_plain.proofs.Weights.{print_lighter, call_lighter, sent_lighter, object_call_lighter, object_sent_lighter, sequence_lighter, number_lighter, object_lighter, receiver_counts, command_in, commands_weight, level_lighter, body_lighter}
 use Rattle.arc_plain.specs.declared.progress.Progress.{Progress}
 use Rattle.arc_plain.proofs.+running.Goals.{expression::evaluate_all-in-Number+in_ok-number-in-Number+in_ok-push-in-Number, expression::evaluate_all-in-Object+in_ok-object-in-Object+in_ok-push-in-Object}
 use Rattle.arc_plain.proofs.+running.Goals as goal
@@ -27,15 +29,99 @@ expression::evaluate-returns-in-Print t c =
     value_told (deeper c.args.context.now) c.args.value.now _ c.evaluate_print.result (world c.args.progress.now) (world c.evaluate_print.new.progress)
     (is_print c.args.value.now c.in-Print.pieces c.in-Print.arguments c.deref.result.now c.deref-in-Print.result.now c.in-Print.is c.deref.ensures.value c.deref-in-Print.ensures.value) c.evaluate_print.ensures
 
-pub expression::evaluate-returns-in-Invoked : goal.expression::evaluate-returns-in-Invoked
-expression::evaluate-returns-in-Invoked t c =
-    value_told (deeper c.args.context.now) c.args.value.now _ c.invoke.result (world c.args.progress.now) (world c.invoke.new.progress)
-    (is_invoked c.args.value.now c.in-Invoked.function c.in-Invoked.arguments c.deref-in-Invoked.result.now c.in-Invoked.is c.deref-in-Invoked.ensures.value) c.invoke.ensures
+pub expression::evaluate-returns-in_ok-answered-in-Invoked : goal.expression::evaluate-returns-in_ok-answered-in-Invoked
+expression::evaluate-returns-in_ok-answered-in-Invoked t c =
+    let D = deeper c.args.context.now in
+    let all = checked.arguments c.deref-in-Invoked.result.now in
+    let w = world c.args.progress.now in
+    let a = c.in_ok-answered-in-Invoked.answered in
+    let n = to_z w64 (of_z w64 a.number) in
+    let same : n ≡ a.number = grind (arith, to_z-of_z) in
+    number_told (evaluated D (checked.value c.args.value.now) w) (invoked D gives.Number c.in-Invoked.function all w) a n (world c.invoke.new.progress)
+    (number_invoked D c.args.value.now c.in-Invoked.function all w (is_invoked c.args.value.now c.in-Invoked.function c.in-Invoked.arguments c.deref-in-Invoked.result.now c.in-Invoked.is c.deref-in-Invoked.ensures.value))
+    c.in_ok-answered-in-Invoked.ensures same
 
-pub expression::evaluate-returns-in-Sent : goal.expression::evaluate-returns-in-Sent
-expression::evaluate-returns-in-Sent t c =
-    value_told (deeper c.args.context.now) c.args.value.now _ c.send.result (world c.args.progress.now) (world c.send.new.progress)
-    (is_sent c.args.value.now c.in-Sent.receiver c.in-Sent.selector c.in-Sent.arguments c.deref-in-Sent.result.now c.deref-in-Sent-2.result.now c.in-Sent.is c.deref-in-Sent.ensures c.deref-in-Sent-2.ensures.value) c.send.ensures
+pub expression::evaluate-returns-in_err-answered-in-Invoked : goal.expression::evaluate-returns-in_err-answered-in-Invoked
+expression::evaluate-returns-in_err-answered-in-Invoked t c =
+    let D = deeper c.args.context.now in
+    let all = checked.arguments c.deref-in-Invoked.result.now in
+    let w = world c.args.progress.now in
+    let p = err_from_is_err_and c.from_residual-in_err-answered-in-Invoked.result c.from_residual-in_err-answered-in-Invoked.ensures.1 in
+    number_failed (evaluated D (checked.value c.args.value.now) w) (invoked D gives.Number c.in-Invoked.function all w) c.in_err-answered-in-Invoked.field-0.0 c.from_residual-in_err-answered-in-Invoked.result (world c.invoke.new.progress)
+    (number_invoked D c.args.value.now c.in-Invoked.function all w (is_invoked c.args.value.now c.in-Invoked.function c.in-Invoked.arguments c.deref-in-Invoked.result.now c.in-Invoked.is c.deref-in-Invoked.ensures.value))
+    (p.1 ∙ ap Err p.2) c.in_err-answered-in-Invoked.ensures
+
+pub expression::evaluate-returns-in_ok-answered-in-Sent : goal.expression::evaluate-returns-in_ok-answered-in-Sent
+expression::evaluate-returns-in_ok-answered-in-Sent t c =
+    let D = deeper c.args.context.now in
+    let receiver = checked.receiver c.deref-in-Sent.result.now in
+    let all = checked.arguments c.deref-in-Sent-2.result.now in
+    let w = world c.args.progress.now in
+    let a = c.in_ok-answered-in-Sent.answered in
+    let n = to_z w64 (of_z w64 a.number) in
+    let same : n ≡ a.number = grind (arith, to_z-of_z) in
+    number_told (evaluated D (checked.value c.args.value.now) w) (sent_to D gives.Number receiver c.in-Sent.selector all w) a n (world c.send.new.progress)
+    (number_sent D c.args.value.now receiver c.in-Sent.selector all w (is_sent c.args.value.now c.in-Sent.receiver c.in-Sent.selector c.in-Sent.arguments c.deref-in-Sent.result.now c.deref-in-Sent-2.result.now c.in-Sent.is c.deref-in-Sent.ensures c.deref-in-Sent-2.ensures.value))
+    c.in_ok-answered-in-Sent.ensures same
+
+pub expression::evaluate-returns-in_err-answered-in-Sent : goal.expression::evaluate-returns-in_err-answered-in-Sent
+expression::evaluate-returns-in_err-answered-in-Sent t c =
+    let D = deeper c.args.context.now in
+    let receiver = checked.receiver c.deref-in-Sent.result.now in
+    let all = checked.arguments c.deref-in-Sent-2.result.now in
+    let w = world c.args.progress.now in
+    let p = err_from_is_err_and c.from_residual-in_err-answered-in-Sent.result c.from_residual-in_err-answered-in-Sent.ensures.1 in
+    number_failed (evaluated D (checked.value c.args.value.now) w) (sent_to D gives.Number receiver c.in-Sent.selector all w) c.in_err-answered-in-Sent.field-0.0 c.from_residual-in_err-answered-in-Sent.result (world c.send.new.progress)
+    (number_sent D c.args.value.now receiver c.in-Sent.selector all w (is_sent c.args.value.now c.in-Sent.receiver c.in-Sent.selector c.in-Sent.arguments c.deref-in-Sent.result.now c.deref-in-Sent-2.result.now c.in-Sent.is c.deref-in-Sent.ensures c.deref-in-Sent-2.ensures.value))
+    (p.1 ∙ ap Err p.2) c.in_err-answered-in-Sent.ensures
+
+pub expression::refer-invoke-requires : goal.expression::refer-invoke-requires
+expression::refer-invoke-requires t c =
+    (omega (arith, object_call_lighter c.args.reference.now c.in-ObjectInvoked.function c.in-ObjectInvoked.arguments c.deref-in-ObjectInvoked.result.now c.in-ObjectInvoked.is c.deref-in-ObjectInvoked.ensures.value, c.decreases), tt)
+
+pub expression::refer-send-requires : goal.expression::refer-send-requires
+expression::refer-send-requires t c =
+    (omega (arith, object_sent_lighter c.args.reference.now c.in-ObjectSent.receiver c.in-ObjectSent.selector c.in-ObjectSent.arguments c.deref-in-ObjectSent.result.now c.deref-in-ObjectSent-2.result.now c.in-ObjectSent.is c.deref-in-ObjectSent.ensures c.deref-in-ObjectSent-2.ensures.value, c.decreases), tt)
+
+pub expression::refer-returns-in_ok-answered-in-ObjectInvoked : goal.expression::refer-returns-in_ok-answered-in-ObjectInvoked
+expression::refer-returns-in_ok-answered-in-ObjectInvoked t c =
+    let D = deeper c.args.context.now in
+    let all = checked.arguments c.deref-in-ObjectInvoked.result.now in
+    let w = world c.args.progress.now in
+    object_told (referred D (checked.reference c.args.reference.now) w) (invoked D gives.Object c.in-ObjectInvoked.function all w) c.in_ok-answered-in-ObjectInvoked.answered c.take-in-ObjectInvoked.result (world c.invoke.new.progress) (world c.take-in-ObjectInvoked.new.progress)
+    (object_invoked D c.args.reference.now c.in-ObjectInvoked.function all w (is_object_invoked c.args.reference.now c.in-ObjectInvoked.function c.in-ObjectInvoked.arguments c.deref-in-ObjectInvoked.result.now c.in-ObjectInvoked.is c.deref-in-ObjectInvoked.ensures.value))
+    c.in_ok-answered-in-ObjectInvoked.ensures c.take-in-ObjectInvoked.ensures
+
+pub expression::refer-returns-in_err-answered-in-ObjectInvoked : goal.expression::refer-returns-in_err-answered-in-ObjectInvoked
+expression::refer-returns-in_err-answered-in-ObjectInvoked t c =
+    let D = deeper c.args.context.now in
+    let all = checked.arguments c.deref-in-ObjectInvoked.result.now in
+    let w = world c.args.progress.now in
+    let p = err_from_is_err_and c.from_residual-in_err-answered-in-ObjectInvoked.result c.from_residual-in_err-answered-in-ObjectInvoked.ensures.1 in
+    object_failed (referred D (checked.reference c.args.reference.now) w) (invoked D gives.Object c.in-ObjectInvoked.function all w) c.in_err-answered-in-ObjectInvoked.field-0.0 c.from_residual-in_err-answered-in-ObjectInvoked.result (world c.invoke.new.progress)
+    (object_invoked D c.args.reference.now c.in-ObjectInvoked.function all w (is_object_invoked c.args.reference.now c.in-ObjectInvoked.function c.in-ObjectInvoked.arguments c.deref-in-ObjectInvoked.result.now c.in-ObjectInvoked.is c.deref-in-ObjectInvoked.ensures.value))
+    (p.1 ∙ ap Err p.2) c.in_err-answered-in-ObjectInvoked.ensures
+
+pub expression::refer-returns-in_ok-answered-in-ObjectSent : goal.expression::refer-returns-in_ok-answered-in-ObjectSent
+expression::refer-returns-in_ok-answered-in-ObjectSent t c =
+    let D = deeper c.args.context.now in
+    let receiver = checked.receiver c.deref-in-ObjectSent.result.now in
+    let all = checked.arguments c.deref-in-ObjectSent-2.result.now in
+    let w = world c.args.progress.now in
+    object_told (referred D (checked.reference c.args.reference.now) w) (sent_to D gives.Object receiver c.in-ObjectSent.selector all w) c.in_ok-answered-in-ObjectSent.answered c.take-in-ObjectSent.result (world c.send.new.progress) (world c.take-in-ObjectSent.new.progress)
+    (object_sent D c.args.reference.now receiver c.in-ObjectSent.selector all w (is_object_sent c.args.reference.now c.in-ObjectSent.receiver c.in-ObjectSent.selector c.in-ObjectSent.arguments c.deref-in-ObjectSent.result.now c.deref-in-ObjectSent-2.result.now c.in-ObjectSent.is c.deref-in-ObjectSent.ensures c.deref-in-ObjectSent-2.ensures.value))
+    c.in_ok-answered-in-ObjectSent.ensures c.take-in-ObjectSent.ensures
+
+pub expression::refer-returns-in_err-answered-in-ObjectSent : goal.expression::refer-returns-in_err-answered-in-ObjectSent
+expression::refer-returns-in_err-answered-in-ObjectSent t c =
+    let D = deeper c.args.context.now in
+    let receiver = checked.receiver c.deref-in-ObjectSent.result.now in
+    let all = checked.arguments c.deref-in-ObjectSent-2.result.now in
+    let w = world c.args.progress.now in
+    let p = err_from_is_err_and c.from_residual-in_err-answered-in-ObjectSent.result c.from_residual-in_err-answered-in-ObjectSent.ensures.1 in
+    object_failed (referred D (checked.reference c.args.reference.now) w) (sent_to D gives.Object receiver c.in-ObjectSent.selector all w) c.in_err-answered-in-ObjectSent.field-0.0 c.from_residual-in_err-answered-in-ObjectSent.result (world c.send.new.progress)
+    (object_sent D c.args.reference.now receiver c.in-ObjectSent.selector all w (is_object_sent c.args.reference.now c.in-ObjectSent.receiver c.in-ObjectSent.selector c.in-ObjectSent.arguments c.deref-in-ObjectSent.result.now c.deref-in-ObjectSent-2.result.now c.in-ObjectSent.is c.deref-in-ObjectSent.ensures c.deref-in-ObjectSent-2.ensures.value))
+    (p.1 ∙ ap Err p.2) c.in_err-answered-in-ObjectSent.ensures
 
 pub expression::update_variable-returns-in_err-new : goal.expression::update_variable-returns-in_err-new
 expression::update_variable-returns-in_err-new t c =
@@ -238,8 +324,8 @@ pub call::call-returns : goal.call::call-returns
 call::call-returns t c =
     let context = c.args.context.now in
     let one : context.levels ≡ suc (context.levels - 1) = omega (arith, c.if-context-eq0.false) in
-    subst (λ o. Tells (λ n. n) c.enter.result o (world c.enter.new.progress))
-    (sym (call_is (program_of context.program.now) context.bound context.levels (context.levels - 1) c.args.function c.args.itself (given_of c.args.given.now) (world c.args.progress.now) one)) c.enter.ensures
+    subst (λ o. Tells answer_of c.enter.result o (world c.enter.new.progress))
+    (sym (call_is (program_of context.program.now) context.bound context.levels (context.levels - 1) c.args.wanted c.args.function c.args.itself (given_of c.args.given.now) (world c.args.progress.now) one)) c.enter.ensures
 
 pub call::call-enter-requires : goal.call::call-enter-requires
 call::call-enter-requires t c =
@@ -295,8 +381,17 @@ call::enter-returns-in_default t c =
     let context = c.args.context.now in
     let all = c.deref.result.now in
     let past : length all ≤ c.args.function = ltb-false c.args.function (length all) (sym c.in_default.ensures.lookup.0) in
-    ap (λ g. called (deeper context) context.bound g c.args.itself (given_of c.args.given.now) (world c.args.progress.now)) (function_absent context all c.args.function c.deref.ensures.value past)
-    ∙ nothing_called (deeper context) context.bound c.args.itself (given_of c.args.given.now) (world c.args.progress.now)
+    nothing_told (deeper context) context.bound c.args.itself c.args.wanted (given_of c.args.given.now) (world c.args.progress.now) (function_at (program_of context.program.now) c.args.wanted c.args.function) (answer_of c.object_given.result)
+    (function_absent context all c.args.wanted c.args.function c.deref.ensures.value past) c.object_given.ensures
+
+pub call::enter-returns-then-not-is_giving : goal.call::enter-returns-then-not-is_giving
+call::enter-returns-then-not-is_giving t c =
+    let context = c.args.context.now in
+    let all = c.deref.result.now in
+    let below : c.args.function < length all = ltb-true c.args.function (length all) (sym c.in-Some.ensures.lookup.0) in
+    let other : same_gives c.in-Some.entered.now.gives c.args.wanted ≡ false = sym c.is_giving.ensures ∙ c.if-not-is_giving.true in
+    nothing_told (deeper context) context.bound c.args.itself c.args.wanted (given_of c.args.given.now) (world c.args.progress.now) (function_at (program_of context.program.now) c.args.wanted c.args.function) (answer_of c.object_given-then-not-is_giving.result)
+    (function_unwanted context all c.args.wanted c.args.function c.deref.ensures.value c.in-Some.entered.now below c.in-Some.ensures.lookup.1 other) c.object_given-then-not-is_giving.ensures
 
 pub call::enter-execute_all-requires : goal.call::enter-execute_all-requires
 call::enter-execute_all-requires t c =
@@ -317,11 +412,12 @@ call::enter-returns-in_err-flow t c =
     let w1 = world c.push_frame.new.progress in
     let after = world c.execute_all.new.progress in
     let below : c.args.function < length all = ltb-true c.args.function (length all) (sym c.in-Some.ensures.lookup.0) in
-    let found : function_at P c.args.function ≡ function_of f = function_there context all c.args.function f c.deref.ensures.value below c.in-Some.ensures.lookup.1 in
+    let found : function_at P c.args.wanted c.args.function ≡ function_of f =
+    function_there context all c.args.wanted c.args.function c.deref.ensures.value f below c.in-Some.ensures.lookup.1 (sym c.is_giving.ensures ∙ c.if-not-is_giving.false) in
     let p = err_from_is_err_and c.from_residual-in_err-flow.result c.from_residual-in_err-flow.ensures.1 in
     let body : Tells flow_of (Err c.in_err-flow.field-0.0) (all_executed D context.bound (checked.commands f.body.items) w1) after =
     subst (λ l. Tells flow_of (Err c.in_err-flow.field-0.0) (all_executed D context.bound (checked.commands l) w1) after) c.deref-2.ensures.value c.in_err-flow.ensures in
-    subst (λ (g : Function). Tells (λ n. n) c.from_residual-in_err-flow.result (called D context.bound g c.args.itself (given_of c.args.given.now) w0) after) (sym found)
+    subst (λ (g : Function). Tells answer_of c.from_residual-in_err-flow.result (called D context.bound g c.args.itself (given_of c.args.given.now) w0) after) (sym found)
     (body_failed D (level_steady P context.bound context.levels) context.bound (function_of f) c.args.itself (given_of c.args.given.now) w0 w1 c.in_ok-kept.ensures.world
     flow_of c.in_err-flow.field-0.0 c.from_residual-in_err-flow.result after (p.1 ∙ ap Err p.2) body)
 
@@ -337,11 +433,12 @@ call::enter-returns-in_err-drop_variables t c =
     let w2 = world c.execute_all.new.progress in
     let after = world c.drop_variables.new.progress in
     let below : c.args.function < length all = ltb-true c.args.function (length all) (sym c.in-Some.ensures.lookup.0) in
-    let found : function_at P c.args.function ≡ function_of f = function_there context all c.args.function f c.deref.ensures.value below c.in-Some.ensures.lookup.1 in
+    let found : function_at P c.args.wanted c.args.function ≡ function_of f =
+    function_there context all c.args.wanted c.args.function c.deref.ensures.value f below c.in-Some.ensures.lookup.1 (sym c.is_giving.ensures ∙ c.if-not-is_giving.false) in
     let p = err_from_is_err_and c.from_residual-in_err-drop_variables.result c.from_residual-in_err-drop_variables.ensures.1 in
     let body : all_executed D context.bound (checked.commands f.body.items) w1 ≡ Done (flow_of c.in_ok-flow.flow) w2 =
     ap (λ l. all_executed D context.bound (checked.commands l) w1) (sym c.deref-2.ensures.value) ∙ c.in_ok-flow.ensures in
-    subst (λ (g : Function). Tells (λ n. n) c.from_residual-in_err-drop_variables.result (called D context.bound g c.args.itself (given_of c.args.given.now) w0) after) (sym found)
+    subst (λ (g : Function). Tells answer_of c.from_residual-in_err-drop_variables.result (called D context.bound g c.args.itself (given_of c.args.given.now) w0) after) (sym found)
     (drop_failed D (level_steady P context.bound context.levels) context.bound (function_of f) c.args.itself (given_of c.args.given.now) w0 w1 c.in_ok-kept.ensures.world
     nothing_of (flow_of c.in_ok-flow.flow) w2 c.in_err-drop_variables.field-0.0 c.from_residual-in_err-drop_variables.result after body (p.1 ∙ ap Err p.2) c.in_err-drop_variables.ensures)
 
@@ -363,15 +460,18 @@ call::enter-returns t c =
     let number = to_z w64 (of_z w64 c.number_of.result) in
     let same : number ≡ c.number_of.result = grind (arith, to_z-of_z) in
     let below : c.args.function < length all = ltb-true c.args.function (length all) (sym c.in-Some.ensures.lookup.0) in
-    let found : function_at P c.args.function ≡ function_of f = function_there context all c.args.function f c.deref.ensures.value below c.in-Some.ensures.lookup.1 in
+    let found : function_at P c.args.wanted c.args.function ≡ function_of f =
+    function_there context all c.args.wanted c.args.function c.deref.ensures.value f below c.in-Some.ensures.lookup.1 (sym c.is_giving.ensures ∙ c.if-not-is_giving.false) in
     let body : all_executed D context.bound (checked.commands f.body.items) w1 ≡ Done (flow_of c.in_ok-flow.flow) w2 =
     ap (λ l. all_executed D context.bound (checked.commands l) w1) (sym c.deref-2.ensures.value) ∙ c.in_ok-flow.ensures in
     let count : c.len-waiting.result ≡ length old.items = c.len-waiting.ensures ∙ old.ok.0 in
     let kept : take c.len-waiting.result begun ≡ old.items = ap (λ n. take n begun) count ∙ c.in_ok-kept.ensures.below in
     let leaves : w4 ≡ left_at w0.frame (take c.len-waiting.result last) w3 = c.pop_frame.ensures ∙ ap (λ x. left_at x (take c.len-waiting.result last) w3) c.in_ok-kept.ensures.kept in
-    subst (λ (g : Function). called D context.bound g c.args.itself (given_of c.args.given.now) w0 ≡ Done number w4) (sym found)
+    let object = c.name_at-object.result in
+    let names : object ≡ name_at w3.frame.strong f.names = c.name_at-object.ensures ∙ ap (λ l. name_at l f.names) c.deref-3.ensures.value in
+    subst (λ (g : Function). called D context.bound g c.args.itself (given_of c.args.given.now) w0 ≡ Done (record { number = number; object = object }) w4) (sym found)
     (call_told D (level_steady P context.bound context.levels) context.bound (function_of f) c.args.itself (given_of c.args.given.now) w0 w1 c.in_ok-kept.ensures.world
-    w2 w3 w4 (flow_of c.in_ok-flow.flow) number c.len-waiting.result old.items begun last body c.in_ok-drop_variables.ensures refl refl refl kept leaves (same ∙ c.number_of.ensures))
+    w2 w3 w4 (flow_of c.in_ok-flow.flow) number object c.len-waiting.result old.items begun last body c.in_ok-drop_variables.ensures refl refl refl kept leaves (same ∙ c.number_of.ensures) names)
 
 pub call::end-returns-in_err-run_deallocs : goal.call::end-returns-in_err-run_deallocs
 call::end-returns-in_err-run_deallocs t c =

@@ -20,6 +20,9 @@ decreases-call::release l = levels_left l.context.now + 1
 abbrev pub decreases-call::drop_temporaries : goal.decreases-call::drop_temporaries
 decreases-call::drop_temporaries l = levels_left l.context.now + 2
 
+abbrev pub decreases-call::drop_made : goal.decreases-call::drop_made
+decreases-call::drop_made l = levels_left l.context.now + 2
+
 abbrev pub decreases-call::drop_variables : goal.decreases-call::drop_variables
 decreases-call::drop_variables l = levels_left l.context.now + 2
 
@@ -88,6 +91,15 @@ decreases-sending::dispatch l = suc (levels_left l.context.now)
 
 abbrev pub decreases-sending::dispatch_to : goal.decreases-sending::dispatch_to
 decreases-sending::dispatch_to l = suc (levels_left l.context.now)
+
+abbrev pub decreases-sending::send_new : goal.decreases-sending::send_new
+decreases-sending::send_new l = levels_left l.context.now + 4
+
+abbrev pub decreases-sending::make_new : goal.decreases-sending::make_new
+decreases-sending::make_new l = levels_left l.context.now + 3
+
+abbrev pub decreases-statement::begin : goal.decreases-statement::begin
+decreases-statement::begin l = levels_left l.context.now + (3 + reference_weight (checked.reference l.value.now))
 
 abbrev pub decreases-statement::execute : goal.decreases-statement::execute
 decreases-statement::execute l = levels_left l.context.now + command_weight (checked.command l.command.now)

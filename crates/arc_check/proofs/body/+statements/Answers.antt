@@ -17,14 +17,14 @@ block-returns-clause-scope t c =
     let table = c.args.table.now in
     let old = c.args.visible.now in
     leave_is table old c.statements.new.visible c.leave.new.self _ (behind_all_same (seen table old) (stmt_trees c.args.all.now)) c.in_ok-fault.ensures.scope
-    (c.leave.ensures.bound ∙ ap (λ n. take n c.statements.new.visible.bound.items) (c.len-count.ensures ∙ old.bound.ok.0) ∙ c.in_ok-fault.ensures.keeps) (record { next = c.leave.ensures.next; names = c.leave.ensures.names; class = c.leave.ensures.class; sign = c.leave.ensures.sign; gives = c.leave.ensures.gives; hidden = c.leave.ensures.hidden })
+    (c.leave.ensures.bound ∙ ap (λ n. take n c.statements.new.visible.bound.items) (c.len-count.ensures ∙ old.bound.ok.0) ∙ c.in_ok-fault.ensures.keeps) (record { next = c.leave.ensures.next; names = c.leave.ensures.names; class = c.leave.ensures.class; sign = c.leave.ensures.sign; gives = c.leave.ensures.gives; owns = c.leave.ensures.owns; hidden = c.leave.ensures.hidden })
 
 pub scoped-returns-clause-scope : goal.scoped-returns-clause-scope
 scoped-returns-clause-scope t c =
     let table = c.args.table.now in
     let old = c.args.visible.now in
     let same = behind_same (seen table old) (stmt_tree c.args.inner.now) in
-    leave_is table old c.statement.new.visible c.leave.new.self _ same c.in_ok-fault.ensures.scope (c.leave.ensures.bound ∙ ap (λ n. take n c.statement.new.visible.bound.items) (c.len-count.ensures ∙ old.bound.ok.0) ∙ c.in_ok-fault.ensures.keeps) (record { next = c.leave.ensures.next; names = c.leave.ensures.names; class = c.leave.ensures.class; sign = c.leave.ensures.sign; gives = c.leave.ensures.gives; hidden = c.leave.ensures.hidden })
+    leave_is table old c.statement.new.visible c.leave.new.self _ same c.in_ok-fault.ensures.scope (c.leave.ensures.bound ∙ ap (λ n. take n c.statement.new.visible.bound.items) (c.len-count.ensures ∙ old.bound.ok.0) ∙ c.in_ok-fault.ensures.keeps) (record { next = c.leave.ensures.next; names = c.leave.ensures.names; class = c.leave.ensures.class; sign = c.leave.ensures.sign; gives = c.leave.ensures.gives; owns = c.leave.ensures.owns; hidden = c.leave.ensures.hidden })
 
 pub statement-returns-in-Block-clause-fault : goal.statement-returns-in-Block-clause-fault
 statement-returns-in-Block-clause-fault t c =
@@ -107,7 +107,7 @@ stepped-returns-clause-scope t c =
     leave_is table old c.scoped.new.visible c.leave.new.self (leave own (behind own b)) (inner_same s own (behind own b) (behind_same s a))
     (c.in_ok-inside.ensures.scope ∙ ap (λ p. leave p (behind p b)) c.in_ok-before.ensures.scope)
     (c.leave.ensures.bound ∙ ap (λ n. take n c.scoped.new.visible.bound.items) (c.len-count.ensures ∙ old.bound.ok.0) ∙ ap (take (length old.bound.items)) c.in_ok-inside.ensures.keeps ∙ c.in_ok-before.ensures.keeps)
-    (record { next = c.leave.ensures.next; names = c.leave.ensures.names; class = c.leave.ensures.class; sign = c.leave.ensures.sign; gives = c.leave.ensures.gives; hidden = c.leave.ensures.hidden })
+    (record { next = c.leave.ensures.next; names = c.leave.ensures.names; class = c.leave.ensures.class; sign = c.leave.ensures.sign; gives = c.leave.ensures.gives; owns = c.leave.ensures.owns; hidden = c.leave.ensures.hidden })
 
 pub stepped-returns-clause-keeps : goal.stepped-returns-clause-keeps
 stepped-returns-clause-keeps t c =

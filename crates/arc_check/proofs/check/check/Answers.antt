@@ -12,7 +12,7 @@ returns-clause-unbroken c = unbroken (broken_unit (unit_tree c.args.unit.now)) c
 
 pub returns-clause-resolved : goal.returns-clause-resolved
 returns-clause-resolved c =
-    resolved_is (unit_tree c.args.unit.now) c.args.table.now (record { unit = c.args.unit; functions = c.in_ok-resolve_unit.field-0; main = c.args.table.now.main; globals = c.in_ok-first_numbers.field-0; strong_globals = c.strong_globals.result; classes = c.in_ok-copied.field-0 }) c.requires c.in_ok-resolve_unit.ensures refl
+    resolved_is (unit_tree c.args.unit.now) c.args.table.now (record { unit = c.args.unit; table = c.args.table; functions = c.in_ok-resolve_unit.field-0; main = c.args.table.now.main; globals = c.in_ok-first_numbers.field-0; strong_globals = c.strong_globals.result; classes = c.in_ok-copied.field-0 }) c.requires c.in_ok-resolve_unit.ensures refl
     (c.in_ok-first_numbers.ensures ∙ ap (λ gs. first_numbers (global_trees gs)) c.deref.ensures.value) (c.strong_globals.ensures ∙ ap (λ gs. length (filter names_objects (global_trees gs))) c.deref-2.ensures.value) (c.in_ok-copied.ensures ∙ ap classes_of c.deref-3.ensures.value)
 
 pub returns-in-Some-clause-refused : goal.returns-in-Some-clause-refused

@@ -1,4 +1,4 @@
-use Rattle.std.proofs.Common.{sym, ap, ◌∙◌, arith}
+use Rattle.std.proofs.Common.{arith}
 use Rattle.arc_check.proofs.Globals.{object_turn, object_pass, object_end}
 use Rattle.arc_check.proofs.global.strong_globals.Goals as goal
 use Rattle.arc_check.proofs.global.strong_globals.Goals.{then-names_objects, else-names_objects}

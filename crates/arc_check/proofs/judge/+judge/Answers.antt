@@ -1,13 +1,14 @@
-use Rattle.std.proofs.Common.{◌≡◌, ◌<◌, ◌&&◌, false, length, Some, is_none, refl, sym, ap, ◌∙◌, option_map}
+use Rattle.std.proofs.Common.{◌≡◌, ◌<◌, ◌&&◌, false, length, Some, is_none, refl, sym, ap, subst, ◌∙◌, option_map}
 use Rattle.arc_ast.specs.Tree.{expr_tree, expr_trees, type_tree, place}
 use Rattle.arc_ast.specs.Types.{type_kind}
 use Rattle.arc_class.specs.Broken.{first, earlier_of}
 use Rattle.arc_class.specs.Table.{number_of_class}
 use Rattle.arc_check.specs.Fault.{told}
 use Rattle.arc_check.specs.Formats.{wanted}
-use Rattle.arc_check.specs.private.Judging.{Judges, counted}
+use Rattle.arc_check.specs.declared.callee.Callee.TheVariants.{Printf}
+use Rattle.arc_check.specs.private.Judging.{Judges, JudgesCall, counted}
 use Rattle.arc_check.specs.Passing.{receiver_sign}
-use Rattle.arc_check.specs.Rules.{at_if, broken_arguments, kind_if, no_such}
+use Rattle.arc_check.specs.Rules.{at_if, broken_arguments, is_object, kind_if, no_such}
 use Rattle.arc_check.specs.Scopes.{either_class, is_nil}
 use Rattle.arc_check.specs.private.Views.{kinds_wanted, seen}
 use Rattle.arc_check.proofs.Judgements.{judges_call, judges_send, judges_super, judges_unary, judges_cast, judges_arrow, judges_message, judges_super_message, judges_binary, judges_choice, judges_assign, judges_update, judges_other, fit_turn, fault_turn, taken_turn}
@@ -127,11 +128,15 @@ judge_super-returns t c = λ at.
     let fault : option_map told passed.fault ≡ first (broken_arguments s (Some (s.known.passed s.sign c.args.selector.now)) false args) =
     c.judge_arguments-passed.ensures.fault ∙ ap (λ ks. first (broken_arguments s (Some ks) false args)) c.parameters_passed.ensures in
     judges_super_message s c.args.before c.taken_by_super-between.result at c.args.part c.args.super_at c.args.selector.now args
-    (record { kind = c.super_kind-kind.result; class = c.super_class.result; fault = c.earlier.result; taken = passed.taken; unread = passed.taken }) passed (option_map told c.unknown_method.result) c.super_kind-kind.ensures (c.super_class.ensures c.args.table.now)
+    (record { kind = c.super_kind-kind.result; class = c.super_class.result; fault = c.earlier.result; taken = passed.taken; unread = passed.taken }) passed (option_map told c.unknown_method.result) c.super_kind-kind.ensures c.super_class.ensures
     c.unknown_method.ensures (c.taken_by_super-between.ensures c.args.table.now) fault c.judge_arguments-passed.ensures.taken c.earlier.ensures refl
 
 pub judge_call-returns-in-Printf : goal.judge_call-returns-in-Printf
-judge_call-returns-in-Printf t c = rw (sym c.callee_of-callee.ensures, c.in-Printf.is) (c.judge_print.ensures ((seen c.args.table.now c.args.visible.now).known.parameters c.args.name.now))
+judge_call-returns-in-Printf t c =
+    let s = seen c.args.table.now c.args.visible.now in
+    let kinds = s.known.parameters c.args.name.now in
+    let class = ap (option_map number_of_class) c.function_class-class.ensures in
+    rw (sym c.callee_of-callee.ensures, c.in-Printf.is) (subst (λ given. JudgesCall s c.args.before c.args.at Printf given kinds (expr_trees c.args.arguments.now) c.judge_print.result) class (c.judge_print.ensures kinds))
 
 pub judge_call-returns-in_default : goal.judge_call-returns-in_default
 judge_call-returns-in_default t c =
@@ -139,8 +144,9 @@ judge_call-returns-in_default t c =
     let all = expr_trees c.args.arguments.now in
     let fault : option_map told c.judge_arguments-inside.result.fault ≡ first (broken_arguments s (Some (s.known.parameters c.args.name.now)) false all) =
     c.judge_arguments-inside.ensures.fault ∙ ap (λ ks. first (broken_arguments s (Some ks) false all)) c.parameters.ensures in
-    rw (sym c.callee_of-callee.ensures) (judges_other s c.args.before c.args.at c.callee_of-callee.result (s.known.parameters c.args.name.now) c.args.arguments.now c.call_fault-own.result c.judge_arguments-inside.result c.called.result c.in_default.not-Printf c.call_fault-own.ensures
-    (c.called.ensures.kind ∙ ap (kind_if (is_none c.call_fault-own.result)) c.result_kind.ensures) c.called.ensures.class c.called.ensures.fault c.called.ensures.taken fault c.judge_arguments-inside.ensures.taken)
+    rw (sym c.callee_of-callee.ensures) (judges_other s c.args.before c.one_if-between.result c.args.at c.callee_of-callee.result (s.known.function_class c.args.name.now) (s.known.parameters c.args.name.now) c.args.arguments.now c.call_fault-own.result c.judge_arguments-inside.result c.called.result
+    c.in_default.not-Printf c.call_fault-own.ensures (c.called.ensures.kind ∙ c.call_kind-kind.ensures ∙ ap (kind_if (is_none c.call_fault-own.result)) c.result_kind.ensures) (ap (option_map number_of_class) (c.called.ensures.class ∙ c.function_class.ensures)) c.called.ensures.fault
+    (c.one_if-between.ensures ∙ ap (λ b. counted c.args.before (at_if b c.args.at)) (c.is_object.ensures ∙ ap is_object (sym c.called.ensures.kind))) c.called.ensures.taken fault c.judge_arguments-inside.ensures.taken)
 
 pub judge_arguments-loop-argument-preserved : goal.judge_arguments-loop-argument-preserved
 judge_arguments-loop-argument-preserved t c =

@@ -1,7 +1,6 @@
-use Rattle.std.proofs.Common.{Some, option_map, ap, ◌∙◌}
+use Rattle.std.proofs.Common.{option_map}
 use Rattle.arc_class.specs.Table.{number_of_class}
 use Rattle.arc_check.specs.Fault.{told}
-use Rattle.arc_check.specs.Rules.{is_nothing}
 use Rattle.arc_check.specs.private.Views.{known_in, seen}
 use Rattle.arc_check.proofs.Methods.{method_is}
 use Rattle.arc_check.proofs.method.method.Goals as goal

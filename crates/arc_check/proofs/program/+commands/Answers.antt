@@ -17,14 +17,14 @@ block-returns-clause-scope t c =
     let table = c.args.table.now in
     let old = c.args.visible.now in
     leave_is table old c.commands.new.visible c.leave.new.self _ (behind_all_same (seen table old) (stmt_trees c.args.statements.now)) c.in_ok-all.ensures.scope
-    (c.leave.ensures.bound ∙ ap (λ n. take n c.commands.new.visible.bound.items) (c.len-count.ensures ∙ old.bound.ok.0) ∙ c.in_ok-all.ensures.keeps) (record { next = c.leave.ensures.next; names = c.leave.ensures.names; class = c.leave.ensures.class; sign = c.leave.ensures.sign; gives = c.leave.ensures.gives; hidden = c.leave.ensures.hidden })
+    (c.leave.ensures.bound ∙ ap (λ n. take n c.commands.new.visible.bound.items) (c.len-count.ensures ∙ old.bound.ok.0) ∙ c.in_ok-all.ensures.keeps) (record { next = c.leave.ensures.next; names = c.leave.ensures.names; class = c.leave.ensures.class; sign = c.leave.ensures.sign; gives = c.leave.ensures.gives; owns = c.leave.ensures.owns; hidden = c.leave.ensures.hidden })
 
 pub scoped-returns-clause-scope : goal.scoped-returns-clause-scope
 scoped-returns-clause-scope t c =
     let table = c.args.table.now in
     let old = c.args.visible.now in
     leave_is table old c.command.new.visible c.leave.new.self _ (behind_same (seen table old) (stmt_tree c.args.inner.now)) c.in_ok-new.ensures.scope
-    (c.leave.ensures.bound ∙ ap (λ n. take n c.command.new.visible.bound.items) (c.len-count.ensures ∙ old.bound.ok.0) ∙ c.in_ok-new.ensures.keeps) (record { next = c.leave.ensures.next; names = c.leave.ensures.names; class = c.leave.ensures.class; sign = c.leave.ensures.sign; gives = c.leave.ensures.gives; hidden = c.leave.ensures.hidden })
+    (c.leave.ensures.bound ∙ ap (λ n. take n c.command.new.visible.bound.items) (c.len-count.ensures ∙ old.bound.ok.0) ∙ c.in_ok-new.ensures.keeps) (record { next = c.leave.ensures.next; names = c.leave.ensures.names; class = c.leave.ensures.class; sign = c.leave.ensures.sign; gives = c.leave.ensures.gives; owns = c.leave.ensures.owns; hidden = c.leave.ensures.hidden })
 
 pub block-returns-clause-command : goal.block-returns-clause-command
 block-returns-clause-command t c =
@@ -121,7 +121,7 @@ stepped-returns-clause-scope t c =
     leave_is table old c.turns.new.visible c.leave.new.self (leave own (behind own b)) (inner_same s own (behind own b) (behind_same s a))
     (c.in_ok-turns.ensures.scope ∙ ap (λ p. leave p (behind p b)) c.in_ok-command.ensures.scope)
     (c.leave.ensures.bound ∙ ap (λ n. take n c.turns.new.visible.bound.items) (c.len-count.ensures ∙ old.bound.ok.0) ∙ ap (take (length old.bound.items)) c.in_ok-turns.ensures.keeps ∙ c.in_ok-command.ensures.keeps)
-    (record { next = c.leave.ensures.next; names = c.leave.ensures.names; class = c.leave.ensures.class; sign = c.leave.ensures.sign; gives = c.leave.ensures.gives; hidden = c.leave.ensures.hidden })
+    (record { next = c.leave.ensures.next; names = c.leave.ensures.names; class = c.leave.ensures.class; sign = c.leave.ensures.sign; gives = c.leave.ensures.gives; owns = c.leave.ensures.owns; hidden = c.leave.ensures.hidden })
 
 pub stepped-returns-clause-keeps : goal.stepped-returns-clause-keeps
 stepped-returns-clause-keeps t c =

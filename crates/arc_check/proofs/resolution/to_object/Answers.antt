@@ -1,14 +1,10 @@
-use Rattle.std.proofs.Common.{sym, ap, ◌∙◌}
+use Rattle.std.proofs.Common.{ap, ◌∙◌}
 use Rattle.std.proofs.lemmas.Result.{IfOk-weaker}
-use Rattle.arc_spec.specs.Resolved.{Initialized, ObjectValue}
+use Rattle.arc_spec.specs.Resolved.{ObjectValue}
 use Rattle.arc_check.specs.Checked as checked
-use Rattle.arc_check.specs.Resolving.{Refers, sent_number}
+use Rattle.arc_check.specs.Resolving.{sent_to}
 use Rattle.arc_check.proofs.resolution.to_object.Goals as goal
 
-pub returns-then-is_object : goal.returns-then-is_object
-returns-then-is_object c = rw (sym c.is_object.ensures ∙ c.if-is_object.true) (ap (λ v. Refers (Initialized (checked.reference v))) c.in_ok-object.ensures.ok)
-
-pub returns-else-is_object : goal.returns-else-is_object
-returns-else-is_object c =
-    rw (sym c.is_object.ensures ∙ c.if-is_object.false)
-    (IfOk-weaker c.sent.result _ _ (λ new h. h ∙ ap (λ v. sent_number c.args.kind (ObjectValue (checked.reference v)) c.args.selector (checked.arguments c.args.all.items)) c.in_ok-object.ensures.ok) c.sent.ensures)
+pub returns : goal.returns
+returns c =
+    IfOk-weaker c.sent_to.result _ _ (λ new h. h ∙ ap (λ v. sent_to c.args.kind (ObjectValue (checked.reference v)) c.args.selector (checked.arguments c.args.all.items)) c.in_ok-object.ensures.ok) c.sent_to.ensures

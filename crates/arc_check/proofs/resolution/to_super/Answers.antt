@@ -1,12 +1,18 @@
-use Rattle.std.proofs.Common.{sym, ap, ◌∙◌}
+use Rattle.std.proofs.Common.{ap, ◌∙◌}
 use Rattle.std.proofs.lemmas.Result.{IfOk-weaker}
+use Rattle.arc_spec.specs.Resolved.{ObjectSuper}
 use Rattle.arc_check.specs.Checked as checked
-use Rattle.arc_check.specs.Resolving.{sent_number}
+use Rattle.arc_check.specs.Resolving.{sent_to}
 use Rattle.arc_check.proofs.resolution.to_super.Goals as goal
 
-pub returns-then-is_object : goal.returns-then-is_object
-returns-then-is_object c = rw (sym c.is_object.ensures ∙ c.if-is_object.true) c.made_by_super.ensures
+pub returns-in-Class : goal.returns-in-Class
+returns-in-Class c = rw c.in-Class.is c.to_class.ensures
 
-pub returns-else-is_object : goal.returns-else-is_object
-returns-else-is_object c = rw (sym c.is_object.ensures ∙ c.if-is_object.false)
-    (IfOk-weaker c.sent.result _ _ (λ new h. h ∙ ap (λ r. sent_number c.args.kind r c.args.selector (checked.arguments c.args.all.items)) c.super_receiver.ensures) c.sent.ensures)
+pub returns-in_ok-object-in-Instance : goal.returns-in_ok-object-in-Instance
+returns-in_ok-object-in-Instance c =
+    let kind = c.args.kind in
+    let from = c.args.site.from in
+    let selector = c.args.selector in
+    let all = checked.arguments c.args.all.items in
+    rw c.in-Instance.is (IfOk-weaker c.sent_to.result _ _ (λ new h. h ∙ ap (λ o. sent_to kind (ObjectSuper (checked.reference o) from) selector all) c.in_ok-object-in-Instance.ensures.ok
+    ∙ ap (λ r. sent_to kind (ObjectSuper r from) selector all) c.itself.ensures) c.sent_to.ensures)

@@ -1,8 +1,8 @@
-use Rattle.std.proofs.Common.{Some, None, option_map, refl, sym, ap, ◌∙◌}
+use Rattle.std.proofs.Common.{Some, option_map, refl, sym, ap, ◌∙◌}
 use Rattle.std.specs.Option.{unwrap_or}
 use Rattle.std.proofs.lemmas.Result.{IfOk-weaker}
 use Rattle.arc_class.specs.Table.{number_of_class}
-use Rattle.arc_spec.specs.Resolved.{Invoked}
+use Rattle.arc_ast.specs.declared.tree.Kind.TheVariants.{Int}
 use Rattle.arc_check.specs.declared.callee.Callee.TheVariants.{Printf, GetChar, Defined, Unknown}
 use Rattle.arc_check.specs.declared.resolution.Typed.{Typed}
 use Rattle.arc_check.specs.private.Building.{resolution}
@@ -11,15 +11,15 @@ use Rattle.arc_check.specs.Checked as checked
 use Rattle.arc_ast.specs.Tree.{expr_tree, expr_trees, type_tree}
 use Rattle.arc_ast.specs.Types.{type_kind}
 use Rattle.arc_check.specs.Resolving as resolving
-use Rattle.arc_check.specs.Resolving.{unary, binary, updated, cast, conditional, resolved, resolved_all}
-use Rattle.arc_check.specs.Scopes.{class_of, either_class, is_nil, result_kind}
+use Rattle.arc_check.specs.Resolving.{Gives, unary, binary, updated, cast, conditional, invoked, resolved, resolved_all}
+use Rattle.arc_check.specs.Scopes.{class_of, either_class, is_nil}
 use Rattle.arc_check.specs.private.Views.{kinds_wanted, seen}
 use Rattle.arc_ast.proofs.Trees.{call_tree, send_tree, send_super_tree}
-use Rattle.arc_check.proofs.Trees.{print_value, invoked_value}
+use Rattle.arc_check.proofs.Trees.{print_value}
 use Rattle.arc_check.proofs.Buildings.{values_turn, values_end, printing_some, printing_none, resolves_call}
 use Rattle.arc_check.proofs.Messages.{assigned_other, resolves_class, resolves_object, resolves_super}
 use Rattle.arc_check.proofs.resolve.+resolve.Goals as goal
-use Rattle.arc_check.proofs.resolve.+resolve.Goals.{call-in-Printf+in_ok-value-in-Printf, call-in-Defined+in_ok-resolved_arguments-in-Defined, call-in-GetChar, call-in-Unknown}
+use Rattle.arc_check.proofs.resolve.+resolve.Goals.{call-in-Printf+in_ok-value-in-Printf+in_ok-value-in-Printf-2, call-in-Defined+in_ok-all-in-Defined+in_ok-value-in-Defined, call-in-GetChar+in_ok-value-in-GetChar, call-in-Unknown+in_ok-value-in-Unknown}
 
 pub expression-returns-in-Call : goal.expression-returns-in-Call
 expression-returns-in-Call t c =
@@ -36,7 +36,7 @@ expression-returns-in-SendSuper t c =
     (h c.in-SendSuper.field-0 c.in-SendSuper.field-1 c.in-SendSuper.field-2)) c.super_message.ensures
 
 pub expression-returns-in-Itself : goal.expression-returns-in-Itself
-expression-returns-in-Itself t c = rw c.in-Itself.is (record { class = c.own_class.ensures c.args.table.now; value = refl })
+expression-returns-in-Itself t c = rw c.in-Itself.is (record { class = c.own_class.ensures c.args.table.now; value = ap resolving.Refers c.itself.ensures })
 
 pub expression-returns-in-Integer : goal.expression-returns-in-Integer
 expression-returns-in-Integer t c = IfOk-weaker c.integer.result _ _ (λ typed h. rw c.in-Integer.is (h (seen c.args.table.now c.args.visible.now) c.in-Integer.field-0)) c.integer.ensures
@@ -111,6 +111,9 @@ class_in-returns t c = c.in_ok-typed.ensures.class
 pub argument-returns : goal.argument-returns
 argument-returns t c = IfOk-weaker c.passed.result _ _ (λ new h others. h others ∙ ap (λ x. resolving.argument c.args.wanted x others) c.in_ok-typed.ensures.value) c.passed.ensures
 
+pub assigned-returns-in_ok-itself_assigned-in-Itself-clause-class : goal.assigned-returns-in_ok-itself_assigned-in-Itself-clause-class
+assigned-returns-in_ok-itself_assigned-in-Itself-clause-class t c = rw c.in-Itself.is (c.own_class.ensures c.args.table.now)
+
 pub assigned-returns-in-Name-clause-class : goal.assigned-returns-in-Name-clause-class
 assigned-returns-in-Name-clause-class t c = rw (c.in-Name.is, sym c.deref-in-Name.ensures.value) c.to_name.ensures.class
 
@@ -124,7 +127,7 @@ pub assigned-returns-in-Arrow-clause-value : goal.assigned-returns-in-Arrow-clau
 assigned-returns-in-Arrow-clause-value t c = rw (c.in-Arrow.is, sym c.deref-in-Arrow.ensures, sym c.deref-in-Arrow-2.ensures.value) c.to_field.ensures.value
 
 pub assigned-returns-in_ok-class-in_default : goal.assigned-returns-in_ok-class-in_default
-assigned-returns-in_ok-class-in_default t c = record { class = c.in_ok-class-in_default.ensures; value = assigned_other (seen c.args.table.now c.args.visible.now) c.args.left.now _ c.in_default.not-Paren c.in_default.not-Name c.in_default.not-Arrow }
+assigned-returns-in_ok-class-in_default t c = record { class = c.in_ok-class-in_default.ensures; value = assigned_other (seen c.args.table.now c.args.visible.now) c.args.left.now _ c.in_default.not-Paren c.in_default.not-Itself c.in_default.not-Name c.in_default.not-Arrow }
 
 pub message-returns-in_ok-class_message-in-Some : goal.message-returns-in_ok-class_message-in-Some
 message-returns-in_ok-class_message-in-Some t c = λ at part.
@@ -150,24 +153,25 @@ message-returns-in_ok-object_message-in-None t c = λ at part.
 
 pub super_message-returns : goal.super_message-returns
 super_message-returns t c = λ at part super_at.
-    resolves_super (seen c.args.table.now c.args.visible.now) at part super_at c.args.selector.now (expr_trees c.args.arguments.now) c.super_kind-kind.result c.class_number-from.result c.selector_number-number.result (checked.arguments c.in_ok-all.all.items)
-    (record { class = c.super_class.result; value = c.in_ok-to_super.field-0 }) c.super_kind-kind.ensures (c.class_number-from.ensures ∙ ap (λ n. unwrap_or n 0) c.above.ensures) (c.selector_number-number.ensures ∙ ap (λ n. unwrap_or n 0) c.selector.ensures)
+    resolves_super (seen c.args.table.now c.args.visible.now) at part super_at c.args.selector.now (expr_trees c.args.arguments.now) c.super_kind-kind.result c.class_number.result c.selector_number-number.result (checked.arguments c.in_ok-all.all.items)
+    (record { class = c.super_class.result; value = c.in_ok-to_super.field-0 }) c.super_kind-kind.ensures (c.class_number.ensures ∙ ap (λ n. unwrap_or n 0) c.above.ensures) (c.selector_number-number.ensures ∙ ap (λ n. unwrap_or n 0) c.selector.ensures)
     (c.in_ok-all.ensures ∙ ap (λ k. resolved_all (seen c.args.table.now c.args.visible.now) (Some k) (expr_trees c.args.arguments.now)) c.parameters_passed.ensures)
-    (c.super_class.ensures c.args.table.now) c.in_ok-to_super.ensures
+    c.super_class.ensures c.in_ok-to_super.ensures
 
 pub call-returns : goal.call-returns
 call-returns t c = λ at.
     let s = seen c.args.table.now c.args.visible.now in
+    let name = c.args.name.now in
     let all = expr_trees c.args.arguments.now in
-    let k = c.result_kind.result in
-    let v = c.match-callee.value in
-    let typed : Typed = record { class = None; value = c.in_ok-given.given } in
+    let typed : Typed = record { class = c.function_class.result; value = c.match-callee.value } in
+    let class = ap (option_map number_of_class) c.function_class.ensures in
     elim c.match-callee.branch [
-      | call-in-Printf+in_ok-value-in-Printf w ↦ resolves_call s at c.args.name.now all Printf k v typed (sym w.in-Printf.ensures) (c.result_kind.ensures ∙ ap result_kind (w.callee-is ∙ c.callee_of-callee.ensures ∙ sym w.in-Printf.ensures)) (ap checked.value w.value-is ∙ w.in_ok-value-in-Printf.ensures) refl c.in_ok-given.ensures
-      | call-in-Defined+in_ok-resolved_arguments-in-Defined w ↦ resolves_call s at c.args.name.now all (Defined w.in-Defined.field-0 w.in-Defined.field-1 w.in-Defined.body) k v typed (sym w.in-Defined.ensures) (c.result_kind.ensures ∙ ap result_kind w.callee-is)
-          (ap checked.value w.value-is ∙ invoked_value w.number.result w.in_ok-resolved_arguments-in-Defined.field-0 ∙ ap (λ f. Invoked f (checked.arguments w.in_ok-resolved_arguments-in-Defined.field-0.items)) w.number.ensures ∙ ap (Invoked (unwrap_or w.in-Defined.body 0)) (w.in_ok-resolved_arguments-in-Defined.ensures ∙ ap (λ k. resolved_all s (Some k) all) w.parameters.ensures)) refl c.in_ok-given.ensures
-      | call-in-GetChar w ↦ resolves_call s at c.args.name.now all GetChar k v typed (sym w.in-GetChar.ensures) (c.result_kind.ensures ∙ ap result_kind (w.callee-is ∙ c.callee_of-callee.ensures ∙ sym w.in-GetChar.ensures)) (ap checked.value w.value-is) refl c.in_ok-given.ensures
-      | call-in-Unknown w ↦ resolves_call s at c.args.name.now all Unknown k v typed (sym w.in-Unknown.ensures) (c.result_kind.ensures ∙ ap result_kind (w.callee-is ∙ c.callee_of-callee.ensures ∙ sym w.in-Unknown.ensures)) (ap checked.value w.value-is) refl c.in_ok-given.ensures
+      | call-in-Printf+in_ok-value-in-Printf+in_ok-value-in-Printf-2 w ↦ resolves_call s at name all Printf typed (sym w.in-Printf.ensures) class (ap resolution w.value-is ∙ w.in_ok-value-in-Printf-2.ensures ∙ ap (Gives Int) w.in_ok-value-in-Printf.ensures)
+      | call-in-Defined+in_ok-all-in-Defined+in_ok-value-in-Defined w ↦ resolves_call s at name all (Defined w.in-Defined.kind w.in-Defined.field-1 w.in-Defined.body) typed (sym w.in-Defined.ensures) class
+          (ap resolution w.value-is ∙ w.in_ok-value-in-Defined.ensures ∙ ap (λ f. invoked w.in-Defined.kind f (checked.arguments w.in_ok-all-in-Defined.all.items)) w.number.ensures
+          ∙ ap (invoked w.in-Defined.kind (unwrap_or w.in-Defined.body 0)) (w.in_ok-all-in-Defined.ensures ∙ ap (λ k. resolved_all s (Some k) all) w.parameters.ensures))
+      | call-in-GetChar+in_ok-value-in-GetChar w ↦ resolves_call s at name all GetChar typed (sym w.in-GetChar.ensures) class (ap resolution w.value-is ∙ w.in_ok-value-in-GetChar.ensures)
+      | call-in-Unknown+in_ok-value-in-Unknown w ↦ resolves_call s at name all Unknown typed (sym w.in-Unknown.ensures) class (ap resolution w.value-is ∙ w.in_ok-value-in-Unknown.ensures)
     ]
 
 pub print-returns-in_ok-pieces-in-Some : goal.print-returns-in_ok-pieces-in-Some

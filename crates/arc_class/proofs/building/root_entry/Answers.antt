@@ -2,4 +2,4 @@ use Rattle.arc_class.proofs.Parts.{root_is}
 use Rattle.arc_class.proofs.building.root_entry.Goals as goal
 
 pub returns : goal.returns
-returns c = root_is c.new.result c.new.ensures
+returns c names = root_is names c.new.result c.new.ensures

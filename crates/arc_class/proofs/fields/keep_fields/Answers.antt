@@ -1,4 +1,4 @@
-use Rattle.std.proofs.Common.{◌≡◌, ◌+◌, length, drop, sym, ap, ◌∙◌}
+use Rattle.std.proofs.Common.{◌≡◌, ◌+◌, drop, sym, ap, ◌∙◌}
 use Rattle.arc_ast.specs.Tree.{type_tree, field_tree, field_trees}
 use Rattle.arc_ast.specs.Types.{type_kind}
 use Rattle.arc_class.specs.Classes.{or_else}

@@ -127,3 +127,15 @@ returns-clause-dealloc_sent c = by.refused refused.dealloc_sent 62 32 refl refl
 pub returns-clause-init_of_self : goal.returns-clause-init_of_self
 unfolding reading
 returns-clause-init_of_self c = by.refused refused.init_of_self 63 65 refl refl
+
+pub returns-clause-unretained : goal.returns-clause-unretained
+unfolding reading
+returns-clause-unretained c = by.refused refused.unretained 60 24 refl refl
+
+pub returns-clause-other_class_by_init : goal.returns-clause-other_class_by_init
+unfolding reading
+returns-clause-other_class_by_init c = by.refused refused.other_class_by_init 66 76 refl refl
+
+pub returns-clause-number_qualified : goal.returns-clause-number_qualified
+unfolding reading
+returns-clause-number_qualified c = by.refused refused.number_qualified 67 51 refl refl

@@ -1,17 +1,24 @@
-use Rattle.std.proofs.Common.{◌≡◌, ◌<◌, ◌≤◌, length, sym, ◌∙◌, subst}
+use Rattle.std.proofs.Common.{sym, ◌∙◌}
+use Rattle.arc_spec.specs.Classes.{classes_of}
 use Rattle.arc_check.specs.Checked.{functions}
-use Rattle.arc_lower.proofs.Rows.{functions_length}
-use Rattle.arc_lower.proofs.Callees.{number_in, number_out}
+use Rattle.arc_lower.specs.Definitions.{definition_of}
+use Rattle.arc_lower.proofs.Callees.{number_found, number_none}
 use Rattle.arc_lower.proofs.call.number_of.Goals as goal
 
-pub returns-then-function-count : goal.returns-then-function-count
-returns-then-function-count c =
-    let all = c.args.program.now.functions in
-    let e : c.len-count.result ≡ length (functions all.items) = c.len-count.ensures ∙ all.ok.0 ∙ sym (functions_length all.items) in
-    number_in c.args.function (length (functions all.items)) (subst (λ n. c.args.function < n) e c.if-function-count.true)
+pub returns-in-Some : goal.returns-in-Some
+returns-in-Some c =
+    let all = functions c.args.program.now.functions.items in
+    let main = c.args.program.now.main in
+    let gs = c.args.program.now.globals.items in
+    let sg = c.args.program.now.strong_globals in
+    let cs = classes_of c.args.program.now.classes.items in
+    sym (number_found main gs sg cs c.args.wanted all c.args.function (definition_of c.in-Some.field-0.now) c.in-Some.ensures)
 
-pub returns-else-function-count : goal.returns-else-function-count
-returns-else-function-count c =
-    let all = c.args.program.now.functions in
-    let e : c.len-count.result ≡ length (functions all.items) = c.len-count.ensures ∙ all.ok.0 ∙ sym (functions_length all.items) in
-    e ∙ number_out c.args.function (length (functions all.items)) (subst (λ n. n ≤ c.args.function) e c.if-function-count.false)
+pub returns-in-None : goal.returns-in-None
+returns-in-None c =
+    let all = functions c.args.program.now.functions.items in
+    let main = c.args.program.now.main in
+    let gs = c.args.program.now.globals.items in
+    let sg = c.args.program.now.strong_globals in
+    let cs = classes_of c.args.program.now.classes.items in
+    c.number_of_nothing.ensures ∙ sym (number_none main gs sg cs c.args.wanted all c.args.function c.in-None.ensures)

@@ -15,8 +15,8 @@ use Rattle.arc_lower.specs.Order.{Order, order, orders}
 use Rattle.arc_lower.specs.Known.{is_within, combined_kind, known_kind}
 use Rattle.arc_lower.specs.Lowered.{Idle, One, Inside, flat, old_block, given_block, narrow_block, old_orders, given_orders, narrow_orders, below_new, value_orders, reference_orders, receiver_orders, argument_orders, forget_orders, print_orders, call_orders, get_orders, set_orders, number_count, object_count, below_arguments, message_to, message_order}
 use Rattle.arc_lower.proofs.Patching.{patch_fork}
-use Rattle.arc_check.proofs.Trees.{is_print, is_invoked, is_sent}
-use Rattle.arc_lower.proofs.Weights.{value_weight, reference_weight, argument_in, receiver_weight, arguments_weight, is_applied, is_combined, is_choice, is_chosen, is_converted, is_assigned, is_updated, is_field, is_field_assigned, is_field_updated, is_differ, is_object, is_stored, is_object_field, is_object_field_stored, is_made, is_initialized, is_class_value, is_object_value, is_number_argument, is_object_argument}
+use Rattle.arc_check.proofs.Trees.{is_print, is_invoked, is_sent, is_object_invoked, is_object_sent}
+use Rattle.arc_lower.proofs.Weights.{value_weight, reference_weight, argument_in, receiver_weight, arguments_weight, is_applied, is_combined, is_choice, is_chosen, is_converted, is_assigned, is_updated, is_field, is_field_assigned, is_field_updated, is_differ, is_object, is_stored, is_object_field, is_object_field_stored, is_made, is_new, is_class_value, is_object_value, is_object_super, is_number_argument, is_object_argument}
 use Rattle.arc_lower.proofs.expression.+expression.Goals as goal
 use Rattle.arc_lower.proofs.expression.+expression.Goals.{append_arguments-in-Number+in_ok-append_value-in-Number+in_ok-operands-in-Number, append_arguments-in-Object+in_ok-append_reference-in-Object}
 
@@ -481,9 +481,35 @@ pub append_reference-append_field_stored-requires : goal.append_reference-append
 append_reference-append_field_stored-requires t c =
     (omega (arith, ap reference_weight (is_object_field_stored c.args.expression.now c.in-ObjectFieldStored.object c.in-ObjectFieldStored.class c.in-ObjectFieldStored.index c.in-ObjectFieldStored.operand c.deref-in-ObjectFieldStored.result.now c.deref-in-ObjectFieldStored-2.result.now c.in-ObjectFieldStored.is c.deref-in-ObjectFieldStored.ensures c.deref-in-ObjectFieldStored-2.ensures), c.decreases), tt)
 
-pub append_reference-append_reference_then-requires-in-Initialized : goal.append_reference-append_reference_then-requires-in-Initialized
-append_reference-append_reference_then-requires-in-Initialized t c =
-    (omega (arith, ap reference_weight (is_initialized c.args.expression.now c.in-Initialized.operand c.deref-in-Initialized.result.now c.in-Initialized.is c.deref-in-Initialized.ensures), c.decreases), tt)
+pub append_reference-append_new_object-requires : goal.append_reference-append_new_object-requires
+append_reference-append_new_object-requires t c =
+    (omega (arith, ap reference_weight (is_new c.args.expression.now c.in-New.from c.in-New.class c.deref-in-New.result.now c.in-New.is c.deref-in-New.ensures), c.decreases), tt)
+
+pub append_reference-returns-in-New : goal.append_reference-returns-in-New
+append_reference-returns-in-New t c =
+    let f = c.args.frame in
+    subst (λ x. OnOk c.append_new_object.result (orders c.append_new_object.new.actions.items ≡ orders c.args.actions.now.items ++ reference_orders (program_of c.args.program.now) f.slots f.names f.operands x))
+    (sym (is_new c.args.expression.now c.in-New.from c.in-New.class c.deref-in-New.result.now c.in-New.is c.deref-in-New.ensures)) c.append_new_object.ensures
+
+pub append_reference-append_invoked-requires : goal.append_reference-append_invoked-requires
+append_reference-append_invoked-requires t c =
+    (omega (arith, ap reference_weight (is_object_invoked c.args.expression.now c.in-ObjectInvoked.function c.in-ObjectInvoked.arguments c.deref-in-ObjectInvoked.result.now c.in-ObjectInvoked.is c.deref-in-ObjectInvoked.ensures.value), c.decreases), tt)
+
+pub append_reference-returns-in-ObjectInvoked : goal.append_reference-returns-in-ObjectInvoked
+append_reference-returns-in-ObjectInvoked t c =
+    let f = c.args.frame in
+    subst (λ x. OnOk c.append_invoked.result (orders c.append_invoked.new.actions.items ≡ orders c.args.actions.now.items ++ reference_orders (program_of c.args.program.now) f.slots f.names f.operands x))
+    (sym (is_object_invoked c.args.expression.now c.in-ObjectInvoked.function c.in-ObjectInvoked.arguments c.deref-in-ObjectInvoked.result.now c.in-ObjectInvoked.is c.deref-in-ObjectInvoked.ensures.value)) c.append_invoked.ensures
+
+pub append_reference-append_sent-requires : goal.append_reference-append_sent-requires
+append_reference-append_sent-requires t c =
+    (omega (arith, ap reference_weight (is_object_sent c.args.expression.now c.in-ObjectSent.receiver c.in-ObjectSent.selector c.in-ObjectSent.arguments c.deref-in-ObjectSent.result.now c.deref-in-ObjectSent-2.result.now c.in-ObjectSent.is c.deref-in-ObjectSent.ensures c.deref-in-ObjectSent-2.ensures.value), c.decreases), tt)
+
+pub append_reference-returns-in-ObjectSent : goal.append_reference-returns-in-ObjectSent
+append_reference-returns-in-ObjectSent t c =
+    let f = c.args.frame in
+    subst (λ x. OnOk c.append_sent.result (orders c.append_sent.new.actions.items ≡ orders c.args.actions.now.items ++ reference_orders (program_of c.args.program.now) f.slots f.names f.operands x))
+    (sym (is_object_sent c.args.expression.now c.in-ObjectSent.receiver c.in-ObjectSent.selector c.in-ObjectSent.arguments c.deref-in-ObjectSent.result.now c.deref-in-ObjectSent-2.result.now c.in-ObjectSent.is c.deref-in-ObjectSent.ensures c.deref-in-ObjectSent-2.ensures.value)) c.append_sent.ensures
 
 pub append_reference-returns-in-ObjectField : goal.append_reference-returns-in-ObjectField
 append_reference-returns-in-ObjectField t c =
@@ -504,6 +530,16 @@ append_receiver-append_value-requires t c =
 pub append_receiver-append_reference-requires : goal.append_receiver-append_reference-requires
 append_receiver-append_reference-requires t c =
     (omega (arith, ap receiver_weight (is_object_value c.args.receiver.now c.in-ObjectValue.object c.deref-in-ObjectValue.result.now c.in-ObjectValue.is c.deref-in-ObjectValue.ensures), c.decreases), tt)
+
+pub append_receiver-append_reference-requires-in-ObjectSuper : goal.append_receiver-append_reference-requires-in-ObjectSuper
+append_receiver-append_reference-requires-in-ObjectSuper t c =
+    (omega (arith, ap receiver_weight (is_object_super c.args.receiver.now c.in-ObjectSuper.object _ c.deref-in-ObjectSuper.result.now c.in-ObjectSuper.is c.deref-in-ObjectSuper.ensures), c.decreases), tt)
+
+pub append_receiver-returns-in-ObjectSuper : goal.append_receiver-returns-in-ObjectSuper
+append_receiver-returns-in-ObjectSuper t c =
+    let f = c.args.frame in
+    subst (λ x. OnOk c.append_reference-in-ObjectSuper.result (orders c.append_reference-in-ObjectSuper.new.actions.items ≡ orders c.args.actions.now.items ++ receiver_orders (program_of c.args.program.now) f.slots f.names f.operands x))
+    (sym (is_object_super c.args.receiver.now c.in-ObjectSuper.object _ c.deref-in-ObjectSuper.result.now c.in-ObjectSuper.is c.deref-in-ObjectSuper.ensures)) c.append_reference-in-ObjectSuper.ensures
 
 pub append_receiver-returns-in-ClassValue : goal.append_receiver-returns-in-ClassValue
 append_receiver-returns-in-ClassValue t c =
@@ -588,9 +624,9 @@ append_invoked-returns t c =
     let these = arguments c.args.arguments.now in
     let xs = argument_orders P f.slots f.names f.operands these in
     rightly c.append_call.result (orders c.append_call.new.actions.items) _ _
-    (ap (λ l. l ++ call_orders P c.args.function c.count_numbers.result c.count_objects.result) c.in_ok-append_arguments.ensures
-    ∙ ap (λ n. (old ++ xs) ++ call_orders P c.args.function n c.count_objects.result) c.count_numbers.ensures
-    ∙ ap (λ n. (old ++ xs) ++ call_orders P c.args.function (number_count these) n) c.count_objects.ensures
+    (ap (λ l. l ++ call_orders P c.args.wanted c.args.function c.count_numbers.result c.count_objects.result) c.in_ok-append_arguments.ensures
+    ∙ ap (λ n. (old ++ xs) ++ call_orders P c.args.wanted c.args.function n c.count_objects.result) c.count_numbers.ensures
+    ∙ ap (λ n. (old ++ xs) ++ call_orders P c.args.wanted c.args.function (number_count these) n) c.count_objects.ensures
     ∙ append_assoc old xs _)
     c.append_call.ensures
 
@@ -603,7 +639,7 @@ append_sent-returns t c =
     let these = arguments c.args.arguments.now in
     let o1 = orders c.append_receiver.new.actions.items in
     let o2 = orders c.append_arguments.new.actions.items in
-    let tells = message_order (message_to got c.args.selector) in
+    let tells = message_order c.args.wanted (message_to got c.args.selector) in
     let next = c.in_ok-append_arguments.ensures ∙ ap (λ n. o1 ++ argument_orders P f.slots f.names n these) c.in_ok-operands.ensures in
     rightly c.append.result (orders c.append.new.actions.items) _ _
     (ap (λ o. o2 ++ o ∷ []) (c.message.ensures ∙ ap (λ n. tells n c.count_objects-objects.result) c.count_numbers-numbers.ensures ∙ ap (tells (number_count these)) c.count_objects-objects.ensures)
@@ -624,6 +660,10 @@ append_field_stored-returns t c =
     ∙ append_assoc o2 store last
     ∙ behind_two old o1 o2 (reference_orders P f.slots f.names f.operands (reference c.args.object.now)) (reference_orders P f.slots f.names f.operands (reference c.args.operand.now)) (store ++ last) c.in_ok-append_reference.ensures c.in_ok-append_reference-2.ensures)
     c.append-2.ensures
+
+pub append_new_object-append_value-requires : goal.append_new_object-append_value-requires
+append_new_object-append_value-requires t c =
+    (omega (arith, c.decreases), tt)
 
 pub append_sent-append_receiver-requires : goal.append_sent-append_receiver-requires
 append_sent-append_receiver-requires t c =

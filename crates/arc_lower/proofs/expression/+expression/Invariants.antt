@@ -26,6 +26,9 @@ decreases-append_printed l = suc (arguments_weight (arguments l.arguments.now))
 abbrev pub decreases-append_invoked : goal.decreases-append_invoked
 decreases-append_invoked l = suc (arguments_weight (arguments l.arguments.now))
 
+abbrev pub decreases-append_new_object : goal.decreases-append_new_object
+decreases-append_new_object l = suc (value_weight (value l.class.now))
+
 abbrev pub decreases-append_value_then : goal.decreases-append_value_then
 decreases-append_value_then l = suc (value_weight (value l.operand.now))
 

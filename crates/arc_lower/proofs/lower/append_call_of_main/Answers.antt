@@ -1,5 +1,6 @@
 use Rattle.std.proofs.Common.{[], ◌∷◌, length, ap, sym, ◌∙◌, length-append, arith}
 use Rattle.std.proofs.lemmas.List.{length-map}
+use Rattle.arc_spec.specs.declared.class.Gives.TheVariants as gives
 use Rattle.arc_check.specs.Checked.{program_of}
 use Rattle.arc_code.specs.declared.instr.Instr.TheVariants.{Return}
 use Rattle.arc_lower.specs.Order.{order, orders}
@@ -12,6 +13,6 @@ returns-clause-end_step c =
     let P = program_of c.args.program.now in
     let v = c.append.new.actions in
     let size = c.len-end_step.ensures ∙ v.ok.0 ∙ sym (length-map v.items order) in
-    let l1 = ap length c.in_ok-append_call.ensures ∙ length-append (orders c.args.actions.now.items) (call_orders P P.main 0 0) in
+    let l1 = ap length c.in_ok-append_call.ensures ∙ length-append (orders c.args.actions.now.items) (call_orders P gives.Number P.main 0 0) in
     let l2 = ap length c.in_ok-append.ensures ∙ length-append (orders c.append_call.new.actions.items) (Return ∷ []) in
-    omega (arith, size, l1, l2, call_length P P.main)
+    omega (arith, size, l1, l2, call_length P gives.Number P.main)

@@ -1,6 +1,7 @@
 use Rattle.std.proofs.Common.{◌≡◌, suc, ◌++◌, length, sym, ap, ◌∙◌, length-append}
 use Rattle.std.proofs.lemmas.List.{length-map}
 use Rattle.arc_spec.specs.Resolved.{Function}
+use Rattle.arc_spec.specs.Meaning.{function_places}
 use Rattle.arc_check.specs.Checked.{commands, program_of}
 use Rattle.arc_lower.specs.Order.{order, orders}
 use Rattle.arc_lower.specs.Lowered.{leave_orders, body_orders, entry_of, object_parameters}
@@ -14,27 +15,30 @@ returns-clause-most c =
     let P = program_of c.args.program.now in
     let old = c.args.actions.now in
     let middle = c.append_leave.new.actions in
-    let f : Function = record { slots = c.args.function.slots; names = c.args.function.names; parameters = c.args.function.parameters; body = commands c.args.function.body.now } in
+    let f : Function = record { slots = c.args.function.slots; names = c.args.function.names; parameters = c.args.function.parameters; gives = c.args.function.gives; owns = c.args.function.owns; body = commands c.args.function.body.now } in
     let place = length (orders old.items) in
-    let leave = leave_orders f.slots f.names in
+    let leave = leave_orders f in
+    let count = function_places f in
     let most = c.args.most.now in
-    let base = between f.slots f.names in
-    let left = between (suc f.slots) f.names in
+    let base = between f.slots count in
+    let left = between (suc f.slots) count in
     let entered = height f.slots (object_parameters f) 0 0 in
     let here : c.len-exit.result ≡ place = c.len-exit.ensures ∙ old.ok.0 ∙ sym (length-map old.items order) in
-    let there : length (orders middle.items) ≡ entry_of place f = ap length c.in_ok-append_leave.ensures ∙ length-append (orders old.items) leave in
+    let there : length (orders middle.items) ≡ entry_of place f = ap length (c.in_ok-append_leave.ensures) ∙ length-append (orders old.items) leave in
     let body = body_orders P place (entry_of place f) f in
     let body_is = ap (λ n. body_orders P n (length (orders middle.items)) f) here ∙ ap (λ n. body_orders P place n f) there in
+    let leaves = c.in_ok-append_leave.ensures in
+    let base_is : c.between-base.result ≡ base = c.between-base.ensures ∙ ap (between f.slots) c.in_ok-names.ensures in
     let first : c.in_ok-most.field-0 ≡ greatest (heights P base left leave) most =
     c.in_ok-most.ensures
     ∙ ap (λ l. greatest (heights P c.between-base.result c.between-left.result l) most)
-    (slice_behind old.items middle.items c.deref.result.now c.len-exit.result leave (c.len-exit.ensures ∙ old.ok.0) c.deref.ensures.value c.in_ok-append_leave.ensures)
-    ∙ ap (λ b. greatest (heights P b c.between-left.result leave) most) c.between-base.ensures
-    ∙ ap (λ h. greatest (heights P base h leave) most) (c.between-left.ensures ∙ ap (λ n. between n f.names) c.in_ok-one_more.ensures) in
+    (slice_behind old.items middle.items c.deref.result.now c.len-exit.result leave (c.len-exit.ensures ∙ old.ok.0) c.deref.ensures.value leaves)
+    ∙ ap (λ b. greatest (heights P b c.between-left.result leave) most) base_is
+    ∙ ap (λ h. greatest (heights P base h leave) most) (c.between-left.ensures ∙ ap (between c.in_ok-one_more.field-0) c.in_ok-names.ensures ∙ ap (λ n. between n count) c.in_ok-one_more.ensures) in
     let second : c.in_ok-most-2.field-0 ≡ greatest (heights P base entered body) c.in_ok-most.field-0 =
     c.in_ok-most-2.ensures
     ∙ ap (λ l. greatest (heights P c.between-base.result c.passed-entered.result l) c.in_ok-most.field-0)
     (slice_behind middle.items c.append_body.new.actions.items c.deref-2.result.now c.len-entry.result body (c.len-entry.ensures ∙ middle.ok.0) c.deref-2.ensures.value (c.in_ok-append_body.ensures ∙ ap (λ l. orders middle.items ++ l) body_is))
-    ∙ ap (λ b. greatest (heights P b c.passed-entered.result body) c.in_ok-most.field-0) c.between-base.ensures
-    ∙ ap (λ h. greatest (heights P base h body) c.in_ok-most.field-0) (c.passed-entered.ensures ∙ ap (λ n. height f.slots n 0 0) c.lesser.ensures) in
+    ∙ ap (λ b. greatest (heights P b c.passed-entered.result body) c.in_ok-most.field-0) base_is
+    ∙ ap (λ h. greatest (heights P base h body) c.in_ok-most.field-0) (c.passed-entered.ensures ∙ ap (λ n. height f.slots n 0 0) c.object_parameters-given.ensures) in
     second ∙ ap (greatest (heights P base entered body)) first ∙ sym (greatest_append (heights P base left leave) (heights P base entered body) most)

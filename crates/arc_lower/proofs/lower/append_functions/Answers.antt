@@ -1,13 +1,19 @@
-use Rattle.std.proofs.Common.{◌≡◌, ◌++◌, [], ◌∷◌, ◌+◌, length, drop, ap, sym, ◌∙◌, subst}
+use Rattle.std.proofs.Common.{◌≡◌, List, ◌++◌, [], ◌∷◌, ◌+◌, length, drop, ap, sym, ◌∙◌, subst}
 use Rattle.std.proofs.lemmas.List.{drop_more, drop_all, append-nil}
 use Rattle.arc_spec.specs.Resolved.{Function}
 use Rattle.arc_check.specs.declared.checked.CheckedFunction.{CheckedFunction}
 use Rattle.arc_check.specs.Checked.{functions, commands, program_of}
 use Rattle.arc_lower.specs.Order.{orders}
-use Rattle.arc_lower.specs.Lowered.{nothing, entry_of, function_orders, functions_orders, entries_from}
+use Rattle.arc_spec.specs.declared.class.Gives.TheVariants as gives
+use Rattle.arc_spec.specs.Meaning.{nothing_giving}
+use Rattle.arc_lower.specs.Lowered.{entry_of, function_orders, functions_orders, entries_from}
 use Rattle.arc_lower.specs.Heights.{greatest, function_heights, functions_heights}
 use Rattle.arc_lower.proofs.Laying.{Laid, laid_more}
 use Rattle.arc_lower.proofs.lower.append_functions.Goals as goal
+
+-- the functions that do nothing
+abbrev last_two : List Function
+last_two = nothing_giving gives.Number ∷ nothing_giving gives.Object ∷ []
 
 pub loop-function-preserved : goal.loop-function-preserved
 loop-function-preserved c =
@@ -18,44 +24,57 @@ loop-function-preserved c =
     let old = c.loop-function.actions in
     let o = orders old.items in
     let start = orders c.args.actions.now.items in
-    let whole = functions all ++ nothing ∷ [] in
-    let left = functions (drop (i + 1) all) ++ nothing ∷ [] in
+    let whole = functions all ++ last_two in
+    let left = functions (drop (i + 1) all) ++ last_two in
     let body = ap commands c.deref.ensures.value in
-    let f : Function = record { slots = item.slots; names = item.names; parameters = item.parameters; body = commands item.body.items } in
+    let f : Function = record { slots = item.slots; names = item.names; parameters = item.parameters; gives = item.gives; owns = item.owns; body = commands item.body.items } in
     let split : drop i all ≡ item ∷ drop (i + 1) all = drop_more all i item c.loop-function-test.true ∙ ap (λ (x : CheckedFunction). x ∷ drop (i + 1) all) (sym c.function-item.is) in
-    let before : Laid P start c.args.entries.now.items c.args.most.now whole o c.loop-function.entries.items c.loop-function.most (f ∷ left) = subst (λ l. Laid P start c.args.entries.now.items c.args.most.now whole o c.loop-function.entries.items c.loop-function.most (functions l ++ nothing ∷ [])) split c.loop-function.invariant in
-    let laid = c.in_ok-append_function.ensures.actions ∙ ap (λ l. o ++ function_orders P (length o) (record { slots = item.slots; names = item.names; parameters = item.parameters; body = l })) body in
-    let entries = c.in_ok-append_function.ensures.entries ∙ ap (λ l. c.loop-function.entries.items ++ entry_of (length o) (record { slots = item.slots; names = item.names; parameters = item.parameters; body = l }) ∷ []) body in
-    let most = c.in_ok-append_function.ensures.most ∙ ap (λ l. greatest (function_heights P (length o) (record { slots = item.slots; names = item.names; parameters = item.parameters; body = l })) c.loop-function.most) body in
+    let before : Laid P start c.args.entries.now.items c.args.most.now whole o c.loop-function.entries.items c.loop-function.most (f ∷ left) = subst (λ l. Laid P start c.args.entries.now.items c.args.most.now whole o c.loop-function.entries.items c.loop-function.most (functions l ++ last_two)) split c.loop-function.invariant in
+    let laid = c.in_ok-append_function.ensures.actions ∙ ap (λ l. o ++ function_orders P (length o) (record { slots = item.slots; names = item.names; parameters = item.parameters; gives = item.gives; owns = item.owns; body = l })) body in
+    let entries = c.in_ok-append_function.ensures.entries ∙ ap (λ l. c.loop-function.entries.items ++ entry_of (length o) (record { slots = item.slots; names = item.names; parameters = item.parameters; gives = item.gives; owns = item.owns; body = l }) ∷ []) body in
+    let most = c.in_ok-append_function.ensures.most ∙ ap (λ l. greatest (function_heights P (length o) (record { slots = item.slots; names = item.names; parameters = item.parameters; gives = item.gives; owns = item.owns; body = l })) c.loop-function.most) body in
     laid_more P start c.args.entries.now.items c.args.most.now whole o c.loop-function.entries.items c.loop-function.most f left (orders c.append_function.new.actions.items) c.append_function.new.entries.items c.append_function.new.most before laid entries most
 
 -- behind the last function
-finished : (c : goal.In_ok-append_function-2) → Laid (program_of c.args.program.now) (orders c.args.actions.now.items) c.args.entries.now.items c.args.most.now (functions c.deref-function-items.result.now ++ nothing ∷ []) (orders c.append_function-2.new.actions.items) c.append_function-2.new.entries.items c.append_function-2.new.most []
+finished : (c : goal.In_ok-append_function-3) → Laid (program_of c.args.program.now) (orders c.args.actions.now.items) c.args.entries.now.items c.args.most.now (functions c.deref-function-items.result.now ++ last_two) (orders c.append_function-3.new.actions.items) c.append_function-3.new.entries.items c.append_function-3.new.most []
 finished c =
     let P = program_of c.args.program.now in
     let all = c.deref-function-items.result.now in
-    let old = c.loop-function.actions in
-    let o = orders old.items in
+    let o = orders c.loop-function.actions.items in
+    let o2 = orders c.append_function-2.new.actions.items in
     let start = orders c.args.actions.now.items in
-    let whole = functions all ++ nothing ∷ [] in
+    let whole = functions all ++ last_two in
+    let number = nothing_giving gives.Number in
+    let object = nothing_giving gives.Object in
+    let one = c.in_ok-append_function-2.ensures in
+    let two = c.in_ok-append_function-3.ensures in
+    let one_is = c.nothing_giving-number.ensures in
+    let two_is = c.nothing_giving-object.ensures in
+    let e = c.loop-function.entries.items in
+    let e2 = c.append_function-2.new.entries.items in
+    let m = c.loop-function.most in
+    let m2 = c.append_function-2.new.most in
     let none : drop c.loop-function.function-index all ≡ [] = drop_all c.loop-function.function-index all c.loop-function-test.false in
-    let before : Laid P start c.args.entries.now.items c.args.most.now whole o c.loop-function.entries.items c.loop-function.most (nothing ∷ []) = subst (λ l. Laid P start c.args.entries.now.items c.args.most.now whole o c.loop-function.entries.items c.loop-function.most (functions l ++ nothing ∷ [])) none c.loop-function.invariant in
-    laid_more P start c.args.entries.now.items c.args.most.now whole o c.loop-function.entries.items c.loop-function.most nothing [] (orders c.append_function-2.new.actions.items) c.append_function-2.new.entries.items c.append_function-2.new.most before c.in_ok-append_function-2.ensures.actions c.in_ok-append_function-2.ensures.entries c.in_ok-append_function-2.ensures.most
+    let before : Laid P start c.args.entries.now.items c.args.most.now whole o e m last_two = subst (λ l. Laid P start c.args.entries.now.items c.args.most.now whole o e m (functions l ++ last_two)) none c.loop-function.invariant in
+    let middle = laid_more P start c.args.entries.now.items c.args.most.now whole o e m number (object ∷ []) o2 e2 m2 before
+    (one.actions ∙ ap (λ (f : Function). o ++ function_orders P (length o) f) one_is) (one.entries ∙ ap (λ (f : Function). e ++ entry_of (length o) f ∷ []) one_is) (one.most ∙ ap (λ (f : Function). greatest (function_heights P (length o) f) m) one_is) in
+    laid_more P start c.args.entries.now.items c.args.most.now whole o2 e2 m2 object [] (orders c.append_function-3.new.actions.items) c.append_function-3.new.entries.items c.append_function-3.new.most middle
+    (two.actions ∙ ap (λ (f : Function). o2 ++ function_orders P (length o2) f) two_is) (two.entries ∙ ap (λ (f : Function). e2 ++ entry_of (length o2) f ∷ []) two_is) (two.most ∙ ap (λ (f : Function). greatest (function_heights P (length o2) f) m2) two_is)
 
 pub returns-clause-actions : goal.returns-clause-actions
 returns-clause-actions c =
     let P = program_of c.args.program.now in
     let start = orders c.args.actions.now.items in
-    sym (append-nil (orders c.append_function-2.new.actions.items)) ∙ (finished c).actions ∙ ap (λ l. start ++ functions_orders P (length start) (functions l ++ nothing ∷ [])) c.deref-function-items.ensures.value
+    sym (append-nil (orders c.append_function-3.new.actions.items)) ∙ (finished c).actions ∙ ap (λ l. start ++ functions_orders P (length start) (functions l ++ last_two)) c.deref-function-items.ensures.value
 
 pub returns-clause-entries : goal.returns-clause-entries
 returns-clause-entries c =
     let P = program_of c.args.program.now in
     let start = orders c.args.actions.now.items in
-    sym (append-nil c.append_function-2.new.entries.items) ∙ (finished c).entries ∙ ap (λ l. c.args.entries.now.items ++ entries_from P (length start) (functions l ++ nothing ∷ [])) c.deref-function-items.ensures.value
+    sym (append-nil c.append_function-3.new.entries.items) ∙ (finished c).entries ∙ ap (λ l. c.args.entries.now.items ++ entries_from P (length start) (functions l ++ last_two)) c.deref-function-items.ensures.value
 
 pub returns-clause-most : goal.returns-clause-most
 returns-clause-most c =
     let P = program_of c.args.program.now in
     let start = orders c.args.actions.now.items in
-    (finished c).most ∙ ap (λ l. greatest (functions_heights P (length start) (functions l ++ nothing ∷ [])) c.args.most.now) c.deref-function-items.ensures.value
+    (finished c).most ∙ ap (λ l. greatest (functions_heights P (length start) (functions l ++ last_two)) c.args.most.now) c.deref-function-items.ensures.value

@@ -22,6 +22,15 @@ append_command-returns-in-Sequence-clause-actions t c =
     let e = ap (λ l. made (Sequence s.first s.count (commands l))) c.deref.ensures.value ∙ ap made (sym (sequence_command s.first s.count s.all)) ∙ ap (λ x. made (command x)) (sym s.is) in
     subst (λ l. OnOk c.append_sequence.result (orders c.append_sequence.new.actions.items ≡ l)) e c.append_sequence.ensures.actions
 
+pub append_command-returns-in-Give-clause-actions : goal.append_command-returns-in-Give-clause-actions
+append_command-returns-in-Give-clause-actions t c =
+    let P = program_of c.args.program.now in
+    let b = c.args.body in
+    let old = orders c.args.actions.now.items in
+    let scopes = c.args.scopes.now.items in
+    let made = λ (x : _). old ++ command_orders P b.slots b.names (length old) (surroundings b scopes) x in
+    subst (λ l. OnOk c.append_give.result (orders c.append_give.new.actions.items ≡ l)) (ap (λ x. made (command x)) (sym c.in-Give.is)) (c.append_give.ensures scopes)
+
 pub append_command-returns-in_ok-append_command-in-Choose-2-clause-actions : goal.append_command-returns-in_ok-append_command-in-Choose-2-clause-actions
 append_command-returns-in_ok-append_command-in-Choose-2-clause-actions t c =
     let P = program_of c.args.program.now in

@@ -1,4 +1,4 @@
-use Rattle.std.proofs.Common.{◌≡◌, ◌≤◌, ℕ, zero, ◌+◌, suc, ◌∷◌, List, [], ◌++◌, length, map, refl, sym, ap, ◌∙◌, arith}
+use Rattle.std.proofs.Common.{◌≡◌, ℕ, zero, ◌+◌, suc, ◌∷◌, List, [], ◌++◌, length, map, sym, ap, ◌∙◌, arith}
 use Rattle.std.proofs.lemmas.List.{map-append, length-map}
 use Rattle.arc_spec.specs.Classes.{class_of, classes_of, numbers_from, field_order}
 use Rattle.arc_machine.specs.Standing.{items_of}

@@ -1,4 +1,4 @@
-use Rattle.std.proofs.Common.{◌≡◌, refl}
+use Rattle.std.proofs.Common.{◌≡◌}
 use Rattle.std.proofs.lemmas.Bool.{false≢true}
 use Rattle.arc_machine.specs.Standing.{IsLast}
 use Rattle.arc_machine.proofs.Replaced.{replaced_block, replaced_few}

@@ -11,7 +11,7 @@ returns c =
     let all = context.program.now.classes.items in
     let numbers = length given.numbers.items in
     let objects = length given.objects.items in
-    c.look_up.ensures ∙ ap (λ l. lookup (classes_of l) c.args.from c.args.sign c.args.selector c.len.result c.len-2.result) c.deref.ensures.value
-    ∙ ap (λ n. lookup (classes_of all) c.args.from c.args.sign c.args.selector n c.len-2.result) (c.len.ensures ∙ given.numbers.ok.0)
-    ∙ ap (λ n. lookup (classes_of all) c.args.from c.args.sign c.args.selector numbers n) (c.len-2.ensures ∙ given.objects.ok.0)
-    ∙ ap (λ l. lookup l c.args.from c.args.sign c.args.selector numbers objects) (sym (level_classes (program_of context.program.now) context.bound context.levels))
+    c.look_up.ensures ∙ ap (λ l. lookup (classes_of l) c.args.from c.args.sign c.args.selector c.len.result c.len-2.result c.args.wanted) c.deref.ensures.value
+    ∙ ap (λ n. lookup (classes_of all) c.args.from c.args.sign c.args.selector n c.len-2.result c.args.wanted) (c.len.ensures ∙ given.numbers.ok.0)
+    ∙ ap (λ n. lookup (classes_of all) c.args.from c.args.sign c.args.selector numbers n c.args.wanted) (c.len-2.ensures ∙ given.objects.ok.0)
+    ∙ ap (λ l. lookup l c.args.from c.args.sign c.args.selector numbers objects c.args.wanted) (sym (level_classes (program_of context.program.now) context.bound context.levels))

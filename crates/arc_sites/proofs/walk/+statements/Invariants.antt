@@ -4,7 +4,7 @@ use Rattle.arc_sites.specs.Sites.{Scope, all_sites}
 use Rattle.arc_sites.specs.Finding.{enclosing_of, found_from}
 use Rattle.arc_sites.proofs.walk.+statements.Given as goal
 
--- what is found so far and at the rest, in some scope, is found at all
+-- the rules stay the same, and what is found so far and at the rest, in some scope, is found at all
 abbrev pub invariant-statements-loop-stmt : goal.invariant-statements-loop-stmt
-invariant-statements-loop-stmt g l = (scope : Scope) → (now : Scope) × (found_from g.V.Visitor.violations (g.V.Visitor.found l.initial.visitor) (all_sites (enclosing_of l.enclosing) scope (stmt_trees l.all))
-    ≡ found_from g.V.Visitor.violations (g.V.Visitor.found l.visitor) (all_sites (enclosing_of l.enclosing) now (stmt_trees (drop l.stmt-index l.all))))
+invariant-statements-loop-stmt g l = (g.V.Visitor.violations l.visitor ≡ g.V.Visitor.violations l.initial.visitor) × ((scope : Scope) → (now : Scope) × (found_from (g.V.Visitor.violations l.initial.visitor) (g.V.Visitor.found l.initial.visitor) (all_sites (enclosing_of l.enclosing) scope (stmt_trees l.all))
+    ≡ found_from (g.V.Visitor.violations l.initial.visitor) (g.V.Visitor.found l.visitor) (all_sites (enclosing_of l.enclosing) now (stmt_trees (drop l.stmt-index l.all)))))

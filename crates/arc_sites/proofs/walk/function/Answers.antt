@@ -5,15 +5,15 @@ use Rattle.arc_sites.specs.Finding.{found_from}
 use Rattle.arc_sites.proofs.Found.{found_three}
 use Rattle.arc_sites.proofs.walk.function.Goals as goal
 
-pub returns-in-Some : goal.returns-in-Some
-returns-in-Some g c =
-    let rules = g.V.Visitor.violations in
+pub returns-in-Some-clause-found : goal.returns-in-Some-clause-found
+returns-in-Some-clause-found g c =
+    let rules = g.V.Visitor.violations c.args.visitor.now in
     let f = c.args.function.now in
     let m = InFunction (function_tree f) in
     let named = parameter_trees c.named_parameters.result.now in
     let own = site m outermost (Function (function_tree f)) in
     let body = stmt_trees c.in-Some.body.items in
-    found_three rules _ _ _ _ own (parameter_sites m outermost named) (all_sites m (with_parameters named outermost) body)
-    (c.visit.ensures outermost Anything) (c.parameters.ensures outermost) (rw c.deref.ensures.value at c.statements.ensures (with_parameters named outermost))
+    found_three rules _ _ _ _ _ _ own (parameter_sites m outermost named) (all_sites m (with_parameters named outermost) body)
+    c.visit.ensures.same c.parameters.ensures.same (c.visit.ensures.found outermost Anything) (c.parameters.ensures.found outermost) (rw c.deref.ensures.value at c.statements.ensures.found (with_parameters named outermost))
     ∙ ap (λ xs. found_from rules (g.V.Visitor.found c.args.visitor.now) (own ++ xs)) (ap (λ ps. body_sites m ps (Some body)) c.named_parameters.ensures
     ∙ sym (ap (λ b. body_sites m (named_parameters (parameters_tree f.parameters)) (option_map (λ b. stmt_trees b.items) b)) c.in-Some.is))

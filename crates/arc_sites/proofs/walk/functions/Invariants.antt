@@ -4,6 +4,6 @@ use Rattle.arc_sites.specs.Sites.{function_sites}
 use Rattle.arc_sites.specs.Finding.{found_from}
 use Rattle.arc_sites.proofs.walk.functions.Given as goal
 
--- what is found so far and at the rest is found at all
+-- the rules stay the same, and what is found so far and at the rest is found at all
 abbrev pub invariant-loop-one : goal.invariant-loop-one
-invariant-loop-one g l = found_from g.V.Visitor.violations (g.V.Visitor.found l.initial.visitor) (flat_map function_sites (function_trees l.all)) ≡ found_from g.V.Visitor.violations (g.V.Visitor.found l.visitor) (flat_map function_sites (function_trees (drop l.one-index l.all)))
+invariant-loop-one g l = (g.V.Visitor.violations l.visitor ≡ g.V.Visitor.violations l.initial.visitor) × (found_from (g.V.Visitor.violations l.initial.visitor) (g.V.Visitor.found l.initial.visitor) (flat_map function_sites (function_trees l.all)) ≡ found_from (g.V.Visitor.violations l.initial.visitor) (g.V.Visitor.found l.visitor) (flat_map function_sites (function_trees (drop l.one-index l.all))))

@@ -3,11 +3,11 @@ use Rattle.arc_sites.specs.Sites.{Anything, InMethod, Defined, outermost, with_p
 use Rattle.arc_sites.proofs.Found.{found_three}
 use Rattle.arc_sites.proofs.walk.method.Goals as goal
 
-pub returns : goal.returns
-returns g c =
+pub returns-clause-found : goal.returns-clause-found
+returns-clause-found g c =
     let head = c.args.method.now.head in
     let m = InMethod c.args.implementation.now.name.items (head_tree head) in
     let named = parameter_trees head.parameters.items in
     let inside = with_parameters named outermost in
-    found_three g.V.Visitor.violations _ _ _ _ (site m outermost (Defined (head_tree head))) (parameter_sites m outermost named) (all_sites m inside (stmt_trees c.args.method.now.body.items))
-    (c.visit.ensures outermost Anything) (rw c.deref.ensures.value at c.parameters.ensures outermost) (rw c.deref-2.ensures.value at c.statements.ensures inside)
+    found_three _ _ _ _ _ _ _ (site m outermost (Defined (head_tree head))) (parameter_sites m outermost named) (all_sites m inside (stmt_trees c.args.method.now.body.items))
+    c.visit.ensures.same c.parameters.ensures.same (c.visit.ensures.found outermost Anything) (rw c.deref.ensures.value at c.parameters.ensures.found outermost) (rw c.deref-2.ensures.value at c.statements.ensures.found inside)

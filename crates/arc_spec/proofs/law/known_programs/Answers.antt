@@ -37,3 +37,11 @@ returns-clause-held_again c = refl
 pub returns-clause-written : goal.returns-clause-written
 unfolding digits
 returns-clause-written c = refl
+
+pub returns-clause-init : goal.returns-clause-init
+unfolding digits
+returns-clause-init c = refl
+
+pub returns-clause-result : goal.returns-clause-result
+unfolding digits
+returns-clause-result c = refl

@@ -8,7 +8,7 @@ use Rattle.arc_top.proofs.field.more_starred_fields.Given as goal
 abbrev pub invariant-fields : goal.invariant-fields
 invariant-fields l = record {
   rest : length l.rest ≤ length l.tokens;
-  all : starred_names_on l.visibility (type_tree l.type_name) (field_trees l.fn.before.items) (toks l.tokens) ≡ starred_names_on l.visibility (type_tree l.type_name) (field_trees l.all.items) (toks l.rest);
+  all : starred_names_on l.visibility (l.qualifiers, type_tree l.type_name) (field_trees l.fn.before.items) (toks l.tokens) ≡ starred_names_on l.visibility (l.qualifiers, type_tree l.type_name) (field_trees l.all.items) (toks l.rest);
 }
 
 abbrev pub decreases-fields : goal.decreases-fields

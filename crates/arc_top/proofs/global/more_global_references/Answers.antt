@@ -5,7 +5,7 @@ use Rattle.arc_lex.specs.declared.token.Mark.TheVariants as m
 use Rattle.arc_ast.specs.Tree.{type_tree, global_tree, global_trees}
 use Rattle.arc_form.specs.Kinds.{mark}
 use Rattle.arc_form.specs.Reader.{bind, ret}
-use Rattle.arc_grammar.specs.Grammar.{reads}
+use Rattle.arc_grammar.specs.Grammar.{QualifiedType, reads}
 use Rattle.arc_grammar.specs.Grammar as grammar
 use Rattle.arc_top.specs.Globals.{add_global, global_references_on}
 use Rattle.arc_form.proofs.Joining.{fails_is, fails_then, join_more, join_end, join_fails}
@@ -15,7 +15,7 @@ use Rattle.arc_top.proofs.global.more_global_references.Goals as goal
 pub returns-in_err-next-clause-gives : goal.returns-in_err-next-clause-gives
 returns-in_err-next-clause-gives c =
     let p = err_from_is_err_and c.from_residual.result c.from_residual.ensures.1 in
-    let type = type_tree c.args.type_name.now in
+    let type : QualifiedType = (c.args.qualifiers, type_tree c.args.type_name.now) in
     let made = global_trees c.references.all.items in
     let us = toks c.references.rest.now in
     let e = c.in_err-next.field-0.0 in
@@ -24,7 +24,7 @@ returns-in_err-next-clause-gives c =
 
 pub references-preserved : goal.references-preserved
 references-preserved c =
-    let type = type_tree c.args.type_name.now in
+    let type : QualifiedType = (c.args.qualifiers, type_tree c.args.type_name.now) in
     let made = global_trees c.references.all.items in
     let us = toks c.references.rest.now in
     let rest = toks c.in_ok-next.after.now in
@@ -38,4 +38,4 @@ references-preserved c =
     }
 
 pub returns-clause-gives : goal.returns-clause-gives
-returns-clause-gives c = c.references.invariant.all ∙ join_end (mark m.Comma) (reads grammar.next_global_reference) (add_global (type_tree c.args.type_name.now)) reference_front (global_trees c.references.all.items) (toks c.references.rest.now) (sym c.references-test.false ∙ c.sees_mark.ensures)
+returns-clause-gives c = c.references.invariant.all ∙ join_end (mark m.Comma) (reads grammar.next_global_reference) (add_global (c.args.qualifiers, type_tree c.args.type_name.now)) reference_front (global_trees c.references.all.items) (toks c.references.rest.now) (sym c.references-test.false ∙ c.sees_mark.ensures)

@@ -8,7 +8,7 @@ use Rattle.arc_top.proofs.global.more_global_references.Given as goal
 abbrev pub invariant-references : goal.invariant-references
 invariant-references l = record {
   rest : length l.rest ≤ length l.tokens;
-  all : global_references_on (type_tree l.type_name) (global_trees l.fn.before.items) (toks l.tokens) ≡ global_references_on (type_tree l.type_name) (global_trees l.all.items) (toks l.rest);
+  all : global_references_on (l.qualifiers, type_tree l.type_name) (global_trees l.fn.before.items) (toks l.tokens) ≡ global_references_on (l.qualifiers, type_tree l.type_name) (global_trees l.all.items) (toks l.rest);
 }
 
 abbrev pub decreases-references : goal.decreases-references

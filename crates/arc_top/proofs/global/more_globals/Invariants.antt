@@ -8,7 +8,7 @@ use Rattle.arc_top.proofs.global.more_globals.Given as goal
 abbrev pub invariant-globals : goal.invariant-globals
 invariant-globals l = record {
   rest : length l.rest ≤ length l.tokens;
-  all : globals_on (type_tree l.type_name) (global_trees l.fn.before.items) (toks l.tokens) ≡ globals_on (type_tree l.type_name) (global_trees l.all.items) (toks l.rest);
+  all : globals_on (l.qualifiers, type_tree l.type_name) (global_trees l.fn.before.items) (toks l.tokens) ≡ globals_on (l.qualifiers, type_tree l.type_name) (global_trees l.all.items) (toks l.rest);
 }
 
 abbrev pub decreases-globals : goal.decreases-globals

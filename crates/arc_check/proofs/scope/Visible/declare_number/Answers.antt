@@ -12,7 +12,7 @@ pub returns-in_ok-push-clause-scope : goal.returns-in_ok-push-clause-scope
 returns-in_ok-push-clause-scope c = λ table.
     let old = c.args.self.now in
     let more : old.next + 1 ≡ suc old.next = omega arith in
-    number_is table old (record { class = old.class; sign = old.sign; result = old.result; hidden = old.hidden; bound = c.push.new.self; next = old.next + 1; names = old.names }) (record { name = c.args.name; local = l.Number c.args.kind (location.Local c.from.result) }) c.args.kind (sym (c.has_place.ensures.scope table) ∙ c.if-has_place.true) refl refl refl refl
+    number_is table old (record { class = old.class; sign = old.sign; result = old.result; owns = old.owns; hidden = old.hidden; bound = c.push.new.self; next = old.next + 1; names = old.names }) (record { name = c.args.name; local = l.Number c.args.kind (location.Local c.from.result) }) c.args.kind (sym (c.has_place.ensures.scope table) ∙ c.if-has_place.true) refl refl refl refl refl
     c.in_ok-push.ensures.items (ap (λ n. Number c.args.kind (location.Local n)) c.from.ensures) more refl
 
 pub returns-else-has_place-clause-scope : goal.returns-else-has_place-clause-scope

@@ -1,5 +1,5 @@
 use Rattle.std.proofs.Common.{◌∙◌, Some, None, slice_get, sym, ap}
-use Rattle.arc_class.specs.Lookups.{own_result_in}
+use Rattle.arc_class.specs.Lookups.{own_given_in}
 use Rattle.arc_class.proofs.Asking.{result_told}
 use Rattle.arc_class.proofs.table.ClassTable.nearest_result.Goals as goal
 
@@ -15,5 +15,5 @@ returns-in-Some c =
     let table = c.args.self.now in
     let sign = c.args.sign in
     let name = c.args.selector.now in
-    c.own_result.ensures ∙ ap (λ es. own_result_in c.in-Some.owner (slice_get es c.in-Some.owner) sign name) c.deref-in-Some.ensures.value
+    c.own_result.ensures ∙ ap (λ es. own_given_in table.names c.in-Some.owner (slice_get es c.in-Some.owner) sign name) c.deref-in-Some.ensures.value
     ∙ result_told table sign name c.owners-owners.result.now c.owners-owners.ensures c.args.class (sym c.knows.ensures ∙ c.if-not-knows.false) (Some c.in-Some.owner) (sym c.in-Some.is ∙ c.owner.ensures)

@@ -13,17 +13,17 @@ use Rattle.arc_class.specs.Table.{built_in_from}
 use Rattle.arc_class.proofs.FieldLists.{field_kept, lists_kept}
 use Rattle.arc_class.proofs.Names.{position_number}
 use Rattle.arc_class.proofs.Rules.{class_number_kept}
-use Rattle.arc_class.proofs.Tables.{superclass_is, result_is, any_is}
+use Rattle.arc_class.proofs.Tables.{function_class_is, superclass_is, result_is, any_is}
 use Rattle.arc_class.proofs.table.ClassTable.of.Goals as goal
 
 first_passed : {a b x y : Option HeadTree} → a ≡ x → b ≡ y → option_map_or (λ h. parameter_kinds h.parameters) (or_else a b) [] ≡ option_map_or (λ h. parameter_kinds h.parameters) (or_else x y) []
 first_passed e f = rw (e, f) refl
 
 pub method_owners-requires : goal.method_owners-requires
-method_owners-requires c = ap (λ es. superclass_among es 0) c.deref-2.ensures.value ∙ root_is_top c.in_ok-parts.parts.entries.items _ c.in_ok-parts.ensures.entries
+method_owners-requires c = ap (λ es. superclass_among es 0) c.deref-2.ensures.value ∙ root_is_top c.args.source.names c.in_ok-parts.parts.entries.items _ c.in_ok-parts.ensures.entries
 
 pub method_owners-requires-2 : goal.method_owners-requires-2
-method_owners-requires-2 c = ap (λ es. superclass_among es 0) c.deref-3.ensures.value ∙ root_is_top c.in_ok-parts.parts.entries.items _ c.in_ok-parts.ensures.entries
+method_owners-requires-2 c = ap (λ es. superclass_among es 0) c.deref-3.ensures.value ∙ root_is_top c.args.source.names c.in_ok-parts.parts.entries.items _ c.in_ok-parts.ensures.entries
 
 pub invariant_of-result : goal.invariant_of-result
 invariant_of-result c =
@@ -67,6 +67,7 @@ returns-clause-table c =
       globals = c.requires.knows.globals;
       parameters = λ name. ap (λ f. option_map_or listed_kinds f []) (c.requires.knows.first_functions name);
       passed = λ sign selector. first_passed (c.requires.knows.declared_heads sign selector) (c.requires.knows.defined_heads sign selector);
+      function_classes = λ name. function_class_is u table name (λ sought. class_number_kept table.names u.interfaces sought (c.requires.knows.class_places sought)) (c.requires.knows.first_functions name);
       main = c.requires.main;
       numbers = λ name. class_number_kept table.names u.interfaces name (c.requires.knows.class_places name);
       superclasses = λ class. superclass_is u table class c.in_ok-parts.ensures.entries;

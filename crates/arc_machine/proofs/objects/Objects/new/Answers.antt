@@ -1,4 +1,4 @@
-use Rattle.std.proofs.Common.{◌≡◌, ℕ, zero, suc, ◌∷◌, [], replicate, refl, sym, ap, ◌∙◌, rules}
+use Rattle.std.proofs.Common.{◌≡◌, ℕ, zero, suc, ◌∷◌, replicate, refl, ap, ◌∙◌, rules}
 use Rattle.arc_spec.specs.Classes.{classes_of}
 use Rattle.arc_spec.specs.Objects.{nils}
 use Rattle.arc_machine.specs.Standing.{orders_of}

@@ -1,9 +1,9 @@
-use Rattle.std.proofs.Common.{◌≡◌, ◌≢◌, ℕ, zero, suc, length, refl, sym, ap, ◌∙◌, subst, arith}
+use Rattle.std.proofs.Common.{◌≡◌, ◌≢◌, ℕ, zero, suc, length, refl, ap, ◌∙◌, arith}
 use Rattle.arc_machine.specs.declared.stop.Answer.{Answer}
 use Rattle.arc_machine.specs.declared.stop.Answer.TheVariants.{Going}
 use Rattle.arc_machine.specs.declared.waiting.Waiter.{Waiter as Words}
 use Rattle.arc_heap.specs.Blocks.{Blocks}
-use Rattle.arc_machine.specs.Cells.{Cell, IsCell, with_phase}
+use Rattle.arc_machine.specs.Cells.{Cell, with_phase}
 use Rattle.arc_machine.specs.Standing.{Parts, Alters, memory_of, order_at}
 use Rattle.arc_machine.specs.Places.{spot}
 use Rattle.arc_machine.specs.Releases.{LastStep}

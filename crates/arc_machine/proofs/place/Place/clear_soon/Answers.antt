@@ -1,7 +1,6 @@
-use Rattle.std.proofs.Common.{◌≡◌, ◌∙◌, ◌<◌, sym, ap, refl, Some, subst}
+use Rattle.std.proofs.Common.{◌≡◌, ◌∙◌, sym, refl, Some, subst}
 use Rattle.std.proofs.lemmas.Bool.{false≢true}
 use Rattle.arc_machine.specs.Standing.{NamesBlock}
-use Rattle.arc_machine.specs.Clearing.{FieldNames}
 use Rattle.arc_machine.proofs.Emptied.{field_stays, clears_still}
 use Rattle.arc_machine.proofs.place.Place.clear_soon.Goals as goal
 

@@ -1,5 +1,4 @@
-use Rattle.std.proofs.Common.{sym, subst}
-use Rattle.arc_spec.specs.Classes.{classes_of}
+use Rattle.std.proofs.Common.{subst}
 use Rattle.arc_machine.specs.Places.{spot}
 use Rattle.arc_machine.specs.Storing.{ClassStep}
 use Rattle.arc_machine.proofs.place.Place.next_dealloc.Goals as goal

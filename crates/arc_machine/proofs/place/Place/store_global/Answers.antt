@@ -1,10 +1,8 @@
-use Rattle.std.proofs.Common.{◌≡◌, ◌≢◌, ◌+◌, ◌∙◌, ◌<◌, Some, None, length, true, false, nat_lt, refl, sym, ap, subst}
+use Rattle.std.proofs.Common.{◌≡◌, ◌∙◌, Some, refl, sym, ap, subst}
 use Rattle.std.specs.Prelude.{slice_get}
-use Rattle.arc_spec.specs.Meaning.{most_levels}
 use Rattle.arc_code.specs.declared.instr.Instr.TheVariants.{StoreGlobal}
 use Rattle.arc_code.specs.Running.{program_of}
-use Rattle.arc_machine.specs.Cells.{Cell, IsCell}
-use Rattle.arc_machine.specs.Standing.{Parts, IsLast}
+use Rattle.arc_machine.specs.Standing.{Parts}
 use Rattle.arc_machine.specs.Storing.{CanReplace, LastGlobal}
 use Rattle.arc_machine.specs.Views.{Spot}
 use Rattle.arc_machine.specs.Places.{spot, shown, CanHold, Executes}

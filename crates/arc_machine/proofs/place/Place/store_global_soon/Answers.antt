@@ -1,9 +1,7 @@
-use Rattle.std.proofs.Common.{◌≡◌, ◌+◌, ◌∙◌, [], Some, None, true, refl, sym, ap, subst}
-use Rattle.std.specs.Prelude.{slice_get}
+use Rattle.std.proofs.Common.{◌+◌, ◌∙◌, [], refl, sym, subst}
 use Rattle.arc_code.specs.declared.instr.Instr.TheVariants.{StoreGlobal}
 use Rattle.arc_code.specs.Running.{program_of}
 use Rattle.arc_machine.specs.declared.stop.Answer.TheVariants.{Going}
-use Rattle.arc_machine.specs.Standing.{Parts, with_strong_globals}
 use Rattle.arc_machine.specs.Views.{Spot}
 use Rattle.arc_machine.specs.Storing.{Replaces, Recounts}
 use Rattle.arc_machine.specs.Places.{spot, Executes}

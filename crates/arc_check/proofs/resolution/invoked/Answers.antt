@@ -1,0 +1,16 @@
+use Rattle.std.proofs.Common.{sym, ap, ◌∙◌}
+use Rattle.std.proofs.lemmas.Result.{IfOk-weaker}
+use Rattle.arc_check.specs.Checked as checked
+use Rattle.arc_check.specs.Resolving.{Gives, Refers}
+use Rattle.arc_check.proofs.Buildings.{invoked_object, invoked_number}
+use Rattle.arc_check.proofs.Trees.{invoked_value, object_invoked_reference}
+use Rattle.arc_check.proofs.resolution.invoked.Goals as goal
+
+pub returns-then-is_object : goal.returns-then-is_object
+returns-then-is_object c =
+    ap Refers (object_invoked_reference c.args.function c.args.all) ∙ invoked_object c.args.kind c.args.function (checked.arguments c.args.all.items) (sym c.is_object.ensures ∙ c.if-is_object.true)
+
+pub returns : goal.returns
+returns c =
+    IfOk-weaker c.given.result _ _ (λ new h. h ∙ ap (Gives c.args.kind) (invoked_value c.args.function c.args.all)
+    ∙ invoked_number c.args.kind c.args.function (checked.arguments c.args.all.items) (sym c.is_object.ensures ∙ c.if-is_object.false)) c.given.ensures

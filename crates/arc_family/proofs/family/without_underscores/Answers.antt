@@ -1,7 +1,0 @@
-use Rattle.std.proofs.Common.{ap, drop, ◌∙◌}
-use Rattle.std.proofs.lemmas.List.{take_rest}
-use Rattle.arc_family.proofs.Components.{rest_is}
-use Rattle.arc_family.proofs.family.without_underscores.Goals as goal
-
-pub returns : goal.returns
-returns c = take_rest c.args.name.now c.leading_underscores.result ∙ ap (λ n. drop n c.args.name.now) c.leading_underscores.ensures.count ∙ rest_is c.args.name.now
