@@ -12,9 +12,9 @@ ghost use Rattle.arc_check.specs.Rules.{broken_clauses, broken_test, broken_whol
 ghost use Rattle.arc_check.specs.Scopes.{is_full, leave, behind, behind_all, with_variables, with_parameters};
 ghost use Rattle.arc_check.specs.private.Views.{known_in, seen};
 
-use crate::judge::{initial_fault, judge_whole, result_fault, test_fault};
 use crate::rule::place;
 use crate::scope::Visible;
+use crate::whole::{initial_fault, judge_whole, result_fault, test_fault};
 use arc_ast::tree::{Expr, Function, Kind, Parameter, Parameters, Stmt, TypeName, Variable};
 use arc_class::table::ClassTable;
 use arc_fault::check::CheckFault;

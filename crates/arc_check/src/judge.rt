@@ -8,7 +8,7 @@ ghost use Rattle.arc_class.specs.declared.table.ClassTable.{ClassTable};
 ghost use Rattle.arc_class.specs.Table.{number_of_class};
 ghost use Rattle.arc_check.specs.Fault.{told};
 ghost use Rattle.arc_check.specs.Formats.{wanted};
-ghost use Rattle.arc_check.specs.private.Judging.{Judges, JudgesWhole, JudgesAll, JudgesCall, counted};
+ghost use Rattle.arc_check.specs.private.Judging.{Judges, JudgesAll, JudgesCall, counted};
 ghost use Rattle.arc_check.specs.Rules as rules;
 ghost use Rattle.arc_ast.specs.Operators.{sort_of};
 ghost use Rattle.arc_ast.specs.declared.tree.Moment.{Moment};
@@ -757,54 +757,4 @@ fn judge_arguments<'a>(
         fit: told.fit && next_conversion(rest).is_none(),
         ..told
     }
-}
-
-/// The judgement on a full-expression.
-pub fn judge_whole<'a>(table: &ClassTable<'a>, visible: &Visible<'a>, expr: &'a Expr) -> Judged
-    ensures { JudgesWhole (seen table.now visible.now) (expr_tree expr.now) result }
-{
-    let judged = judge(table, visible, Taken::none(), expr);
-    Judged {
-        fault: earlier(judged.fault, judged.taken.fault()),
-        ..judged
-    }
-}
-
-/// The first rule that is broken in what a function returns that gives something.
-pub fn result_fault<'a>(
-    table: &ClassTable<'a>,
-    visible: &Visible<'a>,
-    expr: &'a Expr,
-) -> Option<CheckFault>
-    ensures { option_map told result ≡ first (rules.broken_result false (seen table.now visible.now) (Some (expr_tree expr.now))) }
-{
-    let judged = judge_whole(table, visible, expr);
-    let wanted = Some(visible.result);
-    earlier(judged.fault, no_such(wanted, judged.kind, place(expr)))
-}
-
-/// The first rule that is broken in a test.
-pub fn test_fault<'a>(
-    table: &ClassTable<'a>,
-    visible: &Visible<'a>,
-    expr: &'a Expr,
-) -> Option<CheckFault>
-    ensures { option_map told result ≡ first (rules.broken_test (seen table.now visible.now) (expr_tree expr.now)) }
-{
-    let judged = judge_whole(table, visible, expr);
-    earlier(judged.fault, no_value(judged.kind, place(expr)))
-}
-
-/// The first rule that is broken in what a variable of the type begins with.
-pub fn initial_fault<'a>(
-    table: &ClassTable<'a>,
-    visible: &Visible<'a>,
-    type_name: &TypeName,
-    expr: &'a Expr,
-) -> Option<CheckFault>
-    ensures { option_map told result ≡ first (rules.broken_initial (seen table.now visible.now) (type_tree type_name.now) (Some (expr_tree expr.now))) }
-{
-    let judged = judge_whole(table, visible, expr);
-    let wanted = Some(type_name.kind());
-    earlier(judged.fault, no_such(wanted, judged.kind, place(expr)))
 }

@@ -20,3 +20,4 @@ mod rule;
 mod scope;
 mod taken;
 mod wanted;
+mod whole;

@@ -5,7 +5,7 @@ use Rattle.arc_check.specs.Fault.{told}
 use Rattle.arc_check.specs.Rules.{no_such, broken_whole}
 use Rattle.arc_check.specs.private.Views.{seen}
 use Rattle.arc_check.proofs.Judgements.{with_rule}
-use Rattle.arc_check.proofs.judge.result_fault.Goals as goal
+use Rattle.arc_check.proofs.whole.result_fault.Goals as goal
 
 pub returns : goal.returns
 returns c =

@@ -6,7 +6,7 @@ use Rattle.arc_check.specs.Fault.{told}
 use Rattle.arc_check.specs.Rules.{no_such, broken_whole}
 use Rattle.arc_check.specs.private.Views.{seen}
 use Rattle.arc_check.proofs.Judgements.{with_rule}
-use Rattle.arc_check.proofs.judge.initial_fault.Goals as goal
+use Rattle.arc_check.proofs.whole.initial_fault.Goals as goal
 
 pub returns : goal.returns
 returns c =

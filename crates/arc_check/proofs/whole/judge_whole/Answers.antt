@@ -3,7 +3,7 @@ use Rattle.arc_ast.specs.Tree.{expr_tree}
 use Rattle.arc_check.specs.Fault.{told}
 use Rattle.arc_check.specs.private.Views.{seen}
 use Rattle.arc_check.proofs.Judgements.{judges_whole}
-use Rattle.arc_check.proofs.judge.judge_whole.Goals as goal
+use Rattle.arc_check.proofs.whole.judge_whole.Goals as goal
 
 pub returns : goal.returns
 returns c =
