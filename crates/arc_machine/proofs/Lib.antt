@@ -49,5 +49,6 @@ pub mod Standings
 pub mod Starting
 pub mod StoredFields
 pub mod StoredGlobals
+pub mod Turning
 pub mod Unstuck
 pub mod Walking

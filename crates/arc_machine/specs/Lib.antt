@@ -12,6 +12,7 @@ pub mod Standing
 pub mod Steps
 pub mod Storing
 pub mod Told
+pub mod Turns
 pub mod Views
 pub mod Words
 pub mod Giving

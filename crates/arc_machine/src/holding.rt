@@ -1,7 +1,7 @@
 //! The instructions that give and take references, and those that keep strong places.
 ghost use Rattle.std.specs.Prelude.{◌≡◌, ◌+◌, ◌-◌, ◌^◌, ◌<◌, ◌≤◌, []};
 ghost use Rattle.arc_code.specs.Running.{program_of};
-ghost use Rattle.arc_machine.specs.Places.{Ready, CanHold, Executes, HasPlaces, spot};
+ghost use Rattle.arc_machine.specs.Places.{Ready, CanHold, Executes, HasPlaces, spot, steps_of};
 
 use crate::objects::Objects;
 use crate::place::Place;
@@ -20,6 +20,7 @@ impl Place {
         requires places { HasPlaces code.now objects.old }
         ensures went { Executes S.out (program_of code.now) (Instr.Plain Op.Declare) result []
             (spot self.old objects.old) (spot self.new objects.new) }
+        ensures at { self.new.at ≡ self.old.at + steps_of result }
         ensures room { self.new.stack.room ≡ self.old.stack.room }
     {
         // There are no more places than the code asks for, whose number fits a word.
@@ -38,6 +39,7 @@ impl Place {
         requires places { HasPlaces _code.now objects.old }
         ensures went { Executes S.out (program_of _code.now) (Instr.Plain Op.Nil) result []
             (spot self.old objects.old) (spot self.new objects.new) }
+        ensures at { self.new.at ≡ self.old.at + steps_of result }
         ensures room { self.new.stack.room ≡ self.old.stack.room }
     {
         objects.name(0);
@@ -55,6 +57,7 @@ impl Place {
         requires places { HasPlaces code.now objects.old }
         ensures went { Executes S.out (program_of code.now) (Instr.Plain Op.ReadSelf) result []
             (spot self.old objects.old) (spot self.new objects.new) }
+        ensures at { self.new.at ≡ self.old.at + steps_of result }
         ensures room { self.new.stack.room ≡ self.old.stack.room }
     {
         // There are no more places than the code asks for, whose number fits a word.
@@ -82,6 +85,7 @@ impl Place {
         requires places { HasPlaces code.now objects.old }
         ensures went { Executes S.out (program_of code.now) (Instr.Plain (Op.ReadRef variable)) result []
             (spot self.old objects.old) (spot self.new objects.new) }
+        ensures at { self.new.at ≡ self.old.at + steps_of result }
         ensures room { self.new.stack.room ≡ self.old.stack.room }
     {
         // There are no more places than the code asks for, whose number fits a word.
@@ -131,6 +135,7 @@ impl Place {
         requires places { HasPlaces code.now objects.old }
         ensures went { Executes S.out (program_of code.now) (Instr.Plain Op.Hold) result []
             (spot self.old objects.old) (spot self.new objects.new) }
+        ensures at { self.new.at ≡ self.old.at + steps_of result }
         ensures room { self.new.stack.room ≡ self.old.stack.room }
     {
         // There are no more places than the code asks for, whose number fits a word.
@@ -151,6 +156,7 @@ impl Place {
         requires places { HasPlaces _code.now objects.old }
         ensures went { Executes S.out (program_of _code.now) (Instr.Plain Op.Again) result []
             (spot self.old objects.old) (spot self.new objects.new) }
+        ensures at { self.new.at ≡ self.old.at + steps_of result }
         ensures room { self.new.stack.room ≡ self.old.stack.room }
     {
         let object = objects.reference();
@@ -168,6 +174,7 @@ impl Place {
         requires places { HasPlaces _code.now objects.old }
         ensures went { Executes S.out (program_of _code.now) (Instr.Plain Op.Forget) result []
             (spot self.old objects.old) (spot self.new objects.new) }
+        ensures at { self.new.at ≡ self.old.at + steps_of result }
         ensures room { self.new.stack.room ≡ self.old.stack.room }
     {
         let _ = objects.take();
@@ -184,6 +191,7 @@ impl Place {
         requires places { HasPlaces _code.now objects.old }
         ensures went { Executes S.out (program_of _code.now) (Instr.Plain Op.Differ) result []
             (spot self.old objects.old) (spot self.new objects.new) }
+        ensures at { self.new.at ≡ self.old.at + steps_of result }
         ensures room { self.new.stack.room ≡ self.old.stack.room }
     {
         let right = objects.take();
@@ -202,6 +210,7 @@ impl Place {
         requires places { HasPlaces _code.now objects.old }
         ensures went { Executes S.out (program_of _code.now) (Instr.Plain Op.IsObject) result []
             (spot self.old objects.old) (spot self.new objects.new) }
+        ensures at { self.new.at ≡ self.old.at + steps_of result }
         ensures room { self.new.stack.room ≡ self.old.stack.room }
     {
         let object = objects.take();

@@ -28,5 +28,6 @@ mod step;
 pub mod stop;
 mod storing;
 mod turn;
+mod turned;
 mod waiting;
 mod walk;
