@@ -339,7 +339,7 @@ pub fn mark_at(bytes: &[u8]) -> Option<Mark>
         [b'%', ..] => first_mark(&[Mark::PercentAssign, Mark::Percent], bytes),
         [b'^', ..] => first_mark(&[Mark::CaretAssign, Mark::Caret], bytes),
         [b'|', ..] => first_mark(&[Mark::Or, Mark::BarAssign, Mark::Bar], bytes),
-        _ => first_mark(&MARKS, bytes),
+        _ => None,
     }
 }
 
@@ -404,42 +404,6 @@ pub fn word_of(name: &[u8]) -> Option<Word>
             ],
             name,
         ),
-        [
-            b'h'
-            | b'j'
-            | b'k'
-            | b'm'
-            | b'o'
-            | b'p'
-            | b'q'
-            | b'x'
-            | b'y'
-            | b'z'
-            | b'A'
-            | b'C'
-            | b'D'
-            | b'E'
-            | b'F'
-            | b'G'
-            | b'H'
-            | b'I'
-            | b'J'
-            | b'K'
-            | b'L'
-            | b'M'
-            | b'O'
-            | b'P'
-            | b'Q'
-            | b'R'
-            | b'S'
-            | b'T'
-            | b'U'
-            | b'V'
-            | b'W'
-            | b'X'
-            | b'Z',
-            ..
-        ] => None,
-        _ => first_word(&WORDS, name),
+        _ => None,
     }
 }
