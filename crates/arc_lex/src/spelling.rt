@@ -295,7 +295,52 @@ fn first_word(words: &[Word], name: &[u8]) -> Option<Word>
 pub fn mark_at(bytes: &[u8]) -> Option<Mark>
     ensures { result ≡ first_front mark_bytes MARKS bytes.now }
 {
-    first_mark(&MARKS, bytes)
+    match bytes {
+        [b'{', ..] => Some(Mark::OpenBrace),
+        [b'}', ..] => Some(Mark::CloseBrace),
+        [b'(', ..] => Some(Mark::OpenParen),
+        [b')', ..] => Some(Mark::CloseParen),
+        [b'[', ..] => Some(Mark::OpenSquare),
+        [b']', ..] => Some(Mark::CloseSquare),
+        [b';', ..] => Some(Mark::Semicolon),
+        [b',', ..] => Some(Mark::Comma),
+        [b':', ..] => Some(Mark::Colon),
+        [b'.', ..] => Some(Mark::Dot),
+        [b'?', ..] => Some(Mark::Question),
+        [b'~', ..] => Some(Mark::Tilde),
+        [b'<', ..] => first_mark(
+            &[
+                Mark::ShiftLeftAssign,
+                Mark::LessEqual,
+                Mark::ShiftLeft,
+                Mark::Less,
+            ],
+            bytes,
+        ),
+        [b'>', ..] => first_mark(
+            &[
+                Mark::ShiftRightAssign,
+                Mark::GreaterEqual,
+                Mark::ShiftRight,
+                Mark::Greater,
+            ],
+            bytes,
+        ),
+        [b'-', ..] => first_mark(
+            &[Mark::Arrow, Mark::Decrement, Mark::MinusAssign, Mark::Minus],
+            bytes,
+        ),
+        [b'=', ..] => first_mark(&[Mark::Equal, Mark::Assign], bytes),
+        [b'!', ..] => first_mark(&[Mark::NotEqual, Mark::Not], bytes),
+        [b'&', ..] => first_mark(&[Mark::And, Mark::AmpersandAssign, Mark::Ampersand], bytes),
+        [b'+', ..] => first_mark(&[Mark::Increment, Mark::PlusAssign, Mark::Plus], bytes),
+        [b'*', ..] => first_mark(&[Mark::StarAssign, Mark::Star], bytes),
+        [b'/', ..] => first_mark(&[Mark::SlashAssign, Mark::Slash], bytes),
+        [b'%', ..] => first_mark(&[Mark::PercentAssign, Mark::Percent], bytes),
+        [b'^', ..] => first_mark(&[Mark::CaretAssign, Mark::Caret], bytes),
+        [b'|', ..] => first_mark(&[Mark::Or, Mark::BarAssign, Mark::Bar], bytes),
+        _ => None,
+    }
 }
 
 /// The longest word after `@` with which the bytes begin.
@@ -309,5 +354,56 @@ pub fn at_word_at(bytes: &[u8]) -> Option<AtWord>
 pub fn word_of(name: &[u8]) -> Option<Word>
     ensures { result ≡ first_equal word_bytes WORDS name.now }
 {
-    first_word(&WORDS, name)
+    match name {
+        [b'B', ..] => first_word(&[Word::Bool], name),
+        [b'N', ..] => first_word(&[Word::No, Word::NsInteger, Word::Null], name),
+        [b'Y', ..] => first_word(&[Word::Yes], name),
+        [b'a', ..] => first_word(&[Word::Auto], name),
+        [b'b', ..] => first_word(&[Word::Break], name),
+        [b'c', ..] => first_word(&[Word::Case, Word::Char, Word::Const, Word::Continue], name),
+        [b'd', ..] => first_word(&[Word::Default, Word::Do, Word::Double], name),
+        [b'e', ..] => first_word(&[Word::Else, Word::Enum, Word::Extern], name),
+        [b'f', ..] => first_word(&[Word::Float, Word::For], name),
+        [b'g', ..] => first_word(&[Word::Goto], name),
+        [b'i', ..] => first_word(
+            &[
+                Word::Id,
+                Word::If,
+                Word::Inline,
+                Word::InstanceType,
+                Word::Int,
+            ],
+            name,
+        ),
+        [b'l', ..] => first_word(&[Word::Long], name),
+        [b'n', ..] => first_word(&[Word::Nil], name),
+        [b'r', ..] => first_word(&[Word::Register, Word::Restrict, Word::Return], name),
+        [b's', ..] => first_word(
+            &[
+                Word::SelfWord,
+                Word::Short,
+                Word::Signed,
+                Word::Sizeof,
+                Word::Static,
+                Word::Struct,
+                Word::Super,
+                Word::Switch,
+            ],
+            name,
+        ),
+        [b't', ..] => first_word(&[Word::Typedef], name),
+        [b'u', ..] => first_word(&[Word::Union, Word::Unsigned], name),
+        [b'v', ..] => first_word(&[Word::Void, Word::Volatile], name),
+        [b'w', ..] => first_word(&[Word::While], name),
+        [b'_', ..] => first_word(
+            &[
+                Word::Strong,
+                Word::Weak,
+                Word::Autoreleasing,
+                Word::UnsafeUnretained,
+            ],
+            name,
+        ),
+        _ => None,
+    }
 }
