@@ -37,8 +37,10 @@ def blank_cases(runner):
     runner.case("1 MiB of @", b"@" * MOST_SOURCE, stop=Refused(5, 0))
     runner.case("1 MiB of digits", b"1" * MOST_SOURCE, stop=Refused(4, 0))
     runner.case("a number above the greatest at the end", padded(b"int main(void) { return 9223372036854775808; }"), stop=Refused(4, 24))
-    for byte in (b";", b")", b"}", b"]", b"=", b"1 ", b"x ", b"\"\"", b"@end ", b"->"):
+    for byte in (b";", b")", b"}", b"]", b"=", b"1 ", b"\"\"", b"@end ", b"->"):
         runner.case(f"1 MiB of {byte.decode()}", byte * (MOST_SOURCE // len(byte)), stop=Refused(11, 0))
+    # a class's name begins a variable of the whole program
+    runner.case("1 MiB of names", b"x " * (MOST_SOURCE // 2), stop=Refused(11, 2))
 
 
 def top_cases(runner):
