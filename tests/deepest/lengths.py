@@ -293,7 +293,7 @@ def name_cases(runner):
     runner.case("a field's long name", padded(b"@interface A:NSObject{int %s;}-(int)m;@end@implementation A-(int)m{%s=3;return %s;}@end int main(void){return [[A new] m];}" % (fourth, fourth, fourth)), Shown((1, b"A")), Ended(3))
     # A name can begin the declaration of a variable that names objects, so it is the end that is unexpected.
     runner.case("a name at the end", padded(MAIN)[:-1] + b"x", stop=Refused(11, MOST_SOURCE))
-    runner.case("a name of 1 MiB", b"x" * MOST_SOURCE, stop=Refused(11, 0))
+    runner.case("a name of 1 MiB", b"x" * MOST_SOURCE, stop=Refused(11, MOST_SOURCE))
     variables = [b"v" * 2000 + b"%03d" % n for n in range(200)]
     head = b"int main(void){int " + b",".join(variables) + b";"
     source, times = filled(head, lambda n: variables[199 - n % 2] + b"=3;", b"return %s;}" % variables[199])
