@@ -1,5 +1,6 @@
 pub mod Table
 pub mod Fix
+pub mod Levels
 pub mod Trees
 pub mod Bound
 pub mod Qualifiers

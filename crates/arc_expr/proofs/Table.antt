@@ -1,5 +1,5 @@
 -- What the table of operators has of a token.
-use Rattle.std.proofs.Common.{◌≡◌, ◌<◌, ◌≤◌, ℕ, zero, suc, List, [], ◌∷◌, Bool, true, false, ◌&&◌, ◌||◌, nat_eq, nat_le, slice_get, Option, Some, None, refl, sym, ap, ◌∙◌, arith}
+use Rattle.std.proofs.Common.{◌≡◌, ◌<◌, ◌≤◌, ◌-◌, rules, ℕ, zero, suc, List, [], ◌∷◌, Bool, true, false, ◌&&◌, ◌||◌, nat_eq, nat_le, slice_get, Option, Some, None, refl, sym, ap, ◌∙◌, arith}
 use Rattle.std.proofs.lemmas.Bool.{leb-true, leb-false, eqb-true, eqb-false}
 use Rattle.arc_lex.specs.Tokens.{Tok, tok, toks}
 use Rattle.arc_lex.specs.declared.token.Token.{Token}
@@ -60,16 +60,42 @@ pub sees_first_up_to : (l : ℕ) (ts : List Token) (t : Token) (e : Option (ℕ 
 sees_first_up_to l [] t e p q = cc
 sees_first_up_to l (s ∷ ts) t e p q = let same : t ≡ s = cc in ap (is_within l) q ∙ ap (λ t. is_within l (entry_of table (tok t).sort)) same ∙ sym (sees_up_to l (tok s) (toks ts))
 
-pub within_from_one : (l : ℕ) (e : ℕ × BinaryOperator) → 1 ≤ e.0 → nat_le e.0 l ≡ is_within l (Some e)
-within_from_one l e p = go (nat_le 1 e.0) refl
-  where
-    go : (b : Bool) → nat_le 1 e.0 ≡ b → nat_le e.0 l ≡ (b && nat_le e.0 l)
-    go true q = refl
-    go false q = absurd (omega (arith, leb-false 1 e.0 q, p))
+-- of a first token that is an operator of a level up to this one
+pub record Ahead (l : ℕ) (found : ℕ) (ts : List Tok) : Type 0 where
+  pub within : (1 ≤ found) × (found ≤ l)
+  pub there : sees (marks_at found table) ts ≡ true
+  pub none_tighter : sees (marks_up_to (found - 1)) ts ≡ false
 
-pub within_below_one : (l : ℕ) (e : ℕ × BinaryOperator) → e.0 < 1 → nat_le 1 e.0 ≡ is_within l (Some e)
-within_below_one l e p = go (nat_le 1 e.0) refl
+at_its_own : (e : ℕ × BinaryOperator) → is_at e.0 (Some e) ≡ true
+at_its_own e = search rules
+
+none_within_less : (l : ℕ) (e : ℕ × BinaryOperator) → l < e.0 → is_within l (Some e) ≡ false
+none_within_less l e p = go (nat_le 1 e.0) (nat_le e.0 l) refl refl
   where
-    go : (b : Bool) → nat_le 1 e.0 ≡ b → b ≡ (b && nat_le e.0 l)
+    go : (b c : Bool) → nat_le 1 e.0 ≡ b → nat_le e.0 l ≡ c → (b && c) ≡ false
+    go false c q r = refl
+    go true false q r = refl
+    go true true q r = absurd (omega (arith, leb-true e.0 l r, p))
+
+pub ahead : (l : ℕ) (ts : List Token) (t : Token) (e : ℕ × BinaryOperator) → Some t ≡ slice_get ts 0 → Some e ≡ entry_of table (tok t).sort → 1 ≤ e.0 → e.0 ≤ l → Ahead l e.0 (toks ts)
+ahead l ts t e p q r s = record {
+  within = (r, s);
+  there = sym (sees_first e.0 ts t (Some e) p q) ∙ at_its_own e;
+  none_tighter = sym (sees_first_up_to (e.0 - 1) ts t (Some e) p q) ∙ none_within_less (e.0 - 1) e (omega arith);
+}
+
+none_too_loose : (l : ℕ) (e : ℕ × BinaryOperator) → e.0 < 1 → is_within l (Some e) ≡ false
+none_too_loose l e p = go (nat_le 1 e.0) refl
+  where
+    go : (b : Bool) → nat_le 1 e.0 ≡ b → (b && nat_le e.0 l) ≡ false
     go false q = refl
     go true q = absurd (omega (arith, leb-true 1 e.0 q, p))
+
+pub none_ahead : (l : ℕ) (ts : List Token) (t : Token) → Some t ≡ slice_get ts 0 → None ≡ entry_of table (tok t).sort → sees (marks_up_to l) (toks ts) ≡ false
+none_ahead l ts t p q = sym (sees_first_up_to l ts t None p q)
+
+pub none_so_tight : (l : ℕ) (ts : List Token) (t : Token) (e : ℕ × BinaryOperator) → Some t ≡ slice_get ts 0 → Some e ≡ entry_of table (tok t).sort → e.0 < 1 → sees (marks_up_to l) (toks ts) ≡ false
+none_so_tight l ts t e p q r = sym (sees_first_up_to l ts t (Some e) p q) ∙ none_too_loose l e r
+
+pub looser_ahead : (l : ℕ) (ts : List Token) (t : Token) (e : ℕ × BinaryOperator) → Some t ≡ slice_get ts 0 → Some e ≡ entry_of table (tok t).sort → l < e.0 → sees (marks_up_to l) (toks ts) ≡ false
+looser_ahead l ts t e p q r = sym (sees_first_up_to l ts t (Some e) p q) ∙ none_within_less l e r

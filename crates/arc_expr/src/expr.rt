@@ -1,17 +1,17 @@
 //! Reads expressions, in which no limit holds.
-ghost use Rattle.std.specs.Prelude.{◌≡◌, ◌<◌, ◌≤◌, length, IfOk};
+ghost use Rattle.std.specs.Prelude.{◌≡◌, ◌<◌, ◌≤◌, false, length, IfOk};
 ghost use Rattle.arc_lex.specs.Tokens.{toks};
 ghost use Rattle.arc_ast.specs.Tree.{expr_tree, begins, Binary, Name};
 ghost use Rattle.arc_ast.specs.declared.tree.BinaryOperator.TheVariants.{Multiply};
 ghost use Rattle.arc_form.specs.Form.{unlimited};
 ghost use Rattle.arc_form.specs.Reader.{Gives, sees};
 ghost use Rattle.arc_form.specs.Views.{all};
-ghost use Rattle.arc_grammar.specs.Grammar.{reads_free, reads_on, rules};
+ghost use Rattle.arc_grammar.specs.Grammar.{marks_up_to, reads_free, reads_on, rules};
 ghost use Rattle.arc_grammar.specs.Grammar as grammar;
 ghost use Rattle.arc_expr.specs.declared.operator.TheConstants.{ASSIGNING, LOOSEST};
 
 use crate::literal::literal;
-use crate::operator::{ASSIGNING, LOOSEST, operator, sees_operator, sees_operator_up_to};
+use crate::operator::{ASSIGNING, LOOSEST, level_ahead, operator, sees_operator};
 use crate::sign::{counting, sees_counting, sees_sign, sign};
 use crate::type_name::{begins_plain_type, plain_type};
 use arc_ast::tree::{BinaryOperator, Expr, Moment, TypeName};
@@ -159,36 +159,23 @@ fn condition<'a>(alloc: Global, tokens: &'a [Token]) -> Read<'a, Expr>
 
 /// The operators of the levels up to this one after this left operand, with their right operands.
 #[cycle(exprs)]
-#[tactic(auto, using(crate::proofs::Fix::read_up_to, crate::proofs::Fix::read_past))]
+#[tactic(auto, using(crate::proofs::Fix::read_past))]
 fn up_to<'a>(alloc: Global, level: usize, left: Expr, tokens: &'a [Token]) -> Read<'a, Expr>
     requires { level ≤ LOOSEST }
     ensures gives { Gives (λ x. (expr_tree x.0, toks x.1.now)) result (reads_on (grammar.up_to level) (expr_tree left) (toks tokens.now)) }
     ensures shorter { IfOk result (λ x. length x.1.now ≤ length tokens.now) }
+    ensures past { IfOk result (λ x. sees (marks_up_to level) (toks x.1.now) ≡ false) }
 {
-    if !sees_operator_up_to(level, tokens) {
-        return Ok((left, tokens));
-    }
-    let (left, rest) = up_to(alloc, level - 1, left, tokens)?;
-    more(alloc, level, left, rest)
-}
-
-/// The operators of a level after this left operand, with their right operands.
-#[cycle(exprs)]
-#[tactic(auto, using(crate::proofs::Fix::read_more))]
-fn more<'a>(alloc: Global, level: usize, left: Expr, tokens: &'a [Token]) -> Read<'a, Expr>
-    requires { 1 ≤ level × level ≤ LOOSEST }
-    ensures gives { Gives (λ x. (expr_tree x.0, toks x.1.now)) result (reads_on (grammar.more level) (expr_tree left) (toks tokens.now)) }
-    ensures shorter { IfOk result (λ x. length x.1.now ≤ length tokens.now) }
-{
-    if !sees_operator(level, tokens) {
-        return Ok((left, tokens));
-    }
+    let found = match level_ahead(level, tokens) {
+        None => return Ok((left, tokens)),
+        Some(found) => found,
+    };
     let at = place_of(&left);
     let left = Box::new(alloc, left)?;
-    let ((_, operator), rest) = operator(level, tokens)?;
-    let (right, rest) = binary(alloc, level - 1, rest)?;
+    let ((_, operator), rest) = operator(found, tokens)?;
+    let (right, rest) = binary(alloc, found - 1, rest)?;
     let right = Box::new(alloc, right)?;
-    more(alloc, level, Expr::Binary(at, operator, left, right), rest)
+    up_to(alloc, level, Expr::Binary(at, operator, left, right), rest)
 }
 
 /// An expression whose operators are of this level or tighter.
@@ -198,6 +185,7 @@ fn binary<'a>(alloc: Global, level: usize, tokens: &'a [Token]) -> Read<'a, Expr
     requires { level ≤ LOOSEST }
     ensures gives { Gives (λ x. (expr_tree x.0, toks x.1.now)) result (rules unlimited (grammar.binary level) (toks tokens.now)) }
     ensures shorter { IfOk result (λ x. length x.1.now < length tokens.now) }
+    ensures past { IfOk result (λ x. sees (marks_up_to level) (toks x.1.now) ≡ false) }
 {
     let (left, rest) = prefixed(alloc, tokens)?;
     up_to(alloc, level, left, rest)

@@ -1,5 +1,5 @@
 //! Reads the operators between two operands, and those that assign what they compute.
-ghost use Rattle.std.specs.Prelude.{◌≡◌, ◌<◌, ◌≤◌, true, length, IfOk};
+ghost use Rattle.std.specs.Prelude.{◌≡◌, ◌<◌, ◌≤◌, ◌-◌, None, true, false, length, IfOk, IfSome};
 ghost use Rattle.arc_lex.specs.Tokens.{tok, toks};
 ghost use Rattle.arc_form.specs.Operators.{entry, entry_of, marks_at};
 ghost use Rattle.arc_form.specs.Reader.{Gives, sees, take_one};
@@ -78,17 +78,20 @@ pub fn sees_operator(level: usize, tokens: &[Token]) -> bool
     }
 }
 
-/// Whether the first token is an operator of this level or of a tighter one.
-pub fn sees_operator_up_to(level: usize, tokens: &[Token]) -> bool
-    ensures value { result ≡ sees (marks_up_to level) (toks tokens.now) }
-    ensures level { result ≡ true → 1 ≤ level }
+/// The level of the first token, where it is an operator of this level or of a tighter one.
+pub fn level_ahead(level: usize, tokens: &[Token]) -> Option<usize>
+    ensures none { result ≡ None → sees (marks_up_to level) (toks tokens.now) ≡ false }
+    ensures within { IfSome result (λ found. 1 ≤ found × found ≤ level) }
+    ensures there { IfSome result (λ found. sees (marks_at found table) (toks tokens.now) ≡ true) }
+    ensures none_tighter { IfSome result (λ found. sees (marks_up_to (found - 1)) (toks tokens.now) ≡ false) }
 {
     match tokens.first() {
         Some(token) => match of_token(token) {
-            Some((found, _)) => 1 <= found && found <= level,
-            None => false,
+            Some((found, _)) if 1 <= found && found <= level => Some(found),
+            Some(_) => None,
+            None => None,
         },
-        None => false,
+        None => None,
     }
 }
 

@@ -28,9 +28,6 @@ decreases-condition l = 16 * length l.tokens.now + 4
 abbrev pub decreases-up_to : goal.decreases-up_to
 decreases-up_to l = 16 * length l.tokens.now + 1 + l.level
 
-abbrev pub decreases-more : goal.decreases-more
-decreases-more l = 16 * length l.tokens.now
-
 abbrev pub decreases-binary : goal.decreases-binary
 decreases-binary l = 16 * length l.tokens.now + 4
 
