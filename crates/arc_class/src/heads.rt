@@ -20,10 +20,7 @@ pub fn keep_first<'a, V: Copy>(
 ) -> Result<(), AllocError>
     ensures { OnOk result ((sought : List ℕ) → at_name map.new sought ≡ or_else (at_name map.old sought) (one_at name.now value sought)) }
 {
-    if at_name(map, name).is_some() {
-        return Ok(());
-    }
-    map.insert(name, value)?;
+    map.entry(name)?.or_insert(value);
     Ok(())
 }
 

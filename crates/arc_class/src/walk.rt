@@ -145,9 +145,8 @@ fn declare<'a>(
     ensures fault { IfOk result (λ fault. option_map told fault ≡ first (broken_if (holds scope.old name.now) at 21)) }
     ensures scope { OnOk result (holds scope.new ≡ and_name name.now (holds scope.old)) }
 {
-    let stands = scope.get(&name).is_some();
-    scope.insert(name, ())?;
-    Ok(if stands {
+    let stood = scope.insert(name, ())?.is_some();
+    Ok(if stood {
         Some(ClassFault::Duplicate(at))
     } else {
         None
