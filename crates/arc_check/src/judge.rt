@@ -554,21 +554,22 @@ fn unknown_method(kind: Option<Kind>, part: usize) -> Option<CheckFault>
     }
 }
 
-/// The rule that a message breaks for which no method is known: to the class or, with none, to what this judgement is on.
-fn method_fault<'a>(
-    table: &ClassTable<'a>,
+/// The rule that a message of this kind breaks for which no method is known: to the class or, with none, to what this judgement is on.
+fn method_fault(
     class: Option<ClassId>,
     receiver: Judged,
-    selector: &'a [u8],
+    kind: Option<Kind>,
     part: usize,
 ) -> Option<CheckFault>
-    ensures { (visible : Visible) → option_map told result
-        ≡ first (rules.no_method (seen table.now visible) (option_map number_of_class class) receiver.kind (option_map number_of_class receiver.class) selector.now part) }
+    ensures { (table : ClassTable) (visible : Visible) (selector : List ℕ)
+        → kind ≡ rules.message_kind (seen table visible) (option_map number_of_class class) receiver.kind (option_map number_of_class receiver.class) selector
+        → option_map told result
+        ≡ first (rules.no_method (seen table visible) (option_map number_of_class class) receiver.kind (option_map number_of_class receiver.class) selector part) }
 {
     if class.is_none() && !is_object(receiver.kind) {
         return None;
     }
-    unknown_method(sent_kind(table, class, receiver.class, selector), part)
+    unknown_method(kind, part)
 }
 
 /// The judgement on a message.
@@ -588,7 +589,7 @@ fn judge_send<'a>(
     let judged = judge(table, visible, before, receiver);
     let kind = message_kind(table, class, judged, selector);
     let own = receiver_fault(class, judged, place(receiver));
-    let unknown = method_fault(table, class, judged, selector, part);
+    let unknown = method_fault(class, judged, kind, part);
     let between = judged.taken.one_if(is_object(kind), part);
     let wanted = Some(table.parameters_passed(receiver_sign(class), selector));
     let passed = judge_arguments(table, visible, between, wanted, b"", arguments);

@@ -117,7 +117,7 @@ judge_send-returns t c = λ at.
     c.judge_arguments-passed.ensures.fault ∙ ap (λ ks. first (broken_arguments s (Some ks) false args)) (c.parameters_passed.ensures ∙ ap (λ g. s.known.passed g c.args.selector.now) c.receiver_sign.ensures) in
     judges_message s c.args.before c.one_if-between.result at c.args.part (expr_tree c.args.receiver.now) c.args.selector.now args (option_map number_of_class c.class_receiver-class.result) c.judge-judged.result
     (record { kind = c.message_kind-kind.result; class = c.sent_class.result; fault = c.earlier-2.result; taken = passed.taken; unread = passed.taken }) passed c.place.result (option_map told c.receiver_fault-own.result) (option_map told c.method_fault-unknown.result)
-    c.class_receiver-class.ensures c.judge-judged.ensures c.place.ensures (c.message_kind-kind.ensures visible) (c.receiver_fault-own.ensures) (c.method_fault-unknown.ensures visible)
+    c.class_receiver-class.ensures c.judge-judged.ensures c.place.ensures (c.message_kind-kind.ensures visible) (c.receiver_fault-own.ensures) (c.method_fault-unknown.ensures c.args.table.now visible c.args.selector.now (c.message_kind-kind.ensures visible))
     (c.one_if-between.ensures ∙ ap (λ b. counted c.judge-judged.result.taken (at_if b c.args.part)) c.is_object.ensures) fault c.judge_arguments-passed.ensures.taken c.sent_class.ensures (c.earlier-2.ensures ∙ ap (λ o. earlier_of o (option_map told passed.fault)) c.earlier.ensures) refl
 
 pub judge_super-returns : goal.judge_super-returns
