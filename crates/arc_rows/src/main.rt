@@ -8,8 +8,11 @@
 
 mod compare;
 mod lines;
+mod random;
 mod row;
+mod running;
 mod show;
+mod states;
 
 use crate::show::show;
 use std::fs;

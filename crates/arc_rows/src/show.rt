@@ -3,6 +3,7 @@
 use crate::compare::{Verdict, compare};
 use crate::lines::is_open;
 use crate::row::Row;
+use crate::states::{States, follow};
 use arc_code::counted::Counted;
 use arc_tool::request::{Words, WordsFault};
 use arc_tool::serve::{FileFault, serve};
@@ -20,13 +21,16 @@ pub fn show<R: Files + Print + AllocGlobal>(rt: &R, line: &str) -> anyhow::Resul
     let input = input_of(rt, &row)?;
     let words = words_of(alloc, &row)?;
     let source = source_of(rt, &row, &words);
-    let verdict = match (&words, &source) {
-        (Ok(words), Ok(source)) => compare(alloc, words, source, &input)?,
-        _ => Verdict::Uncompared,
+    let (verdict, states) = match (&words, &source) {
+        (Ok(words), Ok(source)) => (
+            compare(alloc, words, source, &input)?,
+            follow(alloc, words, source, &input)?,
+        ),
+        _ => (Verdict::Uncompared, States::Unseen),
     };
     println!(rt; "$ arcc {line}")?;
     let status = serve_row(rt, words, &source, &input)?;
-    println!(rt; "status {status}{verdict}\n")?;
+    println!(rt; "status {status}{verdict}{states}\n")?;
     Ok(())
 }
 
