@@ -3,6 +3,7 @@
 use crate::compare::{Verdict, compare};
 use crate::lines::is_open;
 use crate::row::Row;
+use crate::states::{States, follow};
 use arc_code::counted::Counted;
 use arc_tool::request::{Words, WordsFault};
 use arc_tool::serve::{FileFault, serve};
@@ -13,21 +14,33 @@ use std::rt::Files;
 use std::{fs, io};
 
 /// Prints the line, what `arcc` writes to standard output and to standard error, its status, and what the
-/// comparison with the plain interpreter says.
+/// comparisons say.
 pub fn show<R: Files + Print + AllocGlobal>(rt: &R, line: &str) -> anyhow::Result<()> {
     let alloc = rt.alloc();
     let row = Row::from(line);
     let input = input_of(rt, &row)?;
     let words = words_of(alloc, &row)?;
     let source = source_of(rt, &row, &words);
-    let verdict = match (&words, &source) {
-        (Ok(words), Ok(source)) => compare(alloc, words, source, &input)?,
-        _ => Verdict::Uncompared,
+    let (verdict, states) = match (&words, &source) {
+        (Ok(words), Ok(source)) => judged(alloc, words, source, &input)?,
+        _ => (Verdict::Uncompared, States::Unseen),
     };
     println!(rt; "$ arcc {line}")?;
     let status = serve_row(rt, words, &source, &input)?;
-    println!(rt; "status {status}{verdict}\n")?;
+    println!(rt; "status {status}{verdict}{states}\n")?;
     Ok(())
+}
+
+/// What both comparisons say: that with the plain interpreter, and that of steps made at once and one by one.
+fn judged(
+    alloc: Global,
+    words: &Words,
+    source: &[u8],
+    input: &[u8],
+) -> anyhow::Result<(Verdict, States)> {
+    let verdict = compare(alloc, words, source, input)?;
+    let states = follow(alloc, words, source, input)?;
+    Ok((verdict, states))
 }
 
 /// Does what the words ask for, prints what that writes, and gives the status.
