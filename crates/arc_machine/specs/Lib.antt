@@ -2,6 +2,7 @@ pub mod Cells
 pub mod Clearing
 pub mod Entering
 pub mod Fields
+pub mod Found
 pub mod Operands
 pub mod Patterns
 pub mod Places

@@ -9,6 +9,7 @@ mod dropping;
 mod engine;
 pub mod fault;
 mod field;
+mod found;
 mod giving;
 mod global;
 mod hand;

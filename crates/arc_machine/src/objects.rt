@@ -204,7 +204,8 @@ impl<S: Store + Drop> Objects<S> {
         requires place { 1 < length self.old.places }
         ensures { self.new ≡ settling self.old }
     {
-        let _ = self.places.remove(1);
+        let last = self.places.pop();
+        self.places.set(0, last);
         self.temporaries -= 1;
     }
 
@@ -282,7 +283,11 @@ impl<S: Store + Drop> Objects<S> {
         requires { depth < length self.old.names }
         ensures { self.new ≡ with_names self.old (take depth self.old.names ++ drop (depth + 1) self.old.names) }
     {
-        let _ = self.names.remove(depth);
+        if depth == 0 {
+            let _ = self.names.pop();
+        } else {
+            let _ = self.names.remove(depth);
+        }
     }
 
     /// Takes so many references, the last ones.
