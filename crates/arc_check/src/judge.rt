@@ -554,7 +554,8 @@ fn unknown_method(kind: Option<Kind>, part: usize) -> Option<CheckFault>
     }
 }
 
-/// The rule that a message of this kind breaks for which no method is known: to the class or, with none, to what this judgement is on.
+/// The rule that a message of this kind breaks for which no method is known: to the class or, with none, to what this
+/// judgement is on.
 fn method_fault(
     class: Option<ClassId>,
     receiver: Judged,

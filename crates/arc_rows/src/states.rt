@@ -26,7 +26,7 @@ const FEW_STEPS: u64 = 1_000;
 /// The most steps of a program that are followed.
 const MOST_STEPS: u64 = 2_000_000;
 
-/// A program with so many steps more comes from the start to one number fewer of each row of them.
+/// Of a program of n times so many steps, or a little more, each (n + 1)th number alone is also reached from the start.
 const STEPS_ANEW: u64 = 100_000;
 
 /// What is said of a program's states.
