@@ -1,0 +1,158 @@
+//! The instructions by which variables and temporaries let go of objects, and the beginning of an object's end.
+ghost use Rattle.std.specs.Prelude.{◌≡◌, ◌+◌, ◌-◌, ◌^◌, ◌<◌, ◌≤◌, ℕ, [], None, IfSome, IfNone, length};
+ghost use Rattle.arc_spec.specs.Meaning.{most_levels};
+ghost use Rattle.arc_code.specs.Running.{program_of};
+ghost use Rattle.arc_machine.specs.Cells.{Cell, IsCell};
+ghost use Rattle.arc_machine.specs.Places.{Ready, CanHold, Executes, spot, shown, HasPlaces};
+ghost use Rattle.arc_machine.specs.Releases.{CanPut, Puts, LastPut, PutTurn, Begins};
+
+use crate::dropping::{drop_temporaries, ends_some};
+use crate::objects::Objects;
+use crate::place::Place;
+use crate::stop::Answer;
+use arc_code::code::Code;
+use arc_code::instr::Instr;
+use arc_heap::store::Store;
+use arc_spec::event::{Event, Fault};
+
+/// What came of an instruction: whether the code goes on, and what it shows.
+#[derive(Clone, Copy, Drop)]
+pub struct Turn {
+    pub answer: Answer,
+    pub event: Option<Event>,
+}
+
+/// An answer with which nothing is shown.
+#[inline(always)]
+pub fn calm(answer: Answer) -> Turn
+    requires never { ⊥ }
+{
+    Turn {
+        answer,
+        event: None,
+    }
+}
+
+impl Place {
+    /// A variable takes what the last reference names, and lets go of what it named.
+    #[inline(always)]
+    pub fn store<S: Store + Drop>(
+        &mut self,
+        variable: usize,
+        code: &Code,
+        objects: &mut Objects<S>,
+    ) -> Turn
+        requires never { ⊥ }
+    {
+        // There are no more places than the code asks for, whose number fits a word.
+        let _places = code.places;
+        let object = objects.reference();
+        self.put(variable, object, code, objects)
+    }
+
+    /// A variable lets go of what it names.
+    #[inline(always)]
+    pub fn empty<S: Store + Drop>(
+        &mut self,
+        variable: usize,
+        code: &Code,
+        objects: &mut Objects<S>,
+    ) -> Turn
+        requires never { ⊥ }
+    {
+        // There are no more places than the code asks for, whose number fits a word.
+        let _places = code.places;
+        self.put(variable, 0, code, objects)
+    }
+
+    /// The temporaries are dropped, the last one first, until an object's end begins, behind which this
+    /// instruction is met again, or none is left.
+    #[inline(always)]
+    pub fn drop_all<S: Store + Drop>(&mut self, code: &Code, objects: &mut Objects<S>) -> Turn
+        requires never { ⊥ }
+    {
+        if !objects.have_level() && ends_some(objects) {
+            return Turn {
+                answer: Answer::Faulted(Fault::Depth),
+                event: None,
+            };
+        }
+        match drop_temporaries(objects) {
+            Some(object) => self.begin_end(self.at, object, code, objects),
+            None => {
+                self.at += 1;
+                Turn {
+                    answer: Answer::Going,
+                    event: None,
+                }
+            }
+        }
+    }
+
+    /// A variable lets go of what it names, and takes this. None is where the end of an object begins
+    /// with that; then nothing is changed.
+    #[inline(always)]
+    fn put_soon<S: Store + Drop>(
+        &mut self,
+        variable: usize,
+        object: u64,
+        objects: &mut Objects<S>,
+    ) -> Option<Answer>
+        requires never { ⊥ }
+    {
+        let before = objects.variable(variable);
+        if before != object && objects.is_last(before) {
+            return None;
+        }
+        objects.lower(before);
+        objects.raise(object);
+        objects.put(variable, object);
+        self.at += 1;
+        Some(Answer::Going)
+    }
+
+    /// A variable lets go of what it names, and takes this.
+    #[inline(always)]
+    fn put<S: Store + Drop>(
+        &mut self,
+        variable: usize,
+        object: u64,
+        code: &Code,
+        objects: &mut Objects<S>,
+    ) -> Turn
+        requires never { ⊥ }
+    {
+        if let Some(answer) = self.put_soon(variable, object, objects) {
+            return calm(answer);
+        }
+        if !objects.have_level() {
+            return calm(Answer::Faulted(Fault::Depth));
+        }
+        let before = objects.variable(variable);
+        objects.raise(object);
+        objects.put(variable, object);
+        self.begin_end(self.at + 1, before, code, objects)
+    }
+
+    /// The end of an object begins, whose last holder let go of it. It goes back to this instruction.
+    #[inline(always)]
+    pub fn begin_end<S: Store + Drop>(
+        &mut self,
+        back: usize,
+        object: u64,
+        code: &Code,
+        objects: &mut Objects<S>,
+    ) -> Turn
+        requires never { ⊥ }
+    {
+        let class = objects.class(object) as usize;
+        let event = Event::Dealloc(objects.number(object), class);
+        objects.begin_end(object);
+        objects.enter_end(back, object, class, code.classes.len());
+        self.at = code.end_step;
+        Turn {
+            answer: Answer::Going,
+            event: Some(event),
+        }
+    }
+}
