@@ -1,3 +1,4 @@
+pub mod Beginning
 pub mod Cells
 pub mod Clearing
 pub mod Entering

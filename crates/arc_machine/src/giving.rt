@@ -114,6 +114,7 @@ impl Place {
     }
 
     /// The temporary before the last one lets go of what it names.
+    #[inline(always)]
     pub fn settle<S: Store + Drop>(&mut self, code: &Code, objects: &mut Objects<S>) -> Turn
         requires ready { Ready S.out (program_of code.now) Instr.Settle (spot self.old objects.old) }
         requires place { self.old.at < 2 ^ 64 - 1 }

@@ -1,6 +1,7 @@
 //! Runs code, an instruction a step.
 #![tactic(auto)]
 
+mod beginning;
 mod calling;
 mod cell;
 mod clearing;
