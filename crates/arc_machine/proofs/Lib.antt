@@ -26,6 +26,8 @@ pub mod Globals
 pub mod Handed
 pub mod Holdings
 pub mod LastFields
+pub mod Lending
+pub mod LentTurns
 pub mod Letting
 pub mod Lifting
 pub mod Making

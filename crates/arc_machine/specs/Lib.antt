@@ -18,3 +18,4 @@ pub mod Turns
 pub mod Views
 pub mod Words
 pub mod Giving
+pub mod Lent
