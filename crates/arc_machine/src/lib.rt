@@ -27,6 +27,7 @@ mod order;
 mod pattern;
 mod place;
 mod releasing;
+mod shape;
 mod stack;
 mod step;
 pub mod stop;
