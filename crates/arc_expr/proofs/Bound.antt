@@ -9,7 +9,7 @@ use Rattle.arc_form.proofs.Front.{AlwaysLocal, form_always}
 use Rattle.arc_form.proofs.Front as front
 use Rattle.arc_ast.specs.Tree.{ExprTree}
 use Rattle.arc_grammar.specs.Grammar.{reads, reads_free, rules, full, expression, expr, body}
-use Rattle.arc_grammar.proofs.Fits.{facts, sure, sure_expression, sure_full}
+use Rattle.arc_grammar.proofs.Fits.{facts, sure, sure_full}
 use Rattle.arc_expr.proofs.Fix.{read_expr}
 
 whole : Reader ExprTree
@@ -30,7 +30,7 @@ whole_is ts x e = sym (read_expr ts) ∙ e
 -- nothing is too deep in it
 plain_fault : (ts r : List Tok) (y : Fault) → rules unlimited expr ts ≡ Err (y, r) → rules unlimited expr ts ≡ Err (misfit, r)
 unfolding expression whole
-plain_fault ts r y e = subst (λ z. rules unlimited expr ts ≡ Err (z, r)) (never_deep body facts sure ExprTree expression sure_expression ts r y (whole_is ts _ e)) e
+plain_fault ts r y e = subst (λ z. rules unlimited expr ts ≡ Err (z, r)) (never_deep body facts sure ExprTree expression sure_full.0 ts r y (whole_is ts _ e)) e
 
 module _ (tokens ahead rest r : List Token) (first : ahead ≡ take 1001 tokens) where
   pub rest_short : (y : Fault) → rules unlimited expr (toks ahead) ≡ Err (y, toks rest) → length rest ≤ length ahead

@@ -11,16 +11,11 @@ use Rattle.arc_form.specs.Operators.{marks_at, placed_operator}
 use Rattle.arc_form.specs.Views.{all}
 use Rattle.arc_form.proofs.Operators.{joined_is, pair_then, in_turn, second_then}
 use Rattle.arc_form.proofs.Sets.{sees_neither}
-use Rattle.arc_form.proofs.Static.{nullable, decided}
 use Rattle.arc_form.proofs.Local.{Local, weaker, then, local_token, local_ret}
-use Rattle.arc_form.proofs.FormLocal.{solid, read_is, form_front, fronts}
+use Rattle.arc_form.proofs.FormLocal.{read_is, fronts}
 use Rattle.arc_grammar.specs.Grammar.{Part, Sent, rules, reads_free, reads_on, body, expr, unary, binary, condition, table, assigning, marks_up_to, join, further, more, up_to, choice, continued, conditional_expr, operations, expression, prefixed, counting, field_name, begins_suffix, suffix, suffixes, next_argument, more_arguments, add, argument_part, next_part, more_parts, add_part}
-use Rattle.arc_grammar.proofs.Fits.{facts, sure}
+use Rattle.arc_grammar.proofs.Fits.{facts, sure, front}
 use Rattle.arc_expr.specs.declared.operator.TheConstants.{ASSIGNING, LOOSEST}
-
--- a part that is some token at least takes one
-front : {A : Type 0} (part : Part A) → decided facts part ≡ true → nullable facts part ≡ false → (j : ℕ) → Local ⊥ 1 j (reads_free part) (reads_free part)
-front part d n j = solid (nullable facts part) n (form_front facts body sure unlimited part d j)
 
 further_front : (l j : ℕ) → Local ⊥ 1 j (reads_free (further l)) (reads_free (further l))
 unfolding further
@@ -89,7 +84,7 @@ read_past (suc l) left ts s =
 -- the suffixes after an operand, one by one
 suffix_front : (j : ℕ) → Local ⊥ 1 j (reads_free suffix) (reads_free suffix)
 unfolding suffix field_name counting
-suffix_front j = front suffix refl refl j
+suffix_front j = front unlimited suffix refl refl j
 
 pub read_suffixes : (operand : ExprTree) (ts : List Tok)
     → reads_on suffixes operand ts ≡ if_sees begins_suffix (reads_on suffix operand >>= (λ whole. reads_on suffixes whole)) (ret operand) ts
@@ -103,7 +98,7 @@ read_suffixes operand ts = joined_is begins_suffix (reads_free suffix) (λ a mak
 -- further arguments, one by one
 argument_front : (j : ℕ) → Local ⊥ 1 j (reads_free next_argument) (reads_free next_argument)
 unfolding next_argument
-argument_front j = front next_argument refl refl j
+argument_front j = front unlimited next_argument refl refl j
 
 pub read_more_arguments : (before : List ExprTree) (ts : List Tok)
     → reads_on more_arguments before ts ≡ if_sees (mark m.Comma) (take_one (mark m.Comma) from >>= (λ comma. rules unlimited expr >>= (λ a. reads_on more_arguments (add before a)))) (ret before) ts
@@ -116,7 +111,7 @@ read_more_arguments before ts = joined_is (mark m.Comma) (reads_free next_argume
 -- further parts of a selector, one by one
 part_front : (j : ℕ) → Local ⊥ 1 j (reads_free next_part) (reads_free next_part)
 unfolding next_part argument_part
-part_front j = front next_part refl refl j
+part_front j = front unlimited next_part refl refl j
 
 pub read_more_parts : (before : Sent) (ts : List Tok)
     → reads_on more_parts before ts ≡ if_sees name (reads_free next_part >>= (λ p. reads_on more_parts (add_part before p))) (ret before) ts

@@ -8,15 +8,13 @@ use Rattle.arc_ast.specs.Types.{and_qualifier}
 use Rattle.arc_form.specs.Joining.{joining}
 use Rattle.arc_form.specs.Operators.{fold}
 use Rattle.arc_form.specs.Reader.{Read, bind, ◌>>=◌, ret, loop}
-use Rattle.arc_form.proofs.Static.{nullable}
 use Rattle.arc_form.proofs.Local.{Local}
-use Rattle.arc_form.proofs.FormLocal.{solid, form_front}
 use Rattle.arc_grammar.specs.Grammar.{these, reads, body, begins_qualifier, qualifier, more_qualifiers, qualifiers, some_qualifiers}
-use Rattle.arc_grammar.proofs.Fits.{facts, sure}
+use Rattle.arc_grammar.proofs.Fits.{front}
 
 pub qualifier_front : (j : ℕ) → Local ⊥ 1 j (reads qualifier) (reads qualifier)
 unfolding qualifier
-qualifier_front j = solid (nullable facts qualifier) refl (form_front facts body sure these qualifier refl j)
+qualifier_front j = front these qualifier refl refl j
 
 pub read_qualifiers : (ts : List Tok) → reads qualifiers ts ≡ joining begins_qualifier (reads qualifier) and_qualifier Unqualified ts
 unfolding qualifiers more_qualifiers

@@ -1,12 +1,13 @@
 -- How the tokens begin that a form spells, and before which others they spell the same.
-use Rattle.std.proofs.Common.{◌≡◌, ◌⊎◌, inl, inr, ℕ, zero, suc, List, [], ◌∷◌, ◌++◌, Bool, true, false, not, ◌&&◌, refl, sym, ap, subst, ◌∙◌}
+use Rattle.std.proofs.Common.{◌≡◌, ◌⊎◌, inl, inr, List, [], ◌∷◌, ◌++◌, Bool, true, false, not, ◌&&◌, refl, sym, ap, subst, ◌∙◌}
 use Rattle.arc_lex.specs.Tokens.{Tok}
 use Rattle.arc_form.specs.Kinds.{Kinds, ◌∪◌, is}
 use Rattle.arc_form.specs.Reader.{first, sees, sees_second, sees_two}
 use Rattle.arc_form.specs.Form.{Limits, unlimited, Form, Bodies, token, give, call, map, ◌⨾◌, choose, many, or_none, nest, bounded, two_ahead, avoid}
-use Rattle.arc_form.specs.Meaning.{Spelling, SpellsAll, SpellsBy, Within, Spells}
+use Rattle.arc_form.specs.Meaning.{Spelling, SpellsAll, SpellsBy, Spells}
+use Rattle.arc_form.proofs.FormHeights.{OfRules, spells_body, by_height}
 use Rattle.arc_form.proofs.Sets.{both, no_both, not_true, sees_among, sees_none, sees_left, sees_right, sees_neither, sees_alike, sees_more}
-use Rattle.arc_form.proofs.Static.{Facts, if_so, nullable, begins, bars, long, decided, second, fits, of_then, of_choose, of_many, of_headed, of_bounded, of_two_ahead, of_avoid, of_heads, of_fits}
+use Rattle.arc_form.proofs.Static.{Facts, if_so, nullable, begins, bars, long, Decided, Heads, Holds, second, Fits}
 
 -- There are no tokens, where there may be none, or they begin so.
 abbrev pub Starts : Bool → Kinds → List Tok → Type 0
@@ -40,10 +41,6 @@ none_left A B ts e = (sees_neither A B ts e).0
 pub none_right : (A B : Kinds) (ts : List Tok) → sees (A ∪ B) ts ≡ false → sees B ts ≡ false
 none_right A B ts e = (sees_neither A B ts e).1
 
-pub none_so : (b : Bool) (A : Kinds) (ts : List Tok) → b ≡ true → sees (if_so b A) ts ≡ false → sees A ts ≡ false
-none_so true A ts e h = h
-none_so false A ts e h = cc
-
 -- after tokens that begin so, or none
 pub fair_after : (b : Bool) (A T : Kinds) (zs r r' : List Tok) → Starts b T zs → Fair (if_so b A) r r' → Fair A (zs ++ r) (zs ++ r')
 fair_after b A T (t ∷ zs) r r' s f = inr refl
@@ -51,9 +48,9 @@ fair_after b A T [] r r' (inr s) f = cc
 fair_after true A T [] r r' (inl s) f = f
 fair_after false A T [] r r' (inl (e, z)) f = cc
 
-pub fair_all : {A : Type 0} (M : Spelling A) (B : Kinds) → ((a : A) (r r' xs : List Tok) → M a r xs → Fair B r r' → M a r' xs) → (all : List A) (r r' xs : List Tok) → SpellsAll M all r xs → Fair B r r' → SpellsAll M all r' xs
-fair_all M B k [] r r' xs e q = e
-fair_all M B k (a ∷ others) r r' xs (ys, zs, e, x, y) q = (ys, zs, e, k a (zs ++ r) (zs ++ r') ys x (ahead zs), fair_all M B k others r r' zs y q)
+pub fair_all : {A : Type 0} (M O : Spelling A) (B : Kinds) → ((a : A) (r r' xs : List Tok) → M a r xs → Fair B r r' → O a r' xs) → (all : List A) (r r' xs : List Tok) → SpellsAll M all r xs → Fair B r r' → SpellsAll O all r' xs
+fair_all M O B k [] r r' xs e q = e
+fair_all M O B k (a ∷ others) r r' xs (ys, zs, e, x, y) q = (ys, zs, e, k a (zs ++ r) (zs ++ r') ys x (ahead zs), fair_all M O B k others r r' zs y q)
   where
     ahead : (zs : List Tok) → Fair B (zs ++ r) (zs ++ r')
     ahead [] = q
@@ -100,151 +97,103 @@ module _ {N : Type 0} {Node : N → Type 0} (facts : N → Facts) where
   abbrev pub AllStart : (Limits → (n : N) → Spelling (Node n)) → Type 0
   AllStart L = (limits : Limits) (n : N) (a : Node n) (rest xs : List Tok) → L limits n a rest xs → sees (facts n).begins xs ≡ true
 
-  -- and so does what a form spells
-  pub starts : (L : Limits → (n : N) → Spelling (Node n)) → AllStart L → (limits : Limits) {A : Type 0} (f : Form N Node A) → decided facts f ≡ true
-      → (a : A) (rest xs : List Tok) → SpellsBy L limits f a rest xs → Starts (nullable facts f) (begins facts f) xs
-  starts L s limits (token T g) d a rest xs (t, c, i, v) = inr (ap (sees T) c ∙ i)
-  starts L s limits (give b) d a rest xs (c, v) = inl (refl, c)
-  starts L s limits (call n) d a rest xs x = inr (s limits n a rest xs x)
-  starts L s limits (map h f) d b rest xs (a, v, x) = starts L s limits f d a rest xs x
-  starts L s limits (f ⨾ g) d a rest xs (ys, zs, c, x, y) =
-      let p = of_then facts f g d in
-      subst (Starts (nullable facts f && nullable facts g) (begins facts f ∪ if_so (nullable facts f) (begins facts g))) (sym c)
-      (starts_then (nullable facts f) (nullable facts g) (begins facts f) (begins facts g) ys zs (starts L s limits f p.left a.0 (zs ++ rest) ys x) (starts L s limits g p.right a.1 rest zs y))
-  starts L s limits (choose T f g) d a rest xs (inl x) =
-      let p = of_choose facts T f g d in
-      inr (sees_left (begins facts f) (begins facts g) xs (starts_some (nullable facts f) (begins facts f) xs p.head.some (starts L s limits f p.left a rest xs x)))
-  starts L s limits (choose T f g) d a rest xs (inr x) = go (starts L s limits g (of_choose facts T f g d).right a rest xs x)
-    where
-      go : Starts (nullable facts g) (begins facts g) xs → Starts (nullable facts g) (begins facts f ∪ begins facts g) xs
-      go (inl e) = inl e
-      go (inr e) = inr (sees_right (begins facts f) (begins facts g) xs e)
-  starts L s limits (many T f) d all rest xs x =
-      let p = of_many facts T f d in
-      start_all (SpellsBy L limits f) (begins facts f) (λ a r ys y. starts_some (nullable facts f) (begins facts f) ys p.head.some (starts L s limits f p.each a r ys y)) all rest xs x
-  starts L s limits (or_none T f b) d a rest xs (inl x) =
-      let p = of_headed facts T f d in
-      inr (starts_some (nullable facts f) (begins facts f) xs p.head.some (starts L s limits f p.each a rest xs x))
-  starts L s limits (or_none T f b) d a rest xs (inr (c, v, e)) = inl (refl, c)
-  starts L s limits (nest n T f) d a rest xs (m, x) =
-      let p = of_headed facts T f d in
-      inr (starts_some (nullable facts f) (begins facts f) xs p.head.some (starts L s limits f p.each a rest xs x))
-  starts L s limits (bounded f) d a rest xs (m, x) =
-      let p = of_bounded facts f d in
-      inr (starts_some (nullable facts f) (begins facts f) xs p.some (starts L s unlimited f p.each a rest xs x))
-  starts L s limits (two_ahead T U f g) d a rest xs (inl x) =
-      let p = of_two_ahead facts T U f g d in
-      let seen = starts_some (nullable facts f) (begins facts f) xs p.head.some (starts L s limits f p.left a rest xs x) in
-      inr (sees_among T (begins facts g) xs p.taken (sees_among (begins facts f) T xs p.head.within seen))
-  starts L s limits (two_ahead T U f g) d a rest xs (inr (x, n)) =
-      let p = of_two_ahead facts T U f g d in
-      inr (starts_some (nullable facts g) (begins facts g) xs p.some (starts L s limits g p.right a rest xs x))
-  starts L s limits (avoid T U f) d a rest xs (x, n) =
-      let p = of_avoid facts T U f d in
-      inr (starts_some (nullable facts f) (begins facts f) xs p.some (starts L s limits f p.each a rest xs x))
+  module _ (L : OfRules N Node) (s : AllStart L) where
+    -- and so does what a form spells
+    pub starts : (limits : Limits) {A : Type 0} (f : Form N Node A) → Decided facts f → (a : A) (rest xs : List Tok) → SpellsBy L limits f a rest xs → Starts (nullable facts f) (begins facts f) xs
+    starts limits (token T g) d a rest xs (t, c, i, v) = inr (ap (sees T) c ∙ i)
+    starts limits (give b) d a rest xs (c, v) = inl (refl, c)
+    starts limits (call n) d a rest xs x = inr (s limits n a rest xs x)
+    starts limits (map h f) d b rest xs (a, v, x) = starts limits f d a rest xs x
+    starts limits (f ⨾ g) (d, (d', o)) a rest xs (ys, zs, c, x, y) =
+        subst (Starts (nullable facts f && nullable facts g) (begins facts f ∪ if_so (nullable facts f) (begins facts g))) (sym c)
+        (starts_then (nullable facts f) (nullable facts g) (begins facts f) (begins facts g) ys zs (starts limits f d a.0 (zs ++ rest) ys x) (starts limits g d' a.1 rest zs y))
+    starts limits (choose T f g) (d, (d', ((n, o), q))) a rest xs (inl x) = inr (sees_left (begins facts f) (begins facts g) xs (starts_some (nullable facts f) (begins facts f) xs n (starts limits f d a rest xs x)))
+    starts limits (choose T f g) (d, (d', o)) a rest xs (inr x) = go (starts limits g d' a rest xs x)
+      where
+        go : Starts (nullable facts g) (begins facts g) xs → Starts (nullable facts g) (begins facts f ∪ begins facts g) xs
+        go (inl e) = inl e
+        go (inr e) = inr (sees_right (begins facts f) (begins facts g) xs e)
+    starts limits (many T f) (d, ((n, o), q)) all rest xs x =
+        start_all (SpellsBy L limits f) (begins facts f) (λ a r ys y. starts_some (nullable facts f) (begins facts f) ys n (starts limits f d a r ys y)) all rest xs x
+    starts limits (or_none T f b) (d, (n, o)) a rest xs (inl x) = inr (starts_some (nullable facts f) (begins facts f) xs n (starts limits f d a rest xs x))
+    starts limits (or_none T f b) d a rest xs (inr (c, v, e)) = inl (refl, c)
+    starts limits (nest m T f) (d, (n, o)) a rest xs (p, x) = inr (starts_some (nullable facts f) (begins facts f) xs n (starts limits f d a rest xs x))
+    starts limits (bounded f) (d, n) a rest xs (p, x) = inr (starts_some (nullable facts f) (begins facts f) xs n (starts unlimited f d a rest xs x))
+    starts limits (two_ahead T U f g) (d, (d', ((n, (w, k)), (o, (m, t))))) a rest xs (inl x) =
+        inr (sees_among T (begins facts g) xs t (sees_among (begins facts f) T xs w (starts_some (nullable facts f) (begins facts f) xs n (starts limits f d a rest xs x))))
+    starts limits (two_ahead T U f g) (d, (d', (h, (o, (m, t))))) a rest xs (inr (x, q)) = inr (starts_some (nullable facts g) (begins facts g) xs m (starts limits g d' a rest xs x))
+    starts limits (avoid T U f) (d, (e, (n, o))) a rest xs (x, q) = inr (starts_some (nullable facts f) (begins facts f) xs n (starts limits f d a rest xs x))
 
-  module _ (L : Limits → (n : N) → Spelling (Node n)) (s : AllStart L) where
-    pub some_starts : (limits : Limits) {A : Type 0} (f : Form N Node A) → decided facts f ≡ true → nullable facts f ≡ false → (a : A) (rest xs : List Tok) → SpellsBy L limits f a rest xs → sees (begins facts f) xs ≡ true
-    some_starts limits f d n a rest xs x = starts_some (nullable facts f) (begins facts f) xs n (starts L s limits f d a rest xs x)
+    pub some_starts : (limits : Limits) {A : Type 0} (f : Form N Node A) → Decided facts f → nullable facts f ≡ false → (a : A) (rest xs : List Tok) → SpellsBy L limits f a rest xs → sees (begins facts f) xs ≡ true
+    some_starts limits f d n a rest xs x = starts_some (nullable facts f) (begins facts f) xs n (starts limits f d a rest xs x)
+
+    -- and with a token of T, if it begins with these alone
+    pub head_starts : (limits : Limits) (T : Kinds) {A : Type 0} (f : Form N Node A) → Decided facts f → Heads facts T f → (a : A) (rest xs : List Tok) → SpellsBy L limits f a rest xs → sees T xs ≡ true
+    head_starts limits T f d (n, (w, k)) a rest xs x = sees_among (begins facts f) T xs w (some_starts limits f d n a rest xs x)
 
     -- what is long is two tokens at least
-    pub longs : (limits : Limits) {A : Type 0} (f : Form N Node A) → decided facts f ≡ true → long facts f ≡ true → (a : A) (rest xs : List Tok) → SpellsBy L limits f a rest xs → Long xs
-    longs limits (token T g) d e a rest xs x = cc
-    longs limits (give b) d e a rest xs x = cc
-    longs limits (call n) d e a rest xs x = cc
-    longs limits (map h f) d e b rest xs (a, v, x) = longs limits f d e a rest xs x
-    longs limits (f ⨾ g) d e a rest xs (ys, zs, c, x, y) =
-        let p = of_then facts f g d in
+    pub longs : (limits : Limits) (A : Type 0) (f : Form N Node A) → Decided facts f → long facts f ≡ true → (a : A) (rest xs : List Tok) → SpellsBy L limits f a rest xs → Long xs
+    longs limits A (map {A = B} h f) d e b rest xs (a, v, x) = longs limits B f d e a rest xs x
+    longs limits A (f ⨾ g) (d, (d', o)) e a rest xs (ys, zs, c, x, y) =
         let q = both (not (nullable facts f)) (not (nullable facts g)) e in
-        subst Long (sym c) (long_both (begins facts f) (begins facts g) ys zs (some_starts limits f p.left (not_true (nullable facts f) q.0) a.0 (zs ++ rest) ys x) (some_starts limits g p.right (not_true (nullable facts g) q.1) a.1 rest zs y))
-    longs limits (choose T f g) d e a rest xs (inl x) = longs limits f (of_choose facts T f g d).left (both (long facts f) (long facts g) e).0 a rest xs x
-    longs limits (choose T f g) d e a rest xs (inr x) = longs limits g (of_choose facts T f g d).right (both (long facts f) (long facts g) e).1 a rest xs x
-    longs limits (many T f) d e a rest xs x = cc
-    longs limits (or_none T f b) d e a rest xs x = cc
-    longs limits (nest m T f) d e a rest xs (p, x) = longs limits f (of_headed facts T f d).each e a rest xs x
-    longs limits (bounded f) d e a rest xs (p, x) = longs unlimited f (of_bounded facts f d).each e a rest xs x
-    longs limits (two_ahead T U f g) d e a rest xs (inl x) = longs limits f (of_two_ahead facts T U f g d).left (both (long facts f) (long facts g) e).0 a rest xs x
-    longs limits (two_ahead T U f g) d e a rest xs (inr (x, n)) = longs limits g (of_two_ahead facts T U f g d).right (both (long facts f) (long facts g) e).1 a rest xs x
-    longs limits (avoid T U f) d e a rest xs (x, n) = longs limits f (of_avoid facts T U f d).each e a rest xs x
+        subst Long (sym c) (long_both (begins facts f) (begins facts g) ys zs (some_starts limits f d (not_true (nullable facts f) q.0) a.0 (zs ++ rest) ys x) (some_starts limits g d' (not_true (nullable facts g) q.1) a.1 rest zs y))
+    longs limits A (choose T f g) (d, o) e a rest xs (inl x) = longs limits A f d (both (long facts f) (long facts g) e).0 a rest xs x
+    longs limits A (choose T f g) (d, (d', o)) e a rest xs (inr x) = longs limits A g d' (both (long facts f) (long facts g) e).1 a rest xs x
+    longs limits A (nest m T f) (d, o) e a rest xs (p, x) = longs limits A f d e a rest xs x
+    longs limits A (bounded f) (d, o) e a rest xs (p, x) = longs unlimited A f d e a rest xs x
+    longs limits A (two_ahead T U f g) (d, o) e a rest xs (inl x) = longs limits A f d (both (long facts f) (long facts g) e).0 a rest xs x
+    longs limits A (two_ahead T U f g) (d, (d', o)) e a rest xs (inr (x, n)) = longs limits A g d' (both (long facts f) (long facts g) e).1 a rest xs x
+    longs limits A (avoid T U f) (d, o) e a rest xs (x, n) = longs limits A f d e a rest xs x
+    longs limits A f d e a rest xs x = cc
 
     -- the second token of what has two heads
-    pub second_starts : (U : Kinds) (limits : Limits) (A : Type 0) (f : Form N Node A) → decided facts f ≡ true → second facts U f ≡ true → (a : A) (rest xs : List Tok) → SpellsBy L limits f a rest xs → sees_second U xs ≡ true
+    pub second_starts : (U : Kinds) (limits : Limits) (A : Type 0) (f : Form N Node A) → Decided facts f → Holds (second facts U f) → (a : A) (rest xs : List Tok) → SpellsBy L limits f a rest xs → sees_second U xs ≡ true
     second_starts U limits A (map {A = B} h f) d e b rest xs (a, v, x) = second_starts U limits B f d e a rest xs x
-    second_starts U limits A (◌⨾◌ {A = B} {B = C} (token V v) g) d e a rest xs (ys, zs, c, (t, o, i, w), y) =
-        let p = of_then facts (token V v) g d in
-        let q = of_heads facts U g e in
-        ap (sees_second U) (c ∙ ap (λ u. u ++ zs) o) ∙ sees_among (begins facts g) U zs q.within (some_starts limits g p.right q.some a.1 rest zs y)
-    second_starts U limits A (token V v) d e a rest xs x = cc
-    second_starts U limits A (give b) d e a rest xs x = cc
-    second_starts U limits A (call m) d e a rest xs x = cc
-    second_starts U limits A (choose V f g) d e a rest xs x = cc
-    second_starts U limits A (many V f) d e a rest xs x = cc
-    second_starts U limits A (or_none V f b) d e a rest xs x = cc
-    second_starts U limits A (nest m V f) d e a rest xs x = cc
-    second_starts U limits A (bounded f) d e a rest xs x = cc
-    second_starts U limits A (two_ahead V W f g) d e a rest xs x = cc
-    second_starts U limits A (avoid V W f) d e a rest xs x = cc
-    second_starts U limits A (_ ⨾ g) d e a rest xs x = cc
+    second_starts U limits A (◌⨾◌ {A = B} {B = C} (token V v) g) (i, (d, p)) e a rest xs (ys, zs, c, (t, o, j, w), y) =
+        ap (sees_second U) (c ∙ ap (λ u. u ++ zs) o) ∙ head_starts limits U g d e a.1 rest zs y
+    second_starts U limits A f d e a rest xs x = cc
 
-    -- rules' tokens spell the same before others
-    abbrev pub AllFair : Type 0
-    AllFair = (limits : Limits) (n : N) (a : Node n) (r r' xs : List Tok) → L limits n a r xs → Fair (facts n).bars r r' → L limits n a r' xs
-
-    -- and so do a form's
-    pub fair : AllFair → (limits : Limits) {A : Type 0} (f : Form N Node A) → decided facts f ≡ true → (a : A) (r r' xs : List Tok) → SpellsBy L limits f a r xs → Fair (bars facts f) r r' → SpellsBy L limits f a r' xs
-    fair c limits (token T g) d a r r' xs x q = x
-    fair c limits (give b) d a r r' xs x q = x
-    fair c limits (call n) d a r r' xs x q = c limits n a r r' xs x q
-    fair c limits (map h f) d b r r' xs (a, v, x) q = (a, v, fair c limits f d a r r' xs x q)
-    fair c limits (f ⨾ g) d a r r' xs (ys, zs, e, x, y) q =
-        let p = of_then facts f g d in
+    -- where rules' tokens spell the same before others, so do a form's
+    pub fair : (O : OfRules N Node) → ((limits : Limits) (n : N) (a : Node n) (r xs : List Tok) → L limits n a r xs → (r' : List Tok) → Fair (facts n).bars r r' → O limits n a r' xs)
+        → (limits : Limits) {A : Type 0} (f : Form N Node A) → Decided facts f → (a : A) (r r' xs : List Tok) → SpellsBy L limits f a r xs → Fair (bars facts f) r r' → SpellsBy O limits f a r' xs
+    fair O c limits (token T g) d a r r' xs x q = x
+    fair O c limits (give b) d a r r' xs x q = x
+    fair O c limits (call n) d a r r' xs x q = c limits n a r xs x r' q
+    fair O c limits (map h f) d b r r' xs (a, v, x) q = (a, v, fair O c limits f d a r r' xs x q)
+    fair O c limits (f ⨾ g) (d, (d', o)) a r r' xs (ys, zs, e, x, y) q =
         let further = if_so (nullable facts g) (bars facts f) in
-        let ahead = fair_after (nullable facts g) (bars facts f) (begins facts g) zs r r' (starts L s limits g p.right a.1 r zs y) (fair_less further (bars facts g ∪ further) r r' (none_right (bars facts g) further) q) in
-        (ys, zs, e, fair c limits f p.left a.0 (zs ++ r) (zs ++ r') ys x ahead, fair c limits g p.right a.1 r r' zs y (fair_less (bars facts g) (bars facts g ∪ further) r r' (none_left (bars facts g) further) q))
-    fair c limits (choose T f g) d a r r' xs (inl x) q = inl (fair c limits f (of_choose facts T f g d).left a r r' xs x (fair_less (bars facts f) (bars facts f ∪ bars facts g) r r' (none_left (bars facts f) (bars facts g)) q))
-    fair c limits (choose T f g) d a r r' xs (inr x) q = inr (fair c limits g (of_choose facts T f g d).right a r r' xs x (fair_less (bars facts g) (bars facts f ∪ bars facts g) r r' (none_right (bars facts f) (bars facts g)) q))
-    fair c limits (many T f) d all r r' xs x q = fair_all (SpellsBy L limits f) (bars facts f) (fair c limits f (of_many facts T f d).each) all r r' xs x q
-    fair c limits (or_none T f b) d a r r' xs (inl x) q = inl (fair c limits f (of_headed facts T f d).each a r r' xs x (fair_less (bars facts f) (T ∪ bars facts f) r r' (none_right T (bars facts f)) q))
-    fair c limits (or_none T f b) d a r r' xs (inr (e, v, m)) (inl q) = inr (e, v, none_left T (bars facts f) r' q)
-    fair c limits (or_none T f b) d a r r' xs (inr (e, v, m)) (inr q) = inr (e, v, sees_alike T r' r q ∙ m)
-    fair c limits (nest m T f) d a r r' xs (p, x) q = (p, fair c limits f (of_headed facts T f d).each a r r' xs x q)
-    fair c limits (bounded f) d a r r' xs (p, x) q = (p, fair c unlimited f (of_bounded facts f d).each a r r' xs x q)
-    fair c limits (two_ahead T U f g) d a r r' xs (inl x) q =
+        let ahead = fair_after (nullable facts g) (bars facts f) (begins facts g) zs r r' (starts limits g d' a.1 r zs y) (fair_less further (bars facts g ∪ further) r r' (none_right (bars facts g) further) q) in
+        (ys, zs, e, fair O c limits f d a.0 (zs ++ r) (zs ++ r') ys x ahead, fair O c limits g d' a.1 r r' zs y (fair_less (bars facts g) (bars facts g ∪ further) r r' (none_left (bars facts g) further) q))
+    fair O c limits (choose T f g) (d, o) a r r' xs (inl x) q = inl (fair O c limits f d a r r' xs x (fair_less (bars facts f) (bars facts f ∪ bars facts g) r r' (none_left (bars facts f) (bars facts g)) q))
+    fair O c limits (choose T f g) (d, (d', o)) a r r' xs (inr x) q = inr (fair O c limits g d' a r r' xs x (fair_less (bars facts g) (bars facts f ∪ bars facts g) r r' (none_right (bars facts f) (bars facts g)) q))
+    fair O c limits (many T f) (d, o) all r r' xs x q = fair_all (SpellsBy L limits f) (SpellsBy O limits f) (bars facts f) (fair O c limits f d) all r r' xs x q
+    fair O c limits (or_none T f b) (d, o) a r r' xs (inl x) q = inl (fair O c limits f d a r r' xs x (fair_less (bars facts f) (T ∪ bars facts f) r r' (none_right T (bars facts f)) q))
+    fair O c limits (or_none T f b) d a r r' xs (inr (e, v, m)) (inl q) = inr (e, v, none_left T (bars facts f) r' q)
+    fair O c limits (or_none T f b) d a r r' xs (inr (e, v, m)) (inr q) = inr (e, v, sees_alike T r' r q ∙ m)
+    fair O c limits (nest m T f) (d, o) a r r' xs (p, x) q = (p, fair O c limits f d a r r' xs x q)
+    fair O c limits (bounded f) (d, o) a r r' xs (p, x) q = (p, fair O c unlimited f d a r r' xs x q)
+    fair O c limits (two_ahead T U f g) (d, o) a r r' xs (inl x) q =
         let second = if_so (not (long facts g)) U in
         let others = bars facts f ∪ bars facts g in
-        inl (fair c limits f (of_two_ahead facts T U f g d).left a r r' xs x (fair_less (bars facts f) (second ∪ others) r r' (λ ts n. none_left (bars facts f) (bars facts g) ts (none_right second others ts n)) q))
-    fair c limits (two_ahead T U f g) d a r r' xs (inr (x, n)) q =
-        let p = of_two_ahead facts T U f g d in
+        inl (fair O c limits f d a r r' xs x (fair_less (bars facts f) (second ∪ others) r r' (λ ts n. none_left (bars facts f) (bars facts g) ts (none_right second others ts n)) q))
+    fair O c limits (two_ahead T U f g) (d, (d', (h, (o, (m, t))))) a r r' xs (inr (x, n)) q =
         let second = if_so (not (long facts g)) U in
         let others = bars facts f ∪ bars facts g in
         inr (
-          fair c limits g p.right a r r' xs x (fair_less (bars facts g) (second ∪ others) r r' (λ ts m. none_right (bars facts f) (bars facts g) ts (none_right second others ts m)) q),
-          two_kept (long facts g) T U xs r r' (λ l. longs limits g p.right l a r xs x) (seen_some (begins facts g) xs (some_starts limits g p.right p.some a r xs x))
-              (fair_less second (second ∪ others) r r' (none_left second others) q) n,
+          fair O c limits g d' a r r' xs x (fair_less (bars facts g) (second ∪ others) r r' (λ ts m. none_right (bars facts f) (bars facts g) ts (none_right second others ts m)) q),
+          two_kept (long facts g) T U xs r r' (λ l. longs limits _ g d' l a r xs x) (seen_some (begins facts g) xs (some_starts limits g d' m a r xs x)) (fair_less second (second ∪ others) r r' (none_left second others) q) n,
         )
-    fair c limits (avoid T U f) d a r r' xs (x, n) q = (fair c limits f (of_avoid facts T U f d).each a r r' xs x q, n)
+    fair O c limits (avoid T U f) (d, o) a r r' xs (x, n) q = (fair O c limits f d a r r' xs x q, n)
 
-  module _ (body : Bodies N Node) (sure : (n : N) → fits facts body n ≡ true) where
-    pub within_starts : (h : ℕ) → AllStart (Within body h)
-    unfolding Within
-    within_starts zero limits n a rest xs x = absurd x
-    within_starts (suc h) limits n a rest xs x =
-        let p = of_fits facts body n (sure n) in
-        sees_among (begins facts (body n)) (facts n).begins xs p.head.within (some_starts (Within body h) (within_starts h) limits (body n) p.sure p.head.some a rest xs x)
-
-    pub within_fair : (h : ℕ) → AllFair (Within body h) (within_starts h)
-    unfolding Within
-    within_fair zero limits n a r r' xs x q = absurd x
-    within_fair (suc h) limits n a r r' xs x q =
-        let p = of_fits facts body n (sure n) in
-        fair (Within body h) (within_starts h) (within_fair h) limits (body n) p.sure a r r' xs x (fair_less (bars facts (body n)) (facts n).bars r r' (λ ts. sees_none (bars facts (body n)) (facts n).bars ts p.barred) q)
-
+  module _ (body : Bodies N Node) (sure : (n : N) → Fits facts body n) where
     pub spells_starts : AllStart (Spells body)
-    spells_starts limits n a rest xs (h, x) = within_starts h limits n a rest xs x
+    spells_starts = by_height body (λ limits n a r xs. sees (facts n).begins xs ≡ true) (λ L up s limits n a r xs x. head_starts L s limits (facts n).begins (body n) (sure n).sure (sure n).head a r xs x)
 
-    pub spells_fair : AllFair (Spells body) spells_starts
-    spells_fair limits n a r r' xs (h, x) q = (h, within_fair h limits n a r r' xs x q)
+    pub spells_fair : (limits : Limits) (n : N) (a : Node n) (r xs : List Tok) → Spells body limits n a r xs → (r' : List Tok) → Fair (facts n).bars r r' → Spells body limits n a r' xs
+    spells_fair = by_height body (λ limits n a r xs. (r' : List Tok) → Fair (facts n).bars r r' → Spells body limits n a r' xs)
+        (λ L up k limits n a r xs x r' q. spells_body body limits n a r' xs (fair L (λ l m b s ys y. spells_starts l m b s ys (up l m b s ys y)) (Spells body) k limits (body n) (sure n).sure a r r' xs x
+        (fair_less (bars facts (body n)) (facts n).bars r r' (λ ts. sees_none (bars facts (body n)) (facts n).bars ts (sure n).barred) q)))
 
     -- what a form spells, it spells before tokens that it does not bar
-    pub form_fair : (limits : Limits) {A : Type 0} (f : Form N Node A) → decided facts f ≡ true → (a : A) (r r' xs : List Tok) → SpellsBy (Spells body) limits f a r xs → Fair (bars facts f) r r' → SpellsBy (Spells body) limits f a r' xs
-    form_fair limits f d a r r' xs x q = fair (Spells body) spells_starts spells_fair limits f d a r r' xs x q
+    pub form_fair : (limits : Limits) {A : Type 0} (f : Form N Node A) → Decided facts f → (a : A) (r r' xs : List Tok) → SpellsBy (Spells body) limits f a r xs → Fair (bars facts f) r r' → SpellsBy (Spells body) limits f a r' xs
+    form_fair limits f d a r r' xs x q = fair (Spells body) spells_starts (Spells body) spells_fair limits f d a r r' xs x q

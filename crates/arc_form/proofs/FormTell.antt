@@ -1,20 +1,21 @@
 -- Where a form refuses a token as too deep, a limit is passed there, and a form without limits would go on.
-use Rattle.std.proofs.Common.{◌≡◌, ◌⊎◌, inl, inr, ℕ, zero, suc, ◌<◌, ◌≤◌, ◌+◌, List, [], ◌∷◌, ◌++◌, length, length-append, append_assoc, drop, nat_lt, Ok, Err, Bool, true, false, cond, not, ◌&&◌, ◌||◌, Option, Some, None, refl, sym, ap, subst, ◌∙◌, arith}
-use Rattle.std.proofs.lemmas.Bool.{ltb-true, ltb-false}
+use Rattle.std.proofs.Common.{◌≡◌, ◌⊎◌, inl, inr, ℕ, zero, suc, ◌<◌, ◌≤◌, ◌+◌, List, [], ◌∷◌, ◌++◌, length, length-append, append_assoc, drop, Ok, Err, Bool, true, false, cond, Option, Some, None, refl, sym, ap, subst, ◌∙◌, arith}
+use Rattle.std.proofs.lemmas.Bool.{ltb-true}
 use Rattle.arc_lex.specs.Tokens.{Tok}
 use Rattle.arc_form.specs.Kinds.{Kinds, is}
 use Rattle.arc_form.specs.Reader.{Read, Reader, Fault, misfit, too_deep, bind, ◌>>=◌, ret, unexpected, too_deep_here, second_unexpected, sees, sees_two, if_sees, taken, take_one, turns, loop, is_above, nested, goes_over, up_to}
 use Rattle.arc_form.specs.Form.{Limits, unlimited, Form, Bodies, token, give, call, map, ◌⨾◌, choose, many, or_none, nest, bounded, two_ahead, avoid, run, read}
 use Rattle.arc_form.specs.Meaning.{AtMost, Spelling, SpellsAll, SpellsBy, Spells}
 use Rattle.arc_form.specs.Places.{Place, Begun, OneTooMany, PassesBy, PassesWithin, Passes}
-use Rattle.arc_form.proofs.Static.{Facts, nullable, guarded, decided, fits, of_then, of_choose, of_many, of_headed, of_bounded, of_two_ahead, of_avoid, of_fits}
+use Rattle.arc_form.proofs.Static.{Facts, Decided, Fits}
 use Rattle.arc_form.proofs.Local.{rest_of, fault_of}
-use Rattle.arc_form.proofs.FormLocal.{form_front, form_left, read_is, solid}
+use Rattle.arc_form.proofs.FormLocal.{ok_left, read_is}
+use Rattle.arc_form.proofs.FormReading.{Property, OfParts, under, reading, by_reading}
 use Rattle.arc_form.proofs.FormSound.{Sound, form_sound, at_most}
 use Rattle.arc_form.proofs.FormStarts.{form_fair}
-use Rattle.arc_form.proofs.FormComplete.{stops_fewer}
 use Rattle.arc_form.proofs.FormFirm.{Firm, form_firm}
-use Rattle.arc_form.proofs.FormStuck.{Bound, bound_less, bound_next, or_here, or_there, or_next, form_stuck}
+use Rattle.arc_form.proofs.FormStuck.{form_stuck}
+use Rattle.arc_form.proofs.FormBegins.{map_fails}
 use Rattle.arc_form.proofs.FormBelow.{over_takes}
 
 -- the tokens from r on come after some at which P holds
@@ -24,10 +25,10 @@ Told P ts r = (before : List Tok) × (ts ≡ before ++ r) × P before r
 pub record Tells {A : Type 0} (f : Reader A) (P : Place) (ts : List Tok) : Type 0 where
   pub each : (r : List Tok) → f ts ≡ Err (too_deep, r) → Told P ts r
 
-not_deep : misfit ≡ too_deep → ⊥
+pub not_deep : misfit ≡ too_deep → ⊥
 not_deep e = cc
 
-ok_not_err : {A : Type 0} {x : A × List Tok} {e : Fault × List Tok} {y : Read A} → y ≡ Ok x → y ≡ Err e → ⊥
+pub ok_not_err : {A : Type 0} {x : A × List Tok} {e : Fault × List Tok} {y : Read A} → y ≡ Ok x → y ≡ Err e → ⊥
 ok_not_err p q = cc
 
 tells_as : {A : Type 0} {f : Reader A} {P Q : Place} {ts : List Tok} → Tells f P ts → ((before r : List Tok) → P before r → Q before r) → Tells f Q ts
@@ -59,10 +60,8 @@ tells_then : {A B D : Type 0} {f : Reader A} {g : Reader B} {M : Spelling A} {P 
 tells_then {A = A} {B = B} {D = D} {f = f} {g = g} {M = M} {P = P} {Q = Q} {ts = ts} make s t u = record { each = λ r e. go r (f ts) refl e }
   where
     later : (a : A) (xs v : List Tok) → ts ≡ xs ++ v → M a v xs → Tells g Q v → (r : List Tok) (x : Read B) → g v ≡ x → bind x (λ b. ret (make a b)) ≡ Err (too_deep, r) → Told (FirstOrSecond P M Q) ts r
-    later a xs v c m t r (Ok x) q e = cc
-    later a xs v c m t r (Err x) q e =
-        let same : x ≡ (too_deep, r) = cc in
-        let k = t.each r (q ∙ ap (λ v. Err v) same) in
+    later a xs v c m t r x q e =
+        let k = t.each r (q ∙ map_fails x (make a) (too_deep, r) e) in
         (xs ++ k.0, c ∙ ap (λ w. xs ++ w) k.1 ∙ sym (append_assoc xs k.0 r), inr (a, xs, k.0, refl, subst (λ w. M a w xs) k.1 m, k.2))
 
     go : (r : List Tok) (x : Read A) → f ts ≡ x → bind x (λ a. g >>= (λ b. ret (make a b))) ≡ Err (too_deep, r) → Told (FirstOrSecond P M Q) ts r
@@ -116,32 +115,15 @@ divide n [] p = absurd (omega (arith, p))
 divide zero (t ∷ ts) p = ([], t, ts, refl, refl, refl)
 divide (suc n) (t ∷ ts) p = let q = divide n ts (omega (arith, p)) in (t ∷ q.0, q.1, q.2, ap (λ v. t ∷ v) q.3, ap suc q.4, q.5)
 
--- of two fronts of a list, the longer one
-longer : (before : List Tok) (t : Tok) (r xs s : List Tok) → before ++ t ∷ r ≡ xs ++ s → length before < length xs → (c : List Tok) × (xs ≡ before ++ t ∷ c)
-longer before t r [] s e p = absurd (omega (arith, p))
-longer [] t r (x ∷ xs) s e p = let same : t ≡ x = cc in (xs, ap (λ v. v ∷ xs) (sym same))
-longer (b ∷ before) t r (x ∷ xs) s e p =
-    let same : b ≡ x = cc in
-    let tails : before ++ t ∷ r ≡ xs ++ s = cc in
-    let q = longer before t r xs s tails (omega (arith, p)) in
-    (q.0, ap (λ v. v ∷ xs) (sym same) ∙ ap (λ v. b ∷ v) q.1)
-
-less_or_same : (m n : ℕ) → m ≤ n → (m < n) ⊎ (m ≡ n)
-less_or_same m n p = go (nat_lt m n) refl
-  where
-    go : (b : Bool) → nat_lt m n ≡ b → (m < n) ⊎ (m ≡ n)
-    go true e = inl (ltb-true m n e)
-    go false e = let q = ltb-false m n e in inr (omega (arith, p, q))
-
-as_long : (before : List Tok) (t : Tok) (r xs s : List Tok) → before ++ t ∷ r ≡ xs ++ s → length before ≡ length xs → (xs ≡ before) × (s ≡ t ∷ r)
-as_long [] t r [] s e p = (refl, sym e)
-as_long [] t r (x ∷ xs) s e p = absurd (omega (arith, p))
-as_long (b ∷ before) t r [] s e p = absurd (omega (arith, p))
-as_long (b ∷ before) t r (x ∷ xs) s e p =
-    let same : b ≡ x = cc in
-    let tails : before ++ t ∷ r ≡ xs ++ s = cc in
-    let q = as_long before t r xs s tails (omega (arith, p)) in
-    (ap (λ v. x ∷ v) q.0 ∙ ap (λ v. v ∷ before) (sym same), q.1)
+-- of two fronts of a list, the longer one goes on from the other
+pub longer : (b s c r : List Tok) → b ++ s ≡ c ++ r → length b ≤ length c → (m : List Tok) × (c ≡ b ++ m) × (s ≡ m ++ r)
+longer [] s c r e p = (c, refl, e)
+longer (t ∷ b) s [] r e p = absurd (omega (arith, p))
+longer (t ∷ b) s (u ∷ c) r e p =
+    let same : t ≡ u = cc in
+    let tails : b ++ s ≡ c ++ r = cc in
+    let q = longer b s c r tails (omega (arith, p)) in
+    (q.0, ap (λ v. v ∷ c) (sym same) ∙ ap (λ v. t ∷ v) q.1, q.2)
 
 module _ {N : Type 0} {Node : N → Type 0} (body : Bodies N Node) where
   -- without limits none is passed
@@ -168,18 +150,18 @@ module _ {N : Type 0} {Node : N → Type 0} (body : Bodies N Node) where
   nowhere_within zero n before r x = x
   nowhere_within (suc h) n before r x = nowhere (PassesWithin body h) (nowhere_within h) (body n) before r x
 
-  module _ (facts : N → Facts) (sure : (n : N) → fits facts body n ≡ true) where
+  module _ (facts : N → Facts) (sure : (n : N) → Fits facts body n) where
     abbrev plain : {A : Type 0} → Form N Node A → Reader A
     plain f = run (read body) unlimited f
 
-    alone : {A : Type 0} (f : Form N Node A) → decided facts f ≡ true → (a : A) (r xs : List Tok) → SpellsBy (Spells body) unlimited f a r xs → SpellsBy (Spells body) unlimited f a [] xs
+    alone : {A : Type 0} (f : Form N Node A) → Decided facts f → (a : A) (r xs : List Tok) → SpellsBy (Spells body) unlimited f a r xs → SpellsBy (Spells body) unlimited f a [] xs
     alone f d a r xs x = form_fair facts body sure unlimited f d a r [] xs x (inl refl)
 
     abbrev Far : {A : Type 0} → Form N Node A → List Tok → Tok → Type 0
     Far {A} f before t = Begun body f before × ((a : A) → SpellsBy (Spells body) unlimited f a [] before → Begun body f (before ++ t ∷ []))
 
     -- a token that is one too many
-    one_too_many : (n : ℕ) (A : Type 0) (f : Form N Node A) → decided facts f ≡ true → (ts : List Tok) → goes_over n ts (plain f ts) ≡ true → Told (OneTooMany body (Some n) f) ts (drop n ts)
+    one_too_many : (n : ℕ) (A : Type 0) (f : Form N Node A) → Decided facts f → (ts : List Tok) → goes_over n ts (plain f ts) ≡ true → Told (OneTooMany body (Some n) f) ts (drop n ts)
     one_too_many n A f d ts o =
         let p = over_takes n ts (plain f ts) o in
         let q = divide n ts p.0 in
@@ -202,29 +184,26 @@ module _ {N : Type 0} {Node : N → Type 0} (body : Bodies N Node) where
         of : (x : Read A) → plain f ts ≡ x → goes_over n ts x ≡ true → (before : List Tok) (t : Tok) (r : List Tok) → ts ≡ before ++ t ∷ r → length before ≡ n → Far f before t
         of (Ok x) e o before t r c l =
             let s = (form_sound body unlimited f).each ts x.0 x.1 e in
-            let p = over_ok (length x.1) o in
-            let m = longer before t r s.0 x.1 (sym c ∙ s.1) (omega (arith, p, l, ap length s.1, length-append s.0 x.1)) in
-            far before t m.0 x.0 s.0 (alone f d x.0 x.1 s.0 s.2) m.1
+            let p = ltb-true (length x.1 + n) (length ts) o in
+            let m = longer before (t ∷ r) s.0 x.1 (sym c ∙ s.1) (omega (arith, p, l, ap length s.1, length-append s.0 x.1)) in
+            more m.0 m.1 m.2 (alone f d x.0 x.1 s.0 s.2) (omega (arith, p, l, ap length s.1, length-append s.0 x.1))
           where
-            over_ok : (k : ℕ) → nat_lt (k + n) (length ts) ≡ true → k + n < length ts
-            over_ok k o = ltb-true (k + n) (length ts) o
+            more : (m : List Tok) {xs : List Tok} → xs ≡ before ++ m → t ∷ r ≡ m ++ x.1 → SpellsBy (Spells body) unlimited f x.0 [] xs → length before < length xs → Far f before t
+            more [] {xs} k q y p = absurd (omega (arith, p, ap length k, length-append before []))
+            more (u ∷ m) {xs} k q y p = let same : u ≡ t = cc in far before t m x.0 xs y (k ∙ ap (λ v. before ++ v ∷ m) same)
         of (Err (y, s)) e o before t r c l =
             let z : Read A = Err (y, s) in
             let p = over_takes n ts z o in
             let k = (form_stuck facts body sure A f d ts).each y s e in
-            let x : SpellsBy (Spells body) unlimited f k.2 [] (k.0 ++ k.1) = k.4 [] refl in
-            more k.0 k.1 k.2 k.3 x (less_or_same (length before) (length k.0) (omega (arith, p.1, ap length k.3, length-append k.0 s, l)))
+            let m = longer before (t ∷ r) k.0 s (sym c ∙ k.3) (omega (arith, p.1, ap length k.3, length-append k.0 s, l)) in
+            more m.0 k.1 k.2 m.2 (subst (SpellsBy (Spells body) unlimited f k.2 []) (ap (λ v. v ++ k.1) m.1 ∙ append_assoc before m.0 k.1) (k.4 [] refl))
           where
-            more : (xs others : List Tok) (a : A) → ts ≡ xs ++ s → SpellsBy (Spells body) unlimited f a [] (xs ++ others) → (length before < length xs) ⊎ (length before ≡ length xs) → Far f before t
-            more xs others a k x (inl p) =
-                let m = longer before t r xs s (sym c ∙ k) p in
-                far before t (m.0 ++ others) a (xs ++ others) x (ap (λ v. v ++ others) m.1 ∙ append_assoc before (t ∷ m.0) others)
-            more xs others a k x (inr p) =
-                let m = as_long before t r xs s (sym c ∙ k) p in
-                ((a, others, subst (λ v. SpellsBy (Spells body) unlimited f a [] (v ++ others)) m.0 x), λ b w. absurd (stopped y s e before (c ∙ ap (λ v. before ++ v) (sym m.1)) b w))
+            more : (m others : List Tok) (a : A) → t ∷ r ≡ m ++ s → SpellsBy (Spells body) unlimited f a [] (before ++ (m ++ others)) → Far f before t
+            more [] others a q x = ((a, others, x), λ b w. absurd (stopped y s e before (c ∙ ap (λ v. before ++ v) q) b w))
+            more (u ∷ m) others a q x = let same : u ≡ t = cc in far before t (m ++ others) a (before ++ u ∷ (m ++ others)) x (ap (λ v. before ++ v ∷ (m ++ others)) same)
 
     -- under the limit itself, or in it
-    tells_bounded : (most : Option ℕ) (A : Type 0) (f : Form N Node A) → decided facts f ≡ true → (ts : List Tok) → ((r : List Tok) → plain f ts ≡ Err (too_deep, r) → ⊥) → Tells (up_to most (plain f)) (OneTooMany body most f) ts
+    tells_bounded : (most : Option ℕ) (A : Type 0) (f : Form N Node A) → Decided facts f → (ts : List Tok) → ((r : List Tok) → plain f ts ≡ Err (too_deep, r) → ⊥) → Tells (up_to most (plain f)) (OneTooMany body most f) ts
     unfolding up_to
     tells_bounded None A f d ts never = record { each = λ r e. absurd (never r e) }
     tells_bounded (Some n) A f d ts never = record { each = λ r e. go r (goes_over n ts (plain f ts)) refl e }
@@ -233,85 +212,43 @@ module _ {N : Type 0} {Node : N → Type 0} (body : Bodies N Node) where
         go r true o e = let same : drop n ts ≡ r = ap (λ (z : Read A). rest_of z) e in subst (Told (OneTooMany body (Some n) f) ts) same (one_too_many n A f d ts o)
         go r false o e = absurd (never r e)
 
-    module _ (h k : ℕ) (rec : (limits : Limits) (n : N) (ts : List Tok) → length ts < k → Tells (read body limits n) (PassesWithin body h limits n) ts) where
-      abbrev Second : Limits → {A : Type 0} → Form N Node A → List Tok → Type 0
-      Second limits g s = Tells (run (read body) limits g) (PassesBy body (PassesWithin body h) limits g) s
+    abbrev TellsAt : Property N Node
+    TellsAt o A f ts = Tells (reading body o f) (Passes body (under o) f) ts
 
-      left_ok : (limits : Limits) {A : Type 0} (f : Form N Node A) → decided facts f ≡ true → (a : A) (us s : List Tok) → run (read body) limits f us ≡ Ok (a, s) → length s ≤ length us
-      left_ok limits f d a us s e = omega (arith, form_left facts body sure limits f d us, ap (λ x. length (rest_of x)) e)
-
-      tells : (b : Bool) (limits : Limits) (A : Type 0) (f : Form N Node A) → decided facts f ≡ true → (b || guarded facts f) ≡ true → (ts : List Tok) → Bound b k ts
-          → Tells (run (read body) limits f) (PassesBy body (PassesWithin body h) limits f) ts
-      unfolding loop
-      tells b limits A (token T g) d e ts p = tells_token T g (λ before r. ⊥) ts
-      tells b limits A (give a) d e ts p = tells_ret a
-      tells true limits A (call n) d e ts p = rec limits n ts p
-      tells false limits A (call n) d e ts p = cc
-      tells b limits A (map {A = B} v f) d e ts p = tells_map (tells b limits B f d e ts p)
-        where
-          tells_map : Tells (run (read body) limits f) (PassesBy body (PassesWithin body h) limits f) ts → Tells (run (read body) limits (map v f)) (PassesBy body (PassesWithin body h) limits f) ts
-          tells_map t = record { each = λ r e. go r (run (read body) limits f ts) refl e }
-            where
-              go : (r : List Tok) (x : Read B) → run (read body) limits f ts ≡ x → bind x (λ a. ret (v a)) ≡ Err (too_deep, r) → Told (PassesBy body (PassesWithin body h) limits f) ts r
-              go r (Ok x) q e = cc
-              go r (Err x) q e = let same : x ≡ (too_deep, r) = cc in t.each r (q ∙ ap (λ z. Err z) same)
-      tells b limits A (◌⨾◌ {A = B} {B = C} f g) d e ts p =
-          let o = of_then facts f g d in
-          tells_then (λ a c. (a, c)) (form_sound body limits f) (tells b limits B f o.left (or_here b (guarded facts f) (not (nullable facts f) || guarded facts g) e) ts p)
-          (λ a s q. later a s q (nullable facts f) refl (tells true limits C g o.right refl s) (λ m. tells b limits C g o.right m s))
-        where
-          if_empty : (n : Bool) → nullable facts f ≡ n → n ≡ true → (b || (guarded facts f && (not (nullable facts f) || guarded facts g))) ≡ true → (b || guarded facts g) ≡ true
-          if_empty true z w h = or_next b (guarded facts f) (guarded facts g) (ap (λ n. b || (guarded facts f && (not n || guarded facts g))) (sym z) ∙ h)
-          if_empty false z w h = cc
-
-          later : (a : B) (s : List Tok) → run (read body) limits f ts ≡ Ok (a, s) → (n : Bool) → nullable facts f ≡ n → (length s < k → Second limits g s) → ((b || guarded facts g) ≡ true → Bound b k s → Second limits g s) → Second limits g s
-          later a s q true z m m' = m' (if_empty true z refl e) (bound_less b k ts s (left_ok limits f (of_then facts f g d).left a ts s q) p)
-          later a s q false z m m' = m (bound_next b k ts s (stops_fewer (run (read body) limits f ts) a s ((solid (nullable facts f) z (form_front facts body sure limits f (of_then facts f g d).left (suc (length ts)))).each ts (omega arith)) q) p)
-      tells b limits A (choose T f g) d e ts p =
-          let o = of_choose facts T f g d in
-          tells_if (sees T) (λ q. tells_as (tells b limits A f o.left (or_here b (guarded facts f) (guarded facts g) e) ts p) (λ before r x. inl x))
-          (λ q. tells_as (tells b limits A g o.right (or_there b (guarded facts f) (guarded facts g) e) ts p) (λ before r x. inr x))
-      tells b limits A (many {A = B} T f) d e ts p =
-          let o = of_many facts T f d in
-          tells_loop (left_ok limits f o.each) (λ us q. tells b limits B f o.each e us (bound_less b k ts us q p))
-        where
-          tells_loop : ((a : B) (us s : List Tok) → run (read body) limits f us ≡ Ok (a, s) → length s ≤ length us) → ((us : List Tok) → length us ≤ length ts → Tells (run (read body) limits f) (PassesBy body (PassesWithin body h) limits f) us)
-              → Tells (run (read body) limits (many T f)) (PassesBy body (PassesWithin body h) limits (many T f)) ts
-          tells_loop left t = record { each = λ r e. (tells_turns (suc (length ts)) T (form_sound body limits f) ts left t).each r e }
-      tells b limits A (or_none T f a) d e ts p = tells_if (sees T) (λ q. tells b limits A f (of_headed facts T f d).each e ts p) (λ q. tells_ret a)
-      tells b limits A (nest m T f) d e ts p = tells_nested limits.depth m T (tells b limits A f (of_headed facts T f d).each e ts p)
-      tells b limits A (bounded f) d e ts p =
-          let o = of_bounded facts f d in
-          let t = tells b unlimited A f o.each e ts p in
-          tells_bounded limits.tokens A f o.each ts (λ r q. let x = t.each r q in nowhere (PassesWithin body h) (nowhere_within h) f x.0 r x.2)
-      tells b limits A (two_ahead T U f g) d e ts p =
-          let o = of_two_ahead facts T U f g d in
-          tells_if (sees_two T U) (λ q. tells_as (tells b limits A f o.left (or_here b (guarded facts f) (guarded facts g) e) ts p) (λ before r x. inl x))
-          (λ q. not_both q (tells b limits A g o.right (or_there b (guarded facts f) (guarded facts g) e) ts p))
-        where
-          not_both : sees_two T U ts ≡ false → Tells (run (read body) limits g) (PassesBy body (PassesWithin body h) limits g) ts → Tells (run (read body) limits g) (PassesBy body (PassesWithin body h) limits (two_ahead T U f g)) ts
-          not_both q t = record { each = λ r e. let x = t.each r e in (x.0, x.1, inr (x.2, ap (sees_two T U) (sym x.1) ∙ q)) }
-      tells b limits A (avoid T U f) d e ts p = tells_if (sees_two T U) (λ q. tells_second) (λ q. not_both q (tells b limits A f (of_avoid facts T U f d).each e ts p))
-        where
-          not_both : sees_two T U ts ≡ false → Tells (run (read body) limits f) (PassesBy body (PassesWithin body h) limits f) ts → Tells (run (read body) limits f) (PassesBy body (PassesWithin body h) limits (avoid T U f)) ts
-          not_both q t = record { each = λ r e. let x = t.each r e in (x.0, x.1, (x.2, ap (sees_two T U) (sym x.1) ∙ q)) }
-
-    read_tells : (k : ℕ) (limits : Limits) (n : N) (ts : List Tok) → length ts < k → Tells (read body limits n) (PassesWithin body k limits n) ts
-    unfolding PassesWithin
-    read_tells zero limits n ts p = absurd (omega arith)
-    read_tells (suc k) limits n ts p =
-        let o = of_fits facts body n (sure n) in
-        let t = tells k k (read_tells k) false limits (Node n) (body n) o.sure o.guard ts p in
-        record { each = λ r e. t.each r (sym (read_is facts body sure limits n ts) ∙ e) }
+    tells : (o : Option Limits) (A : Type 0) (f : Form N Node A) → Decided facts f → (ts : List Tok) → OfParts body TellsAt o A f ts → TellsAt o A f ts
+    unfolding loop PassesWithin
+    tells o A (token T g) d ts x = tells_token T g (Passes body (under o) (token T g)) ts
+    tells o A (give a) d ts x = tells_ret a
+    tells o A (call n) d ts x = record { each = λ r e. let p = x.each r (sym (read_is facts body sure (under o) n ts) ∙ e) in (p.0, p.1, (suc p.2.0, p.2.1)) }
+    tells o A (map v f) d ts x = record { each = λ r e. x.each r (map_fails (reading body o f ts) v (too_deep, r) e) }
+    tells o A (f ⨾ g) d ts (x, y) = tells_as (tells_then (λ a c. (a, c)) (form_sound body (under o) f) x y) either
+      where
+        either : (before r : List Tok) → FirstOrSecond (Passes body (under o) f) (SpellsBy (Spells body) (under o) f) (Passes body (under o) g) before r → Passes body (under o) (f ⨾ g) before r
+        either before r (inl (h, p)) = (h, inl p)
+        either before r (inr (a, ys, zs, c, m, (h, p))) = (h, inr (a, ys, zs, c, m, p))
+    tells o A (choose T f g) d ts (x, y) = tells_if (sees T) (λ q. tells_as x (λ before r p. (p.0, inl p.1))) (λ q. tells_as y (λ before r p. (p.0, inr p.1)))
+    tells o A (many T f) (d, p) ts x =
+        let t = tells_turns (suc (length ts)) T (form_sound body (under o) f) ts (ok_left facts body sure (under o) f d) x in
+        record { each = λ r e. let p = t.each r e in let q = p.2 in (p.0, p.1, (q.5.0, (q.0, q.1, q.2, q.3, q.4, q.5.1))) }
+    tells o A (or_none T f a) d ts x = tells_if (sees T) (λ q. x) (λ q. tells_ret a)
+    tells o A (nest m T f) d ts x = tells_as (tells_nested (under o).depth m T x) either
+      where
+        either : (before r : List Tok) → (AtMost (under o).depth m × Passes body (under o) f before r) ⊎ ((is_above (under o).depth m ≡ true) × (before ≡ []) × (sees T r ≡ true)) → Passes body (under o) (nest m T f) before r
+        either before r (inl (q, (h, p))) = (h, inl (q, p))
+        either before r (inr p) = (0, inr p)
+    tells o A (bounded f) (d, p) ts x =
+        tells_as (tells_bounded (under o).tokens A f d ts (λ r q. let y = x.each r q in nowhere (PassesWithin body y.2.0) (nowhere_within y.2.0) f y.0 r y.2.1)) (λ before r p. (0, p))
+    tells o A (two_ahead T U f g) d ts (x, y) =
+        tells_if (sees_two T U) (λ q. tells_as x (λ before r p. (p.0, inl p.1))) (λ q. record { each = λ r e. let p = y.each r e in (p.0, p.1, (p.2.0, inr (p.2.1, ap (sees_two T U) (sym p.1) ∙ q))) })
+    tells o A (avoid T U f) d ts x =
+        tells_if (sees_two T U) (λ q. tells_second) (λ q. record { each = λ r e. let p = x.each r e in (p.0, p.1, (p.2.0, (p.2.1, ap (sees_two T U) (sym p.1) ∙ q))) })
 
     -- where a form refuses a token as too deep, it passes a limit there
-    pub form_tells : (limits : Limits) (A : Type 0) (f : Form N Node A) → decided facts f ≡ true → (ts : List Tok) → Tells (run (read body) limits f) (Passes body limits f) ts
-    form_tells limits A f d ts =
-        let k = suc (length ts) in
-        tells_as (tells k k (read_tells k) true limits A f d refl ts (omega arith)) (λ before r x. (k, x))
+    pub form_tells : (limits : Limits) (A : Type 0) (f : Form N Node A) → Decided facts f → (ts : List Tok) → Tells (run (read body) limits f) (Passes body limits f) ts
+    form_tells limits A f d ts = by_reading body facts sure TellsAt tells (Some limits) A f d ts
 
     -- without limits no token is too deep
-    pub never_deep : (A : Type 0) (f : Form N Node A) → decided facts f ≡ true → (ts r : List Tok) (y : Fault) → run (read body) unlimited f ts ≡ Err (y, r) → y ≡ misfit
+    pub never_deep : (A : Type 0) (f : Form N Node A) → Decided facts f → (ts r : List Tok) (y : Fault) → run (read body) unlimited f ts ≡ Err (y, r) → y ≡ misfit
     never_deep A f d ts r misfit e = refl
     never_deep A f d ts r too_deep e =
         let x = (form_tells unlimited A f d ts).each r e in

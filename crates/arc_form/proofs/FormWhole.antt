@@ -1,14 +1,13 @@
 -- All of the tokens: what is read of them is what they spell, and each refusal says where and why they spell nothing.
-use Rattle.std.proofs.Common.{◌≡◌, ◌⊎◌, inl, inr, suc, List, [], ◌∷◌, ◌++◌, length, append_assoc, append-nil, Ok, Err, true, false, Some, None, refl, sym, ap, subst, ◌∙◌, arith}
+use Rattle.std.proofs.Common.{◌≡◌, ◌⊎◌, inl, inr, suc, List, [], ◌∷◌, ◌++◌, length, append_assoc, append-nil, Ok, Err, Some, None, refl, sym, ap, subst, ◌∙◌, arith}
 use Rattle.std.proofs.lemmas.List.{append_cancel_right}
 use Rattle.arc_lex.specs.Tokens.{Tok}
-use Rattle.arc_form.specs.Kinds.{Kinds}
-use Rattle.arc_form.specs.Reader.{Read, Reader, Fault, misfit, too_deep, bind, ret, first, sees}
+use Rattle.arc_form.specs.Reader.{Read, Reader, Fault, misfit, too_deep, bind, ret, first}
 use Rattle.arc_form.specs.Form.{Limits, unlimited, Form, Bodies, run, read}
 use Rattle.arc_form.specs.Meaning.{SpellsBy, Spells}
 use Rattle.arc_form.specs.Places.{Begun, Passes}
 use Rattle.arc_form.specs.Whole.{SpellsWhole, end, read_whole, FitsNone}
-use Rattle.arc_form.proofs.Static.{Facts, nullable, decided, fits}
+use Rattle.arc_form.proofs.Static.{Facts, nullable, Decided, Fits}
 use Rattle.arc_form.proofs.Local.{StopsAt, rest_of, fault_of, put}
 use Rattle.arc_form.proofs.FormLocal.{need, form_local}
 use Rattle.arc_form.proofs.FormSound.{ok_is, form_sound}
@@ -17,27 +16,18 @@ use Rattle.arc_form.proofs.FormStarts.{form_fair}
 use Rattle.arc_form.proofs.FormComplete.{form_complete}
 use Rattle.arc_form.proofs.FormStuck.{form_stuck}
 use Rattle.arc_form.proofs.FormBelow.{Deeper, form_below}
-use Rattle.arc_form.proofs.FormTell.{Told, form_tells}
-
-ok_not_err : {A : Type 0} {x : A × List Tok} {e : Fault × List Tok} {y : Read A} → y ≡ Ok x → y ≡ Err e → ⊥
-ok_not_err p q = cc
-
-not_both : misfit ≡ too_deep → ⊥
-not_both e = cc
+use Rattle.arc_form.proofs.FormTell.{Told, not_deep, ok_not_err, form_tells}
 
 -- two fronts of a list, of which the second has no less left
 front_of : (b c r s m : List Tok) → b ++ r ≡ c ++ s → r ≡ m ++ s → c ≡ b ++ m
 front_of b c r s m e f = append_cancel_right c (b ++ m) s (sym e ∙ ap (λ v. b ++ v) f ∙ sym (append_assoc b m s))
 
-module _ {N : Type 0} {Node : N → Type 0} (facts : N → Facts) (body : Bodies N Node) (sure : (n : N) → fits facts body n ≡ true) (A : Type 0) (f : Form N Node A) (d : decided facts f ≡ true) where
+module _ {N : Type 0} {Node : N → Type 0} (facts : N → Facts) (body : Bodies N Node) (sure : (n : N) → Fits facts body n) (A : Type 0) (f : Form N Node A) (d : Decided facts f) where
   abbrev pub limited : Limits → Reader A
   limited limits = run (read body) limits f
 
   abbrev pub plain : Reader A
   plain = run (read body) unlimited f
-
-  seen_end : (T : Kinds) → sees T [] ≡ false
-  seen_end T = refl
 
   -- what spells a value before some tokens spells it alone
   pub alone : (limits : Limits) (a : A) (r xs : List Tok) → SpellsBy (Spells body) limits f a r xs → SpellsWhole body limits f a xs
@@ -82,7 +72,7 @@ module _ {N : Type 0} {Node : N → Type 0} (facts : N → Facts) (body : Bodies
 
   -- and without them
   pub whole_spelled : (limits : Limits) (ts : List Tok) (a : A) (r : List Tok) → read_whole body limits f ts ≡ Ok (a, r) → SpellsWhole body unlimited f a ts
-  whole_spelled limits ts a r e = spelled_so unlimited ts a (not_deeper (limited limits ts) (plain ts) a [] (whole_ok limits ts a r e) ((form_below facts body sure limits A f d).each ts))
+  whole_spelled limits ts a r e = spelled_so unlimited ts a (not_deeper (limited limits ts) (plain ts) a [] (whole_ok limits ts a r e) (form_below facts body sure limits A f d ts))
 
   -- the tokens spell nothing else
   pub whole_alone : (limits : Limits) (ts : List Tok) (a other : A) (r : List Tok) → read_whole body limits f ts ≡ Ok (a, r) → SpellsWhole body unlimited f other ts → other ≡ a
@@ -129,7 +119,7 @@ module _ {N : Type 0} {Node : N → Type 0} (facts : N → Facts) (body : Bodies
   -- a token that does not fit, or the end
   pub whole_misfit : (limits : Limits) (ts rest : List Tok) → read_whole body limits f ts ≡ Err (misfit, rest) → (before : List Tok) × (ts ≡ before ++ rest) × FitsNone body f before rest
   unfolding read_whole
-  whole_misfit limits ts rest e = go (limited limits ts) refl e ((form_below facts body sure limits A f d).each ts)
+  whole_misfit limits ts rest e = go (limited limits ts) refl e (form_below facts body sure limits A f d ts)
     where
       told : (x : Read A) → plain ts ≡ x → rest_of x ≡ rest → ((a : A) → x ≡ Ok (a, []) → ⊥) → (before : List Tok) × (ts ≡ before ++ rest) × FitsNone body f before rest
       told x q r whole =
@@ -140,7 +130,7 @@ module _ {N : Type 0} {Node : N → Type 0} (facts : N → Facts) (body : Bodies
       go (Ok x) q h (inl p) = absurd (ok_not_err q p.refused)
       go (Err x) q h (inl p) =
           let same : x ≡ (misfit, rest) = cc in
-          absurd (not_both (ap (λ (z : Read A). fault_of z) (sym (q ∙ ap (λ v. Err v) same) ∙ p.refused)))
+          absurd (not_deep (ap (λ (z : Read A). fault_of z) (sym (q ∙ ap (λ v. Err v) same) ∙ p.refused)))
       go (Ok x) q h (inr p) =
           let m = end_misfit x.0 x.1 rest misfit h in
           told (Ok x) (sym p ∙ q) m.1 (λ a z. some m.4 (ok_is z).1)
@@ -152,7 +142,7 @@ module _ {N : Type 0} {Node : N → Type 0} (facts : N → Facts) (body : Bodies
   -- a token that passes a limit: without limits something goes on with what is before it
   pub whole_too_deep : (limits : Limits) (ts rest : List Tok) → read_whole body limits f ts ≡ Err (too_deep, rest) → (before : List Tok) × (ts ≡ before ++ rest) × Passes body limits f before rest × Begun body f before
   unfolding read_whole
-  whole_too_deep limits ts rest e = go (limited limits ts) refl e ((form_below facts body sure limits A f d).each ts)
+  whole_too_deep limits ts rest e = go (limited limits ts) refl e (form_below facts body sure limits A f d ts)
     where
       further : (p : Told (Passes body limits f) ts rest) → (m : List Tok) → rest ≡ m ++ rest_of (plain ts) → (before : List Tok) × (ts ≡ before ++ rest) × Passes body limits f before rest × Begun body f before
       further p m c =

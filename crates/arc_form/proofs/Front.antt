@@ -5,7 +5,7 @@ use Rattle.arc_lex.specs.declared.token.Token.{Token}
 use Rattle.arc_lex.specs.Tokens.{Tok, tok, toks}
 use Rattle.arc_form.specs.Reader.{Read, Reader, Fault, too_deep, first, goes_over, up_to}
 use Rattle.arc_form.specs.Form.{unlimited, Form, Bodies, bounded, run, read}
-use Rattle.arc_form.proofs.Static.{Facts, nullable, decided, fits, of_bounded}
+use Rattle.arc_form.proofs.Static.{Facts, nullable, Decided, Fits}
 use Rattle.arc_form.proofs.Local.{StopsAt, Local, rest_of, put, left_of}
 use Rattle.arc_form.proofs.FormLocal.{solid, form_local}
 use Rattle.arc_form.proofs.FormBegins.{form_takes}
@@ -213,8 +213,6 @@ module _ {A : Type 0} {S : Type 0} (so : S) (n : ℕ) (f : Reader A) (loc : Alwa
       fits_so (Err (y, toks rest)) e refl (and_no (nat_lt n (length (toks ahead))) _ (le-ltb (length (toks rest) + n) (suc (length (toks ahead))) (omega (arith, p, rest_short y e, length_toks ahead, length_toks rest)))) d
 
 -- a form without limits takes a token at least and stops as its tokens decide
-pub form_always : {N : Type 0} {Node : N → Type 0} (facts : N → Facts) (body : Bodies N Node) (sure : (n : N) → fits facts body n ≡ true) (n : ℕ) {A : Type 0} (f : Form N Node A)
-    → decided facts (bounded f) ≡ true → AlwaysLocal {S = unlimited ≡ unlimited} refl n (run (read body) unlimited f)
-form_always facts body sure n f d k =
-    let p = of_bounded facts f d in
-    solid (nullable facts f) p.some (form_local facts body sure (form_takes facts body sure) f p.each k)
+pub form_always : {N : Type 0} {Node : N → Type 0} (facts : N → Facts) (body : Bodies N Node) (sure : (n : N) → Fits facts body n) (n : ℕ) {A : Type 0} (f : Form N Node A)
+    → Decided facts (bounded f) → AlwaysLocal {S = unlimited ≡ unlimited} refl n (run (read body) unlimited f)
+form_always facts body sure n f d k = solid (nullable facts f) d.1 (form_local facts body sure (form_takes facts body sure) f d.0 k)

@@ -3,6 +3,8 @@ pub mod Samples
 pub mod Static
 pub mod Local
 pub mod FormLocal
+pub mod FormReading
+pub mod FormHeights
 pub mod FormSound
 pub mod FormBegins
 pub mod FormStarts

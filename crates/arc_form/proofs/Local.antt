@@ -44,6 +44,11 @@ first_after (t ∷ b) m r e = refl
 pub left_of : {A : Type 0} {S : Type 0} {d : ℕ} {h : Reader A} {ts : List Tok} (x : Read A) → StopsAt S d x h ts → length (rest_of x) ≤ length ts
 left_of x s = omega (arith, length-append s.before (rest_of x), ap length s.cut)
 
+pub stops_fewer : {A : Type 0} {h : Reader A} {ts : List Tok} (x : Read A) (a : A) (r : List Tok) → StopsAt ⊥ 1 x h ts → x ≡ Ok (a, r) → length r < length ts
+stops_fewer {h = h} {ts = ts} x a r s e =
+    let t : StopsAt ⊥ 1 (Ok (a, r)) h ts = subst (λ v. StopsAt ⊥ 1 v h ts) e s in
+    omega (arith, length-append t.before r, ap length t.cut, t.moves)
+
 moves_more : {B : Type 0} (d e : ℕ) (y : Read B) (b c : List Tok) → d ≤ length b → Moves e y c → Moves (d + e) y (b ++ c)
 moves_more d e (Ok y) b c m n = omega (arith, length-append b c)
 moves_more d e (Err y) b c m n = tt
@@ -87,11 +92,9 @@ after {f = f} {h = h} {g = g} {g' = g'} l m = record { each = λ ts few. stops_b
 pub local_ret : {A : Type 0} {S : Type 0} {k : ℕ} (a : A) → Local S 0 k (ret a) (ret a)
 local_ret a = record { each = λ ts few. record { before = []; cut = refl; moves = omega arith; agrees = refl; same = λ so more e. refl } }
 
-pub local_unexpected : {A : Type 0} {S : Type 0} {d k : ℕ} → Local {A = A} S d k unexpected unexpected
-local_unexpected = record { each = λ ts few. record { before = []; cut = refl; moves = tt; agrees = refl; same = λ so more e. refl } }
-
-local_too_deep : {A : Type 0} {S : Type 0} {d k : ℕ} → Local {A = A} S d k too_deep_here too_deep_here
-local_too_deep = record { each = λ ts few. record { before = []; cut = refl; moves = tt; agrees = refl; same = λ so more e. refl } }
+-- a reader that refuses each token
+pub local_err : {A : Type 0} {S : Type 0} {d k : ℕ} (y : Fault) → Local {A = A} S d k (λ ts. Err (y, ts)) (λ ts. Err (y, ts))
+local_err y = record { each = λ ts few. record { before = []; cut = refl; moves = tt; agrees = refl; same = λ so more e. refl } }
 
 pub local_second : {A : Type 0} {S : Type 0} {d k : ℕ} → Local {A = A} S d k second_unexpected second_unexpected
 local_second {A = A} {S = S} {d = d} = record { each = λ ts few. go ts }
@@ -127,34 +130,34 @@ local_token {A} {S = S} T g = record { each = λ ts few. go ts }
 
 -- ---- choices
 
--- of the branch that a test picks, where the test is the same up to the token at which the branch stops
-stops_if : {A : Type 0} {S : Type 0} {d : ℕ} (test : List Tok → Bool) (f g : Reader A) (ts : List Tok) (x : Read A) (b : Bool) → test ts ≡ b → (s : StopsAt S d x (cond b f g) ts)
+-- the test is the same up to the token at which h stops
+abbrev Keeps : {A : Type 0} → (List Tok → Bool) → Reader A → Type 0
+Keeps {A} test h = (ts before more : List Tok) (x : Read A) → h ts ≡ x → ts ≡ before ++ rest_of x → first more ≡ first (rest_of x) → test (before ++ more) ≡ test ts
+
+stops_if : {A : Type 0} {S : Type 0} {d : ℕ} (test : List Tok → Bool) (f g : Reader A) (ts : List Tok) (x : Read A) (b : Bool) → test ts ≡ b → (s : StopsAt S d x (λ us. cond b (f us) (g us)) ts)
     → (S → (more : List Tok) → first more ≡ first (rest_of x) → test (s.before ++ more) ≡ test ts) → StopsAt S d x (λ us. cond (test us) (f us) (g us)) ts
-stops_if test f g ts x true e s k = record {
+stops_if test f g ts x b e s k = record {
   before = s.before;
   cut = s.cut;
   moves = s.moves;
   agrees = ap (λ b. cond b (f ts) (g ts)) e ∙ s.agrees;
   same = λ so more h. ap (λ b. cond b (f (s.before ++ more)) (g (s.before ++ more))) (k so more h ∙ e) ∙ s.same so more h;
 }
-stops_if test f g ts x false e s k = record {
-  before = s.before;
-  cut = s.cut;
-  moves = s.moves;
-  agrees = ap (λ b. cond b (f ts) (g ts)) e ∙ s.agrees;
-  same = λ so more h. ap (λ b. cond b (f (s.before ++ more)) (g (s.before ++ more))) (k so more h ∙ e) ∙ s.same so more h;
-}
+
+local_test : {A : Type 0} {S : Type 0} {d k : ℕ} {f f' g g' : Reader A} (test : List Tok → Bool) → (S → Keeps test f') → (S → Keeps test g') → Local S d k f f' → Local S d k g g'
+    → Local S d k (λ ts. cond (test ts) (f ts) (g ts)) (λ ts. cond (test ts) (f' ts) (g' ts))
+local_test {A = A} {S = S} {d = d} {f = f} {f' = f'} {g = g} {g' = g'} test p q l m = record { each = λ ts few. go ts (test ts) refl (l.each ts few) (m.each ts few) }
+  where
+    go : (ts : List Tok) (b : Bool) → test ts ≡ b → StopsAt S d (f ts) f' ts → StopsAt S d (g ts) g' ts → StopsAt S d (cond b (f ts) (g ts)) (λ us. cond (test us) (f' us) (g' us)) ts
+    go ts true e s t = stops_if test f' g' ts (f ts) true e s (λ so more h. p so ts s.before more (f ts) s.agrees s.cut h)
+    go ts false e s t = stops_if test f' g' ts (g ts) false e t (λ so more h. q so ts t.before more (g ts) t.agrees t.cut h)
 
 -- a choice by the first token
 pub local_if : {A : Type 0} {S : Type 0} {d k : ℕ} {f f' g g' : Reader A} (T : Kinds) → Local S d k f f' → Local S d k g g' → Local S d k (if_sees T f g) (if_sees T f' g')
-local_if {A = A} {S = S} {d = d} {f = f} {f' = f'} {g = g} {g' = g'} T l m = record { each = λ ts few. go ts (sees T ts) refl (l.each ts few) (m.each ts few) }
+local_if {A = A} T l m = local_test (sees T) (λ so. kept _) (λ so. kept _) l m
   where
-    kept : (ts : List Tok) (x : Read A) (h : Reader A) (s : StopsAt S d x h ts) → S → (more : List Tok) → first more ≡ first (rest_of x) → sees T (s.before ++ more) ≡ sees T ts
-    kept ts x h s so more e = sees_alike T (s.before ++ more) ts (first_after s.before more (rest_of x) e ∙ ap first (sym s.cut))
-
-    go : (ts : List Tok) (b : Bool) → sees T ts ≡ b → StopsAt S d (f ts) f' ts → StopsAt S d (g ts) g' ts → StopsAt S d (cond b (f ts) (g ts)) (if_sees T f' g') ts
-    go ts true e s t = stops_if (sees T) f' g' ts (f ts) true e s (kept ts (f ts) f' s)
-    go ts false e s t = stops_if (sees T) f' g' ts (g ts) false e t (kept ts (g ts) g' t)
+    kept : (h : Reader A) → Keeps (sees T) h
+    kept h ts before more x q c e = sees_alike T (before ++ more) ts (first_after before more (rest_of x) e ∙ ap first (sym c))
 
 -- a reader takes a token, where one of these is ahead
 abbrev pub Takes : {A : Type 0} → Kinds → Reader A → Type 0
@@ -166,20 +169,15 @@ takes_second A T (t ∷ ts) e = omega arith
 
 -- a choice by the first two tokens, of readers that take the first
 pub local_two : {A : Type 0} {S : Type 0} {d k : ℕ} {f f' g g' : Reader A} (T U : Kinds) → (S → Takes T f') → (S → Takes T g') → Local S d k f f' → Local S d k g g' → Local S d k (if_sees_two T U f g) (if_sees_two T U f' g')
-local_two {A = A} {S = S} {d = d} {f = f} {f' = f'} {g = g} {g' = g'} T U takes takes' l m = record { each = λ ts few. go ts (sees_two T U ts) refl (l.each ts few) (m.each ts few) }
+local_two {A = A} T U takes takes' l m = local_test (sees_two T U) (λ so. kept _ (takes so)) (λ so. kept _ (takes' so)) l m
   where
     some : (b : List Tok) (x : Read A) (ts : List Tok) → ts ≡ b ++ rest_of x → length (rest_of x) < length ts → (t : Tok) × (c : List Tok) × (b ≡ t ∷ c)
     some [] x ts c p = absurd (omega (arith, ap length c))
     some (t ∷ b) x ts c p = (t, b, refl)
 
-    kept : (ts : List Tok) (x : Read A) (h : Reader A) → Takes T h → (s : StopsAt S d x h ts) → (more : List Tok) → first more ≡ first (rest_of x) → sees_two T U (s.before ++ more) ≡ sees_two T U ts
-    kept ts x h k s more e =
-        two_alike T U s.before more (rest_of x) e (λ q. some s.before x ts s.cut (subst (λ y. length (rest_of y) < length ts) s.agrees (k ts (ap (sees T) s.cut ∙ q))))
-        ∙ ap (sees_two T U) (sym s.cut)
-
-    go : (ts : List Tok) (b : Bool) → sees_two T U ts ≡ b → StopsAt S d (f ts) f' ts → StopsAt S d (g ts) g' ts → StopsAt S d (cond b (f ts) (g ts)) (if_sees_two T U f' g') ts
-    go ts true e s t = stops_if (sees_two T U) f' g' ts (f ts) true e s (λ so. kept ts (f ts) f' (takes so) s)
-    go ts false e s t = stops_if (sees_two T U) f' g' ts (g ts) false e t (λ so. kept ts (g ts) g' (takes' so) t)
+    kept : (h : Reader A) → Takes T h → Keeps (sees_two T U) h
+    kept h k ts before more x a c e =
+        two_alike T U before more (rest_of x) e (λ q. some before x ts c (subst (λ y. length (rest_of y) < length ts) a (k ts (ap (sees T) c ∙ q)))) ∙ ap (sees_two T U) (sym c)
 
 -- ---- limits
 
@@ -188,7 +186,7 @@ unfolding nested
 local_nested {A = A} {S = S} {k = k} {f = f} {h = h} most d T l = go (is_above most d)
   where
     go : (b : Bool) → Local S 1 k (cond b (if_sees T too_deep_here unexpected) f) (cond b (if_sees T too_deep_here unexpected) h)
-    go true = local_if T local_too_deep local_unexpected
+    go true = local_if T (local_err too_deep) (local_err misfit)
     go false = l
 
 pub take_drop : (n : ℕ) (ts : List Tok) → ts ≡ take n ts ++ drop n ts

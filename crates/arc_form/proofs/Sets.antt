@@ -137,7 +137,7 @@ pub second_more : (U : Kinds) (xs rest : List Tok) → sees_second U xs ≡ true
 second_more U [] rest e = cc
 second_more U (t ∷ xs) rest e = sees_more U xs rest e
 
-and_false : (b : Bool) → (b && false) ≡ false
+pub and_false : (b : Bool) → (b && false) ≡ false
 and_false true = refl
 and_false false = refl
 

@@ -5,6 +5,29 @@ use Rattle.arc_form.specs.Form.{Form, Bodies, token, give, call, map, ◌⨾◌,
 use Rattle.arc_form.proofs.Sets.{among, apart, both, not_true}
 use Rattle.arc_form.proofs.Samples.{sample}
 
+-- Tests of which each must pass, or must fail.
+infixr 12 ◌and◌
+pub data Test : Type 0 where
+  yes : Bool → Test
+  no : Bool → Test
+  ◌and◌ : Test → Test → Test
+
+abbrev pub passes : Test → Bool
+passes (yes b) = b
+passes (no b) = not b
+passes (s and t) = passes s && passes t
+
+-- what a test says
+abbrev pub Holds : Test → Type 0
+Holds (yes b) = b ≡ true
+Holds (no b) = b ≡ false
+Holds (s and t) = Holds s × Holds t
+
+pub holds : (t : Test) → passes t ≡ true → Holds t
+holds (yes b) e = e
+holds (no b) e = not_true b e
+holds (s and t) e = let p = both (passes s) (passes t) e in (holds s p.0, holds t p.1)
+
 -- Of a rule: with which kinds it begins, which kinds would go on with it where it could end, and which may not come after it.
 pub record Facts : Type 0 where
   pub begins : Kinds
@@ -103,9 +126,9 @@ module _ {N : Type 0} {Node : N → Type 0} (facts : N → Facts) where
   guarded (two_ahead T U f g) = guarded f && guarded g
   guarded (avoid T U f) = guarded f
 
-  -- whether it is some token at least, the first one of exactly these kinds
-  abbrev pub heads : Kinds → {A : Type 0} → Form N Node A → Bool
-  heads T f = not (nullable f) && (among (begins f) T && among T (begins f))
+  -- it is some token at least, the first one of exactly these kinds
+  abbrev pub heads : Kinds → {A : Type 0} → Form N Node A → Test
+  heads T f = no (nullable f) and yes (among (begins f) T) and yes (among T (begins f))
 
   -- whether it has an example that no rule takes part in
   abbrev pub simple : {A : Type 0} → Form N Node A → Bool
@@ -122,11 +145,11 @@ module _ {N : Type 0} {Node : N → Type 0} (facts : N → Facts) where
   simple (two_ahead T U f g) = simple f
   simple (avoid T U f) = false
 
-  -- whether the second token is exactly of these kinds, and the first is a token of the form itself
-  abbrev pub second : Kinds → {A : Type 0} → Form N Node A → Bool
+  -- the second token is exactly of these kinds, and the first is a token of the form itself
+  abbrev pub second : Kinds → {A : Type 0} → Form N Node A → Test
   second U (map h f) = second U f
   second U (token T g ⨾ f) = heads U f
-  second U _ = false
+  second U _ = no true
 
   -- kinds of tokens each of which is the form by itself, where nothing that it bars comes after it
   abbrev pub alone : {A : Type 0} → Form N Node A → Kinds
@@ -137,145 +160,51 @@ module _ {N : Type 0} {Node : N → Type 0} (facts : N → Facts) where
   alone (bounded f) = alone f
   alone _ = none
 
-  -- whether something goes on with each token of the first kinds, and not by one of the second
-  abbrev pub parts : Kinds → Kinds → {A : Type 0} → Form N Node A → Bool
+  -- something goes on with each token of the first kinds, and not by one of the second
+  abbrev pub parts : Kinds → Kinds → {A : Type 0} → Form N Node A → Test
   parts T U (map h f) = parts T U f
-  parts T U (f ⨾ g) = among T (alone f) && (simple g && (not (nullable g) && apart U (begins g)))
-  parts T U _ = false
+  parts T U (f ⨾ g) = yes (among T (alone f)) and yes (simple g) and no (nullable g) and yes (apart U (begins g))
+  parts T U _ = no true
 
-  -- whether the tokens ahead decide each choice, and each token has an example
-  abbrev pub decided : {A : Type 0} → Form N Node A → Bool
-  decided (token T g) = is T (sample T)
-  decided (give a) = true
-  decided (call n) = true
+  -- the tokens ahead decide each choice, and each token has an example
+  abbrev pub decided : {A : Type 0} → Form N Node A → Test
+  decided (token T g) = yes (is T (sample T))
+  decided (give a) = yes true
+  decided (call n) = yes true
   decided (map h f) = decided f
-  decided (f ⨾ g) = (decided f && decided g) && (apart (goes_on f) (begins g) && (nullable g || apart (bars f) (begins g)))
-  decided (choose T f g) = (decided f && decided g) && (heads T f && apart (begins g) T)
-  decided (many T f) = (decided f && heads T f) && (apart (goes_on f) T && apart (bars f) T)
-  decided (or_none T f a) = decided f && heads T f
-  decided (nest d T f) = decided f && heads T f
-  decided (bounded f) = decided f && not (nullable f)
-  decided (two_ahead T U f g) = (decided f && decided g) && ((heads T f && second U f) && (not (nullable g) && among T (begins g)))
-  decided (avoid T U f) = (decided f && is T (sample T)) && ((not (nullable f) && among T (begins f)) && (long f && parts T U f))
+  decided (f ⨾ g) = decided f and decided g and yes (apart (goes_on f) (begins g)) and yes (nullable g || apart (bars f) (begins g))
+  decided (choose T f g) = decided f and decided g and heads T f and yes (apart (begins g) T)
+  decided (many T f) = decided f and heads T f and yes (apart (goes_on f) T) and yes (apart (bars f) T)
+  decided (or_none T f a) = decided f and heads T f
+  decided (nest d T f) = decided f and heads T f
+  decided (bounded f) = decided f and no (nullable f)
+  decided (two_ahead T U f g) = decided f and decided g and heads T f and second U f and no (nullable g) and yes (among T (begins g))
+  decided (avoid T U f) = decided f and yes (is T (sample T)) and no (nullable f) and yes (among T (begins f)) and yes (long f) and parts T U f
+
+  abbrev pub Decided : {A : Type 0} → Form N Node A → Type 0
+  Decided f = Holds (decided f)
+
+  abbrev pub Heads : Kinds → {A : Type 0} → Form N Node A → Type 0
+  Heads T f = Holds (heads T f)
+
+  -- the form is as this says of it
+  abbrev pub fits_as : Facts → {A : Type 0} → Form N Node A → Test
+  fits_as F f = yes (guarded f) and decided f and heads F.begins f and yes (simple f) and yes (among (goes_on f) F.goes_on) and yes (among (bars f) F.bars)
 
   -- the test of a rule
-  abbrev pub fits : Bodies N Node → N → Bool
-  fits body n = (guarded (body n) && decided (body n)) && ((heads (facts n).begins (body n) && simple (body n)) && (among (goes_on (body n)) (facts n).goes_on && among (bars (body n)) (facts n).bars))
+  abbrev pub fits : Bodies N Node → N → Test
+  fits body n = fits_as (facts n) (body n)
 
-  -- ---- the parts of a test
-
-  pub record Heads (T : Kinds) {A : Type 0} (f : Form N Node A) : Type 1 where
-    pub some : nullable f ≡ false
-    pub within : among (begins f) T ≡ true
-    pub all : among T (begins f) ≡ true
-
-  pub of_heads : (T : Kinds) {A : Type 0} (f : Form N Node A) → heads T f ≡ true → Heads T f
-  of_heads T f e =
-      let p = both (not (nullable f)) (among (begins f) T && among T (begins f)) e in
-      let q = both (among (begins f) T) (among T (begins f)) p.1 in
-      record { some = not_true (nullable f) p.0; within = q.0; all = q.1 }
-
-  pub record Then {A B : Type 0} (f : Form N Node A) (g : Form N Node B) : Type 1 where
-    pub left : decided f ≡ true
-    pub right : decided g ≡ true
-    pub further : apart (goes_on f) (begins g) ≡ true
-    pub barred : (nullable g || apart (bars f) (begins g)) ≡ true
-
-  pub of_then : {A B : Type 0} (f : Form N Node A) (g : Form N Node B) → decided (f ⨾ g) ≡ true → Then f g
-  of_then f g e =
-      let p = both (decided f && decided g) (apart (goes_on f) (begins g) && (nullable g || apart (bars f) (begins g))) e in
-      let q = both (decided f) (decided g) p.0 in
-      let r = both (apart (goes_on f) (begins g)) (nullable g || apart (bars f) (begins g)) p.1 in
-      record { left = q.0; right = q.1; further = r.0; barred = r.1 }
-
-  pub record Choose (T : Kinds) {A : Type 0} (f g : Form N Node A) : Type 1 where
-    pub left : decided f ≡ true
-    pub right : decided g ≡ true
-    pub head : Heads T f
-    pub other : apart (begins g) T ≡ true
-
-  pub of_choose : (T : Kinds) {A : Type 0} (f g : Form N Node A) → decided (choose T f g) ≡ true → Choose T f g
-  of_choose T f g e =
-      let p = both (decided f && decided g) (heads T f && apart (begins g) T) e in
-      let q = both (decided f) (decided g) p.0 in
-      let r = both (heads T f) (apart (begins g) T) p.1 in
-      record { left = q.0; right = q.1; head = of_heads T f r.0; other = r.1 }
-
-  pub record Many (T : Kinds) {A : Type 0} (f : Form N Node A) : Type 1 where
-    pub each : decided f ≡ true
-    pub head : Heads T f
-    pub further : apart (goes_on f) T ≡ true
-    pub barred : apart (bars f) T ≡ true
-
-  pub of_many : (T : Kinds) {A : Type 0} (f : Form N Node A) → decided (many T f) ≡ true → Many T f
-  of_many T f e =
-      let p = both (decided f && heads T f) (apart (goes_on f) T && apart (bars f) T) e in
-      let q = both (decided f) (heads T f) p.0 in
-      let r = both (apart (goes_on f) T) (apart (bars f) T) p.1 in
-      record { each = q.0; head = of_heads T f q.1; further = r.0; barred = r.1 }
-
-  pub record Headed (T : Kinds) {A : Type 0} (f : Form N Node A) : Type 1 where
-    pub each : decided f ≡ true
-    pub head : Heads T f
-
-  -- of `or_none` and of `nest`
-  pub of_headed : (T : Kinds) {A : Type 0} (f : Form N Node A) → (decided f && heads T f) ≡ true → Headed T f
-  of_headed T f e = let q = both (decided f) (heads T f) e in record { each = q.0; head = of_heads T f q.1 }
-
-  pub record Bounded {A : Type 0} (f : Form N Node A) : Type 1 where
-    pub each : decided f ≡ true
-    pub some : nullable f ≡ false
-
-  pub of_bounded : {A : Type 0} (f : Form N Node A) → decided (bounded f) ≡ true → Bounded f
-  of_bounded f e = let q = both (decided f) (not (nullable f)) e in record { each = q.0; some = not_true (nullable f) q.1 }
-
-  pub record TwoAhead (T U : Kinds) {A : Type 0} (f g : Form N Node A) : Type 1 where
-    pub left : decided f ≡ true
-    pub right : decided g ≡ true
-    pub head : Heads T f
-    pub second : second U f ≡ true
-    pub some : nullable g ≡ false
-    pub taken : among T (begins g) ≡ true
-
-  pub of_two_ahead : (T U : Kinds) {A : Type 0} (f g : Form N Node A) → decided (two_ahead T U f g) ≡ true → TwoAhead T U f g
-  of_two_ahead T U f g e =
-      let p = both (decided f && decided g) ((heads T f && second U f) && (not (nullable g) && among T (begins g))) e in
-      let q = both (decided f) (decided g) p.0 in
-      let r = both (heads T f && second U f) (not (nullable g) && among T (begins g)) p.1 in
-      let s = both (heads T f) (second U f) r.0 in
-      let n = both (not (nullable g)) (among T (begins g)) r.1 in
-      record { left = q.0; right = q.1; head = of_heads T f s.0; second = s.1; some = not_true (nullable g) n.0; taken = n.1 }
-
-  pub record Avoid (T U : Kinds) {A : Type 0} (f : Form N Node A) : Type 1 where
-    pub each : decided f ≡ true
-    pub example : is T (sample T) ≡ true
-    pub some : nullable f ≡ false
-    pub taken : among T (begins f) ≡ true
-    pub further : long f ≡ true
-    pub others : parts T U f ≡ true
-
-  pub of_avoid : (T U : Kinds) {A : Type 0} (f : Form N Node A) → decided (avoid T U f) ≡ true → Avoid T U f
-  of_avoid T U f e =
-      let p = both (decided f && is T (sample T)) ((not (nullable f) && among T (begins f)) && (long f && parts T U f)) e in
-      let q = both (decided f) (is T (sample T)) p.0 in
-      let r = both (not (nullable f) && among T (begins f)) (long f && parts T U f) p.1 in
-      let s = both (not (nullable f)) (among T (begins f)) r.0 in
-      let t = both (long f) (parts T U f) r.1 in
-      record { each = q.0; example = q.1; some = not_true (nullable f) s.0; taken = s.1; further = t.0; others = t.1 }
-
+  -- what it says
   pub record Fits (body : Bodies N Node) (n : N) : Type 1 where
     pub guard : guarded (body n) ≡ true
-    pub sure : decided (body n) ≡ true
+    pub sure : Decided (body n)
     pub head : Heads (facts n).begins (body n)
     pub example : simple (body n) ≡ true
     pub further : among (goes_on (body n)) (facts n).goes_on ≡ true
     pub barred : among (bars (body n)) (facts n).bars ≡ true
 
-  pub of_fits : (body : Bodies N Node) (n : N) → fits body n ≡ true → Fits body n
+  pub of_fits : (body : Bodies N Node) (n : N) → passes (fits body n) ≡ true → Fits body n
   of_fits body n e =
-      let p = both (guarded (body n) && decided (body n)) ((heads (facts n).begins (body n) && simple (body n)) && (among (goes_on (body n)) (facts n).goes_on && among (bars (body n)) (facts n).bars)) e in
-      let q = both (guarded (body n)) (decided (body n)) p.0 in
-      let r = both (heads (facts n).begins (body n) && simple (body n)) (among (goes_on (body n)) (facts n).goes_on && among (bars (body n)) (facts n).bars) p.1 in
-      let s = both (heads (facts n).begins (body n)) (simple (body n)) r.0 in
-      let t = both (among (goes_on (body n)) (facts n).goes_on) (among (bars (body n)) (facts n).bars) r.1 in
-      record { guard = q.0; sure = q.1; head = of_heads (facts n).begins (body n) s.0; example = s.1; further = t.0; barred = t.1 }
+      let p = holds (fits body n) e in
+      record { guard = p.0; sure = p.1.0; head = p.1.1.0; example = p.1.1.1.0; further = p.1.1.1.1.0; barred = p.1.1.1.1.1 }

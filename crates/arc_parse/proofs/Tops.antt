@@ -9,19 +9,15 @@ use Rattle.arc_ast.specs.Tree.{FunctionTree, GlobalTree, InterfaceTree, Implemen
 use Rattle.arc_form.specs.Operators.{fold}
 use Rattle.arc_form.specs.Reader.{Read, Reader, bind, ret}
 use Rattle.arc_form.proofs.Local.{Local}
-use Rattle.arc_form.proofs.FormLocal.{solid, form_front}
-use Rattle.arc_form.proofs.Static.{nullable, of_many}
 use Rattle.arc_grammar.specs.Grammar.{TopTree, OfNames, OfFunction, OfGlobals, OfInterface, OfImplementation, functions_of, globals_of, interfaces_of, implementations_of, these, reads, body, begins_top, unit}
 use Rattle.arc_grammar.specs.Grammar as grammar
-use Rattle.arc_grammar.proofs.Fits.{facts, sure, sure_unit}
+use Rattle.arc_grammar.proofs.Fits.{front, lines}
 use Rattle.arc_form.specs.Joining.{joining}
 use Rattle.arc_parse.specs.private.Views.{and_top}
 
 pub top_front : (j : ℕ) → Local ⊥ 1 j (reads grammar.top) (reads grammar.top)
-unfolding unit grammar.tops
-top_front j =
-    let p = of_many facts begins_top grammar.top sure_unit in
-    solid (nullable facts grammar.top) p.head.some (form_front facts body sure these grammar.top p.each j)
+unfolding lines
+top_front j = front these grammar.top refl refl j
 
 -- a unit, and after it all that is read
 abbrev pub tops_on : UnitTree → Reader UnitTree

@@ -12,27 +12,26 @@ use Rattle.arc_form.specs.Form.{map}
 use Rattle.arc_form.specs.Operators.{fold}
 use Rattle.arc_form.specs.Reader.{Read, Reader, bind, ◌>>=◌, ret, sees, if_sees, take_one, from, named}
 use Rattle.arc_form.proofs.Local.{Local}
-use Rattle.arc_grammar.specs.Grammar.{QualifiedType, QualifiedName, FieldGroup, OfWord, OfType, reads, qualifiers, plain_type, begins_fields, next_name, more_names, qualified_name, next_qualified_name, more_qualified_names, starred_name, next_starred_name, more_starred_names, plain_fields, object_fields, typed_fields, qualified_fields, group, groups, fields, field_of, fields_of, named_fields, visibility_of, begins_visibility, class_names}
-use Rattle.arc_grammar.proofs.Fits.{lines}
-use Rattle.arc_top.proofs.Rests.{front}
+use Rattle.arc_grammar.specs.Grammar.{these, QualifiedType, QualifiedName, FieldGroup, OfWord, OfType, reads, qualifiers, plain_type, begins_fields, next_name, more_names, qualified_name, next_qualified_name, more_qualified_names, starred_name, next_starred_name, more_starred_names, plain_fields, object_fields, typed_fields, qualified_fields, group, groups, fields, field_of, fields_of, named_fields, visibility_of, begins_visibility, class_names}
+use Rattle.arc_grammar.proofs.Fits.{front, lines}
 use Rattle.arc_form.specs.Joining.{joining}
 use Rattle.arc_top.specs.Fields.{begins_group, add_field, add_group, object_fields_on, plain_fields_on, typed_fields_on, group_on, names_skipped}
 
 pub name_front : (j : ℕ) → Local ⊥ 1 j (reads next_name) (reads next_name)
 unfolding lines
-name_front j = front next_name refl refl j
+name_front j = front these next_name refl refl j
 
 pub qualified_front : (j : ℕ) → Local ⊥ 1 j (reads next_qualified_name) (reads next_qualified_name)
 unfolding lines
-qualified_front j = front next_qualified_name refl refl j
+qualified_front j = front these next_qualified_name refl refl j
 
 pub starred_front : (j : ℕ) → Local ⊥ 1 j (reads next_starred_name) (reads next_starred_name)
 unfolding lines
-starred_front j = front next_starred_name refl refl j
+starred_front j = front these next_starred_name refl refl j
 
 pub group_front : (j : ℕ) → Local ⊥ 1 j (reads group) (reads group)
 unfolding lines
-group_front j = front group refl refl j
+group_front j = front these group refl refl j
 
 -- the fields of a class after these
 abbrev pub groups_on : Visibility × List FieldTree → Reader (List FieldTree)

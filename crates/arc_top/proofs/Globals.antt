@@ -10,19 +10,18 @@ use Rattle.arc_form.specs.Kinds.{mark, main, name, other_name}
 use Rattle.arc_form.specs.Operators.{fold}
 use Rattle.arc_form.specs.Reader.{Read, Reader, bind, ◌>>=◌, ret, sees, sees_second, if_sees, take_one, from}
 use Rattle.arc_form.proofs.Local.{Local}
-use Rattle.arc_grammar.specs.Grammar.{Part, QualifiedType, TopTree, OfFunction, OfGlobals, reads, some_qualifiers, plain_type, class_type, of_function, of_globals, main_function, other_function, function, global, next_global, more_globals, globals, next_global_reference, more_global_references, global_references, typed_top, of_plain, of_objects, plain_globals, object_globals, of_qualified}
-use Rattle.arc_grammar.proofs.Fits.{lines}
+use Rattle.arc_grammar.specs.Grammar.{Part, these, QualifiedType, TopTree, OfFunction, OfGlobals, reads, some_qualifiers, plain_type, class_type, of_function, of_globals, main_function, other_function, function, global, next_global, more_globals, globals, next_global_reference, more_global_references, global_references, typed_top, of_plain, of_objects, plain_globals, object_globals, of_qualified}
+use Rattle.arc_grammar.proofs.Fits.{front, lines}
 use Rattle.arc_top.specs.Globals.{add_global, globals_on, global_references_on, typed_on}
 use Rattle.arc_top.specs.Signatures.{reads_after}
-use Rattle.arc_top.proofs.Rests.{front}
 
 pub global_front : (j : ℕ) → Local ⊥ 1 j (reads next_global) (reads next_global)
 unfolding lines
-global_front j = front next_global refl refl j
+global_front j = front these next_global refl refl j
 
 pub reference_front : (j : ℕ) → Local ⊥ 1 j (reads next_global_reference) (reads next_global_reference)
 unfolding lines
-reference_front j = front next_global_reference refl refl j
+reference_front j = front these next_global_reference refl refl j
 
 pub globals_push : (l : List Global) (g : Global) → global_trees (l ++ g ∷ []) ≡ global_trees l ++ global_tree g ∷ []
 globals_push [] g = refl

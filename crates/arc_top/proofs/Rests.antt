@@ -7,32 +7,26 @@ use Rattle.arc_ast.specs.Tree.{ParameterTree, ParametersTree, ResultTree, Functi
 use Rattle.arc_form.specs.Kinds.{main_bytes, main_or_none, kind, ◌∪◌, mark, word, name}
 use Rattle.arc_form.specs.Reader.{Read, Reader, bind, ◌>>=◌, ret, sees, take_one, from, bytes_of, named}
 use Rattle.arc_form.proofs.Sets.{name_has}
-use Rattle.arc_form.proofs.Static.{nullable, decided}
 use Rattle.arc_form.proofs.Local.{Local}
-use Rattle.arc_form.proofs.FormLocal.{solid, form_front}
 use Rattle.arc_grammar.specs.Grammar.{Part, these, reads, body, next_parameter, second, texts, parameters, parameters_of_main, enclosed, with_result, function_body, main_function, other_function, function, next_typed, next_head, method}
-use Rattle.arc_grammar.proofs.Fits.{facts, sure, lines}
+use Rattle.arc_grammar.proofs.Fits.{front, lines}
 use Rattle.arc_top.specs.Signatures.{reads_after, parameters_if_main, enclosed_to}
-
--- a part that is some token at least takes one
-pub front : {A : Type 0} (part : Part A) → decided facts part ≡ true → nullable facts part ≡ false → (j : ℕ) → Local ⊥ 1 j (reads part) (reads part)
-front part d n j = solid (nullable facts part) n (form_front facts body sure these part d j)
 
 pub parameter_front : (j : ℕ) → Local ⊥ 1 j (reads next_parameter) (reads next_parameter)
 unfolding lines
-parameter_front j = front next_parameter refl refl j
+parameter_front j = front these next_parameter refl refl j
 
 pub typed_front : (j : ℕ) → Local ⊥ 1 j (reads next_typed) (reads next_typed)
 unfolding lines
-typed_front j = front next_typed refl refl j
+typed_front j = front these next_typed refl refl j
 
 pub head_front : (j : ℕ) → Local ⊥ 1 j (reads next_head) (reads next_head)
 unfolding lines
-head_front j = front next_head refl refl j
+head_front j = front these next_head refl refl j
 
 pub method_front : (j : ℕ) → Local ⊥ 1 j (reads method) (reads method)
 unfolding lines
-method_front j = front method refl refl j
+method_front j = front these method refl refl j
 
 -- after the first parameter of `main` and a comma, the texts
 pub second_texts : (first : ParameterTree) (at : ℕ) (ts rest : List Tok) → take_one (mark m.Comma) from ts ≡ Ok (at, rest) → sees (word w.Const ∪ word w.Char) rest ≡ true → reads_after second first ts ≡ reads_after texts first rest
