@@ -1,5 +1,5 @@
 -- What the rules read, as the code asks for it.
-use Rattle.std.proofs.Common.{◌≡◌, ◌≤◌, ◌-◌, min, ℕ, zero, suc, List, [], ◌∷◌, ◌++◌, true, false, cond, Ok, Err, refl, ap, ◌∙◌, arith}
+use Rattle.std.proofs.Common.{◌≡◌, ◌≤◌, ◌-◌, min, ℕ, zero, suc, List, [], ◌∷◌, ◌++◌, true, false, cond, Ok, refl, sym, ap, ◌∙◌, arith}
 use Rattle.arc_lex.specs.Tokens.{Tok}
 use Rattle.arc_lex.specs.declared.token.Mark.TheVariants as m
 use Rattle.arc_ast.specs.declared.tree.BinaryOperator.TheVariants as operators
@@ -9,7 +9,8 @@ use Rattle.arc_form.specs.Kinds.{mark, name}
 use Rattle.arc_form.specs.Reader.{Read, bind, ◌>>=◌, ret, sees, if_sees, take_one, from}
 use Rattle.arc_form.specs.Operators.{marks_at, placed_operator}
 use Rattle.arc_form.specs.Views.{all}
-use Rattle.arc_form.proofs.Operators.{joined_is, pair_then, in_turn, second_then}
+use Rattle.arc_form.proofs.Joining.{joined_is}
+use Rattle.arc_form.proofs.Binding.{bind_twice, pair_then, second_then}
 use Rattle.arc_form.proofs.Sets.{sees_neither}
 use Rattle.arc_form.proofs.Local.{Local, weaker, then, local_token, local_ret}
 use Rattle.arc_form.proofs.FormLocal.{read_is, fronts}
@@ -47,7 +48,7 @@ assigning_is = refl
 -- the operators of all levels, and then what they choose
 pub read_continued : (left : ExprTree) (ts : List Tok) → reads_on continued left ts ≡ (reads_on (up_to LOOSEST) left >>= (λ test. reads_on choice test)) ts
 unfolding continued table
-read_continued left ts = in_turn ExprTree (reads_free (up_to LOOSEST)) (reads_free choice) left ts
+read_continued left ts = simp bind_twice
 
 -- the operators of a level after a left operand, one by one
 pub read_more : (l : ℕ) (left : ExprTree) (ts : List Tok)
@@ -55,21 +56,22 @@ pub read_more : (l : ℕ) (left : ExprTree) (ts : List Tok)
 unfolding more further
 read_more l left ts =
     let K = marks_at l table in
-    joined_is K (reads_free (further l)) join (further_front l) left ts ∙ ap (λ y. cond (sees K ts) y (ret left ts)) (pairs l left ts)
-  where
-    pairs : (l : ℕ) (left : ExprTree) (ts : List Tok) → bind (reads_free (further l) ts) (λ a. reads_on (more l) (join left a)) ≡ (take_one (marks_at l table) (placed_operator operators.Add table) >>= (λ o. rules unlimited (binary (l - 1)) >>= (λ right. reads_on (more l) (Binary (begins left) o.1 left right)))) ts
-    pairs l left ts = pair_then (take_one (marks_at l table) (placed_operator operators.Add table) ts) (rules unlimited (binary (l - 1))) (λ a. reads_on (more l) (join left a))
+    joined_is K (reads_free (further l)) join (further_front l) left ts
+    ∙ ap (λ y. cond (sees K ts) y (ret left ts)) (pair_then (take_one K (placed_operator operators.Add table) ts) (rules unlimited (binary (l - 1))) (λ a. reads_on (more l) (join left a)))
 
 more_past : (l : ℕ) (left : ExprTree) (ts : List Tok) → sees (marks_at l table) ts ≡ false → reads_on (more l) left ts ≡ Ok (left, ts)
 more_past l left ts s = read_more l left ts ∙ rw s refl
 
 -- those of the levels up to one, level by level
-pub read_up_to : (l : ℕ) (left : ExprTree) (ts : List Tok) → 1 ≤ l → reads_on (up_to l) left ts ≡ (reads_on (up_to (l - 1)) left >>= (λ tighter. reads_on (more l) tighter)) ts
+up_one : (l : ℕ) (left : ExprTree) (ts : List Tok) → reads_on (up_to (suc l)) left ts ≡ (reads_on (up_to l) left >>= (λ tighter. reads_on (more (suc l)) tighter)) ts
 unfolding up_to
+up_one l left ts = simp bind_twice
+
+pub read_up_to : (l : ℕ) (left : ExprTree) (ts : List Tok) → 1 ≤ l → reads_on (up_to l) left ts ≡ (reads_on (up_to (l - 1)) left >>= (λ tighter. reads_on (more l) tighter)) ts
 read_up_to zero left ts p = absurd (omega arith)
 read_up_to (suc l) left ts p =
     let before : suc l - 1 ≡ l = omega arith in
-    rw before (in_turn ExprTree (reads_free (up_to l)) (reads_free (more (suc l))) left ts)
+    rw before (up_one l left ts)
 
 -- and none where no operator of such a level is ahead
 pub read_past : (l : ℕ) (left : ExprTree) (ts : List Tok) → sees (marks_up_to l) ts ≡ false → reads_on (up_to l) left ts ≡ Ok (left, ts)
@@ -77,8 +79,7 @@ unfolding up_to
 read_past zero left ts s = refl
 read_past (suc l) left ts s =
     let p = sees_neither (marks_up_to l) (marks_at (suc l) table) ts s in
-    in_turn ExprTree (reads_free (up_to l)) (reads_free (more (suc l))) left ts
-    ∙ ap (λ x. bind x (λ tighter. reads_on (more (suc l)) tighter)) (read_past l left ts p.0)
+    up_one l left ts ∙ ap (λ x. bind x (λ tighter. reads_on (more (suc l)) tighter)) (read_past l left ts p.0)
     ∙ more_past (suc l) left ts p.1
 
 -- the suffixes after an operand, one by one
@@ -89,11 +90,8 @@ suffix_front j = front unlimited suffix refl refl j
 pub read_suffixes : (operand : ExprTree) (ts : List Tok)
     → reads_on suffixes operand ts ≡ if_sees begins_suffix (reads_on suffix operand >>= (λ whole. reads_on suffixes whole)) (ret operand) ts
 unfolding suffixes
-read_suffixes operand ts = joined_is begins_suffix (reads_free suffix) (λ a make. make a) suffix_front operand ts ∙ ap (λ y. cond (sees begins_suffix ts) y (ret operand ts)) (pairs (reads_free suffix ts))
-  where
-    pairs : (x : Read (ExprTree → ExprTree)) → bind x (λ make. reads_on suffixes (make operand)) ≡ bind (bind x (λ make. ret (make operand))) (λ whole. reads_on suffixes whole)
-    pairs (Ok x) = refl
-    pairs (Err x) = refl
+read_suffixes operand ts = joined_is begins_suffix (reads_free suffix) (λ a make. make a) suffix_front operand ts
+    ∙ ap (λ y. cond (sees begins_suffix ts) y (ret operand ts)) (sym (bind_twice (reads_free suffix ts) (λ make. ret (make operand)) (λ whole. reads_on suffixes whole)))
 
 -- further arguments, one by one
 argument_front : (j : ℕ) → Local ⊥ 1 j (reads_free next_argument) (reads_free next_argument)
@@ -103,10 +101,8 @@ argument_front j = front unlimited next_argument refl refl j
 pub read_more_arguments : (before : List ExprTree) (ts : List Tok)
     → reads_on more_arguments before ts ≡ if_sees (mark m.Comma) (take_one (mark m.Comma) from >>= (λ comma. rules unlimited expr >>= (λ a. reads_on more_arguments (add before a)))) (ret before) ts
 unfolding more_arguments next_argument
-read_more_arguments before ts = joined_is (mark m.Comma) (reads_free next_argument) add argument_front before ts ∙ ap (λ y. cond (sees (mark m.Comma) ts) y (ret before ts)) (pairs before ts)
-  where
-    pairs : (before : List ExprTree) (ts : List Tok) → bind (reads_free next_argument ts) (λ a. reads_on more_arguments (add before a)) ≡ (take_one (mark m.Comma) from >>= (λ comma. rules unlimited expr >>= (λ a. reads_on more_arguments (add before a)))) ts
-    pairs before ts = second_then (take_one (mark m.Comma) from ts) (rules unlimited expr) (λ a. reads_on more_arguments (add before a))
+read_more_arguments before ts = joined_is (mark m.Comma) (reads_free next_argument) add argument_front before ts
+    ∙ ap (λ y. cond (sees (mark m.Comma) ts) y (ret before ts)) (second_then (take_one (mark m.Comma) from ts) (rules unlimited expr) (λ a. reads_on more_arguments (add before a)))
 
 -- further parts of a selector, one by one
 part_front : (j : ℕ) → Local ⊥ 1 j (reads_free next_part) (reads_free next_part)
@@ -117,7 +113,3 @@ pub read_more_parts : (before : Sent) (ts : List Tok)
     → reads_on more_parts before ts ≡ if_sees name (reads_free next_part >>= (λ p. reads_on more_parts (add_part before p))) (ret before) ts
 unfolding more_parts
 read_more_parts before ts = joined_is name (reads_free next_part) add_part part_front before ts
-
-pub all_push : {A T : Type 0} (tree : A → T) (made : List A) (a : A) → all tree (made ++ a ∷ []) ≡ add (all tree made) (tree a)
-all_push tree [] a = refl
-all_push tree (b ∷ made) a = ap (λ v. tree b ∷ v) (all_push tree made a)

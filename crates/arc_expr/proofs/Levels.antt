@@ -6,16 +6,9 @@ use Rattle.arc_ast.specs.Tree.{ExprTree, Binary, begins}
 use Rattle.arc_form.specs.Form.{unlimited}
 use Rattle.arc_form.specs.Reader.{Read, Reader, bind, ◌>>=◌, ret, sees, take_one}
 use Rattle.arc_form.specs.Operators.{marks_at, placed_operator}
+use Rattle.arc_form.proofs.Binding.{bind_ret, bind_twice}
 use Rattle.arc_grammar.specs.Grammar.{rules, reads_on, binary, table, marks_up_to, more, up_to}
 use Rattle.arc_expr.proofs.Fix.{read_more, read_up_to, read_past}
-
-bind_ret : {A : Type 0} (x : Read A) → bind x (λ a. ret a) ≡ x
-bind_ret (Ok x) = refl
-bind_ret (Err e) = refl
-
-bind_twice : {A B C : Type 0} (x : Read A) (f : A → Reader B) (g : B → Reader C) → bind (bind x f) g ≡ bind x (λ a. f a >>= g)
-bind_twice (Ok x) f g = refl
-bind_twice (Err e) f g = refl
 
 -- the operators of so many levels after this one, level by level
 abbrev looser : ℕ → ℕ → ExprTree → Reader ExprTree

@@ -11,12 +11,12 @@ use Rattle.arc_form.specs.Places.{OneTooMany, PassesBy, PassesWithin, Passes}
 use Rattle.arc_form.specs.Whole.{end, read_whole}
 use Rattle.arc_form.proofs.Sets.{apart, sees_among, sees_apart, sees_other, sees_more}
 use Rattle.arc_form.proofs.Static.{Facts, begins, goes_on, Decided, Heads, Fits}
-use Rattle.arc_form.proofs.Local.{Local, rest_of}
+use Rattle.arc_form.proofs.Local.{Local, rest_of, loop_more}
 use Rattle.arc_form.proofs.FormLocal.{read_is, some_front}
 use Rattle.arc_form.proofs.FormBegins.{Positive, deep_begins, deep_second}
 use Rattle.arc_form.proofs.FormSound.{form_sound}
 use Rattle.arc_form.proofs.FormStarts.{Starts, start_all, head_starts, spells_starts}
-use Rattle.arc_form.proofs.FormComplete.{loop_more, nested_fits, form_complete}
+use Rattle.arc_form.proofs.FormComplete.{nested_fits, form_complete}
 use Rattle.arc_form.proofs.FormTell.{longer}
 use Rattle.arc_form.proofs.FormWhole.{begun_at, ends_there, alone}
 
@@ -70,7 +70,7 @@ module _ {N : Type 0} {Node : N → Type 0} (facts : N → Facts) (body : Bodies
 
       go : (y : Read A) → run (read body) unlimited f (before ++ t ∷ r) ≡ y → goes_over n (before ++ t ∷ r) y ≡ true
       go (Ok y) e =
-          let p = (form_sound body unlimited f).each (before ++ t ∷ r) y.0 y.1 e in
+          let p = (form_sound facts body sure unlimited f d).each (before ++ t ∷ r) y.0 y.1 e in
           enough (length y.1 + n) (λ q. over p.0 p.1 p.2 (ltb-false (length y.1 + n) (length (before ++ t ∷ r)) q))
         where
           not_all : (b : A) → ret y.0 y.1 ≡ Ok (b, []) → length y.1 ≡ 0

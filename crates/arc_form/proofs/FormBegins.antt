@@ -1,14 +1,14 @@
 -- Without limits a form takes a first token with which it begins, and refuses any other.
-use Rattle.std.proofs.Common.{◌≡◌, ◌⊎◌, inl, inr, ℕ, zero, suc, ◌<◌, ◌≤◌, ◌+◌, List, [], ◌∷◌, length, nat_lt, Ok, Err, Bool, true, false, cond, ◌&&◌, ◌||◌, Option, Some, None, refl, sym, ap, subst, ◌∙◌, arith}
+use Rattle.std.proofs.Common.{◌≡◌, ◌⊎◌, inl, inr, ℕ, suc, ◌<◌, ◌≤◌, ◌+◌, List, [], ◌∷◌, length, nat_lt, Ok, Err, Bool, true, false, cond, ◌&&◌, ◌||◌, Option, Some, None, refl, sym, ap, subst, ◌∙◌, arith}
 use Rattle.std.proofs.lemmas.Bool.{le-ltb}
 use Rattle.arc_lex.specs.Tokens.{Tok}
 use Rattle.arc_form.specs.Kinds.{Kinds, none, ◌∪◌, is}
-use Rattle.arc_form.specs.Reader.{Read, Reader, Fault, misfit, too_deep, too_deep_here, unexpected, is_above, if_sees, bind, ◌>>=◌, ret, second_unexpected, sees, sees_second, sees_two, taken, turns, loop, nested, up_to}
+use Rattle.arc_form.specs.Reader.{Read, Reader, Fault, misfit, too_deep, too_deep_here, unexpected, is_above, if_sees, bind, ◌>>=◌, ret, second_unexpected, sees, sees_second, sees_two, taken, loop, nested, up_to}
 use Rattle.arc_form.specs.Form.{Limits, unlimited, Form, Bodies, token, give, call, map, ◌⨾◌, choose, many, or_none, nest, bounded, two_ahead, avoid, run, read}
-use Rattle.arc_form.proofs.Sets.{and_false, both, sees_among, sees_none, sees_neither, sees_or}
+use Rattle.arc_form.proofs.Sets.{and_no, both, sees_among, sees_none, sees_neither, sees_or}
 use Rattle.arc_form.proofs.Static.{Facts, if_so, nullable, begins, Decided, Holds, second, Fits}
-use Rattle.arc_form.proofs.Local.{rest_of, fault_of}
-use Rattle.arc_form.proofs.FormLocal.{read_is, form_left}
+use Rattle.arc_form.proofs.Local.{rest_of, fault_of, loop_turn}
+use Rattle.arc_form.proofs.FormLocal.{read_is, some_front, form_left}
 use Rattle.arc_form.proofs.FormReading.{Property, OfParts, under, reading, by_reading}
 
 -- nothing is taken: that gives a value where there may be no token, and is a refusal where there must be one
@@ -45,26 +45,6 @@ pub ret_left : {A B : Type 0} (x : Read A) (h : A → B) → length (rest_of (bi
 ret_left (Ok x) h = omega arith
 ret_left (Err x) h = omega arith
 
-turns_left : {A : Type 0} (T : Kinds) (h : Reader A) → ((us : List Tok) → length (rest_of (h us)) ≤ length us) → (n : ℕ) (us : List Tok) → length (rest_of (turns n T h us)) ≤ length us
-turns_left T h k zero us = omega arith
-turns_left {A = A} T h k (suc n) us = branch (λ v. turns_left T h k n v) (sees T us)
-  where
-    rest : ((v : List Tok) → length (rest_of (turns n T h v)) ≤ length v) → (x : Read A) → length (rest_of x) ≤ length us → length (rest_of (bind x (λ a. turns n T h >>= (λ others. ret (a ∷ others))))) ≤ length us
-    rest m (Ok x) p = omega (arith, m x.1, ret_left (turns n T h x.1) (λ others. x.0 ∷ others), p)
-    rest m (Err x) p = p
-
-    branch : ((v : List Tok) → length (rest_of (turns n T h v)) ≤ length v) → (b : Bool) → length (rest_of (cond b ((h >>= (λ a. turns n T h >>= (λ others. ret (a ∷ others)))) us) (ret [] us))) ≤ length us
-    branch m true = rest m (h us) (k us)
-    branch m false = omega arith
-
-pub loop_first : {A : Type 0} (T : Kinds) (h : Reader A) (ts : List Tok) → ((us : List Tok) → length (rest_of (h us)) ≤ length us) → sees T ts ≡ true → length (rest_of (loop T h ts)) ≤ length (rest_of (h ts))
-unfolding loop
-loop_first {A = A} T h ts k e = rw e (go (h ts))
-  where
-    go : (x : Read A) → length (rest_of (bind x (λ a. turns (length ts) T h >>= (λ others. ret (a ∷ others))))) ≤ length (rest_of x)
-    go (Ok x) = omega (arith, turns_left T h k (length ts) x.1, ret_left (turns (length ts) T h x.1) (λ others. x.0 ∷ others))
-    go (Err x) = omega arith
-
 pub map_fails : {A B : Type 0} (x : Read A) (h : A → B) (e : Fault × List Tok) → bind x (λ a. ret (h a)) ≡ Err e → x ≡ Err e
 map_fails (Ok x) h e q = cc
 map_fails (Err x) h e q = let same : x ≡ e = cc in ap (λ v. Err v) same
@@ -100,7 +80,7 @@ Positive limits = (n : ℕ) → limits.tokens ≡ Some n → 1 ≤ n
 up_to_idle : {A : Type 0} (most : Option ℕ) (f : Reader A) (ts : List Tok) → ((n : ℕ) → most ≡ Some n → 1 ≤ n) → f ts ≡ Err (misfit, ts) → up_to most f ts ≡ Err (misfit, ts)
 unfolding up_to
 up_to_idle None f ts p e = e
-up_to_idle (Some n) f ts p e = let few = p n refl in rw (e, le-ltb (length ts + n) (suc (length ts)) (omega (arith, few)), and_false (nat_lt n (length ts))) refl
+up_to_idle (Some n) f ts p e = let few = p n refl in rw (e, and_no (nat_lt n (length ts)) _ (le-ltb (length ts + n) (suc (length ts)) (omega (arith, few)))) refl
 
 module _ {N : Type 0} {Node : N → Type 0} (facts : N → Facts) (body : Bodies N Node) (sure : (n : N) → Fits facts body n) where
   abbrev plain : {A : Type 0} → Form N Node A → Reader A
@@ -163,6 +143,14 @@ module _ {N : Type 0} {Node : N → Type 0} (facts : N → Facts) (body : Bodies
       go false q = let no = ap (λ (y : Read (B × C)). fault_of y) q in cc
   deep_second limits positive U A f d e ts r q = cc
 
+  -- a loop takes what its first turn takes, at least
+  pub loop_first : (T : Kinds) {A : Type 0} (f : Form N Node A) → Decided facts (many T f) → (ts : List Tok) → sees T ts ≡ true → length (rest_of (run (read body) unlimited (many T f) ts)) ≤ length (rest_of (run (read body) unlimited f ts))
+  loop_first T {A} f d ts e = rw (loop_turn T (some_front facts body sure unlimited f d.0 d.1.0.0) ts, e) (go (plain f ts))
+    where
+      go : (x : Read A) → length (rest_of (bind x (λ a. loop T (plain f) >>= (λ others. ret (a ∷ others))))) ≤ length (rest_of x)
+      go (Ok x) = omega (arith, ret_left (loop T (plain f) x.1) (λ others. x.0 ∷ others), form_left facts body sure unlimited (many T f) d x.1)
+      go (Err x) = omega arith
+
   abbrev TakesAt : Property N Node
   TakesAt o A f ts = o ≡ None → sees (begins facts f) ts ≡ true → length (rest_of (reading body o f ts)) < length ts
 
@@ -190,8 +178,7 @@ module _ {N : Type 0} {Node : N → Type 0} (facts : N → Facts) (body : Bodies
       go true q r = x refl (sees_among T (begins facts f) ts a q)
       go false q (inl r) = let k = sees_none (begins facts f) T ts w q in cc
       go false q (inr r) = y refl r.1
-  takes None A (many {A = B} T f) (d, ((s, (w, a)), o)) ts x z n =
-      omega (arith, loop_first T (plain f) ts (form_left facts body sure unlimited f d) (sees_among (begins facts f) T ts w n), x ts (omega arith) refl n)
+  takes None A (many {A = B} T f) d ts x z n = omega (arith, loop_first T f d ts (sees_among (begins facts f) T ts d.1.0.1.0 n), x ts (omega arith) refl n)
   takes None A (or_none T f b) (d, (s, (w, a))) ts x z n = rw (sees_among (begins facts f) T ts w n) (x refl n)
   takes None A (nest m T f) d ts x z n = x refl n
   takes None A (bounded f) d ts x z n = x refl n

@@ -4,12 +4,12 @@ use Rattle.std.proofs.lemmas.Bool.{ltb-true}
 use Rattle.std.proofs.lemmas.List.{drop-append-le}
 use Rattle.arc_lex.specs.Tokens.{Tok}
 use Rattle.arc_form.specs.Kinds.{Kinds}
-use Rattle.arc_form.specs.Reader.{Read, Reader, misfit, too_deep, bind, ◌>>=◌, ret, unexpected, too_deep_here, sees, sees_two, if_sees, turns, loop, is_above, nested, goes_over, up_to}
+use Rattle.arc_form.specs.Reader.{Read, Reader, misfit, too_deep, bind, ◌>>=◌, ret, unexpected, too_deep_here, sees, sees_two, if_sees, is_above, nested, goes_over, up_to}
 use Rattle.arc_form.specs.Form.{Limits, unlimited, Form, Bodies, token, give, call, map, ◌⨾◌, choose, many, or_none, nest, bounded, two_ahead, avoid, run, read}
 use Rattle.arc_form.proofs.Sets.{both, sees_none}
 use Rattle.arc_form.proofs.Static.{Facts, nullable, begins, Decided, Fits}
-use Rattle.arc_form.proofs.Local.{rest_of}
-use Rattle.arc_form.proofs.FormLocal.{read_is, form_front, ok_left}
+use Rattle.arc_form.proofs.Local.{rest_of, loop_turn}
+use Rattle.arc_form.proofs.FormLocal.{read_is, form_front, some_front, ok_fewer}
 use Rattle.arc_form.proofs.FormReading.{Property, OfParts, under, reading, by_reading}
 use Rattle.arc_form.proofs.FormBegins.{idle_some, form_idle}
 
@@ -35,17 +35,6 @@ back_then (Err y) g k ts b e = (b, e)
 back_ret : {A : Type 0} (a : A) → Back (ret a)
 back_ret a = record { each = λ ts. ([], refl) }
 
-back_make : {A B : Type 0} {h : Reader A} (make : A → B) → Back h → Back (h >>= (λ a. ret (make a)))
-back_make {h = h} make s = record { each = λ ts. let p = s.each ts in back_then (h ts) (λ a. ret (make a)) (λ a. back_ret (make a)) ts p.0 p.1 }
-
-back_turns : {A : Type 0} {h : Reader A} (n : ℕ) (T : Kinds) → Back h → Back (turns n T h)
-back_turns zero T s = record { each = λ ts. ([], refl) }
-back_turns {A = A} {h = h} (suc n) T s = record { each = λ ts. go ts (sees T ts) (s.each ts) (back_turns n T s) }
-  where
-    go : (ts : List Tok) (b : Bool) → (c : List Tok) × (ts ≡ c ++ rest_of (h ts)) → Back (turns n T h) → (c : List Tok) × (ts ≡ c ++ rest_of (cond b ((h >>= (λ a. turns n T h >>= (λ others. ret (a ∷ others)))) ts) (ret [] ts)))
-    go ts true p k = back_then (h ts) (λ a. turns n T h >>= (λ others. ret (a ∷ others))) (λ a. back_make (λ others. a ∷ others) k) ts p.0 p.1
-    go ts false p k = ([], refl)
-
 below_then : {A B : Type 0} (x y : Read A) (g g' : A → Reader B) → Below x y → ((a : A) (s : List Tok) → x ≡ Ok (a, s) → Below (g a s) (g' a s)) → ((a : A) → Back (g' a)) → Below (bind x g) (bind y g')
 below_then x y g g' (inl d) k s =
     let c = back_then y g' s d.rest d.between d.further in
@@ -59,13 +48,6 @@ below_make make x y b = below_then x y (λ a. ret (make a)) (λ a. ret (make a))
 below_if : {A : Type 0} {x x' y y' : Read A} (b : Bool) → Below x x' → Below y y' → Below (cond b x y) (cond b x' y')
 below_if true p q = p
 below_if false p q = q
-
-below_turns : {A : Type 0} (f h : Reader A) (n : ℕ) (T : Kinds) (ts : List Tok) → ((a : A) (us s : List Tok) → f us ≡ Ok (a, s) → length s ≤ length us) → ((us : List Tok) → length us ≤ length ts → Below (f us) (h us)) → Back h
-    → Below (turns n T f ts) (turns n T h ts)
-below_turns f h zero T ts left b s = inr refl
-below_turns f h (suc n) T ts left b s =
-    below_if (sees T ts) (below_then (f ts) (h ts) (λ a. turns n T f >>= (λ others. ret (a ∷ others))) (λ a. turns n T h >>= (λ others. ret (a ∷ others))) (b ts (omega arith))
-    (λ a us e. below_make (λ others. a ∷ others) (turns n T f us) (turns n T h us) (below_turns f h n T us left (λ v p. b v (omega (arith, p, left a ts us e))) s)) (λ a. back_make (λ others. a ∷ others) (back_turns n T s))) (inr refl)
 
 -- where a token of none of these kinds is ahead, h refuses it
 below_nested : {A : Type 0} (f h : Reader A) (most : Option ℕ) (d : ℕ) (T : Kinds) (ts : List Tok) → (sees T ts ≡ false → h ts ≡ Err (misfit, ts)) → Back h → Below (f ts) (h ts) → Below (nested most d T f ts) (nested None d T h ts)
@@ -107,20 +89,28 @@ module _ {N : Type 0} {Node : N → Type 0} (facts : N → Facts) (body : Bodies
   back_form : {A : Type 0} (f : Form N Node A) → Decided facts f → Back (plain f)
   back_form f d = record { each = λ ts. let s = (form_front facts body sure unlimited f d (suc (length ts))).each ts (omega arith) in (s.before, s.cut) }
 
+  below_all : (o : Option Limits) (T : Kinds) {A : Type 0} (f : Form N Node A) → Decided facts (many T f) → (k : ℕ) (ts : List Tok) → length ts < k → ((us : List Tok) → length us ≤ length ts → Below (reading body o f us) (plain f us))
+      → Below (reading body o (many T f) ts) (plain (many T f) ts)
+  below_all o T f d zero ts p b = absurd (omega arith)
+  below_all o T {A} f d (suc k) ts p b =
+      rw (loop_turn T (some_front facts body sure (under o) f d.0 d.1.0.0) ts, loop_turn T (some_front facts body sure unlimited f d.0 d.1.0.0) ts)
+      (below_if (sees T ts) (below_then (reading body o f ts) (plain f ts) (λ a. reading body o (map (λ others. a ∷ others) (many T f))) (λ a. plain (map (λ others. a ∷ others) (many T f))) (b ts (omega arith))
+      (λ a us e. let q = ok_fewer facts body sure (under o) f d.0 d.1.0.0 a ts us e in below_make (λ others. a ∷ others) (reading body o (many T f) us) (plain (many T f) us) (below_all o T f d k us (omega (arith, p, q)) (λ vs v. b vs (omega (arith, q, v)))))
+      (λ a. back_form (map (λ others. a ∷ others) (many T f)) d)) (inr refl))
+
   abbrev BelowAt : Property N Node
   BelowAt o A f ts = Below (reading body o f ts) (plain f ts)
 
   below : (o : Option Limits) (A : Type 0) (f : Form N Node A) → Decided facts f → (ts : List Tok) → OfParts body BelowAt o A f ts → BelowAt o A f ts
-  unfolding loop
   below o A (token T v) d ts x = inr refl
   below o A (give a) d ts x = inr refl
   below o A (call n) d ts x = subst (λ y. Below y (plain (call n) ts)) (sym (read_is facts body sure (under o) n ts)) (subst (Below (reading body o (body n) ts)) (sym (read_is facts body sure unlimited n ts)) x)
   below o A (map v f) d ts x = below_make v (reading body o f ts) (plain f ts) x
   below o A (◌⨾◌ {A = B} {B = C} f g) (d, (d', p)) ts (x, y) =
       below_then {B = B × C} (reading body o f ts) (plain f ts) (λ a. reading body o g >>= (λ c. ret (a, c))) (λ a. plain g >>= (λ c. ret (a, c))) x
-      (λ a s e. below_make {B = B × C} (λ c. (a, c)) (reading body o g s) (plain g s) (y a s e)) (λ a. back_make {B = B × C} (λ c. (a, c)) (back_form g d'))
+      (λ a s e. below_make {B = B × C} (λ c. (a, c)) (reading body o g s) (plain g s) (y a s e)) (λ a. back_form (map (λ c. (a, c)) g) d')
   below o A (choose T f g) d ts (x, y) = below_if (sees T ts) x y
-  below o A (many T f) (d, p) ts x = below_turns (reading body o f) (plain f) (suc (length ts)) T ts (ok_left facts body sure (under o) f d) x (back_form f d)
+  below o A (many T f) d ts x = below_all o T f d (suc (length ts)) ts (omega arith) x
   below o A (or_none T f a) d ts x = below_if (sees T ts) x (inr refl)
   below o A (nest m T f) (d, (n, (w, k))) ts x =
       below_nested (reading body o f) (plain f) (under o).depth m T ts (λ e. idle_some (nullable facts f) (plain f ts) ts n (form_idle facts body sure f d ts (sees_none (begins facts f) T ts w e))) (back_form f d) x

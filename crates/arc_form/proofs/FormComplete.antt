@@ -1,14 +1,14 @@
 -- A form reads what is spelled, where nothing goes on with it.
-use Rattle.std.proofs.Common.{◌≡◌, inl, inr, ℕ, suc, ◌<◌, ◌+◌, List, [], ◌∷◌, ◌++◌, length, length-append, append_assoc, Ok, Bool, true, false, Option, Some, None, refl, ap, ◌∙◌, arith}
+use Rattle.std.proofs.Common.{◌≡◌, inl, inr, ℕ, ◌+◌, List, [], ◌∷◌, ◌++◌, length, length-append, append_assoc, Ok, Bool, true, false, Option, Some, None, refl, ap, ◌∙◌, arith}
 use Rattle.std.proofs.lemmas.Bool.{le-ltb}
 use Rattle.arc_lex.specs.Tokens.{Tok}
 use Rattle.arc_form.specs.Kinds.{Kinds, ◌∪◌}
-use Rattle.arc_form.specs.Reader.{Reader, bind, ret, sees, sees_second, sees_two, turns, loop, nested, up_to}
+use Rattle.arc_form.specs.Reader.{Reader, bind, ret, sees, sees_second, sees_two, loop, nested, up_to}
 use Rattle.arc_form.specs.Form.{Limits, unlimited, Form, Bodies, token, give, call, map, ◌⨾◌, choose, many, or_none, nest, bounded, two_ahead, avoid, run, read}
 use Rattle.arc_form.specs.Meaning.{AtMost, Spelling, SpellsAll, SpellsBy, Spells}
 use Rattle.arc_form.proofs.Sets.{apart, sees_apart, sees_none, sees_other, sees_neither, sees_more, second_more}
 use Rattle.arc_form.proofs.Static.{Facts, if_so, nullable, begins, goes_on, Decided, Heads, Fits}
-use Rattle.arc_form.proofs.Local.{Local, stops_fewer, turns_same}
+use Rattle.arc_form.proofs.Local.{Local, loop_more}
 use Rattle.arc_form.proofs.FormLocal.{read_is, some_front}
 use Rattle.arc_form.proofs.FormHeights.{OfRules, by_height}
 use Rattle.arc_form.proofs.FormBegins.{loop_end, none_so}
@@ -18,14 +18,6 @@ use Rattle.arc_form.proofs.FormStarts.{Starts, AllStart, starts, start_all, head
 after : (b : Bool) (A T : Kinds) (xs rest : List Tok) → Starts b T xs → apart A T ≡ true → sees (if_so b A) rest ≡ false → sees A (xs ++ rest) ≡ false
 after b A T xs rest (inl (q, n)) p e = ap (λ v. sees A (v ++ rest)) n ∙ none_so b A rest q e
 after b A T xs rest (inr s) p e = sees_other A T (xs ++ rest) p (sees_more T xs rest s)
-
--- one more turn of a loop
-pub loop_more : {A : Type 0} {h : Reader A} (T : Kinds) (ts r : List Tok) (a : A) → ((j : ℕ) → Local ⊥ 1 j h h) → sees T ts ≡ true → h ts ≡ Ok (a, r) → loop T h ts ≡ bind (loop T h r) (λ others. ret (a ∷ others))
-unfolding loop
-loop_more {h = h} T ts r a front s e =
-    let fewer : length r < length ts = stops_fewer (h ts) a r ((front (suc (length ts))).each ts (omega arith)) e in
-    let same : turns (length ts) T h r ≡ turns (suc (length r)) T h r = turns_same T (suc (length r)) (length ts) r (omega arith) fewer (front (suc (length r))) in
-    rw (s, e, same) refl
 
 pub nested_fits : {A : Type 0} (most : Option ℕ) (d : ℕ) (T : Kinds) (f : Reader A) (ts : List Tok) → AtMost most d → nested most d T f ts ≡ f ts
 unfolding nested

@@ -7,12 +7,12 @@ use Rattle.arc_form.specs.Form.{unlimited, Form, Bodies, token, give, call, map,
 use Rattle.arc_form.specs.Meaning.{SpellsAll, SpellsBy, Within, Spells}
 use Rattle.arc_form.proofs.Sets.{apart, sees_among, sees_apart, sees_other, sees_more}
 use Rattle.arc_form.proofs.Static.{Facts, nullable, begins, goes_on, Decided, Heads, Fits}
-use Rattle.arc_form.proofs.Local.{rest_of}
+use Rattle.arc_form.proofs.Local.{rest_of, loop_more}
 use Rattle.arc_form.proofs.FormLocal.{read_is, some_front, form_left}
 use Rattle.arc_form.proofs.FormHeights.{OfRules, ◌⇒◌}
 use Rattle.arc_form.proofs.FormBegins.{loop_end, loop_first, bind_left, ret_left, form_takes, takes_two}
 use Rattle.arc_form.proofs.FormStarts.{Starts, AllStart, starts, start_all, some_starts, head_starts, longs, second_starts, two_own, fair, spells_starts, spells_fair}
-use Rattle.arc_form.proofs.FormComplete.{loop_more, two_seen, form_complete}
+use Rattle.arc_form.proofs.FormComplete.{two_seen, form_complete}
 
 -- an answer is this value with these tokens left, or fewer are left
 abbrev pub Firm : {A : Type 0} → Read A → A → List Tok → Type 0
@@ -53,23 +53,23 @@ module _ {N : Type 0} {Node : N → Type 0} (facts : N → Facts) (body : Bodies
         inl (form_complete facts body sure unlimited f d a ((z ∷ zs) ++ r) ys (fair facts L s (Spells body) (λ l n b r xs y. spells_fair facts body sure l n b r xs (up l n b r xs y)) unlimited f d a ((z ∷ zs) ++ []) ((z ∷ zs) ++ r) ys x (inr refl))
         (sees_other (goes_on facts f) T ((z ∷ zs) ++ r) o seen))
 
-    firm_all : {A : Type 0} (T : Kinds) (f : Form N Node A) → Decided facts f → Heads facts T f → apart (goes_on facts f) T ≡ true → ((a : A) (xs r : List Tok) → SpellsBy L unlimited f a [] xs → Firm (plain f (xs ++ r)) a r)
+    firm_all : {A : Type 0} (T : Kinds) (f : Form N Node A) → Decided facts (many T f) → ((a : A) (xs r : List Tok) → SpellsBy L unlimited f a [] xs → Firm (plain f (xs ++ r)) a r)
         → (all : List A) (xs r : List Tok) → SpellsAll (SpellsBy L unlimited f) all [] xs → Firm (loop T (plain f) (xs ++ r)) all r
-    firm_all {A} T f d h o k [] xs r e = subst (λ v. Firm {A = List A} (loop T (plain f) (v ++ r)) [] r) (sym e) (go (sees T r) refl)
+    firm_all {A} T f d k [] xs r e = subst (λ v. Firm {A = List A} (loop T (plain f) (v ++ r)) [] r) (sym e) (go (sees T r) refl)
       where
         go : (b : Bool) → sees T r ≡ b → Firm {A = List A} (loop T (plain f) r) [] r
-        go true q = inr (omega (arith, loop_first T (plain f) r (form_left facts body sure unlimited f d) q, form_takes facts body sure A f d r (sees_among T (begins facts f) r h.1.1 q)))
+        go true q = inr (omega (arith, loop_first facts body sure T f d r q, form_takes facts body sure A f d.0 r (sees_among T (begins facts f) r d.1.0.1.1 q)))
         go false q = inl (loop_end (plain f) T r q)
-    firm_all {A} T f d h o k (a ∷ others) xs r (ys, zs, e, x, y) =
+    firm_all {A} T f (d, (h, (o, p))) k (a ∷ others) xs r (ys, zs, e, x, y) =
         shift (loop T (plain f)) (a ∷ others) xs ys zs r e
-        (go (first f d T o true a ys zs r (start_all (SpellsBy L unlimited f) T (head_starts facts L s unlimited T f d h) others [] zs y) x (λ x. k a ys r x)) (firm_all T f d h o k others zs r y))
+        (go (first f d T o true a ys zs r (start_all (SpellsBy L unlimited f) T (head_starts facts L s unlimited T f d h) others [] zs y) x (λ x. k a ys r x)) (firm_all T f (d, (h, (o, p))) k others zs r y))
       where
         seen : sees T (ys ++ (zs ++ r)) ≡ true
         seen = sees_more T ys (zs ++ r) (head_starts facts L s unlimited T f d h a (zs ++ []) ys x)
 
         go : First (plain f (ys ++ (zs ++ r))) a zs r → Firm (loop T (plain f) (zs ++ r)) others r → Firm (loop T (plain f) (ys ++ (zs ++ r))) (a ∷ others) r
         go (inl e) m = rw (loop_more T (ys ++ (zs ++ r)) (zs ++ r) a (some_front facts body sure unlimited f d h.0) seen e) (firm_map (loop T (plain f) (zs ++ r)) (λ rest. a ∷ rest) others r m)
-        go (inr q) m = inr (omega (arith, loop_first T (plain f) (ys ++ (zs ++ r)) (form_left facts body sure unlimited f d) seen, q))
+        go (inr q) m = inr (omega (arith, loop_first facts body sure T f (d, (h, (o, p))) (ys ++ (zs ++ r)) seen, q))
 
     firm : (A : Type 0) (f : Form N Node A) → Decided facts f → (a : A) (xs r : List Tok) → SpellsBy L unlimited f a [] xs → Firm (plain f (xs ++ r)) a r
     unfolding nested up_to
@@ -91,7 +91,7 @@ module _ {N : Type 0} {Node : N → Type 0} (facts : N → Facts) (body : Bodies
         go : Starts (nullable facts g) (begins facts g) xs → Firm (plain g (xs ++ r)) a r → Firm (cond (sees T (xs ++ r)) (plain f (xs ++ r)) (plain g (xs ++ r))) a r
         go (inl (n, e)) m = subst (λ v. Firm (cond (sees T (v ++ r)) (plain f (v ++ r)) (plain g (v ++ r))) a r) (sym e) (passed T A f d h (plain g r) a r (subst (λ v. Firm (plain g (v ++ r)) a r) e m))
         go (inr q) m = rw (sees_apart (begins facts g) T (xs ++ r) o (sees_more (begins facts g) xs r q)) m
-    firm A (many {A = B} T f) (d, (h, (o, p))) all xs r x = firm_all T f d h o (firm B f d) all xs r x
+    firm A (many {A = B} T f) (d, o) all xs r x = firm_all T f (d, o) (firm B f d) all xs r x
     firm A (or_none T f b) (d, h) a xs r (inl x) = rw (sees_more T xs r (head_starts facts L s unlimited T f d h a [] xs x)) (firm A f d a xs r x)
     firm A (or_none T f b) (d, h) a xs r (inr (e, v, m)) =
         subst (λ y. Firm (cond (sees T (y ++ r)) (plain f (y ++ r)) (ret b (y ++ r))) a r) (sym e) (passed T A f d h (ret b r) a r (inl (ap (λ y. Ok (y, r)) (sym v))))

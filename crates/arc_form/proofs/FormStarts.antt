@@ -6,7 +6,7 @@ use Rattle.arc_form.specs.Reader.{first, sees, sees_second, sees_two}
 use Rattle.arc_form.specs.Form.{Limits, unlimited, Form, Bodies, token, give, call, map, ◌⨾◌, choose, many, or_none, nest, bounded, two_ahead, avoid}
 use Rattle.arc_form.specs.Meaning.{Spelling, SpellsAll, SpellsBy, Spells}
 use Rattle.arc_form.proofs.FormHeights.{OfRules, spells_body, by_height}
-use Rattle.arc_form.proofs.Sets.{both, no_both, not_true, sees_among, sees_none, sees_left, sees_right, sees_neither, sees_alike, sees_more}
+use Rattle.arc_form.proofs.Sets.{and_no, both, no_both, not_true, sees_among, sees_none, sees_left, sees_right, sees_neither, sees_alike, sees_more}
 use Rattle.arc_form.proofs.Static.{Facts, if_so, nullable, begins, bars, long, Decided, Heads, Holds, second, Fits}
 
 -- There are no tokens, where there may be none, or they begin so.
@@ -62,10 +62,6 @@ two_fair T U [] r r' z f e = absurd (z refl)
 two_fair T U (t ∷ u ∷ xs) r r' z f e = e
 two_fair T U (t ∷ []) r r' z (inr f) e = ap (λ b. is T t && b) (sees_alike U r' r f) ∙ e
 two_fair T U (t ∷ []) r r' z (inl f) e = and_no (is T t) (sees U r') f
-  where
-    and_no : (a b : Bool) → b ≡ false → (a && b) ≡ false
-    and_no true b e = e
-    and_no false b e = refl
 
 abbrev pub Long : List Tok → Type 0
 Long xs = (t u : Tok) × (zs : List Tok) × (xs ≡ t ∷ u ∷ zs)

@@ -5,7 +5,7 @@ use Rattle.arc_form.specs.Kinds.{Kinds, none, ◌∪◌, is}
 use Rattle.arc_form.specs.Reader.{Read, Reader, Fault, bind, ◌>>=◌, ret, second_unexpected, first, sees, sees_two, taken, take_one, turns, loop, nested, up_to}
 use Rattle.arc_form.specs.Form.{Limits, unlimited, Form, Bodies, token, give, call, map, ◌⨾◌, choose, many, or_none, nest, bounded, two_ahead, avoid, run, read}
 use Rattle.arc_form.specs.Meaning.{Spelling, SpellsAll, SpellsBy, Spells}
-use Rattle.arc_form.proofs.Sets.{and_false, two_less, apart, both, no_both, sees_among, sees_none, sees_other, sees_neither, sees_more}
+use Rattle.arc_form.proofs.Sets.{and_no, two_less, apart, both, no_both, sees_among, sees_none, sees_other, sees_neither, sees_more}
 use Rattle.arc_form.proofs.Samples.{sample}
 use Rattle.arc_form.proofs.Static.{Facts, if_so, nullable, begins, bars, long, simple, second, alone, parts, Decided, Holds, Fits}
 use Rattle.arc_form.proofs.Local.{rest_of}
@@ -229,7 +229,7 @@ module _ {N : Type 0} {Node : N → Type 0} (facts : N → Facts) (body : Bodies
   goes_on_so : (T U : Kinds) (A : Type 0) (f : Form N Node A) → Decided facts (avoid T U f) → (t : Tok) → is T t ≡ true → (a : A) × (others : List Tok) × ((r : List Tok) → sees (bars facts f) r ≡ false → Has (avoid T U f) a r (t ∷ others))
   goes_on_so T U A f (d, (s, (n, (k, (l, o))))) t i =
       let x = other_second T U A f d o t i in
-      (x.0, x.1, λ r q. (x.3 r q, ap (λ b. is T t && b) x.2 ∙ and_false (is T t)))
+      (x.0, x.1, λ r q. (x.3 r q, and_no (is T t) (sees U x.1) x.2))
 
   avoided_example : (T U : Kinds) (A : Type 0) (f : Form N Node A) → Decided facts (avoid T U f) → Example (Has (avoid T U f)) false (bars facts f)
   avoided_example T U A f d = let x = goes_on_so T U A f d (sample T) d.1.0 in (x.0, sample T ∷ x.1, λ z. cc, x.2)
@@ -296,13 +296,13 @@ module _ {N : Type 0} {Node : N → Type 0} (facts : N → Facts) (body : Bodies
   stuck None A (◌⨾◌ {A = B} {B = C} f g) (d, (d', (o, p))) ts (x, y) z =
       let e = some_example C g d' in
       let further = if_so (nullable facts g) (bars facts f) in
-      then_stuck (λ a c. (a, c)) (bars facts f) (bars facts g) (bars facts g ∪ further) (form_sound body unlimited f) (x refl) (λ a s q. y a s q refl) (none_left (bars facts g) further) (meets f g d' p)
+      then_stuck (λ a c. (a, c)) (bars facts f) (bars facts g) (bars facts g ∪ further) (form_sound facts body sure unlimited f d) (x refl) (λ a s q. y a s q refl) (none_left (bars facts g) further) (meets f g d' p)
       (form_fair facts body sure unlimited f d) (λ a c r xs ys m v. (xs, ys, refl, m, v)) e.0 e.1
       (λ r' q. let n = sees_neither (bars facts g) further r' q in let v = e.3 r' n.0 in (clear (nullable facts g) (bars facts f) (begins facts g) e.1 r' p e.2 (begin_so g d' e.0 r' e.1 v) n.1, v))
   stuck None A (choose T f g) d ts (x, y) z =
       if_stuck (sees T) (λ q. stuck_as (x refl) (none_left (bars facts f) (bars facts g)) (λ a r xs m. inl m)) (λ q. stuck_as (y refl) (none_right (bars facts f) (bars facts g)) (λ a r xs m. inr m))
   stuck None A (many T f) (d, (h, (o, p))) ts x z =
-      loop_stuck T (bars facts f) (form_sound body unlimited f) ts (ok_left facts body sure unlimited f d) (λ us q. x us q refl) p (head_starts facts (Spells body) (spells_starts facts body sure) unlimited T f d h) (form_fair facts body sure unlimited f d)
+      loop_stuck T (bars facts f) (form_sound facts body sure unlimited f d) ts (ok_left facts body sure unlimited f d) (λ us q. x us q refl) p (head_starts facts (Spells body) (spells_starts facts body sure) unlimited T f d h) (form_fair facts body sure unlimited f d)
   stuck None A (or_none T f a) d ts x z = if_stuck (sees T) (λ q. stuck_as (x refl) (none_right T (bars facts f)) (λ a r xs m. inl m)) (λ q. ret_stuck a)
   stuck None A (nest m T f) d ts x z = let s = x refl in stuck_as s (λ us q. q) (λ a r xs m. (tt, m))
   stuck None A (bounded f) d ts x z = let s = x refl in stuck_as s (λ us q. q) (λ a r xs m. (tt, m))

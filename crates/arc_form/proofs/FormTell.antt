@@ -183,7 +183,7 @@ module _ {N : Type 0} {Node : N → Type 0} (body : Bodies N Node) where
 
         of : (x : Read A) → plain f ts ≡ x → goes_over n ts x ≡ true → (before : List Tok) (t : Tok) (r : List Tok) → ts ≡ before ++ t ∷ r → length before ≡ n → Far f before t
         of (Ok x) e o before t r c l =
-            let s = (form_sound body unlimited f).each ts x.0 x.1 e in
+            let s = (form_sound facts body sure unlimited f d).each ts x.0 x.1 e in
             let p = ltb-true (length x.1 + n) (length ts) o in
             let m = longer before (t ∷ r) s.0 x.1 (sym c ∙ s.1) (omega (arith, p, l, ap length s.1, length-append s.0 x.1)) in
             more m.0 m.1 m.2 (alone f d x.0 x.1 s.0 s.2) (omega (arith, p, l, ap length s.1, length-append s.0 x.1))
@@ -221,14 +221,14 @@ module _ {N : Type 0} {Node : N → Type 0} (body : Bodies N Node) where
     tells o A (give a) d ts x = tells_ret a
     tells o A (call n) d ts x = record { each = λ r e. let p = x.each r (sym (read_is facts body sure (under o) n ts) ∙ e) in (p.0, p.1, (suc p.2.0, p.2.1)) }
     tells o A (map v f) d ts x = record { each = λ r e. x.each r (map_fails (reading body o f ts) v (too_deep, r) e) }
-    tells o A (f ⨾ g) d ts (x, y) = tells_as (tells_then (λ a c. (a, c)) (form_sound body (under o) f) x y) either
+    tells o A (f ⨾ g) d ts (x, y) = tells_as (tells_then (λ a c. (a, c)) (form_sound facts body sure (under o) f d.0) x y) either
       where
         either : (before r : List Tok) → FirstOrSecond (Passes body (under o) f) (SpellsBy (Spells body) (under o) f) (Passes body (under o) g) before r → Passes body (under o) (f ⨾ g) before r
         either before r (inl (h, p)) = (h, inl p)
         either before r (inr (a, ys, zs, c, m, (h, p))) = (h, inr (a, ys, zs, c, m, p))
     tells o A (choose T f g) d ts (x, y) = tells_if (sees T) (λ q. tells_as x (λ before r p. (p.0, inl p.1))) (λ q. tells_as y (λ before r p. (p.0, inr p.1)))
     tells o A (many T f) (d, p) ts x =
-        let t = tells_turns (suc (length ts)) T (form_sound body (under o) f) ts (ok_left facts body sure (under o) f d) x in
+        let t = tells_turns (suc (length ts)) T (form_sound facts body sure (under o) f d) ts (ok_left facts body sure (under o) f d) x in
         record { each = λ r e. let p = t.each r e in let q = p.2 in (p.0, p.1, (q.5.0, (q.0, q.1, q.2, q.3, q.4, q.5.1))) }
     tells o A (or_none T f a) d ts x = tells_if (sees T) (λ q. x) (λ q. tells_ret a)
     tells o A (nest m T f) d ts x = tells_as (tells_nested (under o).depth m T x) either

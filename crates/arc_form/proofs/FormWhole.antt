@@ -59,7 +59,7 @@ module _ {N : Type 0} {Node : N → Type 0} (facts : N → Facts) (body : Bodies
 
   spelled_so : (limits : Limits) (ts : List Tok) (a : A) → limited limits ts ≡ Ok (a, []) → SpellsWhole body limits f a ts
   spelled_so limits ts a e =
-      let p = (form_sound body limits f).each ts a [] e in
+      let p = (form_sound facts body sure limits f d).each ts a [] e in
       subst (SpellsWhole body limits f a) (sym (p.1 ∙ append-nil p.0)) p.2
 
   -- what is read is spelled, within the limits
@@ -106,15 +106,11 @@ module _ {N : Type 0} {Node : N → Type 0} (facts : N → Facts) (body : Bodies
   -- without limits, what is taken goes on to something that is spelled
   pub begun_at : (ts : List Tok) (x : Read A) → plain ts ≡ x → (xs : List Tok) × (ts ≡ xs ++ rest_of x) × Begun body f xs
   begun_at ts (Ok x) e =
-      let p = (form_sound body unlimited f).each ts x.0 x.1 e in
+      let p = (form_sound facts body sure unlimited f d).each ts x.0 x.1 e in
       (p.0, p.1, (x.0, [], subst (SpellsWhole body unlimited f x.0) (sym (append-nil p.0)) (alone unlimited x.0 x.1 p.0 p.2)))
   begun_at ts (Err x) e =
       let k = (form_stuck facts body sure A f d ts).each x.0 x.1 e in
       (k.0, k.3, (k.2, k.1, k.4 [] refl))
-
-  not_whole : (limits : Limits) (ts : List Tok) (e : Fault × List Tok) → read_whole body limits f ts ≡ Err e → (a : A) → limited limits ts ≡ Ok (a, []) → ⊥
-  unfolding read_whole
-  not_whole limits ts e q a p = ok_not_err (ap (λ y. bind y end) p) q
 
   -- a token that does not fit, or the end
   pub whole_misfit : (limits : Limits) (ts rest : List Tok) → read_whole body limits f ts ≡ Err (misfit, rest) → (before : List Tok) × (ts ≡ before ++ rest) × FitsNone body f before rest

@@ -1,10 +1,12 @@
 -- What is read of the tokens up to a limit and one more decides what is read of so many tokens at most.
 use Rattle.std.proofs.Common.{◌≡◌, ℕ, zero, suc, ◌<◌, ◌≤◌, ◌+◌, ◌-◌, List, [], ◌∷◌, ◌++◌, length, length-append, take, drop, nat_lt, Ok, Err, Bool, true, false, ◌&&◌, Some, refl, sym, ap, subst, ◌∙◌, arith}
 use Rattle.std.proofs.lemmas.Bool.{lt-ltb, ltb-false, le-ltb}
+use Rattle.std.proofs.Math.Seq.{drop-append_seam}
 use Rattle.arc_lex.specs.declared.token.Token.{Token}
 use Rattle.arc_lex.specs.Tokens.{Tok, tok, toks}
 use Rattle.arc_form.specs.Reader.{Read, Reader, Fault, too_deep, first, goes_over, up_to}
 use Rattle.arc_form.specs.Form.{unlimited, Form, Bodies, bounded, run, read}
+use Rattle.arc_form.proofs.Sets.{and_no}
 use Rattle.arc_form.proofs.Static.{Facts, nullable, Decided, Fits}
 use Rattle.arc_form.proofs.Local.{StopsAt, Local, rest_of, put, left_of}
 use Rattle.arc_form.proofs.FormLocal.{solid, form_local}
@@ -26,24 +28,10 @@ split_alike (suc k) (u ∷ b) v (t ∷ ts) e p =
     let s = split_alike k b v ts tails fewer in
     (s.0, ap (λ x. x ∷ ts) heads ∙ ap (λ w. u ∷ w) s.1, λ q. let p : length b < k = omega (arith, q) in s.2 p)
 
-not_longer : (a n l : ℕ) → l ≤ a + n → nat_lt (a + n) l ≡ false
-not_longer a n l p = le-ltb (a + n) l p
-
-is_not_longer : (a n l : ℕ) → nat_lt (a + n) l ≡ false → l ≤ a + n
-is_not_longer a n l e = ltb-false (a + n) l e
-
-and_no : (a b : Bool) → b ≡ false → (a && b) ≡ false
-and_no true b e = e
-and_no false b e = refl
-
 take_twice : (n : ℕ) (ts : List Tok) → take n (take n ts) ≡ take n ts
 take_twice zero ts = refl
 take_twice (suc n) [] = refl
 take_twice (suc n) (t ∷ ts) = ap (λ v. t ∷ v) (take_twice n ts)
-
-drop_front : (b r : List Tok) → drop (length b) (b ++ r) ≡ r
-drop_front [] r = refl
-drop_front (t ∷ b) r = drop_front b r
 
 no_first : (a b : List Tok) → first a ≡ first b → length b ≡ 0 → length a ≡ 0
 no_first [] b e z = refl
@@ -54,13 +42,13 @@ module _ {A : Type 0} {S : Type 0} (so : S) (n : ℕ) (f : Reader A) where
   -- what stops within the limit stops before the limit or at it
   stops_within : (x : Read A) (us : List Tok) (s : StopsAt S 1 x f us) → goes_over n us x ≡ false → length s.before ≤ n
   stops_within (Ok x) us s o =
-      let far = is_not_longer (length x.1) n (length us) o in
+      let far = ltb-false (length x.1 + n) (length us) o in
       omega (arith, length-append s.before x.1, ap length s.cut, far)
   stops_within (Err e) us s o = go (nat_lt n (length us)) refl o
     where
       go : (b : Bool) → nat_lt n (length us) ≡ b → (b && nat_lt (length e.1 + n) (suc (length us))) ≡ false → length s.before ≤ n
       go true p q =
-          let far = is_not_longer (length e.1) n (suc (length us)) q in
+          let far = ltb-false (length e.1 + n) (suc (length us)) q in
           omega (arith, length-append s.before e.1, ap length s.cut, far)
       go false p q =
           let few = ltb-false n (length us) p in
@@ -70,7 +58,7 @@ module _ {A : Type 0} {S : Type 0} (so : S) (n : ℕ) (f : Reader A) where
   within_too : (x : Read A) (us r : List Tok) (s : StopsAt S 1 x f us) → goes_over n us x ≡ false → first r ≡ first (rest_of x) → goes_over n (s.before ++ r) (put x r) ≡ false
   within_too (Ok x) us r s o e =
       let few = stops_within (Ok x) us s o in
-      not_longer (length r) n (length (s.before ++ r)) (omega (arith, length-append s.before r, few))
+      le-ltb (length r + n) (length (s.before ++ r)) (omega (arith, length-append s.before r, few))
   within_too (Err y) us r s o e = go (nat_lt n (length us)) refl o
     where
       all : List Tok
@@ -81,12 +69,12 @@ module _ {A : Type 0} {S : Type 0} (so : S) (n : ℕ) (f : Reader A) where
 
       at : (k : ℕ) → length y.1 ≡ k → length us ≤ n → (nat_lt n (length all) && nat_lt (length r + n) (suc (length all))) ≡ false
       at zero z p = few (omega (arith, length-append s.before y.1, ap length s.cut, length-append s.before r, p, no_first r y.1 e z))
-      at (suc k) z p = and_no (nat_lt n (length all)) _ (not_longer (length r) n (suc (length all)) (omega (arith, length-append s.before y.1, ap length s.cut, length-append s.before r, p)))
+      at (suc k) z p = and_no (nat_lt n (length all)) _ (le-ltb (length r + n) (suc (length all)) (omega (arith, length-append s.before y.1, ap length s.cut, length-append s.before r, p)))
 
       go : (b : Bool) → nat_lt n (length us) ≡ b → (b && nat_lt (length y.1 + n) (suc (length us))) ≡ false → (nat_lt n (length all) && nat_lt (length r + n) (suc (length all))) ≡ false
       go true p q =
-          let far = is_not_longer (length y.1) n (suc (length us)) q in
-          and_no (nat_lt n (length all)) _ (not_longer (length r) n (suc (length all)) (omega (arith, length-append s.before y.1, ap length s.cut, length-append s.before r, far)))
+          let far = ltb-false (length y.1 + n) (suc (length us)) q in
+          and_no (nat_lt n (length all)) _ (le-ltb (length r + n) (suc (length all)) (omega (arith, length-append s.before y.1, ap length s.cut, length-append s.before r, far)))
       go false p q = at (length y.1) refl (ltb-false n (length us) p)
 
   abbrev pub AlwaysLocal : Type 0
@@ -141,7 +129,7 @@ module _ {A : Type 0} {S : Type 0} (so : S) (n : ℕ) (f : Reader A) where
     stays o =
         let a = alike us ts loc front_too o in
         let many : length us - length (rest_of (f us)) ≡ length a.before = omega (arith, ap length a.here, length-append a.before (rest_of (f us))) in
-        let rest : drop (length us - length (rest_of (f us))) ts ≡ a.rest = ap (λ k. drop k ts) many ∙ ap (drop (length a.before)) a.cut ∙ drop_front a.before a.rest in
+        let rest : drop (length us - length (rest_of (f us))) ts ≡ a.rest = ap (λ k. drop k ts) many ∙ ap (drop (length a.before)) a.cut ∙ drop-append_seam a.before a.rest in
         rw (a.within) (a.same ∙ ap (put (f us)) (sym rest))
 
     shorter : length (rest_of (f us)) ≤ length us

@@ -1,3 +1,4 @@
+pub mod Binding
 pub mod Sets
 pub mod Samples
 pub mod Static

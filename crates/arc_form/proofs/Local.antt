@@ -1,6 +1,6 @@
 -- What a reader does depends on no token after the one at which it stops.
 use Rattle.std.proofs.Common.{◌≡◌, ℕ, zero, suc, ◌<◌, ◌≤◌, ◌+◌, List, [], ◌∷◌, ◌++◌, length, length-append, append_assoc, take, drop, Ok, Err, Bool, true, false, cond, Option, Some, None, refl, sym, ap, subst, ◌∙◌, arith}
-use Rattle.std.proofs.lemmas.List.{append_cancel_right}
+use Rattle.std.proofs.lemmas.List.{append_cancel_right, take-append-drop}
 use Rattle.arc_lex.specs.Tokens.{Tok}
 use Rattle.arc_form.specs.Kinds.{Kinds, is}
 use Rattle.arc_form.specs.Reader.{Read, Reader, Fault, misfit, too_deep, bind, ◌>>=◌, ret, unexpected, too_deep_here, second_unexpected, first, sees, sees_two, if_sees, if_sees_two, take_one, taken, turns, loop, is_above, nested, goes_over, cut, up_to}
@@ -189,11 +189,6 @@ local_nested {A = A} {S = S} {k = k} {f = f} {h = h} most d T l = go (is_above m
     go true = local_if T (local_err too_deep) (local_err misfit)
     go false = l
 
-pub take_drop : (n : ℕ) (ts : List Tok) → ts ≡ take n ts ++ drop n ts
-take_drop zero ts = refl
-take_drop (suc n) [] = refl
-take_drop (suc n) (t ∷ ts) = ap (λ v. t ∷ v) (take_drop n ts)
-
 -- its tokens alone decide where a bounded reader stops only if there is no bound
 pub local_up_to : {A : Type 0} {S S' : Type 0} {k : ℕ} {f h : Reader A} (most : Option ℕ) → (S → (most ≡ None) × S') → Local S' 1 k f h → Local S 1 k (up_to most f) (up_to most h)
 unfolding up_to
@@ -204,7 +199,7 @@ local_up_to {A = A} {S = S} {S' = S'} {f = f} {h = h} (Some n) so l = record { e
     never p = let no : Some n ≡ None = (so p).0 in cc
 
     go : (ts : List Tok) (x : Read A) (b : Bool) → goes_over n ts x ≡ b → StopsAt S' 1 x h ts → StopsAt S 1 (cond b (Err (too_deep, drop n ts)) x) (λ us. cut (Some n) us (h us)) ts
-    go ts x true e s = record { before = take n ts; cut = take_drop n ts; moves = tt; agrees = ap (cut (Some n) ts) s.agrees ∙ ap (λ b. cond b (Err (too_deep, drop n ts)) x) e; same = λ p. never p }
+    go ts x true e s = record { before = take n ts; cut = sym (take-append-drop n ts); moves = tt; agrees = ap (cut (Some n) ts) s.agrees ∙ ap (λ b. cond b (Err (too_deep, drop n ts)) x) e; same = λ p. never p }
     go ts x false e s = record { before = s.before; cut = s.cut; moves = s.moves; agrees = ap (cut (Some n) ts) s.agrees ∙ ap (λ b. cond b (Err (too_deep, drop n ts)) x) e; same = λ p. never p }
 
 -- ---- loops
@@ -225,6 +220,20 @@ turns_local T (suc k) (suc n) (suc m) p q l =
 -- any number of turns is as good as another, if it is more than the tokens
 pub turns_same : {A : Type 0} {h : Reader A} (T : Kinds) (n m : ℕ) (ts : List Tok) → length ts < n → length ts < m → Local ⊥ 1 (suc (length ts)) h h → turns m T h ts ≡ turns n T h ts
 turns_same T n m ts p q l = ((turns_local T (suc (length ts)) n m (omega arith) (omega arith) l).each ts (omega arith)).agrees
+
+-- a turn of a loop, and then the others
+pub loop_turn : {A : Type 0} {h : Reader A} (T : Kinds) → ((j : ℕ) → Local ⊥ 1 j h h) → (ts : List Tok) → loop T h ts ≡ cond (sees T ts) (bind (h ts) (λ a. loop T h >>= (λ others. ret (a ∷ others)))) (ret [] ts)
+unfolding loop
+loop_turn {A} {h} T front ts = ap (λ y. cond (sees T ts) y (ret [] ts)) (go (h ts) refl)
+  where
+    go : (x : Read A) → h ts ≡ x → bind x (λ a. turns (length ts) T h >>= (λ others. ret (a ∷ others))) ≡ bind x (λ a. loop T h >>= (λ others. ret (a ∷ others)))
+    go (Ok x) e =
+        let fewer : length x.1 < length ts = stops_fewer (h ts) x.0 x.1 ((front (suc (length ts))).each ts (omega arith)) e in
+        ap (λ y. bind y (λ others. ret (x.0 ∷ others))) (turns_same T (suc (length x.1)) (length ts) x.1 (omega arith) fewer (front (suc (length x.1))))
+    go (Err x) e = refl
+
+pub loop_more : {A : Type 0} {h : Reader A} (T : Kinds) (ts r : List Tok) (a : A) → ((j : ℕ) → Local ⊥ 1 j h h) → sees T ts ≡ true → h ts ≡ Ok (a, r) → loop T h ts ≡ bind (loop T h r) (λ others. ret (a ∷ others))
+loop_more T ts r a front s e = rw (loop_turn T front ts, s, e) refl
 
 pub local_loop : {A : Type 0} {S : Type 0} {k : ℕ} {f h : Reader A} (T : Kinds) → (S → (j : ℕ) → Local ⊥ 1 j h h) → Local S 1 k f h → Local S 0 k (loop T f) (loop T h)
 unfolding loop

@@ -3,13 +3,10 @@ use Rattle.std.proofs.Common.{◌≡◌, ℕ, List, [], ◌∷◌, drop, Ok, Err
 use Rattle.arc_lex.specs.declared.token.Mark.{Mark}
 use Rattle.arc_lex.specs.Tokens.{Tok, Sort, Name, Integer, Text, Key, At, Sign}
 use Rattle.arc_lex.specs.Spellings.{mark_bytes}
-use Rattle.arc_form.specs.Kinds.{Kind, Kinds, ◌∪◌, mark, has, kind, is}
-use Rattle.arc_form.specs.Reader.{Read, Reader, Fault, misfit, bind, ◌>>=◌, ret, sees, if_sees, taken, take_one, loop}
-use Rattle.arc_form.specs.Operators.{Row, entry, entry_of, marks_at, operator_of, placed_operator, fold}
+use Rattle.arc_form.specs.Kinds.{Kind, ◌∪◌, mark, has, kind, is}
+use Rattle.arc_form.specs.Reader.{Reader, misfit, sees, taken, take_one}
+use Rattle.arc_form.specs.Operators.{Row, entry, entry_of, marks_at, operator_of, placed_operator}
 use Rattle.arc_form.proofs.Sets.{both, same_is}
-use Rattle.arc_form.proofs.Local.{Local}
-use Rattle.arc_form.proofs.FormBegins.{loop_end}
-use Rattle.arc_form.proofs.FormComplete.{loop_more}
 
 abbrev pub is_at : {O : Type 0} → ℕ → Option (ℕ × O) → Bool
 is_at l None = false
@@ -118,74 +115,3 @@ module _ {O : Type 0} where
       go : (e : Option (ℕ × O)) → entry_of rows t.sort ≡ e → is (marks_at l rows) t ≡ is_at l (entry_of rows t.sort) → take_one (marks_at l rows) (placed_operator other rows) (t ∷ ts) ≡ taken_entry l t.from (entry_of rows t.sort) (t ∷ ts)
       go None q h = ap (λ b. taken b (placed_operator other rows) t ts) (h ∙ ap (is_at l) q) ∙ ap (λ x. taken_entry l t.from x (t ∷ ts)) (sym q)
       go (Some e) q h = at e q (nat_eq e.0 l) refl (h ∙ ap (is_at l) q) ∙ ap (λ x. taken_entry l t.from x (t ∷ ts)) (sym q)
-
--- ---- two changes of a value, one after the other
-
-module _ (A : Type 0) where
-  abbrev Change : Type 0
-  Change = A → A
-
-  abbrev Two : Type 0
-  Two = Change × Change
-
-  abbrev both_made : Read Two → A → Read A
-  both_made x a = bind {A = Change} (bind x (λ r. ret (λ left. r.1 (r.0 left)))) (λ make. ret (make a))
-
-  abbrev change : Reader Change → A → Reader A
-  change f a = f >>= (λ make. ret (make a))
-
-  pub in_turn : (f g : Reader Change) (a : A) (ts : List Tok) → both_made (bind (f ts) (λ p. g >>= (λ q. ret (p, q)))) a ≡ (change f a >>= (λ b. change g b)) ts
-  in_turn f g a ts = first (f ts)
-    where
-      first : (x : Read Change) → both_made (bind x (λ p. g >>= (λ q. ret (p, q)))) a ≡ bind (bind x (λ make. ret (make a))) (λ b. change g b)
-      first (Err x) = refl
-      first (Ok x) = second (g x.1)
-        where
-          second : (y : Read Change) → both_made (bind y (λ q. ret (x.0, q))) a ≡ bind y (λ make. ret (make (x.0 a)))
-          second (Ok y) = refl
-          second (Err y) = refl
-
--- ---- loops that join from the left
-
--- two readers, whose values are taken together and given on
-pub pair_then : {A B C : Type 0} (x : Read A) (g : Reader B) (k : A × B → Reader C) → bind (bind x (λ a. g >>= (λ b. ret (a, b)))) k ≡ bind x (λ a. g >>= (λ b. k (a, b)))
-pair_then {A} {B} {C} (Ok x) g k = go (g x.1)
-  where
-    go : (y : Read B) → bind (bind y (λ b. ret (x.0, b))) k ≡ bind y (λ b. k (x.0, b))
-    go (Ok y) = refl
-    go (Err y) = refl
-pair_then (Err x) g k = refl
-
--- and of which the second is given on
-pub second_then : {A B C : Type 0} (x : Read A) (g : Reader B) (k : B → Reader C) → bind (bind {A = A × B} (bind x (λ a. g >>= (λ b. ret (a, b)))) (λ p. ret p.1)) k ≡ bind x (λ a. g >>= k)
-second_then {A} {B} {C} (Ok x) g k = go (g x.1)
-  where
-    go : (y : Read B) → bind (bind {A = A × B} (bind y (λ b. ret (x.0, b))) (λ p. ret p.1)) k ≡ bind y k
-    go (Ok y) = refl
-    go (Err y) = refl
-second_then (Err x) g k = refl
-
-module _ {A B : Type 0} (K : Kinds) (f : Reader A) (join : B → A → B) (front : (j : ℕ) → Local ⊥ 1 j f f) where
-  abbrev joined_to : B → Read (List A) → Read B
-  joined_to b x = bind {A = B → B} (bind x (λ all. ret (λ left. fold join left all))) (λ make. ret (make b))
-
-  -- what a loop reads, joined to what there is
-  abbrev pub joined : B → Reader B
-  joined b = λ us. joined_to b (loop K f us)
-
-  stops : (us : List Tok) (e : Fault × List Tok) → sees K us ≡ true → f us ≡ Err e → loop K f us ≡ Err e
-  unfolding loop
-  stops us e s q = rw (s, q) refl
-
-  -- one more is joined, or there is none
-  pub joined_is : (b : B) (us : List Tok) → joined b us ≡ if_sees K (f >>= (λ a. joined (join b a))) (ret b) us
-  joined_is b us = go (sees K us) refl (f us) refl
-    where
-      after : (a : A) (x : Read (List A)) → joined_to b (bind x (λ others. ret (a ∷ others))) ≡ joined_to (join b a) x
-      after a (Ok x) = refl
-      after a (Err x) = refl
-
-      go : (c : Bool) → sees K us ≡ c → (x : Read A) → f us ≡ x → joined b us ≡ cond (sees K us) ((f >>= (λ a. joined (join b a))) us) (ret b us)
-      go false s x q = ap (joined_to b) (loop_end f K us s) ∙ sym (ap (λ c. cond c ((f >>= (λ a. joined (join b a))) us) (ret b us)) s)
-      go true s (Ok x) q = ap (joined_to b) (loop_more K us x.1 x.0 front s q) ∙ after x.0 (loop K f x.1) ∙ sym (ap (λ y. bind y (λ a. joined (join b a))) q) ∙ sym (ap (λ c. cond c ((f >>= (λ a. joined (join b a))) us) (ret b us)) s)
-      go true s (Err e) q = ap (joined_to b) (stops us e s q) ∙ sym (ap (λ y. bind y (λ a. joined (join b a))) q) ∙ sym (ap (λ c. cond c ((f >>= (λ a. joined (join b a))) us) (ret b us)) s)

@@ -137,14 +137,14 @@ pub second_more : (U : Kinds) (xs rest : List Tok) → sees_second U xs ≡ true
 second_more U [] rest e = cc
 second_more U (t ∷ xs) rest e = sees_more U xs rest e
 
-pub and_false : (b : Bool) → (b && false) ≡ false
-and_false true = refl
-and_false false = refl
+pub and_no : (a b : Bool) → b ≡ false → (a && b) ≡ false
+and_no true b e = e
+and_no false b e = refl
 
 -- what does not begin so with others after it does not begin so alone
 pub two_less : (T U : Kinds) (xs r : List Tok) → sees_two T U (xs ++ r) ≡ false → sees_two T U xs ≡ false
 two_less T U [] r e = refl
-two_less T U (t ∷ []) r e = and_false (is T t)
+two_less T U (t ∷ []) r e = and_no (is T t) false refl
 two_less T U (t ∷ u ∷ xs) r e = e
 
 -- a test of the first two tokens, of lists that share the first one at least where it passes

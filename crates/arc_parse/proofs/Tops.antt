@@ -7,21 +7,21 @@ use Rattle.arc_ast.specs.declared.tree.Interface.{Interface}
 use Rattle.arc_ast.specs.declared.tree.Implementation.{Implementation}
 use Rattle.arc_ast.specs.Tree.{FunctionTree, GlobalTree, InterfaceTree, ImplementationTree, UnitTree, function_tree, function_trees, global_tree, global_trees, interface_tree, interface_trees, implementation_tree, implementation_trees}
 use Rattle.arc_form.specs.Operators.{fold}
-use Rattle.arc_form.specs.Reader.{Read, Reader, bind, ret}
-use Rattle.arc_form.proofs.Local.{Local}
+use Rattle.arc_form.specs.Reader.{Reader, ◌>>=◌, ret, if_sees}
+use Rattle.arc_form.proofs.Joining.{joining_is}
 use Rattle.arc_grammar.specs.Grammar.{TopTree, OfNames, OfFunction, OfGlobals, OfInterface, OfImplementation, functions_of, globals_of, interfaces_of, implementations_of, these, reads, body, begins_top, unit}
 use Rattle.arc_grammar.specs.Grammar as grammar
 use Rattle.arc_grammar.proofs.Fits.{front, lines}
 use Rattle.arc_form.specs.Joining.{joining}
 use Rattle.arc_parse.specs.private.Views.{and_top}
 
-pub top_front : (j : ℕ) → Local ⊥ 1 j (reads grammar.top) (reads grammar.top)
-unfolding lines
-top_front j = front these grammar.top refl refl j
-
 -- a unit, and after it all that is read
 abbrev pub tops_on : UnitTree → Reader UnitTree
 tops_on = joining begins_top (reads grammar.top) and_top
+
+pub read_tops_on : (u : UnitTree) (ts : List Tok) → tops_on u ts ≡ if_sees begins_top (reads grammar.top >>= (λ t. tops_on (and_top u t))) (ret u) ts
+unfolding lines
+read_tops_on = joining_is begins_top (reads grammar.top) and_top (front these grammar.top refl refl)
 
 -- a unit of these
 abbrev pub made : List FunctionTree → List GlobalTree → List InterfaceTree → List ImplementationTree → UnitTree
@@ -37,22 +37,14 @@ none_more f g i j = rw (append-nil f, append-nil g, append-nil i, append-nil j) 
 tops_fold : (u : UnitTree) (all : List TopTree) → fold and_top u all ≡ and_tops u all
 tops_fold u [] = none_more u.functions u.globals u.interfaces u.implementations
 tops_fold u (OfNames ∷ others) = tops_fold u others
-tops_fold u (OfFunction f ∷ others) = tops_fold (and_top u (OfFunction f)) others
-    ∙ ap (λ v. made v (u.globals ++ globals_of others) (u.interfaces ++ interfaces_of others) (u.implementations ++ implementations_of others)) (append_assoc u.functions (f ∷ []) (functions_of others))
-tops_fold u (OfGlobals gs ∷ others) = tops_fold (and_top u (OfGlobals gs)) others
-    ∙ ap (λ v. made (u.functions ++ functions_of others) v (u.interfaces ++ interfaces_of others) (u.implementations ++ implementations_of others)) (append_assoc u.globals gs (globals_of others))
-tops_fold u (OfInterface i ∷ others) = tops_fold (and_top u (OfInterface i)) others
-    ∙ ap (λ v. made (u.functions ++ functions_of others) (u.globals ++ globals_of others) v (u.implementations ++ implementations_of others)) (append_assoc u.interfaces (i ∷ []) (interfaces_of others))
-tops_fold u (OfImplementation i ∷ others) = tops_fold (and_top u (OfImplementation i)) others
-    ∙ ap (λ v. made (u.functions ++ functions_of others) (u.globals ++ globals_of others) (u.interfaces ++ interfaces_of others) v) (append_assoc u.implementations (i ∷ []) (implementations_of others))
+tops_fold u (OfFunction f ∷ others) = tops_fold (and_top u (OfFunction f)) others ∙ simp append_assoc
+tops_fold u (OfGlobals gs ∷ others) = tops_fold (and_top u (OfGlobals gs)) others ∙ simp append_assoc
+tops_fold u (OfInterface i ∷ others) = tops_fold (and_top u (OfInterface i)) others ∙ simp append_assoc
+tops_fold u (OfImplementation i ∷ others) = tops_fold (and_top u (OfImplementation i)) others ∙ simp append_assoc
 
 pub tops_start : (ts : List Tok) → reads unit ts ≡ tops_on (made [] [] [] []) ts
 unfolding unit grammar.tops
-tops_start ts = go (reads grammar.tops ts)
-  where
-    go : (x : Read (List TopTree)) → bind x (λ all. ret (made (functions_of all) (globals_of all) (interfaces_of all) (implementations_of all))) ≡ bind x (λ all. ret (fold and_top (made [] [] [] []) all))
-    go (Ok x) = ap (λ v. Ok (v, x.1)) (sym (tops_fold (made [] [] [] []) x.0))
-    go (Err x) = refl
+tops_start ts = simp tops_fold
 
 -- a unit of nothing
 pub nothing_yet : (fs : List Function) (gs : List Global) (is : List Interface) (js : List Implementation) → fs ≡ [] → gs ≡ [] → is ≡ [] → js ≡ []

@@ -206,6 +206,7 @@ fn block<'a>(alloc: Global, depth: usize, tokens: &'a [Token]) -> Read<'a, Stmt>
 
 /// The items of a block, each a declaration or a statement.
 #[cycle(stmts)]
+#[tactic(auto, using(crate::proofs::Fix::begin_items, crate::proofs::Fix::read_items_on, arc_form::proofs::Rows::all_push))]
 pub fn items<'a>(alloc: Global, depth: usize, tokens: &'a [Token]) -> Read<'a, Vec<Stmt>>
     requires { depth ≤ 201 }
     ensures gives { Gives (λ x. (all stmt_tree x.0.items, toks x.1.now)) result (reads (grammar.items depth) (toks tokens.now)) }

@@ -62,6 +62,7 @@ fn next_variable<'a>(alloc: Global, tokens: &'a [Token]) -> Read<'a, Variable>
 }
 
 /// These variables and the further ones, each after a comma.
+#[tactic(auto, using(crate::proofs::Fix::begin_variables, crate::proofs::Fix::read_variables_on, arc_form::proofs::Rows::all_push))]
 fn more_variables<'a>(
     alloc: Global,
     before: Vec<Variable>,
@@ -101,6 +102,7 @@ fn next_reference<'a>(alloc: Global, tokens: &'a [Token]) -> Read<'a, Variable>
 }
 
 /// These variables and the further ones, each after a comma and with a `*`.
+#[tactic(auto, using(crate::proofs::Fix::begin_references, crate::proofs::Fix::read_references_on, arc_form::proofs::Rows::all_push))]
 fn more_references<'a>(
     alloc: Global,
     before: Vec<Variable>,

@@ -1,57 +1,60 @@
 -- Which parts take tokens, and what reads the rest of a part.
-use Rattle.std.proofs.Common.{◌≡◌, ℕ, List, [], ◌∷◌, bytes_eq, Bool, true, false, Option, Ok, Err, refl, sym, ap, ◌∙◌}
+use Rattle.std.proofs.Common.{◌≡◌, ℕ, List, [], ◌∷◌, ◌++◌, bytes_eq, Bool, true, false, Option, Ok, Err, refl, sym, ap, ◌∙◌}
 use Rattle.arc_lex.specs.declared.token.Mark.TheVariants as m
 use Rattle.arc_lex.specs.declared.token.Word.TheVariants as w
 use Rattle.arc_lex.specs.Tokens.{Tok, Sort, Name, Integer, Text, Key, At, Sign}
-use Rattle.arc_ast.specs.Tree.{ParameterTree, ParametersTree, ResultTree, FunctionTree, StmtTrees}
+use Rattle.arc_ast.specs.Tree.{ParameterTree, ParametersTree, ResultTree, FunctionTree, HeadTree, MethodTree, StmtTrees, parameter_tree}
+use Rattle.arc_ast.specs.declared.tree.Parameter.{Parameter}
 use Rattle.arc_form.specs.Kinds.{main_bytes, main_or_none, kind, ◌∪◌, mark, word, name}
-use Rattle.arc_form.specs.Reader.{Read, Reader, bind, ◌>>=◌, ret, sees, take_one, from, bytes_of, named}
+use Rattle.arc_form.specs.Reader.{Read, Reader, bind, ◌>>=◌, ret, sees, if_sees, take_one, from, bytes_of, named}
 use Rattle.arc_form.proofs.Sets.{name_has}
-use Rattle.arc_form.proofs.Local.{Local}
-use Rattle.arc_grammar.specs.Grammar.{Part, these, reads, body, next_parameter, second, texts, parameters, parameters_of_main, enclosed, with_result, function_body, main_function, other_function, function, next_typed, next_head, method}
+use Rattle.arc_form.specs.Views.{all, with_row}
+use Rattle.arc_form.specs.Joining.{joining}
+use Rattle.arc_form.proofs.Rows.{push, row_is, row_start}
+use Rattle.arc_form.proofs.Joining.{joining_is}
+use Rattle.arc_form.proofs.Binding.{bind_twice}
+use Rattle.arc_grammar.specs.Grammar.{these, reads, next_parameter, more_parameters, second, texts, parameters, parameters_of_main, enclosed, with_result, function_body, main_function, other_function, function, begins_method, next_head, method_heads, method, methods}
 use Rattle.arc_grammar.proofs.Fits.{front, lines}
 use Rattle.arc_top.specs.Signatures.{reads_after, parameters_if_main, enclosed_to}
 
-pub parameter_front : (j : ℕ) → Local ⊥ 1 j (reads next_parameter) (reads next_parameter)
-unfolding lines
-parameter_front j = front these next_parameter refl refl j
+-- parameters and methods, one by one
+abbrev pub parameters_on : List ParameterTree → Reader (List ParameterTree)
+parameters_on = joining (mark m.Comma) (reads next_parameter) push
 
-pub typed_front : (j : ℕ) → Local ⊥ 1 j (reads next_typed) (reads next_typed)
-unfolding lines
-typed_front j = front these next_typed refl refl j
+pub begin_parameters : (made : List Parameter) (ts : List Tok) → with_row parameter_tree made (reads more_parameters ts) ≡ parameters_on (all parameter_tree made) ts
+unfolding more_parameters
+begin_parameters = row_is parameter_tree (mark m.Comma) (reads next_parameter)
 
-pub head_front : (j : ℕ) → Local ⊥ 1 j (reads next_head) (reads next_head)
+pub read_parameters_on : (made : List ParameterTree) (ts : List Tok) → parameters_on made ts ≡ if_sees (mark m.Comma) (reads next_parameter >>= (λ p. parameters_on (made ++ p ∷ []))) (ret made) ts
 unfolding lines
-head_front j = front these next_head refl refl j
+read_parameters_on = joining_is (mark m.Comma) (reads next_parameter) push (front these next_parameter refl refl)
 
-pub method_front : (j : ℕ) → Local ⊥ 1 j (reads method) (reads method)
+abbrev pub heads_on : List HeadTree → Reader (List HeadTree)
+heads_on = joining begins_method (reads next_head) push
+
+pub begin_heads : (ts : List Tok) → reads method_heads ts ≡ heads_on [] ts
+unfolding method_heads
+begin_heads = row_start begins_method (reads next_head)
+
+pub read_heads_on : (made : List HeadTree) (ts : List Tok) → heads_on made ts ≡ if_sees begins_method (reads next_head >>= (λ h. heads_on (made ++ h ∷ []))) (ret made) ts
 unfolding lines
-method_front j = front these method refl refl j
+read_heads_on = joining_is begins_method (reads next_head) push (front these next_head refl refl)
+
+abbrev pub methods_on : List MethodTree → Reader (List MethodTree)
+methods_on = joining begins_method (reads method) push
+
+pub begin_methods : (ts : List Tok) → reads methods ts ≡ methods_on [] ts
+unfolding methods
+begin_methods = row_start begins_method (reads method)
+
+pub read_methods_on : (made : List MethodTree) (ts : List Tok) → methods_on made ts ≡ if_sees begins_method (reads method >>= (λ h. methods_on (made ++ h ∷ []))) (ret made) ts
+unfolding lines
+read_methods_on = joining_is begins_method (reads method) push (front these method refl refl)
 
 -- after the first parameter of `main` and a comma, the texts
 pub second_texts : (first : ParameterTree) (at : ℕ) (ts rest : List Tok) → take_one (mark m.Comma) from ts ≡ Ok (at, rest) → sees (word w.Const ∪ word w.Char) rest ≡ true → reads_after second first ts ≡ reads_after texts first rest
 unfolding second
-second_texts first at ts rest comma seen = rw (comma, seen) (given_on (reads texts rest))
-  where
-    given_on : (x : Read (ParameterTree → ParametersTree)) → bind {A = ParameterTree → ParametersTree} (bind {A = ℕ × (ParameterTree → ParametersTree)} (bind x (λ make. ret (at, make))) (λ p. ret p.1)) (λ make. ret (make first)) ≡ bind x (λ make. ret (make first))
-    given_on (Ok x) = refl
-    given_on (Err x) = refl
-
--- what is after a function's name
-abbrev Rest : Type 0
-Rest = ParametersTree × Option StmtTrees
-
-module _ (type : ResultTree) (n : ℕ × List ℕ) where
-  abbrev made_of : Read Rest → Read FunctionTree
-  made_of x = bind {A = ResultTree → FunctionTree} (bind {A = (ℕ × List ℕ) × Rest} (bind x (λ y. ret (n, y))) (λ y. ret (with_result y))) (λ make. ret (make type))
-
-  with_body : (ps : ParametersTree) (x : Read (Option StmtTrees)) → made_of (bind x (λ b. ret (ps, b))) ≡ bind x (λ b. ret (with_result (n, (ps, b)) type))
-  with_body ps (Ok x) = refl
-  with_body ps (Err x) = refl
-
-  with_parameters : (x : Read ParametersTree) → made_of (bind x (λ ps. reads function_body >>= (λ b. ret (ps, b)))) ≡ bind x (λ ps. reads function_body >>= (λ b. ret (with_result (n, (ps, b)) type)))
-  with_parameters (Ok x) = with_body x.0 (reads function_body x.1)
-  with_parameters (Err x) = refl
+second_texts first at ts rest comma seen = rw (comma, seen) (simp bind_twice)
 
 abbrev by_name : ResultTree → Reader FunctionTree
 by_name type = take_one name named >>= (λ n. reads (enclosed_to n.1) >>= (λ ps. reads function_body >>= (λ b. ret (with_result (n, (ps, b)) type))))
@@ -65,8 +68,8 @@ read_function type (t ∷ ts) = go t.sort refl
   where
     signed : (called : List ℕ) (is_main : Bool) → kind t.sort ≡ (0, main_or_none is_main) → bytes_of t.sort ≡ called
         → reads_after function type (t ∷ ts) ≡ bind {A = ParametersTree} (reads (enclosed (parameters_if_main is_main)) ts) (λ ps. reads function_body >>= (λ b. ret (with_result ((t.from, called), (ps, b)) type)))
-    signed called true k b = rw (k, b) (with_parameters type (t.from, called) (reads (enclosed parameters_of_main) ts))
-    signed called false k b = rw (k, b) (with_parameters type (t.from, called) (reads (enclosed parameters) ts))
+    signed called true k b = rw (k, b) (simp bind_twice)
+    signed called false k b = rw (k, b) (simp bind_twice)
 
     go : (s : Sort) → t.sort ≡ s → reads_after function type (t ∷ ts) ≡ by_name type (t ∷ ts)
     go (Name called) e =

@@ -36,6 +36,7 @@ pub fn fields<'a>(alloc: Global, first: Visibility, tokens: &'a [Token]) -> Read
 }
 
 /// Fields and words on those after them, as many as there are; the fields before any word are visible so.
+#[tactic(auto, using(crate::proofs::Fields::read_groups_on, crate::proofs::Fields::groups_start))]
 fn groups<'a>(alloc: Global, first: Visibility, tokens: &'a [Token]) -> Read<'a, Vec<Field>>
     ensures gives { Gives (λ x. (field_trees x.0.items, toks x.1.now)) result (reads (map (grammar.fields_of first) grammar.groups) (toks tokens.now)) }
     ensures shorter { IfOk result (λ x. length x.1.now ≤ length tokens.now) }
@@ -182,6 +183,7 @@ fn plain_fields<'a>(
 }
 
 /// These fields and the further ones of this type, each of which is after a comma.
+#[tactic(auto, using(crate::proofs::Fields::read_names_on, crate::proofs::Fields::fields_push))]
 fn more_fields<'a>(
     alloc: Global,
     visibility: Visibility,
@@ -204,6 +206,7 @@ fn more_fields<'a>(
 }
 
 /// These fields and the further ones of this class, each of which is after a comma and `*`.
+#[tactic(auto, using(crate::proofs::Fields::read_starred_names_on, crate::proofs::Fields::fields_push))]
 fn more_starred_fields<'a>(
     alloc: Global,
     visibility: Visibility,

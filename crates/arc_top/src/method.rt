@@ -28,6 +28,7 @@ fn begins_method(tokens: &[Token]) -> bool
 }
 
 /// The methods that an interface declares.
+#[tactic(auto, using(crate::proofs::Rests::begin_heads, crate::proofs::Rests::read_heads_on, arc_form::proofs::Rows::all_push, crate::proofs::Trees::heads_is))]
 pub fn method_heads<'a>(alloc: Global, tokens: &'a [Token]) -> Read<'a, Vec<MethodHead>>
     ensures gives { Gives (λ x. (head_trees x.0.items, toks x.1.now)) result (reads grammar.method_heads (toks tokens.now)) }
     ensures shorter { IfOk result (λ x. length x.1.now ≤ length tokens.now) }
@@ -54,6 +55,7 @@ fn next_head<'a>(alloc: Global, tokens: &'a [Token]) -> Read<'a, MethodHead>
 }
 
 /// The methods that an implementation defines.
+#[tactic(auto, using(crate::proofs::Rests::begin_methods, crate::proofs::Rests::read_methods_on, arc_form::proofs::Rows::all_push, crate::proofs::Trees::methods_is))]
 pub fn methods<'a>(alloc: Global, tokens: &'a [Token]) -> Read<'a, Vec<Method>>
     ensures gives { Gives (λ x. (method_trees x.0.items, toks x.1.now)) result (reads grammar.methods (toks tokens.now)) }
     ensures shorter { IfOk result (λ x. length x.1.now ≤ length tokens.now) }
@@ -193,6 +195,7 @@ fn typed_parts<'a>(alloc: Global, first: Vec<u8>, tokens: &'a [Token]) -> Read<'
 }
 
 /// This selector and these parameters, and further parts with theirs.
+#[tactic(auto, using(crate::proofs::Typed::begin_typed, crate::proofs::Typed::read_typed_on, arc_form::proofs::Rows::all_push))]
 fn more_typed<'a>(
     alloc: Global,
     before: Vec<u8>,

@@ -128,6 +128,7 @@ fn next_parameter<'a>(alloc: Global, tokens: &'a [Token]) -> Read<'a, Parameter>
 }
 
 /// These parameters and the further ones, each after a comma.
+#[tactic(auto, using(crate::proofs::Rests::begin_parameters, crate::proofs::Rests::read_parameters_on, arc_form::proofs::Rows::all_push))]
 fn more_parameters<'a>(
     alloc: Global,
     before: Vec<Parameter>,

@@ -1,32 +1,12 @@
 use Rattle.std.proofs.Common.{◌+◌, sym, ap, ◌∙◌, Ok, option_map, arith}
 use Rattle.std.proofs.lemmas.Result.{err_from_is_err_and}
 use Rattle.arc_lex.specs.Tokens.{toks}
-use Rattle.arc_form.specs.Views.{all, with_row}
-use Rattle.arc_form.proofs.Rows.{row_more, row_end, row_fails}
+use Rattle.arc_form.specs.Views.{all}
 use Rattle.arc_ast.specs.Tree.{expr_tree, stmt_tree}
 use Rattle.arc_stmt.proofs.Stmts.{block_tree, block_reads, if_reads, if_fails}
-use Rattle.arc_stmt.proofs.Fix.{item_front}
 use Rattle.arc_grammar.specs.Grammar.{reads}
 use Rattle.arc_grammar.specs.Grammar as grammar
 use Rattle.arc_stmt.proofs.stmt.+stmts.Goals as goal
-
-pub items-returns-in_err-item-clause-gives : goal.items-returns-in_err-item-clause-gives
-unfolding grammar.items
-items-returns-in_err-item-clause-gives t c =
-    let p = err_from_is_err_and c.from_residual.result c.from_residual.ensures.1 in
-    rw (p.1, p.2) (row_fails stmt_tree grammar.begins_item (reads (grammar.item c.args.depth)) (item_front c.args.depth) c.in_err-item.field-0.0 (reads (grammar.items c.args.depth) (toks c.args.tokens.now)) c.items.all.items (toks c.items.rest.now) c.items.invariant.all (sym c.items-test.true ∙ c.begins_item.ensures) c.in_err-item.ensures.gives)
-
-pub items-items-preserved : goal.items-items-preserved
-unfolding grammar.items
-items-items-preserved t c = record {
-  rest = omega (arith, c.in_ok-item.ensures.shorter, c.items.invariant.rest);
-  all = row_more stmt_tree grammar.begins_item (reads (grammar.item c.args.depth)) (item_front c.args.depth) (reads (grammar.items c.args.depth) (toks c.args.tokens.now)) c.items.all.items c.in_ok-item.item (toks c.items.rest.now) (toks c.in_ok-item.after.now) c.items.invariant.all (sym c.items-test.true ∙ c.begins_item.ensures) c.in_ok-item.ensures.gives
-      ∙ ap (λ us. with_row stmt_tree us (reads (grammar.items c.args.depth) (toks c.in_ok-item.after.now))) (sym c.in_ok-push.ensures.items);
-}
-
-pub items-returns-clause-gives : goal.items-returns-clause-gives
-unfolding grammar.items
-items-returns-clause-gives t c = row_end stmt_tree grammar.begins_item (reads (grammar.item c.args.depth)) (item_front c.args.depth) (reads (grammar.items c.args.depth) (toks c.args.tokens.now)) c.items.all.items (toks c.items.rest.now) c.items.invariant.all (sym c.items-test.false ∙ c.begins_item.ensures)
 
 pub block-returns-clause-gives : goal.block-returns-clause-gives
 block-returns-clause-gives t c =

@@ -1,9 +1,10 @@
 use Rattle.std.proofs.Common.{◌≡◌, ◌+◌, ◌*◌, ◌≤◌, length}
 use Rattle.arc_lex.specs.Tokens.{toks}
-use Rattle.arc_form.specs.Views.{with_row}
+use Rattle.arc_form.specs.Views.{all}
 use Rattle.arc_ast.specs.Tree.{stmt_tree}
 use Rattle.arc_grammar.specs.Grammar.{reads}
 use Rattle.arc_grammar.specs.Grammar as grammar
+use Rattle.arc_stmt.proofs.Fix.{items_on}
 use Rattle.arc_stmt.proofs.stmt.+stmts.Given as goal
 
 abbrev pub decreases-stmt : goal.decreases-stmt
@@ -49,7 +50,7 @@ decreases-item l = 16 * length l.tokens.now + 8
 abbrev pub invariant-items-items : goal.invariant-items-items
 invariant-items-items l = record {
   rest : length l.rest ≤ length l.tokens;
-  all : reads (grammar.items l.fn.depth) (toks l.tokens) ≡ with_row stmt_tree l.all.items (reads (grammar.items l.fn.depth) (toks l.rest));
+  all : reads (grammar.items l.fn.depth) (toks l.tokens) ≡ items_on l.fn.depth (all stmt_tree l.all.items) (toks l.rest);
 }
 
 abbrev pub decreases-items-items : goal.decreases-items-items
