@@ -1,20 +1,19 @@
 -- What the rules read, as the code asks for it.
-use Rattle.std.proofs.Common.{◌≡◌, ◌≤◌, ◌-◌, min, ℕ, zero, suc, List, [], ◌∷◌, ◌++◌, true, false, cond, Ok, refl, sym, ap, ◌∙◌, arith}
+use Rattle.std.proofs.Common.{◌≡◌, ◌≤◌, ◌-◌, min, ℕ, zero, suc, List, false, cond, Ok, refl, sym, ap, ◌∙◌, arith}
 use Rattle.arc_lex.specs.Tokens.{Tok}
 use Rattle.arc_lex.specs.declared.token.Mark.TheVariants as m
 use Rattle.arc_ast.specs.declared.tree.BinaryOperator.TheVariants as operators
 use Rattle.arc_ast.specs.Tree.{ExprTree, Binary, begins}
 use Rattle.arc_form.specs.Form.{unlimited}
 use Rattle.arc_form.specs.Kinds.{mark, name}
-use Rattle.arc_form.specs.Reader.{Read, bind, ◌>>=◌, ret, sees, if_sees, take_one, from}
+use Rattle.arc_form.specs.Reader.{bind, ◌>>=◌, ret, sees, if_sees, take_one, from}
 use Rattle.arc_form.specs.Operators.{marks_at, placed_operator}
-use Rattle.arc_form.specs.Views.{all}
 use Rattle.arc_form.proofs.Joining.{joined_is}
 use Rattle.arc_form.proofs.Binding.{bind_twice, pair_then, second_then}
 use Rattle.arc_form.proofs.Sets.{sees_neither}
 use Rattle.arc_form.proofs.Local.{Local, weaker, then, local_token, local_ret}
 use Rattle.arc_form.proofs.FormLocal.{read_is, fronts}
-use Rattle.arc_grammar.specs.Grammar.{Part, Sent, rules, reads_free, reads_on, body, expr, unary, binary, condition, table, assigning, marks_up_to, join, further, more, up_to, choice, continued, conditional_expr, operations, expression, prefixed, counting, field_name, begins_suffix, suffix, suffixes, next_argument, more_arguments, add, argument_part, next_part, more_parts, add_part}
+use Rattle.arc_grammar.specs.Grammar.{Sent, rules, reads_free, reads_on, body, expr, unary, binary, condition, table, assigning, marks_up_to, join, further, more, up_to, choice, continued, conditional_expr, operations, expression, prefixed, counting, field_name, begins_suffix, suffix, suffixes, next_argument, more_arguments, add, argument_part, next_part, more_parts, add_part}
 use Rattle.arc_grammar.proofs.Fits.{facts, sure, front}
 use Rattle.arc_expr.specs.declared.operator.TheConstants.{ASSIGNING, LOOSEST}
 

@@ -1,17 +1,14 @@
 -- Ownership qualifiers, one by one.
-use Rattle.std.proofs.Common.{◌≡◌, ℕ, List, Ok, Err, refl}
+use Rattle.std.proofs.Common.{◌≡◌, List, refl}
 use Rattle.arc_lex.specs.Tokens.{Tok}
-use Rattle.arc_ast.specs.declared.tree.Qual.{Qual}
 use Rattle.arc_ast.specs.declared.tree.Qualifiers.{Qualifiers}
 use Rattle.arc_ast.specs.declared.tree.Qualifiers.TheVariants.{Unqualified, Qualified}
 use Rattle.arc_ast.specs.Types.{and_qualifier}
 use Rattle.arc_form.specs.Joining.{joining}
-use Rattle.arc_form.specs.Operators.{fold}
-use Rattle.arc_form.specs.Reader.{Read, bind, ◌>>=◌, ret, if_sees, loop}
+use Rattle.arc_form.specs.Reader.{◌>>=◌, ret, if_sees}
 use Rattle.arc_form.proofs.Joining.{joining_is}
 use Rattle.arc_form.proofs.Binding.{bind_twice}
-use Rattle.arc_form.proofs.Local.{Local}
-use Rattle.arc_grammar.specs.Grammar.{these, reads, body, begins_qualifier, qualifier, more_qualifiers, qualifiers, some_qualifiers}
+use Rattle.arc_grammar.specs.Grammar.{these, reads, begins_qualifier, qualifier, more_qualifiers, qualifiers, some_qualifiers}
 use Rattle.arc_grammar.proofs.Fits.{front}
 
 pub read_more_qualifiers : (before : Qualifiers) (ts : List Tok)

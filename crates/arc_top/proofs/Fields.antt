@@ -17,6 +17,7 @@ use Rattle.arc_grammar.proofs.Fits.{front, lines}
 use Rattle.arc_form.specs.Joining.{joining}
 use Rattle.arc_form.proofs.Joining.{joining_is}
 use Rattle.arc_form.proofs.Binding.{bind_twice, bind_if}
+use Rattle.arc_top.proofs.Alike.{bind_alike, if_alike}
 use Rattle.arc_top.specs.Fields.{begins_group, add_field, add_group, names_on, starred_names_on, object_fields_on, plain_fields_on, typed_fields_on, group_on, skip, names_skipped}
 
 -- the fields of a class after these
@@ -42,7 +43,7 @@ read_starred_names_on v type = joining_is (mark m.Comma) (reads next_starred_nam
 pub read_group : (v : Visibility) (made : List FieldTree) (ts : List Tok) → group_on (v, made) ts
     ≡ if_sees begins_fields (reads qualifiers >>= (λ q. typed_fields_on v q made >>= (λ all. ret (v, all)))) (take_one begins_visibility (λ t. visibility_of t.sort) >>= (λ next. ret (next, made))) ts
 unfolding group qualified_fields typed_fields object_fields plain_fields more_starred_names more_qualified_names
-read_group v made ts = simp (bind_if, bind_twice)
+read_group v made ts = simp (bind_if, bind_twice) (if_alike _ _ _ _ _ (bind_alike _ _ _ (λ q us. simp (bind_if, bind_twice))) refl)
 
 -- ---- the fields of a class
 
@@ -68,7 +69,7 @@ groups_start v ts = go (reads groups ts)
 pub read_fields : (v : Visibility) (ts : List Tok) → reads (fields v) ts
     ≡ if_sees (mark m.OpenBrace) (take_one (mark m.OpenBrace) from >>= (λ start. reads (map (fields_of v) groups) >>= (λ all. take_one (mark m.CloseBrace) from >>= (λ end. ret all)))) (ret []) ts
 unfolding fields
-read_fields v ts = simp bind_twice
+read_fields v ts = simp bind_twice (if_alike _ _ _ _ _ (bind_alike _ _ _ (λ start us. simp bind_twice)) refl)
 
 pub fields_push : (l : List Field) (f : Field) → field_trees (l ++ f ∷ []) ≡ field_trees l ++ field_tree f ∷ []
 fields_push [] f = refl
@@ -82,4 +83,4 @@ read_names_skipped = joining_is (mark m.Comma) (reads next_name) skip (front the
 
 pub read_class_names : (ts : List Tok) → reads class_names ts ≡ (take_one (at words.Class) from >>= (λ a. take_one name named >>= (λ n. names_skipped >>= (λ u. take_one (mark m.Semicolon) from >>= (λ end. ret tt))))) ts
 unfolding class_names more_names
-read_class_names ts = simp bind_twice
+read_class_names ts = simp bind_twice (bind_alike _ _ _ (λ a us. bind_alike _ _ _ (λ n vs. simp bind_twice)))

@@ -15,6 +15,7 @@ use Rattle.arc_form.proofs.Joining.{joining_is}
 use Rattle.arc_form.proofs.Binding.{bind_twice, bind_if}
 use Rattle.arc_grammar.specs.Grammar.{Part, these, QualifiedType, TopTree, OfFunction, OfGlobals, reads, some_qualifiers, plain_type, class_type, of_function, of_globals, main_function, other_function, function, global, next_global, more_globals, globals, next_global_reference, more_global_references, global_references, typed_top, of_plain, of_objects, plain_globals, object_globals, of_qualified}
 use Rattle.arc_grammar.proofs.Fits.{front, lines}
+use Rattle.arc_top.proofs.Alike.{bind_alike, if_alike}
 use Rattle.arc_top.specs.Globals.{add_global, globals_on, global_references_on, typed_on}
 use Rattle.arc_top.specs.Signatures.{reads_after}
 
@@ -70,15 +71,15 @@ read_typed type variables (t ∷ ts) = go (sees main (t ∷ ts)) (sees other_nam
 
 pub read_of_plain : (ts : List Tok) → reads of_plain ts ≡ (reads plain_type >>= (λ type. typed_on globals type.1)) ts
 unfolding of_plain
-read_of_plain ts = simp bind_twice (simp read_typed)
+read_of_plain ts = simp bind_twice (bind_alike _ _ _ (λ type us. read_typed type.1 globals us))
 
 pub read_of_objects : (ts : List Tok) → reads of_objects ts ≡ (reads class_type >>= (λ type. typed_on global_references type.1)) ts
 unfolding of_objects
-read_of_objects ts = simp bind_twice (simp read_typed)
+read_of_objects ts = simp bind_twice (bind_alike _ _ _ (λ type us. read_typed type.1 global_references us))
 
 -- ---- variables after qualifiers
 
 pub read_of_qualified : (ts : List Tok) → reads of_qualified ts
     ≡ (reads some_qualifiers >>= (λ q. if_sees name (reads class_type >>= (λ type. reads_after global_references (q, type.1) >>= (λ all. ret (OfGlobals all)))) (reads plain_type >>= (λ type. reads_after globals (q, type.1) >>= (λ all. ret (OfGlobals all)))))) ts
 unfolding of_qualified object_globals plain_globals
-read_of_qualified ts = simp bind_twice (simp bind_if (simp bind_twice))
+read_of_qualified ts = simp (bind_if, bind_twice) (bind_alike _ _ _ (λ q us. if_alike _ _ _ _ _ (bind_alike _ _ _ (λ type vs. simp bind_twice)) (bind_alike _ _ _ (λ type vs. simp bind_twice))))
