@@ -1,33 +1,34 @@
 -- The fields of classes: the loops that read them.
-use Rattle.std.proofs.Common.{◌≡◌, ℕ, List, [], ◌∷◌, ◌++◌, append_assoc, append-nil, Ok, Err, Bool, true, false, cond, refl, sym, ap, ◌∙◌}
+use Rattle.std.proofs.Common.{◌≡◌, ℕ, List, [], ◌∷◌, ◌++◌, append_assoc, append-nil, Ok, Err, refl, sym, ap, ◌∙◌}
 use Rattle.arc_lex.specs.Tokens.{Tok}
 use Rattle.arc_lex.specs.declared.token.Mark.TheVariants as m
 use Rattle.arc_lex.specs.declared.token.AtWord.TheVariants as words
 use Rattle.arc_ast.specs.declared.tree.Visibility.{Visibility}
 use Rattle.arc_ast.specs.declared.tree.Field.{Field}
-use Rattle.arc_ast.specs.declared.tree.Qualifiers.{Qualifiers}
-use Rattle.arc_ast.specs.Tree.{TypeTree, Object, FieldTree, field_tree, field_trees}
+use Rattle.arc_ast.specs.Tree.{FieldTree, field_tree, field_trees}
 use Rattle.arc_form.specs.Kinds.{mark, at, name}
 use Rattle.arc_form.specs.Form.{map}
 use Rattle.arc_form.specs.Operators.{fold}
-use Rattle.arc_form.specs.Reader.{Read, Reader, bind, ◌>>=◌, ret, sees, if_sees, take_one, from, named}
+use Rattle.arc_form.specs.Reader.{Read, Reader, bind, ◌>>=◌, ret, if_sees, take_one, from, named}
 use Rattle.arc_form.proofs.Local.{Local}
-use Rattle.arc_grammar.specs.Grammar.{these, QualifiedType, QualifiedName, FieldGroup, OfWord, OfType, reads, qualifiers, plain_type, begins_fields, next_name, more_names, qualified_name, next_qualified_name, more_qualified_names, starred_name, next_starred_name, more_starred_names, plain_fields, object_fields, typed_fields, qualified_fields, group, groups, fields, field_of, fields_of, named_fields, visibility_of, begins_visibility, class_names}
+use Rattle.arc_grammar.specs.Grammar.{these, QualifiedType, QualifiedName, FieldGroup, OfWord, OfType, reads, qualifiers, begins_fields, next_name, more_names, next_qualified_name, more_qualified_names, next_starred_name, more_starred_names, plain_fields, object_fields, typed_fields, qualified_fields, group, groups, fields, field_of, fields_of, named_fields, visibility_of, begins_visibility, class_names}
 use Rattle.arc_grammar.proofs.Fits.{front, lines}
 use Rattle.arc_form.specs.Joining.{joining}
 use Rattle.arc_form.proofs.Joining.{joining_is}
 use Rattle.arc_form.proofs.Binding.{bind_twice, bind_if}
-use Rattle.arc_top.proofs.Alike.{bind_alike, if_alike}
-use Rattle.arc_top.specs.Fields.{begins_group, add_field, add_group, names_on, starred_names_on, object_fields_on, plain_fields_on, typed_fields_on, group_on, skip, names_skipped}
+use Rattle.arc_top.specs.Fields.{begins_group, add_field, add_group, names_on, starred_names_on, typed_fields_on, group_on, skip, names_skipped}
 
 -- the fields of a class after these
 abbrev pub groups_on : Visibility × List FieldTree → Reader (List FieldTree)
 groups_on s = joining begins_group (reads group) add_group s >>= (λ s. ret s.1)
 
+group_front : (j : ℕ) → Local ⊥ 1 j (reads group) (reads group)
+unfolding lines
+group_front = front these group refl refl
+
 -- one group more, or none
 pub read_groups_on : (s : Visibility × List FieldTree) (ts : List Tok) → groups_on s ts ≡ if_sees begins_group (group_on s >>= (λ s. groups_on s)) (ret s.1) ts
-unfolding lines
-read_groups_on s ts = rw (joining_is begins_group (reads group) add_group (front these group refl refl) s ts) (simp (bind_if, bind_twice))
+read_groups_on s ts = rw (joining_is begins_group (reads group) add_group group_front s ts) (simp (bind_if, bind_twice))
 
 -- further names of a type, one by one
 pub read_names_on : (v : Visibility) (type : QualifiedType) (made : List FieldTree) (ts : List Tok)
@@ -41,9 +42,9 @@ unfolding lines
 read_starred_names_on v type = joining_is (mark m.Comma) (reads next_starred_name) (add_field v type) (front these next_starred_name refl refl)
 
 pub read_group : (v : Visibility) (made : List FieldTree) (ts : List Tok) → group_on (v, made) ts
-    ≡ if_sees begins_fields (reads qualifiers >>= (λ q. typed_fields_on v q made >>= (λ all. ret (v, all)))) (take_one begins_visibility (λ t. visibility_of t.sort) >>= (λ next. ret (next, made))) ts
+    ≡ if_sees begins_fields (reads qualifiers >>= (λ q us. (typed_fields_on v q made >>= (λ all. ret (v, all))) us)) (take_one begins_visibility (λ t. visibility_of t.sort) >>= (λ next. ret (next, made))) ts
 unfolding group qualified_fields typed_fields object_fields plain_fields more_starred_names more_qualified_names
-read_group v made ts = simp (bind_if, bind_twice) (if_alike _ _ _ _ _ (bind_alike _ _ _ (λ q us. simp (bind_if, bind_twice))) refl)
+read_group v made ts = simp (bind_if, bind_twice)
 
 -- ---- the fields of a class
 
@@ -67,9 +68,9 @@ groups_start v ts = go (reads groups ts)
 
 -- the braces and what is in them
 pub read_fields : (v : Visibility) (ts : List Tok) → reads (fields v) ts
-    ≡ if_sees (mark m.OpenBrace) (take_one (mark m.OpenBrace) from >>= (λ start. reads (map (fields_of v) groups) >>= (λ all. take_one (mark m.CloseBrace) from >>= (λ end. ret all)))) (ret []) ts
+    ≡ if_sees (mark m.OpenBrace) (take_one (mark m.OpenBrace) from >>= (λ start us. (reads (map (fields_of v) groups) >>= (λ all. take_one (mark m.CloseBrace) from >>= (λ end. ret all))) us)) (ret []) ts
 unfolding fields
-read_fields v ts = simp bind_twice (if_alike _ _ _ _ _ (bind_alike _ _ _ (λ start us. simp bind_twice)) refl)
+read_fields v ts = simp bind_twice
 
 pub fields_push : (l : List Field) (f : Field) → field_trees (l ++ f ∷ []) ≡ field_trees l ++ field_tree f ∷ []
 fields_push [] f = refl
@@ -81,6 +82,6 @@ pub read_names_skipped : (ts : List Tok) → names_skipped ts ≡ if_sees (mark 
 unfolding lines
 read_names_skipped = joining_is (mark m.Comma) (reads next_name) skip (front these next_name refl refl) tt
 
-pub read_class_names : (ts : List Tok) → reads class_names ts ≡ (take_one (at words.Class) from >>= (λ a. take_one name named >>= (λ n. names_skipped >>= (λ u. take_one (mark m.Semicolon) from >>= (λ end. ret tt))))) ts
+pub read_class_names : (ts : List Tok) → reads class_names ts ≡ (take_one (at words.Class) from >>= (λ a us. (take_one name named >>= (λ n vs. (names_skipped >>= (λ u. take_one (mark m.Semicolon) from >>= (λ end. ret tt))) vs)) us)) ts
 unfolding class_names more_names
-read_class_names ts = simp bind_twice (bind_alike _ _ _ (λ a us. bind_alike _ _ _ (λ n vs. simp bind_twice)))
+read_class_names ts = simp bind_twice

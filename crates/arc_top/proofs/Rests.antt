@@ -1,19 +1,19 @@
 -- Which parts take tokens, and what reads the rest of a part.
-use Rattle.std.proofs.Common.{◌≡◌, ℕ, List, [], ◌∷◌, ◌++◌, bytes_eq, Bool, true, false, Option, Ok, Err, refl, sym, ap, ◌∙◌}
+use Rattle.std.proofs.Common.{◌≡◌, ℕ, List, [], ◌∷◌, ◌++◌, bytes_eq, Bool, true, false, Ok, refl, sym, ap, ◌∙◌}
 use Rattle.arc_lex.specs.declared.token.Mark.TheVariants as m
 use Rattle.arc_lex.specs.declared.token.Word.TheVariants as w
 use Rattle.arc_lex.specs.Tokens.{Tok, Sort, Name, Integer, Text, Key, At, Sign}
-use Rattle.arc_ast.specs.Tree.{ParameterTree, ParametersTree, ResultTree, FunctionTree, HeadTree, MethodTree, StmtTrees, parameter_tree}
+use Rattle.arc_ast.specs.Tree.{ParameterTree, ParametersTree, ResultTree, FunctionTree, HeadTree, MethodTree, parameter_tree}
 use Rattle.arc_ast.specs.declared.tree.Parameter.{Parameter}
 use Rattle.arc_form.specs.Kinds.{main_bytes, main_or_none, kind, ◌∪◌, mark, word, name}
-use Rattle.arc_form.specs.Reader.{Read, Reader, bind, ◌>>=◌, ret, sees, if_sees, take_one, from, bytes_of, named}
+use Rattle.arc_form.specs.Reader.{Reader, bind, ◌>>=◌, ret, sees, if_sees, take_one, from, bytes_of, named}
 use Rattle.arc_form.proofs.Sets.{name_has}
 use Rattle.arc_form.specs.Views.{all, with_row}
 use Rattle.arc_form.specs.Joining.{joining}
 use Rattle.arc_form.proofs.Rows.{push, row_is, row_start}
 use Rattle.arc_form.proofs.Joining.{joining_is}
 use Rattle.arc_form.proofs.Binding.{bind_twice}
-use Rattle.arc_grammar.specs.Grammar.{these, reads, next_parameter, more_parameters, second, texts, parameters, parameters_of_main, enclosed, with_result, function_body, main_function, other_function, function, begins_method, next_head, method_heads, method, methods}
+use Rattle.arc_grammar.specs.Grammar.{these, reads, next_parameter, more_parameters, second, texts, enclosed, with_result, function_body, main_function, other_function, function, begins_method, next_head, method_heads, method, methods}
 use Rattle.arc_grammar.proofs.Fits.{front, lines}
 use Rattle.arc_top.specs.Signatures.{reads_after, parameters_if_main, enclosed_to}
 

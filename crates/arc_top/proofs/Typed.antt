@@ -8,9 +8,8 @@ use Rattle.arc_form.specs.Reader.{Reader, ◌>>=◌, ret, if_sees}
 use Rattle.arc_form.specs.Joining.{joining}
 use Rattle.arc_form.proofs.Binding.{bind_twice}
 use Rattle.arc_form.proofs.Joining.{joining_is}
-use Rattle.arc_grammar.specs.Grammar.{Typed, these, reads, typed, next_typed, typed_parts, and_part, selector_of, seconds}
+use Rattle.arc_grammar.specs.Grammar.{Typed, these, reads, typed, next_typed, typed_parts, selector_of, seconds}
 use Rattle.arc_grammar.proofs.Fits.{front, lines}
-use Rattle.arc_top.proofs.Alike.{bind_alike}
 use Rattle.arc_top.specs.Signatures.{reads_after, more_typed}
 
 -- one part more, with its parameter
@@ -34,6 +33,6 @@ unfolding lines
 read_typed_on = joining_is name (reads next_typed) and_typed (front these next_typed refl refl)
 
 -- the first part, and then further ones
-pub read_typed_parts : (first : List ℕ) (ts : List Tok) → reads_after typed_parts first ts ≡ (reads typed >>= (λ p. reads_after more_typed (first ++ 58 ∷ [], p ∷ []))) ts
+pub read_typed_parts : (first : List ℕ) (ts : List Tok) → reads_after typed_parts first ts ≡ (reads typed >>= (λ p us. reads_after more_typed (first ++ 58 ∷ [], p ∷ []) us)) ts
 unfolding typed_parts more_typed
-read_typed_parts first ts = simp bind_twice (bind_alike _ _ _ (λ p us. simp (bind_twice, append_assoc)))
+read_typed_parts first ts = simp (bind_twice, append_assoc)
