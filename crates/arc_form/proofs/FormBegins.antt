@@ -3,7 +3,7 @@ use Rattle.std.proofs.Common.{◌≡◌, ◌⊎◌, inl, inr, ℕ, suc, ◌<◌,
 use Rattle.std.proofs.lemmas.Bool.{le-ltb}
 use Rattle.arc_lex.specs.Tokens.{Tok}
 use Rattle.arc_form.specs.Kinds.{Kinds, none, ◌∪◌, is}
-use Rattle.arc_form.specs.Reader.{Read, Reader, Fault, misfit, too_deep, too_deep_here, unexpected, is_above, if_sees, bind, ◌>>=◌, ret, second_unexpected, sees, sees_second, sees_two, taken, loop, nested, up_to}
+use Rattle.arc_form.specs.Reader.{Read, Reader, Fault, misfit, too_deep, too_deep_here, unexpected, is_above, if_sees, bind, ◌>>=◌, ret, second_unexpected, sees, sees_second, sees_two, taken, take_one, loop, nested, up_to}
 use Rattle.arc_form.specs.Form.{Limits, unlimited, Form, Bodies, token, give, call, map, ◌⨾◌, choose, many, or_none, nest, bounded, two_ahead, avoid, run, read}
 use Rattle.arc_form.proofs.Sets.{and_no, both, sees_among, sees_none, sees_neither, sees_or}
 use Rattle.arc_form.proofs.Static.{Facts, if_so, nullable, begins, Decided, Holds, second, Fits}
@@ -48,6 +48,15 @@ ret_left (Err x) h = omega arith
 pub map_fails : {A B : Type 0} (x : Read A) (h : A → B) (e : Fault × List Tok) → bind x (λ a. ret (h a)) ≡ Err e → x ≡ Err e
 map_fails (Ok x) h e q = cc
 map_fails (Err x) h e q = let same : x ≡ e = cc in ap (λ v. Err v) same
+
+-- a token that is refused is the first
+pub token_fails : {A : Type 0} (T : Kinds) (g : Tok → A) (ts : List Tok) (e : Fault × List Tok) → take_one T g ts ≡ Err e → (e.0 ≡ misfit) × (e.1 ≡ ts)
+token_fails {A} T g [] e q = (sym (ap (λ (x : Read A). fault_of x) q), sym (ap (λ (x : Read A). rest_of x) q))
+token_fails {A} T g (t ∷ ts) e q = go (is T t) q
+  where
+    go : (b : Bool) → taken b g t ts ≡ Err e → (e.0 ≡ misfit) × (e.1 ≡ t ∷ ts)
+    go true q = cc
+    go false q = (sym (ap (λ (x : Read A). fault_of x) q), sym (ap (λ (x : Read A). rest_of x) q))
 
 pub so_seen : (b : Bool) (T : Kinds) (ts : List Tok) → sees (if_so b T) ts ≡ true → (b ≡ true) × (sees T ts ≡ true)
 so_seen true T ts e = (refl, e)

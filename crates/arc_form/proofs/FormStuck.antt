@@ -2,7 +2,7 @@
 use Rattle.std.proofs.Common.{◌≡◌, ◌⊎◌, inl, inr, ℕ, zero, suc, ◌≤◌, List, [], ◌∷◌, ◌++◌, length, append_assoc, Ok, Err, Bool, true, false, cond, not, ◌&&◌, ◌||◌, Option, Some, None, refl, sym, ap, subst, ◌∙◌, arith}
 use Rattle.arc_lex.specs.Tokens.{Tok}
 use Rattle.arc_form.specs.Kinds.{Kinds, none, ◌∪◌, is}
-use Rattle.arc_form.specs.Reader.{Read, Reader, Fault, bind, ◌>>=◌, ret, second_unexpected, first, sees, sees_two, taken, take_one, turns, loop, nested, up_to}
+use Rattle.arc_form.specs.Reader.{Read, Reader, Fault, bind, ◌>>=◌, ret, second_unexpected, first, sees, sees_two, take_one, turns, loop, nested, up_to}
 use Rattle.arc_form.specs.Form.{Limits, unlimited, Form, Bodies, token, give, call, map, ◌⨾◌, choose, many, or_none, nest, bounded, two_ahead, avoid, run, read}
 use Rattle.arc_form.specs.Meaning.{Spelling, SpellsAll, SpellsBy, Spells}
 use Rattle.arc_form.proofs.Sets.{and_no, two_less, apart, both, no_both, sees_among, sees_none, sees_other, sees_neither, sees_more}
@@ -13,7 +13,7 @@ use Rattle.arc_form.proofs.FormLocal.{or_here, or_there, read_is, ok_left}
 use Rattle.arc_form.proofs.FormReading.{Property, OfParts, by_reading}
 use Rattle.arc_form.proofs.FormHeights.{spells_body}
 use Rattle.arc_form.proofs.FormSound.{Sound, form_sound}
-use Rattle.arc_form.proofs.FormBegins.{Idle, map_fails, form_idle, form_takes}
+use Rattle.arc_form.proofs.FormBegins.{Idle, token_fails, map_fails, form_idle, form_takes}
 use Rattle.arc_form.proofs.FormStarts.{Starts, Fair, none_left, none_right, starts, start_all, some_starts, head_starts, spells_starts, form_fair}
 use Rattle.arc_form.proofs.FormAlone.{one_alone}
 
@@ -44,15 +44,7 @@ abbrev One : {A : Type 0} → Kinds → (Tok → A) → Spelling A
 One T g a rest xs = (t : Tok) × (xs ≡ t ∷ []) × (is T t ≡ true) × (a ≡ g t)
 
 token_stuck : {A : Type 0} (T : Kinds) (g : Tok → A) (u : Tok) → is T u ≡ true → (ts : List Tok) → Stuck (take_one T g) (One T g) none ts
-token_stuck {A = A} T g u p ts = record { each = λ y r e. ([], u ∷ [], g u, go ts y r e, λ r' q. (u, refl, p, refl)) }
-  where
-    of : (t : Tok) (ts : List Tok) (y : Fault) (r : List Tok) (b : Bool) → taken b g t ts ≡ Err (y, r) → t ∷ ts ≡ r
-    of t ts y r true e = cc
-    of t ts y r false e = ap (λ (x : Read A). rest_of x) e
-
-    go : (ts : List Tok) (y : Fault) (r : List Tok) → take_one T g ts ≡ Err (y, r) → ts ≡ r
-    go [] y r e = ap (λ (x : Read A). rest_of x) e
-    go (t ∷ ts) y r e = of t ts y r (is T t) e
+token_stuck T g u p ts = record { each = λ y r e. ([], u ∷ [], g u, sym (token_fails T g ts (y, r) e).1, λ r' q. (u, refl, p, refl)) }
 
 abbrev Mapped : {A B : Type 0} → (A → B) → Spelling A → Spelling B
 Mapped {A} h M b rest xs = (a : A) × (b ≡ h a) × M a rest xs

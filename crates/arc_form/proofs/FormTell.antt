@@ -2,8 +2,8 @@
 use Rattle.std.proofs.Common.{◌≡◌, ◌⊎◌, inl, inr, ℕ, zero, suc, ◌<◌, ◌≤◌, ◌+◌, List, [], ◌∷◌, ◌++◌, length, length-append, append_assoc, drop, Ok, Err, Bool, true, false, cond, Option, Some, None, refl, sym, ap, subst, ◌∙◌, arith}
 use Rattle.std.proofs.lemmas.Bool.{ltb-true}
 use Rattle.arc_lex.specs.Tokens.{Tok}
-use Rattle.arc_form.specs.Kinds.{Kinds, is}
-use Rattle.arc_form.specs.Reader.{Read, Reader, Fault, misfit, too_deep, bind, ◌>>=◌, ret, unexpected, too_deep_here, second_unexpected, sees, sees_two, if_sees, taken, take_one, turns, loop, is_above, nested, goes_over, up_to}
+use Rattle.arc_form.specs.Kinds.{Kinds}
+use Rattle.arc_form.specs.Reader.{Read, Reader, Fault, misfit, too_deep, bind, ◌>>=◌, ret, unexpected, too_deep_here, second_unexpected, sees, sees_two, if_sees, take_one, turns, loop, is_above, nested, goes_over, up_to}
 use Rattle.arc_form.specs.Form.{Limits, unlimited, Form, Bodies, token, give, call, map, ◌⨾◌, choose, many, or_none, nest, bounded, two_ahead, avoid, run, read}
 use Rattle.arc_form.specs.Meaning.{AtMost, Spelling, SpellsAll, SpellsBy, Spells}
 use Rattle.arc_form.specs.Places.{Place, Begun, OneTooMany, PassesBy, PassesWithin, Passes}
@@ -15,7 +15,7 @@ use Rattle.arc_form.proofs.FormSound.{Sound, form_sound, at_most}
 use Rattle.arc_form.proofs.FormStarts.{form_fair}
 use Rattle.arc_form.proofs.FormFirm.{Firm, form_firm}
 use Rattle.arc_form.proofs.FormStuck.{form_stuck}
-use Rattle.arc_form.proofs.FormBegins.{map_fails}
+use Rattle.arc_form.proofs.FormBegins.{token_fails, map_fails}
 use Rattle.arc_form.proofs.FormBelow.{over_takes}
 
 -- the tokens from r on come after some at which P holds
@@ -35,15 +35,7 @@ tells_as : {A : Type 0} {f : Reader A} {P Q : Place} {ts : List Tok} → Tells f
 tells_as t k = record { each = λ r e. let p = t.each r e in (p.0, p.1, k p.0 r p.2) }
 
 tells_token : {A : Type 0} (T : Kinds) (g : Tok → A) (P : Place) (ts : List Tok) → Tells (take_one T g) P ts
-tells_token {A} T g P ts = record { each = λ r e. absurd (go ts r e) }
-  where
-    of : (t : Tok) (ts r : List Tok) (b : Bool) → taken b g t ts ≡ Err (too_deep, r) → ⊥
-    of t ts r true e = cc
-    of t ts r false e = not_deep (ap (λ (z : Read A). fault_of z) e)
-
-    go : (ts r : List Tok) → take_one T g ts ≡ Err (too_deep, r) → ⊥
-    go [] r e = not_deep (ap (λ (z : Read A). fault_of z) e)
-    go (t ∷ ts) r e = of t ts r (is T t) e
+tells_token T g P ts = record { each = λ r e. absurd (not_deep (sym (token_fails T g ts (too_deep, r) e).0)) }
 
 tells_ret : {A : Type 0} {P : Place} {ts : List Tok} (a : A) → Tells (ret a) P ts
 tells_ret a = record { each = λ r e. cc }
