@@ -1,11 +1,13 @@
 -- A full-expression of so many tokens at most, read of the tokens up to the limit and one more.
-use Rattle.std.proofs.Common.{◌≡◌, ◌<◌, ◌≤◌, ◌-◌, List, length, take, drop, Ok, Err, Some, refl, sym, subst, ◌∙◌}
+use Rattle.std.proofs.lemmas.Bool.{lt-ltb, le-ltb}
+use Rattle.std.proofs.Common.{◌≡◌, ◌<◌, ◌≤◌, ◌+◌, ◌-◌, ◌&&◌, true, false, suc, nat_lt, ap, arith, List, length, take, drop, Ok, Err, Some, refl, sym, subst, ◌∙◌}
 use Rattle.arc_lex.specs.declared.token.Token.{Token}
 use Rattle.arc_lex.specs.Tokens.{Tok, toks}
 use Rattle.arc_form.specs.Form.{unlimited}
-use Rattle.arc_form.specs.Reader.{Read, Reader, Fault, misfit, too_deep, up_to}
+use Rattle.arc_form.specs.Reader.{Read, Reader, Fault, misfit, too_deep, goes_over, up_to}
 use Rattle.arc_form.proofs.FormTell.{never_deep}
-use Rattle.arc_form.proofs.Front.{AlwaysLocal, form_always}
+use Rattle.arc_form.proofs.Sets.{and_of, and_no}
+use Rattle.arc_form.proofs.Front.{AlwaysLocal, form_always, length_toks}
 use Rattle.arc_form.proofs.Front as front
 use Rattle.arc_ast.specs.Tree.{ExprTree}
 use Rattle.arc_grammar.specs.Grammar.{reads, reads_free, rules, full, expression, expr, body}
@@ -36,17 +38,29 @@ module _ (tokens ahead rest r : List Token) (first : ahead ≡ take 1001 tokens)
   pub rest_short : (y : Fault) → rules unlimited expr (toks ahead) ≡ Err (y, toks rest) → length rest ≤ length ahead
   rest_short y e = front.rest_short refl 1000 whole whole_local tokens ahead rest r first y (whole_is (toks ahead) _ e)
 
+  over : (x : Read ExprTree) → rules unlimited expr (toks ahead) ≡ x → goes_over 1000 (toks ahead) x ≡ true → r ≡ drop 1000 tokens → reads full (toks tokens) ≡ Err (too_deep, toks r)
+  over x e o d = full_is (toks tokens) ∙ front.over_so refl 1000 whole whole_local tokens ahead rest r first x (whole_is (toks ahead) _ e) o d
+
+  refused : (y : Fault) → rules unlimited expr (toks ahead) ≡ Err (y, toks rest) → (nat_lt 1000 (length (toks ahead)) && nat_lt (length (toks rest) + 1000) (suc (length (toks ahead)))) ≡ false → r ≡ drop (length ahead - length rest) tokens
+      → reads full (toks tokens) ≡ Err (misfit, toks r)
+  refused y e o d = full_is (toks tokens) ∙ front.fits_so refl 1000 whole whole_local tokens ahead rest r first (Err (misfit, toks rest)) (whole_is (toks ahead) _ (plain_fault (toks ahead) (toks rest) y e)) refl o d
+
   pub then_over : (t : ExprTree) → rules unlimited expr (toks ahead) ≡ Ok (t, toks rest) → 1000 < length ahead - length rest → r ≡ drop 1000 tokens → reads full (toks tokens) ≡ Err (too_deep, toks r)
-  then_over t e p d = full_is (toks tokens) ∙ front.then_over refl 1000 whole whole_local tokens ahead rest r first t (whole_is (toks ahead) _ e) p d
+  then_over t e p d = over (Ok (t, toks rest)) e (lt-ltb (length (toks rest) + 1000) (length (toks ahead)) (omega (arith, p, length_toks ahead, length_toks rest))) d
 
   pub then_fits : (t : ExprTree) → rules unlimited expr (toks ahead) ≡ Ok (t, toks rest) → length ahead - length rest ≤ 1000 → r ≡ drop (length ahead - length rest) tokens → reads full (toks tokens) ≡ Ok (t, toks r)
-  then_fits t e p d = full_is (toks tokens) ∙ front.then_fits refl 1000 whole whole_local tokens ahead rest r first t (whole_is (toks ahead) _ e) p d
+  then_fits t e p d =
+      full_is (toks tokens) ∙ front.fits_so refl 1000 whole whole_local tokens ahead rest r first (Ok (t, toks rest)) (whole_is (toks ahead) _ e) refl
+      (le-ltb (length (toks rest) + 1000) (length (toks ahead)) (omega (arith, p, length_toks ahead, length_toks rest))) d
 
   pub fails_over : (y : Fault) → rules unlimited expr (toks ahead) ≡ Err (y, toks rest) → 1000 < length ahead → 1000 ≤ length ahead - length rest → r ≡ drop 1000 tokens → reads full (toks tokens) ≡ Err (too_deep, toks r)
-  fails_over y e q p d = full_is (toks tokens) ∙ front.fails_over refl 1000 whole whole_local tokens ahead rest r first y (whole_is (toks ahead) _ e) q p d
+  fails_over y e q p d =
+      over (Err (y, toks rest)) e (and_of _ _ (lt-ltb 1000 (length (toks ahead)) (omega (arith, q, length_toks ahead)))
+      (lt-ltb (length (toks rest) + 1000) (suc (length (toks ahead))) (omega (arith, p, rest_short y e, length_toks ahead, length_toks rest)))) d
 
   pub fails_short : (y : Fault) → rules unlimited expr (toks ahead) ≡ Err (y, toks rest) → length ahead ≤ 1000 → r ≡ drop (length ahead - length rest) tokens → reads full (toks tokens) ≡ Err (misfit, toks r)
-  fails_short y e p d = full_is (toks tokens) ∙ front.fails_short refl 1000 whole whole_local tokens ahead rest r first misfit (whole_is (toks ahead) _ (plain_fault (toks ahead) (toks rest) y e)) p d
+  fails_short y e p d = refused y e (ap (λ b. b && nat_lt (length (toks rest) + 1000) (suc (length (toks ahead)))) (le-ltb 1000 (length (toks ahead)) (omega (arith, p, length_toks ahead)))) d
 
   pub fails_early : (y : Fault) → rules unlimited expr (toks ahead) ≡ Err (y, toks rest) → length ahead - length rest < 1000 → r ≡ drop (length ahead - length rest) tokens → reads full (toks tokens) ≡ Err (misfit, toks r)
-  fails_early y e p d = full_is (toks tokens) ∙ front.fails_early refl 1000 whole whole_local tokens ahead rest r first misfit (whole_is (toks ahead) _ (plain_fault (toks ahead) (toks rest) y e)) p d
+  fails_early y e p d =
+      refused y e (and_no (nat_lt 1000 (length (toks ahead))) _ (le-ltb (length (toks rest) + 1000) (suc (length (toks ahead))) (omega (arith, p, rest_short y e, length_toks ahead, length_toks rest)))) d

@@ -1,5 +1,5 @@
 -- What is no token, and what is one token alone.
-use Rattle.std.proofs.Common.{◌≡◌, ◌⊎◌, inl, inr, List, [], ◌∷◌, Bool, true, false, ◌||◌, append-nil, refl, sym}
+use Rattle.std.proofs.Common.{◌≡◌, ◌⊎◌, inl, inr, List, [], ◌∷◌, true, false, append-nil, refl, sym}
 use Rattle.arc_lex.specs.Tokens.{Tok}
 use Rattle.arc_form.specs.Kinds.{is}
 use Rattle.arc_form.specs.Reader.{sees}
@@ -7,12 +7,8 @@ use Rattle.arc_form.specs.Form.{Limits, unlimited, Form, token, give, map, ◌�
 use Rattle.arc_form.specs.Meaning.{Spelling, SpellsBy}
 use Rattle.arc_form.proofs.Sets.{both}
 use Rattle.arc_form.proofs.Static.{Facts, if_so, nullable, bars, alone}
-use Rattle.arc_form.proofs.FormBegins.{so_seen, none_so}
+use Rattle.arc_form.proofs.FormBegins.{either, so_seen, none_so}
 use Rattle.arc_form.proofs.FormStarts.{none_left, none_right}
-
-one_of : (a b : Bool) → (a || b) ≡ true → (a ≡ true) ⊎ (b ≡ true)
-one_of true b e = inl refl
-one_of false b e = inr e
 
 module _ {N : Type 0} {Node : N → Type 0} (facts : N → Facts) (L : Limits → (n : N) → Spelling (Node n)) where
   -- before any tokens that it does not bar
@@ -38,10 +34,10 @@ module _ {N : Type 0} {Node : N → Type 0} (facts : N → Facts) (L : Limits �
   one_alone A (token T g) t i = (g t, λ r q. (t, refl, i, refl))
   one_alone A (map {A = B} h f) t i = let x = one_alone B f t i in (h x.0, λ r q. (x.0, refl, x.1 r q))
   one_alone A (◌⨾◌ {A = B} {B = C} f g) t i = let p = so_seen (nullable facts g) (alone facts f) (t ∷ []) i in then_none f g (t ∷ []) p.0 (one_alone B f t p.1) (nothing C g p.0)
-  one_alone A (choose T f g) t i = go (one_of (is (alone facts f) t) (is (alone facts g) t) i) (λ q. one_alone A f t q) (λ q. one_alone A g t q)
+  one_alone A (choose T f g) t i = go (either (is (alone facts f) t) (is (alone facts g) t) i) (λ q. one_alone A f t q) (λ q. one_alone A g t q)
     where
-      go : (is (alone facts f) t ≡ true) ⊎ (is (alone facts g) t ≡ true) → (is (alone facts f) t ≡ true → Spelled f (t ∷ [])) → (is (alone facts g) t ≡ true → Spelled g (t ∷ [])) → Spelled (choose T f g) (t ∷ [])
+      go : (is (alone facts f) t ≡ true) ⊎ ((is (alone facts f) t ≡ false) × (is (alone facts g) t ≡ true)) → (is (alone facts f) t ≡ true → Spelled f (t ∷ [])) → (is (alone facts g) t ≡ true → Spelled g (t ∷ [])) → Spelled (choose T f g) (t ∷ [])
       go (inl i) of_f of_g = let x = of_f i in (x.0, λ r q. inl (x.1 r (none_left (bars facts f) (bars facts g) r q)))
-      go (inr i) of_f of_g = let x = of_g i in (x.0, λ r q. inr (x.1 r (none_right (bars facts f) (bars facts g) r q)))
+      go (inr (n, i)) of_f of_g = let x = of_g i in (x.0, λ r q. inr (x.1 r (none_right (bars facts f) (bars facts g) r q)))
   one_alone A (bounded f) t i = let x = one_alone A f t i in (x.0, λ r q. (tt, x.1 r q))
   one_alone A f t i = cc

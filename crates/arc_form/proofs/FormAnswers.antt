@@ -15,10 +15,10 @@ use Rattle.arc_form.proofs.Local.{Local, rest_of, loop_more}
 use Rattle.arc_form.proofs.FormLocal.{read_is, some_front}
 use Rattle.arc_form.proofs.FormBegins.{Positive, deep_begins, deep_second}
 use Rattle.arc_form.proofs.FormSound.{form_sound}
-use Rattle.arc_form.proofs.FormStarts.{Starts, start_all, head_starts, spells_starts}
+use Rattle.arc_form.proofs.FormStarts.{form_alone, Starts, start_all, head_starts, spells_starts}
 use Rattle.arc_form.proofs.FormComplete.{nested_fits, form_complete}
 use Rattle.arc_form.proofs.FormTell.{longer}
-use Rattle.arc_form.proofs.FormWhole.{begun_at, ends_there, alone}
+use Rattle.arc_form.proofs.FormWhole.{begun_at, ends_there}
 
 nested_deep : {A : Type 0} (most : Option ℕ) (d : ℕ) (T : Kinds) (f : Reader A) (r : List Tok) → is_above most d ≡ true → sees T r ≡ true → nested most d T f r ≡ Err (too_deep, r)
 unfolding nested
@@ -47,7 +47,7 @@ module _ {N : Type 0} {Node : N → Type 0} (facts : N → Facts) (body : Bodies
           let rest = empty q.0 (omega (arith, p, ap length q.1, length-append xs q.0)) in
           let same : before ≡ xs = q.1 ∙ ap (λ v. xs ++ v) rest ∙ append-nil xs in
           let left : s ≡ t ∷ r = q.2 ∙ ap (λ v. v ++ t ∷ r) rest in
-          let k = whole b (subst (SpellsBy (Spells body) unlimited f b []) (sym same) (alone facts body sure A f d unlimited b s xs m)) in
+          let k = whole b (subst (SpellsBy (Spells body) unlimited f b []) (sym same) (form_alone facts body sure unlimited f d b s xs m)) in
           ends_there facts body sure A f d (before ++ t ∷ r) (Ok (b, s)) e (λ a z. not_end z left) xs c (t ∷ k.1) k.0 (sym (ap first left))
           (subst (λ v. SpellsBy (Spells body) unlimited f k.0 [] v) (append_assoc before (t ∷ []) k.1 ∙ ap (λ v. v ++ t ∷ k.1) same) k.2)
         where

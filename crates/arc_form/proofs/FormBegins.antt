@@ -67,7 +67,7 @@ pub none_so : (b : Bool) (A : Kinds) (ts : List Tok) → b ≡ true → sees (if
 none_so true A ts e h = h
 none_so false A ts e h = cc
 
-either : (a b : Bool) → (a || b) ≡ true → (a ≡ true) ⊎ ((a ≡ false) × (b ≡ true))
+pub either : (a b : Bool) → (a || b) ≡ true → (a ≡ true) ⊎ ((a ≡ false) × (b ≡ true))
 either true b e = inl refl
 either false b e = inr (refl, e)
 

@@ -193,3 +193,7 @@ module _ {N : Type 0} {Node : N → Type 0} (facts : N → Facts) where
     -- what a form spells, it spells before tokens that it does not bar
     pub form_fair : (limits : Limits) {A : Type 0} (f : Form N Node A) → Decided facts f → (a : A) (r r' xs : List Tok) → SpellsBy (Spells body) limits f a r xs → Fair (bars facts f) r r' → SpellsBy (Spells body) limits f a r' xs
     form_fair limits f d a r r' xs x q = fair (Spells body) spells_starts (Spells body) spells_fair limits f d a r r' xs x q
+
+    -- and alone
+    pub form_alone : (limits : Limits) {A : Type 0} (f : Form N Node A) → Decided facts f → (a : A) (r xs : List Tok) → SpellsBy (Spells body) limits f a r xs → SpellsBy (Spells body) limits f a [] xs
+    form_alone limits f d a r xs x = form_fair limits f d a r [] xs x (inl refl)

@@ -12,7 +12,7 @@ use Rattle.arc_form.proofs.Local.{rest_of, fault_of}
 use Rattle.arc_form.proofs.FormLocal.{ok_left, read_is}
 use Rattle.arc_form.proofs.FormReading.{Property, OfParts, under, reading, by_reading}
 use Rattle.arc_form.proofs.FormSound.{Sound, form_sound, at_most}
-use Rattle.arc_form.proofs.FormStarts.{form_fair}
+use Rattle.arc_form.proofs.FormStarts.{form_alone}
 use Rattle.arc_form.proofs.FormFirm.{Firm, form_firm}
 use Rattle.arc_form.proofs.FormStuck.{form_stuck}
 use Rattle.arc_form.proofs.FormBegins.{token_fails, map_fails}
@@ -146,9 +146,6 @@ module _ {N : Type 0} {Node : N → Type 0} (body : Bodies N Node) where
     abbrev plain : {A : Type 0} → Form N Node A → Reader A
     plain f = run (read body) unlimited f
 
-    alone : {A : Type 0} (f : Form N Node A) → Decided facts f → (a : A) (r xs : List Tok) → SpellsBy (Spells body) unlimited f a r xs → SpellsBy (Spells body) unlimited f a [] xs
-    alone f d a r xs x = form_fair facts body sure unlimited f d a r [] xs x (inl refl)
-
     abbrev Far : {A : Type 0} → Form N Node A → List Tok → Tok → Type 0
     Far {A} f before t = Begun body f before × ((a : A) → SpellsBy (Spells body) unlimited f a [] before → Begun body f (before ++ t ∷ []))
 
@@ -178,7 +175,7 @@ module _ {N : Type 0} {Node : N → Type 0} (body : Bodies N Node) where
             let s = (form_sound facts body sure unlimited f d).each ts x.0 x.1 e in
             let p = ltb-true (length x.1 + n) (length ts) o in
             let m = longer before (t ∷ r) s.0 x.1 (sym c ∙ s.1) (omega (arith, p, l, ap length s.1, length-append s.0 x.1)) in
-            more m.0 m.1 m.2 (alone f d x.0 x.1 s.0 s.2) (omega (arith, p, l, ap length s.1, length-append s.0 x.1))
+            more m.0 m.1 m.2 (form_alone facts body sure unlimited f d x.0 x.1 s.0 s.2) (omega (arith, p, l, ap length s.1, length-append s.0 x.1))
           where
             more : (m : List Tok) {xs : List Tok} → xs ≡ before ++ m → t ∷ r ≡ m ++ x.1 → SpellsBy (Spells body) unlimited f x.0 [] xs → length before < length xs → Far f before t
             more [] {xs} k q y p = absurd (omega (arith, p, ap length k, length-append before []))

@@ -4,7 +4,6 @@ use Rattle.std.proofs.lemmas.List.{append_cancel_right}
 use Rattle.arc_lex.specs.Tokens.{Tok}
 use Rattle.arc_form.specs.Reader.{Read, Reader, Fault, misfit, too_deep, bind, ret, first}
 use Rattle.arc_form.specs.Form.{Limits, unlimited, Form, Bodies, run, read}
-use Rattle.arc_form.specs.Meaning.{SpellsBy, Spells}
 use Rattle.arc_form.specs.Places.{Begun, Passes}
 use Rattle.arc_form.specs.Whole.{SpellsWhole, end, read_whole, FitsNone}
 use Rattle.arc_form.proofs.Static.{Facts, nullable, Decided, Fits}
@@ -12,7 +11,7 @@ use Rattle.arc_form.proofs.Local.{StopsAt, rest_of, fault_of, put}
 use Rattle.arc_form.proofs.FormLocal.{need, form_local}
 use Rattle.arc_form.proofs.FormSound.{ok_is, form_sound}
 use Rattle.arc_form.proofs.FormBegins.{form_takes}
-use Rattle.arc_form.proofs.FormStarts.{form_fair}
+use Rattle.arc_form.proofs.FormStarts.{form_alone}
 use Rattle.arc_form.proofs.FormComplete.{form_complete}
 use Rattle.arc_form.proofs.FormStuck.{form_stuck}
 use Rattle.arc_form.proofs.FormBelow.{Deeper, form_below}
@@ -28,10 +27,6 @@ module _ {N : Type 0} {Node : N → Type 0} (facts : N → Facts) (body : Bodies
 
   abbrev pub plain : Reader A
   plain = run (read body) unlimited f
-
-  -- what spells a value before some tokens spells it alone
-  pub alone : (limits : Limits) (a : A) (r xs : List Tok) → SpellsBy (Spells body) limits f a r xs → SpellsWhole body limits f a xs
-  alone limits a r xs x = form_fair facts body sure limits f d a r [] xs x (inl refl)
 
   reads_whole : (limits : Limits) (a : A) (xs : List Tok) → SpellsWhole body limits f a xs → limited limits xs ≡ Ok (a, [])
   reads_whole limits a xs x = ap (limited limits) (sym (append-nil xs)) ∙ form_complete facts body sure limits f d a [] xs x refl
@@ -107,7 +102,7 @@ module _ {N : Type 0} {Node : N → Type 0} (facts : N → Facts) (body : Bodies
   pub begun_at : (ts : List Tok) (x : Read A) → plain ts ≡ x → (xs : List Tok) × (ts ≡ xs ++ rest_of x) × Begun body f xs
   begun_at ts (Ok x) e =
       let p = (form_sound facts body sure unlimited f d).each ts x.0 x.1 e in
-      (p.0, p.1, (x.0, [], subst (SpellsWhole body unlimited f x.0) (sym (append-nil p.0)) (alone unlimited x.0 x.1 p.0 p.2)))
+      (p.0, p.1, (x.0, [], subst (SpellsWhole body unlimited f x.0) (sym (append-nil p.0)) (form_alone facts body sure unlimited f d x.0 x.1 p.0 p.2)))
   begun_at ts (Err x) e =
       let k = (form_stuck facts body sure A f d ts).each x.0 x.1 e in
       (k.0, k.3, (k.2, k.1, k.4 [] refl))

@@ -1,6 +1,6 @@
 -- What is read of the tokens up to a limit and one more decides what is read of so many tokens at most.
 use Rattle.std.proofs.Common.{◌≡◌, ℕ, zero, suc, ◌<◌, ◌≤◌, ◌+◌, ◌-◌, List, [], ◌∷◌, ◌++◌, length, length-append, take, drop, nat_lt, Ok, Err, Bool, true, false, ◌&&◌, Some, refl, sym, ap, subst, ◌∙◌, arith}
-use Rattle.std.proofs.lemmas.Bool.{lt-ltb, ltb-false, le-ltb}
+use Rattle.std.proofs.lemmas.Bool.{ltb-false, le-ltb}
 use Rattle.std.proofs.Math.Seq.{drop-append_seam}
 use Rattle.arc_lex.specs.declared.token.Token.{Token}
 use Rattle.arc_lex.specs.Tokens.{Tok, tok, toks}
@@ -147,7 +147,7 @@ toks_drop zero l = refl
 toks_drop (suc n) [] = refl
 toks_drop (suc n) (t ∷ l) = toks_drop n l
 
-length_toks : (l : List Token) → length (toks l) ≡ length l
+pub length_toks : (l : List Token) → length (toks l) ≡ length l
 length_toks [] = refl
 length_toks (t ∷ l) = ap suc (length_toks l)
 
@@ -169,36 +169,17 @@ module _ {A : Type 0} {S : Type 0} (so : S) (n : ℕ) (f : Reader A) (loc : Alwa
       let many : length (toks ahead) - length (rest_of x) ≡ length ahead - length rest = omega (arith, length_toks ahead, length_toks rest, ap length e) in
       ap (λ k. drop k (toks tokens)) many ∙ at (length ahead - length rest) d
 
-  fits_so : (x : Read A) → f (toks ahead) ≡ x → rest_of x ≡ toks rest → goes_over n (toks ahead) x ≡ false → r ≡ drop (length ahead - length rest) tokens → up_to (Some n) f (toks tokens) ≡ put x (toks r)
+  pub fits_so : (x : Read A) → f (toks ahead) ≡ x → rest_of x ≡ toks rest → goes_over n (toks ahead) x ≡ false → r ≡ drop (length ahead - length rest) tokens → up_to (Some n) f (toks tokens) ≡ put x (toks r)
   fits_so x e l o d =
       stays so n f loc (toks tokens) (toks ahead) alike_toks (ap (goes_over n (toks ahead)) e ∙ o)
       ∙ ap (λ y. put y (drop (length (toks ahead) - length (rest_of y)) (toks tokens))) e ∙ ap (put x) (at_left x l d)
 
-  over_so : (x : Read A) → f (toks ahead) ≡ x → goes_over n (toks ahead) x ≡ true → r ≡ drop n tokens → up_to (Some n) f (toks tokens) ≡ Err (too_deep, toks r)
+  pub over_so : (x : Read A) → f (toks ahead) ≡ x → goes_over n (toks ahead) x ≡ true → r ≡ drop n tokens → up_to (Some n) f (toks tokens) ≡ Err (too_deep, toks r)
   over_so x e o d = over so n f loc (toks tokens) (toks ahead) alike_toks (ap (goes_over n (toks ahead)) e ∙ o) ∙ ap (λ u. Err (too_deep, u)) (at n d)
 
   -- no more are left than there were
   pub rest_short : (y : Fault) → f (toks ahead) ≡ Err (y, toks rest) → length rest ≤ length ahead
   rest_short y e = omega (arith, length_toks ahead, length_toks rest, shorter so n f loc (toks tokens) (toks ahead) alike_toks, ap (λ x. length (rest_of x)) e)
-
-  pub then_over : (a : A) → f (toks ahead) ≡ Ok (a, toks rest) → n < length ahead - length rest → r ≡ drop n tokens → up_to (Some n) f (toks tokens) ≡ Err (too_deep, toks r)
-  then_over a e p d = over_so (Ok (a, toks rest)) e (lt-ltb (length (toks rest) + n) (length (toks ahead)) (omega (arith, p, length_toks ahead, length_toks rest))) d
-
-  pub then_fits : (a : A) → f (toks ahead) ≡ Ok (a, toks rest) → length ahead - length rest ≤ n → r ≡ drop (length ahead - length rest) tokens → up_to (Some n) f (toks tokens) ≡ Ok (a, toks r)
-  then_fits a e p d = fits_so (Ok (a, toks rest)) e refl (le-ltb (length (toks rest) + n) (length (toks ahead)) (omega (arith, p, length_toks ahead, length_toks rest))) d
-
-  pub fails_over : (y : Fault) → f (toks ahead) ≡ Err (y, toks rest) → n < length ahead → n ≤ length ahead - length rest → r ≡ drop n tokens → up_to (Some n) f (toks tokens) ≡ Err (too_deep, toks r)
-  fails_over y e q p d =
-      over_so (Err (y, toks rest)) e (ap (λ b. b && nat_lt (length (toks rest) + n) (suc (length (toks ahead)))) (lt-ltb n (length (toks ahead)) (omega (arith, q, length_toks ahead)))
-      ∙ lt-ltb (length (toks rest) + n) (suc (length (toks ahead))) (omega (arith, p, rest_short y e, length_toks ahead, length_toks rest))) d
-
-  pub fails_short : (y : Fault) → f (toks ahead) ≡ Err (y, toks rest) → length ahead ≤ n → r ≡ drop (length ahead - length rest) tokens → up_to (Some n) f (toks tokens) ≡ Err (y, toks r)
-  fails_short y e p d =
-      fits_so (Err (y, toks rest)) e refl (ap (λ b. b && nat_lt (length (toks rest) + n) (suc (length (toks ahead)))) (le-ltb n (length (toks ahead)) (omega (arith, p, length_toks ahead)))) d
-
-  pub fails_early : (y : Fault) → f (toks ahead) ≡ Err (y, toks rest) → length ahead - length rest < n → r ≡ drop (length ahead - length rest) tokens → up_to (Some n) f (toks tokens) ≡ Err (y, toks r)
-  fails_early y e p d =
-      fits_so (Err (y, toks rest)) e refl (and_no (nat_lt n (length (toks ahead))) _ (le-ltb (length (toks rest) + n) (suc (length (toks ahead))) (omega (arith, p, rest_short y e, length_toks ahead, length_toks rest)))) d
 
 -- a form without limits takes a token at least and stops as its tokens decide
 pub form_always : {N : Type 0} {Node : N → Type 0} (facts : N → Facts) (body : Bodies N Node) (sure : (n : N) → Fits facts body n) (n : ℕ) {A : Type 0} (f : Form N Node A)

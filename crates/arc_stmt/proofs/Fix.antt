@@ -11,7 +11,7 @@ use Rattle.arc_form.specs.Reader.{Reader, ◌>>=◌, ret, if_sees, nested}
 use Rattle.arc_form.proofs.Rows.{push, row_is, row_start}
 use Rattle.arc_form.proofs.Joining.{joining_is}
 use Rattle.arc_form.proofs.FormLocal.{read_is}
-use Rattle.arc_grammar.specs.Grammar.{Part, these, rules, reads, body, stmt, begins_stmt, statement, item, items, begins_item, next_variable, more_variables, next_reference, more_references}
+use Rattle.arc_grammar.specs.Grammar.{these, rules, reads, body, stmt, begins_stmt, statement, item, items, begins_item, next_variable, more_variables, next_reference, more_references}
 use Rattle.arc_grammar.proofs.Fits.{facts, sure, front, lines}
 
 pub read_stmt : (d : ℕ) (ts : List Tok) → rules these (stmt d) ts ≡ nested (Some 200) d begins_stmt (reads (statement d)) ts

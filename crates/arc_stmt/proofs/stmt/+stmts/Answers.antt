@@ -4,8 +4,6 @@ use Rattle.arc_lex.specs.Tokens.{toks}
 use Rattle.arc_form.specs.Views.{all}
 use Rattle.arc_ast.specs.Tree.{expr_tree, stmt_tree}
 use Rattle.arc_stmt.proofs.Stmts.{block_tree, block_reads, if_reads, if_fails}
-use Rattle.arc_grammar.specs.Grammar.{reads}
-use Rattle.arc_grammar.specs.Grammar as grammar
 use Rattle.arc_stmt.proofs.stmt.+stmts.Goals as goal
 
 pub block-returns-clause-gives : goal.block-returns-clause-gives
