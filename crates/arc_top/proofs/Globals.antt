@@ -80,6 +80,6 @@ read_of_objects ts = simp bind_twice (bind_alike _ _ _ (λ type us. read_typed t
 
 pub read_of_qualified : (ts : List Tok) → reads of_qualified ts
     ≡ (reads some_qualifiers >>= (λ q us. if_sees name (reads class_type >>= (λ type vs. (reads_after global_references (q, type.1) >>= (λ all. ret (OfGlobals all))) vs))
-        (reads plain_type >>= (λ type vs. (reads_after globals (q, type.1) >>= (λ all. ret (OfGlobals all))) vs)) us)) ts
+    (reads plain_type >>= (λ type vs. (reads_after globals (q, type.1) >>= (λ all. ret (OfGlobals all))) vs)) us)) ts
 unfolding of_qualified object_globals plain_globals
 read_of_qualified ts = simp (bind_if, bind_twice)

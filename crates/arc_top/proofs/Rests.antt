@@ -1,4 +1,4 @@
--- Which parts take tokens, and what reads the rest of a part.
+-- Parameters and methods, one by one, and what reads the rest of a part.
 use Rattle.std.proofs.Common.{◌≡◌, ℕ, List, [], ◌∷◌, ◌++◌, bytes_eq, Bool, true, false, Ok, refl, sym, ap, ◌∙◌}
 use Rattle.arc_lex.specs.declared.token.Mark.TheVariants as m
 use Rattle.arc_lex.specs.declared.token.Word.TheVariants as w
