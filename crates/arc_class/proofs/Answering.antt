@@ -1,5 +1,5 @@
 -- From what is known of all functions of a source to an answer.
-use Rattle.std.proofs.Common.{◌≡◌, ℕ, Bool, List, [], ◌++◌, Option, Some, None, is_none, option_map, append_assoc, sym, ap, subst, ◌∙◌}
+use Rattle.std.proofs.Common.{◌≡◌, ℕ, Bool, true, List, [], ◌++◌, ◌⊎◌, inl, inr, Option, Some, None, is_some, is_none, option_map, append_assoc, refl, sym, ap, subst, ◌∙◌, true≢false}
 use Rattle.std.proofs.Math.Path.{fun_ext}
 use Rattle.arc_ast.specs.Tree.{FunctionTree, UnitTree, unit_tree}
 use Rattle.arc_ast.specs.declared.tree.TranslationUnit.{TranslationUnit}
@@ -70,3 +70,21 @@ own_known t source e = subst (λ s. Knows (unit_tree s) source) (sym e)
 
 pub nothing : (all : List Broken) → None ≡ first all → all ≡ []
 nothing all e = none_broken all (sym e)
+
+-- what is reported of two is something, where one of them is
+either_told : (a b : Option Broken) → (is_some a ≡ true) ⊎ (is_some b ≡ true) → is_some (earlier_of a b) ≡ true
+either_told None None (inl h) = h
+either_told None None (inr h) = h
+either_told None (Some b) h = refl
+either_told (Some a) None h = refl
+either_told (Some a) (Some b) h = refl
+
+-- where there is no `main`, a fault is found
+pub main_told : (main : Option ℕ) (fault own inside gone functions classes all : Option Broken) → main ≡ None → gone ≡ first (missing_main main) → own ≡ earlier_of fault gone
+    → functions ≡ earlier_of own inside → all ≡ earlier_of functions classes → all ≡ None → ⊥
+main_told main fault own inside gone functions classes all none g o f a nothing =
+    let is_gone : is_some gone ≡ true = ap is_some (g ∙ ap (λ m. first (missing_main m)) none) in
+    let is_own : is_some own ≡ true = ap is_some o ∙ either_told fault gone (inr is_gone) in
+    let is_functions : is_some functions ≡ true = ap is_some f ∙ either_told own inside (inl is_own) in
+    let is_all : is_some all ≡ true = ap is_some a ∙ either_told functions classes (inl is_functions) in
+    true≢false (sym is_all ∙ ap is_some nothing)

@@ -1,7 +1,7 @@
 -- What a table answers by the owners that it keeps.
 use Rattle.std.proofs.Common.{◌≡◌, ℕ, zero, suc, true, List, [], ◌∷◌, map, Option, Some, None, option_map, is_some, slice_get, refl, sym, ap, subst}
 use Rattle.std.proofs.Math.Path.{fun_ext}
-use Rattle.std.specs.BTreeMap.{BTreeMap}
+use Rattle.arc_class.specs.ByName.{Named}
 use Rattle.std.specs.Borrow.{Bor}
 use Rattle.arc_ast.specs.Tree.{head_tree}
 use Rattle.arc_ast.specs.declared.tree.MethodHead.{MethodHead}
@@ -28,12 +28,12 @@ named_owner : {X Y : Type 0} (f : X → Y) (class : ℕ) (o : Option X) → opti
 named_owner f class None = refl
 named_owner f class (Some x) = refl
 
-same_at : (names : BTreeMap (Bor (List ℕ)) Place) (class : ℕ) (o : Option (Bor MethodHead))
+same_at : (names : Named Place) (class : ℕ) (o : Option (Bor MethodHead))
     → option_map (λ found. class) (option_map (λ h. result_of (head_tree h.now)) o) ≡ option_map (λ found. class) (option_map (λ h. given_in names (head_tree h.now)) o)
 same_at names class None = refl
 same_at names class (Some h) = refl
 
-same_owner : (names : BTreeMap (Bor (List ℕ)) Place) (sign : Sign) (selector : List ℕ) (class : ℕ) (o : Option Entry)
+same_owner : (names : Named Place) (sign : Sign) (selector : List ℕ) (class : ℕ) (o : Option Entry)
     → option_map (λ found. class) (own_result_in class o sign selector) ≡ option_map (λ found. class) (own_given_in names class o sign selector)
 same_owner names sign selector zero None = refl
 same_owner names sign selector (suc n) None = refl
@@ -43,10 +43,10 @@ same_owner names sign selector (suc n) (Some e) = same_at names (suc n) (head_at
 abbrev own_results : List Entry → Sign → ℕ → List ℕ → Option ℕ
 own_results entries sign = owner_by (λ class selector. own_result_in class (slice_get entries class) sign selector)
 
-abbrev own_given : BTreeMap (Bor (List ℕ)) Place → List Entry → Sign → ℕ → List ℕ → Option ℕ
+abbrev own_given : Named Place → List Entry → Sign → ℕ → List ℕ → Option ℕ
 own_given names entries sign = owner_by (λ class selector. own_given_in names class (slice_get entries class) sign selector)
 
-same_owners : (names : BTreeMap (Bor (List ℕ)) Place) (entries : List Entry) (sign : Sign) → own_results entries sign ≡ own_given names entries sign
+same_owners : (names : Named Place) (entries : List Entry) (sign : Sign) → own_results entries sign ≡ own_given names entries sign
 same_owners names entries sign = fun_ext (λ class. fun_ext (λ selector. same_owner names sign selector class (slice_get entries class)))
 
 pub result_told : (table : ClassTable) (sign : Sign) (selector : List ℕ) (owners : Owners) → owners ≡ owners_in table sign → (class : ℕ) → is_some (view_at (views owners) (Some class)) ≡ true
@@ -64,7 +64,7 @@ field_told classes owners t name class known found is =
     told_at (map superclass_of_fields classes) (λ c name. own_field_in (slice_get classes c) name) (views owners) t class known name found is
 
 -- the root has no superclass
-pub root_is_top : (names : BTreeMap (Bor (List ℕ)) Place) (entries : List Entry) (rest : List EntryTree) → map (entry_tree names) entries ≡ root_entry ∷ rest → superclass_among entries 0 ≡ None
+pub root_is_top : (names : Named Place) (entries : List Entry) (rest : List EntryTree) → map (entry_tree names) entries ≡ root_entry ∷ rest → superclass_among entries 0 ≡ None
 root_is_top names [] rest e = refl
 root_is_top names (x ∷ xs) rest e = ap first_superclass e
   where

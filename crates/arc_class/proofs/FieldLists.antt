@@ -9,7 +9,7 @@ use Rattle.std.proofs.lemmas.List.{append-nil, length-map}
 use Rattle.std.proofs.lemmas.List.Concat.{flat_map-append}
 use Rattle.std.proofs.lemmas.Option.{slice_get-map, slice_get_within, none-some}
 use Rattle.std.specs.List.{flat_map}
-use Rattle.std.specs.BTreeMap.{BTreeMap}
+use Rattle.arc_class.specs.ByName.{Named}
 use Rattle.std.specs.Borrow.{Bor}
 use Rattle.std.specs.Str.{bytes_eq}
 use Rattle.arc_ast.specs.Tree.{FieldTree, InterfaceTree, UnitTree}
@@ -159,14 +159,14 @@ whole superclass places named counted = record { superclass = superclass; places
 abbrev tree_with : (List ℕ → Option ℕ) → (List ℕ → Option FoundField) → FieldsTree
 tree_with places named = record { superclass = None; places = places; named = named; counted = none_counted }
 
-pub root_is : (places : BTreeMap (Bor (List ℕ)) ℕ) (named : BTreeMap (Bor (List ℕ)) FoundField) (counted : SortCounts) → places.entries ≡ [] → named.entries ≡ [] → counted ≡ none_counted
+pub root_is : (places : Named ℕ) (named : Named FoundField) (counted : SortCounts) → places ≡ [] → named ≡ [] → counted ≡ none_counted
     → fields_tree (record { superclass = None; places = places; named = named; counted = counted }) ≡ root_fields
 root_is places named counted p n c =
     ap (whole None (at_name places) (at_name named)) c
     ∙ ap (λ f. tree_with f (at_name named)) (fun_ext (λ name. kept_none places name p)) ∙ ap (tree_with (λ name. None)) (fun_ext (λ name. kept_none named name n))
 
 -- those of a class, by the maps that are made of its fields in two parts
-pub fields_made : (u : UnitTree) (class : ℕ) (inherited next counted : SortCounts) (i : InterfaceTree) (xs ys : List FieldTree) (superclass : Option ℕ) (places : BTreeMap (Bor (List ℕ)) ℕ) (named : BTreeMap (Bor (List ℕ)) FoundField)
+pub fields_made : (u : UnitTree) (class : ℕ) (inherited next counted : SortCounts) (i : InterfaceTree) (xs ys : List FieldTree) (superclass : Option ℕ) (places : Named ℕ) (named : Named FoundField)
     → superclass ≡ class_number u.interfaces i.superclass → xs ++ ys ≡ fields_declared u class i → ((name : List ℕ) → at_name places name ≡ field_place name (xs ++ ys))
     → ((name : List ℕ) → at_name named name ≡ or_else (numbered u.interfaces class inherited xs name) (numbered u.interfaces class next ys name))
     → next ≡ with_all inherited (written_kinds xs) → counted ≡ with_all next (written_kinds ys)

@@ -1,9 +1,8 @@
 -- Maps from names: a name more, and the names of a map in turn.
 use Rattle.std.proofs.Common.{◌≡◌, ℕ, suc, ◌<◌, ◌≤◌, ◌^◌, Bool, true, false, ◌||◌, cond, List, [], ◌∷◌, ◌++◌, length, map, Option, Some, None, option_map, is_some, slice_get, nat_eq, if◌then◌else◌, refl, sym, ap, subst, ◌∙◌, true≢false, arith}
-use Rattle.std.specs.BTreeMap.{BTreeMap, keys}
 use Rattle.std.specs.Borrow.{Bor}
 use Rattle.std.specs.Cmp.Lexicographic.{slice_cmp}
-use Rattle.std.specs.Map.{lookup}
+use Rattle.std.specs.Map.{keys_of}
 use Rattle.std.specs.Ordering.{nat_cmp, is_eq}
 use Rattle.std.specs.Str.{bytes_eq}
 use Rattle.std.proofs.lemmas.Bool.Decides.{Decides-eqb}
@@ -17,11 +16,12 @@ use Rattle.arc_class.specs.declared.owners.Maps.{Maps}
 use Rattle.arc_class.specs.declared.numbered.Node.{Node}
 use Rattle.arc_class.specs.declared.numbered.TheConstants.{LEVELS}
 use Rattle.arc_class.specs.Classes.{or_else, among, and_name, number_among}
-use Rattle.arc_class.specs.Lookups.{at_name}
+use Rattle.arc_class.specs.ByName.{Named, at_name}
 use Rattle.arc_class.specs.Numbered.{at_number, IsWithin, Puts}
 use Rattle.arc_class.specs.Owners.{names_in, at_number_of, in_map, IsMap, Keeps, Adds}
 use Rattle.arc_class.proofs.Digits.{IsWithin-append, at_number-append}
 use Rattle.arc_class.proofs.Names.{self_eq, apart}
+use Rattle.arc_class.proofs.Parted.{or_append}
 
 -- ---- names and their numbers
 
@@ -185,16 +185,16 @@ any_key [] sought = false
 any_key (key ∷ others) sought = bytes_eq sought key.now || any_key others sought
 
 -- names of which these are left are put into a map
-pub record Adding (old new : Maps) (map made : Map) (all left : List (Bor (List ℕ))) (class : ℕ) : Type 0 where
+pub record Adding (old new : Maps) (map made : Map) (all left : List ℕ → Bool) (class : ℕ) : Type 0 where
   pub keeps : Keeps old new
   pub is_map : IsMap new made
-  pub found : (sought : List ℕ) → (if any_key all sought then Some class else in_map old map sought) ≡ (if any_key left sought then Some class else in_map new made sought)
+  pub found : (sought : List ℕ) → (if all sought then Some class else in_map old map sought) ≡ (if left sought then Some class else in_map new made sought)
 
-pub adding_none : (old : Maps) (map : Map) (all left : List (Bor (List ℕ))) (class : ℕ) → IsMap old map → left ≡ all → Adding old old map map all left class
+pub adding_none : (old : Maps) (map : Map) (all left : List ℕ → Bool) (class : ℕ) → IsMap old map → ((sought : List ℕ) → left sought ≡ all sought) → Adding old old map map all left class
 adding_none old map all left class m e = record {
   keeps = record { is_map = λ other h. h; same = λ other h name. refl };
   is_map = m;
-  found = λ sought. ap (λ ks. if any_key ks sought then Some class else in_map old map sought) (sym e);
+  found = λ sought. ap (λ b. if b then Some class else in_map old map sought) (sym (e sought));
 }
 
 keeps_both : (a b c : Maps) → Keeps a b → Keeps b c → Keeps a c
@@ -209,32 +209,39 @@ one_left true false value was now e = sym e
 one_left false true value was now e = refl
 one_left false false value was now e = sym e
 
-pub adding_turn : (old new next : Maps) (map made further : Map) (all left left' : List (Bor (List ℕ))) (key : Bor (List ℕ)) (class : ℕ) → left ≡ key ∷ left'
-    → Adding old new map made all left class → Adds new next made further (λ sought. bytes_eq sought key.now) class → Adding old next map further all left' class
-adding_turn old new next map made further all left left' key class e f g = record {
+pub adding_turn : (old new next : Maps) (map made further : Map) (all left left' passes : List ℕ → Bool) (class : ℕ) → ((sought : List ℕ) → left sought ≡ (passes sought || left' sought))
+    → Adding old new map made all left class → Adds new next made further passes class → Adding old next map further all left' class
+adding_turn old new next map made further all left left' passes class e f g = record {
   keeps = keeps_both old new next f.keeps g.keeps;
   is_map = g.is_map;
   found = λ sought.
-      f.found sought ∙ ap (λ ks. if any_key ks sought then Some class else in_map new made sought) e
-      ∙ one_left (bytes_eq sought key.now) (any_key left' sought) (Some class) (in_map new made sought) (in_map next further sought) (g.found sought);
+      f.found sought ∙ ap (λ b. if b then Some class else in_map new made sought) (e sought)
+      ∙ one_left (passes sought) (left' sought) (Some class) (in_map new made sought) (in_map next further sought) (g.found sought);
 }
 
-any_named : {V : Type 0} (entries : List (Bor (List ℕ) × V)) (sought : List ℕ) → any_key (map (λ e. e.0) entries) sought ≡ is_some (lookup (λ key. is_eq (slice_cmp nat_cmp sought key.now)) entries)
+pub adding_all : (old new : Maps) (map made : Map) (all left passes : List ℕ → Bool) (class : ℕ) → ((sought : List ℕ) → left sought ≡ false) → ((sought : List ℕ) → all sought ≡ passes sought)
+    → Adding old new map made all left class → Adds old new map made passes class
+adding_all old new map made all left passes class e same f = record {
+  keeps = f.keeps;
+  is_map = f.is_map;
+  found = λ sought.
+      sym (ap (λ b. if b then Some class else in_map old map sought) (sym (same sought)) ∙ f.found sought ∙ ap (λ b. if b then Some class else in_map new made sought) (e sought));
+}
+
+pub any_named : {V : Type 0} (names : Named V) (sought : List ℕ) → any_key (keys_of names) sought ≡ is_some (at_name names sought)
 any_named [] sought = refl
-any_named (e ∷ entries) sought = go (bytes_eq sought (e.0).now) (is_eq (slice_cmp nat_cmp sought (e.0).now)) (is_eq-slice_cmp sought (e.0).now) (any_named entries sought)
+any_named (e ∷ names) sought = go (bytes_eq sought (e.0).now) (is_eq (slice_cmp nat_cmp sought (e.0).now)) (is_eq-slice_cmp sought (e.0).now) (any_named names sought)
   where
-    go : (a b : Bool) → b ≡ a → any_key (map (λ e. e.0) entries) sought ≡ is_some (lookup (λ key. is_eq (slice_cmp nat_cmp sought key.now)) entries)
-        → (a || any_key (map (λ e. e.0) entries) sought) ≡ is_some (cond b (Some e.1) (lookup (λ key. is_eq (slice_cmp nat_cmp sought key.now)) entries))
+    go : (a b : Bool) → b ≡ a → any_key (keys_of names) sought ≡ is_some (at_name names sought) → (a || any_key (keys_of names) sought) ≡ is_some (cond b (Some e.1) (at_name names sought))
     go true true same h = refl
     go false false same h = h
     go true false same h = cc
     go false true same h = cc
 
-pub adding_all : {V : Type 0} (old new : Maps) (map made : Map) (left : List (Bor (List ℕ))) (names : BTreeMap (Bor (List ℕ)) V) (class : ℕ) → left ≡ []
-    → Adding old new map made (keys names) left class → Adds old new map made (λ sought. is_some (at_name names sought)) class
-adding_all old new map made left names class e f = record {
-  keeps = f.keeps;
-  is_map = f.is_map;
-  found = λ sought.
-      sym (ap (λ b. if b then Some class else in_map old map sought) (sym (any_named names.entries sought)) ∙ f.found sought ∙ ap (λ ks. if any_key ks sought then Some class else in_map new made sought) e);
-}
+-- a part before others
+pub more_named : {V : Type 0} (part others : Named V) (sought : List ℕ) → is_some (at_name (part ++ others) sought) ≡ (is_some (at_name part sought) || is_some (at_name others sought))
+more_named part others sought = ap is_some (or_append part others sought) ∙ either (at_name part sought) (at_name others sought)
+  where
+    either : {V : Type 0} (a b : Option V) → is_some (or_else a b) ≡ (is_some a || is_some b)
+    either (Some x) b = refl
+    either None b = refl

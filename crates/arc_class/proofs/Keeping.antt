@@ -1,5 +1,5 @@
 -- The first that a name is declared with.
-use Rattle.std.proofs.Common.{◌≡◌, ℕ, Bool, true, false, cond, List, [], ◌∷◌, ◌++◌, Option, Some, None, is_some, option_map, unwrap_or, if◌then◌else◌, refl, sym, ap, ◌∙◌, true≢false}
+use Rattle.std.proofs.Common.{◌≡◌, ℕ, Bool, true, false, cond, List, [], ◌∷◌, ◌++◌, Option, Some, None, is_some, option_map, if◌then◌else◌, refl, sym, ap, ◌∙◌, true≢false}
 use Rattle.std.specs.Str.{bytes_eq}
 use Rattle.std.specs.Map.{update}
 use Rattle.std.proofs.lemmas.Slice.Eq.{bytes_eq-Decides}
@@ -67,20 +67,17 @@ put_first {X} old name value sought none = go (bytes_eq name sought) refl
         sym (ap (λ o. or_else o (one_at name value sought)) (ap old (sym same) ∙ none) ∙ ap (λ b. if b then Some value else None) turned)
     go false e = sym (ap (λ b. or_else (old sought) (if b then Some value else None)) (eq_turned sought name ∙ e) ∙ or_none (old sought))
 
--- a name keeps its value where it has one, and else it gets this one
-pub put_kept : {X : Type 0} (old : List ℕ → Option X) (name : List ℕ) (value : X) (sought : List ℕ) → update bytes_eq old name (Some (unwrap_or (old name) value)) sought ≡ or_else (old sought) (one_at name value sought)
-put_kept {X} old name value sought = go (bytes_eq name sought) refl
+-- what has a value at a name keeps it
+pub stays_kept : {X : Type 0} (old : List ℕ → Option X) (name : List ℕ) (value : X) (sought : List ℕ) → is_some (old name) ≡ true → old sought ≡ or_else (old sought) (one_at name value sought)
+stays_kept {X} old name value sought some = go (bytes_eq sought name) refl
   where
-    or_this : (o : Option X) → Some (unwrap_or o value) ≡ or_else o (Some value)
-    or_this None = refl
-    or_this (Some a) = refl
+    or_some : (o other : Option X) → is_some o ≡ true → o ≡ or_else o other
+    or_some None other h = absurd (true≢false (sym h))
+    or_some (Some a) other h = refl
 
-    go : (b : Bool) → bytes_eq name sought ≡ b → cond b (Some (unwrap_or (old name) value)) (old sought) ≡ or_else (old sought) (one_at name value sought)
-    go true e =
-        let same : name ≡ sought = (bytes_eq-Decides name sought).0 e in
-        let turned : bytes_eq sought name ≡ true = eq_turned sought name ∙ e in
-        ap (λ n. Some (unwrap_or (old n) value)) same ∙ or_this (old sought) ∙ sym (ap (λ b. or_else (old sought) (if b then Some value else None)) turned)
-    go false e = sym (ap (λ b. or_else (old sought) (if b then Some value else None)) (eq_turned sought name ∙ e) ∙ or_none (old sought))
+    go : (b : Bool) → bytes_eq sought name ≡ b → old sought ≡ or_else (old sought) (if b then Some value else None)
+    go true e = or_some (old sought) (Some value) (ap (λ n. is_some (old n)) ((bytes_eq-Decides sought name).0 e) ∙ some)
+    go false e = sym (or_none (old sought))
 
 pub first_head-append : (sign : Sign) (selector : List ℕ) (xs ys : List HeadTree) → first_head sign selector (xs ++ ys) ≡ or_else (first_head sign selector xs) (first_head sign selector ys)
 first_head-append sign selector [] ys = refl

@@ -9,6 +9,7 @@ pub mod Looks
 pub mod Answering
 pub mod Leasts
 pub mod Keeping
+pub mod Parted
 pub mod Rules
 pub mod Parts
 pub mod Sorts

@@ -3,7 +3,7 @@ use Rattle.std.proofs.Common.{◌≡◌, ℕ, ◌+◌, Bool, true, false, List, 
 use Rattle.std.specs.Option.{option_and_then, option_map_or}
 use Rattle.std.proofs.lemmas.List.{length-append, map_push}
 use Rattle.std.proofs.Math.Path.{fun_ext}
-use Rattle.std.specs.BTreeMap.{BTreeMap}
+use Rattle.arc_class.specs.ByName.{Named}
 use Rattle.std.specs.Borrow.{Bor}
 use Rattle.std.specs.Str.{bytes_eq}
 use Rattle.arc_ast.specs.declared.tree.MethodHead.{MethodHead}
@@ -40,7 +40,7 @@ pushed_length old new x n e h = ap length e ∙ length-append old (x ∷ []) ∙
 
 -- ---- the methods of a class
 
-pub kept_none : {X : Type 0} (m : BTreeMap (Bor (List ℕ)) X) (name : List ℕ) → m.entries ≡ [] → at_name m name ≡ None
+pub kept_none : {X : Type 0} (m : Named X) (name : List ℕ) → m ≡ [] → at_name m name ≡ None
 kept_none m name e = rw e refl
 
 -- by what is kept of implementations
@@ -93,7 +93,7 @@ result_kept methods sign selector = go (head_at methods sign selector)
     go None = refl
     go (Some h) = refl
 
-pub given_kept : (names : BTreeMap (Bor (List ℕ)) Place) (methods : Heads) (sign : Sign) (selector : List ℕ) → option_map (given_in names) (head_in methods sign selector) ≡ given_at names methods sign selector
+pub given_kept : (names : Named Place) (methods : Heads) (sign : Sign) (selector : List ℕ) → option_map (given_in names) (head_in methods sign selector) ≡ given_at names methods sign selector
 given_kept names methods sign selector = go (head_at methods sign selector)
   where
     go : (o : Option (Bor MethodHead)) → option_map (given_in names) (option_map (λ h. head_tree h.now) o) ≡ option_map (λ h. given_in names (head_tree h.now)) o
@@ -104,7 +104,7 @@ abbrev entry_of : Option ℕ → (Sign → List ℕ → Option MethodResult) →
 entry_of superclass results = record { superclass = superclass; results = results }
 
 -- what is known of a class, where names have the numbers of its source
-pub entry_is : (u : UnitTree) (i : InterfaceTree) (names : BTreeMap (Bor (List ℕ)) Place) (superclass : Option ℕ) (methods : Heads) → superclass ≡ class_number u.interfaces i.superclass
+pub entry_is : (u : UnitTree) (i : InterfaceTree) (names : Named Place) (superclass : Option ℕ) (methods : Heads) → superclass ≡ class_number u.interfaces i.superclass
     → ((sought : List ℕ) → class_number_in names sought ≡ class_number u.interfaces sought)
     → ((sign : Sign) (selector : List ℕ) → head_in methods sign selector ≡ first_head sign selector (i.methods ++ heads (defined_by u.implementations i.name)))
     → entry_tree names (record { superclass = superclass; methods = methods }) ≡ class_entry u i
@@ -118,7 +118,7 @@ entry_is u i names superclass methods e same h =
         ∙ ap (λ (f : HeadTree → MethodResult). option_map f (first_head sign selector (i.methods ++ heads (defined_by u.implementations i.name)))) (all_given_same names u.interfaces same)
 
 -- the root has no methods of its own
-pub root_is : (names : BTreeMap (Bor (List ℕ)) Place) (methods : Heads) → ((sign : Sign) (selector : List ℕ) → head_at methods sign selector ≡ None) → entry_tree names (record { superclass = None; methods = methods }) ≡ root_entry
+pub root_is : (names : Named Place) (methods : Heads) → ((sign : Sign) (selector : List ℕ) → head_at methods sign selector ≡ None) → entry_tree names (record { superclass = None; methods = methods }) ≡ root_entry
 root_is names methods h = ap (entry_of None) (fun_ext (λ sign. fun_ext (λ selector. ap (option_map (λ h. given_in names (head_tree h.now))) (h sign selector))))
 
 abbrev class_made : Option ℕ → List Method → Option ℕ → SortCounts → Class

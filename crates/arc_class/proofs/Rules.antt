@@ -3,7 +3,7 @@ use Rattle.std.proofs.Common.{◌≡◌, ℕ, zero, suc, ◌+◌, ◌<◌, Bool,
 use Rattle.std.specs.List.{flat_map}
 use Rattle.std.proofs.lemmas.List.{take_more}
 use Rattle.std.specs.Str.{bytes_eq}
-use Rattle.std.specs.BTreeMap.{BTreeMap}
+use Rattle.arc_class.specs.ByName.{Named}
 use Rattle.std.specs.Borrow.{Bor}
 use Rattle.arc_ast.specs.declared.tree.Function.{Function}
 use Rattle.arc_ast.specs.declared.tree.Global.{Global}
@@ -110,7 +110,7 @@ places_number n (i ∷ is) name = go (bytes_eq name i.name) (interface_number is
     go false (Some m) h = h ∙ ap Some (omega arith)
 
 -- the number of a class, by what is kept of the interfaces
-pub class_number_kept : (names : BTreeMap (Bor (List ℕ)) Place) (is : List InterfaceTree) (name : List ℕ) → at_name names name ≡ places 1 is name → class_number_in names name ≡ class_number is name
+pub class_number_kept : (names : Named Place) (is : List InterfaceTree) (name : List ℕ) → at_name names name ≡ places 1 is name → class_number_in names name ≡ class_number is name
 class_number_kept names is name e = ap (λ o. if is_root name then Some 0 else o) (ap (option_map (λ p. p.number)) e ∙ places_number 1 is name ∙ go (interface_number is name))
   where
     go : (o : Option ℕ) → option_map (λ m. 1 + m) o ≡ option_map (λ n. suc n) o

@@ -1,7 +1,7 @@
 -- From the parts of a table to what it is a table of.
 use Rattle.std.proofs.Common.{◌≡◌, ℕ, zero, suc, List, [], ◌∷◌, map, slice_get, Option, Some, None, option_map, refl, sym, ap, ◌∙◌}
 use Rattle.std.specs.Option.{option_and_then}
-use Rattle.std.specs.BTreeMap.{BTreeMap}
+use Rattle.arc_class.specs.ByName.{Named}
 use Rattle.std.specs.Borrow.{Bor}
 use Rattle.std.proofs.Math.Path.{fun_ext}
 use Rattle.std.proofs.lemmas.Option.{slice_get-map}
@@ -31,7 +31,7 @@ result_said class None sign selector = None
 result_said zero (Some e) sign selector = built_in_given sign selector
 result_said (suc n) (Some e) sign selector = e.results sign selector
 
-entry_at : (u : UnitTree) (names : BTreeMap (Bor (List ℕ)) Place) (entries : List Entry) (class : ℕ) → map (entry_tree names) entries ≡ root_entry ∷ map (class_entry u) u.interfaces
+entry_at : (u : UnitTree) (names : Named Place) (entries : List Entry) (class : ℕ) → map (entry_tree names) entries ≡ root_entry ∷ map (class_entry u) u.interfaces
     → option_map (entry_tree names) (slice_get entries class) ≡ slice_get (root_entry ∷ map (class_entry u) u.interfaces) class
 entry_at u names entries class e = sym (slice_get-map (entry_tree names) entries class) ∙ ap (λ es. slice_get es class) e
 
@@ -58,7 +58,7 @@ superclass_is u table class e = go (slice_get table.entries.items class) refl �
     go None h = rw h refl
     go (Some x) h = rw h refl
 
-entry_superclasses : (names : BTreeMap (Bor (List ℕ)) Place) (entries : List Entry) → map superclass_of_entry entries ≡ map (λ t. t.superclass) (map (entry_tree names) entries)
+entry_superclasses : (names : Named Place) (entries : List Entry) → map superclass_of_entry entries ≡ map (λ t. t.superclass) (map (entry_tree names) entries)
 entry_superclasses names [] = refl
 entry_superclasses names (x ∷ xs) = ap (λ above. x.superclass ∷ above) (entry_superclasses names xs)
 
@@ -66,7 +66,7 @@ class_superclasses : (u : UnitTree) (is : List InterfaceTree) → map (λ t. t.s
 class_superclasses u [] = refl
 class_superclasses u (i ∷ is) = ap (λ above. class_number u.interfaces i.superclass ∷ above) (class_superclasses u is)
 
-superclasses_are : (u : UnitTree) (names : BTreeMap (Bor (List ℕ)) Place) (entries : List Entry) → map (entry_tree names) entries ≡ root_entry ∷ map (class_entry u) u.interfaces
+superclasses_are : (u : UnitTree) (names : Named Place) (entries : List Entry) → map (entry_tree names) entries ≡ root_entry ∷ map (class_entry u) u.interfaces
     → map superclass_of_entry entries ≡ superclasses u.interfaces
 superclasses_are u names entries e = entry_superclasses names entries ∙ ap (map (λ t. t.superclass)) e ∙ ap (λ above. None ∷ above) (class_superclasses u u.interfaces)
 

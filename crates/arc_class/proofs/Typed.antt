@@ -1,7 +1,7 @@
 -- The classes that types name.
 use Rattle.std.proofs.Common.{◌≡◌, ℕ, Bool, List, Option, Some, None, option_map, refl, ap}
 use Rattle.std.proofs.Math.Path.{fun_ext}
-use Rattle.std.specs.BTreeMap.{BTreeMap}
+use Rattle.arc_class.specs.ByName.{Named}
 use Rattle.std.specs.Borrow.{Bor}
 use Rattle.arc_ast.specs.declared.tree.Kind.{Kind}
 use Rattle.arc_ast.specs.Tree as t
@@ -22,7 +22,7 @@ class_back None = refl
 class_back (Some id) = refl
 
 -- where names have the same numbers, types name the same classes
-pub class_same : (names : BTreeMap (Bor (List ℕ)) Place) (interfaces : List InterfaceTree) → ((sought : List ℕ) → class_number_in names sought ≡ class_number interfaces sought) → (type : TypeTree)
+pub class_same : (names : Named Place) (interfaces : List InterfaceTree) → ((sought : List ℕ) → class_number_in names sought ≡ class_number interfaces sought) → (type : TypeTree)
     → type_class_in names type ≡ type_class interfaces type
 class_same names interfaces same t.Boolean = refl
 class_same names interfaces same t.Int = refl
@@ -30,20 +30,20 @@ class_same names interfaces same t.Long = refl
 class_same names interfaces same t.Id = refl
 class_same names interfaces same (t.Object at name) = ap (option_map with_number) (same name)
 
-pub result_class_same : (names : BTreeMap (Bor (List ℕ)) Place) (interfaces : List InterfaceTree) → ((sought : List ℕ) → class_number_in names sought ≡ class_number interfaces sought) → (result : ResultTree)
+pub result_class_same : (names : Named Place) (interfaces : List InterfaceTree) → ((sought : List ℕ) → class_number_in names sought ≡ class_number interfaces sought) → (result : ResultTree)
     → result_class_in names result ≡ result_class interfaces result
 result_class_same names interfaces same t.Void = refl
 result_class_same names interfaces same (t.Value type) = class_same names interfaces same type
 result_class_same names interfaces same t.Related = refl
 
 -- and methods give the same
-given_same : (names : BTreeMap (Bor (List ℕ)) Place) (interfaces : List InterfaceTree) → ((sought : List ℕ) → class_number_in names sought ≡ class_number interfaces sought) → (h : HeadTree)
+given_same : (names : Named Place) (interfaces : List InterfaceTree) → ((sought : List ℕ) → class_number_in names sought ≡ class_number interfaces sought) → (h : HeadTree)
     → given_in names h ≡ given_by interfaces h
 given_same names interfaces same h = ap (given_with (result_of h) (is_related h)) (result_class_same names interfaces same h.result)
   where
     given_with : Kind → Bool → Option ClassId → MethodResult
     given_with kind related class = record { kind = kind; class = class; related = related }
 
-pub all_given_same : (names : BTreeMap (Bor (List ℕ)) Place) (interfaces : List InterfaceTree) → ((sought : List ℕ) → class_number_in names sought ≡ class_number interfaces sought)
+pub all_given_same : (names : Named Place) (interfaces : List InterfaceTree) → ((sought : List ℕ) → class_number_in names sought ≡ class_number interfaces sought)
     → given_in names ≡ given_by interfaces
 all_given_same names interfaces same = fun_ext (given_same names interfaces same)

@@ -12,8 +12,7 @@ use Rattle.arc_class.specs.Classes.{class_number, own_result, superclasses}
 use Rattle.arc_class.specs.declared.sort_counts.SortCounts.{SortCounts}
 use Rattle.arc_class.specs.Fields.{numbered, kinds_of_fields, written_kinds, fields_declared, inherited_by, own_fields}
 use Rattle.arc_class.specs.Sorts.{none_counted, with_all, counts}
-use Rattle.std.specs.BTreeMap.{BTreeMap}
-use Rattle.std.specs.Borrow.{Bor}
+use Rattle.arc_class.specs.ByName.{Named}
 use Rattle.arc_class.specs.declared.table.MethodResult.{MethodResult}
 use Rattle.arc_class.specs.declared.table.Place.{Place}
 use Rattle.arc_class.specs.Lookups.{at_name, given_at, least_among}
@@ -23,7 +22,7 @@ pub record EntryTree : Type 0 where
   pub superclass : Option ℕ
   pub results : Sign → List ℕ → Option MethodResult
 
-abbrev pub entry_tree : BTreeMap (Bor (List ℕ)) Place → Entry → EntryTree
+abbrev pub entry_tree : Named Place → Entry → EntryTree
 entry_tree names e = record { superclass = e.superclass; results = given_at names e.methods }
 
 -- the root has none but those that are built in

@@ -1,6 +1,6 @@
 -- What maps keep of the names of a source.
 use Rattle.std.specs.Prelude.{◌≡◌, ℕ, suc, Bool, false, nat_lt, List, [], ◌∷◌, Option, Some, None, option_map, if◌then◌else◌}
-use Rattle.std.specs.BTreeMap.{BTreeMap}
+use Rattle.arc_class.specs.ByName.{Named}
 use Rattle.std.specs.Borrow.{Bor}
 use Rattle.std.specs.Str.{bytes_eq}
 use Rattle.arc_ast.specs.declared.tree.Function.{Function}
@@ -25,7 +25,7 @@ abbrev pub head_in : Heads → Sign → List ℕ → Option HeadTree
 head_in kept sign selector = option_map (λ h. head_tree h.now) (head_at kept sign selector)
 
 -- the functions that a map keeps for names
-abbrev pub function_kept : BTreeMap (Bor (List ℕ)) (Bor Function) → List ℕ → Option FunctionTree
+abbrev pub function_kept : Named (Bor Function) → List ℕ → Option FunctionTree
 function_kept kept name = option_map (λ f. function_tree f.now) (at_name kept name)
 
 -- the first interface with a name, where the first of all interfaces has this number
@@ -41,7 +41,7 @@ place_before (Some place) at = nat_lt place.at at
 abbrev pub implemented_tree : Implemented → ℕ × ImplementationTree
 implemented_tree m = (m.first, implementation_tree m.implementation.now)
 
-abbrev pub implemented_in : BTreeMap (Bor (List ℕ)) Implemented → List ℕ → Option (ℕ × ImplementationTree)
+abbrev pub implemented_in : Named Implemented → List ℕ → Option (ℕ × ImplementationTree)
 implemented_in kept name = option_map implemented_tree (at_name kept name)
 
 -- what is kept is so of a source

@@ -8,6 +8,7 @@ pub mod Classes
 pub mod Fields
 pub mod Running
 pub mod ClassRules
+pub mod ByName
 pub mod Lookups
 pub mod Table
 pub mod Fault

@@ -1,10 +1,8 @@
 -- What tables, maps and lists have at names and numbers.
+pub use Rattle.arc_class.specs.ByName.{Named, at_name}
 use Rattle.std.specs.Prelude.{ℕ, zero, suc, ◌+◌, Bool, false, List, [], ◌∷◌, map, slice_get, nat_lt, codes, Option, Some, None, option_map, Vec, if◌then◌else◌}
 use Rattle.std.specs.Global.{Global}
 use Rattle.std.specs.Str.{bytes_eq}
-use Rattle.std.specs.BTreeMap.{BTreeMap, get_by}
-use Rattle.std.specs.Cmp.Lexicographic.{slice_cmp}
-use Rattle.std.specs.Ordering.{nat_cmp}
 use Rattle.std.specs.Borrow.{Bor}
 use Rattle.arc_ast.specs.declared.tree.Kind.{Kind}
 use Rattle.arc_ast.specs.declared.tree.MethodHead.{MethodHead}
@@ -37,26 +35,22 @@ number_of_selector selector = selector.0
 abbrev pub number_of_method : MethodId → ℕ
 number_of_method method = method.0
 
--- what a map from names has at a name
-abbrev pub at_name : {X : Type 0} → BTreeMap (Bor (List ℕ)) X → List ℕ → Option X
-at_name map name = get_by (λ key. slice_cmp nat_cmp name key.now) map
-
 -- the number of the class with a name, by a map from the names of interfaces
-abbrev pub class_number_in : BTreeMap (Bor (List ℕ)) Place → List ℕ → Option ℕ
+abbrev pub class_number_in : Named Place → List ℕ → Option ℕ
 class_number_in names name = if is_root name then Some 0 else option_map (λ p. p.number) (at_name names name)
 
 -- the class that a type names, by such a map
-abbrev pub type_class_in : BTreeMap (Bor (List ℕ)) Place → TypeTree → Option ClassId
+abbrev pub type_class_in : Named Place → TypeTree → Option ClassId
 type_class_in names (Object at name) = option_map (λ n. record { 0 = n }) (class_number_in names name)
 type_class_in names _ = None
 
 -- the class of a result whose type names one, by such a map
-abbrev pub result_class_in : BTreeMap (Bor (List ℕ)) Place → ResultTree → Option ClassId
+abbrev pub result_class_in : Named Place → ResultTree → Option ClassId
 result_class_in names (Value type) = type_class_in names type
 result_class_in names _ = None
 
 -- what a method gives, by such a map
-abbrev pub given_in : BTreeMap (Bor (List ℕ)) Place → HeadTree → MethodResult
+abbrev pub given_in : Named Place → HeadTree → MethodResult
 given_in names h = record { kind = result_of h; class = result_class_in names h.result; related = is_related h }
 
 -- the method of a sign that maps have at a selector
@@ -74,10 +68,10 @@ own_result_in zero (Some e) sign selector = built_in_result sign selector
 own_result_in (suc n) (Some e) sign selector = result_at e.methods sign selector
 
 -- the same with the class of an object that it gives
-abbrev pub given_at : BTreeMap (Bor (List ℕ)) Place → Heads → Sign → List ℕ → Option MethodResult
+abbrev pub given_at : Named Place → Heads → Sign → List ℕ → Option MethodResult
 given_at names heads sign selector = option_map (λ h. given_in names (head_tree h.now)) (head_at heads sign selector)
 
-abbrev pub own_given_in : BTreeMap (Bor (List ℕ)) Place → (class : ℕ) → Option Entry → Sign → List ℕ → Option MethodResult
+abbrev pub own_given_in : Named Place → (class : ℕ) → Option Entry → Sign → List ℕ → Option MethodResult
 own_given_in names class None sign selector = None
 own_given_in names zero (Some e) sign selector = built_in_given sign selector
 own_given_in names (suc n) (Some e) sign selector = given_at names e.methods sign selector
@@ -93,7 +87,7 @@ abbrev pub superclass_of_entry : Entry → Option ℕ
 superclass_of_entry e = e.superclass
 
 -- the nearest that a class and those above it have
-abbrev pub given_among : BTreeMap (Bor (List ℕ)) Place → List Entry → Option ℕ → Sign → List ℕ → Option MethodResult
+abbrev pub given_among : Named Place → List Entry → Option ℕ → Sign → List ℕ → Option MethodResult
 given_among names entries from sign selector =
     first_that_has (λ class. own_given_in names class (slice_get entries class) sign selector) (ancestry (map superclass_of_entry entries) from)
 

@@ -1,7 +1,7 @@
 -- What a walk through bodies finds, and what it knows of names.
 use Rattle.std.specs.Prelude.{ℕ, Bool, false, ◌||◌, List, [], ◌∷◌, ◌++◌, flat_map, Option, Some, None, is_some, is_none}
 use Rattle.std.specs.Str.{bytes_eq}
-use Rattle.std.specs.BTreeMap.{BTreeMap}
+use Rattle.arc_class.specs.ByName.{Named}
 use Rattle.std.specs.Borrow.{Bor}
 use Rattle.arc_ast.specs.Tree as t
 use Rattle.arc_ast.specs.Tree.{TypeTree, ExprTree, ExprTrees, Integer, Text, Paren, Call, Nil, Itself, Name, Unary, Cast, Binary, Conditional, Arrow, Assign, Update, Send, SendSuper, no_exprs, and_expr, VariableTree, StmtTree, StmtTrees, Block, Empty, Simple, Return, Variables, If, IfElse, While, Do, For, Break, Continue, no_stmts, and_stmt, ParameterTree, FunctionTree, MethodTree, ImplementationTree, UnitTree}
@@ -129,7 +129,7 @@ abbrev pub missing_of : UnitTree → Missing
 missing_of u = record { bodies = λ name. lacks_body (known u.functions name); classes = λ name. is_none (class_number u.interfaces name) }
 
 -- whether a function with a name is declared, and none has a body
-abbrev pub lacks : BTreeMap (Bor (List ℕ)) Declared → List ℕ → Bool
+abbrev pub lacks : Named Declared → List ℕ → Bool
 lacks known name = lacks_body (at_name known name)
 
 -- what isn't there, by what is kept of a source
@@ -137,5 +137,5 @@ abbrev pub missing_in : Source → Missing
 missing_in source = record { bodies = lacks source.known; classes = λ name. is_none (class_number_in source.names name) }
 
 -- whether a name stands in a scope
-abbrev pub holds : BTreeMap (Bor (List ℕ)) (Unit {0}) → List ℕ → Bool
+abbrev pub holds : Named (Unit {0}) → List ℕ → Bool
 holds scope name = is_some (at_name scope name)

@@ -11,7 +11,7 @@ ghost use Rattle.arc_class.specs.Fields.{all_fields_from};
 ghost use Rattle.arc_class.specs.Kept.{head_in, Knows};
 ghost use Rattle.arc_class.specs.Running as running;
 ghost use Rattle.arc_class.specs.Running.{method_made, with_method, methods_from, dealloc_from, class_with};
-ghost use Rattle.std.specs.BTreeMap.{BTreeMap};
+ghost use Rattle.arc_class.specs.ByName.{Named};
 ghost use Rattle.std.specs.Borrow.{Bor};
 ghost use Rattle.arc_class.specs.declared.table.Place.{Place};
 ghost use Rattle.arc_class.specs.Table.{names_of, list_of, built_in_from};
@@ -223,7 +223,7 @@ fn dealloc_from(first: usize, methods: &[Method]) -> Result<Option<usize>, Class
 
 /// What a table knows of the root.
 fn root_entry<'a>(alloc: Global) -> Entry<'a>
-    ensures { (names : BTreeMap (Bor (List ℕ)) Place) → entry_tree names result ≡ root_entry }
+    ensures { (names : Named Place) → entry_tree names result ≡ root_entry }
 {
     Entry {
         superclass: None,

@@ -246,7 +246,7 @@ impl<'a> Source<'a> {
         requires owners { TellsFields fields.now owners.now }
         ensures { IfOk result (λ fault. option_map told fault ≡ first (broken_interfaces (unit_tree self.now.unit.now) [] (unit_tree self.now.unit.now).interfaces)) }
     {
-        let mut before = Scope::new(alloc);
+        let mut before = Scope::with_room(alloc, self.unit.interfaces.len())?;
         let mut fault = None;
         let mut class = 0;
         for interface in &self.unit.interfaces {
@@ -300,7 +300,7 @@ impl<'a> Source<'a> {
         ensures { IfOk result (λ fault. option_map told fault
             ≡ first (broken_implementations (unit_tree self.now.unit.now) [] (unit_tree self.now.unit.now).implementations)) }
     {
-        let mut before = Scope::new(alloc);
+        let mut before = Scope::with_room(alloc, self.unit.implementations.len())?;
         let mut fault = None;
         for implementation in &self.unit.implementations {
             let own = self.implementation_fault(alloc, &before, implementation)?;

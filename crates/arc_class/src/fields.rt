@@ -16,6 +16,7 @@ ghost use Rattle.arc_class.specs.Lookups.{at_name, class_number_in, own_field_in
 ghost use Rattle.arc_class.specs.Owners.{TellsFields};
 ghost use Rattle.arc_class.specs.Sorts.{with_all};
 
+use crate::by_name::ByName;
 use crate::fault::fault_if;
 use crate::heads::keep_first;
 use crate::kept::Source;
@@ -27,10 +28,9 @@ use arc_ast::tree::{Interface, Kind, Qual};
 use arc_fault::class::ClassFault;
 use arc_sites::violation::earlier;
 use std::alloc::{AllocError, Global};
-use std::collections::BTreeMap;
 
 /// The place of the first field of each name.
-pub type FieldPlaces<'a> = BTreeMap<&'a [u8], usize>;
+pub type FieldPlaces<'a> = ByName<'a, usize>;
 
 /// The fields that a class declares: those in its interface's braces and those in its
 /// implementation's, in the order in which these stand in the file.
@@ -47,7 +47,7 @@ pub struct ClassFields<'a> {
     /// The place of its own first field with each name.
     pub places: FieldPlaces<'a>,
     /// Its own fields.
-    pub named: BTreeMap<&'a [u8], FoundField>,
+    pub named: ByName<'a, FoundField>,
     /// How many fields its objects have of each sort, inherited ones too.
     pub counted: SortCounts,
 }
@@ -101,7 +101,7 @@ fn field_after<'a>(
 /// Memory: there was none, or so many fields have no numbers.
 fn keep_fields<'a>(
     names: &Names<'a>,
-    named: &mut BTreeMap<&'a [u8], FoundField>,
+    named: &mut ByName<'a, FoundField>,
     owner: ClassId,
     before: SortCounts,
     fields: &'a [tree::Field],
@@ -380,7 +380,7 @@ fn root_fields<'a>(alloc: Global) -> ClassFields<'a>
     ClassFields {
         superclass: None,
         places: FieldPlaces::new(alloc),
-        named: BTreeMap::new(alloc),
+        named: ByName::new(alloc),
         counted: SortCounts::none(),
     }
 }
@@ -457,7 +457,7 @@ impl<'a> Source<'a> {
         let owner = ClassId(class);
         let own = self.own_fields(class, interface);
         let places = field_places(alloc, &own)?;
-        let mut named = BTreeMap::new(alloc);
+        let mut named = ByName::new(alloc);
         let names = &self.names;
         let before = keep_fields(names, &mut named, owner, inherited, own.earlier)?;
         let counted = keep_fields(names, &mut named, owner, before, own.later)?;

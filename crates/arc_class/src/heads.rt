@@ -1,34 +1,36 @@
 //! Methods by their signs and selectors, and the first value of each name.
-ghost use Rattle.std.specs.Prelude.{◌≡◌, ℕ, List, [], ◌∷◌, None, OnOk};
+ghost use Rattle.std.specs.Prelude.{◌≡◌, ℕ, List, [], ◌∷◌, None, IfOk, OnOk};
 ghost use Rattle.arc_ast.specs.declared.tree.Sign.{Sign};
 ghost use Rattle.arc_ast.specs.Tree.{head_tree, head_trees, method_trees};
 ghost use Rattle.arc_class.specs.Classes.{heads, first_head, is_related, or_else};
 ghost use Rattle.arc_class.specs.Kept.{one_at, head_in};
 ghost use Rattle.arc_class.specs.Table.{at_name, head_at};
 
+use crate::by_name::ByName;
 use crate::table::at_name;
 use arc_ast::tree::{Kind, Method, MethodHead, ResultType, Sign, TypeName};
 use arc_spec::family::{gives_related, method_family};
 use std::alloc::{AllocError, Global};
-use std::collections::BTreeMap;
 
 /// Keeps the value for the name, unless there is one.
 pub fn keep_first<'a, V: Copy>(
-    map: &mut BTreeMap<&'a [u8], V>,
+    map: &mut ByName<'a, V>,
     name: &'a [u8],
     value: V,
 ) -> Result<(), AllocError>
     ensures { OnOk result ((sought : List ℕ) → at_name map.new sought ≡ or_else (at_name map.old sought) (one_at name.now value sought)) }
 {
-    map.entry(name)?.or_insert(value);
+    if at_name(map, name).is_none() {
+        map.insert(name, value)?;
+    }
     Ok(())
 }
 
 /// A method for each sign and selector.
 #[derive(Drop)]
 pub struct Heads<'a> {
-    pub class_methods: BTreeMap<&'a [u8], &'a MethodHead>,
-    pub instance_methods: BTreeMap<&'a [u8], &'a MethodHead>,
+    pub class_methods: ByName<'a, &'a MethodHead>,
+    pub instance_methods: ByName<'a, &'a MethodHead>,
 }
 
 impl<'a> Heads<'a> {
@@ -37,9 +39,19 @@ impl<'a> Heads<'a> {
         ensures { (sign : Sign) (selector : List ℕ) → head_at result sign selector ≡ None }
     {
         Heads {
-            class_methods: BTreeMap::new(alloc),
-            instance_methods: BTreeMap::new(alloc),
+            class_methods: ByName::new(alloc),
+            instance_methods: ByName::new(alloc),
         }
+    }
+
+    /// No methods, with room for so many of each sign.
+    pub fn with_room(alloc: Global, methods: usize) -> Result<Heads<'a>, AllocError>
+        ensures { IfOk result (λ heads. (sign : Sign) (selector : List ℕ) → head_at heads sign selector ≡ None) }
+    {
+        Ok(Heads {
+            class_methods: ByName::with_room(alloc, methods)?,
+            instance_methods: ByName::with_room(alloc, methods)?,
+        })
     }
 
     /// The method with the selector.
@@ -53,7 +65,7 @@ impl<'a> Heads<'a> {
     }
 
     /// The methods of the sign.
-    pub fn of(&self, sign: Sign) -> &BTreeMap<&'a [u8], &'a MethodHead>
+    pub fn of(&self, sign: Sign) -> &ByName<'a, &'a MethodHead>
         ensures { (selector : List ℕ) → at_name result.now selector ≡ head_at self.now sign selector }
     {
         match sign {

@@ -13,6 +13,7 @@ ghost use Rattle.arc_class.specs.Names.{first_named};
 ghost use Rattle.arc_class.specs.Running.{implemented};
 ghost use Rattle.arc_class.specs.Table.{at_name, class_number_in};
 
+use crate::by_name::ByName;
 use crate::heads::{Heads, keep_first};
 use crate::sort_counts::SortCounts;
 use crate::table::{Known, Names, Place, Variable, Variables, type_class};
@@ -20,10 +21,9 @@ use arc_ast::tree;
 use arc_ast::tree::{Function, Implementation, Interface, Method, TranslationUnit};
 use arc_fault::class::ClassFault;
 use std::alloc::{AllocError, Global};
-use std::collections::BTreeMap;
 
 /// A function for each name.
-pub type Functions<'a> = BTreeMap<&'a [u8], &'a Function>;
+pub type Functions<'a> = ByName<'a, &'a Function>;
 
 /// An implementation, and the number of the function that the first of its methods runs.
 #[derive(Clone, Copy)]
@@ -44,7 +44,7 @@ pub struct Source<'a> {
     /// The first interface of each name.
     pub names: Names<'a>,
     /// The first implementation of each name.
-    pub implemented: BTreeMap<&'a [u8], Implemented<'a>>,
+    pub implemented: ByName<'a, Implemented<'a>>,
     /// How many functions there are, with those that methods run.
     pub function_count: usize,
     /// The first method of each sign and selector, of those that interfaces declare.
@@ -53,11 +53,29 @@ pub struct Source<'a> {
     pub defined: Heads<'a>,
 }
 
+/// How many methods interfaces declare, as far as there is a number for it.
+fn declared_count(interfaces: &[Interface]) -> usize {
+    let mut count = 0_usize;
+    for interface in interfaces {
+        count = count.saturating_add(interface.methods.len());
+    }
+    count
+}
+
+/// How many methods implementations define, as far as there is a number for it.
+fn defined_count(implementations: &[Implementation]) -> usize {
+    let mut count = 0_usize;
+    for implementation in implementations {
+        count = count.saturating_add(implementation.methods.len());
+    }
+    count
+}
+
 /// The first method of each sign and selector that interfaces declare.
 fn declared_heads<'a>(alloc: Global, interfaces: &'a [Interface]) -> Result<Heads<'a>, AllocError>
     ensures { IfOk result (λ map. (sign : Sign) (selector : List ℕ) → head_in map sign selector ≡ first_head sign selector (declared (interface_trees interfaces.now))) }
 {
-    let mut map = Heads::new(alloc);
+    let mut map = Heads::with_room(alloc, declared_count(interfaces))?;
     for interface in interfaces {
         map.keep_heads(&interface.methods)?;
     }
@@ -71,7 +89,7 @@ fn defined_heads<'a>(
 ) -> Result<Heads<'a>, AllocError>
     ensures { IfOk result (λ map. (sign : Sign) (selector : List ℕ) → head_in map sign selector ≡ first_head sign selector (defined (implementation_trees implementations.now))) }
 {
-    let mut map = Heads::new(alloc);
+    let mut map = Heads::with_room(alloc, defined_count(implementations))?;
     for implementation in implementations {
         map.keep_methods(&implementation.methods)?;
     }
@@ -85,7 +103,7 @@ fn first_functions<'a>(
 ) -> Result<Functions<'a>, AllocError>
     ensures { IfOk result (λ map. (sought : List ℕ) → function_kept map sought ≡ first_named sought (function_trees functions.now)) }
 {
-    let mut map = Functions::new(alloc);
+    let mut map = Functions::with_room(alloc, functions.len())?;
     for function in functions {
         keep_first(&mut map, &function.name, function)?;
     }
@@ -118,7 +136,7 @@ fn first_globals<'a>(
         → IfOk result (λ map. (sought : List ℕ) → at_name map sought ≡ known_global interfaces (global_trees globals.now) sought) }
     ensures refused { IfErr result (λ fault. fault ≡ Memory) }
 {
-    let mut map = Variables::new(alloc);
+    let mut map = Variables::with_room(alloc, globals.len())?;
     let mut before = SortCounts::none();
     for global in globals {
         let variable = variable(names, before, global);
@@ -132,7 +150,7 @@ fn first_globals<'a>(
 fn class_places<'a>(alloc: Global, interfaces: &'a [Interface]) -> Result<Names<'a>, AllocError>
     ensures { IfOk result (λ map. (sought : List ℕ) → at_name map sought ≡ places 1 (interface_trees interfaces.now) sought) }
 {
-    let mut map = Names::new(alloc);
+    let mut map = Names::with_room(alloc, interfaces.len())?;
     let mut number = 0;
     for interface in interfaces {
         number += 1;
@@ -151,11 +169,11 @@ fn first_implementations<'a>(
     alloc: Global,
     first: usize,
     implementations: &'a [Implementation],
-) -> Result<BTreeMap<&'a [u8], Implemented<'a>>, ClassFault>
+) -> Result<ByName<'a, Implemented<'a>>, ClassFault>
     ensures kept { IfOk result (λ map. (sought : List ℕ) → implemented_in map sought ≡ implemented first (implementation_trees implementations.now) sought) }
     ensures refused { IfErr result (λ fault. fault ≡ Memory) }
 {
-    let mut map = BTreeMap::new(alloc);
+    let mut map = ByName::with_room(alloc, implementations.len())?;
     let mut first = first;
     for implementation in implementations {
         let own = Implemented {

@@ -2,6 +2,7 @@
 #![tactic(auto)]
 
 mod building;
+mod by_name;
 mod classes;
 pub mod fault;
 mod fields;

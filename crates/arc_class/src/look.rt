@@ -220,7 +220,7 @@ pub fn look<'a>(alloc: Global, functions: &'a [Function]) -> Result<Seen<'a>, Al
     ensures { IfOk result (λ seen. Sums (function_trees functions.now) seen) }
 {
     let mut seen = Seen {
-        known: Known::new(alloc),
+        known: Known::with_room(alloc, functions.len())?,
         bodies: 0,
         main: None,
         fault: None,

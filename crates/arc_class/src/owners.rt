@@ -5,6 +5,7 @@ ghost use Rattle.arc_fault.specs.declared.class.ClassFault.TheVariants.{Memory};
 ghost use Rattle.arc_class.specs.Owners.{no_maps, IsMap, Adds, in_map, IsOwners, view_of, view_at, views, has_at, with_own};
 ghost use Rattle.arc_class.specs.Table.{at_name};
 
+use crate::by_name::ByName;
 use crate::numbered::{LEVELS, Node, find, put};
 use arc_fault::class::ClassFault;
 use indexmap::IndexSet;
@@ -70,12 +71,30 @@ impl<'a> Maps<'a> {
         })
     }
 
-    /// The map with the class at each of the names. Memory: there was none, or so many names have no
-    /// numbers.
-    fn with_names<V>(
+    /// The map with the class at each name of a part. Memory: there was none, or so many names have no numbers.
+    fn with_part<V>(
         &mut self,
         map: Map,
-        names: &BTreeMap<&'a [u8], V>,
+        part: &BTreeMap<&'a [u8], V>,
+        class: u32,
+    ) -> Result<Map, ClassFault>
+        requires { IsMap self.old map }
+        ensures added { IfOk result (λ made. Adds self.old self.new map made (λ sought. is_some (at_name part.now.entries sought)) class) }
+        ensures refused { IfErr result (λ fault. fault ≡ Memory) }
+    {
+        let mut made = map;
+        for name in part.keys() {
+            made = self.with_name(made, name, class)?;
+        }
+        Ok(made)
+    }
+
+    /// The map with the class at each of the names. Memory: there was none, or so many names have no
+    /// numbers.
+    fn with_names<V: Copy>(
+        &mut self,
+        map: Map,
+        names: &ByName<'a, V>,
         class: u32,
     ) -> Result<Map, ClassFault>
         requires { IsMap self.old map }
@@ -83,8 +102,9 @@ impl<'a> Maps<'a> {
         ensures refused { IfErr result (λ fault. fault ≡ Memory) }
     {
         let mut made = map;
-        for name in names.keys() {
-            made = self.with_name(made, name, class)?;
+        let parts = names.parts();
+        for part in parts {
+            made = self.with_part(made, part, class)?;
         }
         Ok(made)
     }
@@ -145,10 +165,10 @@ impl<'a> Owners<'a> {
 
     /// Adds a class with these names of its own, and with those of its superclass. Memory: there was
     /// none, or so many classes or names have no numbers.
-    pub fn add_class<V>(
+    pub fn add_class<V: Copy>(
         &mut self,
         superclass: Option<usize>,
-        names: &BTreeMap<&'a [u8], V>,
+        names: &ByName<'a, V>,
     ) -> Result<(), ClassFault>
         requires { IsOwners self.old }
         ensures owners { OnOk result (IsOwners self.new) }

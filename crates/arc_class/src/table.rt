@@ -18,6 +18,7 @@ ghost use Rattle.arc_class.specs.Owners.{TellsMethods, TellsFields};
 ghost use Rattle.std.proofs.Props.{props};
 
 use crate::building::{Parts, Selectors};
+use crate::by_name::ByName;
 use crate::fields::{ClassFields, field_of};
 use crate::heads::{Heads, is_related};
 use crate::kept::{Functions, Source};
@@ -35,7 +36,6 @@ use arc_sites::violation::earlier;
 use arc_spec::class::{Class, Gives, descends_from, gives_of, look_up};
 use arc_spec::event::NoMemory;
 use std::alloc::Global;
-use std::collections::BTreeMap;
 
 /// What a function gives, and how many arguments it takes: none at a count and the arguments' texts.
 #[derive(Clone, Copy)]
@@ -53,13 +53,13 @@ pub struct Declared {
 }
 
 /// What is known of each name.
-pub type Known<'a> = BTreeMap<&'a [u8], Declared>;
+pub type Known<'a> = ByName<'a, Declared>;
 
 /// What the map has at the name.
-pub(crate) fn at_name<'a, V: Copy>(map: &BTreeMap<&'a [u8], V>, name: &[u8]) -> Option<V>
+pub(crate) fn at_name<'a, V: Copy>(map: &ByName<'a, V>, name: &[u8]) -> Option<V>
     ensures { result ≡ at_name map.now name.now }
 {
-    map.get(name).copied()
+    map.get(name)
 }
 
 /// The first interface of a name: the number of its class, and the place of the name.
@@ -80,10 +80,10 @@ pub struct Variable {
 }
 
 /// The first global variable of each name.
-pub type Variables<'a> = BTreeMap<&'a [u8], Variable>;
+pub type Variables<'a> = ByName<'a, Variable>;
 
 /// The first interface of each name.
-pub type Names<'a> = BTreeMap<&'a [u8], Place>;
+pub type Names<'a> = ByName<'a, Place>;
 
 /// Whether this is the name of the root class.
 pub(crate) fn is_root(name: &[u8]) -> bool

@@ -6,6 +6,7 @@ ghost use Rattle.arc_class.specs.Broken.{broken_if, first};
 ghost use Rattle.arc_class.specs.Walk.{broken_type, broken_expr, broken_exprs, broken_maybe, broken_variables, broken_stmt, broken_stmts, broken_parameters, broken_function, broken_inside, broken_methods, broken_walked, no_name, and_name, names_with, names_after, names_taken, missing_in, holds};
 ghost use Rattle.arc_class.specs.Fault.{told};
 
+use crate::by_name::ByName;
 use crate::fault::fault_if;
 use crate::kept::Source;
 use crate::table::{at_name, class_number};
@@ -16,10 +17,9 @@ use arc_ast::tree::{
 use arc_fault::class::ClassFault;
 use arc_sites::violation::earlier;
 use std::alloc::{AllocError, Global};
-use std::collections::BTreeMap;
 
 /// The names that stand in a scope.
-pub type Scope<'a> = BTreeMap<&'a [u8], ()>;
+pub type Scope<'a> = ByName<'a, ()>;
 
 /// Whether a function of the name is declared, and none has a body.
 fn lacks_body<'a>(source: &Source<'a>, name: &'a [u8]) -> bool
@@ -133,7 +133,7 @@ fn maybe<'a>(source: &Source<'a>, expr: &'a Option<Expr>) -> Option<ClassFault>
 pub fn stands<'a>(scope: &Scope<'a>, name: &'a [u8]) -> bool
     ensures { result ≡ holds scope.now name.now }
 {
-    scope.get(&name).is_some()
+    scope.get(name).is_some()
 }
 
 /// Puts the name at the place into the scope, and gives the rule that this breaks.

@@ -11,5 +11,5 @@ returns c sought =
     let xs = field_trees c.args.own.now.earlier.now in
     let ys = field_trees c.args.own.now.later.now in
     c.in_ok-keep_places-2.ensures sought
-    ∙ ap (λ o. or_else o (field_place sought ys)) (c.in_ok-keep_places.ensures sought ∙ ap (λ o. or_else o (field_place sought xs)) (kept_none c.new-places.result sought c.new-places.ensures.empty))
+    ∙ ap (λ o. or_else o (field_place sought ys)) (c.in_ok-keep_places.ensures sought ∙ ap (λ o. or_else o (field_place sought xs)) (kept_none c.new-places.result sought c.new-places.ensures))
     ∙ sym (field_place-append sought xs ys)

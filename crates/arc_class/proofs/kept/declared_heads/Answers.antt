@@ -8,7 +8,7 @@ use Rattle.arc_class.proofs.kept.declared_heads.Goals as goal
 
 pub loop-interface-init : goal.loop-interface-init
 loop-interface-init c sign sought =
-    sym (ap (λ o. or_else (option_map (λ h. head_tree h.now) o) (first_head sign sought (declared (interface_trees c.args.interfaces.now)))) (c.new-map.ensures sign sought))
+    sym (ap (λ o. or_else (option_map (λ h. head_tree h.now) o) (first_head sign sought (declared (interface_trees c.args.interfaces.now)))) (c.in_ok-map.ensures sign sought))
 
 pub loop-interface-preserved : goal.loop-interface-preserved
 loop-interface-preserved c sign sought =

@@ -8,7 +8,7 @@ use Rattle.arc_class.proofs.kept.defined_heads.Goals as goal
 
 pub loop-implementation-init : goal.loop-implementation-init
 loop-implementation-init c sign sought =
-    sym (ap (λ o. or_else (option_map (λ h. head_tree h.now) o) (first_head sign sought (defined (implementation_trees c.args.implementations.now)))) (c.new-map.ensures sign sought))
+    sym (ap (λ o. or_else (option_map (λ h. head_tree h.now) o) (first_head sign sought (defined (implementation_trees c.args.implementations.now)))) (c.in_ok-map.ensures sign sought))
 
 pub loop-implementation-preserved : goal.loop-implementation-preserved
 loop-implementation-preserved c sign sought =

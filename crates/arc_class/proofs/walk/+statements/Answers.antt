@@ -11,7 +11,7 @@ use Rattle.arc_class.proofs.walk.+statements.Goals as goal
 pub in_scope-returns-in-Block-clause-fault : goal.in_scope-returns-in-Block-clause-fault
 in_scope-returns-in-Block-clause-fault t c =
     let P : Option Broken → Type 0 = λ b. IfOk c.statements.result (λ fault. option_map told fault ≡ b) in
-    subst P (block_is (missing_in c.args.source.now) (holds c.args.scope.now) (holds c.new-inner.result) c.args.statement.now c.in-Block.field-0 c.in-Block.all c.deref.result.now c.in-Block.is c.deref.ensures.value (holds-none c.new-inner.result c.new-inner.ensures.empty)) c.statements.ensures
+    subst P (block_is (missing_in c.args.source.now) (holds c.args.scope.now) (holds c.new-inner.result) c.args.statement.now c.in-Block.field-0 c.in-Block.all c.deref.result.now c.in-Block.is c.deref.ensures.value (holds-none c.new-inner.result c.new-inner.ensures)) c.statements.ensures
 
 pub in_scope-returns-in_ok-inside-in-If-clause-fault : goal.in_scope-returns-in_ok-inside-in-If-clause-fault
 in_scope-returns-in_ok-inside-in-If-clause-fault t c =

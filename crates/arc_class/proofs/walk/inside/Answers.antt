@@ -9,4 +9,4 @@ use Rattle.arc_class.proofs.walk.inside.Goals as goal
 pub returns : goal.returns
 returns c =
     inside_is (missing_in c.args.source.now) (holds c.new-scope.result) (holds c.parameters.new.scope) (parameter_trees c.args.taken.now) (stmt_trees c.args.body.now) (option_map told c.in_ok-fault.fault) (option_map told c.in_ok-statements.field-0) (option_map told c.earlier.result)
-    (holds-none c.new-scope.result c.new-scope.ensures.empty) c.in_ok-fault.ensures.fault c.in_ok-fault.ensures.scope c.in_ok-statements.ensures c.earlier.ensures
+    (holds-none c.new-scope.result c.new-scope.ensures) c.in_ok-fault.ensures.fault c.in_ok-fault.ensures.scope c.in_ok-statements.ensures c.earlier.ensures

@@ -24,5 +24,5 @@ returns-clause-known c =
     (c.class_number-superclass.ensures ∙ ap (class_number_in source.names) c.deref.ensures.value ∙ class_number_kept source.names u.interfaces x.superclass.items (c.requires.class_places x.superclass.items))
     c.own_fields-own.ensures c.in_ok-places.ensures
     (λ name. c.in_ok-counted.ensures.kept u.interfaces names name ∙ ap (λ o. or_else o (numbered u.interfaces class next ys name)) (c.in_ok-before.ensures.kept u.interfaces names name
-    ∙ ap (λ o. or_else o (numbered u.interfaces class first xs name)) (kept_none c.new-named.result name c.new-named.ensures.empty)))
+    ∙ ap (λ o. or_else o (numbered u.interfaces class first xs name)) (kept_none c.new-named.result name c.new-named.ensures)))
     c.in_ok-before.ensures.counted c.in_ok-counted.ensures.counted

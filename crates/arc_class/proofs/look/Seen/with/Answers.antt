@@ -4,7 +4,6 @@ use Rattle.std.specs.Str.{bytes_eq}
 use Rattle.arc_ast.specs.Tree.{function_tree}
 use Rattle.arc_class.specs.Look.{joined, fault_with}
 use Rattle.arc_class.specs.Table.{at_name}
-use Rattle.arc_class.proofs.Scopes.{at_name-update}
 use Rattle.arc_class.proofs.look.Seen.with.Goals as goal
 
 pub returns : goal.returns
@@ -13,7 +12,7 @@ returns c =
     let f = c.args.function.now in
     let before : c.at_name-earlier.result ≡ at_name old.known f.name.items = c.at_name-earlier.ensures ∙ ap (at_name old.known) c.deref.ensures.value in
     record {
-      knows = λ q. at_name-update c.deref-2.result.now old.known c.insert.new.self (Some c.joined-declared.result) c.in_ok-insert.ensures.updates q ∙ ap (λ n. update bytes_eq (at_name old.known) n (Some c.joined-declared.result) q) c.deref-2.ensures.value
+      knows = λ q. c.in_ok-insert.ensures.updates q ∙ ap (λ n. update bytes_eq (at_name old.known) n (Some c.joined-declared.result) q) c.deref-2.ensures.value
           ∙ ap (λ d. update bytes_eq (at_name old.known) f.name.items (Some d) q) (c.joined-declared.ensures ∙ ap (λ o. joined o old.bodies (function_tree f)) before);
       bodies = c.bodies_with.ensures;
       main = c.main_with-main.ensures;

@@ -1,24 +1,31 @@
-use Rattle.std.proofs.Common.{◌∙◌}
-use Rattle.std.specs.BTreeMap.{keys}
-use Rattle.std.specs.Map.Iter.{deref}
-use Rattle.std.proofs.lemmas.Map.Iter.{rest_more, rest_all}
-use Rattle.arc_class.proofs.Holding.{adding_none, adding_turn, adding_all}
+use Rattle.std.proofs.Common.{List, ℕ, Bool, ◌+◌, drop, is_some, refl, ap, ◌∙◌}
+use Rattle.arc_class.specs.ByName.{at_name, all_parts}
+use Rattle.arc_class.proofs.Lists.{drop_turn, drop_end}
+use Rattle.arc_class.proofs.Holding.{more_named, adding_none, adding_turn, adding_all}
 use Rattle.arc_class.proofs.owners.Maps.with_names.Goals as goal
 
-pub loop-name-init : goal.loop-name-init
-loop-name-init g c =
-    adding_none c.args.self.now c.args.map (keys c.args.names.now) c.into_iter-name-iterator.result c.args.class c.requires
-    (c.into_iter-name-iterator.ensures.into_iter_gives ∙ c.keys-name-items.ensures.rest)
+pub loop-part-init : goal.loop-part-init
+loop-part-init g c =
+    let parts = c.parts-parts.result.now in
+    adding_none c.args.self.now c.args.map (λ sought. is_some (at_name (all_parts parts) sought)) (λ sought. is_some (at_name (all_parts (drop 0 parts)) sought)) c.args.class c.requires (λ sought. refl)
 
-pub with_name-requires : goal.with_name-requires
-with_name-requires g c = c.loop-name.invariant.is_map
+pub with_part-requires : goal.with_part-requires
+with_part-requires g c = c.loop-part.invariant.is_map
 
-pub loop-name-preserved : goal.loop-name-preserved
-loop-name-preserved g c =
-    adding_turn c.args.self.now c.loop-name.self c.with_name.new.self c.args.map c.loop-name.made c.in_ok-made.made (keys c.args.names.now) c.loop-name.name-iterator c.next.new.self c.in-Some.name.now c.args.class
-    (rest_more deref c.loop-name.name-iterator c.next.new.self c.next.result c.in-Some.name c.in-Some.is c.next.ensures.steps) c.loop-name.invariant c.in_ok-made.ensures.added
+pub loop-part-preserved : goal.loop-part-preserved
+loop-part-preserved g c =
+    let parts = c.parts-parts.result.now in
+    let i = c.loop-part.part-index in
+    let x = c.part-item.result in
+    adding_turn c.args.self.now c.loop-part.self c.with_part.new.self c.args.map c.loop-part.made c.in_ok-made.made (λ sought. is_some (at_name (all_parts parts) sought))
+    (λ sought. is_some (at_name (all_parts (drop i parts)) sought)) (λ sought. is_some (at_name (all_parts (drop (i + 1) parts)) sought)) (λ sought. is_some (at_name x.entries sought)) c.args.class
+    (λ sought. ap (λ left. is_some (at_name (all_parts left) sought)) (drop_turn parts i x c.loop-part-test.true c.part-item.is) ∙ more_named x.entries (all_parts (drop (i + 1) parts)) sought)
+    c.loop-part.invariant c.in_ok-made.ensures.added
 
 pub returns-clause-added : goal.returns-clause-added
 returns-clause-added g c =
-    adding_all c.args.self.now c.loop-name.self c.args.map c.loop-name.made c.loop-name.name-iterator c.args.names.now c.args.class
-    (rest_all deref c.loop-name.name-iterator c.next.new.self c.next.result c.in-None.is c.next.ensures.steps) c.loop-name.invariant
+    let parts = c.parts-parts.result.now in
+    let i = c.loop-part.part-index in
+    adding_all c.args.self.now c.loop-part.self c.args.map c.loop-part.made (λ sought. is_some (at_name (all_parts parts) sought)) (λ sought. is_some (at_name (all_parts (drop i parts)) sought))
+    (λ sought. is_some (at_name c.args.names.now sought)) c.args.class (λ sought. ap (λ left. is_some (at_name (all_parts left) sought)) (drop_end parts i c.loop-part-test.false))
+    (λ sought. ap (λ map. is_some (at_name map sought)) c.parts-parts.ensures) c.loop-part.invariant

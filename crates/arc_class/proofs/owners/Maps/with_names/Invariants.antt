@@ -1,7 +1,9 @@
-use Rattle.std.specs.BTreeMap.{keys}
+use Rattle.std.proofs.Common.{drop, is_some}
+use Rattle.arc_class.specs.ByName.{at_name, all_parts}
 use Rattle.arc_class.proofs.Holding.{Adding}
 use Rattle.arc_class.proofs.owners.Maps.with_names.Given as goal
 
--- the names that are left are added to what was made
-abbrev pub invariant-loop-name : goal.invariant-loop-name
-invariant-loop-name g l = Adding l.initial.self l.self l.fn.map l.made (keys l.names) l.name-iterator l.class
+-- the names of the parts that are left are added to what was made
+abbrev pub invariant-loop-part : goal.invariant-loop-part
+invariant-loop-part g l =
+    Adding l.initial.self l.self l.fn.map l.made (λ sought. is_some (at_name (all_parts l.parts) sought)) (λ sought. is_some (at_name (all_parts (drop l.part-index l.parts)) sought)) l.class

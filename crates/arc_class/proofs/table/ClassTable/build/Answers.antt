@@ -9,7 +9,7 @@ use Rattle.arc_class.specs.Look.{Sums}
 use Rattle.arc_class.specs.Names.{number_of, is_main}
 use Rattle.arc_class.specs.Owners.{TellsFields}
 use Rattle.arc_class.specs.Table.{IsTableOf}
-use Rattle.arc_class.proofs.Answering.{in_classes, refuses, whole_known, nothing, walked_kept, own_known}
+use Rattle.arc_class.proofs.Answering.{in_classes, refuses, whole_known, nothing, walked_kept, own_known, main_told}
 use Rattle.arc_class.proofs.table.ClassTable.build.Goals as goal
 
 pub class_fields-requires : goal.class_fields-requires
@@ -63,3 +63,10 @@ returns-in-None-Some-clause-unbroken c =
 pub returns-in-None-Some-clause-table : goal.returns-in-None-Some-clause-table
 returns-in-None-Some-clause-table c =
     IfOk-weaker c.of.result _ _ (λ table h. subst (λ t. IsTableOf (unit_tree t) table) c.in_ok-source.ensures.unit h) c.of.ensures.table
+
+pub returns-clause-refused : goal.returns-clause-refused
+returns-clause-refused c =
+    let seen = c.in_ok-seen.seen in
+    absurd (main_told seen.main (option_map told seen.fault) (option_map told c.earlier-own.result) (option_map told c.in_ok-walk.field-0) (option_map told c.missing_main.result)
+    (option_map told c.earlier-functions.result) (option_map told c.in_ok-classes.classes) (option_map told c.earlier.result)
+    c.in-None-None.is-1 c.missing_main.ensures c.earlier-own.ensures c.earlier-functions.ensures c.earlier.ensures (ap (option_map told) c.in-None-None.is-0))
