@@ -2,7 +2,6 @@
 use Rattle.std.proofs.Common.{◌≡◌, ℕ, Bool, List, Option, Some, None, option_map, refl, ap}
 use Rattle.std.proofs.Math.Path.{fun_ext}
 use Rattle.arc_class.specs.ByName.{Named}
-use Rattle.std.specs.Borrow.{Bor}
 use Rattle.arc_ast.specs.declared.tree.Kind.{Kind}
 use Rattle.arc_ast.specs.Tree as t
 use Rattle.arc_ast.specs.Tree.{TypeTree, ResultTree, HeadTree, InterfaceTree}

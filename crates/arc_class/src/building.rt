@@ -3,6 +3,7 @@ ghost use Rattle.std.specs.Prelude.{◌≡◌, ◌<◌, ◌+◌, ◌++◌, ◌�
 ghost use Rattle.arc_ast.specs.declared.tree.Sign.{Sign};
 ghost use Rattle.arc_ast.specs.Tree.{UnitTree, unit_tree, head_tree, head_trees, method_trees, interface_trees, implementation_trees, interface_tree};
 ghost use Rattle.arc_spec.specs.Classes.{class_of, classes_of};
+ghost use Rattle.arc_class.specs.ByName.{Named};
 ghost use Rattle.arc_class.specs.Classes as classes;
 ghost use Rattle.arc_class.specs.Classes.{heads, first_head, with_selectors, defined_selectors, standing_before, standing_after, selectors_in_order, built_in_selectors, selectors, number_among, defined_by};
 ghost use Rattle.arc_fault.specs.declared.class.ClassFault.TheVariants.{Memory};
@@ -11,8 +12,6 @@ ghost use Rattle.arc_class.specs.Fields.{all_fields_from};
 ghost use Rattle.arc_class.specs.Kept.{head_in, Knows};
 ghost use Rattle.arc_class.specs.Running as running;
 ghost use Rattle.arc_class.specs.Running.{method_made, with_method, methods_from, dealloc_from, class_with};
-ghost use Rattle.arc_class.specs.ByName.{Named};
-ghost use Rattle.std.specs.Borrow.{Bor};
 ghost use Rattle.arc_class.specs.declared.table.Place.{Place};
 ghost use Rattle.arc_class.specs.Table.{names_of, list_of, built_in_from};
 

@@ -10,7 +10,7 @@ use std::collections::BTreeMap;
 use std::hash::{FoldHasher, Hasher};
 use std::marker::Model;
 
-/// How many names a part has, where there are as many as there is room for.
+/// How many names a part has on average, where there are as many as there is room for.
 const NAMES_OF_A_PART: usize = 4;
 
 /// A map from names.

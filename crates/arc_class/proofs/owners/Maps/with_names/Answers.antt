@@ -1,4 +1,4 @@
-use Rattle.std.proofs.Common.{List, ℕ, Bool, ◌+◌, drop, is_some, refl, ap, ◌∙◌}
+use Rattle.std.proofs.Common.{◌+◌, drop, is_some, refl, ap, ◌∙◌}
 use Rattle.arc_class.specs.ByName.{at_name, all_parts}
 use Rattle.arc_class.proofs.Lists.{drop_turn, drop_end}
 use Rattle.arc_class.proofs.Holding.{more_named, adding_none, adding_turn, adding_all}
