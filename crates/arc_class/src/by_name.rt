@@ -1,5 +1,5 @@
-//! Maps from names. A name's hash says to which part of a map the name belongs. Each part is a tree, so that a source whose names share a hash
-//! takes no more steps for a name than one tree of all names would.
+//! Maps from names. A name's hash says to which part of a map the name belongs. Each part is a tree, so that a source
+//! whose names share a hash takes no more steps for a name than one tree of all names would.
 ghost use Rattle.std.specs.Prelude.{◌≡◌, ◌<◌, [], ℕ, List, length, Some, IfOk, OnOk};
 ghost use Rattle.std.specs.Map.{update};
 ghost use Rattle.std.specs.Str.{bytes_eq};
