@@ -14,8 +14,8 @@ use Rattle.arc_spec.specs.Holding.{Held, Frame, Calling, Ending, Clearing, Waite
 use Rattle.arc_ir.specs.Acting.{Action, linked}
 use Rattle.arc_code.specs.Instructions as instructions
 use Rattle.arc_code.specs.declared.instr.Op.TheVariants as ops
-use Rattle.arc_code.specs.declared.instr.Op.TheVariants.{Num, Bin, Un, Narrow, Pop, Get, Set, PrintNum, PrintByte, GetChar, Declare, Nil, ReadSelf, ReadRef, ReadGlobal, ReadField, Hold, Forget, Alloc, Finds, GetField, SetField, Differ, IsObject}
-use Rattle.arc_code.specs.declared.instr.Instr.TheVariants.{Plain, PrintText, Jump, JumpZero, Call, Send, SendSuper, SendTo, SendToSuper, StoreStrong, StoreGlobal, StoreField, Empty, DropAll, Settle, Give, Return, EndStep}
+use Rattle.arc_code.specs.declared.instr.Op.TheVariants.{Bin, Un, Narrow, Pop, Get, Set, PrintNum, PrintByte, Declare, ReadSelf, ReadRef, ReadGlobal, ReadField, Hold, Forget, Alloc, Finds, GetField, SetField, Differ, IsObject}
+use Rattle.arc_code.specs.declared.instr.Instr.TheVariants.{Plain, PrintText, JumpZero, Call, Send, SendSuper, SendTo, SendToSuper, StoreStrong, StoreGlobal, StoreField, Empty, DropAll, Settle, Give, Return, EndStep}
 use Rattle.arc_ir.specs.Acting.{Program, State, entry, or_fault, keeps, has_level, enters, answers, taken, sends, begins_end, releases, drops_all, ends_object, runs_dealloc, clears, after_deallocs, clears_next, ends_class, end_goes_on, leaves, allocates, executes}
 use Rattle.arc_lower.proofs.Standing.{ending, AllDying, no_nil}
 use Rattle.arc_lower.proofs.Recounting.{fresh, recount, at}
@@ -37,9 +37,8 @@ top_agrees [] go go' h = refl
 top_agrees (v ∷ rest) go go' h = h v rest
 
 two_agree : (stack : List ℤ) (go go' : ℤ → ℤ → List ℤ → Next State) → ((v u : ℤ) (rest : List ℤ) → Agree (go v u rest) (go' v u rest)) → Agree (on_two stack go) (on_two stack go')
-two_agree [] go go' h = refl
-two_agree (v ∷ []) go go' h = refl
 two_agree (v ∷ u ∷ rest) go go' h = h v u rest
+two_agree _ go go' h = refl
 
 found_agrees : {A : Type 0} (found : Option A) (go go' : A → Next State) → ((a : A) → found ≡ Some a → Agree (go a) (go' a)) → Agree (on_found found go) (on_found found go')
 found_agrees None go go' h = refl
@@ -83,10 +82,9 @@ left_agrees [] h c go go' same = only_agrees (all_nil h.variables) _ _ same
 left_agrees (r ∷ others) h c go go' same = refl
 
 last_agrees : (variables : List ℕ) (go go' : ℕ → Next State) → ((r : ℕ) → Agree (go r) (go' r)) → Agree (on_last variables go) (on_last variables go')
-last_agrees [] go go' h = refl
 last_agrees (r ∷ []) go go' h = h r
 last_agrees (zero ∷ q ∷ others) go go' h = last_agrees (q ∷ others) go go' h
-last_agrees (suc k ∷ q ∷ others) go go' h = refl
+last_agrees _ go go' h = refl
 
 result_agrees : (temporaries : List ℕ) (h : Held) (c : ℕ → ℕ) (go go' : ℕ → Held → Next State) → ((r : ℕ) → Agree (go r (with_variables h [])) (go' r (with_variables (counted_by h c) []))) → Agree (on_result temporaries h go) (on_result temporaries (counted_by h c) go')
 result_agrees [] h c go go' same = last_agrees h.variables (λ r. go r (with_variables h [])) (λ r. go' r (with_variables (counted_by h c) [])) same
@@ -163,16 +161,13 @@ module _ (p : Program) (s : State) (right : Counted s.held) where
 
   -- the temporary before the last one
   settles_agree : (ts : List ℕ) → Agree (instructions.settles (linked p) s ts) (instructions.settles (linked p) t ts)
-  settles_agree [] = refl
-  settles_agree (r ∷ []) = refl
   settles_agree (r ∷ before ∷ others) = releases_agree before (with_temporaries s.held (r ∷ others)) s.held.counts places right.counted
+  settles_agree _ = refl
 
   -- a function is left with an object
   hands_agree : (frames : List Frame) (r : ℕ) (rest : List ℤ) (h : Held) (c : ℕ → ℕ) → Agree (instructions.hands_over (linked p) s frames r rest h) (instructions.hands_over (linked p) t frames r rest (counted_by h c))
-  hands_agree [] r rest h c = refl
   hands_agree (Calling back w ∷ others) r rest h c = refl
-  hands_agree (Ending back w o next left ∷ others) r rest h c = refl
-  hands_agree (Clearing back w o fields ∷ others) r rest h c = refl
+  hands_agree _ r rest h c = refl
 
   -- an object is gone
   abbrev goes_back : (back : ℕ) → Waiter → (k : ℕ) → List Frame → Held → Next State
@@ -209,8 +204,6 @@ module _ (p : Program) (s : State) (right : Counted s.held) where
   ends_class_agrees back waits k (Some class) left others = runs_dealloc_agrees class.dealloc _
 
   end_goes_on_agrees : (frames : List Frame) → AllDying s.held.objects (ending frames) → Agree (end_goes_on p s frames) (end_goes_on p t frames)
-  end_goes_on_agrees [] dying = refl
-  end_goes_on_agrees (Calling back waits ∷ others) dying = refl
   end_goes_on_agrees (Ending back waits zero next left ∷ others) dying = absurd (no_nil s.held.objects None dying.0)
   end_goes_on_agrees (Ending back waits (suc k) None left ∷ others) dying = after_agrees back waits k others
   end_goes_on_agrees (Ending back waits (suc k) (Some class) zero ∷ others) dying = after_agrees back waits k others
@@ -218,12 +211,11 @@ module _ (p : Program) (s : State) (right : Counted s.held) where
   end_goes_on_agrees (Clearing back waits zero [] ∷ others) dying = absurd (no_nil s.held.objects (Some []) dying.0)
   end_goes_on_agrees (Clearing back waits (suc k) [] ∷ others) dying = ends_object_agrees back waits k others
   end_goes_on_agrees (Clearing back waits o (index ∷ fields) ∷ others) dying = next_agrees (Clearing back waits o fields ∷ others) o index
+  end_goes_on_agrees _ dying = refl
 
   leaves_agree : (frames : List Frame) (v : ℤ) (rest : List ℤ) (h : Held) (c : ℕ → ℕ) → Agree (leaves p s frames v rest h) (leaves p t frames v rest (counted_by h c))
-  leaves_agree [] v rest h c = refl
   leaves_agree (Calling back waits ∷ others) v rest h c = refl
-  leaves_agree (Ending back waits o next left ∷ others) v rest h c = refl
-  leaves_agree (Clearing back waits o fields ∷ others) v rest h c = refl
+  leaves_agree _ v rest h c = refl
 
   allocates_agree : (rest : List ℤ) (class : Option ℕ) → Agree (allocates p.classes s rest class) (allocates p.classes t rest class)
   allocates_agree rest None = refl
@@ -238,21 +230,16 @@ module _ (p : Program) (s : State) (right : Counted s.held) where
   stored_agrees i r old = releases_agree old (with_variables s.held (slice_set s.held.variables i r)) _ _ (more_same r s.held.counts places right.counted)
 
   pub acts_agree : (action : Option Action) → AllDying s.held.objects (ending s.frames) → Agree (executes p action s) (executes p action t)
-  acts_agree None dying = refl
-  acts_agree (Some (Plain (Num n))) dying = refl
   acts_agree (Some (Plain (Bin operator kind))) dying = two_agree s.stack _ _ (λ y x rest. or_fault_agrees (combined operator kind x y) rest)
   acts_agree (Some (Plain (Un operator kind))) dying = top_agrees s.stack _ _ (λ x rest. refl)
   acts_agree (Some (Plain (Narrow kind))) dying = top_agrees s.stack _ _ (λ x rest. refl)
   acts_agree (Some (Plain Pop)) dying = top_agrees s.stack _ _ (λ x rest. refl)
   acts_agree (Some (Plain (Get depth))) dying = found_agrees (slice_get s.stack depth) _ _ (λ v _. refl)
   acts_agree (Some (Plain (Set depth))) dying = top_agrees s.stack _ _ (λ v rest. found_agrees (slice_get rest depth) _ _ (λ _ _. refl))
-  acts_agree (Some (Plain (ops.GetGlobal i))) dying = refl
   acts_agree (Some (Plain (ops.SetGlobal i))) dying = top_agrees s.stack _ _ (λ v rest. refl)
   acts_agree (Some (Plain PrintNum)) dying = two_agree s.stack _ _ (λ v count rest. refl)
   acts_agree (Some (Plain PrintByte)) dying = two_agree s.stack _ _ (λ v count rest. refl)
-  acts_agree (Some (Plain GetChar)) dying = refl
   acts_agree (Some (Plain Declare)) dying = declares_agree s.held.temporaries s.held places s s.stack
-  acts_agree (Some (Plain Nil)) dying = refl
   acts_agree (Some (Plain ReadSelf)) dying = named_agrees s.held.self (named s.held.self s.held) places _ _ refl
   acts_agree (Some (Plain (ReadRef i))) dying = found_agrees (slice_get s.held.variables i) _ _ (λ r _. named_agrees r (named r s.held) places _ _ refl)
   acts_agree (Some (Plain (ReadGlobal i))) dying = named_agrees (name_at s.held.strong_globals i) (named (name_at s.held.strong_globals i) s.held) places _ _ refl
@@ -267,7 +254,6 @@ module _ (p : Program) (s : State) (right : Counted s.held) where
   acts_agree (Some (Plain Differ)) dying = reference_agrees s.held.names _ _ (λ r names. reference_agrees names _ _ (λ other rest. named_agrees r s.held places _ _ (named_agrees other s.held places _ _ refl)))
   acts_agree (Some (Plain IsObject)) dying = reference_agrees s.held.names _ _ (λ r rest. named_agrees r s.held places _ _ refl)
   acts_agree (Some (PrintText bytes)) dying = top_agrees s.stack _ _ (λ count rest. refl)
-  acts_agree (Some (Jump to)) dying = refl
   acts_agree (Some (JumpZero to)) dying = top_agrees s.stack _ _ (λ v rest. chosen_agrees (is_zero v) _ _ _ _ refl refl)
   acts_agree (Some (Call f wanted)) dying = enters_agree s places (entry p f) 0 (has_level s)
   acts_agree (Some (Send selector takes objects wanted)) dying = found_agrees (slice_get s.stack takes) _ _ (λ self _. answers_agree s places 0 (lookup p.classes (class_at self) signs.Class selector takes objects wanted))
@@ -286,3 +272,4 @@ module _ (p : Program) (s : State) (right : Counted s.held) where
   acts_agree (Some Give) dying = top_agrees s.stack _ _ (λ v rest. result_agrees s.held.temporaries s.held places _ _ (λ r. hands_agree s.frames r rest (with_variables s.held []) places))
   acts_agree (Some Return) dying = top_agrees s.stack _ _ (λ v rest. left_agrees s.held.temporaries s.held places _ _ (leaves_agree s.frames v rest (with_variables s.held []) places))
   acts_agree (Some EndStep) dying = end_goes_on_agrees s.frames dying
+  acts_agree _ dying = refl

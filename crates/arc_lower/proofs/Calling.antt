@@ -1,7 +1,8 @@
 -- A run calls functions and methods, and ends objects, to the most levels.
-use Rattle.std.proofs.Common.{◌≡◌, ℕ, zero, suc, ◌+◌, ◌-◌, ℤ, Bool, true, false, not, ◌&&◌, nat_eq, nat_lt, if◌then◌else◌, List, [], ◌∷◌, ◌++◌, length, take, drop, Option, Some, None, slice_get, slice_set, slice_index_or, refl, sym, ap, ◌∙◌, subst, arith, append_assoc, inr}
+use Rattle.std.proofs.Common.{◌≡◌, ℕ, zero, suc, ◌+◌, ◌-◌, ℤ, Bool, true, false, not, ◌&&◌, nat_eq, nat_lt, if◌then◌else◌, List, [], ◌∷◌, ◌++◌, length, Option, Some, None, slice_get, slice_set, slice_index_or, refl, sym, ap, ◌∙◌, subst, arith, inr}
 use Rattle.std.proofs.lemmas.Bool.{lt-ltb, le-ltb}
-use Rattle.std.proofs.lemmas.List.{append-nil, length-map, get_or_past, set_past}
+use Rattle.std.proofs.lemmas.List.{append-nil, length-map, get_or_past, set_past, set-set}
+use Rattle.std.proofs.lemmas.Option.{get_or_from_slice_get}
 use Rattle.arc_spec.specs.declared.event.Fault.TheVariants.{Resurrected}
 use Rattle.arc_spec.specs.declared.class.Gives.{Gives}
 use Rattle.arc_spec.specs.declared.class.Gives.TheVariants as gives
@@ -10,7 +11,7 @@ use Rattle.arc_spec.specs.Objects.{Object, Phase, Emptying, Gone, object_at, wit
 use Rattle.arc_spec.specs.Resolved as resolved
 use Rattle.arc_spec.specs.Meaning.{function_at, called, released, field_stores, field_dropped, fields_dropped, emptied, class_in, dealloc_run, deallocs_run, turned, gone, dying, level, most_levels}
 use Rattle.arc_spec.specs.World as world
-use Rattle.arc_spec.specs.World.{World, Outcome, Done, Faulted, Cut, Finished, finished, then_do, Given, nothing_given, places, stacked, frame_places, with_objects, name_at, first_locals, first_names, takes, entered}
+use Rattle.arc_spec.specs.World.{World, Outcome, Done, Faulted, Finished, finished, then_do, Given, nothing_given, places, stacked, frame_places, with_objects, name_at, first_locals, first_names, entered}
 use Rattle.arc_spec.specs.Holding.{Held, Frame, Calling, Ending, Clearing, Waiter, holders, with_things, with_strong_field, on_place, lets_go, raised, lowered, resumed, turned_in, gone_in, given_back}
 use Rattle.arc_spec.specs.Stepping.{Next, Goes, Faults, Reached, Running, follow}
 use Rattle.arc_spec.proofs.Deallocs.{dealloc_and_above, deallocs_from}
@@ -23,21 +24,21 @@ use Rattle.arc_lower.proofs.CountsPlaces.{no_one}
 use Rattle.arc_lower.proofs.CountsHeld.{there_fields}
 use Rattle.arc_lower.proofs.CountsThere.{set_here}
 use Rattle.arc_lower.proofs.Leading.{Leads, leads_same, leads_trans, leads_step, Runs, leads_runs, ends_here, then_runs, better_runs}
-use Rattle.arc_lower.proofs.Recounting.{recounted, recount, moves, at, counting, held_of}
+use Rattle.arc_lower.proofs.Recounting.{recounted, recount, moves, at, counting, held_of, resumed_as}
 use Rattle.arc_lower.proofs.Doing.{HasAt, has_front, has_back}
 use Rattle.arc_lower.proofs.Segments.{running, quiet}
 use Rattle.arc_lower.proofs.Stacking.{onto}
+use Rattle.arc_lower.proofs.Shaping.{then_twice}
 use Rattle.arc_lower.proofs.Fitting.{first_length, passing_leads}
 use Rattle.arc_lower.proofs.Releasing.{Kept, kept_trans, Ends, laid, dying_in, object_runs, there_runs, place_runs, same_test, field_count}
-use Rattle.arc_lower.proofs.Running.{behind_call, Returns, answered, Deep, found_name, past_end, same_put}
+use Rattle.arc_lower.proofs.Running.{behind_call, Returns, answered, Deep, past_end, same_put}
 use Rattle.arc_lower.proofs.Leaving.{leaving, Left, function_runs}
 use Rattle.arc_lower.proofs.Linking.{Begins, call_enters, function_gives}
 use Rattle.arc_lower.proofs.Finding.{Stub, Meets, Same, Linked, lookup_meets, descent_same, fields_same, strong_fields_same, order_same, found_same}
 
 then_thrice : {A B C E : Type 0} (o : Outcome A) (f : A → World → Outcome B) (g : B → World → Outcome C) (h : C → World → Outcome E) → then_do o (λ a w. then_do (then_do (f a w) g) h) ≡ then_do (then_do (then_do o f) g) h
 then_thrice (Done a w) f g h = refl
-then_thrice (Faulted e w) f g h = refl
-then_thrice (Cut w) f g h = refl
+then_thrice _ f g h = refl
 
 -- the next n classes from this one up
 abbrev above_in : resolved.Program → (n : ℕ) → Option ℕ → List ℕ
@@ -69,11 +70,6 @@ ended_held rs o w = ended_by rs o w (stacked w)
 abbrev ended_now : (rs : List ℕ) → (o : ℕ) → (before now : World) → Held
 ended_now rs o before now = ended_by rs o now (stacked before)
 
-then_twice : {A B C : Type 0} (o : Outcome A) (f : A → World → Outcome B) (g : B → World → Outcome C) → then_do o (λ a w. then_do (f a w) g) ≡ then_do (then_do o f) g
-then_twice (Done a w) f g = refl
-then_twice (Faulted e w) f g = refl
-then_twice (Cut w) f g = refl
-
 -- ---- an object that is changed
 
 -- an object that is put in its own place
@@ -81,15 +77,9 @@ put_same : (objects : List Object) (o : ℕ) (ob : Object) → object_at objects
 put_same objects zero ob found = refl
 put_same objects (suc k) ob found = same_put objects k ob found
 
--- one that is put in the place of another, which was put there
-put_again : (objects : List Object) (k : ℕ) (x y : Object) → slice_set (slice_set objects k x) k y ≡ slice_set objects k y
-put_again [] k x y = refl
-put_again (a ∷ objects) zero x y = refl
-put_again (a ∷ objects) (suc k) x y = ap (λ l. a ∷ l) (put_again objects k x y)
-
 put_twice : (objects : List Object) (o : ℕ) (x y : Object) → with_object (with_object objects o x) o y ≡ with_object objects o y
 put_twice objects zero x y = refl
-put_twice objects (suc k) x y = put_again objects k x y
+put_twice objects (suc k) x y = set-set objects k x y
 
 put_found : (objects : List Object) (o : ℕ) (ob x : Object) → object_at objects o ≡ Some ob → object_at (with_object objects o x) o ≡ Some x
 put_found objects zero ob x found = cc
@@ -114,26 +104,9 @@ dropped_count : (o : ℕ) (ob : Object) (index old k : ℕ) (w : World) → obje
 dropped_count zero ob index old k w found there named e = cc
 dropped_count (suc j) ob index old k w found there named e = field_count j ob index old 0 k w found there named e
 
-take_front : (a b : List ℕ) → take (length a) (a ++ b) ≡ a
-take_front [] b = refl
-take_front (x ∷ a) b = ap (λ l. x ∷ l) (take_front a b)
-
-drop_front : (a b : List ℕ) → drop (length a) (a ++ b) ≡ b
-drop_front [] b = refl
-drop_front (x ∷ a) b = drop_front a b
-
 -- what waited is as it was
 resumed_is : (f : world.Frame) (waiting : List ℕ) (h : Held) → h.places ≡ frame_places f ++ waiting → resumed (waits_at f) h ≡ record h { temporaries = f.temporaries; variables = f.strong; self = f.self; places = waiting }
-resumed_is f waiting h e =
-    let t = length f.temporaries in
-    let v = length f.strong in
-    let rest = f.strong ++ waiting in
-    let all : h.places ≡ f.temporaries ++ rest = e ∙ append_assoc f.temporaries f.strong waiting in
-    ap (λ l. record h { temporaries = take t l; variables = take v (drop t l); self = f.self; places = drop v (drop t l) }) all
-    ∙ ap (λ l. record h { temporaries = l; variables = take v (drop t (f.temporaries ++ rest)); self = f.self; places = drop v (drop t (f.temporaries ++ rest)) }) (take_front f.temporaries rest)
-    ∙ ap (λ l. record h { temporaries = f.temporaries; variables = take v l; self = f.self; places = drop v l }) (drop_front f.temporaries rest)
-    ∙ ap (λ l. record h { temporaries = f.temporaries; variables = l; self = f.self; places = drop v rest }) (take_front f.strong waiting)
-    ∙ ap (λ l. record h { temporaries = f.temporaries; variables = f.strong; self = f.self; places = l }) (drop_front f.strong waiting)
+resumed_is f waiting h e = resumed_as (waits_at f) h f.temporaries f.strong waiting e refl refl
 
 -- an object is gone, where there is such an object
 turned_is : (objects : List Object) (o : ℕ) (found : Option Object) (w : World) → object_at objects o ≡ found → w.objects ≡ objects → turned Gone o found w ≡ record w { objects = gone_in objects o }
@@ -218,8 +191,7 @@ module _ (p : Program) (R : resolved.Program) (bound : ℕ) (begins : (wanted : 
   last_tells : (rs : List ℕ) (frames : List Frame) → length frames + 0 ≡ most_levels → (meant stands : Option ℕ) (wanted : Gives) (values objects self : ℕ) (given : Given) (stack : List ℤ) (w : World) (pc : ℕ) → Tells rs zero frames meant stands wanted values objects self given stack w pc
   last_tells rs frames full None None wanted values objects self given stack w pc meets = inr (leads_same (moves p) _ _ refl)
   last_tells rs frames full (Some f) (Some to) wanted values objects self given stack w pc meets = inr (leads_same (moves p) _ _ (ap (enters_at (onto given.objects rs) frames pc to self (onto given.numbers stack) w) (le-ltb (length frames) most_levels (omega (arith, full)))))
-  last_tells rs frames full None (Some to) wanted values objects self given stack w pc meets = absurd meets
-  last_tells rs frames full (Some f) None wanted values objects self given stack w pc meets = absurd meets
+  last_tells rs frames full _ _ wanted values objects self given stack w pc meets = absurd meets
 
   level_tells : (rs : List ℕ) (levels : ℕ) (frames : List Frame) → length frames + suc levels ≡ most_levels → (meant stands : Option ℕ) (wanted : Gives) (values objects self : ℕ) (given : Given) (stack : List ℤ) (w : World) (pc : ℕ) → Deep p (Calling (pc + 1) (waits_of w) ∷ frames) bound R (level R bound levels) → length given.numbers ≡ values → length given.objects ≡ objects → Tells rs (suc levels) frames meant stands wanted values objects self given stack w pc
   level_tells rs levels frames full None None wanted values objects self given stack w pc deep size few meets = inr (leads_same (moves p) _ _ refl)
@@ -232,8 +204,7 @@ module _ (p : Program) (R : resolved.Program) (bound : ℕ) (begins : (wanted : 
       let into = leads_trans (moves p) (from true) (running inner names1 to all w1) (begun_at rs wanted f self inner given stack w) (quiet p inner bound names1 to all w1) (stub_leads rs inner wanted values objects f to given stack w1 size few meets) in
       subst (λ b. Runs (moves p) bound (from b) (Returns wanted frames rs pc stack w) ((level R bound (suc levels)).call wanted f self given w)) (sym (lt-ltb (length frames) most_levels (omega (arith, full))))
       (leads_runs (moves p) bound (from true) (begun_at rs wanted f self inner given stack w) (Returns wanted frames rs pc stack w) ((level R bound (suc levels)).call wanted f self given w) into (method_runs rs levels wanted f pc self frames given stack w deep))
-  level_tells rs levels frames full None (Some to) wanted values objects self given stack w pc deep size few meets = absurd meets
-  level_tells rs levels frames full (Some f) None wanted values objects self given stack w pc deep size few meets = absurd meets
+  level_tells rs levels frames full _ _ wanted values objects self given stack w pc deep size few meets = absurd meets
 
   -- ---- the end of an object
 
@@ -373,7 +344,7 @@ module _ (p : Program) (R : resolved.Program) (bound : ℕ) (begins : (wanted : 
           subst (Runs (moves p) bound (follow (recount (stays h)) w.input w.trace) (Goes_on w)) (sym is) (stays_run w h.counts))
           (λ old named.
           let w1 = field_stores o ob index 0 w in
-          subst (λ q. Runs (moves p) bound (follow (recount (lets_go old (raised 0 (with_strong_field h o ob index 0)) stays (ends w))) w.input w.trace) (Goes_on w) (released D q w1)) (sym (found_name ob.strong index old named))
+          subst (λ q. Runs (moves p) bound (follow (recount (lets_go old (raised 0 (with_strong_field h o ob index 0)) stays (ends w))) w.input w.trace) (Goes_on w) (released D q w1)) (sym (get_or_from_slice_get ob.strong index old 0 named))
           (better_runs (moves p) bound _ (Goes_on w1) (Goes_on w) (released D old w1) (lets_run w old (raised 0 h).counts w1 (λ k e. dropped_count o ob index old k w found there named e)) (λ done w2 to m. (m.0, record { frame = m.1.frame; waiting = m.1.waiting }))))))
 
     -- ---- what is left of an end
@@ -419,8 +390,7 @@ module _ (p : Program) (R : resolved.Program) (bound : ℕ) (begins : (wanted : 
         in
         leads_runs (moves p) bound reached (at_end rs inner1 o stack w1) (Back w) (meant_from n next w1) (leads_same (moves p) reached (at_end rs inner1 o stack w1) home)
         (back_from w w1 (at_end rs inner1 o stack w1) (meant_from n next w1) k (go w1 (still_on w w1 still k)))))
-    by_dealloc n next w from None (Some to) still meets e go = absurd meets
-    by_dealloc n next w from (Some f) None still meets e go = absurd meets
+    by_dealloc n next w from _ _ still meets e go = absurd meets
 
     module _ (links : Linked p R) (has_end : HasAt p p.end_step (EndStep ∷ [])) where
       -- the fields that are left, and the last step
@@ -486,8 +456,7 @@ module _ (p : Program) (R : resolved.Program) (bound : ℕ) (begins : (wanted : 
           deallocs_alike : (dealloc : Option ℕ) (all : List Frame) → recount (runs_dealloc dealloc (at (Ending back waits o (Some c) (suc n) ∷ frames) p.end_step stack (ended_held rs o w)) all) ≡ recount (runs_dealloc dealloc (at [] p.end_step stack (ended_held rs o w)) all)
           deallocs_alike None all = refl
           deallocs_alike (Some to) all = refl
-      by_class n c w None (Some d) still same e go = absurd same
-      by_class n c w (Some x) None still same e go = absurd same
+      by_class n c w _ _ still same e go = absurd same
 
       end_runs : (n : ℕ) (next : Option ℕ) (w : World) → Still w → EndRuns n next w
       end_runs zero None w still = after_runs (Ending back waits o None zero) w still (ap recount (has_end.0 (Ending back waits o None zero ∷ frames) stack (ended_held rs o w)))

@@ -1,5 +1,5 @@
 -- A number is of the kind that the form of its expression tells.
-use Rattle.std.proofs.Common.{◌≡◌, ℕ, suc, ℤ, pos, negsuc, Bool, true, false, nat_eq, nat_lt, nat_le, if◌then◌else◌, length, Option, Some, None, ◌-◌, ◌%◌, ◌<◌, refl, sym, ap, subst, arith}
+use Rattle.std.proofs.Common.{◌%◌, ◌≡◌, ℕ, suc, ℤ, pos, negsuc, Bool, true, false, nat_eq, nat_lt, nat_le, if◌then◌else◌, length, Option, Some, None, ◌-◌, ◌<◌, refl, sym, ap, subst, arith}
 use Rattle.std.proofs.lemmas.Bool.{false≢true, eqb-true, ltb-false, leb-false}
 use Rattle.std.proofs.lemmas.Bool.Decides.{nat_tests}
 use Rattle.std.specs.Int.{w32, w64, cast_signed, cast_unsigned}
@@ -14,7 +14,7 @@ use Rattle.arc_spec.specs.Classes.{descends}
 use Rattle.arc_spec.specs.Objects.{Object, object_at}
 use Rattle.arc_spec.specs.Resolved.{Value, Number, Print, Applied, Combined, Choice, Converted, Assigned, FieldAssigned, Differ, IsObject}
 use Rattle.arc_spec.specs.Number.{converted, applied, combined, answer, is_zero, is_same, low_32}
-use Rattle.arc_spec.specs.World.{World, Outcome, Done, Faulted, Cut, then_do}
+use Rattle.arc_spec.specs.World.{World, Outcome, Done, Faulted, then_do}
 use Rattle.arc_spec.specs.Meaning.{Deeper, chosen, formatted, in_object, or_fault, evaluated, referred, all_evaluated}
 use Rattle.arc_lower.specs.Known.{width, is_within, wider, narrower, number_kind, applied_kind, combined_kind, known_kind}
 use Rattle.arc_lower.proofs.Shaping.{Holds}
@@ -45,9 +45,7 @@ bit false = refl
 again : (kind : Kind) (z : ℤ) → IsOf kind (converted kind z)
 again k.Bool z = bit (is_zero z)
 again k.Int z = low_again z
-again k.Long z = refl
-again k.Object z = refl
-again k.Void z = refl
+again _ z = refl
 
 small_bit : (b : Bool) → IsOf k.Int (if b then pos 0 else pos 1)
 small_bit true = refl
@@ -57,17 +55,11 @@ small_bit false = refl
 pub within_keeps : (a b : Kind) (v : ℤ) → is_within a b ≡ true → IsOf a v → IsOf b v
 within_keeps k.Bool k.Bool v e h = h
 within_keeps k.Bool k.Int v e h = subst (IsOf k.Int) h (small_bit (is_zero v))
-within_keeps k.Int k.Bool v e h = absurd (false≢true e)
 within_keeps k.Int k.Int v e h = h
-within_keeps k.Long k.Bool v e h = absurd (false≢true e)
-within_keeps k.Object k.Bool v e h = absurd (false≢true e)
-within_keeps k.Void k.Bool v e h = absurd (false≢true e)
-within_keeps k.Long k.Int v e h = absurd (false≢true e)
-within_keeps k.Object k.Int v e h = absurd (false≢true e)
-within_keeps k.Void k.Int v e h = absurd (false≢true e)
 within_keeps a k.Long v e h = refl
 within_keeps a k.Object v e h = refl
 within_keeps a k.Void v e h = refl
+within_keeps _ _ v e h = absurd (false≢true e)
 
 other_way : (n m : ℕ) → nat_le n m ≡ false → nat_le m n ≡ true
 other_way n m e = let lt = leb-false n m e in grind (arith, nat_tests, lt)
@@ -97,8 +89,7 @@ both_kinds a b v h = by (is_within a b) refl
 same_true : (x y : ℤ) → is_same x y ≡ true → x ≡ y
 same_true (pos n) (pos m) e = ap pos (eqb-true n m e)
 same_true (negsuc n) (negsuc m) e = ap negsuc (eqb-true n m e)
-same_true (pos n) (negsuc m) e = absurd (false≢true e)
-same_true (negsuc n) (pos m) e = absurd (false≢true e)
+same_true _ _ e = absurd (false≢true e)
 
 number_good : (n : ℤ) → IsOf (number_kind n) n
 number_good n = by (is_same (converted k.Bool n) n) refl
@@ -115,36 +106,27 @@ answered : (b : Bool) → IsOf k.Bool (answer b)
 answered true = refl
 answered false = refl
 
-differing : (b : Bool) → IsOf k.Bool (if b then pos 0 else pos 1)
-differing b = bit b
-
 applied_good : (operator : UnaryOperator) (kind : Kind) (x : ℤ) → IsOf (applied_kind operator kind) (applied operator kind x)
-applied_good u.Plus kind x = again kind _
-applied_good u.Negate kind x = again kind _
-applied_good u.Complement kind x = again kind _
 applied_good u.Not kind x = answered (is_zero x)
+applied_good _ kind x = again kind _
 
 -- ---- what is known of an outcome
 
 any_long : (o : Outcome ℤ) → Holds (IsOf k.Long) o
 any_long (Done v w) = refl
-any_long (Faulted f w) = tt
-any_long (Cut w) = tt
+any_long _ = tt
 
-any_holds : {A B : Type 0} (Good : B → Type 0) (o : Outcome A) (go : A → World → Outcome B) → ((a : A) (w : World) → Holds Good (go a w)) → Holds Good (then_do o go)
+pub any_holds : {A B : Type 0} (Good : B → Type 0) (o : Outcome A) (go : A → World → Outcome B) → ((a : A) (w : World) → Holds Good (go a w)) → Holds Good (then_do o go)
 any_holds Good (Done a w) go h = h a w
-any_holds Good (Faulted f w) go h = tt
-any_holds Good (Cut w) go h = tt
+any_holds Good _ go h = tt
 
 holds_then : {A B : Type 0} (P : A → Type 0) (Q : B → Type 0) (o : Outcome A) (go : A → World → Outcome B) → Holds P o → ((a : A) (w : World) → P a → Holds Q (go a w)) → Holds Q (then_do o go)
 holds_then P Q (Done a w) go h next = next a w h
-holds_then P Q (Faulted f w) go h next = tt
-holds_then P Q (Cut w) go h next = tt
+holds_then P Q _ go h next = tt
 
 weaker : {A : Type 0} (P Q : A → Type 0) (o : Outcome A) → ((a : A) → P a → Q a) → Holds P o → Holds Q o
 weaker P Q (Done a w) f h = f a h
-weaker P Q (Faulted f w) g h = tt
-weaker P Q (Cut w) f h = tt
+weaker P Q _ _ h = tt
 
 either_holds : {A : Type 0} (P : A → Type 0) (b : Bool) (x y : Outcome A) → Holds P x → Holds P y → Holds P (chosen b x y)
 either_holds P true x y h g = g
@@ -158,17 +140,10 @@ combined_good o.Divide kind x y w = any_long _
 combined_good o.Remainder kind x y w = any_long _
 combined_good o.ShiftLeft kind x y w = again kind _
 combined_good o.ShiftRight kind x y w = refl
-combined_good o.Less kind x y w = answered _
-combined_good o.LessOrEqual kind x y w = answered _
-combined_good o.Greater kind x y w = answered _
-combined_good o.GreaterOrEqual kind x y w = answered _
-combined_good o.Equal kind x y w = answered _
-combined_good o.NotEqual kind x y w = answered _
 combined_good o.BitAnd kind x y w = again kind _
 combined_good o.BitXor kind x y w = again kind _
 combined_good o.BitOr kind x y w = again kind _
-combined_good o.And kind x y w = answered _
-combined_good o.Or kind x y w = answered _
+combined_good _ kind x y w = answered _
 
 module _ (D : Deeper) where
   set_holds : (P : ℤ → Type 0) (class : ℕ) (found : Option Object) (v : ℤ) (go : Object → World) (w : World) → P v → Holds P (in_object D class found (λ o. Done v (go o)) w)
@@ -194,6 +169,6 @@ module _ (D : Deeper) where
   known_good (Assigned i a) w = holds_then (IsOf (known_kind a)) (IsOf (known_kind a)) (evaluated D a w) _ (known_good a w) (λ x w1 h. h)
   known_good (FieldAssigned a class index b) w = any_holds (IsOf (known_kind b)) (referred D a w) _ (λ r w1.
       holds_then (IsOf (known_kind b)) (IsOf (known_kind b)) (evaluated D b w1) _ (known_good b w1) (λ v w2 h. set_holds (IsOf (known_kind b)) class (object_at w2.objects r) v _ w2 h))
-  known_good (Differ a b) w = any_holds (IsOf k.Bool) (referred D a w) _ (λ x w1. any_holds (IsOf k.Bool) (referred D b w1) _ (λ y w2. differing (nat_eq x y)))
-  known_good (IsObject a) w = any_holds (IsOf k.Bool) (referred D a w) _ (λ x w1. differing (nat_eq x 0))
+  known_good (Differ a b) w = any_holds (IsOf k.Bool) (referred D a w) _ (λ x w1. any_holds (IsOf k.Bool) (referred D b w1) _ (λ y w2. bit (nat_eq x y)))
+  known_good (IsObject a) w = any_holds (IsOf k.Bool) (referred D a w) _ (λ x w1. bit (nat_eq x 0))
   known_good a w = any_long (evaluated D a w)

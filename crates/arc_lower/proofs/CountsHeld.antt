@@ -34,10 +34,8 @@ pub live_there : (o : Object) → is_live (Some o) ≡ true → is_there o.phase
 live_there o live = by o.phase live
   where
     by : (phase : Phase) → is_live (Some (in_phase phase o)) ≡ true → is_there phase ≡ true
-    by Live h = refl
-    by Dying h = refl
-    by Emptying h = refl
     by Gone h = h
+    by _ h = refl
 
 -- one object is changed
 pub fields_set : (k : ℕ) (objects : List Object) (j : ℕ) (old x : Object) → slice_get objects j ≡ Some old
@@ -142,16 +140,13 @@ moved_counted h h1 objects counts same c = record {
 -- ---- objects
 
 pub set_same : {A : Type 0} (all : List A) (k : ℕ) (x a : A) → slice_get (slice_set all k x) k ≡ Some a → x ≡ a
-set_same [] k x a e = cc
-set_same (b ∷ all) zero x a e = cc
 set_same (b ∷ all) (suc k) x a e = set_same all k x a e
+set_same _ _ x a e = cc
 
 pub set_other : {A : Type 0} (all : List A) (j k : ℕ) (x : A) → (k ≡ j → ⊥) → slice_get (slice_set all j x) k ≡ slice_get all k
-set_other [] j k x ne = refl
 set_other (b ∷ all) zero zero x ne = absurd (ne refl)
-set_other (b ∷ all) zero (suc k) x ne = refl
-set_other (b ∷ all) (suc j) zero x ne = refl
 set_other (b ∷ all) (suc j) (suc k) x ne = set_other all j k x (λ e. ne (ap suc e))
+set_other _ _ _ x ne = refl
 
 -- all but the last of a list that has one more
 pub get_last : {A : Type 0} (all : List A) (k : ℕ) (x a : A) → (k ≡ length all → ⊥) → slice_get (all ++ x ∷ []) k ≡ Some a → slice_get all k ≡ Some a

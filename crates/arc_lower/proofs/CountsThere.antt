@@ -3,7 +3,7 @@ use Rattle.std.proofs.Common.{◌≡◌, ℕ, zero, suc, ◌<◌, true, List, []
 use Rattle.std.proofs.lemmas.Bool.{cases_eq}
 use Rattle.arc_spec.specs.Objects.{Object, object_at}
 use Rattle.arc_spec.specs.Stepping.{Next, only_if}
-use Rattle.arc_spec.specs.Holding.{Held, holders, is_there, taken_by, on_object, on_named, holds}
+use Rattle.arc_spec.specs.Holding.{Held, holders, is_there, on_object, on_named}
 use Rattle.arc_lower.proofs.CountsPlaces.{tally_nil, tally_same, tally_other, holders_head, holders_set, holders_nil}
 use Rattle.arc_lower.proofs.CountsHeld.{set_other}
 
@@ -85,5 +85,3 @@ pub named_goes : {S : Type 0} (r : ℕ) (h : Held) (next : Next S) → IsThere h
 named_goes zero h next there = refl
 named_goes (suc k) h next there = object_goes (object_at h.objects (suc k)) there.0 (λ _. next) there.1 there.2
 
-pub holds_goes : {S : Type 0} (r : ℕ) (h : Held) (go : Held → Next S) → IsThere h.objects r → holds r h go ≡ go (taken_by r h)
-holds_goes r h go there = named_goes r h (go (taken_by r h)) there

@@ -33,8 +33,7 @@ has_front p pc (x ∷ a) b h = (h.0, has_front p (pc + 1) a b h.1)
 pub has_back : (p : Program) (pc : ℕ) (a b : List Order) → HasAt p pc (a ++ b) → HasAt p (pc + length a) b
 has_back p pc [] b h = let e : pc ≡ pc + 0 = omega arith in subst (λ n. HasAt p n b) e h
 has_back p pc (x ∷ a) b h =
-    let e : pc + 1 + length a ≡ pc + length (x ∷ a) = omega arith in
-    subst (λ n. HasAt p n b) e (has_back p (pc + 1) a b h.1)
+    subst (λ n. HasAt p n b) (omega arith) (has_back p (pc + 1) a b h.1)
 
 get_seam : (before behind : List Action) (x : Action) → slice_get (before ++ x ∷ behind) (length before) ≡ Some x
 get_seam [] behind x = refl
@@ -43,12 +42,11 @@ get_seam (b ∷ before) behind x = get_seam before behind x
 has_from : (p : Program) (is before : List Action) → p.actions ≡ before ++ is → HasAt p (length before) (orders is)
 has_from p [] before e = tt
 has_from p (x ∷ is) before e =
-    let n : length (before ++ x ∷ []) ≡ length before + 1 = omega (arith, length-append before (x ∷ [])) in
     let rest = has_from p is (before ++ x ∷ []) (e ∙ sym (append_assoc before (x ∷ []) is)) in (
       λ frames stack held.
           let s = at frames (length before) stack held in
           ap (λ l. executes p (slice_get l (length before)) s) e ∙ ap (λ o. executes p o s) (get_seam before is x) ∙ acts_does p x s,
-      subst (λ m. HasAt p m (orders is)) n rest,
+      subst (λ m. HasAt p m (orders is)) (omega (arith, length-append before (x ∷ []))) rest,
     )
 
 pub has_all : (p : Program) → HasAt p 0 (orders p.actions)

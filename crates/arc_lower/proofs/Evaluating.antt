@@ -11,18 +11,18 @@ use Rattle.arc_spec.specs.declared.class.Gives.TheVariants as gives
 use Rattle.arc_spec.specs.Classes.{class_at, descends, lookup, new_selector}
 use Rattle.arc_spec.specs.Objects.{Object, object_at}
 use Rattle.arc_spec.specs.declared.location.Location.{Location}
-use Rattle.arc_spec.specs.Resolved.{Piece, Value, Number, ReadByte, Print, Applied, Combined, Choice, Converted, Read, Assigned, Updated, Invoked, Sent, Receiver, ClassValue, ClassSuper, ObjectValue, ObjectSuper, Field, FieldAssigned, FieldUpdated, Reference, Itself, Variable, Chosen, Stored, ObjectField, ObjectFieldStored, Made, New, ObjectInvoked, ObjectSent, Arguments, no_arguments, number_argument, object_argument}
+use Rattle.arc_spec.specs.Resolved.{Value, Number, Print, Applied, Combined, Choice, Converted, Read, Assigned, Updated, Invoked, Sent, Receiver, ClassValue, ClassSuper, ObjectValue, ObjectSuper, Field, FieldAssigned, FieldUpdated, Reference, Chosen, Stored, ObjectField, ObjectFieldStored, Made, New, ObjectInvoked, ObjectSent, Arguments, no_arguments, number_argument, object_argument}
 use Rattle.arc_spec.specs.Resolved as resolved
-use Rattle.arc_spec.specs.World.{World, Outcome, Done, Faulted, Cut, Finished, then_do, Given, nothing_given, Answer, prints, local_at, takes}
+use Rattle.arc_spec.specs.World.{World, Outcome, Done, Faulted, Finished, then_do, Given, nothing_given, Answer, prints, local_at, takes}
 use Rattle.arc_spec.specs.Number.{converted, combined, is_zero}
 use Rattle.arc_spec.specs.Meaning as meaning
-use Rattle.arc_spec.specs.Meaning.{Deeper, sent, made_new, new_found, new_sent, number_given, object_given, and_number, and_object, object_field_set, formatted, byte_count, or_fault, held_at, holds, updated, given_by, in_object, field_read, field_set, assigned, evaluated, referred, received, all_evaluated}
+use Rattle.arc_spec.specs.Meaning.{Deeper, sent, new_found, new_sent, number_given, object_given, and_number, and_object, object_field_set, formatted, byte_count, or_fault, held_at, holds, updated, given_by, in_object, field_read, field_set, assigned, evaluated, referred, received, all_evaluated}
 use Rattle.arc_code.specs.Instructions.{one_if}
 use Rattle.arc_code.specs.declared.instr.Op.TheVariants.{Narrow, SetField, Hold, Finds}
 use Rattle.arc_lower.specs.Known.{is_within, combined_kind, known_kind}
-use Rattle.arc_lower.proofs.Converting.{IsOf, within_keeps, combined_good, known_good}
+use Rattle.arc_lower.proofs.Converting.{IsOf, within_keeps, combined_good, known_good, any_holds}
 use Rattle.arc_lower.specs.Lowered.{Message, ToClass, ToSuperClass, ToObject, ToSuper, Block, Idle, One, Store, Format, Calls, Tells, Making, Then, Fork, number_count, object_count, given_block, below_new, narrow_block, update_block, message_to, below_arguments, value_block, reference_block, receiver_block, arguments_block}
-use Rattle.arc_lower.proofs.Shaping.{Operands, push, name, pushed, Way, On, Lost, left_by, and_then, pushes, passes_by, answers_left, told, block, after, chosen_by, same_depth, on_pushed, Holds, after_known}
+use Rattle.arc_lower.proofs.Shaping.{Operands, push, name, pushed, Way, On, Lost, left_by, and_then, pushes, passes_by, answers_left, told, block, after, chosen_by, same_depth, on_pushed, Holds, after_known, then_twice}
 
 module _ (D : Deeper) (bound place : ℕ) where
   abbrev run : Block → Operands → World → Outcome Way
@@ -39,23 +39,16 @@ module _ (D : Deeper) (bound place : ℕ) where
   all_above s given = On (pushed given s)
 
   -- there are as many values as expressions
-  any_holds : {A B : Type 0} (Good : B → Type 0) (o : Outcome A) (go : A → World → Outcome B) → ((a : A) (w : World) → Holds Good (go a w)) → Holds Good (then_do o go)
-  any_holds Good (Done a w) go h = h a w
-  any_holds Good (Faulted f w) go h = tt
-  any_holds Good (Cut w) go h = tt
-
   abbrev Counted : Arguments → Given → Type 0
   Counted all given = (length given.numbers ≡ number_count all) × (length given.objects ≡ object_count all)
 
   more_numbers : (a : Value) (others : Arguments) (x : ℤ) (o : Outcome Given) → Holds (Counted others) o → Holds (Counted (number_argument a others)) (then_do o (λ given w. Done (and_number x given) w))
   more_numbers a others x (Done given w) h = (ap suc h.0, h.1)
-  more_numbers a others x (Faulted f w) h = tt
-  more_numbers a others x (Cut w) h = tt
+  more_numbers a others x _ h = tt
 
   more_objects : (a : Reference) (others : Arguments) (r : ℕ) (o : Outcome Given) → Holds (Counted others) o → Holds (Counted (object_argument a others)) (then_do o (λ given w. Done (and_object r given) w))
   more_objects a others r (Done given w) h = (h.0, ap suc h.1)
-  more_objects a others r (Faulted f w) h = tt
-  more_objects a others r (Cut w) h = tt
+  more_objects a others r _ h = tt
 
   given_counted : (all : Arguments) (w : World) → Holds (Counted all) (all_evaluated D all w)
   given_counted no_arguments w = (refl, refl)
@@ -64,24 +57,15 @@ module _ (D : Deeper) (bound place : ℕ) where
 
   with_number : (x : ℤ) (s : Operands) (o : Outcome Given) → left_by (all_above (push x s)) o ≡ left_by (all_above s) (then_do o (λ given w. Done (and_number x given) w))
   with_number x s (Done given w) = refl
-  with_number x s (Faulted f w) = refl
-  with_number x s (Cut w) = refl
+  with_number x s _ = refl
 
   with_object : (r : ℕ) (s : Operands) (o : Outcome Given) → left_by (all_above (name r s)) o ≡ left_by (all_above s) (then_do o (λ given w. Done (and_object r given) w))
   with_object r s (Done given w) = refl
-  with_object r s (Faulted f w) = refl
-  with_object r s (Cut w) = refl
-
-  -- one part after two others
-  three_parts : {A B C : Type 0} (o : Outcome A) (f : A → World → Outcome B) (g : B → World → Outcome C) → then_do o (λ a w. then_do (f a w) g) ≡ then_do (then_do o f) g
-  three_parts (Done a w) f g = refl
-  three_parts (Faulted e w) f g = refl
-  three_parts (Cut w) f g = refl
+  with_object r s _ = refl
 
   held : (r : ℕ) (s : Operands) (o : Outcome Finished) → and_then (passes_by (name r s) o) (run (One Hold)) ≡ left_by (beside s) (then_do o (λ _ w. Done r (takes r w)))
   held r s (Done done w) = refl
-  held r s (Faulted f w) = refl
-  held r s (Cut w) = refl
+  held r s _ = refl
 
   -- arguments, and what they are passed to
   passed : {B : Type 0} (all : Arguments) (behind : Block) (end : B → Way) (s : Operands) (w : World) (go : Given → World → Outcome B) → run (arguments_block (length s.numbers) all) s w ≡ left_by (all_above s) (all_evaluated D all w) → ((given : Given) (w1 : World) → Counted all given → run behind (pushed given s) w1 ≡ left_by end (go given w1))
@@ -96,13 +80,11 @@ module _ (D : Deeper) (bound place : ℕ) where
 
   number_left : (s : Operands) (o : Outcome Answer) → answers_left gives.Number s o ≡ left_by (above s) (number_given o)
   number_left s (Done a w) = refl
-  number_left s (Faulted f w) = refl
-  number_left s (Cut w) = refl
+  number_left s _ = refl
 
   object_left : (s : Operands) (o : Outcome Answer) → answers_left gives.Object s o ≡ left_by (beside s) (object_given o)
   object_left s (Done a w) = refl
-  object_left s (Faulted f w) = refl
-  object_left s (Cut w) = refl
+  object_left s _ = refl
 
   module _ {B : Type 0} (wanted : Gives) (end : Operands → B → Way) (give : Outcome Answer → Outcome B) (leaves : (s : Operands) (o : Outcome Answer) → answers_left wanted s o ≡ left_by (end s) (give o)) where
     call_is : (f : ℕ) (all : Arguments) (s : Operands) (w : World) → run (arguments_block (length s.numbers) all) s w ≡ left_by (all_above s) (all_evaluated D all w)
@@ -120,7 +102,7 @@ module _ (D : Deeper) (bound place : ℕ) where
       to_class : (a : Value) (s : Operands) (w : World) → run (value_block (length s.numbers) a) s w ≡ left_by (above s) (evaluated D a w) → Sends (ClassValue a) selector all s w
       to_class a s w value = after (λ v. push v s) (end s) _ (evaluated D a w) _ _ value (λ self w1.
           tells wanted (end s) (ToClass selector) all (push self s) w1 (λ given w2. give (sent D wanted (meaning.ToClass (class_at self) self) selector given w2)) (arguments (push self s) w1) (λ given w2. leaves s (sent D wanted (meaning.ToClass (class_at self) self) selector given w2)))
-          ∙ ap (left_by (end s)) (three_parts (evaluated D a w) (λ self w1. Done (meaning.ToClass (class_at self) self) w1) (λ target w1. then_do (all_evaluated D all w1) (λ given w2. give (sent D wanted target selector given w2))))
+          ∙ ap (left_by (end s)) (then_twice (evaluated D a w) (λ self w1. Done (meaning.ToClass (class_at self) self) w1) (λ target w1. then_do (all_evaluated D all w1) (λ given w2. give (sent D wanted target selector given w2))))
 
       to_super_class : (from : ℕ) (s : Operands) (w : World) → Sends (ClassSuper from) selector all s w
       to_super_class from s w =
@@ -131,12 +113,12 @@ module _ (D : Deeper) (bound place : ℕ) where
       to_object : (a : Reference) (s : Operands) (w : World) → run (reference_block (length s.numbers) a) s w ≡ left_by (beside s) (referred D a w) → Sends (ObjectValue a) selector all s w
       to_object a s w value = after (λ r. name r s) (end s) _ (referred D a w) _ _ value (λ self w1.
           tells wanted (end s) (ToObject selector) all (name self s) w1 (λ given w2. give (sent D wanted (meaning.ToObject self) selector given w2)) (arguments (name self s) w1) (λ given w2. leaves s (sent D wanted (meaning.ToObject self) selector given w2)))
-          ∙ ap (left_by (end s)) (three_parts (referred D a w) (λ self w1. Done (meaning.ToObject self) w1) (λ target w1. then_do (all_evaluated D all w1) (λ given w2. give (sent D wanted target selector given w2))))
+          ∙ ap (left_by (end s)) (then_twice (referred D a w) (λ self w1. Done (meaning.ToObject self) w1) (λ target w1. then_do (all_evaluated D all w1) (λ given w2. give (sent D wanted target selector given w2))))
 
       to_super : (a : Reference) (from : ℕ) (s : Operands) (w : World) → run (reference_block (length s.numbers) a) s w ≡ left_by (beside s) (referred D a w) → Sends (ObjectSuper a from) selector all s w
       to_super a from s w value = after (λ r. name r s) (end s) _ (referred D a w) _ _ value (λ self w1.
           tells wanted (end s) (ToSuper from selector) all (name self s) w1 (λ given w2. give (sent D wanted (meaning.ToSuper from self) selector given w2)) (arguments (name self s) w1) (λ given w2. leaves s (sent D wanted (meaning.ToSuper from self) selector given w2)))
-          ∙ ap (left_by (end s)) (three_parts (referred D a w) (λ self w1. Done (meaning.ToSuper from self) w1) (λ target w1. then_do (all_evaluated D all w1) (λ given w2. give (sent D wanted target selector given w2))))
+          ∙ ap (left_by (end s)) (then_twice (referred D a w) (λ self w1. Done (meaning.ToSuper from self) w1) (λ target w1. then_do (all_evaluated D all w1) (λ given w2. give (sent D wanted target selector given w2))))
 
   -- ---- `new`, behind the class that gets it
 
@@ -219,8 +201,6 @@ module _ (D : Deeper) (bound place : ℕ) where
 
   mutual
     pub value_is : (a : Value) (s : Operands) (w : World) → run (value_block (length s.numbers) a) s w ≡ left_by (above s) (evaluated D a w)
-    value_is (Number n) s w = refl
-    value_is ReadByte s w = refl
     value_is (Print pieces all) s w = passed all (Format pieces (number_count all) (object_count all)) (above s) s w _ (arguments_is all s w) (λ given w1 e.
         on_pushed (number_count all) (object_count all) given s w1 (λ values rest. Done (On (push (byte_count (formatted pieces values.numbers)) rest)) (prints (formatted pieces values.numbers) w1)) e.0 e.1)
     value_is (Applied operator kind a) s w = after (λ v. push v s) (above s) _ (evaluated D a w) _ _ (value_is a s w) (λ x w1. refl)
@@ -252,11 +232,9 @@ module _ (D : Deeper) (bound place : ℕ) where
     value_is (resolved.Differ a b) s w = after (λ r. name r s) (above s) _ (referred D a w) _ _ (reference_is a s w) (λ x w1.
         after (λ r. name r (name x s)) (above s) _ (referred D b w1) _ _ (reference_is b (name x s) w1) (λ y w2. refl))
     value_is (resolved.IsObject a) s w = after (λ r. name r s) (above s) _ (referred D a w) _ _ (reference_is a s w) (λ r w1. refl)
+    value_is _ s w = refl
 
     pub reference_is : (a : Reference) (s : Operands) (w : World) → run (reference_block (length s.numbers) a) s w ≡ left_by (beside s) (referred D a w)
-    reference_is resolved.Nil s w = refl
-    reference_is Itself s w = refl
-    reference_is (Variable i) s w = refl
     reference_is (Chosen c a b) s w = after (λ v. push v s) (beside s) _ (evaluated D c w) _ _ (value_is c s w) (λ x w1.
         let rest : Operands = record { numbers = s.numbers; names = s.names } in
         chosen_by (beside s) (is_zero x) _ _ (referred D a w1) (referred D b w1) (reference_is a rest w1) (reference_is b rest w1))
@@ -273,6 +251,7 @@ module _ (D : Deeper) (bound place : ℕ) where
     reference_is (ObjectSent (ClassSuper from) selector all) s w = to_super_class gives.Object beside object_given object_left selector all (λ s1 w1. arguments_is all s1 w1) from s w
     reference_is (ObjectSent (ObjectValue a) selector all) s w = to_object gives.Object beside object_given object_left selector all (λ s1 w1. arguments_is all s1 w1) a s w (reference_is a s w)
     reference_is (ObjectSent (ObjectSuper a from) selector all) s w = to_super gives.Object beside object_given object_left selector all (λ s1 w1. arguments_is all s1 w1) a from s w (reference_is a s w)
+    reference_is _ s w = refl
 
     pub arguments_is : (all : Arguments) (s : Operands) (w : World) → run (arguments_block (length s.numbers) all) s w ≡ left_by (all_above s) (all_evaluated D all w)
     arguments_is no_arguments s w = refl

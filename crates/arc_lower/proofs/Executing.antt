@@ -1,8 +1,8 @@
 -- The blocks of statements and functions mean what these mean.
-use Rattle.std.proofs.Common.{◌≡◌, ℕ, zero, suc, ℤ, Bool, true, false, List, [], Some, None, refl, sym, ap, ◌∙◌}
+use Rattle.std.proofs.Common.{◌≡◌, ℕ, zero, suc, ℤ, Bool, true, false, List, [], Some, refl, sym, ap, ◌∙◌}
 use Rattle.arc_spec.specs.Number.{is_zero}
 use Rattle.arc_spec.specs.declared.location.Location.TheVariants.{Local}
-use Rattle.arc_spec.specs.Resolved.{Value, Reference, Command, Sequence, Evaluate, EvaluateReference, Begin, Give, Choose, Repeat, RepeatAfter, Break, Continue, Commands, no_commands, and_command}
+use Rattle.arc_spec.specs.Resolved.{Value, Reference, Command, Sequence, Evaluate, EvaluateReference, Begin, Give, Choose, Repeat, RepeatAfter, Commands, no_commands, and_command}
 use Rattle.arc_spec.specs.Resolved as resolved
 use Rattle.arc_spec.specs.World.{World, Outcome, Done, Faulted, Cut, Finished, finished, then_do}
 use Rattle.arc_spec.specs.Meaning.{Deeper, Flow, Normal, Broken, Continued, Returned, given, chosen, if_normal, in_turn, after_body, turns, turns_after, normally, assigned, all_dropped, variables_dropped, scope_left, evaluated, referred, whole, whole_reference, begun, result_place, executed, all_executed}
@@ -21,14 +21,12 @@ calm names = record { numbers = []; names = names }
 -- one part behind another
 onward : {A B : Type 0} (exit : A → Operands) (end : B → World → Outcome Way) (x : Outcome Way) (o : Outcome A) (k : Operands → World → Outcome Way) (go : A → World → Outcome B) → x ≡ left_by (λ a. On (exit a)) o → ((a : A) (w : World) → k (exit a) w ≡ then_do (go a w) end) → and_then x k ≡ then_do (then_do o go) end
 onward exit end x (Done a w) k go e h = ap (λ y. and_then y k) e ∙ h a w
-onward exit end x (Faulted f w) k go e h = ap (λ y. and_then y k) e
-onward exit end x (Cut w) k go e h = ap (λ y. and_then y k) e
+onward exit end x _ k go e h = ap (λ y. and_then y k) e
 
 -- a part of which each end is known
 parts : {A B : Type 0} (end : A → World → Outcome Way) (last : B → World → Outcome Way) (x : Outcome Way) (o : Outcome A) (k : Way → World → Outcome Way) (go : A → World → Outcome B) → x ≡ then_do o end → ((a : A) (w : World) → then_do (end a w) k ≡ then_do (go a w) last) → then_do x k ≡ then_do (then_do o go) last
 parts end last x (Done a w) k go e h = ap (λ y. then_do y k) e ∙ h a w
-parts end last x (Faulted f w) k go e h = ap (λ y. then_do y k) e
-parts end last x (Cut w) k go e h = ap (λ y. then_do y k) e
+parts end last x _ k go e h = ap (λ y. then_do y k) e
 
 either : {A : Type 0} (end : A → World → Outcome Way) (b : Bool) (x y : Outcome Way) (m n : Outcome A) → x ≡ then_do m end → y ≡ then_do n end → chosen b x y ≡ then_do (chosen b m n) end
 either end false x y m n d e = d
@@ -50,13 +48,11 @@ module _ (D : Deeper) (bound : ℕ) where
 
   drops_is : (v : ℤ) (s : Operands) (o : Outcome Finished) → passes_by (push v s) o ≡ left_by (above D bound 0 s) (then_do o (λ _ w. Done v w))
   drops_is v s (Done done w) = refl
-  drops_is v s (Faulted f w) = refl
-  drops_is v s (Cut w) = refl
+  drops_is v s _ = refl
 
   forgotten : (place r : ℕ) (s : Operands) (o : Outcome Finished) → and_then (passes_by (name r s) o) (inside place (One Forget)) ≡ passes_by s o
   forgotten place r s (Done done w) = refl
-  forgotten place r s (Faulted f w) = refl
-  forgotten place r s (Cut w) = refl
+  forgotten place r s _ = refl
 
   whole_is : (a : Value) (names : List ℕ) (w : World) → run (whole_block a) (calm names) w ≡ left_by (above D bound 0 (calm names)) (whole D a w)
   whole_is a names w =
@@ -96,16 +92,20 @@ module _ (D : Deeper) (bound : ℕ) where
 
     normal_is : (breaks continues : Block) (o : Outcome Finished) → passes_by s o ≡ then_do (normally o) (ends breaks continues)
     normal_is breaks continues (Done done w) = refl
-    normal_is breaks continues (Faulted f w) = refl
-    normal_is breaks continues (Cut w) = refl
+    normal_is breaks continues _ = refl
 
     cleared_stops : (first count : ℕ) (b : Block) → Stops b → Stops (Then (Clear first count) b)
     cleared_stops first count b stops w k = by (variables_dropped D first count w)
       where
         by : (o : Outcome Finished) → and_then (and_then (passes_by s o) (run b)) k ≡ and_then (passes_by s o) (run b)
         by (Done done w1) = stops w1 k
-        by (Faulted f w1) = refl
-        by (Cut w1) = refl
+        by _ = refl
+
+    -- what a block goes on with, once its variables are emptied
+    cleared_then : (breaks continues b : Block) (flow : Flow) → ((w : World) → run b s w ≡ ends breaks continues flow w)
+        → (o : Outcome Finished) → and_then (passes_by s o) (run b) ≡ then_do (then_do o (λ _ w. Done flow w)) (ends breaks continues)
+    cleared_then breaks continues b flow e (Done done w) = e w
+    cleared_then breaks continues b flow e _ = refl
 
     -- a block that is left empties its variables
     scope_is : (first count : ℕ) (breaks continues : Block) → Stops breaks → Stops continues → (flow : Flow) (w : World) → and_then (ends (Then (Clear first count) breaks) (Then (Clear first count) continues) flow w) (run (Clear first count)) ≡ then_do (scope_left D first count flow w) (ends breaks continues)
@@ -113,20 +113,13 @@ module _ (D : Deeper) (bound : ℕ) where
       where
         by : (o : Outcome Finished) → passes_by s o ≡ then_do (then_do o (λ _ w1. Done Normal w1)) (ends breaks continues)
         by (Done done w1) = refl
-        by (Faulted f w1) = refl
-        by (Cut w1) = refl
-    scope_is first count breaks continues quits turns Broken w = cleared_stops first count breaks quits w (run (Clear first count)) ∙ by (variables_dropped D first count w)
-      where
-        by : (o : Outcome Finished) → and_then (passes_by s o) (run breaks) ≡ then_do (then_do o (λ _ w1. Done Broken w1)) (ends breaks continues)
-        by (Done done w1) = refl
-        by (Faulted f w1) = refl
-        by (Cut w1) = refl
-    scope_is first count breaks continues quits turns Continued w = cleared_stops first count continues turns w (run (Clear first count)) ∙ by (variables_dropped D first count w)
-      where
-        by : (o : Outcome Finished) → and_then (passes_by s o) (run continues) ≡ then_do (then_do o (λ _ w1. Done Continued w1)) (ends breaks continues)
-        by (Done done w1) = refl
-        by (Faulted f w1) = refl
-        by (Cut w1) = refl
+        by _ = refl
+    scope_is first count breaks continues quits turns Broken w =
+        cleared_stops first count breaks quits w (run (Clear first count))
+        ∙ cleared_then breaks continues breaks Broken (λ w1. refl) (variables_dropped D first count w)
+    scope_is first count breaks continues quits turns Continued w =
+        cleared_stops first count continues turns w (run (Clear first count))
+        ∙ cleared_then breaks continues continues Continued (λ w1. refl) (variables_dropped D first count w)
     scope_is first count breaks continues quits turns (Returned v) w = refl
 
     -- one statement behind another
@@ -144,10 +137,9 @@ module _ (D : Deeper) (bound : ℕ) where
     body_left breaks continues x o k go e h = parts (ends Quit Advance) (ends breaks continues) x o (after_turn k) _ e by
       where
         by : (flow : Flow) (w : World) → then_do (ends Quit Advance flow w) (after_turn k) ≡ then_do (after_body flow go w) (ends breaks continues)
-        by Normal w = h w
         by Broken w = refl
-        by Continued w = h w
         by (Returned v) w = refl
+        by _ w = h w
 
     -- a loop
     module _ (breaks continues : Block) (quits : Stops breaks) (turns_on : Stops continues) (step test body : Operands → World → Outcome Way) (test' : World → Outcome ℤ) (body' : World → Outcome Flow)
@@ -189,15 +181,13 @@ module _ (D : Deeper) (bound : ℕ) where
           onward (λ v. push v s) (ends breaks continues) _ (whole D (unused a) w) _ _ (whole_is (unused a) names w) (λ v w1. refl) ∙ ap (λ o. then_do o (ends breaks continues)) (unused_is D a w)
       command_is breaks continues quits turns (EvaluateReference a) w = whole_reference_is a names w ∙ normal_is breaks continues (whole_reference D a w)
       command_is breaks continues quits turns (Begin i a) w = begin_is i a names w ∙ normal_is breaks continues (begun D i a w)
-      command_is breaks continues quits turns (resolved.Return None) w = refl
       command_is breaks continues quits turns (resolved.Return (Some a)) w = onward (λ v. push v s) (ends breaks continues) _ (whole D a w) _ _ (whole_is a names w) (λ v w1. refl)
       command_is breaks continues quits turns (Give a) w = onward (λ (done : Finished). s) (ends breaks continues) _ (begun D (result_place w) a w) _ _ (answer_is a names w) (λ done w1. refl)
       command_is breaks continues quits turns (Choose test a b) w = onward (λ v. push v s) (ends breaks continues) _ (whole D test w) _ _ (whole_is test names w) (λ v w1.
           either (ends breaks continues) (is_zero v) _ _ _ _ (command_is breaks continues quits turns a w1) (command_is breaks continues quits turns b w1))
       command_is breaks continues quits turns (Repeat test step body) w = repeat_is breaks continues quits turns test step body (command_is breaks continues quits turns step) (command_is Quit Advance (λ w1 k. refl) (λ w1 k. refl) body) w (does_nothing step) refl
       command_is breaks continues quits turns (RepeatAfter body test) w = turns_after_is breaks continues quits turns (run Idle) (run (whole_block test)) (run (command_block exit Quit Advance body)) (whole D test) (executed D bound body) (whole_is test names) (command_is Quit Advance (λ w1 k. refl) (λ w1 k. refl) body) bound w
-      command_is breaks continues quits turns Break w = refl
-      command_is breaks continues quits turns Continue w = refl
+      command_is breaks continues quits turns _ w = refl
 
       pub commands_is : (breaks continues : Block) → Stops breaks → Stops continues → (all : Commands) (w : World) → run (commands_block exit breaks continues all) s w ≡ then_do (all_executed D bound all w) (ends breaks continues)
       commands_is breaks continues quits turns no_commands w = refl
@@ -209,6 +199,4 @@ module _ (D : Deeper) (bound : ℕ) where
       where
         by : (flow : Flow) (w1 : World) → and_then (ends (nothing_given exit) (nothing_given exit) flow w1) (run (nothing_given exit)) ≡ Done (Out exit (push (given flow) s)) w1
         by Normal w1 = refl
-        by Broken w1 = refl
-        by Continued w1 = refl
-        by (Returned v) w1 = refl
+        by _ w1 = refl

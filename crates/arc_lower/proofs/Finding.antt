@@ -24,15 +24,13 @@ Stub p R wanted values objects f place = HasAt p place (stub_orders R (entries_o
 abbrev pub Meets : Program → resolved.Program → (wanted : Gives) → (values objects : ℕ) → (meant stands : Option ℕ) → Type 0
 Meets p R wanted values objects None None = Unit {0}
 Meets p R wanted values objects (Some f) (Some place) = Stub p R wanted values objects f place
-Meets p R wanted values objects None (Some place) = ⊥
-Meets p R wanted values objects (Some f) None = ⊥
+Meets p R wanted values objects _ _ = ⊥
 
 -- no class, or one with the same superclass, fields, dealloc and methods, which are stubs
 abbrev pub Same : Program → resolved.Program → Option Class → Option Class → Type 0
 Same p R None None = Unit {0}
 Same p R (Some c) (Some d) = (d.superclass ≡ c.superclass) × (d.fields ≡ c.fields) × (d.strong_fields ≡ c.strong_fields) × Meets p R gives.Number 0 0 c.dealloc d.dealloc × ((sign : Sign) (selector takes objects : ℕ) (wanted : Gives) → Meets p R wanted (passes sign takes) objects (found sign selector takes objects wanted c.methods) (found sign selector takes objects wanted d.methods))
-Same p R None (Some d) = ⊥
-Same p R (Some c) None = ⊥
+Same p R _ _ = ⊥
 
 -- the classes of actions are those of the program, linked to their stubs
 pub record Linked (p : Program) (R : resolved.Program) : Type 0 where
@@ -41,16 +39,14 @@ pub record Linked (p : Program) (R : resolved.Program) : Type 0 where
   pub count : length p.classes ≡ length R.classes
 
 sign_same : (a b : Sign) → same_sign a b ≡ true → a ≡ b
-sign_same signs.Class signs.Class e = refl
-sign_same signs.Instance signs.Instance e = refl
 sign_same signs.Class signs.Instance e = absurd (true≢false (sym e))
 sign_same signs.Instance signs.Class e = absurd (true≢false (sym e))
+sign_same _ _ e = refl
 
 pub gives_same : (a b : Gives) → same_gives a b ≡ true → a ≡ b
-gives_same gives.Number gives.Number e = refl
-gives_same gives.Object gives.Object e = refl
 gives_same gives.Number gives.Object e = absurd (true≢false (sym e))
 gives_same gives.Object gives.Number e = absurd (true≢false (sym e))
+gives_same _ _ e = refl
 
 -- what a method takes and gives that answers a message
 pub record Answers (sign : Sign) (takes objects : ℕ) (wanted : Gives) (m : Method) : Type 0 where
@@ -73,10 +69,9 @@ answers_as sign selector takes objects wanted m e =
 
 -- both are found or neither is
 pub meets_same : (p : Program) (R : resolved.Program) (wanted : Gives) (values objects : ℕ) (meant stands : Option ℕ) → Meets p R wanted values objects meant stands → is_some stands ≡ is_some meant
-meets_same p R wanted values objects None None h = refl
-meets_same p R wanted values objects (Some f) (Some place) h = refl
 meets_same p R wanted values objects None (Some place) h = absurd h
 meets_same p R wanted values objects (Some f) None h = absurd h
+meets_same p R wanted values objects _ _ h = refl
 
 module _ (p : Program) (R : resolved.Program) where
   first_meets : (sign : Sign) (selector takes objects : ℕ) (wanted : Gives) (place : ℕ) (m : Method) (a b : Option ℕ) (t : Bool) → answers sign selector takes objects wanted m ≡ t → Stub p R m.gives (passes m.sign m.takes) m.objects m.runs place → Meets p R wanted (passes sign takes) objects a b → Meets p R wanted (passes sign takes) objects (if t then Some m.runs else a) (if t then Some place else b)
@@ -128,14 +123,12 @@ module _ (p : Program) (R : resolved.Program) where
   else_meets : (wanted : Gives) (values objects : ℕ) (a b x y : Option ℕ) → Meets p R wanted values objects a b → Meets p R wanted values objects x y → Meets p R wanted values objects (or_else a x) (or_else b y)
   else_meets wanted values objects None None x y first above = above
   else_meets wanted values objects (Some f) (Some place) x y first above = first
-  else_meets wanted values objects None (Some place) x y first above = absurd first
-  else_meets wanted values objects (Some f) None x y first above = absurd first
+  else_meets wanted values objects _ _ x y first above = absurd first
 
   own_meets : (sign : Sign) (selector takes objects : ℕ) (wanted : Gives) (a b : Option Class) → Same p R a b → Meets p R wanted (passes sign takes) objects (found sign selector takes objects wanted (own_methods a)) (found sign selector takes objects wanted (own_methods b))
   own_meets sign selector takes objects wanted None None same = tt
   own_meets sign selector takes objects wanted (Some c) (Some d) same = same.4 sign selector takes objects wanted
-  own_meets sign selector takes objects wanted None (Some d) same = absurd same
-  own_meets sign selector takes objects wanted (Some c) None same = absurd same
+  own_meets sign selector takes objects wanted _ _ same = absurd same
 
   first_found_meets : (sign : Sign) (selector takes objects : ℕ) (wanted : Gives) (cs ds : List Class) → ((i : ℕ) → Same p R (slice_get cs i) (slice_get ds i)) → (classes : List ℕ)
       → Meets p R wanted (passes sign takes) objects (first_that_has (λ class. found sign selector takes objects wanted (own_methods (slice_get cs class))) classes) (first_that_has (λ class. found sign selector takes objects wanted (own_methods (slice_get ds class))) classes)
@@ -163,8 +156,7 @@ module _ (p : Program) (R : resolved.Program) where
   counts_same : (a b : Option Class) → Same p R a b → count_of b ≡ field_count a
   counts_same None None same = refl
   counts_same (Some c) (Some d) same = same.1
-  counts_same None (Some d) same = absurd same
-  counts_same (Some c) None same = absurd same
+  counts_same _ _ same = absurd same
 
   pub fields_same : Linked p R → (class : ℕ) → count_of (slice_get p.classes class) ≡ field_count (slice_get R.classes class)
   fields_same links class = counts_same (slice_get R.classes class) (slice_get p.classes class) (links.same class)
@@ -172,14 +164,12 @@ module _ (p : Program) (R : resolved.Program) where
   strong_same : (a b : Option Class) → Same p R a b → strong_count b ≡ strong_count a
   strong_same None None same = refl
   strong_same (Some c) (Some d) same = same.2
-  strong_same None (Some d) same = absurd same
-  strong_same (Some c) None same = absurd same
+  strong_same _ _ same = absurd same
 
   above_same : (a b : Option Class) → Same p R a b → above_class b ≡ above_class a
   above_same None None same = refl
   above_same (Some c) (Some d) same = same.0
-  above_same None (Some d) same = absurd same
-  above_same (Some c) None same = absurd same
+  above_same _ _ same = absurd same
 
   pub strong_fields_same : Linked p R → (class : ℕ) → strong_count (slice_get p.classes class) ≡ strong_count (slice_get R.classes class)
   strong_fields_same links class = strong_same (slice_get R.classes class) (slice_get p.classes class) (links.same class)

@@ -23,9 +23,8 @@ module _ (p : Program) (frames : List Frame) (bound : ℕ) (rs : List ℕ) where
 
   fits_by : (slots : ℕ) (given stack : List ℤ) (w : World) (pops zeros : ℕ) → pops ≡ length given - slots → zeros ≡ slots - length given → Passes p frames bound rs (pop_orders pops ++ zero_orders zeros) (onto given stack) w (onto (first_locals slots given) stack) w
   fits_by zero given stack w pops zeros e1 e2 =
-      let n1 : length given ≡ pops = omega arith in
       let n2 : 0 ≡ zeros = omega arith in
-      subst (λ m. Passes p frames bound rs (pop_orders m ++ zero_orders zeros) (onto given stack) w stack w) n1
+      subst (λ m. Passes p frames bound rs (pop_orders m ++ zero_orders zeros) (onto given stack) w stack w) (omega arith)
       (subst (λ m. Passes p frames bound rs (pop_orders (length given) ++ zero_orders m) (onto given stack) w stack w) n2
       (then_passes p frames bound rs (pop_orders (length given)) [] (onto given stack) w stack w stack w (pop_passes p frames bound rs (length given) (onto given stack) stack w (peels_onto given stack)) (no_passes p frames bound rs stack w stack w refl refl)))
   fits_by (suc n) [] stack w pops zeros e1 e2 =
@@ -54,9 +53,8 @@ module _ (p : Program) (frames : List Frame) where
 
   objects_by : (parameters : ℕ) (given rs : List ℕ) (stack : List ℤ) (w : World) (forgets nils : ℕ) → forgets ≡ length given - parameters → nils ≡ parameters - length given → Shifts p frames (forget_orders forgets ++ nil_orders nils) (onto given rs) stack w (onto (first_names parameters given) rs)
   objects_by zero given rs stack w forgets nils e1 e2 =
-      let n1 : length given ≡ forgets = omega arith in
       let n2 : 0 ≡ nils = omega arith in
-      subst (λ m. Shifts p frames (forget_orders m ++ nil_orders nils) (onto given rs) stack w rs) n1
+      subst (λ m. Shifts p frames (forget_orders m ++ nil_orders nils) (onto given rs) stack w rs) (omega arith)
       (subst (λ m. Shifts p frames (forget_orders (length given) ++ nil_orders m) (onto given rs) stack w rs) n2
       (then_shifts p frames (forget_orders (length given)) [] (onto given rs) rs rs stack w (forgets_shift (length given) (onto given rs) rs stack w (peels_onto given rs)) (no_shifts p frames rs rs stack w refl)))
   objects_by (suc n) [] rs stack w forgets nils e1 e2 =

@@ -64,22 +64,19 @@ module _ (P : Program) (r s slots names exit d : ℕ) (room : names ≤ d + s) w
 
   -- an object that gets a message is a reference below its arguments
   abbrev with_object : Receiver → ℕ → ℕ
-  with_object (ClassValue v) b = b
-  with_object (ClassSuper from) b = b
   with_object (ObjectValue v) b = suc b
   with_object (ObjectSuper v from) b = suc b
+  with_object _ b = b
 
   receiver_lies : (receiver : Receiver) (depth a : ℕ) → depth + slots ≤ a + r → below_arguments receiver depth + slots ≤ below_arguments receiver a + r
-  receiver_lies (ClassValue v) depth a h = omega (arith, h)
-  receiver_lies (ClassSuper from) depth a h = omega (arith, h)
   receiver_lies (ObjectValue v) depth a h = h
   receiver_lies (ObjectSuper v from) depth a h = h
+  receiver_lies _ depth a h = omega (arith, h)
 
   told : (g : Gives) (receiver : Receiver) (selector n m a b c : ℕ) → Comes (n + below_arguments receiver a) (m + with_object receiver b) c (Tells g (message_to receiver selector) n m) (as_number g + a) (as_object g + b)
-  told g (ClassValue v) selector n m a b c = record { more = c + as_object g; most = omega arith; types = ((omega arith, omega arith), class_left g n m a b c) }
-  told g (ClassSuper from) selector n m a b c = record { more = c + as_object g; most = omega arith; types = ((omega arith, omega arith), class_left g n m a b c) }
   told g (ObjectValue v) selector n m a b c = record { more = c + as_object g; most = omega arith; types = ((omega arith, omega arith), object_left g n m a b c) }
   told g (ObjectSuper v from) selector n m a b c = record { more = c + as_object g; most = omega arith; types = ((omega arith, omega arith), object_left g n m a b c) }
+  told g _ selector n m a b c = record { more = c + as_object g; most = omega arith; types = ((omega arith, omega arith), class_left g n m a b c) }
 
   called : (g : Gives) (f n m a b c : ℕ) → Comes (n + a) (m + b) c (Calls g f n m) (as_number g + a) (as_object g + b)
   called g f n m a b c = record { more = c + as_object g; most = omega arith; types = call_types P r s g b c d f n m a }

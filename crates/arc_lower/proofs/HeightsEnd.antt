@@ -9,7 +9,7 @@ use Rattle.arc_code.specs.Effects.{effect}
 use Rattle.arc_ir.specs.declared.action.Target.{Target}
 use Rattle.arc_ir.specs.declared.action.Target.TheVariants.{Skip, Back, At}
 use Rattle.arc_lower.specs.Order.{Order}
-use Rattle.arc_lower.specs.Lowered.{order_takes, drop_orders, Entry, AtStep, AtTest, AtBody, enter_orders, enter_size, Spot, Inside, past, body_spot, Block, Making, IfNew, has_new, Then, Fork, Loop, Quit, Advance, Full, Leave, flat}
+use Rattle.arc_lower.specs.Lowered.{order_takes, drop_orders, Entry, AtStep, enter_orders, enter_size, Spot, Inside, past, body_spot, Block, Making, IfNew, has_new, Then, Fork, Loop, Quit, Advance, Full, Leave, flat}
 use Rattle.arc_lower.specs.Heights.{between, next_height, Walk, walk, other_part, next_walk, last_walk}
 use Rattle.arc_lower.proofs.Quiet.{or_first, or_second}
 use Rattle.arc_lower.proofs.Typing.{heights_same, tested, types_last, with_temporaries, Leaves, ByTest, BlockTypes}
@@ -79,13 +79,11 @@ module _ (P : Program) (r s slots names exit : ℕ) where
 
     pub enter_keeps : (entry : Entry) (pending : List Height) → from ≡ base → AllBase pending → Keeps true (entered entry pending) (entered entry pending)
     enter_keeps AtStep pending same all = (same, all, all)
-    enter_keeps AtTest pending same all = (same, rest_base pending all, rest_base pending all)
-    enter_keeps AtBody pending same all = (same, rest_base pending all, rest_base pending all)
+    enter_keeps _ pending same all = (same, rest_base pending all, rest_base pending all)
 
     pub enter_ends : (entry : Entry) (n m : ℕ) (pending : List Height) → from ≡ base → AllBase pending → last_walk P from (walk base pending) (enter_orders entry n m) ≡ walk base (entered entry pending)
     enter_ends AtStep n m pending same all = refl
-    enter_ends AtTest n m pending same all = ap (λ h. walk (with_temporaries h 0) (drop 1 pending)) (first_base from pending same all)
-    enter_ends AtBody n m pending same all = ap (λ h. walk (with_temporaries h 0) (drop 1 pending)) (first_base from pending same all)
+    enter_ends _ n m pending same all = ap (λ h. walk (with_temporaries h 0) (drop 1 pending)) (first_base from pending same all)
 
     abbrev Ends : Spot → (statement : Bool) → List Height → Height → Block → Height → Type 0
     Ends e statement pending h x g = (after : List Height) × (last_walk P from (walk h pending) (flat P slots names e x) ≡ walk g after) × Keeps statement pending after

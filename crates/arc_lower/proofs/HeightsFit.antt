@@ -1,5 +1,6 @@
 -- The heights of a lowered program, and what its functions give, fit its actions.
 use Rattle.std.proofs.Common.{◌≡◌, ℕ, zero, suc, ◌+◌, ◌-◌, ◌≤◌, List, [], ◌∷◌, ◌++◌, length, get_or, Some, refl, sym, ap, ◌∙◌, subst, arith, slice_get}
+use Rattle.std.proofs.lemmas.Option.{get_or_from_slice_get}
 use Rattle.arc_spec.specs.declared.class.Gives.{Gives}
 use Rattle.arc_spec.specs.declared.class.Gives.TheVariants as gives
 use Rattle.arc_spec.specs.declared.class.Method.{Method}
@@ -16,8 +17,9 @@ use Rattle.arc_lower.specs.Order.{Order, order, orders}
 use Rattle.arc_lower.specs.Lowered.{all_functions, number_of, slots_of, parameters_of, start_orders, function_orders, entries_of, lowered, classes_linked}
 use Rattle.arc_lower.specs.Heights.{height, highest, greatest, start_heights, function_heights, functions_heights, stub_heights, methods_heights, dealloc_heights, classes_heights, lowered_heights, greatest_height, places_in, height_at, in_function, functions_marks, methods_marks, class_marks, classes_marks, lowered_marks, no_mark, result_at}
 use Rattle.arc_lower.proofs.Doing.{bare}
-use Rattle.arc_lower.proofs.Typing.{IsCalled, gives_wanted}
-use Rattle.arc_lower.proofs.Stepping.{some_same, get_there, Goes, Steps}
+use Rattle.arc_lower.proofs.Linking.{function_gives}
+use Rattle.arc_lower.proofs.Typing.{IsCalled}
+use Rattle.arc_lower.proofs.Stepping.{some_same, Goes, Steps}
 use Rattle.arc_lower.proofs.Programs.{all, table, Entered, entered_at, methods_go, steps_at}
 
 abbrev order_effect : Order → Effect
@@ -99,10 +101,10 @@ module _ (R : resolved.Program) where
 
 module _ (p : Program) (R : resolved.Program) where
   there : (pc : ℕ) (h : Height) (given : Gives) → slice_get (table R) pc ≡ Some (h, given) → height_at R pc ≡ h
-  there pc h given e = get_there (lowered_heights R) pc h no_height (ap (λ l. slice_get l pc) (sym (marks_firsts R)) ∙ first_there (table R) pc (h, given) e)
+  there pc h given e = get_or_from_slice_get (lowered_heights R) pc h no_height (ap (λ l. slice_get l pc) (sym (marks_firsts R)) ∙ first_there (table R) pc (h, given) e)
 
   gives_there : (pc : ℕ) (h : Height) (given : Gives) → slice_get (table R) pc ≡ Some (h, given) → result_at R pc ≡ given
-  gives_there pc h given e = ap (λ (m : Height × Gives). m.1) (get_there (table R) pc (h, given) no_mark e)
+  gives_there pc h given e = ap (λ (m : Height × Gives). m.1) (get_or_from_slice_get (table R) pc (h, given) no_mark e)
 
   -- what an effect leaves is within the heights of a program where it is within these
   within : (given : Gives) (pc to : ℕ) (h g : Height) (e : Effect) → slice_get (table R) pc ≡ Some (h, given) → slice_get (table R) to ≡ Some (g, given) → FitsBetween h g e → FitsBetween (height_at R pc) (height_at R to) e
@@ -156,12 +158,10 @@ module _ (p : Program) (R : resolved.Program) where
     order_fits pc h Settle now s =
         let low : Height = height h.numbers h.names (h.temporaries - 1) h.variables in
         subst (λ x. FitsBetween (record x { temporaries = x.temporaries - 1 }) (height_at R (pc + 1)) (on_numbers 0 0)) (sym (there pc h given now)) (subst (λ y. FitsBetween low y (on_numbers 0 0)) (sym (there (pc + 1) low given s.0.height)) (fits low low (on_numbers 0 0) (omega arith) (omega arith) (omega arith) (omega arith)))
-    order_fits pc h Give now s =
-        subst (λ x. FitsBetween (record x { variables = 0 }) no_height (on_numbers 1 0)) (sym (there pc h given now)) (fits (record h { variables = 0 }) no_height (on_numbers 1 0) (omega (arith, s.0)) (omega (arith, s.1)) (omega (arith, s.2)) (omega arith))
-    order_fits pc h Return now s =
-        subst (λ x. FitsBetween (record x { variables = 0 }) no_height (on_numbers 1 0)) (sym (there pc h given now)) (fits (record h { variables = 0 }) no_height (on_numbers 1 0) (omega (arith, s.0)) (omega (arith, s.1)) (omega (arith, s.2)) (omega arith))
     order_fits pc h EndStep now s =
         subst (λ x. FitsBetween x no_height (on_numbers 0 0)) (sym (there pc h given now)) (fits h no_height (on_numbers 0 0) (omega (arith, s.0)) (omega (arith, s.1)) (omega (arith, s.2)) (omega (arith, s.3)))
+    order_fits pc h _ now s =
+        subst (λ x. FitsBetween (record x { variables = 0 }) no_height (on_numbers 1 0)) (sym (there pc h given now)) (fits (record h { variables = 0 }) no_height (on_numbers 1 0) (omega (arith, s.0)) (omega (arith, s.1)) (omega (arith, s.2)) (omega arith))
 
     -- a run stays in its function
     module _ (pc : ℕ) (h : Height) (now : slice_get (table R) pc ≡ Some (h, given)) where
@@ -169,24 +169,15 @@ module _ (p : Program) (R : resolved.Program) where
       same_at to g next = gives_there to g given next ∙ sym (gives_there pc h given now)
 
       order_gives : (x : Order) → Steps R (all R) (table R) given h pc x → GivesAt (bare p) (result_at R) pc x
-      order_gives (Plain o) s = same_at (pc + 1) _ s.1.0.height
-      order_gives (PrintText t) s = same_at (pc + 1) _ s.1.0.height
       order_gives (Jump to) s = same_at (lands pc to) _ s.2.0.height
       order_gives (JumpZero to) s = (same_at (pc + 1) _ s.1.0.height, same_at (lands pc to) _ s.2.2.0.height)
       order_gives (Call f wanted) s = (same_at (pc + 1) _ s.1.0.height, λ to found. ap (result_at R) (sym (some_same (entry p f) to found)) ∙ gives_there (entry p f) _ wanted (calls wanted f s.0.1).0.height)
-      order_gives (Send selector takes objects wanted) s = same_at (pc + 1) _ s.1.0.height
-      order_gives (SendSuper from selector takes objects wanted) s = same_at (pc + 1) _ s.1.0.height
-      order_gives (SendTo selector takes objects wanted) s = same_at (pc + 1) _ s.1.0.height
-      order_gives (SendToSuper from selector takes objects wanted) s = same_at (pc + 1) _ s.1.0.height
-      order_gives (StoreStrong i) s = same_at (pc + 1) _ s.1.0.height
-      order_gives (StoreGlobal i) s = same_at (pc + 1) _ s.1.0.height
-      order_gives (StoreField class index) s = same_at (pc + 1) _ s.1.0.height
       order_gives (Empty i) s = same_at (pc + 1) _ s.1.height
-      order_gives DropAll s = same_at (pc + 1) _ s.1.0.height
       order_gives Settle s = same_at (pc + 1) _ s.0.height
       order_gives Give s = gives_there pc h given now ∙ s.3
       order_gives Return s = gives_there pc h given now ∙ s.3
       order_gives EndStep s = tt
+      order_gives _ s = same_at (pc + 1) _ s.1.0.height
 
   -- an action fits where its order does
   action_fits : (x : Action) (pc : ℕ) → FitsAt (bare p) (height_at R) pc (order x) → FitsAt (linked p) (height_at R) pc x
@@ -208,8 +199,8 @@ module _ (p : Program) (R : resolved.Program) where
     entry_goes wanted f same =
         let there : Entered R (entries_of R) (number_of R wanted f) (function_at R wanted f) = entered_at R wanted f in
         let begun = height (slots_of R wanted f) (parameters_of R wanted f) 0 0 in
-        let found : get_or p.entries f (length p.actions) ≡ there.at = get_there p.entries f there.at (length p.actions) (ap (λ l. slice_get l f) entries ∙ ap (slice_get (entries_of R)) (sym same) ∙ there.is) in
-        subst (λ n. Goes R (all R) (table R) wanted n begun) (sym found) (subst (λ g. Goes R (all R) (table R) g there.at begun) (gives_wanted R wanted f) there.goes)
+        let found : get_or p.entries f (length p.actions) ≡ there.at = get_or_from_slice_get p.entries f there.at (length p.actions) (ap (λ l. slice_get l f) entries ∙ ap (slice_get (entries_of R)) (sym same) ∙ there.is) in
+        subst (λ n. Goes R (all R) (table R) wanted n begun) (sym found) (subst (λ g. Goes R (all R) (table R) g there.at begun) (function_gives R wanted f) there.goes)
 
     few : (pc : ℕ) → AtMost (height_at R pc) (greatest_height R)
     few pc = none_greater (lowered_heights R) no_height no_height pc (omega arith, omega arith, omega arith, omega arith)

@@ -2,7 +2,7 @@
 use Rattle.std.proofs.Common.{◌≡◌, ℕ, zero, suc, ◌+◌, ◌≤◌, List, refl, sym, ap, ◌∙◌, subst, arith, ◌⊎◌, inl, inr}
 use Rattle.arc_spec.specs.declared.event.Event.{Event}
 use Rattle.arc_spec.specs.World.{World, Outcome, Done, Faulted, Cut, then_do}
-use Rattle.arc_spec.specs.Stepping.{Next, Stuck, Reached, Running, Wedged, follow, further, after_steps, on_found}
+use Rattle.arc_spec.specs.Stepping.{Next, Reached, Running, Wedged, follow, further, after_steps}
 use Rattle.arc_spec.specs.Stepping as stepping
 
 module _ {S : Type 0} (step : S → Next S) where
@@ -71,9 +71,8 @@ module _ {S : Type 0} (step : S → Next S) where
   later_runs bound r r' end o p one (inr q) = inr (comes_later bound r r' end o p one q)
 
   comes_fewer : {A : Type 0} (fewer bound : ℕ) (r : Reached S) (end : A → World → Reached S → Type 0) (o : Outcome A) → fewer ≤ bound → Comes bound r end o → Comes fewer r end o
-  comes_fewer fewer bound r end (Done a w) le q = q
-  comes_fewer fewer bound r end (Faulted f w) le q = q
   comes_fewer fewer bound r end (Cut w) le q = (q.0, q.1, omega (arith, q.2), q.3)
+  comes_fewer fewer bound r end _ le q = q
 
   pub fewer_runs : {A : Type 0} (fewer bound : ℕ) (r : Reached S) (end : A → World → Reached S → Type 0) (o : Outcome A) → fewer ≤ bound → Runs bound r end o → Runs fewer r end o
   fewer_runs fewer bound r end o le (inl q) = inl q
@@ -81,8 +80,7 @@ module _ {S : Type 0} (step : S → Next S) where
 
   then_comes : {A B : Type 0} (bound : ℕ) (r : Reached S) (middle : A → World → Reached S → Type 0) (end : B → World → Reached S → Type 0) (o : Outcome A) (go : A → World → Outcome B) → Comes bound r middle o → ((a : A) (w : World) (to : Reached S) → middle a w to → Runs bound to end (go a w)) → Runs bound r end (then_do o go)
   then_comes bound r middle end (Done a w) go p next = leads_runs bound r p.0 end (go a w) p.1 (next a w p.0 p.2)
-  then_comes bound r middle end (Faulted f w) go p next = inr p
-  then_comes bound r middle end (Cut w) go p next = inr p
+  then_comes bound r middle end _ go p next = inr p
 
   -- one part after another
   pub then_runs : {A B : Type 0} (bound : ℕ) (r : Reached S) (middle : A → World → Reached S → Type 0) (end : B → World → Reached S → Type 0) (o : Outcome A) (go : A → World → Outcome B) → Runs bound r middle o → ((a : A) (w : World) (to : Reached S) → middle a w to → Runs bound to end (go a w)) → Runs bound r end (then_do o go)
@@ -95,8 +93,7 @@ module _ {S : Type 0} (step : S → Next S) where
 
   comes_on : {A : Type 0} (bound : ℕ) (r : Reached S) (middle end : A → World → Reached S → Type 0) (o : Outcome A) → Comes bound r middle o → ((a : A) (w : World) (to : Reached S) → middle a w to → end a w to) → Comes bound r end o
   comes_on bound r middle end (Done a w) p f = (p.0, p.1, f a w p.0 p.2)
-  comes_on bound r middle end (Faulted e w) p f = p
-  comes_on bound r middle end (Cut w) p f = p
+  comes_on bound r middle end _ p f = p
 
   -- the same run, by what follows of its ends
   pub better_runs : {A : Type 0} (bound : ℕ) (r : Reached S) (middle end : A → World → Reached S → Type 0) (o : Outcome A) → Runs bound r middle o → ((a : A) (w : World) (to : Reached S) → middle a w to → end a w to) → Runs bound r end o

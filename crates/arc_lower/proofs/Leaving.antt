@@ -2,15 +2,16 @@
 use Rattle.std.proofs.Common.{◌≡◌, ℕ, zero, suc, ◌+◌, ◌-◌, ◌≤◌, ℤ, Bool, true, false, not, ◌&&◌, inl, inr, nat_lt, if◌then◌else◌, List, [], ◌∷◌, ◌++◌, length, take, Some, None, slice_get, slice_set, refl, sym, ap, ◌∙◌, subst, arith, append_assoc, length-append}
 use Rattle.std.proofs.lemmas.Bool.{ltb-true, ltb-false, true≢false}
 use Rattle.std.proofs.lemmas.List.{append-nil}
+use Rattle.std.proofs.lemmas.Bool.Decides.{nat_tests}
 use Rattle.arc_spec.specs.declared.class.Gives.{Gives}
 use Rattle.arc_spec.specs.declared.class.Gives.TheVariants as gives
 use Rattle.arc_spec.specs.Classes.{lesser, same_gives}
 use Rattle.arc_spec.specs.Objects.{nils, object_at, is_live, names}
-use Rattle.arc_spec.specs.Resolved.{Value, Command, Sequence, Evaluate, EvaluateReference, Begin, Give, Choose, Repeat, RepeatAfter, Break, Continue, Commands, no_commands, and_command}
+use Rattle.arc_spec.specs.Resolved.{Value, Command, Sequence, Give, Choose, Repeat, RepeatAfter, Break, Continue, Commands, no_commands, and_command}
 use Rattle.arc_spec.specs.Resolved as resolved
 use Rattle.arc_spec.specs.Meaning.{Deeper, Flow, given, answer, released, all_dropped, variables_dropped, function_places, called, all_executed}
 use Rattle.arc_spec.specs.World as world
-use Rattle.arc_spec.specs.World.{World, Outcome, Done, Faulted, Cut, Finished, finished, then_do, Given, stacked, places, name_at, first_frame, first_locals, first_names, and_self, takes, with_temporaries, entered, left}
+use Rattle.arc_spec.specs.World.{World, Outcome, Done, Finished, finished, then_do, Given, stacked, places, name_at, first_frame, first_locals, first_names, and_self, takes, entered, left}
 use Rattle.arc_spec.specs.Holding.{Held, Frame, Calling, Ending, Clearing, all_nil, on_left, on_last, on_result, on_named, named, raised, with_variables}
 use Rattle.arc_spec.specs.Stepping.{Next, Reached, follow, on_found}
 use Rattle.arc_code.specs.Instructions as instructions
@@ -26,7 +27,7 @@ use Rattle.arc_lower.proofs.Leading.{Runs, leads_runs, stuck_runs, ends_here, th
 use Rattle.arc_lower.proofs.Recounting.{recount, moves, at, held_of}
 use Rattle.arc_lower.proofs.Doing.{bare, HasAt, has_front, has_back}
 use Rattle.arc_lower.proofs.Segments.{running, one_runs, quiet, quiet_runs, Passes, then_passes, one_passes, no_passes}
-use Rattle.arc_lower.proofs.Stacking.{onto}
+use Rattle.arc_lower.proofs.Stacking.{onto, get_below, set_below}
 use Rattle.arc_lower.proofs.Printing.{keep_passes}
 use Rattle.arc_lower.proofs.Releasing.{Kept, Stays, only_runs, named_runs, emptied, empties_run, dropped_runs}
 use Rattle.arc_lower.proofs.Shaping.{push, Way, Out, left_by, same_depth}
@@ -45,11 +46,7 @@ nils_split (suc a) b zero le e = absurd (omega (arith, le))
 nils_split (suc a) b (suc n) le e = ap (λ l. 0 ∷ l) (nils_split a b n (omega (arith, le)) (omega (arith, e)))
 
 few_of : (a b : ℕ) → lesser a b ≤ b
-few_of a b = by (nat_lt a b) refl
-  where
-    by : (t : Bool) → nat_lt a b ≡ t → (if t then a else b) ≤ b
-    by true e = let lt = ltb-true a b e in omega (arith, lt)
-    by false e = omega arith
+few_of a b = grind (arith, nat_tests)
 
 nil_there : (n : ℕ) (tail : List ℕ) → slice_get (nils (suc n) ++ tail) n ≡ Some 0
 nil_there zero tail = refl
@@ -86,17 +83,13 @@ loop_quiet R false step body test e f = both_true (takes_none R step) (takes_non
 mutual
   command_quiet : (R : resolved.Program) (exit : ℕ) (breaks continues : Block) → takes_none R breaks ≡ true → takes_none R continues ≡ true → (c : Command) → takes_none R (command_block exit breaks continues c) ≡ true
   command_quiet R exit b n e f (Sequence first count all) = both_true (takes_none R (commands_block exit (Then (Clear first count) b) (Then (Clear first count) n) all)) true (commands_quiet R exit (Then (Clear first count) b) (Then (Clear first count) n) e f all) refl
-  command_quiet R exit b n e f (Evaluate a) = refl
-  command_quiet R exit b n e f (EvaluateReference a) = refl
-  command_quiet R exit b n e f (Begin i a) = refl
   command_quiet R exit b n e f (resolved.Return None) = refl
-  command_quiet R exit b n e f (resolved.Return (Some a)) = refl
-  command_quiet R exit b n e f (Give a) = refl
   command_quiet R exit b n e f (Choose test x y) = both_true (takes_none R (command_block exit b n x)) (takes_none R (command_block exit b n y)) (command_quiet R exit b n e f x) (command_quiet R exit b n e f y)
   command_quiet R exit b n e f (Repeat test step body) = loop_quiet R (does_nothing step) (command_block exit b n step) (command_block exit Quit Advance body) test (command_quiet R exit b n e f step) (command_quiet R exit Quit Advance refl refl body)
   command_quiet R exit b n e f (RepeatAfter body test) = command_quiet R exit Quit Advance refl refl body
   command_quiet R exit b n e f Break = e
   command_quiet R exit b n e f Continue = f
+  command_quiet R exit b n e f _ = refl
 
   commands_quiet : (R : resolved.Program) (exit : ℕ) (breaks continues : Block) → takes_none R breaks ≡ true → takes_none R continues ≡ true → (all : Commands) → takes_none R (commands_block exit breaks continues all) ≡ true
   commands_quiet R exit b n e f no_commands = refl
@@ -105,8 +98,7 @@ mutual
 -- what a run does of what is left in some way
 ways_back : {S A : Type 0} (step : S → Next S) (bound : ℕ) (r : Reached S) (way : A → Way) (end : Way → World → Reached S → Type 0) (o : Outcome A) → Runs step bound r end (left_by way o) → Runs step bound r (λ a w to. end (way a) w to) o
 ways_back step bound r way end (Done a w) h = h
-ways_back step bound r way end (Faulted f w) h = h
-ways_back step bound r way end (Cut w) h = h
+ways_back step bound r way end _ h = h
 
 -- the answer of a function, by the number with which it is left
 abbrev answer_with : resolved.Function → ℤ → World → world.Answer
@@ -114,25 +106,12 @@ answer_with F v w = record { number = v; object = name_at w.frame.strong F.names
 
 given_later : (D : Deeper) (F : resolved.Function) (before : World) (o : Outcome Flow) → then_do (then_do o (λ flow w. Done (given flow) w)) (λ v w. then_do (variables_dropped D 0 F.names w) (λ _ w2. Done (answer_with F v w2) (left before w2))) ≡ then_do o (λ flow w. then_do (variables_dropped D 0 F.names w) (λ _ w2. Done (answer F flow w2) (left before w2)))
 given_later D F before (Done flow w) = refl
-given_later D F before (Faulted f w) = refl
-given_later D F before (Cut w) = refl
+given_later D F before _ = refl
 
 -- what is done leads to one end
 done_then : {S A B : Type 0} (step : S → Next S) (bound : ℕ) (r : Reached S) (middle : A → World → Reached S → Type 0) (end : B → World → Reached S → Type 0) (a : A) (w : World) (o : Outcome B) → Runs step bound r middle (Done a w) → ((to : Reached S) → middle a w to → Runs step bound to end o) → Runs step bound r end o
 done_then step bound r middle end a w o (inl p) next = inl p
 done_then step bound r middle end a w o (inr p) next = leads_runs step bound r p.0 end o p.1 (next p.0 p.2)
-
-get_behind : (head l : List ℕ) (n : ℕ) → slice_get (head ++ l) (length head + n) ≡ slice_get l n
-get_behind [] l n = let e : 0 + n ≡ n = omega arith in ap (slice_get l) e
-get_behind (r ∷ head) l n =
-    let e : length (r ∷ head) + n ≡ suc (length head + n) = omega arith in
-    ap (slice_get (r ∷ head ++ l)) e ∙ get_behind head l n
-
-set_behind : (head l : List ℕ) (n r : ℕ) → slice_set (head ++ l) (length head + n) r ≡ head ++ slice_set l n r
-set_behind [] l n r = let e : 0 + n ≡ n = omega arith in ap (λ m. slice_set l m r) e
-set_behind (q ∷ head) l n r =
-    let e : length (q ∷ head) + n ≡ suc (length head + n) = omega arith in
-    ap (λ m. slice_set (q ∷ head ++ l) m r) e ∙ ap (λ l. q ∷ l) (set_behind head l n r)
 
 -- what another place names doesn't end where one place names it no more
 released_named : (D : Deeper) (r : ℕ) (w : World) → names r (places w) ≡ true → released D r w ≡ Done finished w
@@ -168,14 +147,11 @@ module _ (p : Program) (frames : List Frame) (bound : ℕ) (R : resolved.Program
 
   -- how a function is left doesn't depend on the counts, nor on where it is left
   counts_aside : (wanted : Gives) (fs : List Frame) (pc : ℕ) (stack : List ℤ) (held other h : Held) (c : ℕ → ℕ) (a : world.Answer) → recount (leaves_with wanted (at frames pc stack held) fs a h) ≡ recount (leaves_with wanted (at frames 0 stack other) fs a (record h { counts = c }))
-  counts_aside gives.Number [] pc stack held other h c a = refl
   counts_aside gives.Number (Calling back waits ∷ fs) pc stack held other h c a = refl
   counts_aside gives.Number (Ending back waits o next n ∷ fs) pc stack held other h c a = refl
   counts_aside gives.Number (Clearing back waits o fields ∷ fs) pc stack held other h c a = refl
-  counts_aside gives.Object [] pc stack held other h c a = refl
   counts_aside gives.Object (Calling back waits ∷ fs) pc stack held other h c a = refl
-  counts_aside gives.Object (Ending back waits o next n ∷ fs) pc stack held other h c a = refl
-  counts_aside gives.Object (Clearing back waits o fields ∷ fs) pc stack held other h c a = refl
+  counts_aside _ _ pc stack held other h c a = refl
 
   bared_leaves : (wanted : Gives) (a : world.Answer) (w : World) (pc : ℕ) → Fine false w → w.frame.temporaries ≡ [] → recount (leaves_with wanted (at frames pc (a.number ∷ below) (held_of rs w)) frames a (with_variables (held_of rs w) [])) ≡ recount (leaves_with wanted (at frames 0 (a.number ∷ below) (held_of rs (bared w))) frames a (held_of rs (bared w)))
   bared_leaves wanted a w pc g none =
@@ -198,12 +174,10 @@ module _ (p : Program) (frames : List Frame) (bound : ℕ) (R : resolved.Program
 
     -- the last variable is the result
     last_runs : (variables : List ℕ) (n : ℕ) (go : ℕ → Next State) → length variables ≡ suc n → Goes_to (go (name_at variables n)) → Goes_to (on_last variables go)
-    last_runs [] n go size next = absurd (omega (arith, size))
     last_runs (r ∷ []) zero go size next = next
-    last_runs (r ∷ []) (suc n) go size next = absurd (omega (arith, size))
-    last_runs (zero ∷ q ∷ others) zero go size next = absurd (omega (arith, size))
     last_runs (zero ∷ q ∷ others) (suc n) go size next = last_runs (q ∷ others) n go (omega (arith, size)) next
     last_runs (suc k ∷ q ∷ others) n go size next = stuck_runs (moves p) bound w.input w.trace end o
+    last_runs _ _ go size next = absurd (omega (arith, size))
 
     result_runs : (ts : List ℕ) (h : Held) (n : ℕ) (go : ℕ → Held → Next State) → length h.variables ≡ suc n → (ts ≡ [] → Goes_to (go (name_at h.variables n) (with_variables h []))) → Goes_to (on_result ts h go)
     result_runs [] h n go size next = last_runs h.variables n (λ r. go r (with_variables h [])) size (next refl)
@@ -256,10 +230,9 @@ module _ (p : Program) (frames : List Frame) (bound : ℕ) (R : resolved.Program
   declares_pass : (n m : ℕ) (given_to : Given) (names1 : List ℕ) (stack : List ℤ) → Passes p frames bound names1 (declare_orders n) stack (begun_with given_to (nils m)) stack (begun_with given_to (nils (n + m)))
   declares_pass zero m given_to names1 stack = let e : m ≡ 0 + m = omega arith in no_passes p frames bound names1 stack (begun_with given_to (nils m)) stack (begun_with given_to (nils (0 + m))) refl (ap (λ k. begun_with given_to (nils k)) e)
   declares_pass (suc n) m given_to names1 stack =
-      let e : n + suc m ≡ suc n + m = omega arith in
       let w = begun_with given_to (nils m) in
       let w1 = begun_with given_to (nils (suc m)) in
-      subst (λ k. Passes p frames bound names1 (declare_orders (suc n)) stack w stack (begun_with given_to (nils k))) e
+      subst (λ k. Passes p frames bound names1 (declare_orders (suc n)) stack w stack (begun_with given_to (nils k))) (omega arith)
       (then_passes p frames bound names1 (Plain Declare ∷ []) (declare_orders n) stack w stack w1 stack (begun_with given_to (nils (n + suc m))) (one_passes p frames bound names1 (Plain Declare) stack w stack w1 (λ pc. quiet p frames bound names1 (pc + 1) stack w1)) (declares_pass n (suc m) given_to names1 stack))
 
   -- behind these variables the next ones take what the function was given, the last one first
@@ -281,8 +254,8 @@ module _ (p : Program) (frames : List Frame) (bound : ℕ) (R : resolved.Program
       let h = held_of names1 w in
       let st = at frames pc stack h in
       let after = raised r (with_variables h (slice_set begin (k + n) r)) in
-      let found : slice_get begin (k + n) ≡ Some 0 = get_behind head (nils (suc n) ++ tail) n ∙ nil_there n tail in
-      let set : slice_set begin (k + n) r ≡ next = set_behind head (nils (suc n) ++ tail) n r ∙ ap (λ l. head ++ l) (nil_set n tail r) in
+      let found : slice_get begin (k + n) ≡ Some 0 = get_below head (nils (suc n) ++ tail) n ∙ nil_there n tail in
+      let set : slice_set begin (k + n) r ≡ next = set_below head (nils (suc n) ++ tail) n r ∙ ap (λ l. head ++ l) (nil_set n tail r) in
       let names_are : onto objects rs ≡ names1 = ap (λ l. onto l rs) last.is ∙ onto_last first rs r in
       let rest : begun_with given_to (head ++ (objects ++ tail)) ≡ begun_with given_to (head ++ (first ++ r ∷ tail)) = ap (λ l. begun_with given_to (head ++ (l ++ tail))) last.is ∙ ap (λ l. begun_with given_to (head ++ l)) (append_assoc first (r ∷ []) tail) in
       let place : pc + length (take_orders k (suc n)) ≡ pc + 1 + 1 + length (take_orders k n) = omega arith in
@@ -400,9 +373,8 @@ module _ (p : Program) (frames : List Frame) (bound : ℕ) (R : resolved.Program
       let e : 0 - 1 ≡ 0 = omega arith in
       let is : few ≡ lesser F.parameters 0 = few_is ∙ ap (lesser F.parameters) e in
       let none : 0 ≡ few = omega (arith, is, few_of F.parameters 0) in
-      let here : entry + 0 ≡ entry = omega arith in
       subst (λ n. Runs (moves p) bound (running frames rs (entry + length (opens true zero n)) stack (begun_with arguments [])) end o → Runs (moves p) bound (running frames (onto (first_names n arguments.objects) rs) entry stack (begun_with arguments [])) end o) none
-      (λ go1. subst (λ q. Runs (moves p) bound (running frames rs q stack (begun_with arguments [])) end o) here go1) go
+      (λ go1. subst (λ q. Runs (moves p) bound (running frames rs q stack (begun_with arguments [])) end o) (omega arith) go1) go
   opening_runs true (suc m) few arguments stack entry end o few_is has go =
       let e : suc m - 1 ≡ m = omega arith in
       let is : few ≡ lesser F.parameters m = few_is ∙ ap (lesser F.parameters) e in

@@ -1,9 +1,10 @@
 -- Each function stands at its entry.
-use Rattle.std.proofs.Common.{◌≡◌, ℕ, ℤ, zero, suc, ◌+◌, Bool, true, false, nat_lt, if◌then◌else◌, List, [], ◌∷◌, ◌++◌, length, Some, refl, sym, ap, ◌∙◌, subst, arith, slice_get, slice_index_or, get_or}
+use Rattle.std.proofs.Common.{◌≡◌, ℕ, ℤ, zero, suc, ◌+◌, Bool, true, false, nat_lt, if◌then◌else◌, List, [], ◌∷◌, ◌++◌, length, Some, refl, sym, ap, ◌∙◌, subst, arith, slice_get, slice_index_or}
 use Rattle.std.proofs.lemmas.Bool.{true≢false}
+use Rattle.std.proofs.lemmas.Option.{get_or_from_slice_get}
 use Rattle.arc_spec.specs.declared.class.Gives.{Gives}
 use Rattle.arc_spec.specs.declared.class.Gives.TheVariants as gives
-use Rattle.arc_spec.specs.Classes.{Class, same_gives}
+use Rattle.arc_spec.specs.Classes.{same_gives}
 use Rattle.arc_spec.specs.Resolved.{Function}
 use Rattle.arc_spec.specs.Resolved as resolved
 use Rattle.arc_spec.specs.Meaning.{function_at, nothing_giving, most_levels}
@@ -65,13 +66,13 @@ last_second : (fs : List Function) → slice_get (fs ++ last_two) (suc (length f
 last_second [] = refl
 last_second (g ∷ fs) = last_second fs
 
-module _ (main : ℕ) (gs : List ℤ) (sg : ℕ) (cs : List Class) (wanted : Gives) where
-  in_list : (fs : List Function) (f : ℕ) → gives_at (with_functions fs main gs sg cs) wanted f ≡ true → slice_get (fs ++ last_two) f ≡ Some (function_at (with_functions fs main gs sg cs) wanted f)
+module _ (P : resolved.Program) (wanted : Gives) where
+  in_list : (fs : List Function) (f : ℕ) → gives_at (with_functions fs P) wanted f ≡ true → slice_get (fs ++ last_two) f ≡ Some (function_at (with_functions fs P) wanted f)
   in_list [] f e = absurd (true≢false (sym e))
   in_list (g ∷ fs) zero e = ap (λ b. Some (if b then g else nothing_giving wanted)) (sym e)
   in_list (g ∷ fs) (suc f) e = in_list fs f e
 
-  pub out_of_list : (fs : List Function) (f : ℕ) → gives_at (with_functions fs main gs sg cs) wanted f ≡ false → nothing_giving wanted ≡ function_at (with_functions fs main gs sg cs) wanted f
+  pub out_of_list : (fs : List Function) (f : ℕ) → gives_at (with_functions fs P) wanted f ≡ false → nothing_giving wanted ≡ function_at (with_functions fs P) wanted f
   out_of_list [] f e = refl
   out_of_list (g ∷ fs) zero e = ap (λ b. if b then g else nothing_giving wanted) (sym e)
   out_of_list (g ∷ fs) (suc f) e = out_of_list fs f e
@@ -80,35 +81,25 @@ module _ (main : ℕ) (gs : List ℤ) (sg : ℕ) (cs : List Class) (wanted : Giv
   one_gives true g e = gives_same g.gives wanted e
   one_gives false g e = refl
 
-  found_gives : (fs : List Function) (f : ℕ) → (function_at (with_functions fs main gs sg cs) wanted f).gives ≡ wanted
+  found_gives : (fs : List Function) (f : ℕ) → (function_at (with_functions fs P) wanted f).gives ≡ wanted
   found_gives [] f = refl
   found_gives (g ∷ fs) zero = one_gives (same_gives g.gives wanted) g refl
   found_gives (g ∷ fs) (suc f) = found_gives fs f
 
 -- a function gives what is wanted of it
 pub function_gives : (R : resolved.Program) (wanted : Gives) (f : ℕ) → (function_at R wanted f).gives ≡ wanted
-function_gives R wanted f = found_gives R.main R.globals R.strong_globals R.classes wanted R.functions f
+function_gives R wanted f = found_gives R wanted R.functions f
 
 nothing_numbered : (R : resolved.Program) (wanted : Gives) → slice_get (all_functions R) (number_of_nothing R wanted) ≡ Some (nothing_giving wanted)
 nothing_numbered R gives.Number = last_first R.functions
 nothing_numbered R gives.Object = last_second R.functions
 
 numbered_by : (R : resolved.Program) (wanted : Gives) (f : ℕ) (b : Bool) → gives_at R wanted f ≡ b → slice_get (all_functions R) (if b then f else number_of_nothing R wanted) ≡ Some (function_at R wanted f)
-numbered_by R wanted f true e = in_list R.main R.globals R.strong_globals R.classes wanted R.functions f e
-numbered_by R wanted f false e = nothing_numbered R wanted ∙ ap Some (out_of_list R.main R.globals R.strong_globals R.classes wanted R.functions f e)
+numbered_by R wanted f true e = in_list R wanted R.functions f e
+numbered_by R wanted f false e = nothing_numbered R wanted ∙ ap Some (out_of_list R wanted R.functions f e)
 
 pub numbered : (R : resolved.Program) (wanted : Gives) (f : ℕ) → slice_get (all_functions R) (number_of R wanted f) ≡ Some (function_at R wanted f)
 numbered R wanted f = numbered_by R wanted f (gives_at R wanted f) refl
-
-get_index : (list : List ℕ) (n x : ℕ) → slice_get list n ≡ Some x → slice_index_or list n 0 ≡ x
-get_index [] n x e = cc
-get_index (y ∷ list) zero x e = cc
-get_index (y ∷ list) (suc n) x e = get_index list n x e
-
-found_entry : (list : List ℕ) (n none x : ℕ) → slice_get list n ≡ Some x → get_or list n none ≡ x
-found_entry [] n none x e = cc
-found_entry (y ∷ list) zero none x e = cc
-found_entry (y ∷ list) (suc n) none x e = found_entry list n none x e
 
 module _ (p : Program) (R : resolved.Program) (is : orders p.actions ≡ lowered R) (entries : p.entries ≡ entries_of R) where
   abbrev stubs : List Order
@@ -126,13 +117,11 @@ module _ (p : Program) (R : resolved.Program) (is : orders p.actions ≡ lowered
       let call = call_orders R gives.Number R.main 0 0 in
       let rest = Return ∷ (EndStep ∷ []) in
       let has = has_back p 0 call rest has_start in
-      let e : 0 + length call + 1 ≡ p.end_step = omega (arith, call_length R gives.Number R.main, at_end) in
-      subst (λ n. HasAt p n (EndStep ∷ [])) e has.1
+      subst (λ n. HasAt p n (EndStep ∷ [])) (omega (arith, call_length R gives.Number R.main, at_end)) has.1
 
   pub has_stubs : HasAt p (length (running_orders R)) stubs
   has_stubs =
-      let zero_is : 0 + length (running_orders R) ≡ length (running_orders R) = omega arith in
-      subst (λ n. HasAt p n stubs) zero_is (has_back p 0 (running_orders R) stubs (subst (HasAt p 0) is (has_all p)))
+      subst (λ n. HasAt p n stubs) (omega arith) (has_back p 0 (running_orders R) stubs (subst (HasAt p 0) is (has_all p)))
 
   pub begins : (wanted : Gives) (f : ℕ) → Begins p R (number_of R wanted f) (function_at R wanted f)
   begins wanted f =
@@ -143,7 +132,7 @@ module _ (p : Program) (R : resolved.Program) (is : orders p.actions ≡ lowered
       let there = find p R (all_functions R) (length start) (number_of R wanted f) (function_at R wanted f) (numbered R wanted f) has in
       record {
         place = there.place;
-        entry = found_entry p.entries (number_of R wanted f) (length p.actions) (entry_of there.place (function_at R wanted f)) (ap (λ l. slice_get l (number_of R wanted f)) entries ∙ there.entry);
-        first = get_index (entries_of R) (number_of R wanted f) (entry_of there.place (function_at R wanted f)) there.entry;
+        entry = get_or_from_slice_get p.entries (number_of R wanted f) (entry_of there.place (function_at R wanted f)) (length p.actions) (ap (λ l. slice_get l (number_of R wanted f)) entries ∙ there.entry);
+        first = get_or_from_slice_get (entries_of R) (number_of R wanted f) (entry_of there.place (function_at R wanted f)) 0 there.entry;
         code = there.code;
       }

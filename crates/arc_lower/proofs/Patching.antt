@@ -1,15 +1,9 @@
 -- Jumps are written once it is known how many actions they skip.
-use Rattle.std.proofs.Common.{◌≡◌, ℕ, zero, suc, ◌-◌, List, [], ◌∷◌, ◌++◌, length, refl, sym, ap, ◌∙◌, arith, append_assoc, length-append, slice_set}
+use Rattle.std.proofs.Common.{◌≡◌, ℕ, suc, ◌-◌, List, [], ◌∷◌, ◌++◌, length, sym, ap, ◌∙◌, arith, append_assoc, length-append, slice_set}
 use Rattle.std.proofs.Math.Seq.{set-append_seam}
 use Rattle.arc_ir.specs.declared.action.Target.TheVariants.{Skip}
-use Rattle.arc_ir.specs.Acting.{Action}
 use Rattle.arc_code.specs.declared.instr.Instr.TheVariants.{Jump, JumpZero}
-use Rattle.arc_lower.specs.Order.{Order, order, orders}
-
-pub orders_set : (is : List Action) (n : ℕ) (a : Action) → orders (slice_set is n a) ≡ slice_set (orders is) n (order a)
-orders_set [] n a = refl
-orders_set (i ∷ is) zero a = refl
-orders_set (i ∷ is) (suc n) a = ap (λ l. order i ∷ l) (orders_set is n a)
+use Rattle.arc_lower.specs.Order.{Order}
 
 -- the jump that was written first, before some others, is another one
 pub patched : (o1 o2 rest : List Order) (branch : ℕ) (first then : Order) → o2 ≡ o1 ++ first ∷ rest → branch ≡ length o1 → slice_set o2 branch then ≡ o1 ++ then ∷ rest

@@ -1,6 +1,8 @@
 -- Each order of a lowered program has what it needs, with the heights before it.
 use Rattle.std.proofs.Common.{◌≡◌, inl, inr, ℕ, zero, suc, ◌+◌, ◌-◌, ◌≤◌, pos, Bool, true, false, if◌then◌else◌, nat_lt, List, [], ◌∷◌, ◌++◌, length, Option, Some, None, refl, sym, ap, ◌∙◌, subst, arith, length-append, append_assoc, slice_get, slice_index_or}
-use Rattle.std.proofs.lemmas.Bool.{ltb-true, ltb-false, false≢true}
+use Rattle.std.proofs.lemmas.Bool.{ltb-false, false≢true}
+use Rattle.std.proofs.lemmas.Option.{get_or_from_slice_get}
+use Rattle.std.proofs.lemmas.Bool.Decides.{nat_tests}
 use Rattle.arc_ast.specs.declared.tree.Sign.{Sign}
 use Rattle.arc_spec.specs.declared.class.Gives.{Gives}
 use Rattle.arc_spec.specs.declared.class.Gives.TheVariants as gives
@@ -18,9 +20,9 @@ use Rattle.arc_lower.specs.Order.{Order}
 use Rattle.arc_lower.specs.Lowered.{all_functions, number_of, slots_of, parameters_of, object_parameters, call_orders, passing_orders, opening_orders, take_orders, own_orders, owned_by, leaving_order, leave_orders, body_orders, declare_orders, pop_orders, keep_orders, all_empty_orders, no_turn, Spot, Between, Block, nothing_given, commands_block, flat, function_orders, functions_orders, entries_from, start_orders, end_step_of, entry_of, entries_of, stub_orders, methods_orders, dealloc_orders, class_orders, classes_orders, linked_methods, linked_dealloc, linked_classes, running_orders, lowered, classes_linked}
 use Rattle.arc_lower.specs.Heights.{height, between, next_height, walk, Walk, next_walk, last_walk, walk_heights, heights, start_heights, function_heights, stub_heights, dealloc_heights, in_function, functions_marks, methods_marks, class_marks, classes_marks, lowered_marks}
 use Rattle.arc_lower.proofs.Rows.{call_length}
-use Rattle.arc_lower.proofs.Linking.{numbered}
+use Rattle.arc_lower.proofs.Linking.{numbered, function_gives}
 use Rattle.arc_lower.proofs.Finding.{answers_as}
-use Rattle.arc_lower.proofs.Typing.{heights_same, slots_same, parameters_same, number_there, Types, types_then, types_same, types_last, tested, keep_types, passing_types, declare_types, take_types, own_types, gives_wanted, BlockTypes}
+use Rattle.arc_lower.proofs.Typing.{heights_same, slots_same, parameters_same, number_there, Types, types_then, types_same, types_last, tested, keep_types, passing_types, declare_types, take_types, own_types, BlockTypes}
 use Rattle.arc_lower.proofs.HeightsEnd.{last_append, Keeps, block_ends}
 use Rattle.arc_lower.proofs.Forms.{nothing_types, commands_type}
 use Rattle.arc_lower.proofs.Stepping.{some_same, HasPart, part_front, part_back, has_whole, types_ordinary, Takes, Clears, Stands, Goes, Free, free_at, Steps, StepsAt, AllStep, step_then, IsLeave, leaves_keep, opens_goes, none_goes, Row, row_of, row_front, row_back, Follows, goes_here, typed_steps, AllTake, takes_stand, takes_step, block_ordinary, block_steps}
@@ -259,11 +261,7 @@ module _ (R : resolved.Program) where
     pub goes : Goes R all table f.gives at (height f.slots (object_parameters f) 0 0)
 
   objects_few : (a b : ℕ) → lesser a b ≤ b
-  objects_few a b = by (nat_lt a b) refl
-    where
-      by : (t : Bool) → nat_lt a b ≡ t → (if t then a else b) ≤ b
-      by true e = let lt = ltb-true a b e in omega (arith, lt)
-      by false e = omega arith
+  objects_few a b = grind (arith, nat_tests)
 
   places_same : (g : Function) → function_places g ≡ g.names + as_object g.gives
   places_same g = places_by g.gives g.names
@@ -559,16 +557,11 @@ module _ (R : resolved.Program) where
   pub entered_at : (wanted : Gives) (f : ℕ) → Entered (entries_of R) (number_of R wanted f) (function_at R wanted f)
   entered_at wanted f = functions_begin (all_functions R) (length (start_orders R)) (number_of R wanted f) (function_at R wanted f) has_functions (numbered R wanted f)
 
-  get_index : (list : List ℕ) (n x : ℕ) → slice_get list n ≡ Some x → slice_index_or list n 0 ≡ x
-  get_index [] n x e = cc
-  get_index (y ∷ list) zero x e = cc
-  get_index (y ∷ list) (suc n) x e = get_index list n x e
-
   target : (wanted : Gives) (f : ℕ) → Goes_to wanted (slice_index_or (entries_of R) (number_of R wanted f) 0) (height (slots_of R wanted f) (parameters_of R wanted f) 0 0)
   target wanted f =
       let e = entered_at wanted f in
-      subst (λ n. Goes_to wanted n (height (slots_of R wanted f) (parameters_of R wanted f) 0 0)) (sym (get_index (entries_of R) (number_of R wanted f) e.at e.is))
-      (subst (λ g. Goes_to g e.at (height (slots_of R wanted f) (parameters_of R wanted f) 0 0)) (gives_wanted R wanted f) e.goes)
+      subst (λ n. Goes_to wanted n (height (slots_of R wanted f) (parameters_of R wanted f) 0 0)) (sym (get_or_from_slice_get (entries_of R) (number_of R wanted f) e.at 0 e.is))
+      (subst (λ g. Goes_to g e.at (height (slots_of R wanted f) (parameters_of R wanted f) 0 0)) (function_gives R wanted f) e.goes)
 
   pub methods_go : (from : Option ℕ) (sign : Sign) (selector takes objects : ℕ) (wanted : Gives) (to : ℕ) → lookup (classes_linked R) from sign selector takes objects wanted ≡ Some to → Goes_to wanted to (height (passes sign takes) objects 0 0)
   methods_go from sign selector takes objects wanted to e =
@@ -615,8 +608,7 @@ module _ (R : resolved.Program) where
       let size = ap length start_is in
       let both = length-append zeros call in
       let whole = length-append (call_orders R gives.Number R.main 0 0) (Return ∷ (EndStep ∷ [])) in
-      let e : 0 + length zeros + 1 + 1 ≡ end_step_of R = omega (arith, call_length R gives.Number R.main, size, both, whole) in
-      subst (λ n. slice_get all n ≡ Some EndStep) e call_row.2.2.1
+      subst (λ n. slice_get all n ≡ Some EndStep) (omega (arith, call_length R gives.Number R.main, size, both, whole)) call_row.2.2.1
 
   start_steps : Step_all 0 (start_orders R)
   start_steps =
@@ -642,11 +634,9 @@ module _ (R : resolved.Program) where
   step_at : (xs : List Order) (pc i : ℕ) (x : Order) → Step_all pc xs → slice_get xs i ≡ Some x → StepsAt R all table (pc + i) x
   step_at [] pc i x steps e = cc
   step_at (y ∷ xs) pc zero x steps e =
-      let n : pc ≡ pc + 0 = omega arith in
-      subst (λ q. StepsAt R all table q x) n (subst (StepsAt R all table pc) (some_same y x e) steps.0)
+      subst (λ q. StepsAt R all table q x) (omega arith) (subst (StepsAt R all table pc) (some_same y x e) steps.0)
   step_at (y ∷ xs) pc (suc i) x steps e =
-      let n : pc + 1 + i ≡ pc + suc i = omega arith in
-      subst (λ q. StepsAt R all table q x) n (step_at xs (pc + 1) i x steps.1 e)
+      subst (λ q. StepsAt R all table q x) (omega arith) (step_at xs (pc + 1) i x steps.1 e)
 
   pub steps_at : (pc : ℕ) (x : Order) → slice_get (lowered R) pc ≡ Some x → StepsAt R all table pc x
   steps_at pc x e = subst (λ q. StepsAt R all table q x) (none_more pc) (step_at (lowered R) 0 pc x program_steps e)

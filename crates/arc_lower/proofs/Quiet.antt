@@ -1,5 +1,5 @@
 -- Blocks whose orders take no temporary.
-use Rattle.std.proofs.Common.{◌≡◌, ℕ, suc, ◌+◌, Bool, true, false, not, ◌&&◌, ◌||◌, nat_lt, if◌then◌else◌, List, [], ◌∷◌, ◌++◌, length, refl, sym, ap, ◌∙◌}
+use Rattle.std.proofs.Common.{◌||◌, ◌≡◌, ℕ, suc, ◌+◌, Bool, true, false, not, ◌&&◌, nat_lt, if◌then◌else◌, List, [], ◌∷◌, ◌++◌, length, refl, sym, ap, ◌∙◌}
 use Rattle.std.proofs.lemmas.Bool.{true≢false}
 use Rattle.std.specs.List.{list_any}
 use Rattle.std.proofs.lemmas.List.Folds.{list_any-append}
@@ -12,7 +12,7 @@ use Rattle.arc_code.specs.declared.instr.Instr.TheVariants.{Plain, Call, Jump, J
 use Rattle.arc_code.specs.Effects.{operation_effect}
 use Rattle.arc_ir.specs.declared.action.Target.TheVariants.{Skip, Back}
 use Rattle.arc_lower.specs.Order.{Order}
-use Rattle.arc_lower.specs.Lowered.{Entry, AtStep, AtTest, AtBody, enter_orders, Inside, Block, One, Read, Calls, Tells, Making, IfNew, Then, Fork, Loop, Full, ToClass, ToSuperClass, ToObject, ToSuper, has_new, flat, number_of, passing_orders, order_takes, drop_orders}
+use Rattle.arc_lower.specs.Lowered.{Entry, AtStep, enter_orders, Inside, Block, One, Read, Calls, Tells, Making, IfNew, Then, Fork, Loop, Full, ToClass, ToSuperClass, ToObject, ToSuper, has_new, flat, number_of, passing_orders, order_takes, drop_orders}
 
 -- whether no temporary of a block is there behind it
 abbrev pub takes_none : Program → Block → Bool
@@ -56,8 +56,7 @@ module _ (P : Program) (slots names : ℕ) where
 
   behind_enter : (entry : Entry) (n m : ℕ) (xs : List Order) → none (enter_orders entry n m ++ xs) → none xs
   behind_enter AtStep n m xs e = e
-  behind_enter AtTest n m xs e = e
-  behind_enter AtBody n m xs e = e
+  behind_enter _ n m xs e = e
 
   one_quiet : (t : Bool) (xs ys : List Order) (m n : Bool) → none (if t then xs else ys) → (none xs → m ≡ true) → (none ys → n ≡ true) → (if t then m else n) ≡ true
   one_quiet true xs ys m n e h k = h e

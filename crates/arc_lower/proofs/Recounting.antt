@@ -1,8 +1,9 @@
 -- Steps behind which each count is the number of places that name the object.
-use Rattle.std.proofs.Common.{ℕ, ℤ, List}
+use Rattle.std.proofs.Common.{◌≡◌, ℕ, ℤ, List, ◌++◌, length, append_assoc}
+use Rattle.std.proofs.Math.Seq.{take-append_seam, drop-append_seam}
 use Rattle.arc_spec.specs.Stepping.{Next, Goes, Asks, Ends, Faults, Stuck}
 use Rattle.arc_spec.specs.World.{World, places}
-use Rattle.arc_spec.specs.Holding.{Held, Frame, all_places, holders}
+use Rattle.arc_spec.specs.Holding.{Held, Frame, Waiter, all_places, holders, resumed}
 use Rattle.arc_ir.specs.Acting.{Program, State, step}
 
 abbrev pub recounted : Held → Held
@@ -31,3 +32,9 @@ counting rs w c = record { temporaries = w.frame.temporaries; variables = w.fram
 -- the same, with the counts of its places
 abbrev pub held_of : List ℕ → World → Held
 held_of rs w = counting rs w (λ k. holders k (places w))
+
+-- what waited runs again with its own places
+pub resumed_as : (w : Waiter) (h : Held) (temporaries variables waiting : List ℕ) → h.places ≡ (temporaries ++ variables) ++ waiting
+    → w.temporaries ≡ length temporaries → w.variables ≡ length variables
+    → resumed w h ≡ record h { temporaries = temporaries; variables = variables; self = w.self; places = waiting }
+resumed_as w h temporaries variables waiting is first next = simp (is, first, next, append_assoc, take-append_seam, drop-append_seam)

@@ -1,7 +1,8 @@
 -- A run drops places, and ends the objects that these were the last to hold.
-use Rattle.std.proofs.Common.{◌≡◌, ℕ, zero, suc, ◌+◌, ◌-◌, ◌<◌, ◌≤◌, ℤ, Bool, true, false, not, ◌&&◌, nat_eq, nat_lt, if◌then◌else◌, List, [], ◌∷◌, ◌++◌, length, Option, Some, None, slice_get, slice_set, refl, sym, ap, ◌∙◌, subst, arith, length-append}
+use Rattle.std.proofs.Common.{◌≡◌, ℕ, zero, suc, ◌+◌, ◌-◌, ◌≤◌, ℤ, Bool, true, false, not, ◌&&◌, nat_eq, nat_lt, if◌then◌else◌, List, [], ◌∷◌, ◌++◌, length, Option, Some, None, slice_get, slice_set, refl, sym, ap, ◌∙◌, subst, arith, length-append}
 use Rattle.std.proofs.lemmas.Bool.{ltb-true, ltb-false}
 use Rattle.std.proofs.lemmas.List.{length-set, get_or_past, set_past}
+use Rattle.std.proofs.lemmas.Option.{slice_get-get_or}
 use Rattle.arc_spec.specs.declared.event.Event.{Event}
 use Rattle.arc_spec.specs.declared.location.Location.TheVariants.{Local, Global}
 use Rattle.arc_spec.specs.Objects.{Object, Dying, object_at, with_object, in_phase, with_strong_fields, is_live, names, field_places}
@@ -65,22 +66,19 @@ module _ (p : Program) (bound : ℕ) {A : Type 0} (i : List ℕ) (t : List Event
   abbrev Goes_on : Next State → Type 0
   Goes_on next = Runs (moves p) bound (follow (recount next) i t) end o
 
-  pub only_runs : (b : Bool) (next : Next State) → Goes_on next → Goes_on (only_if b next)
-  only_runs true next h = h
-  only_runs false next h = stuck_runs (moves p) bound i t end o
-
-  pub object_runs : (found : Option Object) (go : Object → Next State) → ((ob : Object) → found ≡ Some ob → Goes_on (go ob)) → Goes_on (on_object found go)
-  object_runs None go h = stuck_runs (moves p) bound i t end o
-  object_runs (Some ob) go h = only_runs (is_there ob.phase) (go ob) (h ob refl)
-
   there_only_runs : (b : Bool) (next : Next State) → (b ≡ true → Goes_on next) → Goes_on (only_if b next)
   there_only_runs true next h = h refl
   there_only_runs false next h = stuck_runs (moves p) bound i t end o
 
-  -- the same, where that the object is there matters
+  pub only_runs : (b : Bool) (next : Next State) → Goes_on next → Goes_on (only_if b next)
+  only_runs b next h = there_only_runs b next (λ e. h)
+
   pub there_runs : (found : Option Object) (go : Object → Next State) → ((ob : Object) → found ≡ Some ob → is_there ob.phase ≡ true → Goes_on (go ob)) → Goes_on (on_object found go)
   there_runs None go h = stuck_runs (moves p) bound i t end o
   there_runs (Some ob) go h = there_only_runs (is_there ob.phase) (go ob) (h ob refl)
+
+  pub object_runs : (found : Option Object) (go : Object → Next State) → ((ob : Object) → found ≡ Some ob → Goes_on (go ob)) → Goes_on (on_object found go)
+  object_runs found go h = there_runs found go (λ ob e there. h ob e)
 
   pub place_runs : (found : Option ℕ) (none : Next State) (go : ℕ → Next State) → (found ≡ None → Goes_on none) → ((old : ℕ) → found ≡ Some old → Goes_on (go old)) → Goes_on (on_place found none go)
   place_runs None none go h g = h refl
@@ -89,10 +87,6 @@ module _ (p : Program) (bound : ℕ) {A : Type 0} (i : List ℕ) (t : List Event
   pub named_runs : (r : ℕ) (h : Held) (next : Next State) → Goes_on next → Goes_on (on_named r h next)
   named_runs zero h next go = go
   named_runs (suc k) h next go = object_runs (object_at h.objects (suc k)) (λ _. next) (λ ob e. go)
-
-  pub found_runs : {B : Type 0} (found : Option B) (go : B → Next State) → ((b : B) → found ≡ Some b → Goes_on (go b)) → Goes_on (on_found found go)
-  found_runs None go h = stuck_runs (moves p) bound i t end o
-  found_runs (Some b) go h = h b refl
 
 -- ---- how many places name an object
 
@@ -149,11 +143,6 @@ empties first (suc n) strong = empties first n (slice_set strong (first + n) 0)
 
 abbrev pub emptied : (first count : ℕ) → World → World
 emptied first count w = with_strong w (empties first count w.frame.strong)
-
-pub get_front : (strong : List ℕ) (i : ℕ) → i < length strong → slice_get strong i ≡ Some (name_at strong i)
-get_front [] i lt = absurd (omega (arith, lt))
-get_front (r ∷ strong) zero lt = refl
-get_front (r ∷ strong) (suc i) lt = get_front strong i (omega (arith, lt))
 
 module _ (p : Program) (frames : List Frame) (bound : ℕ) (rs : List ℕ) (D : Deeper) (all_ends : Ends p frames bound D) where
   ends : OwnEnds p frames bound D
@@ -279,7 +268,7 @@ module _ (p : Program) (frames : List Frame) (bound : ℕ) (rs : List ℕ) (D : 
   empty_by true i stack w pc e has =
       let h = held_of rs w in
       let s = at frames pc stack h in
-      let found = get_front w.frame.strong i (ltb-true i (length w.frame.strong) e) in
+      let found = slice_get-get_or w.frame.strong i 0 (ltb-true i (length w.frame.strong) e) in
       one_runs p frames bound rs (Empty i) pc stack w (stays stack (pc + 1) (stores (Local i) 0 w)) (assigned D (Local i) 0 w) has
       (subst (λ f. Runs (moves p) bound (follow (recount (on_found f (λ q. releases p s q (raised 0 (with_variables h (slice_set w.frame.strong i 0)))))) w.input w.trace) (stays stack (pc + 1) (stores (Local i) 0 w)) (assigned D (Local i) 0 w)) (sym found) (changes_runs i 0 (name_at w.frame.strong i) stack w pc found))
   empty_by false i stack w pc e has = no_variable i 0 stack w pc (ltb-false i (length w.frame.strong) e)

@@ -1,13 +1,13 @@
 -- Rows of orders, and lists of a checked program as long as what they are of.
-use Rattle.std.proofs.Common.{◌≡◌, ℕ, zero, suc, ◌+◌, ◌-◌, ◌/◌, ◌<◌, arith, pos, List, [], ◌∷◌, ◌++◌, length, take, drop, length-drop, length-append, append_assoc, refl, ap, ◌∙◌, add-one}
+use Rattle.std.proofs.Common.{◌≡◌, ℕ, zero, suc, ◌+◌, ◌-◌, ◌/◌, ◌<◌, arith, List, [], ◌∷◌, ◌++◌, length, take, drop, length-drop, length-append, refl, sym, ap, ◌∙◌}
 use Rattle.arc_check.specs.declared.checked.CheckedFunction.{CheckedFunction}
 use Rattle.arc_check.specs.Checked.{functions}
 use Rattle.arc_spec.specs.declared.class.Gives.{Gives}
 use Rattle.arc_spec.specs.Resolved.{Program}
-use Rattle.arc_code.specs.declared.instr.Op.TheVariants.{Num, Pop, Declare, Forget, Nil}
+use Rattle.arc_code.specs.declared.instr.Op.TheVariants.{Forget}
 use Rattle.arc_code.specs.declared.instr.Instr.TheVariants.{Plain, PrintText, Call, StoreStrong}
 use Rattle.arc_lower.specs.Order.{Order}
-use Rattle.arc_lower.specs.Lowered.{part_orders, text_orders, pop_orders, zero_orders, declare_orders, empty_orders, all_empty_orders, forget_orders, nil_orders, take_orders, fit_orders, fit_object_orders, call_orders, number_of, slots_of, parameters_of}
+use Rattle.arc_lower.specs.Lowered.{part_orders, text_orders, pop_orders, zero_orders, empty_orders, all_empty_orders, forget_orders, nil_orders, take_orders, fit_orders, fit_object_orders, call_orders, number_of, slots_of, parameters_of}
 
 -- of more than 16 bytes the first 16 are one part
 pub text_more : (bytes : List ℕ) → 16 < length bytes → text_orders bytes ≡ PrintText (take 16 bytes) ∷ text_orders (drop 16 bytes)
@@ -15,40 +15,13 @@ text_more bytes long =
     let e : (length bytes - 1) / 16 ≡ suc ((length (drop 16 bytes) - 1) / 16) = omega (arith, length-drop 16 bytes) in
     ap (λ n. part_orders n bytes) e
 
-pops_snoc : (n : ℕ) → pop_orders (suc n) ≡ pop_orders n ++ Plain Pop ∷ []
-pops_snoc zero = refl
-pops_snoc (suc n) = ap (λ l. Plain Pop ∷ l) (pops_snoc n)
-
-pub pops_more : (n : ℕ) → pop_orders (n + 1) ≡ pop_orders n ++ Plain Pop ∷ []
-pops_more n = rw add-one (pops_snoc n)
-
-zeros_snoc : (n : ℕ) → zero_orders (suc n) ≡ zero_orders n ++ Plain (Num (pos 0)) ∷ []
-zeros_snoc zero = refl
-zeros_snoc (suc n) = ap (λ l. Plain (Num (pos 0)) ∷ l) (zeros_snoc n)
-
-pub zeros_more : (n : ℕ) → zero_orders (n + 1) ≡ zero_orders n ++ Plain (Num (pos 0)) ∷ []
-zeros_more n = rw add-one (zeros_snoc n)
-
-declares_snoc : (n : ℕ) → declare_orders (suc n) ≡ declare_orders n ++ Plain Declare ∷ []
-declares_snoc zero = refl
-declares_snoc (suc n) = ap (λ l. Plain Declare ∷ l) (declares_snoc n)
-
-pub declares_more : (n : ℕ) → declare_orders (n + 1) ≡ declare_orders n ++ Plain Declare ∷ []
-declares_more n = rw add-one (declares_snoc n)
-
-forgets_snoc : (n : ℕ) → forget_orders (suc n) ≡ forget_orders n ++ Plain Forget ∷ []
-forgets_snoc zero = refl
-forgets_snoc (suc n) = ap (λ l. Plain Forget ∷ l) (forgets_snoc n)
-
-pub forgets_more : (n : ℕ) → forget_orders (n + 1) ≡ forget_orders n ++ Plain Forget ∷ []
-forgets_more n = rw add-one (forgets_snoc n)
-
-nils_snoc : (n : ℕ) → nil_orders (suc n) ≡ nil_orders n ++ Plain Nil ∷ []
-nils_snoc zero = refl
-nils_snoc (suc n) = ap (λ l. Plain Nil ∷ l) (nils_snoc n)
-
-pub nils_more : (n : ℕ) → nil_orders (n + 1) ≡ nil_orders n ++ Plain Nil ∷ []
-nils_more n = rw add-one (nils_snoc n)
+-- n times one order, and once more
+pub row_more : (row : ℕ → List Order) (a : Order) → row 0 ≡ [] → ((n : ℕ) → row (suc n) ≡ a ∷ row n)
+    → (n : ℕ) → row (n + 1) ≡ row n ++ a ∷ []
+row_more row a none more zero = more 0 ∙ ap (λ l. a ∷ l) none ∙ ap (λ l. l ++ a ∷ []) (sym none)
+row_more row a none more (suc n) =
+    let one : suc n + 1 ≡ suc (n + 1) = omega arith in
+    ap row one ∙ more (n + 1) ∙ ap (λ l. a ∷ l) (row_more row a none more n) ∙ ap (λ l. l ++ a ∷ []) (sym (more n))
 
 pub takes_more : (first count passed : ℕ) → passed < count → take_orders first (count - passed) ≡ StoreStrong (first + (count - 1 - passed)) ∷ Plain Forget ∷ take_orders first (count - (passed + 1))
 takes_more first count passed lt =
@@ -56,11 +29,6 @@ takes_more first count passed lt =
     let e : count - passed ≡ suc left = omega (arith, lt) in
     let f : left ≡ count - 1 - passed = omega arith in
     ap (take_orders first) e ∙ ap (λ n. StoreStrong (first + n) ∷ Plain Forget ∷ take_orders first left) f
-
--- two actions more behind others
-pub two_more : (old middle last left : List Order) (a b : Order) → middle ≡ old ++ a ∷ [] → last ≡ middle ++ b ∷ [] → last ++ left ≡ old ++ a ∷ b ∷ left
-two_more old middle last left a b first second =
-    ap (λ l. l ++ left) (second ∙ ap (λ l. l ++ b ∷ []) first ∙ append_assoc old (a ∷ []) (b ∷ [])) ∙ append_assoc old (a ∷ b ∷ []) left
 
 -- one variable less is to be emptied
 pub emptied_more : (names first count passed : ℕ) → passed < count → all_empty_orders names first (count - passed) ≡ empty_orders names (first + (count - 1 - passed)) ++ all_empty_orders names first (count - (passed + 1))

@@ -1,7 +1,7 @@
 -- Steps do what blocks mean.
-use Rattle.std.proofs.Common.{◌≡◌, ℕ, zero, suc, ◌+◌, ◌-◌, ◌≤◌, ◌<◌, ℤ, pos, Bool, true, false, not, ◌&&◌, is_some, nat_eq, nat_lt, if◌then◌else◌, ◌⊎◌, inl, inr, List, [], ◌∷◌, ◌++◌, length, take, drop, Option, Some, None, slice_get, slice_set, refl, sym, ap, ◌∙◌, subst, arith, length-append}
+use Rattle.std.proofs.Common.{◌≡◌, ℕ, zero, suc, ◌+◌, ◌-◌, ◌≤◌, ◌<◌, ℤ, pos, Bool, true, false, not, ◌&&◌, is_some, nat_eq, nat_lt, if◌then◌else◌, inr, List, [], ◌∷◌, ◌++◌, length, take, drop, Option, Some, None, slice_get, slice_set, refl, sym, ap, ◌∙◌, subst, arith, length-append}
 use Rattle.std.proofs.lemmas.Bool.{ltb-true, ltb-false, eqb-true, and_parts, false≢true}
-use Rattle.std.proofs.lemmas.List.{length-set, get_or_past, set_past}
+use Rattle.std.proofs.lemmas.List.{length-set, get_or_past, set_past, set-get_or}
 use Rattle.arc_ast.specs.declared.tree.Sign.{Sign}
 use Rattle.arc_ast.specs.declared.tree.Sign.TheVariants as signs
 use Rattle.arc_spec.specs.declared.event.Fault.TheVariants.{Unrecognized, FieldClass, Resurrected}
@@ -16,12 +16,12 @@ use Rattle.arc_spec.specs.declared.location.Location.TheVariants.{Local, Global}
 use Rattle.arc_spec.specs.Resolved.{Piece}
 use Rattle.arc_spec.specs.Meaning.{Deeper, held_at, holds, chosen, temporaries_dropped, released, and_number, field_stores, dispatched, finds, gives_object, runs_found, class_in, sent, sent_from, object_given, next_object, field_count, made, made_new, second_dropped, result_place, in_object, difference, formatted, byte_count, or_fault, assigned, all_dropped, variables_dropped}
 use Rattle.arc_spec.specs.World as world
-use Rattle.arc_spec.specs.World.{World, Outcome, Done, Faulted, Cut, Finished, finished, then_do, Given, nothing_given, prints, next_number, after_next, has_read, with_locals, with_objects, with_temporaries, local_at, name_at, named_at, first_locals, first_names, with_strong_globals, takes, stores}
-use Rattle.arc_spec.specs.Holding.{Held, Frame, is_there, on_field, count_of, with_field, with_names, with_strong_field, on_place, lets_go, named, raised, with_variables}
+use Rattle.arc_spec.specs.World.{World, Outcome, Done, Faulted, Finished, finished, then_do, Given, nothing_given, prints, next_number, after_next, with_locals, with_objects, with_temporaries, local_at, name_at, named_at, first_locals, first_names, with_strong_globals, takes, stores}
+use Rattle.arc_spec.specs.Holding.{Frame, is_there, on_field, count_of, with_strong_field, on_place, named, raised, with_variables}
 use Rattle.arc_spec.specs.Stepping.{Next, Goes, Faults, Reached, follow, fed, on_found}
 use Rattle.arc_ir.specs.declared.action.Target.{Target}
 use Rattle.arc_ir.specs.declared.action.Target.TheVariants.{Skip, Back, At}
-use Rattle.arc_ir.specs.Acting.{Program, State, lands, onward, goes, keeps, answers, taken, sends, allocates, ends_behind, releases}
+use Rattle.arc_ir.specs.Acting.{Program, State, lands, onward, goes, keeps, answers, taken, sends, allocates, releases}
 use Rattle.arc_ir.specs.Acting as acting
 use Rattle.arc_code.specs.Instructions as instructions
 use Rattle.arc_code.specs.declared.instr.Op.{Op}
@@ -33,6 +33,7 @@ use Rattle.arc_lower.specs.Order.{Order}
 use Rattle.arc_lower.specs.declared.frame.Turn.{Turn}
 use Rattle.arc_lower.specs.Lowered.{Message, ToClass, ToSuperClass, ToObject, ToSuper, message_order, Block, Idle, One, Load, Store, Read, Assign, AssignField, Clear, Format, Calls, Tells, Making, IfNew, Answer, Then, Fork, Loop, Quit, Advance, Full, Leave, making_orders, has_new, Entry, AtStep, AtTest, AtBody, enter_orders, enter_size, no_turn, Spot, Inside, Between, past, turn_at, body_spot, flat, print_orders, get_orders, set_orders, read_orders, store_orders, all_empty_orders, order_takes, forget_orders, passing_orders, number_of, slots_of, parameters_of, call_orders}
 use Rattle.std.specs.List.{list_any}
+use Rattle.std.proofs.lemmas.Option.{get_or_from_slice_get, none-some, slice_get-get_or}
 use Rattle.arc_lower.proofs.Leading.{Leads, leads_same, leads_trans, leads_step, Runs, leads_runs, later_runs, fewer_runs, ends_here, then_runs}
 use Rattle.arc_lower.proofs.Recounting.{fresh, recount, moves, at, held_of}
 use Rattle.arc_lower.proofs.Doing.{bare, does, HasAt, has_front, has_back}
@@ -40,8 +41,8 @@ use Rattle.arc_lower.proofs.Segments.{running, one_runs, quiet, quiet_runs, Pass
 use Rattle.arc_lower.proofs.Stacking.{onto, Peels, peels_onto, drop_onto, without_below, get_onto, get_local, set_local, get_below, set_below}
 use Rattle.arc_lower.proofs.Printing.{print_passes}
 use Rattle.arc_lower.proofs.Fitting.{forgets_shift, passing_leads}
-use Rattle.arc_lower.proofs.Releasing.{Kept, kept_same, Ends, Stays, object_runs, there_runs, place_runs, named_runs, global_runs, strong_field_runs, emptied, empties, get_front, dropped_runs, settled_runs, no_variable, changes_runs, empties_run}
-use Rattle.arc_lower.proofs.Shaping.{Operands, push, name, Way, On, Out, Quits, Turns, Lost, left_by, on_way, and_then, only_on, after_turn, on_test, top_of, values_of, objects_of, on_given, pushes, answers_left, passes_by, operation, told, block_turns, loop_entered, block}
+use Rattle.arc_lower.proofs.Releasing.{Kept, kept_same, Ends, Stays, object_runs, there_runs, place_runs, named_runs, global_runs, strong_field_runs, emptied, empties, dropped_runs, settled_runs, no_variable, changes_runs, empties_run}
+use Rattle.arc_lower.proofs.Shaping.{Operands, push, name, Way, On, Out, Quits, Turns, Lost, left_by, on_way, and_then, only_on, after_turn, on_test, top_of, taken_of, on_given, pushes, answers_left, passes_by, operation, told, block_turns, loop_entered, block}
 use Rattle.arc_lower.proofs.Quiet.{takes_none, quiet_flat}
 
 -- behind a call, with its number on top, or with its object, which the last reference names and the last temporary
@@ -64,8 +65,7 @@ dispatched_answers D wanted (Some f) class given w = refl
 -- what follows an object that is given
 object_then : {B : Type 0} (o : Outcome world.Answer) (go : ℕ → World → Outcome B) → then_do o (λ a w. go a.object (takes a.object w)) ≡ then_do (object_given o) go
 object_then (Done a w) go = refl
-object_then (Faulted f w) go = refl
-object_then (Cut w) go = refl
+object_then _ go = refl
 
 -- nothing lies on others
 onto_none : {A : Type 0} (values rest : List A) → length values ≡ 0 → onto values rest ≡ rest
@@ -85,24 +85,14 @@ pub record Deep (p : Program) (frames : List Frame) (bound : ℕ) (R : resolved.
   pub same_fields : (class : ℕ) → count_of (slice_get p.classes class) ≡ field_count (slice_get D.classes class)
   pub same_strong : (class : ℕ) → strong_count (slice_get p.classes class) ≡ strong_count (slice_get D.classes class)
 
-pub found_name : (names : List ℕ) (i r : ℕ) → slice_get names i ≡ Some r → name_at names i ≡ r
-found_name [] i r e = cc
-found_name (q ∷ names) zero r e = cc
-found_name (q ∷ names) (suc i) r e = found_name names i r e
-
 pub past_end : (names : List ℕ) (i : ℕ) → slice_get names i ≡ None → length names ≤ i
 past_end [] i e = omega arith
-past_end (q ∷ names) zero e = absurd (some_none q e)
-  where
-    some_none : (r : ℕ) → Some r ≡ None → ⊥
-    some_none r f = cc
+past_end (q ∷ names) zero e = absurd (none-some q (sym e))
 past_end (q ∷ names) (suc i) e = omega (arith, past_end names i e)
 
 -- an object that is put in its own place
 pub same_put : (objects : List Object) (k : ℕ) (o : Object) → slice_get objects k ≡ Some o → slice_set objects k o ≡ objects
-same_put [] k o e = cc
-same_put (a ∷ objects) zero o e = let same : o ≡ a = cc in ap (λ x. x ∷ objects) same
-same_put (a ∷ objects) (suc k) o e = ap (λ l. a ∷ l) (same_put objects k o e)
+same_put objects k o e = ap (slice_set objects k) (sym (get_or_from_slice_get objects k o o e)) ∙ set-get_or objects k o
 
 -- so many numbers are taken
 taken_peels : {S : Type 0} → (n : ℕ) (stack rest : List ℤ) (go : List ℤ → Next S) → Peels n stack rest → taken n stack go ≡ go rest
@@ -233,16 +223,10 @@ module _ (p : Program) (frames : List Frame) (bound : ℕ) (R : resolved.Program
 
   operation_runs : (turn : Turn) (calm : Bool) (o : Op) (pc : ℕ) (numbers : List ℤ) (rs : List ℕ) (w : World) → (calm ≡ true → takes_none R (One o) ≡ true) → Good calm w → Goes_on turn calm (next_of (does p (Plain o) (state pc (record { numbers = numbers; names = rs }) w)) w) (pc + 1) (operation D o (record { numbers = numbers; names = rs }) w)
   operation_runs turn calm (Num n) pc numbers rs w free g = quietly turn calm (pc + 1) (push n (record { numbers = numbers; names = rs })) w g
-  operation_runs turn calm (Bin operator kind) pc [] rs w free g = lost turn calm _ (pc + 1) w
-  operation_runs turn calm (Bin operator kind) pc (y ∷ []) rs w free g = lost turn calm _ (pc + 1) w
   operation_runs turn calm (Bin operator kind) pc (y ∷ x ∷ numbers) rs w free g = faulting turn calm (combined operator kind x y) pc (y ∷ x ∷ numbers ++ vars w) (record { numbers = numbers; names = rs }) w g
-  operation_runs turn calm (Un operator kind) pc [] rs w free g = lost turn calm _ (pc + 1) w
   operation_runs turn calm (Un operator kind) pc (x ∷ numbers) rs w free g = quietly turn calm (pc + 1) (record { numbers = applied operator kind x ∷ numbers; names = rs }) w g
-  operation_runs turn calm (Narrow kind) pc [] rs w free g = lost turn calm _ (pc + 1) w
   operation_runs turn calm (Narrow kind) pc (x ∷ numbers) rs w free g = quietly turn calm (pc + 1) (record { numbers = converted kind x ∷ numbers; names = rs }) w g
-  operation_runs turn calm Pop pc [] rs w free g = lost turn calm _ (pc + 1) w
   operation_runs turn calm Pop pc (x ∷ numbers) rs w free g = quietly turn calm (pc + 1) (record { numbers = numbers; names = rs }) w g
-  operation_runs turn calm (Get zero) pc [] rs w free g = lost turn calm _ (pc + 1) w
   operation_runs turn calm (Get zero) pc (x ∷ numbers) rs w free g = quietly turn calm (pc + 1) (record { numbers = x ∷ x ∷ numbers; names = rs }) w g
   operation_runs turn calm GetChar pc numbers rs w free g = reading turn calm pc (record { numbers = numbers; names = rs }) w w.input refl g
   operation_runs turn calm Nil pc numbers rs w free g = quietly turn calm (pc + 1) (record { numbers = numbers; names = 0 ∷ rs }) w g
@@ -250,44 +234,33 @@ module _ (p : Program) (frames : List Frame) (bound : ℕ) (R : resolved.Program
       let s : Operands = record { numbers = numbers; names = rs } in
       let r = w.frame.self in
       named_runs p bound w.input w.trace (Leaves turn calm (pc + 1)) (Done (On (name r s)) (takes r w)) r (named r (held_of rs w)) _ (holding turn calm r (pc + 1) s w free g)
-  operation_runs turn calm (ReadField class index) pc numbers [] w free g = lost turn calm _ (pc + 1) w
   operation_runs turn calm (ReadField class index) pc numbers (r ∷ rs) w free g =
       let s : Operands = record { numbers = numbers; names = rs } in
       field_runs turn calm class r (pc + 1) (r ∷ rs) (λ v. On (name v s)) w _ _ (λ k o e found there.
       let q = name_at o.strong index in
       named_runs p bound w.input w.trace (Leaves turn calm (pc + 1)) (Done (On (name q s)) (takes q w)) q (held_of (q ∷ rs) w) _ (holding turn calm q (pc + 1) s w free g))
-  operation_runs turn calm Hold pc numbers [] w free g = lost turn calm _ (pc + 1) w
   operation_runs turn calm Hold pc numbers (r ∷ rs) w free g =
       let s : Operands = record { numbers = numbers; names = rs } in
       named_runs p bound w.input w.trace (Leaves turn calm (pc + 1)) (Done (On (name r s)) (takes r w)) r (held_of (r ∷ rs) w) _ (holding turn calm r (pc + 1) s w free g)
-  operation_runs turn calm ops.Again pc numbers [] w free g = lost turn calm _ (pc + 1) w
   operation_runs turn calm ops.Again pc numbers (r ∷ rs) w free g = quietly turn calm (pc + 1) (record { numbers = numbers; names = r ∷ r ∷ rs }) w g
-  operation_runs turn calm Forget pc numbers [] w free g = lost turn calm _ (pc + 1) w
   operation_runs turn calm Forget pc numbers (r ∷ rs) w free g = quietly turn calm (pc + 1) (record { numbers = numbers; names = rs }) w g
-  operation_runs turn calm Alloc pc [] rs w free g = lost turn calm _ (pc + 1) w
   operation_runs turn calm Alloc pc (v ∷ numbers) rs w free g = making turn calm (class_at v) pc v (record { numbers = numbers; names = rs }) w free g
-  operation_runs turn calm (Finds selector) pc [] rs w free g = lost turn calm _ (pc + 1) w
   operation_runs turn calm (Finds selector) pc (v ∷ numbers) rs w free g =
       let there : Bool → Operands = λ b. record { numbers = instructions.one_if b ∷ v ∷ numbers; names = rs } in
       let found = is_some (lookup p.classes (class_at v) signs.Class selector 0 0 gives.Object) in
       subst (λ b. Goes_on turn calm (follow (Goes (state (pc + 1) (there found) w) []) w.input w.trace) (pc + 1) (Done (On (there b)) w)) (deep.same_found (class_at v) signs.Class selector 0 0 gives.Object) (quietly turn calm (pc + 1) (there found) w g)
-  operation_runs turn calm (GetField class index) pc numbers [] w free g = lost turn calm _ (pc + 1) w
   operation_runs turn calm (GetField class index) pc numbers (r ∷ rs) w free g =
       let s : Operands = record { numbers = numbers; names = rs } in
       field_runs turn calm class r (pc + 1) (r ∷ rs) (λ v. On (push v s)) w _ _ (λ k o e found there. quietly turn calm (pc + 1) (push (Rattle.std.proofs.Common.slice_index_or o.fields index (pos 0)) s) w g)
   operation_runs turn calm (SetField class index) pc numbers [] w free g = lost turn calm _ (pc + 1) w
-  operation_runs turn calm (SetField class index) pc [] (r ∷ rs) w free g = lost turn calm _ (pc + 1) w
   operation_runs turn calm (SetField class index) pc (v ∷ numbers) (r ∷ rs) w free g =
       let s : Operands = record { numbers = numbers; names = rs } in
       field_runs turn calm class r (pc + 1) (r ∷ rs) (λ v. On (push v s)) w _ _ (λ k o e found there. quietly turn calm (pc + 1) (push v s) (with_objects w (with_object w.objects r (with_fields o (slice_set o.fields index v)))) (record { locals = g.0.locals; strong = g.0.strong; itself = g.0.itself; waits = g.0.waits }, g.1))
-  operation_runs turn calm Differ pc numbers [] w free g = lost turn calm _ (pc + 1) w
-  operation_runs turn calm Differ pc numbers (y ∷ []) w free g = lost turn calm _ (pc + 1) w
   operation_runs turn calm Differ pc numbers (y ∷ x ∷ rs) w free g =
       let s : Operands = record { numbers = difference x y ∷ numbers; names = rs } in
       let h = held_of (y ∷ x ∷ rs) w in
       let end = Leaves turn calm (pc + 1) in
       named_runs p bound w.input w.trace end (Done (On s) w) y h _ (named_runs p bound w.input w.trace end (Done (On s) w) x h _ (quietly turn calm (pc + 1) s w g))
-  operation_runs turn calm IsObject pc numbers [] w free g = lost turn calm _ (pc + 1) w
   operation_runs turn calm IsObject pc numbers (x ∷ rs) w free g =
       let s : Operands = record { numbers = difference x 0 ∷ numbers; names = rs } in
       named_runs p bound w.input w.trace (Leaves turn calm (pc + 1)) (Done (On s) w) x (held_of (x ∷ rs) w) _ (quietly turn calm (pc + 1) s w g)
@@ -362,22 +335,27 @@ module _ (p : Program) (frames : List Frame) (bound : ℕ) (R : resolved.Program
 
   -- ---- values
 
-  -- the stack is the same, whether the values are taken for operands or not
-  with_values : (turn : Turn) (calm : Bool) (from : Reached State) (pc n : ℕ) (given numbers : List ℤ) (rs : List ℕ) (w : World) (stack : List ℤ) (go : List ℤ → Operands → Outcome Way) → stack ≡ onto given (numbers ++ vars w) → ((values rest : List ℤ) → stack ≡ onto values (rest ++ vars w) → length values ≡ n + length given → Goes_on turn calm from pc (go values (record { numbers = rest; names = rs }))) → Goes_on turn calm from pc (values_of n given numbers rs w go)
-  with_values turn calm from pc zero given numbers rs w stack go e h = h given numbers e (omega arith)
-  with_values turn calm from pc (suc n) given [] rs w stack go e h = lost turn calm from pc w
-  with_values turn calm from pc (suc n) given (v ∷ numbers) rs w stack go e h = with_values turn calm from pc n (v ∷ given) numbers rs w stack go e (λ values rest f size. h values rest f (omega (arith, size)))
-
-  with_objects_of : (turn : Turn) (calm : Bool) (from : Reached State) (pc m : ℕ) (given names1 : List ℕ) (numbers : List ℤ) (w : World) (all : List ℕ) (go : List ℕ → Operands → Outcome Way) → all ≡ onto given names1 → ((objects rest : List ℕ) → all ≡ onto objects rest → length objects ≡ m + length given → Goes_on turn calm from pc (go objects (record { numbers = numbers; names = rest })))
-      → Goes_on turn calm from pc (objects_of m given names1 numbers w go)
-  with_objects_of turn calm from pc zero given names1 numbers w all go e h = h given names1 e (omega arith)
-  with_objects_of turn calm from pc (suc m) given [] numbers w all go e h = lost turn calm from pc w
-  with_objects_of turn calm from pc (suc m) given (r ∷ names1) numbers w all go e h = with_objects_of turn calm from pc m (r ∷ given) names1 numbers w all go e (λ objects rest f size. h objects rest f (omega (arith, size)))
+  -- what holds of those that are taken and of the others, one after the other
+  with_taken : {A : Type 0} (Q : List A → List A → Type 0)
+      → ((a : A) (values rest : List A) → Q values (a ∷ rest) → Q (a ∷ values) rest) → (turn : Turn) (calm : Bool) (from : Reached State)
+      (pc n : ℕ) (given list : List A) (w : World) (go : List A → List A → Outcome Way) → Q given list
+      → ((values rest : List A) → Q values rest → length values ≡ n + length given → Goes_on turn calm from pc (go values rest))
+      → Goes_on turn calm from pc (taken_of n given list w go)
+  with_taken Q step turn calm from pc zero given list w go e h = h given list e (omega arith)
+  with_taken Q step turn calm from pc (suc n) given [] w go e h = lost turn calm from pc w
+  with_taken Q step turn calm from pc (suc n) given (a ∷ list) w go e h =
+      with_taken Q step turn calm from pc n (a ∷ given) list w go (step a given list e)
+      (λ values rest f size. h values rest f (omega (arith, size)))
 
   on_given_runs : (turn : Turn) (calm : Bool) (pc q n m : ℕ) (s : Operands) (w : World) (go : Given → Operands → Outcome Way) → ((given : Given) (rest : Operands) → length given.numbers ≡ n → length given.objects ≡ m → Goes_on turn calm (running frames (onto given.objects rest.names) pc (onto given.numbers (rest.numbers ++ vars w)) w) q (go given rest))
       → Goes_on turn calm (standing pc s w) q (on_given n m s w go)
-  on_given_runs turn calm pc q n m s w go h = with_values turn calm (standing pc s w) q n [] s.numbers s.names w (s.numbers ++ vars w) _ refl (λ values numbers e size.
-      with_objects_of turn calm (standing pc s w) q m [] s.names numbers w s.names (λ objects others. go (record { numbers = values; objects = objects }) others) refl (λ objects rest f few.
+  on_given_runs turn calm pc q n m s w go h =
+      let goes : List ℤ → List ℤ → List ℕ → List ℕ → Outcome Way = λ values numbers objects rest.
+      go (record { numbers = values; objects = objects }) (record { numbers = numbers; names = rest }) in
+      with_taken (λ (values rest : List ℤ). s.numbers ++ vars w ≡ onto values (rest ++ vars w)) (λ a values rest e. e) turn calm
+      (standing pc s w) q n [] s.numbers w (λ values numbers. taken_of m [] s.names w (goes values numbers)) refl (λ values numbers e size.
+      with_taken (λ (objects rest : List ℕ). s.names ≡ onto objects rest) (λ a objects rest e. e) turn calm
+      (standing pc s w) q m [] s.names w (goes values numbers) refl (λ objects rest f few.
       subst (λ l. Goes_on turn calm (running frames s.names pc l w) q (go (record { numbers = values; objects = objects }) (record { numbers = numbers; names = rest }))) (sym e)
       (subst (λ l. Goes_on turn calm (running frames l pc (onto values (numbers ++ vars w)) w) q (go (record { numbers = values; objects = objects }) (record { numbers = numbers; names = rest }))) (sym f)
       (h (record { numbers = values; objects = objects }) (record { numbers = numbers; names = rest }) (omega (arith, size)) (omega (arith, few))))))
@@ -410,11 +388,10 @@ module _ (p : Program) (frames : List Frame) (bound : ℕ) (R : resolved.Program
       let fits = passing_orders R wanted f n m in
       let call : List Order = Call (number_of R wanted f) wanted ∷ [] in
       let q = pc + length fits in
-      let e : q + 1 ≡ pc + length (fits ++ call) = omega (arith, length-append fits call) in
       let start = running frames (onto given.objects s.names) pc (onto given.numbers stack) w in
       let from = running frames (onto (first_names (parameters_of R wanted f) given.objects) s.names) q (onto (first_locals (slots_of R wanted f) given.numbers) stack) w in
       let meant = answers_left wanted s (D.call wanted f 0 given w) in
-      subst (λ k. Goes_on turn calm start k meant) e
+      subst (λ k. Goes_on turn calm start k meant) (omega (arith, length-append fits call))
       (leads_runs (moves p) bound start from (Leaves turn calm (q + 1)) meant (passing_leads p frames (slots_of R wanted f) (parameters_of R wanted f) n m given stack s.names w pc e1 e2 (has_front p pc fits call has))
       (returned turn calm wanted q s w from (D.call wanted f 0 given w) free g (deep.invokes wanted f given stack s.names w q (has_back p pc fits call has))))
 
@@ -477,8 +454,7 @@ module _ (p : Program) (frames : List Frame) (bound : ℕ) (R : resolved.Program
   found_runs wanted selector object pc given stack rs w (Some to) (Some f) e h = h
   found_runs wanted selector object pc given stack rs w None None e h =
       root_runs wanted selector object pc given (onto given.numbers stack) (onto given.objects rs) stack rs w (is_root_init selector (length given.numbers) (length given.objects) wanted) refl
-  found_runs wanted selector object pc given stack rs w (Some to) None e h = cc
-  found_runs wanted selector object pc given stack rs w None (Some f) e h = cc
+  found_runs wanted selector object pc given stack rs w _ _ e h = cc
 
   -- a message to an object that is found, by the class from which its method is looked up
   sends_run : (wanted : Gives) (class_of : Object → ℕ) (from : Option ℕ) (selector self' pc : ℕ) (given : Given) (before : List ℕ) (stack : List ℤ) (rs : List ℕ) (w : World) → ((k : ℕ) (o : Object) → self' ≡ suc k → object_at w.objects (suc k) ≡ Some o → from ≡ Some (class_of o))
@@ -516,23 +492,20 @@ module _ (p : Program) (frames : List Frame) (bound : ℕ) (R : resolved.Program
 
   tells_run : (turn : Turn) (calm : Bool) (wanted : Gives) (message : Message) (pc : ℕ) (given : Given) (numbers : List ℤ) (rs : List ℕ) (w : World) → (calm ≡ true → same_gives wanted gives.Number ≡ true) → Good calm w
       → Goes_on turn calm (next_of (does p (message_order wanted message (length given.numbers) (length given.objects)) (at frames pc (onto given.numbers (numbers ++ vars w)) (held_of (onto given.objects rs) w))) w) (pc + 1) (told D wanted message given (record { numbers = numbers; names = rs }) w)
-  tells_run turn calm wanted (ToClass selector) pc given [] rs w free g = lost turn calm _ (pc + 1) w
   tells_run turn calm wanted (ToClass selector) pc given (class ∷ numbers) rs w free g =
       let st = at frames pc (onto given.numbers (class ∷ (numbers ++ vars w))) (held_of (onto given.objects rs) w) in
       returned turn calm wanted pc (record { numbers = numbers; names = rs }) w _ (dispatched D wanted (finds D wanted (class_at class) signs.Class selector given) class given w) free g
       (to_class wanted (class_at class) class selector pc given (numbers ++ vars w) rs w _ (ap (λ o. on_found o (λ v. answers st 0 (lookup p.classes (class_at v) signs.Class selector (length given.numbers) (length given.objects) wanted))) (get_onto given.numbers (numbers ++ vars w) class)))
-  tells_run turn calm wanted (ToSuperClass from selector) pc given [] rs w free g = lost turn calm _ (pc + 1) w
   tells_run turn calm wanted (ToSuperClass from selector) pc given (class ∷ numbers) rs w free g =
       returned turn calm wanted pc (record { numbers = numbers; names = rs }) w _ (dispatched D wanted (finds D wanted (Some from) signs.Class selector given) class given w) free g
       (to_class wanted (Some from) class selector pc given (numbers ++ vars w) rs w _ refl)
-  tells_run turn calm wanted (ToObject selector) pc given numbers [] w free g = lost turn calm _ (pc + 1) w
   tells_run turn calm wanted (ToObject selector) pc given numbers (r ∷ rs) w free g =
       returned turn calm wanted pc (record { numbers = numbers; names = rs }) w _ (sent_from D wanted (class_in (object_at w.objects r)) r selector given w) free g
       (to_object wanted (λ o. o.class) (class_in (object_at w.objects r)) selector r pc given (numbers ++ vars w) rs w (class_found w r))
-  tells_run turn calm wanted (ToSuper from selector) pc given numbers [] w free g = lost turn calm _ (pc + 1) w
   tells_run turn calm wanted (ToSuper from selector) pc given numbers (r ∷ rs) w free g =
       returned turn calm wanted pc (record { numbers = numbers; names = rs }) w _ (sent_from D wanted (Some from) r selector given w) free g
       (to_object wanted (λ o. from) (Some from) selector r pc given (numbers ++ vars w) rs w (λ k o e found. refl))
+  tells_run turn calm wanted _ pc given _ _ w free g = lost turn calm _ (pc + 1) w
 
   -- ---- what the root's `new` does
 
@@ -602,10 +575,9 @@ module _ (p : Program) (frames : List Frame) (bound : ℕ) (R : resolved.Program
   making_runs turn calm pc (v ∷ numbers) rs w free g has =
       let s : Operands = record { numbers = numbers; names = rs } in
       let q = pc + 1 + 1 + 1 in
-      let e : q ≡ pc + 3 = omega arith in
       let start = standing pc (push v s) w in
       let meant = made_new D (class_at v) w in
-      subst (λ k. Goes_on turn calm start k (left_by (λ r. On (name r s)) meant)) e
+      subst (λ k. Goes_on turn calm start k (left_by (λ r. On (name r s)) meant)) (omega arith)
       (then_runs (moves p) bound start (Made_at turn calm q s) (Leaves turn calm q) meant (λ r w1. Done (On (name r s)) w1)
       (one_runs p frames bound rs (Plain Alloc) pc (v ∷ (numbers ++ vars w)) w (Made_at turn calm q s) meant (has.0, tt) (makes_new turn calm (class_at v) pc v s w free g has.1)) (λ r w1 to m.
       ends_here (moves p) bound to (Leaves turn calm q) (On (name r s)) w1 m))
@@ -618,7 +590,7 @@ module _ (p : Program) (frames : List Frame) (bound : ℕ) (R : resolved.Program
   read_by : (turn : Turn) (b : Bool) (i pc : ℕ) (s : Operands) (w : World) → nat_lt i (length w.frame.strong) ≡ b → Good false w → HasAt p pc (reading_orders b i) → Goes_on turn false (standing pc s w) (pc + length (reading_orders b i)) (Done (On (name (name_at w.frame.strong i) s)) (takes (name_at w.frame.strong i) w))
   read_by turn true i pc s w e g has =
       let r = name_at w.frame.strong i in
-      let found = get_front w.frame.strong i (ltb-true i (length w.frame.strong) e) in
+      let found = slice_get-get_or w.frame.strong i 0 (ltb-true i (length w.frame.strong) e) in
       let end = Leaves turn false (pc + 1) in
       let o = Done (On (name r s)) (takes r w) in
       let stack = s.numbers ++ vars w in
@@ -646,7 +618,7 @@ module _ (p : Program) (frames : List Frame) (bound : ℕ) (R : resolved.Program
       let st = at frames pc stack h in
       let old = name_at w.frame.strong i in
       let after = raised r (with_variables h (slice_set w.frame.strong i r)) in
-      let found = get_front w.frame.strong i (ltb-true i (length w.frame.strong) e) in
+      let found = slice_get-get_or w.frame.strong i 0 (ltb-true i (length w.frame.strong) e) in
       let end = Stays frames rs stack (pc + 1) (stores (Local i) r w) in
       one_runs p frames bound rs (StoreStrong i) pc stack w end (assigned D (Local i) r w) has
       (subst (λ f. Runs (moves p) bound (next_of (on_found f (λ q. Rattle.arc_spec.specs.Holding.on_named r h (releases p st q after))) w) end (assigned D (Local i) r w)) (sym found)
@@ -672,7 +644,7 @@ module _ (p : Program) (frames : List Frame) (bound : ℕ) (R : resolved.Program
       let is : o ≡ Done finished w = ap (λ q. released D q (stores (Global i) r w)) nil ∙ ap (λ l. Done finished (with_strong_globals w l)) same in
       subst (λ x. Runs (moves p) bound (next_of (keeps st stack h) w) end x) (sym is)
       (quiet_runs p frames bound rs (pc + 1) stack w end (Done finished w) (ends_here (moves p) bound (running frames rs (pc + 1) stack w) end finished w (refl, record { frame = refl; waiting = refl }))))
-      (λ old found. subst (λ q. Runs (moves p) bound (next_of (releases p st old after) w) end (released D q (stores (Global i) r w))) (sym (found_name w.strong_globals i old found)) (global_runs p frames bound rs D deep.ends i r old stack w pc found))))
+      (λ old found. subst (λ q. Runs (moves p) bound (next_of (releases p st old after) w) end (released D q (stores (Global i) r w))) (sym (get_or_from_slice_get w.strong_globals i old 0 found)) (global_runs p frames bound rs D deep.ends i r old stack w pc found))))
 
   stored_good : (calm : Bool) (i : Location) (r : ℕ) (w : World) → Good calm w → Good calm (stores i r w)
   stored_good calm (Local i) r w g = (record { locals = g.0.locals; strong = length-set w.frame.strong i r ∙ g.0.strong; itself = g.0.itself; waits = g.0.waits }, g.1)
@@ -711,12 +683,10 @@ module _ (p : Program) (frames : List Frame) (bound : ℕ) (R : resolved.Program
       (λ old named.
       let w1 = field_stores (suc k) o index r w in
       let good : Good calm w1 = (record { locals = g.0.locals; strong = g.0.strong; itself = g.0.itself; waits = g.0.waits }, g.1) in
-      subst (λ q. Goes_on turn calm (next_of (releases p st old (raised r (with_strong_field (held_of rs w) (suc k) o index r))) w) (pc + 1) (passes_by (name r s) (released D q w1))) (sym (found_name o.strong index old named))
+      subst (λ q. Goes_on turn calm (next_of (releases p st old (raised r (with_strong_field (held_of rs w) (suc k) o index r))) w) (pc + 1) (passes_by (name r s) (released D q w1))) (sym (get_or_from_slice_get o.strong index old 0 named))
       (stayed turn calm (pc + 1) (pc + 1) (name r s) w w1 (next_of (releases p st old (raised r (with_strong_field (held_of rs w) (suc k) o index r))) w) (released D old w1) refl good (strong_field_runs p frames bound rs D deep.ends k o index r old (held_of before w) stack w pc found there named) refl)))
 
   assign_field_runs : (turn : Turn) (calm : Bool) (class index pc : ℕ) (numbers : List ℤ) (rs : List ℕ) (w : World) → Good calm w → HasAt p pc (StoreField class index ∷ []) → Goes_on turn calm (standing pc (record { numbers = numbers; names = rs }) w) (pc + 1) (block D bound 0 false (AssignField class index) (record { numbers = numbers; names = rs }) w)
-  assign_field_runs turn calm class index pc numbers [] w g has = lost turn calm _ (pc + 1) w
-  assign_field_runs turn calm class index pc numbers (r ∷ []) w g has = lost turn calm _ (pc + 1) w
   assign_field_runs turn calm class index pc numbers (r ∷ x ∷ rs) w g has =
       let s : Operands = record { numbers = numbers; names = rs } in
       let before = r ∷ x ∷ rs in
@@ -725,6 +695,7 @@ module _ (p : Program) (frames : List Frame) (bound : ℕ) (R : resolved.Program
       one_runs p frames bound before (StoreField class index) pc (numbers ++ vars w) w end o has
       (named_runs p bound w.input w.trace end o r (held_of before w) _ (field_runs turn calm class x (pc + 1) before (λ _. On (name r s)) w _ _ (λ k ob e found there.
       field_stored turn calm (is_emptying ob.phase) x r index pc before s w k ob e found there g)))
+  assign_field_runs turn calm class index pc numbers _ w g has = lost turn calm _ (pc + 1) w
 
   empties_length : (first count : ℕ) (strong : List ℕ) → length (empties first count strong) ≡ length strong
   empties_length first zero strong = refl
@@ -750,15 +721,23 @@ module _ (p : Program) (frames : List Frame) (bound : ℕ) (R : resolved.Program
   by_zero turn calm n false one two q s w x y h k = leads_runs (moves p) n _ (standing one s w) (Leaves turn calm q) x (quiet p frames bound s.names one (s.numbers ++ vars w) w) h
   by_zero turn calm n true one two q s w x y h k = leads_runs (moves p) n _ (standing two s w) (Leaves turn calm q) y (quiet p frames bound s.names two (s.numbers ++ vars w) w) k
 
-  -- by the number on top a run goes on behind the test, or elsewhere
-  branching : (turn : Turn) (calm : Bool) (n pc to q : ℕ) (t : Target) (numbers : List ℤ) (rs : List ℕ) (w : World) (x y : ℤ → Operands → Outcome Way) → to ≡ lands pc t → HasAt p pc (JumpZero t ∷ []) → ((v : ℤ) (s : Operands) → Runs (moves p) n (standing (pc + 1) s w) (Leaves turn calm q) (x v s)) → ((v : ℤ) (s : Operands) → Runs (moves p) n (standing to s w) (Leaves turn calm q) (y v s)) → Runs (moves p) n (running frames rs pc (numbers ++ vars w) w) (Leaves turn calm q) (top_of numbers rs w (λ v s. chosen (is_zero v) (x v s) (y v s)))
-  branching turn calm n pc to q t [] rs w x y e has h k = ends_here (moves p) n _ (Leaves turn calm q) Lost w tt
-  branching turn calm n pc to q t (v ∷ numbers) rs w x y e has h k =
+  -- by the number on top a run goes on behind the test, one step later, or elsewhere
+  testing : (turn : Turn) (calm : Bool) (n pc to q : ℕ) (t : Target) (numbers : List ℤ) (rs : List ℕ) (w : World) (x y : ℤ → Operands → Outcome Way) → to ≡ lands pc t → HasAt p pc (JumpZero t ∷ []) → ((v : ℤ) (s : Operands) → Runs (moves p) n (standing (pc + 1) s w) (Leaves turn calm q) (x v s)) → ((v : ℤ) (s : Operands) → Runs (moves p) n (standing to s w) (Leaves turn calm q) (y v s)) → Runs (moves p) (suc n) (running frames rs pc (numbers ++ vars w) w) (Leaves turn calm q) (top_of numbers rs w (λ v s. chosen (is_zero v) (x v s) (y v s)))
+  testing turn calm n pc to q t [] rs w x y e has h k = ends_here (moves p) (suc n) _ (Leaves turn calm q) Lost w tt
+  testing turn calm n pc to q t (v ∷ numbers) rs w x y e has h k =
       let s : Operands = record { numbers = numbers; names = rs } in
       let st = state pc (push v s) w in
       let next = recount (chosen (is_zero v) (Goes (state (pc + 1) s w) []) (Goes (state (lands pc t) s w) [])) in
-      leads_runs (moves p) n (standing pc (push v s) w) (follow next w.input w.trace) (Leaves turn calm q) (chosen (is_zero v) (x v s) (y v s)) (leads_step (moves p) st w.input w.trace next (ap recount (has.0 frames (v ∷ (numbers ++ vars w)) (held_of rs w))))
+      let one = leads_step (moves p) st w.input w.trace next (ap recount (has.0 frames (v ∷ (numbers ++ vars w)) (held_of rs w))) in
+      later_runs (moves p) n (standing pc (push v s) w) (follow next w.input w.trace) (Leaves turn calm q) (chosen (is_zero v) (x v s) (y v s)) one (let steps : one.steps ≡ 1 = refl in omega (arith, steps))
       (by_zero turn calm n (is_zero v) (pc + 1) (lands pc t) q s w (x v s) (y v s) (h v s) (subst (λ m. Runs (moves p) n (standing m s w) (Leaves turn calm q) (y v s)) e (k v s)))
+
+  -- the same, where the step isn't counted
+  branching : (turn : Turn) (calm : Bool) (n pc to q : ℕ) (t : Target) (numbers : List ℤ) (rs : List ℕ) (w : World) (x y : ℤ → Operands → Outcome Way) → to ≡ lands pc t → HasAt p pc (JumpZero t ∷ []) → ((v : ℤ) (s : Operands) → Runs (moves p) n (standing (pc + 1) s w) (Leaves turn calm q) (x v s)) → ((v : ℤ) (s : Operands) → Runs (moves p) n (standing to s w) (Leaves turn calm q) (y v s)) → Runs (moves p) n (running frames rs pc (numbers ++ vars w) w) (Leaves turn calm q) (top_of numbers rs w (λ v s. chosen (is_zero v) (x v s) (y v s)))
+  branching turn calm n pc to q t numbers rs w x y e has h k =
+      fewer_runs (moves p) n (suc n) (running frames rs pc (numbers ++ vars w) w) (Leaves turn calm q)
+      (top_of numbers rs w (λ v s. chosen (is_zero v) (x v s) (y v s))) (omega arith)
+      (testing turn calm n pc to q t numbers rs w x y e has h k)
 
   -- one part behind another
   then_way : (turn : Turn) (calm : Bool) (n pc q : ℕ) (from : Reached State) (x : Outcome Way) (k : Operands → World → Outcome Way) → Runs (moves p) n from (Leaves turn calm pc) x → ((s : Operands) (w : World) → Good calm w → Runs (moves p) n (standing pc s w) (Leaves turn calm q) (k s w)) → Runs (moves p) n from (Leaves turn calm q) (and_then x k)
@@ -777,10 +756,7 @@ module _ (p : Program) (frames : List Frame) (bound : ℕ) (R : resolved.Program
     where
       by : (way : Way) (w : World) (to : Reached State) → Leaves inner calm pc way w to → Goes_on turn true to q (only_on k way w)
       by (On s) w to m = subst (λ r. Goes_on turn true r q (k s w)) (sym m.0) (next s w m.1)
-      by (Out exit s) w to m = ends_here (moves p) bound to (Leaves turn true q) Lost w tt
-      by (Quits s) w to m = ends_here (moves p) bound to (Leaves turn true q) Lost w tt
-      by (Turns s) w to m = ends_here (moves p) bound to (Leaves turn true q) Lost w tt
-      by Lost w to m = ends_here (moves p) bound to (Leaves turn true q) Lost w tt
+      by _ w to m = ends_here (moves p) bound to (Leaves turn true q) Lost w tt
 
   -- the end of a block at another place
   ends_at : (turn : Turn) (calm : Bool) (pc q : ℕ) (from : Reached State) (o : Outcome Way) → pc ≡ q → Goes_on turn calm from pc o → Goes_on turn calm from q o
@@ -788,35 +764,16 @@ module _ (p : Program) (frames : List Frame) (bound : ℕ) (R : resolved.Program
 
   -- a jump behind a block
   jumps_on : (turn : Turn) (calm : Bool) (pc q : ℕ) (t : Target) (from : Reached State) (o : Outcome Way) → HasAt p pc (Jump t ∷ []) → lands pc t ≡ q → Goes_on turn calm from pc o → Goes_on turn calm from q o
-  jumps_on turn calm pc q t from o has e h = better_runs_by h
+  jumps_on turn calm pc q t from o has e h = subst (λ x. Goes_on turn calm from q x) (on_again o)
+      (then_way turn calm bound pc q from o (λ s w. Done (On s) w) h (λ s w g.
+      leads_runs (moves p) bound (standing pc s w) (standing (lands pc t) s w) (Leaves turn calm q) (Done (On s) w) (moving pc t s w has)
+      (ends_here (moves p) bound (standing (lands pc t) s w) (Leaves turn calm q) (On s) w (ap (λ n. standing n s w) e, g))))
     where
-      by : (way : Way) (w : World) (to : Reached State) → Leaves turn calm pc way w to → Goes_on turn calm to q (Done way w)
-      by (On s) w to m = subst (λ r. Goes_on turn calm r q (Done (On s) w)) (sym m.0) (leads_runs (moves p) bound (standing pc s w) (standing (lands pc t) s w) (Leaves turn calm q) (Done (On s) w) (moving pc t s w has) (ends_here (moves p) bound (standing (lands pc t) s w) (Leaves turn calm q) (On s) w (ap (λ n. standing n s w) e, m.1)))
-      by (Out exit s) w to m = ends_here (moves p) bound to (Leaves turn calm q) (Out exit s) w m
-      by (Quits s) w to m = ends_here (moves p) bound to (Leaves turn calm q) (Quits s) w m
-      by (Turns s) w to m = ends_here (moves p) bound to (Leaves turn calm q) (Turns s) w m
-      by Lost w to m = ends_here (moves p) bound to (Leaves turn calm q) Lost w tt
-
-      done_again : (o : Outcome Way) → then_do o (λ way w. Done way w) ≡ o
-      done_again (Done way w) = refl
-      done_again (Faulted f w) = refl
-      done_again (Cut w) = refl
-
-      better_runs_by : Goes_on turn calm from pc o → Goes_on turn calm from q o
-      better_runs_by h = subst (λ x. Goes_on turn calm from q x) (done_again o) (then_runs (moves p) bound from (Leaves turn calm pc) (Leaves turn calm q) o (λ way w. Done way w) h by)
+      on_again : (x : Outcome Way) → and_then x (λ s w. Done (On s) w) ≡ x
+      on_again (Done (On s) w) = refl
+      on_again _ = refl
 
   -- ---- loops
-
-  -- what a step back into a loop, or its test, does: by the number on top a run goes on behind the test, one step later, or elsewhere
-  testing : (turn : Turn) (calm : Bool) (n pc to q : ℕ) (t : Target) (numbers : List ℤ) (rs : List ℕ) (w : World) (x y : ℤ → Operands → Outcome Way) → to ≡ lands pc t → HasAt p pc (JumpZero t ∷ []) → ((v : ℤ) (s : Operands) → Runs (moves p) n (standing (pc + 1) s w) (Leaves turn calm q) (x v s)) → ((v : ℤ) (s : Operands) → Runs (moves p) n (standing to s w) (Leaves turn calm q) (y v s)) → Runs (moves p) (suc n) (running frames rs pc (numbers ++ vars w) w) (Leaves turn calm q) (top_of numbers rs w (λ v s. chosen (is_zero v) (x v s) (y v s)))
-  testing turn calm n pc to q t [] rs w x y e has h k = ends_here (moves p) (suc n) _ (Leaves turn calm q) Lost w tt
-  testing turn calm n pc to q t (v ∷ numbers) rs w x y e has h k =
-      let s : Operands = record { numbers = numbers; names = rs } in
-      let st = state pc (push v s) w in
-      let next = recount (chosen (is_zero v) (Goes (state (pc + 1) s w) []) (Goes (state (lands pc t) s w) [])) in
-      let one = leads_step (moves p) st w.input w.trace next (ap recount (has.0 frames (v ∷ (numbers ++ vars w)) (held_of rs w))) in
-      later_runs (moves p) n (standing pc (push v s) w) (follow next w.input w.trace) (Leaves turn calm q) (chosen (is_zero v) (x v s) (y v s)) one (let steps : one.steps ≡ 1 = refl in omega (arith, steps))
-      (by_zero turn calm n (is_zero v) (pc + 1) (lands pc t) q s w (x v s) (y v s) (h v s) (subst (λ m. Runs (moves p) n (standing m s w) (Leaves turn calm q) (y v s)) e (k v s)))
 
   -- a loop in the body of another one, or of none: where its turn begins, where its test and its body do, and where it ends
   module _ (turn inner : Turn) (calm : Bool) (first second q end q1 : ℕ) (out back : Target) (step test body : Operands → World → Outcome Way)
@@ -827,9 +784,6 @@ module _ (p : Program) (frames : List Frame) (bound : ℕ) (R : resolved.Program
       (runs : (s : Operands) (w : World) → Good calm w → Goes_on inner calm (standing (q + 1) s w) q1 (body s w)) where
     abbrev From : ℕ → ℕ → (Operands → World → Outcome Way) → Type 0
     From n place go = (s : Operands) (w : World) → Good calm w → Runs (moves p) n (standing place s w) (Leaves turn calm end) (go s w)
-
-    once : (n : ℕ) (go : Operands → World → Outcome Way) → From n (q + 1) go → From n q (on_test go)
-    once n go h s w g = branching turn calm n q end end out s.numbers s.names w (λ v rest. go rest w) (λ v rest. Done (On rest) w) leads jumps (λ v rest. h rest w g) (λ v rest. ends_here (moves p) n (standing end rest w) (Leaves turn calm end) (On rest) w (refl, g))
 
     later : (n : ℕ) (go : Operands → World → Outcome Way) → From n (q + 1) go → From (suc n) q (on_test go)
     later n go h s w g = testing turn calm n q end end out s.numbers s.names w (λ v rest. go rest w) (λ v rest. Done (On rest) w) leads jumps (λ v rest. h rest w g) (λ v rest. ends_here (moves p) n (standing end rest w) (Leaves turn calm end) (On rest) w (refl, g))
@@ -861,7 +815,10 @@ module _ (p : Program) (frames : List Frame) (bound : ℕ) (R : resolved.Program
         (turned (suc n) go (from_step (suc n) le again (later n again (loop_runs n (omega (arith, le))))))
 
     all_turns : From bound q (on_test (block_turns bound step test body))
-    all_turns = once bound (block_turns bound step test body) (loop_runs bound (omega arith))
+    all_turns s w g =
+        let go = block_turns bound step test body in
+        fewer_runs (moves p) bound (suc bound) (standing q s w) (Leaves turn calm end) (on_test go s w) (omega arith)
+        (later bound go (loop_runs bound (omega arith)) s w g)
 
     entering : (entry : Entry) (pc n m : ℕ) → first ≡ pc + enter_size entry → second ≡ first + n → q ≡ second + m → HasAt p pc (enter_orders entry n m) → From bound pc (loop_entered entry bound step test body)
     entering AtStep pc n m e f h has s w g =
@@ -970,8 +927,7 @@ module _ (p : Program) (frames : List Frame) (bound : ℕ) (R : resolved.Program
 
   entered_size : (entry : Entry) (n m : ℕ) → length (enter_orders entry n m) ≡ enter_size entry
   entered_size AtStep n m = refl
-  entered_size AtTest n m = refl
-  entered_size AtBody n m = refl
+  entered_size _ n m = refl
 
   -- one of two blocks
   either_runs : (turn : Turn) (calm : Bool) (pc : ℕ) (from : Reached State) (t : Bool) (xs ys : List Order) (x y : Outcome Way) (m n : Bool) → (calm ≡ true → (if t then m else n) ≡ true) → HasAt p pc (if t then xs else ys)

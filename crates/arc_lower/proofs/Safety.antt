@@ -1,5 +1,5 @@
 -- No action lacks what it takes, whatever is read, and the counts are right: what runs and what waits have as many numbers, references and places as the heights of a program say.
-use Rattle.std.proofs.Common.{◌≡◌, ◌⊎◌, inl, inr, ℕ, zero, suc, ◌+◌, ◌-◌, ◌<◌, ◌≤◌, ℤ, pos, Bool, true, false, ◌&&◌, nat_eq, if◌then◌else◌, List, [], ◌∷◌, ◌++◌, length, take, drop, is_some, Option, Some, None, ⊎_elim, refl, sym, ap, ◌∙◌, subst, arith, append_assoc, length-append, slice_get, slice_set, slice_index_or}
+use Rattle.std.proofs.Common.{◌≡◌, ◌⊎◌, inl, inr, ℕ, zero, suc, ◌+◌, ◌-◌, ◌<◌, ◌≤◌, ℤ, pos, Bool, true, false, ◌&&◌, nat_eq, if◌then◌else◌, List, [], ◌∷◌, ◌++◌, length, drop, is_some, Option, Some, None, ⊎_elim, refl, sym, ap, ◌∙◌, subst, arith, append_assoc, length-append, slice_get, slice_set, slice_index_or}
 use Rattle.std.proofs.Math.Seq.{take-append_seam, drop-append_seam}
 use Rattle.std.proofs.lemmas.Bool.{and_parts, eqb-true}
 use Rattle.std.proofs.lemmas.List.{length-set}
@@ -16,7 +16,7 @@ use Rattle.arc_spec.specs.Number.{converted, applied, combined, counted, low_byt
 use Rattle.arc_spec.specs.Objects.{Object, Dying, Emptying, Gone, object_at, with_object, with_fields, with_strong_fields, in_phase, is_live, is_emptying, fields_of}
 use Rattle.arc_spec.specs.Resolved as resolved
 use Rattle.arc_spec.specs.Holding.{Held, nothing_held, Frame, Calling, Ending, Clearing, Waiter, Counted, holders, is_there, stacked, with_strong_globals, with_strong_field, on_place, turned_in, with_temporaries, with_variables, with_names, with_things, with_globals, lowered, raised, named, taken_by, gone_in, on_named, on_reference, on_field, declares, lets_go, resumed, all_nil, on_left, on_last, on_result, given_back, makes, with_field}
-use Rattle.arc_spec.specs.Stepping.{Next, Goes, Asks, Ends, Faults, Stuck, Along, Safe, Sound, on_top, on_found, only_if}
+use Rattle.arc_spec.specs.Stepping.{Next, Goes, Asks, Faults, Stuck, Along, Safe, Sound, on_top, on_found, only_if}
 use Rattle.arc_ir.specs.Acting.{Action, Program, State, lands, start, step, entry, keeps, goes, or_fault, has_level, enters, answers, taken, sends, allocates, difference, operates, begins_end, releases, runs_dealloc, clears, after_deallocs, clears_next, ends_class, end_goes_on, leaves, executes}
 use Rattle.arc_code.specs.declared.effect.Height.{Height}
 use Rattle.arc_code.specs.declared.instr.Op.{Op}
@@ -32,11 +32,12 @@ use Rattle.arc_lower.proofs.CountsThere.{IsThere, AllThere, object_goes, named_g
 use Rattle.arc_lower.proofs.CountsKept.{Sane, Drops, nothing_sane, sane_moved, sane_names, sane_globals, sane_start, sane_entered, sane_take, sane_declare, variable_there, waiting_there, stacked_there, globals_there, fields_there, name_there, sane_store, sane_store_global, sane_store_field, sane_drop, sane_settle, drops_there, sane_nil, sane_last, sane_other, sane_make, sane_field, sane_empty, sane_gone}
 use Rattle.arc_lower.proofs.CountsHeld.{all_holders, live_there, there_fields}
 use Rattle.arc_lower.proofs.CountsPlaces.{holders_head, holders_nil, holders_append}
-use Rattle.arc_lower.proofs.Recounting.{at}
+use Rattle.arc_lower.proofs.Recounting.{at, resumed_as}
 use Rattle.arc_lower.proofs.Doing.{bare, does, acts_does}
 use Rattle.arc_lower.proofs.Standing.{no_nil, ending, AllDying, IsDying, NilBut, Alive, nil_alive, ends_there, ending_alive, IsHeld, last_held, held_there, held_within, made_dying, changed_dying, IsApart, live_apart, apart_dying, stored_far, fields_far, one_nil, no_field, nil_named, all_in_order}
 use Rattle.arc_lower.proofs.Typing.{Reaches, IsCalled}
-use Rattle.arc_lower.proofs.Stepping.{some_same, Clears, opens_clears, Stands, Quiet, Free, free_at, Onward, Steps}
+use Rattle.arc_lower.proofs.Stacking.{behind_one}
+use Rattle.arc_lower.proofs.Stepping.{some_same, seam, Clears, opens_clears, Stands, Quiet, Free, free_at, Onward, Steps}
 use Rattle.arc_lower.proofs.Stepping as stepping
 use Rattle.arc_lower.proofs.Programs.{all, table, methods_go, dealloc_goes, start_goes, end_is, steps_at}
 use Rattle.arc_lower.proofs.HeightsFit.{entry_goes}
@@ -73,19 +74,17 @@ NilLess zero (r ∷ q ∷ rest) = (r ≡ 0) × NilLess zero (q ∷ rest)
 NilLess (suc n) (r ∷ q ∷ rest) = NilLess n (q ∷ rest)
 
 nil_less_end : (variables : List ℕ) (n : ℕ) → length variables ≤ n + 1 → NilLess n variables
-nil_less_end [] n le = tt
-nil_less_end (r ∷ []) n le = tt
 nil_less_end (r ∷ q ∷ rest) zero le = absurd (omega (arith, le))
 nil_less_end (r ∷ q ∷ rest) (suc n) le = nil_less_end (q ∷ rest) n (omega (arith, le))
+nil_less_end _ n le = tt
 
 nil_less_set : (n : ℕ) (variables : List ℕ) → NilLess (suc n) variables → NilLess n (slice_set variables n 0)
-nil_less_set zero [] h = tt
-nil_less_set (suc n) [] h = tt
 nil_less_set zero (r ∷ []) h = tt
 nil_less_set (suc n) (r ∷ []) h = tt
 nil_less_set zero (r ∷ q ∷ rest) h = (refl, h)
 nil_less_set (suc zero) (r ∷ q ∷ rest) h = nil_less_set zero (q ∷ rest) h
 nil_less_set (suc (suc n)) (r ∷ q ∷ rest) h = nil_less_set (suc n) (q ∷ rest) h
+nil_less_set _ _ h = tt
 
 -- none behind the first n names an object, but for the place of an object that is given
 abbrev Shut : Gives → ℕ → List ℕ → Type 0
@@ -176,11 +175,6 @@ parted (suc n) (r ∷ own) le =
     let deep = parted n own (omega (arith, le)) in
     record { first = r ∷ deep.first; rest = deep.rest; is = ap (λ l. r ∷ l) deep.is; many = ap suc deep.many; left = omega (arith, deep.left) }
 
-two_of : (own : List ℕ) (n : ℕ) → length own ≡ suc (suc n) → (r : ℕ) × (q : ℕ) × (rest : List ℕ) × (own ≡ r ∷ q ∷ rest)
-two_of [] n e = absurd (omega (arith, e))
-two_of (r ∷ []) n e = absurd (omega (arith, e))
-two_of (r ∷ q ∷ rest) n e = (r, q, rest, refl)
-
 -- an object was made, which the last reference names and the last temporary holds; the others hold the other references
 record Made (own temporaries waiting : List ℕ) : Type 0 where
   made : ℕ
@@ -211,9 +205,8 @@ none_of (r ∷ own) none = absurd (omega (arith, none))
 along_map : {S : Type 0} (P Q : S → Type 0) → ((s : S) → P s → Q s) → (next : Next S) → Along P next → Along Q next
 along_map P Q f (Goes s events) p = f s p
 along_map P Q f (Asks go) p = λ answer. f (go answer) (p answer)
-along_map P Q f (Ends n) p = tt
-along_map P Q f (Faults e) p = tt
 along_map P Q f Stuck p = p
+along_map P Q f _ p = tt
 
 executes_at : (p : Program) (xs : List Action) (pc : ℕ) (x : Order) (s : State) → slice_get (orders xs) pc ≡ Some x → executes p (slice_get xs pc) s ≡ does p x s
 executes_at p [] pc x s e = cc
@@ -238,25 +231,8 @@ pub record Splits (w : Waiter) (places : List ℕ) : Type 0 where
 abbrev again : {places : List ℕ} (w : Waiter) → Splits w places → Held → Held
 again w s h = record h { temporaries = s.temporaries; variables = s.variables; self = w.self; places = s.waiting }
 
-behind_first : (w : Waiter) (h : Held) (s : Splits w h.places) → drop w.temporaries h.places ≡ s.variables ++ s.waiting
-behind_first w h s =
-    ap (λ n. drop n h.places) s.first ∙ ap (drop (length s.temporaries)) (s.is ∙ append_assoc s.temporaries s.variables s.waiting)
-    ∙ drop-append_seam s.temporaries (s.variables ++ s.waiting)
-
 resumes_again : (w : Waiter) (h : Held) (s : Splits w h.places) → resumed w h ≡ again w s h
-resumes_again w h s =
-    let first : take w.temporaries h.places ≡ s.temporaries =
-    ap (λ n. take n h.places) s.first ∙ ap (take (length s.temporaries)) (s.is ∙ append_assoc s.temporaries s.variables s.waiting) ∙ take-append_seam s.temporaries (s.variables ++ s.waiting)
-    in
-    let second : take w.variables (drop w.temporaries h.places) ≡ s.variables =
-    ap (λ n. take n (drop w.temporaries h.places)) s.next ∙ ap (take (length s.variables)) (behind_first w h s) ∙ take-append_seam s.variables s.waiting
-    in
-    let third : drop w.variables (drop w.temporaries h.places) ≡ s.waiting =
-    ap (λ n. drop n (drop w.temporaries h.places)) s.next ∙ ap (drop (length s.variables)) (behind_first w h s) ∙ drop-append_seam s.variables s.waiting
-    in
-    ap (λ l. record h { temporaries = l; variables = take w.variables (drop w.temporaries h.places); self = w.self; places = drop w.variables (drop w.temporaries h.places) }) first
-    ∙ ap (λ l. record h { temporaries = s.temporaries; variables = l; self = w.self; places = drop w.variables (drop w.temporaries h.places) }) second
-    ∙ ap (λ l. record h { temporaries = s.temporaries; variables = s.variables; self = w.self; places = l }) third
+resumes_again w h s = resumed_as w h s.temporaries s.variables s.waiting s.is s.first s.next
 
 -- the function that is left has no temporary, and its variables are nil
 again_sane : {classes : List Class} (w : Waiter) (h : Held) (s : Splits w h.places) → h.temporaries ≡ [] → AllNil h.variables → Sane classes h → Sane classes (again w s h)
@@ -385,19 +361,7 @@ module _ (p : Program) (R : resolved.Program) where
   named_leads r held next there h = subst Leads (sym (named_goes r held next there)) h
 
   receiver_goes : (objects : ℕ) (given rest : List ℕ) (r : ℕ) (go : ℕ → List ℕ → Next State) → length given ≡ objects → instructions.on_receiver objects (given ++ r ∷ rest) go ≡ go r (given ++ rest)
-  receiver_goes objects given rest r go some =
-      ap (λ n. instructions.on_receiver n (given ++ r ∷ rest) go) (sym some)
-      ∙ ap (λ found. on_found found (λ q. go q (take (length given) (given ++ r ∷ rest) ++ drop (suc (length given)) (given ++ r ∷ rest)))) (receiver_found given rest r)
-      ∙ ap (λ l. go r (l ++ drop (suc (length given)) (given ++ r ∷ rest))) (take-append_seam given (r ∷ rest))
-      ∙ ap (λ l. go r (given ++ l)) (receiver_rest given rest r)
-    where
-      receiver_found : (xs ys : List ℕ) (q : ℕ) → slice_get (xs ++ q ∷ ys) (length xs) ≡ Some q
-      receiver_found [] ys q = refl
-      receiver_found (x ∷ xs) ys q = receiver_found xs ys q
-
-      receiver_rest : (xs ys : List ℕ) (q : ℕ) → drop (suc (length xs)) (xs ++ q ∷ ys) ≡ ys
-      receiver_rest [] ys q = refl
-      receiver_rest (x ∷ xs) ys q = receiver_rest xs ys q
+  receiver_goes objects given rest r go some = rw (← some) (simp (seam, take-append_seam, behind_one))
 
   taken_leads : (takes : ℕ) (stack : List ℤ) (go : List ℤ → Next State) → takes ≤ length stack → ((rest : List ℤ) → length stack ≡ takes + length rest → Leads (go rest)) → Leads (taken takes stack go)
   taken_leads zero stack go le h = h stack (omega arith)
@@ -421,10 +385,7 @@ module _ (p : Program) (R : resolved.Program) where
 
   left_leads : (temporaries : List ℕ) (held : Held) (go : Held → Next State) → temporaries ≡ [] → AllNil held.variables → Leads (go (with_variables held [])) → Leads (on_left temporaries held go)
   left_leads [] held go none nil h = subst (λ b. Leads (only_if b (go (with_variables held [])))) (sym (nil_seen held.variables nil)) h
-  left_leads (r ∷ others) held go none nil h = absurd (no_list none)
-    where
-      no_list : r ∷ others ≡ [] → ⊥
-      no_list e = cc
+  left_leads (r ∷ others) held go none nil h = cc
 
   -- a place that named this is dropped
   lets_go_leads : (r : ℕ) (held : Held) (stays : Held → Next State) (ends : (o class : ℕ) → Held → Next State) → Drops p.classes r held → (Sane p.classes (lowered r held) → Leads (stays (lowered r held)))
@@ -445,10 +406,7 @@ module _ (p : Program) (R : resolved.Program) where
 
   last_leads : (r : ℕ) (temporaries : List ℕ) (held : Held) (go : ℕ → Held → Next State) → temporaries ≡ [] → LastIs r held.variables → Leads (go r (with_variables held [])) → Leads (on_result temporaries held go)
   last_leads r [] held go none last h = subst Leads (sym (last_goes r held.variables (λ q. go q (with_variables held [])) last)) h
-  last_leads r (q ∷ others) held go none last h = absurd (no_list none)
-    where
-      no_list : q ∷ others ≡ [] → ⊥
-      no_list e = cc
+  last_leads r (q ∷ others) held go none last h = cc
 
   -- a function is left that gives a number
   leaves_lead : (frames : List Frame) (below : ℕ) (deeper : List ℕ) (pc : ℕ) (v : ℤ) (stack rest : List ℤ) (held : Held) → Waits gives.Number frames below deeper held.places → Alive frames held.places held.self → length stack ≡ suc (length rest) → below ≡ length rest → held.names ≡ deeper → held.temporaries ≡ [] → AllNil held.variables → AllDying held.objects (ending frames) → Sane p.classes held → Runs frames
@@ -470,7 +428,6 @@ module _ (p : Program) (R : resolved.Program) where
   -- one that gives an object, which was called
   hands_lead : (frames : List Frame) (below : ℕ) (deeper : List ℕ) (pc r : ℕ) (stack rest : List ℤ) (held : Held) → Waits gives.Object frames below deeper held.places → below ≡ length rest → held.names ≡ deeper → held.temporaries ≡ [] → LastIs r held.variables → AllDying held.objects (ending frames) → Sane p.classes held
       → Leads (instructions.hands_over (bare p) (at frames pc stack held) frames r rest (with_variables held []))
-  hands_lead [] below deeper pc r stack rest held waits e f none last dying sane = absurd waits
   hands_lead (Calling back w ∷ others) below deeper pc r stack rest held waits e f none last dying sane =
       let h = with_variables held [] in
       let mine = waits.0 in
@@ -478,8 +435,7 @@ module _ (p : Program) (R : resolved.Program) where
       let resumes = subst (λ l. Resumes mine back w.self others (length rest) waits.1 (r ∷ l) waits.2 (r ∷ s.temporaries) s.variables s.waiting) (sym f) (subst (λ n. Resumes mine back w.self others n waits.1 (r ∷ deeper) waits.2 (r ∷ s.temporaries) s.variables s.waiting) e (waits.4 r)) in
       subst (λ h1. Good (at others back rest (given_back r h1))) (sym (resumes_again w h s))
       (inl (record { mine = mine; below = waits.1; deeper = waits.2; resumes = resumes; waits = waits.5 }), dying, given_sane w held s r none last sane)
-  hands_lead (Ending back w o next left ∷ others) below deeper pc r stack rest held waits e f none last dying sane = absurd waits
-  hands_lead (Clearing back w o fields ∷ others) below deeper pc r stack rest held waits e f none last dying sane = absurd waits
+  hands_lead _ below deeper pc r stack rest held waits e f none last dying sane = absurd waits
 
   -- ---- ends that begin
 
@@ -1131,8 +1087,6 @@ module _ (p : Program) (R : resolved.Program) where
       class_leads i (Some d) left e = dealloc_leads d.dealloc d.superclass left (λ to f. dealloc_goes R i d to (ap (λ cs. slice_get cs i) (sym classes) ∙ e) f)
 
     goes_on_leads : (frames : List Frame) → IsEnding frames → Alive frames held.places held.self → Waits gives.Number frames (length stack) held.names held.places → AllDying held.objects (ending frames) → Leads (end_goes_on p (at frames p.end_step stack held) frames)
-    goes_on_leads [] is alive waits dying = absurd is
-    goes_on_leads (Calling back w ∷ others) is alive waits dying = absurd is
     goes_on_leads (Ending back w o None left ∷ others) is alive waits dying = after_lead back w o others (Ending back w o None left ∷ others) dying.0 dying.1 alive waits
     goes_on_leads (Ending back w o (Some c) zero ∷ others) is alive waits dying = after_lead back w o others (Ending back w o (Some c) zero ∷ others) dying.0 dying.1 alive waits
     goes_on_leads (Ending back w o (Some c) (suc left) ∷ others) is alive waits dying = class_leads back w o others (λ n l. alive) waits (λ n l. dying) (Ending back w o (Some c) (suc left) ∷ others) c (slice_get p.classes c) left refl
@@ -1140,6 +1094,7 @@ module _ (p : Program) (R : resolved.Program) where
         let ob = dying.0.0 in
         ends_lead (nat_eq (held.counts o) 0) back w o others (Clearing back w o [] ∷ others) ob dying.0.1 (λ k. ap (holders (suc k)) (there_fields ob (ap is_there dying.0.2.0)) ∙ nil_named ob.strong dying.0.2.1 k) dying.1 refl waits
     goes_on_leads (Clearing back w o (index ∷ fields) ∷ others) is alive waits dying = next_lead back w o index fields others dying.0 dying.1 alive waits
+    goes_on_leads _ is alive waits dying = absurd is
 
   -- ---- the program
 

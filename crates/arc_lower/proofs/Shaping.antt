@@ -7,7 +7,7 @@ use Rattle.arc_spec.specs.declared.class.Gives.TheVariants as gives
 use Rattle.arc_spec.specs.declared.location.Location.TheVariants.{Local}
 use Rattle.arc_spec.specs.Classes.{class_at, lookup, new_selector}
 use Rattle.arc_spec.specs.Number.{converted, applied, combined, is_zero}
-use Rattle.arc_spec.specs.World.{World, Outcome, Done, Faulted, Cut, Finished, then_do, Given, prints, next_number, has_read, named_at, takes}
+use Rattle.arc_spec.specs.World.{World, Outcome, Done, Cut, Finished, then_do, Given, prints, next_number, has_read, named_at, takes}
 use Rattle.arc_spec.specs.World as world
 use Rattle.arc_spec.specs.Meaning as meaning
 use Rattle.arc_spec.specs.Meaning.{Deeper, held_at, holds, chosen, sent, made, made_new, result_place, field_read, field_set, object_field_read, object_field_set, difference, formatted, byte_count, or_fault, all_dropped, assigned, variables_dropped}
@@ -69,21 +69,16 @@ last_of numbers (r ∷ rest) w go = go r (record { numbers = numbers; names = re
 abbrev pub on_name : Operands → World → (ℕ → Operands → Outcome Way) → Outcome Way
 on_name s w go = last_of s.numbers s.names w go
 
--- so many values, the first one deepest, and the other operands
-abbrev pub values_of : ℕ → (given numbers : List ℤ) → (names : List ℕ) → World → (List ℤ → Operands → Outcome Way) → Outcome Way
-values_of zero given numbers names w go = go given (record { numbers = numbers; names = names })
-values_of (suc n) given [] names w go = Done Lost w
-values_of (suc n) given (v ∷ numbers) names w go = values_of n (v ∷ given) numbers names w go
-
--- so many references, the same
-abbrev pub objects_of : ℕ → (given names : List ℕ) → (numbers : List ℤ) → World → (List ℕ → Operands → Outcome Way) → Outcome Way
-objects_of zero given names numbers w go = go given (record { numbers = numbers; names = names })
-objects_of (suc m) given [] numbers w go = Done Lost w
-objects_of (suc m) given (r ∷ names) numbers w go = objects_of m (r ∷ given) names numbers w go
+-- so many of a list, the first one deepest, and the others
+abbrev pub taken_of : {A : Type 0} → ℕ → (given list : List A) → World → (List A → List A → Outcome Way) → Outcome Way
+taken_of zero given list w go = go given list
+taken_of (suc n) given [] w go = Done Lost w
+taken_of (suc n) given (a ∷ list) w go = taken_of n (a ∷ given) list w go
 
 -- so many numbers and so many references
 abbrev pub on_given : (n m : ℕ) → Operands → World → (Given → Operands → Outcome Way) → Outcome Way
-on_given n m s w go = values_of n [] s.numbers s.names w (λ values rest. objects_of m [] rest.names rest.numbers w (λ objects others. go (record { numbers = values; objects = objects }) others))
+on_given n m s w go = taken_of n [] s.numbers w (λ values numbers. taken_of m [] s.names w (λ objects names.
+    go (record { numbers = values; objects = objects }) (record { numbers = numbers; names = names })))
 
 abbrev pub pushes : Operands → Outcome ℤ → Outcome Way
 pushes s o = left_by (λ v. On (push v s)) o
@@ -188,12 +183,16 @@ block D bound place true (Full a b) s w = then_do (and_then (block D bound (resu
 block D bound place false (Full a b) s w = Done Lost w
 block D bound place m (Leave exit) s w = Done (Out exit s) w
 
+-- one part after two others
+pub then_twice : {A B C : Type 0} (o : Outcome A) (f : A → World → Outcome B) (g : B → World → Outcome C) → then_do o (λ a w. then_do (f a w) g) ≡ then_do (then_do o f) g
+then_twice (Done a w) f g = refl
+then_twice _ f g = refl
+
 -- ---- one block behind another
 
 pub after : {A B : Type 0} (exit : A → Operands) (end : B → Way) (x : Outcome Way) (o : Outcome A) (k : Operands → World → Outcome Way) (go : A → World → Outcome B) → x ≡ left_by (λ a. On (exit a)) o → ((a : A) (w : World) → k (exit a) w ≡ left_by end (go a w)) → and_then x k ≡ left_by end (then_do o go)
 after exit end x (Done a w) k go e h = ap (λ y. and_then y k) e ∙ h a w
-after exit end x (Faulted f w) k go e h = ap (λ y. and_then y k) e
-after exit end x (Cut w) k go e h = ap (λ y. and_then y k) e
+after exit end x _ k go e h = ap (λ y. and_then y k) e
 
 pub chosen_by : {B : Type 0} (end : B → Way) (b : Bool) (x y : Outcome Way) (m n : Outcome B) → x ≡ left_by end m → y ≡ left_by end n → chosen b x y ≡ left_by end (chosen b m n)
 chosen_by end false x y m n d e = d
@@ -205,46 +204,33 @@ same_depth n x y = ap (λ b. if b then x else y) (eq-eqb n n refl)
 
 -- ---- values
 
--- the first of the values is taken last
-values_more : (n : ℕ) (given numbers : List ℤ) (names : List ℕ) (w : World) (go : List ℤ → Operands → Outcome Way) → values_of (suc n) given numbers names w go ≡ values_of n given numbers names w (λ g r. top_of r.numbers r.names w (λ v rest. go (v ∷ g) rest))
-values_more zero given [] names w go = refl
-values_more zero given (v ∷ numbers) names w go = refl
-values_more (suc n) given [] names w go = refl
-values_more (suc n) given (v ∷ numbers) names w go = values_more n (v ∷ given) numbers names w go
+-- the first one is taken last
+taken_more : {A : Type 0} (n : ℕ) (given list : List A) (w : World) (go : List A → List A → Outcome Way)
+    → taken_of (suc n) given list w go ≡ taken_of n given list w (λ g l. taken_of 1 g l w go)
+taken_more (suc n) given (a ∷ list) w go = taken_more n (a ∷ given) list w go
+taken_more _ given _ w go = refl
 
-values_onto : (given numbers : List ℤ) (names : List ℕ) (w : World) (go : List ℤ → Operands → Outcome Way) → values_of (length given) [] (onto given numbers) names w go ≡ go given (record { numbers = numbers; names = names })
-values_onto [] numbers names w go = refl
-values_onto (v ∷ given) numbers names w go =
-    values_more (length given) [] (onto given (v ∷ numbers)) names w go
-    ∙ values_onto given (v ∷ numbers) names w (λ g r. top_of r.numbers r.names w (λ u rest. go (u ∷ g) rest))
+taken_onto : {A : Type 0} (given list : List A) (w : World) (go : List A → List A → Outcome Way)
+    → taken_of (length given) [] (onto given list) w go ≡ go given list
+taken_onto [] list w go = refl
+taken_onto (a ∷ given) list w go =
+    taken_more (length given) [] (onto given (a ∷ list)) w go ∙ taken_onto given (a ∷ list) w (λ g l. taken_of 1 g l w go)
 
-objects_more : (m : ℕ) (given names : List ℕ) (numbers : List ℤ) (w : World) (go : List ℕ → Operands → Outcome Way) → objects_of (suc m) given names numbers w go ≡ objects_of m given names numbers w (λ g r. last_of r.numbers r.names w (λ o rest. go (o ∷ g) rest))
-objects_more zero given [] numbers w go = refl
-objects_more zero given (r ∷ names) numbers w go = refl
-objects_more (suc m) given [] numbers w go = refl
-objects_more (suc m) given (r ∷ names) numbers w go = objects_more m (r ∷ given) names numbers w go
-
-objects_onto : (given names : List ℕ) (numbers : List ℤ) (w : World) (go : List ℕ → Operands → Outcome Way) → objects_of (length given) [] (onto given names) numbers w go ≡ go given (record { numbers = numbers; names = names })
-objects_onto [] names numbers w go = refl
-objects_onto (r ∷ given) names numbers w go =
-    objects_more (length given) [] (onto given (r ∷ names)) numbers w go
-    ∙ objects_onto given (r ∷ names) numbers w (λ g q. last_of q.numbers q.names w (λ o rest. go (o ∷ g) rest))
-
-pub on_pushed : (n m : ℕ) (given : Given) (s : Operands) (w : World) (go : Given → Operands → Outcome Way) → length given.numbers ≡ n → length given.objects ≡ m → on_given n m (pushed given s) w go ≡ go given s
+pub on_pushed : (n m : ℕ) (given : Given) (s : Operands) (w : World) (go : Given → Operands → Outcome Way)
+    → length given.numbers ≡ n → length given.objects ≡ m → on_given n m (pushed given s) w go ≡ go given s
 on_pushed n m given s w go e f =
-    let rest : List ℤ → Operands → Outcome Way = λ values q. objects_of m [] q.names q.numbers w (λ objects others. go (record { numbers = values; objects = objects }) others) in
-    ap (λ k. values_of k [] (onto given.numbers s.numbers) (onto given.objects s.names) w rest) (sym e)
-    ∙ values_onto given.numbers s.numbers (onto given.objects s.names) w rest
-    ∙ ap (λ k. objects_of k [] (onto given.objects s.names) s.numbers w (λ objects others. go (record { numbers = given.numbers; objects = objects }) others)) (sym f)
-    ∙ objects_onto given.objects s.names s.numbers w (λ objects others. go (record { numbers = given.numbers; objects = objects }) others)
+    let goes : List ℤ → List ℤ → List ℕ → List ℕ → Outcome Way = λ values numbers objects names.
+    go (record { numbers = values; objects = objects }) (record { numbers = numbers; names = names }) in
+    ap (λ k. on_given k m (pushed given s) w go) (sym e) ∙ ap (λ k. on_given (length given.numbers) k (pushed given s) w go) (sym f)
+    ∙ taken_onto given.numbers s.numbers w
+    (λ values numbers. taken_of (length given.objects) [] (onto given.objects s.names) w (goes values numbers))
+    ∙ taken_onto given.objects s.names w (goes given.numbers s.numbers)
 
 -- what is known of the value where a part is done
 abbrev pub Holds : {A : Type 0} → (A → Type 0) → Outcome A → Type 0
 Holds Good (Done a w) = Good a
-Holds Good (Faulted f w) = Unit {0}
-Holds Good (Cut w) = Unit {0}
+Holds Good _ = Unit {0}
 
 pub after_known : {A B : Type 0} (Good : A → Type 0) (exit : A → Operands) (end : B → Way) (x : Outcome Way) (o : Outcome A) (k : Operands → World → Outcome Way) (go : A → World → Outcome B) → Holds Good o → x ≡ left_by (λ a. On (exit a)) o → ((a : A) (w : World) → Good a → k (exit a) w ≡ left_by end (go a w)) → and_then x k ≡ left_by end (then_do o go)
 after_known Good exit end x (Done a w) k go g e h = ap (λ y. and_then y k) e ∙ h a w g
-after_known Good exit end x (Faulted f w) k go g e h = ap (λ y. and_then y k) e
-after_known Good exit end x (Cut w) k go g e h = ap (λ y. and_then y k) e
+after_known Good exit end x _ k go g e h = ap (λ y. and_then y k) e

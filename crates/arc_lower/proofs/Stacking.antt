@@ -1,5 +1,5 @@
 -- Values that lie on a stack, the first one deepest, and references, the same.
-use Rattle.std.proofs.Common.{◌≡◌, ℕ, zero, suc, ◌+◌, ◌%◌, ◌^◌, ℤ, pos, List, [], ◌∷◌, ◌++◌, length, take, drop, map, Some, refl, sym, ap, ◌∙◌, arith, append_assoc, length-append, slice_get, slice_set}
+use Rattle.std.proofs.Common.{◌^◌, ◌%◌, ◌≡◌, ℕ, zero, suc, ◌+◌, ℤ, pos, List, [], ◌∷◌, ◌++◌, length, take, drop, map, Some, refl, sym, ap, ◌∙◌, arith, append_assoc, length-append, slice_get, slice_set}
 use Rattle.std.proofs.lemmas.List.{append-nil, map-append}
 use Rattle.std.proofs.Math.Seq.{take-append_seam, drop-append_seam}
 use Rattle.std.proofs.Math.Nat.{mod-add-mod, mod-mod}
@@ -40,13 +40,13 @@ set_local [] below i n u e = let h : n + suc i ≡ 0 = e in absurd (omega (arith
 set_local (v ∷ locals) below zero n u e = set_deep locals (v ∷ below) n 0 u (omega (arith, e))
 set_local (v ∷ locals) below (suc i) n u e = set_local locals (v ∷ below) i n u (omega (arith, e))
 
-pub get_below : (operands stack : List ℤ) (n : ℕ) → slice_get (operands ++ stack) (length operands + n) ≡ slice_get stack n
+pub get_below : {A : Type 0} (operands stack : List A) (n : ℕ) → slice_get (operands ++ stack) (length operands + n) ≡ slice_get stack n
 get_below [] stack n = let e : 0 + n ≡ n = omega arith in ap (slice_get stack) e
 get_below (v ∷ operands) stack n =
     let e : length (v ∷ operands) + n ≡ suc (length operands + n) = omega arith in
     ap (slice_get (v ∷ operands ++ stack)) e ∙ get_below operands stack n
 
-pub set_below : (operands stack : List ℤ) (n : ℕ) (u : ℤ) → slice_set (operands ++ stack) (length operands + n) u ≡ operands ++ slice_set stack n u
+pub set_below : {A : Type 0} (operands stack : List A) (n : ℕ) (u : A) → slice_set (operands ++ stack) (length operands + n) u ≡ operands ++ slice_set stack n u
 set_below [] stack n u = let e : 0 + n ≡ n = omega arith in ap (λ m. slice_set stack m u) e
 set_below (v ∷ operands) stack n u =
     let e : length (v ∷ operands) + n ≡ suc (length operands + n) = omega arith in
@@ -107,7 +107,7 @@ drop_onto values rest =
     let f = front_of values in
     ap (drop (length values)) (f.is rest) ∙ ap (λ n. drop n (f.front ++ rest)) (sym f.size) ∙ drop-append_seam f.front rest
 
-behind_one : {A : Type 0} (xs ys : List A) (x : A) → drop (suc (length xs)) (xs ++ x ∷ ys) ≡ ys
+pub behind_one : {A : Type 0} (xs ys : List A) (x : A) → drop (suc (length xs)) (xs ++ x ∷ ys) ≡ ys
 behind_one [] ys x = refl
 behind_one (y ∷ xs) ys x = behind_one xs ys x
 

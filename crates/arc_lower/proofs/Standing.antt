@@ -1,6 +1,7 @@
 -- What a running program keeps: what places name is there, and an object whose end is running stays as it is.
 use Rattle.std.proofs.Common.{◌≡◌, ◌⊎◌, inl, inr, ℕ, zero, suc, ◌+◌, ◌-◌, ◌<◌, ◌≤◌, ℤ, Bool, true, false, List, [], ◌∷◌, ◌++◌, length, Option, Some, None, ⊎_elim, slice_get, slice_set, refl, sym, ap, ◌∙◌, subst, arith}
 use Rattle.std.proofs.lemmas.Bool.{cases_eq, false≢true}
+use Rattle.std.proofs.lemmas.Option.{none-some, slice_get_within}
 use Rattle.arc_spec.specs.Classes.{Class, lesser, numbers_from, order_of_fields, strong_count, strong_counts, ancestry, superclasses, above_class, field_order}
 use Rattle.arc_spec.specs.Objects.{Object, Phase, Dying, Emptying, object_at, in_phase, with_fields, with_strong_fields, is_live, is_emptying}
 use Rattle.arc_spec.specs.Holding.{Frame, Calling, Ending, Clearing, Waiter, holders, is_there}
@@ -104,10 +105,7 @@ made_dying objects x (e ∷ others) d = (made_dies objects x e.object e.fields d
 
 -- an object is changed, which is afterwards as far as before
 changed_dies : (objects : List Object) (k : ℕ) (x : Object) → ((fields : Option (List ℕ)) → IsDying objects (suc k) fields → IsAsFar fields x) → (o : ℕ) (fields : Option (List ℕ)) → IsDying objects o fields → IsDying (slice_set objects k x) o fields
-changed_dies objects k x still zero fields d = absurd (none d.1)
-  where
-    none : None ≡ Some d.0 → ⊥
-    none e = cc
+changed_dies objects k x still zero fields d = absurd (none-some d.0 d.1)
 changed_dies objects k x still (suc j) fields d = ⊎_elim
     (λ same.
     let here : IsDying objects (suc k) fields = subst (λ i. IsDying objects (suc i) fields) same d in
@@ -144,10 +142,7 @@ live_apart objects k ob (o ∷ others) found live d =
     (λ same. live_no_dying ob d.0.0 o.fields (sym found ∙ ap (object_at objects) (sym same) ∙ d.0.1) live d.0.2, live_apart objects k ob others found live d.1)
 
 apart_dies : (objects : List Object) (k : ℕ) (x : Object) (o : ℕ) (fields : Option (List ℕ)) → (o ≡ suc k → ⊥) → IsDying objects o fields → IsDying (slice_set objects k x) o fields
-apart_dies objects k x zero fields ne d = absurd (none d.1)
-  where
-    none : None ≡ Some d.0 → ⊥
-    none e = cc
+apart_dies objects k x zero fields ne d = absurd (none-some d.0 d.1)
 apart_dies objects k x (suc j) fields ne d = (d.0, set_other objects k j x (λ e. ne (ap suc e)) ∙ d.1, d.2)
 
 pub apart_dying : (objects : List Object) (k : ℕ) (x : Object) (all : List End) → IsApart (suc k) all → AllDying objects all → AllDying (slice_set objects k x) all
@@ -156,10 +151,7 @@ apart_dying objects k x (o ∷ others) apart d = (apart_dies objects k x o.objec
 
 -- nil doesn't end
 pub no_nil : (objects : List Object) (fields : Option (List ℕ)) → IsDying objects 0 fields → ⊥
-no_nil objects fields d = none d.1
-  where
-    none : None ≡ Some d.0 → ⊥
-    none e = cc
+no_nil objects fields d = none-some d.0 d.1
 
 -- the same object, found twice
 pub found_once : (ob found : Object) (o : Option Object) → o ≡ Some ob → o ≡ Some found → ob ≡ found
@@ -184,19 +176,14 @@ fields_far objects k ob numbers found (Some fields) d =
 -- one field more names nothing
 pub one_nil : (index : ℕ) (fields strong : List ℕ) → NilBut (index ∷ fields) strong → NilBut fields (slice_set strong index 0)
 one_nil index fields strong but i k named = ⊎_elim
-    (λ same. absurd (zero_named (set_same strong index 0 (suc k) (subst (λ j. slice_get (slice_set strong index 0) j ≡ Some (suc k)) same named))))
+    (λ same. absurd (omega (arith, set_same strong index 0 (suc k)
+    (subst (λ j. slice_get (slice_set strong index 0) j ≡ Some (suc k)) same named))))
     (λ ne. ⊎_elim (λ same. absurd (ne same)) (λ rest. rest) (but i k (sym (set_other strong index i 0 ne) ∙ named)))
     (cases_eq i index)
-  where
-    zero_named : 0 ≡ suc k → ⊥
-    zero_named e = omega (arith, e)
 
 -- where that field isn't there
 pub no_field : (index : ℕ) (fields strong : List ℕ) → slice_get strong index ≡ None → NilBut (index ∷ fields) strong → NilBut fields strong
-no_field index fields strong none but i k named = ⊎_elim (λ same. absurd (nothing (sym none ∙ ap (slice_get strong) (sym same) ∙ named))) (λ rest. rest) (but i k named)
-  where
-    nothing : None ≡ Some (suc k) → ⊥
-    nothing e = cc
+no_field index fields strong none but i k named = ⊎_elim (λ same. absurd (none-some (suc k) (sym none ∙ ap (slice_get strong) (sym same) ∙ named))) (λ rest. rest) (but i k named)
 
 -- fields that all are nil name nothing
 pub nil_named : (strong : List ℕ) → NilBut [] strong → (k : ℕ) → holders (suc k) strong ≡ 0
@@ -230,12 +217,7 @@ in_order (n ∷ above) i count lt =
     before_or : (a b : ℕ) → (a < b) ⊎ (b ≤ a)
     before_or a b = grind arith
 
-named_within : (strong : List ℕ) (i r : ℕ) → slice_get strong i ≡ Some r → i < length strong
-named_within [] i r e = cc
-named_within (s ∷ strong) zero r e = omega arith
-named_within (s ∷ strong) (suc i) r e = omega (arith, named_within strong i r e)
-
 -- the order of an object's fields has all of them
 pub all_in_order : (classes : List Class) (ob : Object) → length ob.strong ≡ strong_count (slice_get classes ob.class) → NilBut (field_order classes ob.class) ob.strong
 all_in_order classes ob size i k named =
-    in_order (strong_counts classes (ancestry (superclasses classes) (above_class (slice_get classes ob.class)))) i (strong_count (slice_get classes ob.class)) (omega (arith, size, named_within ob.strong i (suc k) named))
+    in_order (strong_counts classes (ancestry (superclasses classes) (above_class (slice_get classes ob.class)))) i (strong_count (slice_get classes ob.class)) (omega (arith, size, slice_get_within ob.strong i (suc k) named))

@@ -1,5 +1,5 @@
 -- Where orders stand with their heights, each has what it needs, and goes on where the heights are those that it leaves.
-use Rattle.std.proofs.Common.{◌≡◌, ◌⊎◌, inl, inr, ℕ, zero, suc, ◌+◌, ◌<◌, ◌≤◌, Bool, true, false, if◌then◌else◌, List, [], ◌∷◌, ◌++◌, length, drop, get_or, Some, slice_get, refl, sym, ap, ◌∙◌, subst, arith, append_assoc, length-append, pos}
+use Rattle.std.proofs.Common.{◌≡◌, ◌⊎◌, inl, inr, ℕ, zero, suc, ◌+◌, ◌<◌, ◌≤◌, Bool, true, false, if◌then◌else◌, List, [], ◌∷◌, ◌++◌, length, drop, Some, slice_get, refl, sym, ap, ◌∙◌, subst, arith, append_assoc, length-append, pos}
 use Rattle.std.proofs.lemmas.Bool.{true≢false}
 use Rattle.arc_spec.specs.Resolved as resolved
 use Rattle.arc_spec.specs.declared.class.Gives.{Gives}
@@ -35,10 +35,9 @@ module _ {A : Type 0} (all : List A) where
   pub part_back : (pc : ℕ) (a b : List A) → HasPart all pc (a ++ b) → HasPart all (pc + length a) b
   part_back pc [] b f = let e : pc ≡ pc + 0 = omega arith in subst (λ n. HasPart all n b) e f
   part_back pc (x ∷ a) b f =
-      let e : pc + 1 + length a ≡ pc + length (x ∷ a) = omega arith in
-      subst (λ n. HasPart all n b) e (part_back (pc + 1) a b f.1)
+      subst (λ n. HasPart all n b) (omega arith) (part_back (pc + 1) a b f.1)
 
-  seam : (before behind : List A) (x : A) → slice_get (before ++ x ∷ behind) (length before) ≡ Some x
+  pub seam : (before behind : List A) (x : A) → slice_get (before ++ x ∷ behind) (length before) ≡ Some x
   seam [] behind x = refl
   seam (b ∷ before) behind x = seam before behind x
 
@@ -50,11 +49,6 @@ module _ {A : Type 0} (all : List A) where
 
   pub has_whole : HasPart all 0 all
   has_whole = part_from [] all refl
-
-pub get_there : {A : Type 0} (all : List A) (n : ℕ) (x none : A) → slice_get all n ≡ Some x → get_or all n none ≡ x
-get_there [] n x none e = cc
-get_there (y ∷ all) zero x none e = cc
-get_there (y ∷ all) (suc n) x none e = get_there all n x none e
 
 -- ---- orders before which a run leaves its function, where it has emptied its variables
 
@@ -86,9 +80,15 @@ abbrev pub IsMessage : Order → Type 0
 IsMessage (SendTo selector takes objects wanted) = Unit {0}
 IsMessage _ = ⊥
 
-ordinary_quiet : (x : Order) → Ordinary x → IsSettle x → ⊥
-ordinary_quiet Settle o is = o
-ordinary_quiet _ o is = is
+-- orders among which there is none that drops the temporary before the last one, and those without a message to an object
+not_settle : (Of : Order → Type 0) → (Of Settle → ⊥) → (x : Order) → Of x → IsSettle x → ⊥
+not_settle Of none Settle s is = none s
+not_settle Of none _ s is = is
+
+not_message : (Of : Order → Type 0) → ((selector takes objects : ℕ) (wanted : Gives) → Of (SendTo selector takes objects wanted) → ⊥)
+    → (x : Order) → Of x → IsMessage x → ⊥
+not_message Of none (SendTo selector takes objects wanted) s is = none selector takes objects wanted s
+not_message Of none _ s is = is
 
 -- an order that takes numbers before a function is left
 abbrev pub Takes : Order → Type 0
@@ -101,22 +101,6 @@ abbrev pub IsLeave : Order → Type 0
 IsLeave Return = Unit {0}
 IsLeave Give = Unit {0}
 IsLeave _ = ⊥
-
-leave_quiet : (x : Order) → IsLeave x → IsSettle x → ⊥
-leave_quiet Settle leaves is = leaves
-leave_quiet _ leaves is = is
-
-leave_silent : (x : Order) → IsLeave x → IsMessage x → ⊥
-leave_silent (SendTo selector takes objects wanted) leaves is = leaves
-leave_silent _ leaves is = is
-
-takes_quiet : (x : Order) → Takes x → IsSettle x → ⊥
-takes_quiet Settle takes is = takes
-takes_quiet _ takes is = is
-
-takes_silent : (x : Order) → Takes x → IsMessage x → ⊥
-takes_silent (SendTo selector takes objects wanted) take is = take
-takes_silent _ takes is = is
 
 -- an order that doesn't, and empties no variable, nor needs what a message to an object gives
 abbrev pub Opens : Order → Type 0
@@ -139,14 +123,6 @@ opens_stays : (x : Order) → Opens x → IsLeave x → ⊥
 opens_stays Return opens leaves = opens
 opens_stays Give opens leaves = opens
 opens_stays _ opens leaves = leaves
-
-opens_quiet : (x : Order) → Opens x → IsSettle x → ⊥
-opens_quiet Settle opens is = opens
-opens_quiet _ opens is = is
-
-opens_silent : (x : Order) → Opens x → IsMessage x → ⊥
-opens_silent (SendTo selector takes objects wanted) opens is = opens
-opens_silent _ opens is = is
 
 ordinary_stays : (x : Order) → Ordinary x → IsLeave x → ⊥
 ordinary_stays Return o leaves = o
@@ -236,8 +212,7 @@ module _ (R : resolved.Program) (all : List Order) (table : List (Height × Give
   pub step_then : (pc : ℕ) (xs ys : List Order) → AllStep pc xs → AllStep (pc + length xs) ys → AllStep pc (xs ++ ys)
   step_then pc [] ys first next = let e : pc + 0 ≡ pc = omega arith in subst (λ n. AllStep n ys) e next
   step_then pc (x ∷ xs) ys first next =
-      let e : pc + length (x ∷ xs) ≡ pc + 1 + length xs = omega arith in
-      (first.0, step_then (pc + 1) xs ys first.1 (subst (λ n. AllStep n ys) e next))
+      (first.0, step_then (pc + 1) xs ys first.1 (subst (λ n. AllStep n ys) (omega arith) next))
 
   -- before such an order no function is left
   pub opens_clears : (pc : ℕ) (x : Order) → Opens x → slice_get all pc ≡ Some x → (k : ℕ) → Clears k pc → ⊥
@@ -247,20 +222,20 @@ module _ (R : resolved.Program) (all : List Order) (table : List (Height × Give
 
   -- before a message to an object, and before what drops a temporary, no function is left
   message_clears : (pc : ℕ) → slice_get all pc ≡ Some (SendTo init_selector 0 0 gives.Object) → (k : ℕ) → Clears k pc → ⊥
-  message_clears pc is zero (zero, y) = leave_silent y.0 y.2 (subst IsMessage (some_same (SendTo init_selector 0 0 gives.Object) y.0 (sym is ∙ y.1)) tt)
-  message_clears pc is zero (suc n, y) = takes_silent y.0 y.2 (subst IsMessage (some_same (SendTo init_selector 0 0 gives.Object) y.0 (sym is ∙ y.1)) tt)
+  message_clears pc is zero (zero, y) = not_message IsLeave (λ s t o w m. m) y.0 y.2 (subst IsMessage (some_same (SendTo init_selector 0 0 gives.Object) y.0 (sym is ∙ y.1)) tt)
+  message_clears pc is zero (suc n, y) = not_message Takes (λ s t o w m. m) y.0 y.2 (subst IsMessage (some_same (SendTo init_selector 0 0 gives.Object) y.0 (sym is ∙ y.1)) tt)
   message_clears pc is (suc k) c = subst IsMessage (some_same (SendTo init_selector 0 0 gives.Object) (Empty k) (sym is ∙ c.0)) tt
 
   settle_clears : (pc : ℕ) → slice_get all pc ≡ Some Settle → (k : ℕ) → Clears k pc → ⊥
-  settle_clears pc is zero (zero, y) = leave_quiet y.0 y.2 (subst IsSettle (some_same Settle y.0 (sym is ∙ y.1)) tt)
-  settle_clears pc is zero (suc n, y) = takes_quiet y.0 y.2 (subst IsSettle (some_same Settle y.0 (sym is ∙ y.1)) tt)
+  settle_clears pc is zero (zero, y) = not_settle IsLeave (λ o. o) y.0 y.2 (subst IsSettle (some_same Settle y.0 (sym is ∙ y.1)) tt)
+  settle_clears pc is zero (suc n, y) = not_settle Takes (λ o. o) y.0 y.2 (subst IsSettle (some_same Settle y.0 (sym is ∙ y.1)) tt)
   settle_clears pc is (suc k) c = subst IsSettle (some_same Settle (Empty k) (sym is ∙ c.0)) tt
 
   -- ---- in one function
 
   module _ (given : Gives) where
     pub opens_goes : (pc : ℕ) (h : Height) (x : Order) → Opens x → slice_get table pc ≡ Some (h, given) → slice_get all pc ≡ Some x → Goes given pc h
-    opens_goes pc h x opens e is = (record { height = e; order = x; is = is; no_end = λ same. subst Opens same opens }, λ k c. absurd (opens_clears pc x opens is k c), free_at pc x is (opens_quiet x opens) (λ message. absurd (opens_silent x opens message)))
+    opens_goes pc h x opens e is = (record { height = e; order = x; is = is; no_end = λ same. subst Opens same opens }, λ k c. absurd (opens_clears pc x opens is k c), free_at pc x is (not_settle Opens (λ o. o) x opens) (λ message. absurd (not_message Opens (λ s t o w m. m) x opens message)))
 
     -- a function without variables may be left
     pub none_goes : (pc : ℕ) (h : Height) → Stands given pc h → h.variables ≡ 0 → Free pc → Goes given pc h
@@ -294,10 +269,6 @@ module _ (R : resolved.Program) (all : List Order) (table : List (Height × Give
       Follows pc w [] = Goes given pc w.height
       Follows pc w (x ∷ xs) = (slice_get table pc ≡ Some (w.height, given)) × (slice_get all pc ≡ Some x) × Follows (pc + 1) (next_walk R base x w) xs
 
-      pub row_prefix : (pc : ℕ) (w : Walk) (xs ys : List Order) → Row pc w (xs ++ ys) → Row pc w xs
-      row_prefix pc w [] ys f = tt
-      row_prefix pc w (x ∷ xs) ys f = (f.0, f.1, row_prefix (pc + 1) (next_walk R base x w) xs ys f.2)
-
       pub row_front : (pc : ℕ) (w : Walk) (xs ys : List Order) → Goes given (pc + length xs) (last_walk R base w xs).height → Row pc w (xs ++ ys) → Follows pc w xs
       row_front pc w [] ys g f = let e : pc + 0 ≡ pc = omega arith in subst (λ n. Goes given n w.height) e g
       row_front pc w (x ∷ xs) ys g f =
@@ -318,7 +289,7 @@ module _ (R : resolved.Program) (all : List Order) (table : List (Height × Give
       -- no order behind ordinary ones drops the temporary before the last one
       first_quiet : (pc : ℕ) (w : Walk) (xs : List Order) → AllOrdinary xs → Follows pc w xs → Quiet pc
       first_quiet pc w _ no_order f = f.2.0
-      first_quiet pc w _ (and_one {x = x} o others) f = λ y e settles. ordinary_quiet x o (subst IsSettle (some_same y x (sym e ∙ f.1)) settles)
+      first_quiet pc w _ (and_one {x = x} o others) f = λ y e settles. not_settle Ordinary (λ o. o) x o (subst IsSettle (some_same y x (sym e ∙ f.1)) settles)
       first_quiet pc w _ (and_made others) f = λ y e settles. subst IsSettle (some_same y (Plain Alloc) (sym e ∙ f.1)) settles
 
       pub goes_here : (pc : ℕ) (w : Walk) (xs : List Order) → AllOrdinary xs → Follows pc w xs → Goes given pc w.height
@@ -327,7 +298,7 @@ module _ (R : resolved.Program) (all : List Order) (table : List (Height × Give
       goes_here pc w _ (and_one {x = x} {xs = xs} o others) f = (
         record { height = f.0; order = x; is = f.1; no_end = λ same. subst Ordinary same o },
         none (goes_here (pc + 1) (next_walk R base x w) xs others f.2).1,
-        free_at pc x f.1 (ordinary_quiet x o) (λ message. first_quiet (pc + 1) (next_walk R base x w) xs others f.2),
+        free_at pc x f.1 (not_settle Ordinary (λ o. o) x o) (λ message. first_quiet (pc + 1) (next_walk R base x w) xs others f.2),
       )
         where
           none : ((k : ℕ) → Clears k (pc + 1) → (next_walk R base x w).height.variables ≤ k + as_object given) → (k : ℕ) → Clears k pc → w.height.variables ≤ k + as_object given
@@ -376,13 +347,13 @@ module _ (R : resolved.Program) (all : List Order) (table : List (Height × Give
       -- where they begin the variables are empty
       pub takes_stand : (pc : ℕ) (w : Walk) (xs : List Order) (leave : Order) → IsLeave leave → AllTake xs → Row pc w (xs ++ leave ∷ []) → Stands given pc w.height × ((k : ℕ) → Clears k pc → k ≡ 0) × Free pc
       takes_stand pc w [] leave leaves takes f =
-          (record { height = f.0; order = leave; is = f.1; no_end = λ same. subst IsLeave same leaves }, only, free_at pc leave f.1 (leave_quiet leave leaves) (λ message. absurd (leave_silent leave leaves message)))
+          (record { height = f.0; order = leave; is = f.1; no_end = λ same. subst IsLeave same leaves }, only, free_at pc leave f.1 (not_settle IsLeave (λ o. o) leave leaves) (λ message. absurd (not_message IsLeave (λ s t o w m. m) leave leaves message)))
         where
           only : (k : ℕ) → Clears k pc → k ≡ 0
           only zero c = refl
           only (suc k) c = absurd (leaves_keep leave k leaves (some_same leave (Empty k) (sym f.1 ∙ c.0)))
       takes_stand pc w (x ∷ xs) leave leaves takes f =
-          (record { height = f.0; order = x; is = f.1; no_end = λ same. subst Takes same takes.0 }, only, free_at pc x f.1 (takes_quiet x takes.0) (λ message. absurd (takes_silent x takes.0 message)))
+          (record { height = f.0; order = x; is = f.1; no_end = λ same. subst Takes same takes.0 }, only, free_at pc x f.1 (not_settle Takes (λ o. o) x takes.0) (λ message. absurd (not_message Takes (λ s t o w m. m) x takes.0 message)))
         where
           only : (k : ℕ) → Clears k pc → k ≡ 0
           only zero c = refl
@@ -422,8 +393,7 @@ module _ (R : resolved.Program) (all : List Order) (table : List (Height × Give
 
       enter_ordinary : (entry : Entry) (n m : ℕ) → AllOrdinary (enter_orders entry n m)
       enter_ordinary AtStep n m = no_order
-      enter_ordinary AtTest n m = and_one tt no_order
-      enter_ordinary AtBody n m = and_one tt no_order
+      enter_ordinary _ n m = and_one tt no_order
 
       pub block_ordinary : (e : Spot) (looping statement : Bool) (x : Block) (h g : Height) → Block_types looping statement h x g → AllOrdinary (orders e x)
       block_ordinary e l statement Making h g t = and_made no_order
@@ -450,8 +420,7 @@ module _ (R : resolved.Program) (all : List Order) (table : List (Height × Give
 
       enter_length : (entry : Entry) (n m : ℕ) → length (enter_orders entry n m) ≡ enter_size entry
       enter_length AtStep n m = refl
-      enter_length AtTest n m = refl
-      enter_length AtBody n m = refl
+      enter_length _ n m = refl
 
       -- what stands behind the jump by which a loop is entered
       enter_follows : (entry : Entry) (n m pc : ℕ) (pending : List Height) (xs : List Order) → AllBase R 0 0 slots names exit pending → Follows base pc (walk base pending) (enter_orders entry n m ++ xs) → Follows base (pc + enter_size entry) (walk base (entered R 0 0 slots names exit base entry pending)) xs

@@ -1,5 +1,5 @@
 -- Orders that go on with the next one each: how many numbers, references, temporaries and variables there are behind them, where each of them has as many as it needs.
-use Rattle.std.proofs.Common.{◌≡◌, ℕ, zero, suc, pred, ◌+◌, ◌-◌, ◌/◌, ◌<◌, ◌≤◌, Bool, true, false, if◌then◌else◌, nat_lt, List, [], ◌∷◌, ◌++◌, ℤ, length, take, drop, refl, sym, ap, ◌∙◌, subst, arith, pos}
+use Rattle.std.proofs.Common.{◌≡◌, ℕ, zero, suc, pred, ◌+◌, ◌-◌, ◌/◌, ◌<◌, ◌≤◌, Bool, true, false, if◌then◌else◌, nat_lt, List, [], ◌∷◌, ◌++◌, length, take, drop, refl, sym, ap, ◌∙◌, subst, arith, pos}
 use Rattle.std.proofs.lemmas.Bool.{ltb-true}
 use Rattle.arc_ast.specs.declared.tree.Kind.TheVariants as k
 use Rattle.arc_ast.specs.declared.tree.Sign.TheVariants as signs
@@ -7,9 +7,9 @@ use Rattle.arc_spec.specs.declared.location.Location.{Location}
 use Rattle.arc_spec.specs.declared.location.Location.TheVariants.{Local, Global}
 use Rattle.arc_spec.specs.declared.class.Gives.{Gives}
 use Rattle.arc_spec.specs.declared.class.Gives.TheVariants as gives
-use Rattle.arc_spec.specs.Classes.{Class, same_gives, init_selector}
+use Rattle.arc_spec.specs.Classes.{Class, init_selector}
 use Rattle.arc_spec.specs.Resolved.{Piece, Bytes, Decimal, Character, Function, Program}
-use Rattle.arc_spec.specs.Meaning.{function_at, nothing_giving}
+use Rattle.arc_spec.specs.Meaning.{function_at}
 use Rattle.arc_code.specs.declared.instr.Op.{Op}
 use Rattle.arc_code.specs.declared.instr.Op.TheVariants as ops
 use Rattle.arc_code.specs.declared.instr.Op.TheVariants.{Num, Bin, Un, Narrow, Pop, Get, Set, PrintNum, PrintByte, Declare, Nil, ReadRef, Hold, Forget, Alloc, Finds, GetField, SetField, Differ, IsObject}
@@ -21,37 +21,16 @@ use Rattle.arc_ir.specs.declared.action.Target.TheVariants.{Skip}
 use Rattle.arc_lower.specs.Order.{Order}
 use Rattle.arc_lower.specs.Lowered.{conversion_orders, part_orders, piece_orders, left_behind, format_orders, pop_orders, keep_orders, print_orders, get_orders, set_orders, zero_orders, fit_orders, declare_orders, read_orders, store_orders, drop_orders, empty_orders, all_empty_orders, number_of_nothing, gives_at, number_of, slots_of, parameters_of, object_parameters, forget_orders, nil_orders, fit_object_orders, passing_orders, take_orders, own_orders, call_orders, Inside, Block, Making, IfNew, has_new, Then, Fork, Loop, Quit, Advance, Full, Leave, flat}
 use Rattle.arc_lower.specs.Heights.{height, between, after_effect, next_height, Walk, walk, next_walk, last_walk}
-use Rattle.arc_lower.proofs.Finding.{gives_same}
+use Rattle.arc_lower.proofs.Callees.{with_functions}
+use Rattle.arc_lower.proofs.Linking.{out_of_list}
 
 -- ---- the function that is called
 
-module _ (main : ℕ) (gs : List ℤ) (sg : ℕ) (cs : List Class) (wanted : Gives) where
-  abbrev with_functions : List Function → Program
-  with_functions fs = record { functions = fs; main = main; globals = gs; strong_globals = sg; classes = cs }
-
-  nothing_past : (fs : List Function) (f : ℕ) → length fs ≤ f → nothing_giving wanted ≡ function_at (with_functions fs) wanted f
-  nothing_past [] f le = refl
-  nothing_past (g ∷ fs) zero le = absurd (omega (arith, le))
-  nothing_past (g ∷ fs) (suc f) le = nothing_past fs f (omega (arith, le))
-
-  nothing_else : (fs : List Function) (f : ℕ) → gives_at (with_functions fs) wanted f ≡ false → nothing_giving wanted ≡ function_at (with_functions fs) wanted f
-  nothing_else [] f e = refl
-  nothing_else (g ∷ fs) zero e = ap (λ b. if b then g else nothing_giving wanted) (sym e)
-  nothing_else (g ∷ fs) (suc f) e = nothing_else fs f e
-
-  none_gives : (fs : List Function) (f : ℕ) → length fs ≤ f → gives_at (with_functions fs) wanted f ≡ false
+module _ (P : Program) (wanted : Gives) where
+  none_gives : (fs : List Function) (f : ℕ) → length fs ≤ f → gives_at (with_functions fs P) wanted f ≡ false
   none_gives [] f le = refl
   none_gives (g ∷ fs) zero le = absurd (omega (arith, le))
   none_gives (g ∷ fs) (suc f) le = none_gives fs f (omega (arith, le))
-
-  wanted_given : (g : Function) (b : Bool) → same_gives g.gives wanted ≡ b → (if b then g else nothing_giving wanted).gives ≡ wanted
-  wanted_given g true e = gives_same g.gives wanted e
-  wanted_given g false e = refl
-
-  function_gives : (fs : List Function) (f : ℕ) → (function_at (with_functions fs) wanted f).gives ≡ wanted
-  function_gives [] f = refl
-  function_gives (g ∷ fs) zero = wanted_given g (same_gives g.gives wanted) refl
-  function_gives (g ∷ fs) (suc f) = function_gives fs f
 
 past_all : (P : Program) (wanted : Gives) → length P.functions ≤ number_of_nothing P wanted
 past_all P gives.Number = omega arith
@@ -65,7 +44,7 @@ called_by : (P : Program) (wanted : Gives) (f : ℕ) (b : Bool) → gives_at P w
 called_by P wanted f true e = ap (λ c. if c then f else number_of_nothing P wanted) e
 called_by P wanted f false e =
     let n = number_of_nothing P wanted in
-    ap (λ c. if c then n else n) (none_gives P.main P.globals P.strong_globals P.classes wanted P.functions n (past_all P wanted))
+    ap (λ c. if c then n else n) (none_gives P wanted P.functions n (past_all P wanted))
 
 pub number_there : (P : Program) (wanted : Gives) (f : ℕ) → IsCalled P wanted (number_of P wanted f)
 number_there P wanted f = called_by P wanted f (gives_at P wanted f) refl
@@ -73,8 +52,8 @@ number_there P wanted f = called_by P wanted f (gives_at P wanted f) refl
 same_by : (P : Program) (wanted : Gives) (f : ℕ) (b : Bool) → gives_at P wanted f ≡ b → function_at P wanted (if b then f else number_of_nothing P wanted) ≡ function_at P wanted f
 same_by P wanted f true e = refl
 same_by P wanted f false e =
-    sym (nothing_past P.main P.globals P.strong_globals P.classes wanted P.functions (number_of_nothing P wanted) (past_all P wanted))
-    ∙ nothing_else P.main P.globals P.strong_globals P.classes wanted P.functions f e
+    let n = number_of_nothing P wanted in
+    sym (out_of_list P wanted P.functions n (none_gives P wanted P.functions n (past_all P wanted))) ∙ out_of_list P wanted P.functions f e
 
 -- a function that there isn't is as the one that is called for it
 pub function_same : (P : Program) (wanted : Gives) (f : ℕ) → function_at P wanted (number_of P wanted f) ≡ function_at P wanted f
@@ -86,10 +65,6 @@ slots_same P wanted f = ap (λ (g : Function). g.slots) (function_same P wanted 
 -- and takes as many objects
 pub parameters_same : (P : Program) (wanted : Gives) (f : ℕ) → parameters_of P wanted (number_of P wanted f) ≡ parameters_of P wanted f
 parameters_same P wanted f = ap object_parameters (function_same P wanted f)
-
--- what is called gives what is wanted
-pub gives_wanted : (P : Program) (wanted : Gives) (f : ℕ) → (function_at P wanted f).gives ≡ wanted
-gives_wanted P wanted f = function_gives P.main P.globals P.strong_globals P.classes wanted P.functions f
 
 -- ---- heights
 
@@ -212,9 +187,8 @@ module _ (P : Program) (r s : ℕ) where
     fit_by : (values slots a pops zeros : ℕ) → pops ≡ values - slots → zeros ≡ slots - values → Counts (values + a) (pop_orders pops ++ zero_orders zeros) (slots + a)
     fit_by values slots a pops zeros e f =
         let rest = values + a - pops in
-        let begin : pops + rest ≡ values + a = omega (arith, e) in
         counts_then (values + a) (pop_orders pops) rest (zero_orders zeros) (slots + a)
-        (subst (λ n. Counts n (pop_orders pops) rest) begin (pops_type pops rest))
+        (subst (λ n. Counts n (pop_orders pops) rest) (omega (arith, e)) (pops_type pops rest))
         (counts_same rest (zero_orders zeros) (zeros + rest) (slots + a) (omega (arith, e, f)) (zeros_type zeros rest))
 
     pub fit_types : (values slots a : ℕ) → Counts (values + a) (fit_orders values slots) (slots + a)
@@ -287,11 +261,9 @@ module _ (P : Program) (r s : ℕ) where
   fit_objects_by : (objects parameters a b c d forgets nils : ℕ) → forgets ≡ objects - parameters → nils ≡ parameters - objects → Types (height a (objects + b) c d) (forget_orders forgets ++ nil_orders nils) (height a (parameters + b) c d)
   fit_objects_by objects parameters a b c d forgets nils e f =
       let rest = objects + b - forgets in
-      let begin : forgets + rest ≡ objects + b = omega (arith, e) in
-      let end : nils + rest ≡ parameters + b = omega (arith, e, f) in
       types_then (height a (objects + b) c d) (forget_orders forgets) (height a rest c d) (nil_orders nils) (height a (parameters + b) c d)
-      (subst (λ n. Types (height a n c d) (forget_orders forgets) (height a rest c d)) begin (forgets_type forgets a rest c d))
-      (subst (λ n. Types (height a rest c d) (nil_orders nils) (height a n c d)) end (nils_type nils a rest c d))
+      (subst (λ n. Types (height a n c d) (forget_orders forgets) (height a rest c d)) (omega (arith, e)) (forgets_type forgets a rest c d))
+      (subst (λ n. Types (height a rest c d) (nil_orders nils) (height a n c d)) (omega (arith, e, f)) (nils_type nils a rest c d))
 
   pub fit_object_types : (objects parameters a b c d : ℕ) → Types (height a (objects + b) c d) (fit_object_orders objects parameters) (height a (parameters + b) c d)
   fit_object_types objects parameters a b c d = fit_objects_by objects parameters a b c d (objects - parameters) (parameters - objects) refl refl

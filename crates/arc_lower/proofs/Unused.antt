@@ -6,7 +6,7 @@ use Rattle.arc_ast.specs.declared.tree.Moment.{Moment}
 use Rattle.arc_ast.specs.declared.tree.Moment.TheVariants.{After}
 use Rattle.arc_spec.specs.declared.location.Location.{Location}
 use Rattle.arc_spec.specs.Resolved.{Value, Reference, Updated, FieldUpdated}
-use Rattle.arc_spec.specs.World.{World, Outcome, Done, Faulted, Cut, Finished, finished, then_do}
+use Rattle.arc_spec.specs.World.{World, Outcome, Done, Finished, finished, then_do}
 use Rattle.arc_spec.specs.Meaning.{Deeper, Normal, held_at, holds, updated, field_read, field_set, all_dropped, evaluated, referred, whole}
 use Rattle.arc_lower.specs.Lowered.{unused}
 
@@ -16,8 +16,7 @@ ended o = then_do o (λ _ w. Done finished w)
 
 ended_by : {A B : Type 0} (o : Outcome A) (go : A → World → Outcome B) (end : A → World → Outcome Finished) → ((a : A) (w : World) → ended (go a w) ≡ end a w) → ended (then_do o go) ≡ then_do o end
 ended_by (Done a w) go end h = h a w
-ended_by (Faulted f w) go end h = refl
-ended_by (Cut w) go end h = refl
+ended_by _ go end h = refl
 
 module _ (D : Deeper) where
   updated_ends : (moment : Moment) (i : Location) (operator : BinaryOperator) (computed kept : Kind) (a : Value) (w : World)
@@ -41,10 +40,8 @@ module _ (D : Deeper) where
     where
       by : (o : Outcome Finished) → then_do (then_do o (λ _ w2. Done v w2)) (λ _ w1. Done Normal w1) ≡ then_do o (λ _ w2. Done Normal w2)
       by (Done done w1) = refl
-      by (Faulted f w1) = refl
-      by (Cut w1) = refl
-  dropped (Faulted f w) = refl
-  dropped (Cut w) = refl
+      by _ = refl
+  dropped _ = refl
 
   pub unused_is : (a : Value) (w : World) → then_do (whole D (unused a) w) (λ _ w1. Done Normal w1) ≡ then_do (whole D a w) (λ _ w1. Done Normal w1)
   unused_is a w =

@@ -1,7 +1,11 @@
-use Rattle.std.proofs.Common.{arith}
+use Rattle.std.proofs.Common.{arith, refl}
 use Rattle.std.proofs.lemmas.Grind.{common_steps}
-use Rattle.arc_lower.proofs.Rows.{nils_more}
+use Rattle.arc_code.specs.declared.instr.Op.TheVariants.{Nil}
+use Rattle.arc_code.specs.declared.instr.Instr.TheVariants.{Plain}
+use Rattle.arc_lower.specs.Lowered.{nil_orders}
+use Rattle.arc_lower.proofs.Rows.{row_more}
 use Rattle.arc_lower.proofs.place.append_nils.Goals as goal
 
 pub loop-reference-preserved : goal.loop-reference-preserved
-loop-reference-preserved c = let e = nils_more c.loop-reference._reference in grind (arith, common_steps)
+loop-reference-preserved c =
+    grind (arith, common_steps, row_more nil_orders (Plain Nil) refl (λ n. refl) c.loop-reference._reference)

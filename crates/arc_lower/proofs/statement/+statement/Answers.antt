@@ -1,9 +1,8 @@
 use Rattle.std.proofs.Common.{◌≡◌, ◌+◌, ◌++◌, ◌∷◌, [], length, refl, ap, sym, subst, ◌∙◌, OnOk, arith, length-append}
 use Rattle.std.proofs.lemmas.List.{length-map}
-use Rattle.arc_spec.specs.Resolved.{Sequence, Choose, Repeat, RepeatAfter}
 use Rattle.arc_code.specs.declared.instr.Instr.TheVariants.{Jump, JumpZero}
 use Rattle.arc_ir.specs.declared.action.Target.TheVariants.{Skip}
-use Rattle.arc_check.specs.Checked.{value, command, commands, program_of}
+use Rattle.arc_check.specs.Checked.{value, command, program_of}
 use Rattle.arc_lower.specs.Order.{order, orders}
 use Rattle.arc_lower.specs.Lowered.{whole_orders, command_orders}
 use Rattle.arc_lower.specs.Surroundings.{surroundings}
@@ -14,22 +13,11 @@ use Rattle.arc_lower.proofs.statement.+statement.Goals as goal
 
 pub append_command-returns-in-Sequence-clause-actions : goal.append_command-returns-in-Sequence-clause-actions
 append_command-returns-in-Sequence-clause-actions t c =
-    let P = program_of c.args.program.now in
-    let b = c.args.body in
     let s = c.in-Sequence in
-    let old = orders c.args.actions.now.items in
-    let made = λ (x : _). old ++ command_orders P b.slots b.names (length old) (surroundings b c.args.scopes.now.items) x in
-    let e = ap (λ l. made (Sequence s.first s.count (commands l))) c.deref.ensures.value ∙ ap made (sym (sequence_command s.first s.count s.all)) ∙ ap (λ x. made (command x)) (sym s.is) in
-    subst (λ l. OnOk c.append_sequence.result (orders c.append_sequence.new.actions.items ≡ l)) e c.append_sequence.ensures.actions
+    rw (ap command s.is ∙ sequence_command s.first s.count s.all, ← c.deref.ensures.value) c.append_sequence.ensures.actions
 
 pub append_command-returns-in-Give-clause-actions : goal.append_command-returns-in-Give-clause-actions
-append_command-returns-in-Give-clause-actions t c =
-    let P = program_of c.args.program.now in
-    let b = c.args.body in
-    let old = orders c.args.actions.now.items in
-    let scopes = c.args.scopes.now.items in
-    let made = λ (x : _). old ++ command_orders P b.slots b.names (length old) (surroundings b scopes) x in
-    subst (λ l. OnOk c.append_give.result (orders c.append_give.new.actions.items ≡ l)) (ap (λ x. made (command x)) (sym c.in-Give.is)) (c.append_give.ensures scopes)
+append_command-returns-in-Give-clause-actions t c = rw c.in-Give.is (c.append_give.ensures c.args.scopes.now.items)
 
 pub append_command-returns-in_ok-append_command-in-Choose-2-clause-actions : goal.append_command-returns-in_ok-append_command-in-Choose-2-clause-actions
 append_command-returns-in_ok-append_command-in-Choose-2-clause-actions t c =
@@ -59,14 +47,11 @@ append_command-returns-in_ok-append_command-in-Choose-2-clause-actions t c =
     let l2 = ap length e2 ∙ length-append (orders v1.items) (JumpZero (Skip 0) ∷ []) in
     let l3 = ap length e3 ∙ length-append (orders v2.items) one in
     let l4 = ap length e4 ∙ length-append (orders v3.items) (Jump (Skip 0) ∷ []) in
-    let made = λ (x : _). old ++ command_orders P b.slots b.names (length old) around x in
     let e = patch_fork old (orders v1.items) (orders v2.items) (orders v3.items) (orders v4.items) (orders v5.items) ts one two c.len-branch.result c.len-skip.result c.len-other.result _ _ (length (orders v5.items)) e1 (c.len-branch.ensures ∙ v1.ok.0 ∙ sym (length-map v1.items order)) e2 e3 (c.len-skip.ensures ∙ v3.ok.0 ∙ sym (length-map v3.items order)) e4 (c.len-other.ensures ∙ v4.ok.0 ∙ sym (length-map v4.items order)) e5 refl refl refl
     ∙ choice_written P b scopes old (orders v2.items) (orders v4.items) test first second (omega (arith, l1, l2)) (omega (arith, l3, l4))
-    ∙ ap (λ a. made (Choose test (command a) second)) c.deref-in-Choose.ensures
-    ∙ ap (λ a. made (Choose test (command c.in-Choose.first.value) (command a))) c.deref-in-Choose-2.ensures
-    ∙ ap (λ x. made (command x)) (sym c.in-Choose.is)
     in
-    subst (λ l. OnOk c.join.result (orders c.join.new.actions.items ≡ l)) e c.join.ensures
+    rw (c.in-Choose.is, ← c.deref-in-Choose.ensures, ← c.deref-in-Choose-2.ensures)
+    (subst (λ l. OnOk c.join.result (orders c.join.new.actions.items ≡ l)) e c.join.ensures)
 
 pub append_command-returns-in_ok-out-in-Repeat-clause-actions : goal.append_command-returns-in_ok-out-in-Repeat-clause-actions
 append_command-returns-in_ok-out-in-Repeat-clause-actions t c =
@@ -80,13 +65,10 @@ append_command-returns-in_ok-out-in-Repeat-clause-actions t c =
     let step = command c.deref-in-Repeat.result.now in
     let body = command c.deref-in-Repeat-2.result.now in
     let first = c.in_ok-begin-in-Repeat in
-    let made = λ (x : _). old ++ command_orders P b.slots b.names (length old) (surroundings b scopes) x in
     let e = repeat_written P b scopes old o1 o2 first.begin c.in_ok-out-in-Repeat.out test body c.in_ok-out-in-Repeat.ensures.actions c.in_ok-out-in-Repeat.ensures.out step first.ensures.actions first.ensures.begin
-    ∙ ap (λ a. made (Repeat test (command a) body)) c.deref-in-Repeat.ensures
-    ∙ ap (λ a. made (Repeat test (command c.in-Repeat.step.value) (command a))) c.deref-in-Repeat-2.ensures
-    ∙ ap (λ x. made (command x)) (sym c.in-Repeat.is)
     in
-    subst (λ l. OnOk c.append_turn.result (orders c.append_turn.new.actions.items ≡ l)) e c.append_turn.ensures
+    rw (c.in-Repeat.is, ← c.deref-in-Repeat.ensures, ← c.deref-in-Repeat-2.ensures)
+    (subst (λ l. OnOk c.append_turn.result (orders c.append_turn.new.actions.items ≡ l)) e c.append_turn.ensures)
 
 pub append_command-returns-in_ok-over-in-RepeatAfter-clause-actions : goal.append_command-returns-in_ok-over-in-RepeatAfter-clause-actions
 append_command-returns-in_ok-over-in-RepeatAfter-clause-actions t c =
@@ -101,12 +83,10 @@ append_command-returns-in_ok-over-in-RepeatAfter-clause-actions t c =
     let test = value c.in-RepeatAfter.test in
     let body = command c.deref-in-RepeatAfter.result.now in
     let last = c.in_ok-out-in-RepeatAfter in
-    let made = λ (x : _). old ++ command_orders P b.slots b.names (length old) (surroundings b scopes) x in
-    c.replace.ensures
+    rw (c.in-RepeatAfter.is, ← c.deref-in-RepeatAfter.ensures)
+    (c.replace.ensures
     ∙ repeat_after_written P b scopes old (orders v1.items) o2 c.len-begin.result last.out test body last.ensures.actions last.ensures.out o3 c.len-enter.result c.in_ok-over-in-RepeatAfter.over c.in_ok-append-in-RepeatAfter.ensures
-    (c.len-begin.ensures ∙ v1.ok.0 ∙ sym (length-map v1.items order)) c.in_ok-append_turn-in-RepeatAfter.ensures (c.len-enter.ensures ∙ v0.ok.0 ∙ sym (length-map v0.items order)) c.in_ok-over-in-RepeatAfter.ensures
-    ∙ ap (λ a. made (RepeatAfter (command a) test)) c.deref-in-RepeatAfter.ensures
-    ∙ ap (λ x. made (command x)) (sym c.in-RepeatAfter.is)
+    (c.len-begin.ensures ∙ v1.ok.0 ∙ sym (length-map v1.items order)) c.in_ok-append_turn-in-RepeatAfter.ensures (c.len-enter.ensures ∙ v0.ok.0 ∙ sym (length-map v0.items order)) c.in_ok-over-in-RepeatAfter.ensures)
 
 pub append_step-returns-clause-actions : goal.append_step-returns-clause-actions
 append_step-returns-clause-actions t c =

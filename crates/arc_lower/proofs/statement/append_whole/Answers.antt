@@ -1,9 +1,6 @@
-use Rattle.std.proofs.Common.{◌≡◌, [], ◌∷◌, ◌++◌, if◌then◌else◌, ap, ◌∙◌, subst, append_assoc, OnOk}
-use Rattle.std.specs.List.{list_any}
+use Rattle.std.proofs.Common.{◌∙◌, append_assoc}
 use Rattle.arc_check.specs.Checked.{value, program_of}
-use Rattle.arc_code.specs.declared.instr.Instr.TheVariants.{DropAll}
-use Rattle.arc_lower.specs.Order.{orders}
-use Rattle.arc_lower.specs.Lowered.{order_takes, drop_orders, value_orders}
+use Rattle.arc_lower.specs.Lowered.{value_orders}
 use Rattle.arc_lower.proofs.Appended.{slice_behind}
 use Rattle.arc_lower.proofs.statement.append_whole.Goals as goal
 
@@ -12,8 +9,6 @@ returns c =
     let b = c.args.body in
     let old = c.args.actions.now in
     let xs = value_orders (program_of c.args.program.now) b.slots b.names 0 (value c.args.expression.now) in
-    let o1 = c.append_value.new.actions.items in
-    let these = slice_behind old.items o1 c.deref.result.now c.len-begin.result xs (c.len-begin.ensures ∙ old.ok.0) c.deref.ensures.value c.in_ok-append_value.ensures in
-    let taken : c.take_some-taken.result ≡ list_any order_takes xs = c.take_some-taken.ensures ∙ ap (list_any order_takes) these in
-    let e = ap (λ t. orders o1 ++ (if t then DropAll ∷ [] else [])) taken ∙ ap (λ l. l ++ drop_orders xs) c.in_ok-append_value.ensures ∙ append_assoc (orders old.items) xs (drop_orders xs) in
-    subst (λ l. OnOk c.append_drops.result (orders c.append_drops.new.actions.items ≡ l)) e c.append_drops.ensures
+    let these = slice_behind old.items c.append_value.new.actions.items c.deref.result.now c.len-begin.result xs
+      (c.len-begin.ensures ∙ old.ok.0) c.deref.ensures.value c.in_ok-append_value.ensures in
+    simp (c.take_some-taken.ensures, these, c.in_ok-append_value.ensures, append_assoc) at c.append_drops.ensures

@@ -1,20 +1,14 @@
-use Rattle.std.proofs.Common.{◌≡◌, [], ◌∷◌, ◌+◌, ◌++◌, refl, ap, sym, ◌∙◌, subst, drop, length, get_or}
-use Rattle.std.proofs.lemmas.List.{drop_more, drop_all, length-map, append-nil}
+use Rattle.std.proofs.Common.{◌∷◌, ◌+◌, ◌++◌, ap, sym, ◌∙◌, subst, drop, get_or}
+use Rattle.std.proofs.lemmas.List.{drop_more, length-map}
 use Rattle.arc_spec.specs.declared.class.Method.{Method}
 use Rattle.arc_spec.specs.declared.class.Gives.TheVariants as gives
 use Rattle.arc_ast.specs.declared.tree.Sign.TheVariants as signs
 use Rattle.arc_check.specs.Checked.{program_of}
 use Rattle.arc_lower.specs.Order.{order, orders}
-use Rattle.arc_lower.specs.Lowered.{stub_orders, linked_methods}
+use Rattle.arc_lower.specs.Lowered.{stub_orders}
 use Rattle.arc_lower.specs.Heights.{greatest, stub_heights}
 use Rattle.arc_lower.proofs.Stubbing.{MethodsLaid, methods_more}
 use Rattle.arc_lower.proofs.stub.append_methods.Goals as goal
-
-pub loop-method-init : goal.loop-method-init
-loop-method-init c =
-    let all = c.args.methods.now in
-    let e : [] ≡ c.new-linked.result.items = sym c.new-linked.ensures.items in
-    record { actions = refl; most = refl; methods = ap (λ l. l ++ linked_methods (program_of c.args.program.now) c.args.entries.now (length (orders c.args.actions.now.items)) all) (sym e) }
 
 pub loop-method-preserved : goal.loop-method-preserved
 loop-method-preserved c =
@@ -31,19 +25,3 @@ loop-method-preserved c =
     let laid = c.in_ok-append_stub.ensures.actions ∙ ap (λ n. orders old.items ++ stub_orders P entries m.gives n m.objects m.runs) c.in_ok-count.ensures in
     let most = c.in_ok-append_stub.ensures.most ∙ ap (λ n. greatest (stub_heights P entries m.gives n m.objects m.runs) c.loop-method.most) c.in_ok-count.ensures in
     methods_more P entries start c.args.most.now all (orders old.items) c.loop-method.most c.loop-method.linked.items m left (orders c.append_stub.new.actions.items) c.append_stub.new.most c.push.new.self.items c.len.result before laid (c.len.ensures ∙ old.ok.0 ∙ sym (length-map old.items order)) c.in_ok-push.ensures.items most
-
--- behind the last method
-finished : (c : goal.After-loop-method) → MethodsLaid (program_of c.args.program.now) c.args.entries.now (orders c.args.actions.now.items) c.args.most.now c.args.methods.now (orders c.loop-method.actions.items) c.loop-method.most c.loop-method.linked.items []
-finished c =
-    let all = c.args.methods.now in
-    let P = program_of c.args.program.now in
-    subst (MethodsLaid P c.args.entries.now (orders c.args.actions.now.items) c.args.most.now all (orders c.loop-method.actions.items) c.loop-method.most c.loop-method.linked.items) (drop_all c.loop-method.method-index all c.loop-method-test.false) c.loop-method.invariant
-
-pub returns-clause-actions : goal.returns-clause-actions
-returns-clause-actions c = sym (append-nil (orders c.loop-method.actions.items)) ∙ (finished c).actions
-
-pub returns-clause-linked : goal.returns-clause-linked
-returns-clause-linked c = sym (append-nil c.loop-method.linked.items) ∙ (finished c).methods
-
-pub returns-clause-most : goal.returns-clause-most
-returns-clause-most c = (finished c).most
