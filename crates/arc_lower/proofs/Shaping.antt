@@ -1,5 +1,5 @@
 -- What blocks mean, without steps.
-use Rattle.std.proofs.Common.{◌≡◌, ℕ, zero, suc, ℤ, Bool, true, false, nat_eq, is_some, if◌then◌else◌, List, [], ◌∷◌, length, Option, Some, refl, sym, ap, ◌∙◌}
+use Rattle.std.proofs.Common.{◌≡◌, ℕ, zero, suc, ℤ, Bool, true, false, nat_eq, is_some, if◌then◌else◌, List, [], ◌∷◌, length, Option, Some, refl, ap, ◌∙◌}
 use Rattle.std.proofs.lemmas.Bool.{eq-eqb}
 use Rattle.arc_ast.specs.declared.tree.Sign.TheVariants as signs
 use Rattle.arc_spec.specs.declared.class.Gives.{Gives}
@@ -219,12 +219,7 @@ taken_onto (a ∷ given) list w go =
 pub on_pushed : (n m : ℕ) (given : Given) (s : Operands) (w : World) (go : Given → Operands → Outcome Way)
     → length given.numbers ≡ n → length given.objects ≡ m → on_given n m (pushed given s) w go ≡ go given s
 on_pushed n m given s w go e f =
-    let goes : List ℤ → List ℤ → List ℕ → List ℕ → Outcome Way = λ values numbers objects names.
-    go (record { numbers = values; objects = objects }) (record { numbers = numbers; names = names }) in
-    ap (λ k. on_given k m (pushed given s) w go) (sym e) ∙ ap (λ k. on_given (length given.numbers) k (pushed given s) w go) (sym f)
-    ∙ taken_onto given.numbers s.numbers w
-    (λ values numbers. taken_of (length given.objects) [] (onto given.objects s.names) w (goes values numbers))
-    ∙ taken_onto given.objects s.names w (goes given.numbers s.numbers)
+    rw (← e, ← f) (taken_onto given.numbers s.numbers w _ ∙ taken_onto given.objects s.names w _)
 
 -- what is known of the value where a part is done
 abbrev pub Holds : {A : Type 0} → (A → Type 0) → Outcome A → Type 0

@@ -105,7 +105,7 @@ front_of (v ∷ values) =
 pub drop_onto : {A : Type 0} (values rest : List A) → drop (length values) (onto values rest) ≡ rest
 drop_onto values rest =
     let f = front_of values in
-    ap (drop (length values)) (f.is rest) ∙ ap (λ n. drop n (f.front ++ rest)) (sym f.size) ∙ drop-append_seam f.front rest
+    rw (f.is rest, ← f.size) (drop-append_seam f.front rest)
 
 pub behind_one : {A : Type 0} (xs ys : List A) (x : A) → drop (suc (length xs)) (xs ++ x ∷ ys) ≡ ys
 behind_one [] ys x = refl
@@ -115,9 +115,4 @@ behind_one (y ∷ xs) ys x = behind_one xs ys x
 pub without_below : {A : Type 0} (values rest : List A) (r : A) → take (length values) (onto values (r ∷ rest)) ++ drop (suc (length values)) (onto values (r ∷ rest)) ≡ onto values rest
 without_below values rest r =
     let f = front_of values in
-    let n = length values in
-    ap (λ l. take n l ++ drop (suc n) l) (f.is (r ∷ rest))
-    ∙ ap (λ k. take k (f.front ++ r ∷ rest) ++ drop (suc k) (f.front ++ r ∷ rest)) (sym f.size)
-    ∙ ap (λ l. l ++ drop (suc (length f.front)) (f.front ++ r ∷ rest)) (take-append_seam f.front (r ∷ rest))
-    ∙ ap (λ l. f.front ++ l) (behind_one f.front rest r)
-    ∙ sym (f.is rest)
+    rw (f.is (r ∷ rest), f.is rest, ← f.size) (simp (take-append_seam, behind_one))

@@ -1,16 +1,9 @@
 -- What an expression is of its parts, and how much of it is left to lower: that falls with each call.
-use Rattle.std.proofs.Common.{arith, ◌≡◌, ℕ, zero, suc, ◌+◌, ◌<◌, ◌≤◌, List, [], ◌∷◌, Box, Global, length, get_or, refl, sym, subst}
-use Rattle.arc_ast.specs.declared.tree.Kind.{Kind}
-use Rattle.arc_ast.specs.declared.tree.Moment.{Moment}
-use Rattle.arc_ast.specs.declared.tree.BinaryOperator.{BinaryOperator}
-use Rattle.arc_check.specs.declared.checked.Value as c
-use Rattle.arc_check.specs.declared.checked.Reference as r
+use Rattle.std.proofs.Common.{arith, ◌≡◌, ℕ, zero, suc, ◌+◌, ◌<◌, ◌≤◌, List, [], ◌∷◌, length, get_or, sym, subst}
 use Rattle.arc_check.specs.declared.checked.Argument as g
 use Rattle.arc_check.specs.declared.checked.Argument.TheVariants.{Number', Object'}
-use Rattle.arc_spec.specs.declared.location.Location.{Location}
 use Rattle.arc_spec.specs.Resolved.{Value, Print, Applied, Combined, Choice, Converted, Assigned, Updated, Invoked, Sent, Receiver, ClassValue, ClassSuper, ObjectValue, ObjectSuper, Field, FieldAssigned, FieldUpdated, Differ, IsObject, Reference, Chosen, Stored, ObjectField, ObjectFieldStored, Made, New, ObjectInvoked, ObjectSent, Arguments, no_arguments, number_argument, object_argument}
-use Rattle.arc_check.specs.Checked.{value, arguments, and_argument, receiver}
-use Rattle.arc_lower.specs.Lowered.{unused}
+use Rattle.arc_check.specs.Checked.{arguments, and_argument, receiver}
 
 abbrev mutual
   pub value_weight : Value → ℕ
@@ -66,13 +59,3 @@ argument_in (a ∷ vs) zero v below is =
     let whole = before_others a (arguments vs) in
     subst (λ x. argument_weight x ≤ arguments_weight (and_argument a (arguments vs))) (sym is) (omega (arith, whole))
 argument_in (a ∷ vs) (suc i) v below is = let deep = argument_in vs i v (omega (arith, below)) is in let whole = before_others a (arguments vs) in omega (arith, deep, whole)
-
-abbrev boxed : {A : Type 0} → Box (Unit {0}) Global → A → Box A Global
-boxed q a = record { ptr = q.ptr; alloc = q.alloc; value = a }
-
--- an expression that is no update is the same where nobody uses its number
-pub unused_other : (v : c.Value) → ((moment : Moment) (i : Location) (operator : BinaryOperator) (computed kept : Kind) (a : Box c.Value Global) → v ≡ c.Updated moment i operator computed kept a → ⊥)
-    → ((moment : Moment) (a : Box r.Reference Global) (class index : ℕ) (operator : BinaryOperator) (computed kept : Kind) (b : Box c.Value Global) → v ≡ c.FieldUpdated moment a class index operator computed kept b → ⊥) → value v ≡ unused (value v)
-unused_other (c.Updated' moment i operator computed kept q a) n m = absurd (n moment i operator computed kept (boxed q a) refl)
-unused_other (c.FieldUpdated' moment q a class index operator computed kept p b) n m = absurd (m moment (boxed q a) class index operator computed kept (boxed p b) refl)
-unused_other _ n m = refl

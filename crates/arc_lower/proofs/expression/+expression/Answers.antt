@@ -1,14 +1,12 @@
-use Rattle.std.proofs.Common.{◌≡◌, ℕ, ◌+◌, ◌<◌, true, List, ◌∷◌, length, get_or, drop, refl, ap, sym, subst, ◌∙◌, append_assoc, arith, OnOk}
-use Rattle.std.proofs.lemmas.List.{drop_more, length-map}
-use Rattle.arc_check.specs.declared.checked.Argument.{Argument}
-use Rattle.arc_check.specs.Checked.{value, reference, arguments, and_argument, program_of}
+use Rattle.std.proofs.Common.{◌≡◌, true, length, refl, sym, subst, ◌∙◌, arith, OnOk}
+use Rattle.std.proofs.lemmas.List.{length-map}
+use Rattle.arc_check.specs.Checked.{value, reference, program_of}
 use Rattle.arc_lower.specs.Order.{order, orders}
 use Rattle.arc_lower.specs.Lowered.{value_orders, reference_orders}
 use Rattle.arc_lower.proofs.Patching.{patch_fork}
 use Rattle.arc_check.proofs.Trees.{is_print, is_invoked, is_sent, is_object_invoked, is_object_sent}
 use Rattle.arc_lower.proofs.Weights.{argument_in}
 use Rattle.arc_lower.proofs.expression.+expression.Goals as goal
-use Rattle.arc_lower.proofs.expression.+expression.Goals.{append_arguments-in-Number+in_ok-append_value-in-Number+in_ok-operands-in-Number, append_arguments-in-Object+in_ok-append_reference-in-Object}
 
 pub append_value-append_printed-requires : goal.append_value-append_printed-requires
 append_value-append_printed-requires t c =
@@ -32,36 +30,6 @@ append_value-append_sent-requires t c =
 pub append_value-returns-in-Sent : goal.append_value-returns-in-Sent
 append_value-returns-in-Sent t c =
     rw (is_sent _ _ _ _ _ _ c.in-Sent.is c.deref-in-Sent.ensures c.deref-in-Sent-2.ensures.value) c.append_sent.ensures
-
-pub append_choice-returns : goal.append_choice-returns
-append_choice-returns t c =
-    let P = program_of c.args.program.now in
-    let f = c.args.frame in
-    let old = orders c.args.actions.now.items in
-    let v1 = c.append_value.new.actions in
-    let v2 = c.append.new.actions in
-    let v3 = c.append_value-2.new.actions in
-    let v4 = c.append-2.new.actions in
-    let v5 = c.append_value-3.new.actions in
-    let e = patch_fork old (orders v1.items) (orders v2.items) (orders v3.items) (orders v4.items) (orders v5.items) (value_orders P f.slots f.names f.operands (value c.args.test.now)) (value_orders P f.slots f.names f.operands (value c.args.first.now)) (value_orders P f.slots f.names f.operands (value c.args.second.now)) c.len-branch.result c.len-skip.result c.len-other.result _ _ (length (orders v5.items))
-    c.in_ok-append_value.ensures (c.len-branch.ensures ∙ v1.ok.0 ∙ sym (length-map v1.items order)) c.in_ok-append.ensures c.in_ok-append_value-2.ensures (c.len-skip.ensures ∙ v3.ok.0 ∙ sym (length-map v3.items order)) c.in_ok-append-2.ensures (c.len-other.ensures ∙ v4.ok.0 ∙ sym (length-map v4.items order)) c.in_ok-append_value-3.ensures refl refl refl
-    in
-    subst (λ l. OnOk c.join.result (orders c.join.new.actions.items ≡ l)) e c.join.ensures
-
-pub append_chosen-returns : goal.append_chosen-returns
-append_chosen-returns t c =
-    let P = program_of c.args.program.now in
-    let f = c.args.frame in
-    let old = orders c.args.actions.now.items in
-    let v1 = c.append_value.new.actions in
-    let v2 = c.append.new.actions in
-    let v3 = c.append_reference.new.actions in
-    let v4 = c.append-2.new.actions in
-    let v5 = c.append_reference-2.new.actions in
-    let e = patch_fork old (orders v1.items) (orders v2.items) (orders v3.items) (orders v4.items) (orders v5.items) (value_orders P f.slots f.names f.operands (value c.args.test.now)) (reference_orders P f.slots f.names f.operands (reference c.args.first.now)) (reference_orders P f.slots f.names f.operands (reference c.args.second.now)) c.len-branch.result c.len-skip.result c.len-other.result _ _ (length (orders v5.items))
-    c.in_ok-append_value.ensures (c.len-branch.ensures ∙ v1.ok.0 ∙ sym (length-map v1.items order)) c.in_ok-append.ensures c.in_ok-append_reference.ensures (c.len-skip.ensures ∙ v3.ok.0 ∙ sym (length-map v3.items order)) c.in_ok-append-2.ensures (c.len-other.ensures ∙ v4.ok.0 ∙ sym (length-map v4.items order)) c.in_ok-append_reference-2.ensures refl refl refl
-    in
-    subst (λ l. OnOk c.join.result (orders c.join.new.actions.items ≡ l)) e c.join.ensures
 
 pub append_reference-append_invoked-requires : goal.append_reference-append_invoked-requires
 append_reference-append_invoked-requires t c =
@@ -93,19 +61,32 @@ append_arguments-append_reference-requires t c =
     let within = argument_in c.args.all.now i c.argument-item.result c.loop-argument-test.true c.argument-item.is in
     (omega (arith, rw (c.in-Object.is, ← c.deref-in-Object.ensures) at within, c.decreases), tt)
 
--- the arguments that are left, without the next one
-left_of : (all : List Argument) (i : ℕ) (a : Argument) → i < length all → a ≡ get_or all i a → arguments (drop i all) ≡ and_argument a (arguments (drop (i + 1) all))
-left_of all i a below is = ap arguments (drop_more all i a below ∙ ap (λ x. x ∷ drop (i + 1) all) (sym is))
+pub append_choice-returns : goal.append_choice-returns
+append_choice-returns t c =
+    let P = program_of c.args.program.now in
+    let f = c.args.frame in
+    let old = orders c.args.actions.now.items in
+    let v1 = c.append_value.new.actions in
+    let v2 = c.append.new.actions in
+    let v3 = c.append_value-2.new.actions in
+    let v4 = c.append-2.new.actions in
+    let v5 = c.append_value-3.new.actions in
+    let e = patch_fork old (orders v1.items) (orders v2.items) (orders v3.items) (orders v4.items) (orders v5.items) (value_orders P f.slots f.names f.operands (value c.args.test.now)) (value_orders P f.slots f.names f.operands (value c.args.first.now)) (value_orders P f.slots f.names f.operands (value c.args.second.now)) c.len-branch.result c.len-skip.result c.len-other.result _ _ (length (orders v5.items))
+    c.in_ok-append_value.ensures (c.len-branch.ensures ∙ v1.ok.0 ∙ sym (length-map v1.items order)) c.in_ok-append.ensures c.in_ok-append_value-2.ensures (c.len-skip.ensures ∙ v3.ok.0 ∙ sym (length-map v3.items order)) c.in_ok-append-2.ensures (c.len-other.ensures ∙ v4.ok.0 ∙ sym (length-map v4.items order)) c.in_ok-append_value-3.ensures refl refl refl
+    in
+    subst (λ l. OnOk c.join.result (orders c.join.new.actions.items ≡ l)) e c.join.ensures
 
-pub append_arguments-loop-argument-preserved : goal.append_arguments-loop-argument-preserved
-append_arguments-loop-argument-preserved t c =
-    let i = c.loop-argument.argument-index in
-    let split = left_of c.args.all.now i c.argument-item.result c.loop-argument-test.true c.argument-item.is in
-    elim c.match-argument.branch [
-      | append_arguments-in-Number+in_ok-append_value-in-Number+in_ok-operands-in-Number w ↦
-          simp (w.actions-is, w.operands-is, w.in_ok-operands-in-Number.ensures, w.in_ok-append_value-in-Number.ensures, append_assoc)
-          (rw (split, w.in-Number.is, ← w.deref.ensures) at c.loop-argument.invariant)
-      | append_arguments-in-Object+in_ok-append_reference-in-Object w ↦
-          simp (w.actions-is, w.operands-is, w.in_ok-append_reference-in-Object.ensures, append_assoc)
-          (rw (split, w.in-Object.is, ← w.deref-in-Object.ensures) at c.loop-argument.invariant)
-    ]
+pub append_chosen-returns : goal.append_chosen-returns
+append_chosen-returns t c =
+    let P = program_of c.args.program.now in
+    let f = c.args.frame in
+    let old = orders c.args.actions.now.items in
+    let v1 = c.append_value.new.actions in
+    let v2 = c.append.new.actions in
+    let v3 = c.append_reference.new.actions in
+    let v4 = c.append-2.new.actions in
+    let v5 = c.append_reference-2.new.actions in
+    let e = patch_fork old (orders v1.items) (orders v2.items) (orders v3.items) (orders v4.items) (orders v5.items) (value_orders P f.slots f.names f.operands (value c.args.test.now)) (reference_orders P f.slots f.names f.operands (reference c.args.first.now)) (reference_orders P f.slots f.names f.operands (reference c.args.second.now)) c.len-branch.result c.len-skip.result c.len-other.result _ _ (length (orders v5.items))
+    c.in_ok-append_value.ensures (c.len-branch.ensures ∙ v1.ok.0 ∙ sym (length-map v1.items order)) c.in_ok-append.ensures c.in_ok-append_reference.ensures (c.len-skip.ensures ∙ v3.ok.0 ∙ sym (length-map v3.items order)) c.in_ok-append-2.ensures (c.len-other.ensures ∙ v4.ok.0 ∙ sym (length-map v4.items order)) c.in_ok-append_reference-2.ensures refl refl refl
+    in
+    subst (λ l. OnOk c.join.result (orders c.join.new.actions.items ≡ l)) e c.join.ensures
