@@ -116,7 +116,8 @@ any_long : (o : Outcome ℤ) → Holds (IsOf k.Long) o
 any_long (Done v w) = refl
 any_long _ = tt
 
-pub any_holds : {A B : Type 0} (Good : B → Type 0) (o : Outcome A) (go : A → World → Outcome B) → ((a : A) (w : World) → Holds Good (go a w)) → Holds Good (then_do o go)
+pub any_holds : {A B : Type 0} (Good : B → Type 0) (o : Outcome A) (go : A → World → Outcome B)
+    → ((a : A) (w : World) → Holds Good (go a w)) → Holds Good (then_do o go)
 any_holds Good (Done a w) go h = h a w
 any_holds Good _ go h = tt
 
@@ -169,6 +170,7 @@ module _ (D : Deeper) where
   known_good (Assigned i a) w = holds_then (IsOf (known_kind a)) (IsOf (known_kind a)) (evaluated D a w) _ (known_good a w) (λ x w1 h. h)
   known_good (FieldAssigned a class index b) w = any_holds (IsOf (known_kind b)) (referred D a w) _ (λ r w1.
       holds_then (IsOf (known_kind b)) (IsOf (known_kind b)) (evaluated D b w1) _ (known_good b w1) (λ v w2 h. set_holds (IsOf (known_kind b)) class (object_at w2.objects r) v _ w2 h))
-  known_good (Differ a b) w = any_holds (IsOf k.Bool) (referred D a w) _ (λ x w1. any_holds (IsOf k.Bool) (referred D b w1) _ (λ y w2. bit (nat_eq x y)))
+  known_good (Differ a b) w = any_holds (IsOf k.Bool) (referred D a w) _
+      (λ x w1. any_holds (IsOf k.Bool) (referred D b w1) _ (λ y w2. bit (nat_eq x y)))
   known_good (IsObject a) w = any_holds (IsOf k.Bool) (referred D a w) _ (λ x w1. bit (nat_eq x 0))
   known_good a w = any_long (evaluated D a w)

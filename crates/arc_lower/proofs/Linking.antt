@@ -67,12 +67,14 @@ last_second [] = refl
 last_second (g ∷ fs) = last_second fs
 
 module _ (P : resolved.Program) (wanted : Gives) where
-  in_list : (fs : List Function) (f : ℕ) → gives_at (with_functions fs P) wanted f ≡ true → slice_get (fs ++ last_two) f ≡ Some (function_at (with_functions fs P) wanted f)
+  in_list : (fs : List Function) (f : ℕ) → gives_at (with_functions fs P) wanted f ≡ true
+      → slice_get (fs ++ last_two) f ≡ Some (function_at (with_functions fs P) wanted f)
   in_list [] f e = absurd (true≢false (sym e))
   in_list (g ∷ fs) zero e = ap (λ b. Some (if b then g else nothing_giving wanted)) (sym e)
   in_list (g ∷ fs) (suc f) e = in_list fs f e
 
-  pub out_of_list : (fs : List Function) (f : ℕ) → gives_at (with_functions fs P) wanted f ≡ false → nothing_giving wanted ≡ function_at (with_functions fs P) wanted f
+  pub out_of_list : (fs : List Function) (f : ℕ) → gives_at (with_functions fs P) wanted f ≡ false
+      → nothing_giving wanted ≡ function_at (with_functions fs P) wanted f
   out_of_list [] f e = refl
   out_of_list (g ∷ fs) zero e = ap (λ b. if b then g else nothing_giving wanted) (sym e)
   out_of_list (g ∷ fs) (suc f) e = out_of_list fs f e
@@ -132,7 +134,8 @@ module _ (p : Program) (R : resolved.Program) (is : orders p.actions ≡ lowered
       let there = find p R (all_functions R) (length start) (number_of R wanted f) (function_at R wanted f) (numbered R wanted f) has in
       record {
         place = there.place;
-        entry = get_or_from_slice_get p.entries (number_of R wanted f) (entry_of there.place (function_at R wanted f)) (length p.actions) (ap (λ l. slice_get l (number_of R wanted f)) entries ∙ there.entry);
+        entry = get_or_from_slice_get p.entries (number_of R wanted f) (entry_of there.place (function_at R wanted f)) (length p.actions)
+            (ap (λ l. slice_get l (number_of R wanted f)) entries ∙ there.entry);
         first = get_or_from_slice_get (entries_of R) (number_of R wanted f) (entry_of there.place (function_at R wanted f)) 0 there.entry;
         code = there.code;
       }

@@ -184,7 +184,8 @@ block D bound place false (Full a b) s w = Done Lost w
 block D bound place m (Leave exit) s w = Done (Out exit s) w
 
 -- one part after two others
-pub then_twice : {A B C : Type 0} (o : Outcome A) (f : A → World → Outcome B) (g : B → World → Outcome C) → then_do o (λ a w. then_do (f a w) g) ≡ then_do (then_do o f) g
+pub then_twice : {A B C : Type 0} (o : Outcome A) (f : A → World → Outcome B) (g : B → World → Outcome C)
+    → then_do o (λ a w. then_do (f a w) g) ≡ then_do (then_do o f) g
 then_twice (Done a w) f g = refl
 then_twice _ f g = refl
 

@@ -46,7 +46,8 @@ get_below (v ∷ operands) stack n =
     let e : length (v ∷ operands) + n ≡ suc (length operands + n) = omega arith in
     ap (slice_get (v ∷ operands ++ stack)) e ∙ get_below operands stack n
 
-pub set_below : {A : Type 0} (operands stack : List A) (n : ℕ) (u : A) → slice_set (operands ++ stack) (length operands + n) u ≡ operands ++ slice_set stack n u
+pub set_below : {A : Type 0} (operands stack : List A) (n : ℕ) (u : A)
+    → slice_set (operands ++ stack) (length operands + n) u ≡ operands ++ slice_set stack n u
 set_below [] stack n u = let e : 0 + n ≡ n = omega arith in ap (λ m. slice_set stack m u) e
 set_below (v ∷ operands) stack n u =
     let e : length (v ∷ operands) + n ≡ suc (length operands + n) = omega arith in

@@ -183,7 +183,8 @@ one_nil index fields strong but i k named = ⊎_elim
 
 -- where that field isn't there
 pub no_field : (index : ℕ) (fields strong : List ℕ) → slice_get strong index ≡ None → NilBut (index ∷ fields) strong → NilBut fields strong
-no_field index fields strong none but i k named = ⊎_elim (λ same. absurd (none-some (suc k) (sym none ∙ ap (slice_get strong) (sym same) ∙ named))) (λ rest. rest) (but i k named)
+no_field index fields strong none but i k named = ⊎_elim
+    (λ same. absurd (none-some (suc k) (sym none ∙ ap (slice_get strong) (sym same) ∙ named))) (λ rest. rest) (but i k named)
 
 -- fields that all are nil name nothing
 pub nil_named : (strong : List ℕ) → NilBut [] strong → (k : ℕ) → holders (suc k) strong ≡ 0
@@ -220,4 +221,5 @@ in_order (n ∷ above) i count lt =
 -- the order of an object's fields has all of them
 pub all_in_order : (classes : List Class) (ob : Object) → length ob.strong ≡ strong_count (slice_get classes ob.class) → NilBut (field_order classes ob.class) ob.strong
 all_in_order classes ob size i k named =
-    in_order (strong_counts classes (ancestry (superclasses classes) (above_class (slice_get classes ob.class)))) i (strong_count (slice_get classes ob.class)) (omega (arith, size, slice_get_within ob.strong i (suc k) named))
+    in_order (strong_counts classes (ancestry (superclasses classes) (above_class (slice_get classes ob.class)))) i
+        (strong_count (slice_get classes ob.class)) (omega (arith, size, slice_get_within ob.strong i (suc k) named))

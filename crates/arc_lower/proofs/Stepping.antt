@@ -222,8 +222,10 @@ module _ (R : resolved.Program) (all : List Order) (table : List (Height × Give
 
   -- before a message to an object, and before what drops a temporary, no function is left
   message_clears : (pc : ℕ) → slice_get all pc ≡ Some (SendTo init_selector 0 0 gives.Object) → (k : ℕ) → Clears k pc → ⊥
-  message_clears pc is zero (zero, y) = not_message IsLeave (λ s t o w m. m) y.0 y.2 (subst IsMessage (some_same (SendTo init_selector 0 0 gives.Object) y.0 (sym is ∙ y.1)) tt)
-  message_clears pc is zero (suc n, y) = not_message Takes (λ s t o w m. m) y.0 y.2 (subst IsMessage (some_same (SendTo init_selector 0 0 gives.Object) y.0 (sym is ∙ y.1)) tt)
+  message_clears pc is zero (zero, y) = not_message IsLeave (λ s t o w m. m) y.0 y.2
+      (subst IsMessage (some_same (SendTo init_selector 0 0 gives.Object) y.0 (sym is ∙ y.1)) tt)
+  message_clears pc is zero (suc n, y) = not_message Takes (λ s t o w m. m) y.0 y.2
+      (subst IsMessage (some_same (SendTo init_selector 0 0 gives.Object) y.0 (sym is ∙ y.1)) tt)
   message_clears pc is (suc k) c = subst IsMessage (some_same (SendTo init_selector 0 0 gives.Object) (Empty k) (sym is ∙ c.0)) tt
 
   settle_clears : (pc : ℕ) → slice_get all pc ≡ Some Settle → (k : ℕ) → Clears k pc → ⊥
@@ -235,7 +237,9 @@ module _ (R : resolved.Program) (all : List Order) (table : List (Height × Give
 
   module _ (given : Gives) where
     pub opens_goes : (pc : ℕ) (h : Height) (x : Order) → Opens x → slice_get table pc ≡ Some (h, given) → slice_get all pc ≡ Some x → Goes given pc h
-    opens_goes pc h x opens e is = (record { height = e; order = x; is = is; no_end = λ same. subst Opens same opens }, λ k c. absurd (opens_clears pc x opens is k c), free_at pc x is (not_settle Opens (λ o. o) x opens) (λ message. absurd (not_message Opens (λ s t o w m. m) x opens message)))
+    opens_goes pc h x opens e is = (record { height = e; order = x; is = is; no_end = λ same. subst Opens same opens }, λ k c. absurd
+        (opens_clears pc x opens is k c), free_at pc x is (not_settle Opens (λ o. o) x opens)
+        (λ message. absurd (not_message Opens (λ s t o w m. m) x opens message)))
 
     -- a function without variables may be left
     pub none_goes : (pc : ℕ) (h : Height) → Stands given pc h → h.variables ≡ 0 → Free pc → Goes given pc h
@@ -289,7 +293,8 @@ module _ (R : resolved.Program) (all : List Order) (table : List (Height × Give
       -- no order behind ordinary ones drops the temporary before the last one
       first_quiet : (pc : ℕ) (w : Walk) (xs : List Order) → AllOrdinary xs → Follows pc w xs → Quiet pc
       first_quiet pc w _ no_order f = f.2.0
-      first_quiet pc w _ (and_one {x = x} o others) f = λ y e settles. not_settle Ordinary (λ o. o) x o (subst IsSettle (some_same y x (sym e ∙ f.1)) settles)
+      first_quiet pc w _ (and_one {x = x} o others) f = λ y e settles. not_settle Ordinary (λ o. o) x o
+          (subst IsSettle (some_same y x (sym e ∙ f.1)) settles)
       first_quiet pc w _ (and_made others) f = λ y e settles. subst IsSettle (some_same y (Plain Alloc) (sym e ∙ f.1)) settles
 
       pub goes_here : (pc : ℕ) (w : Walk) (xs : List Order) → AllOrdinary xs → Follows pc w xs → Goes given pc w.height
@@ -347,13 +352,15 @@ module _ (R : resolved.Program) (all : List Order) (table : List (Height × Give
       -- where they begin the variables are empty
       pub takes_stand : (pc : ℕ) (w : Walk) (xs : List Order) (leave : Order) → IsLeave leave → AllTake xs → Row pc w (xs ++ leave ∷ []) → Stands given pc w.height × ((k : ℕ) → Clears k pc → k ≡ 0) × Free pc
       takes_stand pc w [] leave leaves takes f =
-          (record { height = f.0; order = leave; is = f.1; no_end = λ same. subst IsLeave same leaves }, only, free_at pc leave f.1 (not_settle IsLeave (λ o. o) leave leaves) (λ message. absurd (not_message IsLeave (λ s t o w m. m) leave leaves message)))
+          (record { height = f.0; order = leave; is = f.1; no_end = λ same. subst IsLeave same leaves }, only, free_at pc leave f.1
+              (not_settle IsLeave (λ o. o) leave leaves) (λ message. absurd (not_message IsLeave (λ s t o w m. m) leave leaves message)))
         where
           only : (k : ℕ) → Clears k pc → k ≡ 0
           only zero c = refl
           only (suc k) c = absurd (leaves_keep leave k leaves (some_same leave (Empty k) (sym f.1 ∙ c.0)))
       takes_stand pc w (x ∷ xs) leave leaves takes f =
-          (record { height = f.0; order = x; is = f.1; no_end = λ same. subst Takes same takes.0 }, only, free_at pc x f.1 (not_settle Takes (λ o. o) x takes.0) (λ message. absurd (not_message Takes (λ s t o w m. m) x takes.0 message)))
+          (record { height = f.0; order = x; is = f.1; no_end = λ same. subst Takes same takes.0 }, only, free_at pc x f.1
+              (not_settle Takes (λ o. o) x takes.0) (λ message. absurd (not_message Takes (λ s t o w m. m) x takes.0 message)))
         where
           only : (k : ℕ) → Clears k pc → k ≡ 0
           only zero c = refl

@@ -1,4 +1,5 @@
 use Rattle.std.proofs.Common.{◌≡◌, true, length, refl, sym, subst, ◌∙◌, arith, OnOk}
+use Rattle.std.proofs.lemmas.Grind.{common_steps}
 use Rattle.std.proofs.lemmas.List.{length-map}
 use Rattle.arc_check.specs.Checked.{value, reference, program_of}
 use Rattle.arc_lower.specs.Order.{order, orders}
@@ -90,3 +91,6 @@ append_chosen-returns t c =
     c.in_ok-append_value.ensures (c.len-branch.ensures ∙ v1.ok.0 ∙ sym (length-map v1.items order)) c.in_ok-append.ensures c.in_ok-append_reference.ensures (c.len-skip.ensures ∙ v3.ok.0 ∙ sym (length-map v3.items order)) c.in_ok-append-2.ensures (c.len-other.ensures ∙ v4.ok.0 ∙ sym (length-map v4.items order)) c.in_ok-append_reference-2.ensures refl refl refl
     in
     subst (λ l. OnOk c.join.result (orders c.join.new.actions.items ≡ l)) e c.join.ensures
+
+pub append_field_updated-returns : goal.append_field_updated-returns
+append_field_updated-returns t c = grind (arith, common_steps)
