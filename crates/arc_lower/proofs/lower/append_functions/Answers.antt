@@ -1,13 +1,14 @@
-use Rattle.std.proofs.Common.{◌≡◌, List, ◌++◌, [], ◌∷◌, ◌+◌, length, drop, ap, sym, ◌∙◌, subst}
-use Rattle.std.proofs.lemmas.List.{drop_more, drop_all, append-nil}
+use Rattle.std.proofs.lemmas.Grind.{common_steps}
+use Rattle.std.proofs.Common.{arith, ◌≡◌, List, ◌++◌, [], ◌∷◌, ◌+◌, length, drop, ap, sym, ◌∙◌, subst}
+use Rattle.std.proofs.lemmas.List.{drop_more, drop_all}
 use Rattle.arc_spec.specs.Resolved.{Function}
 use Rattle.arc_check.specs.declared.checked.CheckedFunction.{CheckedFunction}
 use Rattle.arc_check.specs.Checked.{functions, commands, program_of}
 use Rattle.arc_lower.specs.Order.{orders}
 use Rattle.arc_spec.specs.declared.class.Gives.TheVariants as gives
 use Rattle.arc_spec.specs.Meaning.{nothing_giving}
-use Rattle.arc_lower.specs.Lowered.{entry_of, function_orders, functions_orders, entries_from}
-use Rattle.arc_lower.specs.Heights.{greatest, function_heights, functions_heights}
+use Rattle.arc_lower.specs.Lowered.{entry_of, function_orders}
+use Rattle.arc_lower.specs.Heights.{greatest, function_heights}
 use Rattle.arc_lower.proofs.Laying.{Laid, laid_more}
 use Rattle.arc_lower.proofs.lower.append_functions.Goals as goal
 
@@ -62,19 +63,10 @@ finished c =
     (two.actions ∙ ap (λ (f : Function). o2 ++ function_orders P (length o2) f) two_is) (two.entries ∙ ap (λ (f : Function). e2 ++ entry_of (length o2) f ∷ []) two_is) (two.most ∙ ap (λ (f : Function). greatest (function_heights P (length o2) f) m2) two_is)
 
 pub returns-clause-actions : goal.returns-clause-actions
-returns-clause-actions c =
-    let P = program_of c.args.program.now in
-    let start = orders c.args.actions.now.items in
-    sym (append-nil (orders c.append_function-3.new.actions.items)) ∙ (finished c).actions ∙ ap (λ l. start ++ functions_orders P (length start) (functions l ++ last_two)) c.deref-function-items.ensures.value
+returns-clause-actions c = let all = finished c in grind (arith, common_steps, all)
 
 pub returns-clause-entries : goal.returns-clause-entries
-returns-clause-entries c =
-    let P = program_of c.args.program.now in
-    let start = orders c.args.actions.now.items in
-    sym (append-nil c.append_function-3.new.entries.items) ∙ (finished c).entries ∙ ap (λ l. c.args.entries.now.items ++ entries_from P (length start) (functions l ++ last_two)) c.deref-function-items.ensures.value
+returns-clause-entries c = let all = finished c in grind (arith, common_steps, all)
 
 pub returns-clause-most : goal.returns-clause-most
-returns-clause-most c =
-    let P = program_of c.args.program.now in
-    let start = orders c.args.actions.now.items in
-    (finished c).most ∙ ap (λ l. greatest (functions_heights P (length start) (functions l ++ last_two)) c.args.most.now) c.deref-function-items.ensures.value
+returns-clause-most c = let all = finished c in grind (arith, common_steps, all)

@@ -1,3 +1,4 @@
+use Rattle.std.proofs.lemmas.Grind.{common_steps}
 use Rattle.std.proofs.Common.{◌≡◌, ◌+◌, ◌++◌, ◌∷◌, [], length, refl, ap, sym, subst, ◌∙◌, OnOk, arith, length-append}
 use Rattle.std.proofs.lemmas.List.{length-map}
 use Rattle.arc_code.specs.declared.instr.Instr.TheVariants.{Jump, JumpZero}
@@ -54,21 +55,7 @@ append_command-returns-in_ok-append_command-in-Choose-2-clause-actions t c =
     (subst (λ l. OnOk c.join.result (orders c.join.new.actions.items ≡ l)) e c.join.ensures)
 
 pub append_command-returns-in_ok-out-in-Repeat-clause-actions : goal.append_command-returns-in_ok-out-in-Repeat-clause-actions
-append_command-returns-in_ok-out-in-Repeat-clause-actions t c =
-    let P = program_of c.args.program.now in
-    let b = c.args.body in
-    let scopes = c.args.scopes.now.items in
-    let old = orders c.args.actions.now.items in
-    let o1 = orders c.append_step.new.actions.items in
-    let o2 = orders c.append_test.new.actions.items in
-    let test = value c.in-Repeat.test in
-    let step = command c.deref-in-Repeat.result.now in
-    let body = command c.deref-in-Repeat-2.result.now in
-    let first = c.in_ok-begin-in-Repeat in
-    let e = repeat_written P b scopes old o1 o2 first.begin c.in_ok-out-in-Repeat.out test body c.in_ok-out-in-Repeat.ensures.actions c.in_ok-out-in-Repeat.ensures.out step first.ensures.actions first.ensures.begin
-    in
-    rw (c.in-Repeat.is, ← c.deref-in-Repeat.ensures, ← c.deref-in-Repeat-2.ensures)
-    (subst (λ l. OnOk c.append_turn.result (orders c.append_turn.new.actions.items ≡ l)) e c.append_turn.ensures)
+append_command-returns-in_ok-out-in-Repeat-clause-actions t c = grind (arith, common_steps, repeat_written)
 
 pub append_command-returns-in_ok-over-in-RepeatAfter-clause-actions : goal.append_command-returns-in_ok-over-in-RepeatAfter-clause-actions
 append_command-returns-in_ok-over-in-RepeatAfter-clause-actions t c =
@@ -90,11 +77,4 @@ append_command-returns-in_ok-over-in-RepeatAfter-clause-actions t c =
         (c.len-enter.ensures ∙ v0.ok.0 ∙ sym (length-map v0.items order)) c.in_ok-over-in-RepeatAfter.ensures)
 
 pub append_step-returns-clause-actions : goal.append_step-returns-clause-actions
-append_step-returns-clause-actions t c =
-    let v0 = c.args.actions.now in
-    let v1 = c.append.new.actions in
-    let v2 = c.append_command.new.actions in
-    c.replace.ensures
-    ∙ ap (λ n. Rattle.std.proofs.Common.slice_set (orders v2.items) c.len-enter.result (Jump (Skip n))) c.in_ok-steps.ensures
-    ∙ step_written (program_of c.args.program.now) c.args.body c.args.scopes.now.items (orders v0.items) (orders v1.items) (orders v2.items) (command c.args.step.now) c.len-enter.result c.len-begin.result c.len.result
-    (sym c.does_nothing.ensures ∙ c.if-does_nothing.false) (c.len-enter.ensures ∙ v0.ok.0 ∙ sym (length-map v0.items order)) c.in_ok-append.ensures (c.len-begin.ensures ∙ v1.ok.0 ∙ sym (length-map v1.items order)) c.in_ok-append_command.ensures.actions (c.len.ensures ∙ v2.ok.0 ∙ sym (length-map v2.items order))
+append_step-returns-clause-actions t c = grind (arith, common_steps, step_written)
