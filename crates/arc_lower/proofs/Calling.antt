@@ -345,8 +345,8 @@ module _ (p : Program) (R : resolved.Program) (bound : ℕ) (begins : (wanted : 
           (λ old named.
           let w1 = field_stores o ob index 0 w in
           subst (λ q. Runs (moves p) bound
-              (follow (recount (lets_go old (raised 0 (with_strong_field h o ob index 0)) stays (ends w))) w.input w.trace) (Goes_on w)
-              (released D q w1)) (sym (get_or_from_slice_get ob.strong index old 0 named))
+          (follow (recount (lets_go old (raised 0 (with_strong_field h o ob index 0)) stays (ends w))) w.input w.trace) (Goes_on w)
+          (released D q w1)) (sym (get_or_from_slice_get ob.strong index old 0 named))
           (better_runs (moves p) bound _ (Goes_on w1) (Goes_on w) (released D old w1) (lets_run w old (raised 0 h).counts w1 (λ k e. dropped_count o ob index old k w found there named e)) (λ done w2 to m. (m.0, record { frame = m.1.frame; waiting = m.1.waiting }))))))
 
     -- ---- what is left of an end

@@ -84,4 +84,3 @@ object_goes found o go e there = ap (λ f. on_object f go) e ∙ ap (λ b. only_
 pub named_goes : {S : Type 0} (r : ℕ) (h : Held) (next : Next S) → IsThere h.objects r → on_named r h next ≡ next
 named_goes zero h next there = refl
 named_goes (suc k) h next there = object_goes (object_at h.objects (suc k)) there.0 (λ _. next) there.1 there.2
-

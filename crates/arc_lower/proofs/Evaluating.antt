@@ -103,7 +103,7 @@ module _ (D : Deeper) (bound place : ℕ) where
       to_class a s w value = after (λ v. push v s) (end s) _ (evaluated D a w) _ _ value (λ self w1.
           tells wanted (end s) (ToClass selector) all (push self s) w1 (λ given w2. give (sent D wanted (meaning.ToClass (class_at self) self) selector given w2)) (arguments (push self s) w1) (λ given w2. leaves s (sent D wanted (meaning.ToClass (class_at self) self) selector given w2)))
           ∙ ap (left_by (end s)) (then_twice (evaluated D a w) (λ self w1. Done (meaning.ToClass (class_at self) self) w1)
-              (λ target w1. then_do (all_evaluated D all w1) (λ given w2. give (sent D wanted target selector given w2))))
+          (λ target w1. then_do (all_evaluated D all w1) (λ given w2. give (sent D wanted target selector given w2))))
 
       to_super_class : (from : ℕ) (s : Operands) (w : World) → Sends (ClassSuper from) selector all s w
       to_super_class from s w =
@@ -115,13 +115,13 @@ module _ (D : Deeper) (bound place : ℕ) where
       to_object a s w value = after (λ r. name r s) (end s) _ (referred D a w) _ _ value (λ self w1.
           tells wanted (end s) (ToObject selector) all (name self s) w1 (λ given w2. give (sent D wanted (meaning.ToObject self) selector given w2)) (arguments (name self s) w1) (λ given w2. leaves s (sent D wanted (meaning.ToObject self) selector given w2)))
           ∙ ap (left_by (end s)) (then_twice (referred D a w) (λ self w1. Done (meaning.ToObject self) w1)
-              (λ target w1. then_do (all_evaluated D all w1) (λ given w2. give (sent D wanted target selector given w2))))
+          (λ target w1. then_do (all_evaluated D all w1) (λ given w2. give (sent D wanted target selector given w2))))
 
       to_super : (a : Reference) (from : ℕ) (s : Operands) (w : World) → run (reference_block (length s.numbers) a) s w ≡ left_by (beside s) (referred D a w) → Sends (ObjectSuper a from) selector all s w
       to_super a from s w value = after (λ r. name r s) (end s) _ (referred D a w) _ _ value (λ self w1.
           tells wanted (end s) (ToSuper from selector) all (name self s) w1 (λ given w2. give (sent D wanted (meaning.ToSuper from self) selector given w2)) (arguments (name self s) w1) (λ given w2. leaves s (sent D wanted (meaning.ToSuper from self) selector given w2)))
           ∙ ap (left_by (end s)) (then_twice (referred D a w) (λ self w1. Done (meaning.ToSuper from self) w1)
-              (λ target w1. then_do (all_evaluated D all w1) (λ given w2. give (sent D wanted target selector given w2))))
+          (λ target w1. then_do (all_evaluated D all w1) (λ given w2. give (sent D wanted target selector given w2))))
 
   -- ---- `new`, behind the class that gets it
 

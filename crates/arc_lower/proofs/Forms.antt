@@ -76,8 +76,12 @@ module _ (P : Program) (r s slots names exit d : ℕ) (room : names ≤ d + s) w
   told : (g : Gives) (receiver : Receiver) (selector n m a b c : ℕ) → Comes (n + below_arguments receiver a) (m + with_object receiver b) c (Tells g (message_to receiver selector) n m) (as_number g + a) (as_object g + b)
   told g (ObjectValue v) selector n m a b c = record { more = c + as_object g; most = omega arith; types = ((omega arith, omega arith), object_left g n m a b c) }
   told g (ObjectSuper v from) selector n m a b c = record { more = c + as_object g; most = omega arith; types = ((omega arith, omega arith), object_left g n m a b c) }
-  told g _ selector n m a b c = record { more = c + as_object g; most = omega arith; types =
-      ((omega arith, omega arith), class_left g n m a b c) }
+  told g _ selector n m a b c = record {
+    more = c + as_object g;
+    most = omega arith;
+    types =
+        ((omega arith, omega arith), class_left g n m a b c);
+  }
 
   called : (g : Gives) (f n m a b c : ℕ) → Comes (n + a) (m + b) c (Calls g f n m) (as_number g + a) (as_object g + b)
   called g f n m a b c = record { more = c + as_object g; most = omega arith; types = call_types P r s g b c d f n m a }

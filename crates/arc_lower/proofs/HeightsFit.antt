@@ -201,9 +201,9 @@ module _ (p : Program) (R : resolved.Program) where
         let there : Entered R (entries_of R) (number_of R wanted f) (function_at R wanted f) = entered_at R wanted f in
         let begun = height (slots_of R wanted f) (parameters_of R wanted f) 0 0 in
         let found : get_or p.entries f (length p.actions) ≡ there.at = get_or_from_slice_get p.entries f there.at (length p.actions)
-            (ap (λ l. slice_get l f) entries ∙ ap (slice_get (entries_of R)) (sym same) ∙ there.is) in
+        (ap (λ l. slice_get l f) entries ∙ ap (slice_get (entries_of R)) (sym same) ∙ there.is) in
         subst (λ n. Goes R (all R) (table R) wanted n begun) (sym found)
-            (subst (λ g. Goes R (all R) (table R) g there.at begun) (function_gives R wanted f) there.goes)
+        (subst (λ g. Goes R (all R) (table R) g there.at begun) (function_gives R wanted f) there.goes)
 
     few : (pc : ℕ) → AtMost (height_at R pc) (greatest_height R)
     few pc = none_greater (lowered_heights R) no_height no_height pc (omega arith, omega arith, omega arith, omega arith)

@@ -561,7 +561,7 @@ module _ (R : resolved.Program) where
   target wanted f =
       let e = entered_at wanted f in
       subst (λ n. Goes_to wanted n (height (slots_of R wanted f) (parameters_of R wanted f) 0 0))
-          (sym (get_or_from_slice_get (entries_of R) (number_of R wanted f) e.at 0 e.is))
+      (sym (get_or_from_slice_get (entries_of R) (number_of R wanted f) e.at 0 e.is))
       (subst (λ g. Goes_to g e.at (height (slots_of R wanted f) (parameters_of R wanted f) 0 0)) (function_gives R wanted f) e.goes)
 
   pub methods_go : (from : Option ℕ) (sign : Sign) (selector takes objects : ℕ) (wanted : Gives) (to : ℕ) → lookup (classes_linked R) from sign selector takes objects wanted ≡ Some to → Goes_to wanted to (height (passes sign takes) objects 0 0)

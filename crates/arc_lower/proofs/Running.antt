@@ -645,8 +645,8 @@ module _ (p : Program) (frames : List Frame) (bound : ℕ) (R : resolved.Program
       subst (λ x. Runs (moves p) bound (next_of (keeps st stack h) w) end x) (sym is)
       (quiet_runs p frames bound rs (pc + 1) stack w end (Done finished w) (ends_here (moves p) bound (running frames rs (pc + 1) stack w) end finished w (refl, record { frame = refl; waiting = refl }))))
       (λ old found. subst (λ q. Runs (moves p) bound (next_of (releases p st old after) w) end (released D q (stores (Global i) r w)))
-          (sym (get_or_from_slice_get w.strong_globals i old 0 found))
-          (global_runs p frames bound rs D deep.ends i r old stack w pc found))))
+      (sym (get_or_from_slice_get w.strong_globals i old 0 found))
+      (global_runs p frames bound rs D deep.ends i r old stack w pc found))))
 
   stored_good : (calm : Bool) (i : Location) (r : ℕ) (w : World) → Good calm w → Good calm (stores i r w)
   stored_good calm (Local i) r w g = (record { locals = g.0.locals; strong = length-set w.frame.strong i r ∙ g.0.strong; itself = g.0.itself; waits = g.0.waits }, g.1)
@@ -686,7 +686,7 @@ module _ (p : Program) (frames : List Frame) (bound : ℕ) (R : resolved.Program
       let w1 = field_stores (suc k) o index r w in
       let good : Good calm w1 = (record { locals = g.0.locals; strong = g.0.strong; itself = g.0.itself; waits = g.0.waits }, g.1) in
       subst (λ q. Goes_on turn calm (next_of (releases p st old (raised r (with_strong_field (held_of rs w) (suc k) o index r))) w)
-          (pc + 1) (passes_by (name r s) (released D q w1))) (sym (get_or_from_slice_get o.strong index old 0 named))
+      (pc + 1) (passes_by (name r s) (released D q w1))) (sym (get_or_from_slice_get o.strong index old 0 named))
       (stayed turn calm (pc + 1) (pc + 1) (name r s) w w1 (next_of (releases p st old (raised r (with_strong_field (held_of rs w) (suc k) o index r))) w) (released D old w1) refl good (strong_field_runs p frames bound rs D deep.ends k o index r old (held_of before w) stack w pc found there named) refl)))
 
   assign_field_runs : (turn : Turn) (calm : Bool) (class index pc : ℕ) (numbers : List ℤ) (rs : List ℕ) (w : World) → Good calm w → HasAt p pc (StoreField class index ∷ []) → Goes_on turn calm (standing pc (record { numbers = numbers; names = rs }) w) (pc + 1) (block D bound 0 false (AssignField class index) (record { numbers = numbers; names = rs }) w)

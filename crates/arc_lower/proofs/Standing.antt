@@ -176,8 +176,11 @@ fields_far objects k ob numbers found (Some fields) d =
 -- one field more names nothing
 pub one_nil : (index : ℕ) (fields strong : List ℕ) → NilBut (index ∷ fields) strong → NilBut fields (slice_set strong index 0)
 one_nil index fields strong but i k named = ⊎_elim
-    (λ same. absurd (omega (arith, set_same strong index 0 (suc k)
-    (subst (λ j. slice_get (slice_set strong index 0) j ≡ Some (suc k)) same named))))
+    (λ same. absurd (omega (
+      arith,
+      set_same strong index 0 (suc k)
+          (subst (λ j. slice_get (slice_set strong index 0) j ≡ Some (suc k)) same named),
+    )))
     (λ ne. ⊎_elim (λ same. absurd (ne same)) (λ rest. rest) (but i k (sym (set_other strong index i 0 ne) ∙ named)))
     (cases_eq i index)
 
@@ -222,4 +225,4 @@ in_order (n ∷ above) i count lt =
 pub all_in_order : (classes : List Class) (ob : Object) → length ob.strong ≡ strong_count (slice_get classes ob.class) → NilBut (field_order classes ob.class) ob.strong
 all_in_order classes ob size i k named =
     in_order (strong_counts classes (ancestry (superclasses classes) (above_class (slice_get classes ob.class)))) i
-        (strong_count (slice_get classes ob.class)) (omega (arith, size, slice_get_within ob.strong i (suc k) named))
+    (strong_count (slice_get classes ob.class)) (omega (arith, size, slice_get_within ob.strong i (suc k) named))

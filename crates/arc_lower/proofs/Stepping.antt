@@ -237,9 +237,13 @@ module _ (R : resolved.Program) (all : List Order) (table : List (Height × Give
 
   module _ (given : Gives) where
     pub opens_goes : (pc : ℕ) (h : Height) (x : Order) → Opens x → slice_get table pc ≡ Some (h, given) → slice_get all pc ≡ Some x → Goes given pc h
-    opens_goes pc h x opens e is = (record { height = e; order = x; is = is; no_end = λ same. subst Opens same opens }, λ k c. absurd
-        (opens_clears pc x opens is k c), free_at pc x is (not_settle Opens (λ o. o) x opens)
-        (λ message. absurd (not_message Opens (λ s t o w m. m) x opens message)))
+    opens_goes pc h x opens e is = (
+      record { height = e; order = x; is = is; no_end = λ same. subst Opens same opens },
+      λ k c. absurd
+          (opens_clears pc x opens is k c),
+      free_at pc x is (not_settle Opens (λ o. o) x opens)
+          (λ message. absurd (not_message Opens (λ s t o w m. m) x opens message)),
+    )
 
     -- a function without variables may be left
     pub none_goes : (pc : ℕ) (h : Height) → Stands given pc h → h.variables ≡ 0 → Free pc → Goes given pc h
@@ -351,16 +355,22 @@ module _ (R : resolved.Program) (all : List Order) (table : List (Height × Give
 
       -- where they begin the variables are empty
       pub takes_stand : (pc : ℕ) (w : Walk) (xs : List Order) (leave : Order) → IsLeave leave → AllTake xs → Row pc w (xs ++ leave ∷ []) → Stands given pc w.height × ((k : ℕ) → Clears k pc → k ≡ 0) × Free pc
-      takes_stand pc w [] leave leaves takes f =
-          (record { height = f.0; order = leave; is = f.1; no_end = λ same. subst IsLeave same leaves }, only, free_at pc leave f.1
-              (not_settle IsLeave (λ o. o) leave leaves) (λ message. absurd (not_message IsLeave (λ s t o w m. m) leave leaves message)))
+      takes_stand pc w [] leave leaves takes f = (
+        record { height = f.0; order = leave; is = f.1; no_end = λ same. subst IsLeave same leaves },
+        only,
+        free_at pc leave f.1
+            (not_settle IsLeave (λ o. o) leave leaves) (λ message. absurd (not_message IsLeave (λ s t o w m. m) leave leaves message)),
+      )
         where
           only : (k : ℕ) → Clears k pc → k ≡ 0
           only zero c = refl
           only (suc k) c = absurd (leaves_keep leave k leaves (some_same leave (Empty k) (sym f.1 ∙ c.0)))
-      takes_stand pc w (x ∷ xs) leave leaves takes f =
-          (record { height = f.0; order = x; is = f.1; no_end = λ same. subst Takes same takes.0 }, only, free_at pc x f.1
-              (not_settle Takes (λ o. o) x takes.0) (λ message. absurd (not_message Takes (λ s t o w m. m) x takes.0 message)))
+      takes_stand pc w (x ∷ xs) leave leaves takes f = (
+        record { height = f.0; order = x; is = f.1; no_end = λ same. subst Takes same takes.0 },
+        only,
+        free_at pc x f.1
+            (not_settle Takes (λ o. o) x takes.0) (λ message. absurd (not_message Takes (λ s t o w m. m) x takes.0 message)),
+      )
         where
           only : (k : ℕ) → Clears k pc → k ≡ 0
           only zero c = refl

@@ -41,9 +41,14 @@ append_reference-returns-in-ObjectInvoked t c =
     rw (is_object_invoked _ _ _ _ c.in-ObjectInvoked.is c.deref-in-ObjectInvoked.ensures.value) c.append_invoked.ensures
 
 pub append_reference-append_sent-requires : goal.append_reference-append_sent-requires
-append_reference-append_sent-requires t c =
-    (omega (arith, rw (is_object_sent _ _ _ _ _ _ c.in-ObjectSent.is c.deref-in-ObjectSent.ensures c.deref-in-ObjectSent-2.ensures.value)
-    at c.decreases), tt)
+append_reference-append_sent-requires t c = (
+  omega (
+    arith,
+    rw (is_object_sent _ _ _ _ _ _ c.in-ObjectSent.is c.deref-in-ObjectSent.ensures c.deref-in-ObjectSent-2.ensures.value)
+        at c.decreases,
+  ),
+  tt,
+)
 
 pub append_reference-returns-in-ObjectSent : goal.append_reference-returns-in-ObjectSent
 append_reference-returns-in-ObjectSent t c =

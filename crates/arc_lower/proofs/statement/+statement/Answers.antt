@@ -74,7 +74,7 @@ append_command-returns-in_ok-over-in-RepeatAfter-clause-actions t c =
     (c.replace.ensures
     ∙ repeat_after_written P b scopes old (orders v1.items) o2 c.len-begin.result last.out test body last.ensures.actions last.ensures.out o3 c.len-enter.result c.in_ok-over-in-RepeatAfter.over c.in_ok-append-in-RepeatAfter.ensures
     (c.len-begin.ensures ∙ v1.ok.0 ∙ sym (length-map v1.items order)) c.in_ok-append_turn-in-RepeatAfter.ensures
-        (c.len-enter.ensures ∙ v0.ok.0 ∙ sym (length-map v0.items order)) c.in_ok-over-in-RepeatAfter.ensures)
+    (c.len-enter.ensures ∙ v0.ok.0 ∙ sym (length-map v0.items order)) c.in_ok-over-in-RepeatAfter.ensures)
 
 pub append_step-returns-clause-actions : goal.append_step-returns-clause-actions
 append_step-returns-clause-actions t c = grind (arith, common_steps, step_written)
