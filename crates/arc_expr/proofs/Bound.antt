@@ -5,9 +5,8 @@ use Rattle.arc_lex.specs.declared.token.Token.{Token}
 use Rattle.arc_lex.specs.Tokens.{Tok, toks}
 use Rattle.arc_form.specs.Form.{unlimited}
 use Rattle.arc_form.specs.Reader.{Read, Reader, Fault, misfit, too_deep, goes_over, up_to}
-use Rattle.arc_form.proofs.FormTell.{never_deep}
 use Rattle.arc_form.proofs.Sets.{and_of, and_no}
-use Rattle.arc_form.proofs.Front.{AlwaysLocal, form_always, length_toks}
+use Rattle.arc_form.proofs.Front.{Stops, form_stops, never_deep, length_toks}
 use Rattle.arc_form.proofs.Front as front
 use Rattle.arc_ast.specs.Tree.{ExprTree}
 use Rattle.arc_grammar.specs.Grammar.{reads, reads_free, rules, full, expression, expr, body}
@@ -17,9 +16,9 @@ use Rattle.arc_expr.proofs.Fix.{read_expr}
 whole : Reader ExprTree
 whole = reads_free expression
 
-whole_local : AlwaysLocal {S = unlimited ≡ unlimited} refl 1000 whole
+whole_stops : (ts : List Tok) → Stops whole ts
 unfolding whole
-whole_local = form_always facts body sure 1000 expression sure_full
+whole_stops = form_stops facts body sure expression sure_full.0
 
 full_is : (ts : List Tok) → reads full ts ≡ up_to (Some 1000) whole ts
 unfolding full whole
@@ -32,25 +31,25 @@ whole_is ts x e = sym (read_expr ts) ∙ e
 -- nothing is too deep in it
 plain_fault : (ts r : List Tok) (y : Fault) → rules unlimited expr ts ≡ Err (y, r) → rules unlimited expr ts ≡ Err (misfit, r)
 unfolding expression whole
-plain_fault ts r y e = subst (λ z. rules unlimited expr ts ≡ Err (z, r)) (never_deep body facts sure ExprTree expression sure_full.0 ts r y (whole_is ts _ e)) e
+plain_fault ts r y e = subst (λ z. rules unlimited expr ts ≡ Err (z, r)) (never_deep facts body sure expression sure_full.0 ts r y (whole_is ts _ e)) e
 
 module _ (tokens ahead rest r : List Token) (first : ahead ≡ take 1001 tokens) where
   pub rest_short : (y : Fault) → rules unlimited expr (toks ahead) ≡ Err (y, toks rest) → length rest ≤ length ahead
-  rest_short y e = front.rest_short refl 1000 whole whole_local tokens ahead rest r first y (whole_is (toks ahead) _ e)
+  rest_short y e = front.rest_short 1000 whole whole_stops tokens ahead rest r first y (whole_is (toks ahead) _ e)
 
   over : (x : Read ExprTree) → rules unlimited expr (toks ahead) ≡ x → goes_over 1000 (toks ahead) x ≡ true → r ≡ drop 1000 tokens → reads full (toks tokens) ≡ Err (too_deep, toks r)
-  over x e o d = full_is (toks tokens) ∙ front.over_so refl 1000 whole whole_local tokens ahead rest r first x (whole_is (toks ahead) _ e) o d
+  over x e o d = full_is (toks tokens) ∙ front.over_so 1000 whole whole_stops tokens ahead rest r first x (whole_is (toks ahead) _ e) o d
 
   refused : (y : Fault) → rules unlimited expr (toks ahead) ≡ Err (y, toks rest) → (nat_lt 1000 (length (toks ahead)) && nat_lt (length (toks rest) + 1000) (suc (length (toks ahead)))) ≡ false → r ≡ drop (length ahead - length rest) tokens
       → reads full (toks tokens) ≡ Err (misfit, toks r)
-  refused y e o d = full_is (toks tokens) ∙ front.fits_so refl 1000 whole whole_local tokens ahead rest r first (Err (misfit, toks rest)) (whole_is (toks ahead) _ (plain_fault (toks ahead) (toks rest) y e)) refl o d
+  refused y e o d = full_is (toks tokens) ∙ front.fits_so 1000 whole whole_stops tokens ahead rest r first (Err (misfit, toks rest)) (whole_is (toks ahead) _ (plain_fault (toks ahead) (toks rest) y e)) refl o d
 
   pub then_over : (t : ExprTree) → rules unlimited expr (toks ahead) ≡ Ok (t, toks rest) → 1000 < length ahead - length rest → r ≡ drop 1000 tokens → reads full (toks tokens) ≡ Err (too_deep, toks r)
   then_over t e p d = over (Ok (t, toks rest)) e (lt-ltb (length (toks rest) + 1000) (length (toks ahead)) (omega (arith, p, length_toks ahead, length_toks rest))) d
 
   pub then_fits : (t : ExprTree) → rules unlimited expr (toks ahead) ≡ Ok (t, toks rest) → length ahead - length rest ≤ 1000 → r ≡ drop (length ahead - length rest) tokens → reads full (toks tokens) ≡ Ok (t, toks r)
   then_fits t e p d =
-      full_is (toks tokens) ∙ front.fits_so refl 1000 whole whole_local tokens ahead rest r first (Ok (t, toks rest)) (whole_is (toks ahead) _ e) refl
+      full_is (toks tokens) ∙ front.fits_so 1000 whole whole_stops tokens ahead rest r first (Ok (t, toks rest)) (whole_is (toks ahead) _ e) refl
       (le-ltb (length (toks rest) + 1000) (length (toks ahead)) (omega (arith, p, length_toks ahead, length_toks rest))) d
 
   pub fails_over : (y : Fault) → rules unlimited expr (toks ahead) ≡ Err (y, toks rest) → 1000 < length ahead → 1000 ≤ length ahead - length rest → r ≡ drop 1000 tokens → reads full (toks tokens) ≡ Err (too_deep, toks r)

@@ -11,15 +11,15 @@ use Rattle.arc_form.specs.Operators.{marks_at, placed_operator}
 use Rattle.arc_form.proofs.Joining.{joined_is}
 use Rattle.arc_form.proofs.Binding.{bind_twice, pair_then, second_then}
 use Rattle.arc_form.proofs.Sets.{sees_neither}
-use Rattle.arc_form.proofs.Local.{Local, weaker, then, local_token, local_ret}
+use Rattle.arc_form.proofs.Local.{Takes, weaker, then, takes_token, takes_ret}
 use Rattle.arc_form.proofs.FormLocal.{read_is, fronts}
 use Rattle.arc_grammar.specs.Grammar.{Sent, rules, reads_free, reads_on, body, expr, unary, binary, condition, table, assigning, marks_up_to, join, further, more, up_to, choice, continued, conditional_expr, operations, expression, prefixed, counting, field_name, begins_suffix, suffix, suffixes, next_argument, more_arguments, add, argument_part, next_part, more_parts, add_part}
 use Rattle.arc_grammar.proofs.Fits.{facts, sure, front}
 use Rattle.arc_expr.specs.declared.operator.TheConstants.{ASSIGNING, LOOSEST}
 
-further_front : (l j : ℕ) → Local ⊥ 1 j (reads_free (further l)) (reads_free (further l))
+further_front : (l : ℕ) → Takes 1 (reads_free (further l))
 unfolding further
-further_front l j = weaker 1 (omega arith) (then (local_token (marks_at l table) (placed_operator operators.Add table)) (λ o. then (fronts facts body sure j unlimited (binary (l - 1))) (λ right. local_ret (o, right))))
+further_front l = weaker 1 (omega arith) (then (takes_token (marks_at l table) (placed_operator operators.Add table)) (λ o. then (fronts facts body sure unlimited (binary (l - 1))) (λ right. takes_ret (o, right))))
 
 pub read_expr : (ts : List Tok) → rules unlimited expr ts ≡ reads_free expression ts
 unfolding body
@@ -82,9 +82,9 @@ read_past (suc l) left ts s =
     ∙ more_past (suc l) left ts p.1
 
 -- the suffixes after an operand, one by one
-suffix_front : (j : ℕ) → Local ⊥ 1 j (reads_free suffix) (reads_free suffix)
+suffix_front : Takes 1 (reads_free suffix)
 unfolding suffix field_name counting
-suffix_front j = front unlimited suffix refl refl j
+suffix_front = front unlimited suffix refl refl
 
 pub read_suffixes : (operand : ExprTree) (ts : List Tok)
     → reads_on suffixes operand ts ≡ if_sees begins_suffix (reads_on suffix operand >>= (λ whole. reads_on suffixes whole)) (ret operand) ts
@@ -93,9 +93,9 @@ read_suffixes operand ts = joined_is begins_suffix (reads_free suffix) (λ a mak
     ∙ ap (λ y. cond (sees begins_suffix ts) y (ret operand ts)) (sym (bind_twice (reads_free suffix ts) (λ make. ret (make operand)) (λ whole. reads_on suffixes whole)))
 
 -- further arguments, one by one
-argument_front : (j : ℕ) → Local ⊥ 1 j (reads_free next_argument) (reads_free next_argument)
+argument_front : Takes 1 (reads_free next_argument)
 unfolding next_argument
-argument_front j = front unlimited next_argument refl refl j
+argument_front = front unlimited next_argument refl refl
 
 pub read_more_arguments : (before : List ExprTree) (ts : List Tok)
     → reads_on more_arguments before ts ≡ if_sees (mark m.Comma) (take_one (mark m.Comma) from >>= (λ comma. rules unlimited expr >>= (λ a. reads_on more_arguments (add before a)))) (ret before) ts
@@ -104,9 +104,9 @@ read_more_arguments before ts = joined_is (mark m.Comma) (reads_free next_argume
     ∙ ap (λ y. cond (sees (mark m.Comma) ts) y (ret before ts)) (second_then (take_one (mark m.Comma) from ts) (rules unlimited expr) (λ a. reads_on more_arguments (add before a)))
 
 -- further parts of a selector, one by one
-part_front : (j : ℕ) → Local ⊥ 1 j (reads_free next_part) (reads_free next_part)
+part_front : Takes 1 (reads_free next_part)
 unfolding next_part argument_part
-part_front j = front unlimited next_part refl refl j
+part_front = front unlimited next_part refl refl
 
 pub read_more_parts : (before : Sent) (ts : List Tok)
     → reads_on more_parts before ts ≡ if_sees name (reads_free next_part >>= (λ p. reads_on more_parts (add_part before p))) (ret before) ts

@@ -3,13 +3,12 @@ use Rattle.std.proofs.Common.{◌≡◌, ◌⊎◌, inl, inr, ℕ, suc, ◌<◌,
 use Rattle.std.proofs.lemmas.Bool.{le-ltb}
 use Rattle.arc_lex.specs.Tokens.{Tok}
 use Rattle.arc_form.specs.Kinds.{Kinds, none, ◌∪◌, is}
-use Rattle.arc_form.specs.Reader.{Read, Reader, Fault, misfit, too_deep, too_deep_here, unexpected, is_above, if_sees, bind, ◌>>=◌, ret, second_unexpected, sees, sees_second, sees_two, taken, take_one, loop, nested, up_to}
+use Rattle.arc_form.specs.Reader.{Read, Reader, Fault, misfit, too_deep, is_above, bind, ◌>>=◌, ret, second_unexpected, sees, sees_second, sees_two, taken, take_one, loop, nested, up_to}
 use Rattle.arc_form.specs.Form.{Limits, unlimited, Form, Bodies, token, give, call, map, ◌⨾◌, choose, many, or_none, nest, bounded, two_ahead, avoid, run, read}
 use Rattle.arc_form.proofs.Sets.{and_no, both, sees_among, sees_none, sees_neither, sees_or}
 use Rattle.arc_form.proofs.Static.{Facts, if_so, nullable, begins, Decided, Holds, second, Fits}
-use Rattle.arc_form.proofs.Local.{rest_of, fault_of, loop_turn}
-use Rattle.arc_form.proofs.FormLocal.{read_is, some_front, form_left}
-use Rattle.arc_form.proofs.FormReading.{Property, OfParts, under, reading, by_reading}
+use Rattle.arc_form.proofs.Local.{rest_of, fault_of, loop_turn, nested_is}
+use Rattle.arc_form.proofs.FormLocal.{read_is, some_front, form_left, Property, PartsOf, under, reading, by_reading}
 
 -- nothing is taken: that gives a value where there may be no token, and is a refusal where there must be one
 abbrev pub Idle : {A : Type 0} → Bool → Read A → List Tok → Type 0
@@ -75,11 +74,10 @@ seen_either : (A B : Kinds) (ts : List Tok) → sees (A ∪ B) ts ≡ true → (
 seen_either A B ts e = either (sees A ts) (sees B ts) (sym (sees_or A B ts) ∙ e)
 
 nested_idle : {A : Type 0} (most : Option ℕ) (d : ℕ) (T : Kinds) (f : Reader A) (ts : List Tok) → sees T ts ≡ false → f ts ≡ Err (misfit, ts) → nested most d T f ts ≡ Err (misfit, ts)
-unfolding nested
-nested_idle {A} most d T f ts n e = go (is_above most d)
+nested_idle most d T f ts n e = rw (nested_is most d T f ts, n) (go (is_above most d))
   where
-    go : (b : Bool) → cond b (if_sees T too_deep_here unexpected) f ts ≡ Err (misfit, ts)
-    go true = rw n refl
+    go : (b : Bool) → cond b (Err (misfit, ts)) (f ts) ≡ Err (misfit, ts)
+    go true = refl
     go false = e
 
 -- a limit on tokens is no less than 1
@@ -101,7 +99,7 @@ module _ {N : Type 0} {Node : N → Type 0} (facts : N → Facts) (body : Bodies
   free : Positive unlimited
   free n e = cc
 
-  idle : (o : Option Limits) (A : Type 0) (f : Form N Node A) → Decided facts f → (ts : List Tok) → OfParts body IdleAt o A f ts → IdleAt o A f ts
+  idle : (o : Option Limits) (A : Type 0) (f : Form N Node A) → Decided facts f → (ts : List Tok) → PartsOf body IdleAt o A f ts → IdleAt o A f ts
   idle o A (token T g) d [] x z n = refl
   idle o A (token T g) d (t ∷ ts) x z n = ap (λ b. taken b g t ts) n
   idle o A (give a) d ts x z n = (a, refl)
@@ -127,7 +125,7 @@ module _ {N : Type 0} {Node : N → Type 0} (facts : N → Facts) (body : Bodies
       ap (λ b. cond (b && sees_second U ts) (second_unexpected ts) (reading body o f ts)) (sees_none T (begins facts f) ts t n) ∙ idle_some (nullable facts f) (reading body o f ts) ts m (x z n)
 
   pub form_idle : {A : Type 0} (f : Form N Node A) → Decided facts f → (ts : List Tok) → sees (begins facts f) ts ≡ false → Idle (nullable facts f) (run (read body) unlimited f ts) ts
-  form_idle {A = A} f d ts e = by_reading body facts sure IdleAt idle None A f d ts free e
+  form_idle {A = A} f d ts e = by_reading facts body sure IdleAt idle None A f d ts free e
 
   too_deep_idle : {A : Type 0} (b : Bool) (x : Read A) (ts r : List Tok) → x ≡ Err (too_deep, r) → Idle b x ts → misfit ≡ too_deep
   too_deep_idle true x ts r e i = let no : ret i.0 ts ≡ Err (too_deep, r) = sym i.1 ∙ e in cc
@@ -139,7 +137,7 @@ module _ {N : Type 0} {Node : N → Type 0} (facts : N → Facts) (body : Bodies
     where
       go : (b : Bool) → sees (begins facts f) ts ≡ b → b ≡ true
       go true q = refl
-      go false q = let no = too_deep_idle (nullable facts f) (run (read body) limits f ts) ts r e (by_reading body facts sure IdleAt idle (Some limits) A f d ts positive q) in cc
+      go false q = let no = too_deep_idle (nullable facts f) (run (read body) limits f ts) ts r e (by_reading facts body sure IdleAt idle (Some limits) A f d ts positive q) in cc
 
   -- and after it one that comes second
   pub deep_second : (limits : Limits) → Positive limits → (U : Kinds) (A : Type 0) (f : Form N Node A) → Decided facts f → Holds (second facts U f) → (ts r : List Tok) → run (read body) limits f ts ≡ Err (too_deep, r) → sees_second U ts ≡ true
@@ -157,13 +155,13 @@ module _ {N : Type 0} {Node : N → Type 0} (facts : N → Facts) (body : Bodies
   loop_first T {A} f d ts e = rw (loop_turn T (some_front facts body sure unlimited f d.0 d.1.0.0) ts, e) (go (plain f ts))
     where
       go : (x : Read A) → length (rest_of (bind x (λ a. loop T (plain f) >>= (λ others. ret (a ∷ others))))) ≤ length (rest_of x)
-      go (Ok x) = omega (arith, ret_left (loop T (plain f) x.1) (λ others. x.0 ∷ others), form_left facts body sure unlimited (many T f) d x.1)
+      go (Ok x) = omega (arith, ret_left (loop T (plain f) x.1) (λ others. x.0 ∷ others), form_left facts body sure (many T f) d x.1)
       go (Err x) = omega arith
 
   abbrev TakesAt : Property N Node
   TakesAt o A f ts = o ≡ None → sees (begins facts f) ts ≡ true → length (rest_of (reading body o f ts)) < length ts
 
-  takes : (o : Option Limits) (A : Type 0) (f : Form N Node A) → Decided facts f → (ts : List Tok) → OfParts body TakesAt o A f ts → TakesAt o A f ts
+  takes : (o : Option Limits) (A : Type 0) (f : Form N Node A) → Decided facts f → (ts : List Tok) → PartsOf body TakesAt o A f ts → TakesAt o A f ts
   unfolding nested up_to
   takes (Some limits) A f d ts x z n = cc
   takes None A (token T g) d [] x z n = cc
@@ -176,7 +174,7 @@ module _ {N : Type 0} {Node : N → Type 0} (facts : N → Facts) (body : Bodies
   takes None A (◌⨾◌ {A = B} {B = C} f g) (d, (d', o)) ts (x, y) z n = go (seen_either (begins facts f) (if_so (nullable facts f) (begins facts g)) ts n)
     where
       go : (sees (begins facts f) ts ≡ true) ⊎ ((sees (begins facts f) ts ≡ false) × (sees (if_so (nullable facts f) (begins facts g)) ts ≡ true)) → length (rest_of (plain (f ⨾ g) ts)) < length ts
-      go (inl q) = bind_left {B = B × C} (plain f ts) (λ a. plain g >>= (λ c. ret (a, c))) (length ts) (λ a s. omega (arith, ret_left {B = B × C} (plain g s) (λ (c : C). (a, c)), form_left facts body sure unlimited g d' s)) (x refl q)
+      go (inl q) = bind_left {B = B × C} (plain f ts) (λ a. plain g >>= (λ c. ret (a, c))) (length ts) (λ a s. omega (arith, ret_left {B = B × C} (plain g s) (λ (c : C). (a, c)), form_left facts body sure g d' s)) (x refl q)
       go (inr (q, r)) =
           let m = so_seen (nullable facts f) (begins facts g) ts r in
           let i = idle_none (nullable facts f) (plain f ts) ts m.0 (form_idle f d ts q) in
@@ -187,7 +185,7 @@ module _ {N : Type 0} {Node : N → Type 0} (facts : N → Facts) (body : Bodies
       go true q r = x refl (sees_among T (begins facts f) ts a q)
       go false q (inl r) = let k = sees_none (begins facts f) T ts w q in cc
       go false q (inr r) = y refl r.1
-  takes None A (many {A = B} T f) d ts x z n = omega (arith, loop_first T f d ts (sees_among (begins facts f) T ts d.1.0.1.0 n), x ts (omega arith) refl n)
+  takes None A (many {A = B} T f) d ts x z n = omega (arith, loop_first T f d ts (sees_among (begins facts f) T ts d.1.0.1.0 n), x.0 ts (omega arith) refl n)
   takes None A (or_none T f b) (d, (s, (w, a))) ts x z n = rw (sees_among (begins facts f) T ts w n) (x refl n)
   takes None A (nest m T f) d ts x z n = x refl n
   takes None A (bounded f) d ts x z n = x refl n
@@ -205,7 +203,7 @@ module _ {N : Type 0} {Node : N → Type 0} (facts : N → Facts) (body : Bodies
 
   -- a form takes a token of those with which it begins
   pub form_takes : (A : Type 0) (f : Form N Node A) → Decided facts f → (ts : List Tok) → sees (begins facts f) ts ≡ true → length (rest_of (run (read body) unlimited f ts)) < length ts
-  form_takes A f d ts e = by_reading body facts sure TakesAt takes None A f d ts refl e
+  form_takes A f d ts e = by_reading facts body sure TakesAt takes None A f d ts refl e
 
   -- and where the second token is of those that come second, that one too
   pub takes_two : (T U : Kinds) (A : Type 0) (f : Form N Node A) → Decided facts f → Holds (second facts U f) → (ts : List Tok) → sees (begins facts f) ts ≡ true → sees_second U ts ≡ true → length (rest_of (run (read body) unlimited f ts)) + 2 ≤ length ts

@@ -1,123 +1,203 @@
--- What is spelled is read to its end, whatever comes after it: a form gives it, or takes more.
-use Rattle.std.proofs.Common.{◌≡◌, ◌⊎◌, inl, inr, ℕ, zero, suc, ◌<◌, List, [], ◌∷◌, ◌++◌, length, append_assoc, Ok, Bool, true, false, cond, ◌&&◌, refl, sym, ap, subst, ◌∙◌, arith}
+-- What is spelled is read where nothing goes on with it, and without limits it is read to its end, whatever comes after it.
+use Rattle.std.proofs.Common.{◌≡◌, ◌⊎◌, inl, inr, ℕ, zero, suc, ◌<◌, ◌≤◌, ◌+◌, List, [], ◌∷◌, ◌++◌, length, length-append, append_assoc, Ok, Bool, true, false, cond, not, Option, Some, None, refl, sym, ap, subst, ◌∙◌, arith}
+use Rattle.std.proofs.lemmas.Bool.{le-ltb}
 use Rattle.arc_lex.specs.Tokens.{Tok}
-use Rattle.arc_form.specs.Kinds.{Kinds, is}
-use Rattle.arc_form.specs.Reader.{Read, Reader, bind, ◌>>=◌, ret, sees, sees_two, loop, nested, up_to}
-use Rattle.arc_form.specs.Form.{unlimited, Form, Bodies, token, give, call, map, ◌⨾◌, choose, many, or_none, nest, bounded, two_ahead, avoid, run, read}
-use Rattle.arc_form.specs.Meaning.{SpellsAll, SpellsBy, Within, Spells}
-use Rattle.arc_form.proofs.Sets.{apart, sees_among, sees_apart, sees_other, sees_more}
-use Rattle.arc_form.proofs.Static.{Facts, nullable, begins, goes_on, Decided, Heads, Fits}
-use Rattle.arc_form.proofs.Local.{rest_of, loop_more}
-use Rattle.arc_form.proofs.FormLocal.{read_is, some_front, form_left}
+use Rattle.arc_form.specs.Kinds.{Kinds, ◌∪◌, is}
+use Rattle.arc_form.specs.Reader.{Read, Reader, bind, ◌>>=◌, ret, sees, sees_second, sees_two, nested, up_to}
+use Rattle.arc_form.specs.Form.{run, unlimited, Limits, Form, Bodies, token, give, call, map, ◌⨾◌, choose, many, or_none, nest, bounded, two_ahead, avoid, read}
+use Rattle.arc_form.specs.Meaning.{AtMost, SpellsAll, SpellsBy, Within, Spells}
+use Rattle.arc_form.proofs.Sets.{apart, both, sees_among, sees_none, sees_apart, sees_other, sees_more, second_more}
+use Rattle.arc_form.proofs.Static.{Facts, if_so, nullable, begins, goes_on, bars, long, second, Decided, Heads, Holds, Fits}
+use Rattle.arc_form.proofs.Local.{rest_of, loop_turn}
+use Rattle.arc_form.proofs.FormLocal.{read_is, some_front, form_left, under, reading}
 use Rattle.arc_form.proofs.FormHeights.{OfRules, ◌⇒◌}
-use Rattle.arc_form.proofs.FormBegins.{loop_end, loop_first, bind_left, ret_left, form_takes, takes_two}
-use Rattle.arc_form.proofs.FormStarts.{Starts, AllStart, starts, start_all, some_starts, head_starts, longs, second_starts, two_own, fair, spells_starts, spells_fair}
-use Rattle.arc_form.proofs.FormComplete.{two_seen, form_complete}
+use Rattle.arc_form.proofs.FormBegins.{loop_end, loop_first, bind_left, ret_left, none_so, form_takes, takes_two}
+use Rattle.arc_form.proofs.FormStarts.{Starts, AllStart, Fair, fair_less, fair_left, fair_right, fair_none, fair_after, none_left, none_right, starts, start_all, some_starts, head_starts, longs, second_starts, two_own, two_kept, seen_some, spells_starts}
 
--- an answer is this value with these tokens left, or fewer are left
-abbrev pub Firm : {A : Type 0} → Read A → A → List Tok → Type 0
-Firm x a r = (x ≡ Ok (a, r)) ⊎ (length (rest_of x) < length r)
+-- without limits fewer tokens are left
+abbrev More : {A : Type 0} → Option Limits → Read A → List Tok → Type 0
+More None x r = length (rest_of x) < length r
+More (Some limits) x r = Unit {0}
 
-firm_map : {A B : Type 0} (x : Read A) (h : A → B) (a : A) (r : List Tok) → Firm x a r → Firm (bind x (λ a. ret (h a))) (h a) r
-firm_map x h a r (inl e) = inl (ap (λ y. bind y (λ a. ret (h a))) e)
-firm_map x h a r (inr p) = inr (omega (arith, ret_left x h, p))
+-- an answer is this value with these tokens left, or more is taken, and not where E holds
+abbrev Firm : {A : Type 0} → Option Limits → Read A → A → Type 0 → List Tok → Type 0
+Firm o x a E r = (x ≡ Ok (a, r)) ⊎ ((E → ⊥) × More o x r)
 
--- the first part of what is spelled is read, or all of it is taken, and more
-abbrev First : {A : Type 0} → Read A → A → List Tok → List Tok → Type 0
-First x a zs r = (x ≡ Ok (a, zs ++ r)) ⊎ (length (rest_of x) < length r)
+firm_less : {A : Type 0} (o : Option Limits) (x : Read A) (a : A) (E F : Type 0) (r : List Tok) → (E → F) → Firm o x a F r → Firm o x a E r
+firm_less o x a E F r k (inl e) = inl e
+firm_less o x a E F r k (inr (n, m)) = inr (λ e. n (k e), m)
 
-shift : {A : Type 0} (f : Reader A) (a : A) (xs ys zs r : List Tok) → xs ≡ ys ++ zs → Firm (f (ys ++ (zs ++ r))) a r → Firm (f (xs ++ r)) a r
-shift f a xs ys zs r e x = subst (λ v. Firm (f v) a r) (sym (ap (λ v. v ++ r) e ∙ append_assoc ys zs r)) x
+more_then : {A B : Type 0} (o : Option Limits) (x : Read A) (g : A → Reader B) (r : List Tok) → (o ≡ None → (a : A) (s : List Tok) → length (rest_of (g a s)) ≤ length s) → More o x r → More o (bind x g) r
+more_then None x g r k m = bind_left x g (length r) (k refl) m
+more_then (Some limits) x g r k m = tt
+
+firm_map : {A B : Type 0} (o : Option Limits) (x : Read A) (h : A → B) (a : A) (E : Type 0) (r : List Tok) → Firm o x a E r → Firm o (bind x (λ a. ret (h a))) (h a) E r
+firm_map o x h a E r (inl e) = inl (ap (λ y. bind y (λ a. ret (h a))) e)
+firm_map o x h a E r (inr (n, m)) = inr (n, more_then o x (λ a. ret (h a)) r (λ z a s. omega arith) m)
+
+-- what comes after tokens that begin so, or none, goes on with nothing
+after : (b : Bool) (A T : Kinds) (xs rest : List Tok) → Starts b T xs → apart A T ≡ true → sees (if_so b A) rest ≡ false → sees A (xs ++ rest) ≡ false
+after b A T xs rest (inl (q, n)) p e = ap (λ v. sees A (v ++ rest)) n ∙ none_so b A rest q e
+after b A T xs rest (inr s) p e = sees_other A T (xs ++ rest) p (sees_more T xs rest s)
+
+-- Two parts, of which the second is spelled by zs: what goes on with the first one does so with both, where zs is none.
+firm_then : {A B D : Type 0} (make : A → B → D) (o : Option Limits) (b : Bool) (G K T : Kinds) (E F : Type 0) (x : Read A) (g : Reader B) (a : A) (c : B) (zs rest r : List Tok)
+    → Starts b T zs → apart G T ≡ true → (E → (sees (if_so b G) r ≡ false) × Fair (if_so b K) rest r) → (E → F) → (o ≡ None → (s : List Tok) → length (rest_of (g s)) ≤ length s)
+    → Firm o x a ((sees G (zs ++ r) ≡ false) × Fair K (zs ++ rest) (zs ++ r)) (zs ++ r) → Firm o (g (zs ++ r)) c F r → Firm o (bind x (λ a. g >>= (λ c. ret (make a c)))) (make a c) E r
+firm_then {A} {B} {D} make o b G K T E F x g a c zs rest r s p of_first of_second left (inl e) m =
+    subst (λ (y : Read A). Firm {A = D} o (bind y (λ a. g >>= (λ c. ret (make a c)))) (make a c) E r) (sym e) (firm_map o (g (zs ++ r)) (make a) c E r (firm_less o (g (zs ++ r)) c E F r of_second m))
+firm_then {A} {B} {D} make o b G K T E F x g a c zs rest r s p of_first of_second left (inr (n, k)) m =
+    inr (λ e. n (after b G T zs r s p (of_first e).0, fair_after b K T zs rest r s (of_first e).1), go zs s n k)
+  where
+    go : (zs : List Tok) → Starts b T zs → (((sees G (zs ++ r) ≡ false) × Fair K (zs ++ rest) (zs ++ r)) → ⊥) → More o x (zs ++ r) → More o (bind x (λ a. g >>= (λ c. ret (make a c)))) r
+    go [] s n k = more_then o x (λ a. g >>= (λ c. ret (make a c))) r (λ z a v. omega (arith, ret_left (g v) (make a), left z v)) k
+    go (t ∷ zs) (inl (e, z)) n k = cc
+    go (t ∷ zs) (inr s) n k = absurd (n (sees_other G T (t ∷ (zs ++ r)) p s, inr refl))
+
+pub nested_fits : {A : Type 0} (most : Option ℕ) (d : ℕ) (T : Kinds) (f : Reader A) (ts : List Tok) → AtMost most d → nested most d T f ts ≡ f ts
+unfolding nested
+nested_fits None d T f ts p = refl
+nested_fits (Some n) d T f ts p = rw (le-ltb n d p) refl
+
+firm_up_to : {A : Type 0} (o : Option Limits) (f : Reader A) (a : A) (E : Type 0) (r xs : List Tok) → AtMost (under o).tokens (length xs) → Firm None (f (xs ++ r)) a E r → Firm o (up_to (under o).tokens f (xs ++ r)) a E r
+unfolding up_to
+firm_up_to None f a E r xs p m = m
+firm_up_to (Some limits) f a E r xs p (inr (n, m)) = inr (n, tt)
+firm_up_to (Some limits) f a E r xs p (inl e) = inl (go limits.tokens p)
+  where
+    go : (most : Option ℕ) → AtMost most (length xs) → up_to most f (xs ++ r) ≡ Ok (a, r)
+    go None p = e
+    go (Some n) p = rw (e, le-ltb (length r + n) (length (xs ++ r)) (omega (arith, length-append xs r, p))) refl
+
+pub two_seen : (T U : Kinds) (xs rest : List Tok) → sees T xs ≡ true → sees_second U xs ≡ true → sees_two T U (xs ++ rest) ≡ true
+two_seen T U xs rest p q = rw (sees_more T xs rest p) (second_more U xs rest q)
 
 module _ {N : Type 0} {Node : N → Type 0} (facts : N → Facts) (body : Bodies N Node) (sure : (n : N) → Fits facts body n) where
-  abbrev plain : {A : Type 0} → Form N Node A → Reader A
-  plain f = run (read body) unlimited f
+  -- r can come after what the form spells before rest
+  abbrev Ends : {A : Type 0} → Form N Node A → List Tok → List Tok → Type 0
+  Ends f rest r = (sees (goes_on facts f) r ≡ false) × Fair (bars facts f) rest r
+
+  more_takes : (o : Option Limits) (A : Type 0) (f : Form N Node A) → Decided facts f → (r : List Tok) → sees (begins facts f) r ≡ true → More o (reading body o f r) r
+  more_takes None A f d r s = form_takes facts body sure A f d r s
+  more_takes (Some limits) A f d r s = tt
+
+  left : (o : Option Limits) {A : Type 0} (f : Form N Node A) → Decided facts f → o ≡ None → (s : List Tok) → length (rest_of (reading body o f s)) ≤ length s
+  left None f d z s = form_left facts body sure f d s
+  left (Some limits) f d z s = cc
+
+  more_turns : (o : Option Limits) (T : Kinds) {A : Type 0} (f : Form N Node A) → Decided facts (many T f) → (ts r : List Tok) → sees T ts ≡ true → More o (reading body o f ts) r → More o (reading body o (many T f) ts) r
+  more_turns None T f d ts r s m = omega (arith, loop_first facts body sure T f d ts s, m)
+  more_turns (Some limits) T f d ts r s m = tt
+
+  more_two : (o : Option Limits) (T U : Kinds) (A : Type 0) (f : Form N Node A) → Decided facts f → Holds (second facts U f) → Heads facts T f → (xs rest r : List Tok) → sees_two T U (xs ++ r) ≡ true → sees_two T U (xs ++ rest) ≡ false → (xs ≡ [] → ⊥) → More o (reading body o f (xs ++ r)) r
+  more_two (Some limits) T U A f d s h xs rest r p q z = tt
+  more_two None T U A f d s h [] rest r p q z = absurd (z refl)
+  more_two None T U A f d s h (t ∷ []) rest r p q z =
+      let seen = both (is T t) (sees U r) p in
+      let k = takes_two facts body sure T U A f d s (t ∷ r) (sees_among T (begins facts f) (t ∷ r) h.1.1 seen.0) seen.1 in
+      omega (arith, k)
+  more_two None T U A f d s h (t ∷ u ∷ xs) rest r p q z = cc
 
   -- what may be passed over is passed over, or takes a token
-  passed : (T : Kinds) (A : Type 0) (f : Form N Node A) → Decided facts f → Heads facts T f → (y : Read A) (a : A) (r : List Tok) → Firm y a r → Firm (cond (sees T r) (plain f r) y) a r
-  passed T A f d (n, (w, k)) y a r m = go (sees T r) refl
+  passed : (o : Option Limits) (T : Kinds) (A : Type 0) (f : Form N Node A) → Decided facts f → Heads facts T f → (y : Read A) (a : A) (E : Type 0) (r : List Tok) → (E → sees T r ≡ false) → Firm o y a E r → Firm o (cond (sees T r) (reading body o f r) y) a E r
+  passed o T A f d (n, (w, k)) y a E r not_seen m = go (sees T r) refl
     where
-      go : (b : Bool) → sees T r ≡ b → Firm (cond b (plain f r) y) a r
-      go true q = inr (form_takes facts body sure A f d r (sees_among T (begins facts f) r k q))
+      go : (b : Bool) → sees T r ≡ b → Firm o (cond b (reading body o f r) y) a E r
+      go true q = inr (λ e. let no = not_seen e in cc, more_takes o A f d r (sees_among T (begins facts f) r k q))
       go false q = m
 
-  module _ (L : OfRules N Node) (up : L ⇒ Spells body) (firm' : (n : N) (a : Node n) (xs r : List Tok) → L unlimited n a [] xs → Firm (read body unlimited n (xs ++ r)) a r) where
+  module _ (L : OfRules N Node) (up : L ⇒ Spells body) (rule : (o : Option Limits) (n : N) (a : Node n) (rest xs : List Tok) → L (under o) n a rest xs → (r : List Tok) → Firm o (read body (under o) n (xs ++ r)) a (Ends (call n) rest r) r) where
     s : AllStart facts L
     s limits n a r xs x = spells_starts facts body sure limits n a r xs (up limits n a r xs x)
 
-    first : {A : Type 0} (f : Form N Node A) → Decided facts f → (T : Kinds) → apart (goes_on facts f) T ≡ true → (b : Bool) (a : A) (ys zs r : List Tok) → Starts b T zs → SpellsBy L unlimited f a (zs ++ []) ys
-        → (SpellsBy L unlimited f a [] ys → Firm (plain f (ys ++ r)) a r) → First (plain f (ys ++ (zs ++ r))) a zs r
-    first f d T o b a ys [] r t x k = k x
-    first f d T o b a ys (z ∷ zs) r (inl (q, n)) x k = cc
-    first f d T o b a ys (z ∷ zs) r (inr seen) x k =
-        inl (form_complete facts body sure unlimited f d a ((z ∷ zs) ++ r) ys (fair facts L s (Spells body) (λ l n b r xs y. spells_fair facts body sure l n b r xs (up l n b r xs y)) unlimited f d a ((z ∷ zs) ++ []) ((z ∷ zs) ++ r) ys x (inr refl))
-        (sees_other (goes_on facts f) T ((z ∷ zs) ++ r) o seen))
+    ahead : (o : Option Limits) (T : Kinds) {A : Type 0} (f : Form N Node A) → Decided facts f → Heads facts T f → (a : A) (rest xs r : List Tok) → SpellsBy L (under o) f a rest xs → sees T (xs ++ r) ≡ true
+    ahead o T f d h a rest xs r x = sees_more T xs r (head_starts facts L s (under o) T f d h a rest xs x)
 
-    firm_all : {A : Type 0} (T : Kinds) (f : Form N Node A) → Decided facts (many T f) → ((a : A) (xs r : List Tok) → SpellsBy L unlimited f a [] xs → Firm (plain f (xs ++ r)) a r)
-        → (all : List A) (xs r : List Tok) → SpellsAll (SpellsBy L unlimited f) all [] xs → Firm (loop T (plain f) (xs ++ r)) all r
-    firm_all {A} T f d k [] xs r e = subst (λ v. Firm {A = List A} (loop T (plain f) (v ++ r)) [] r) (sym e) (go (sees T r) refl)
+    firm_all : (o : Option Limits) (T : Kinds) {A : Type 0} (f : Form N Node A) → Decided facts (many T f) → ((a : A) (rest xs r : List Tok) → SpellsBy L (under o) f a rest xs → Firm o (reading body o f (xs ++ r)) a (Ends f rest r) r)
+        → (all : List A) (rest xs r : List Tok) → SpellsAll (SpellsBy L (under o) f) all rest xs → Firm o (reading body o (many T f) (xs ++ r)) all (Ends (many T f) rest r) r
+    firm_all o T {A} f (d, (h, p)) k [] rest xs r e = subst (λ v. Firm {A = List A} o (reading body o (many T f) (v ++ r)) [] (Ends (many T f) rest r) r) (sym e) (go (sees T r) refl)
       where
-        go : (b : Bool) → sees T r ≡ b → Firm {A = List A} (loop T (plain f) r) [] r
-        go true q = inr (omega (arith, loop_first facts body sure T f d r q, form_takes facts body sure A f d.0 r (sees_among T (begins facts f) r d.1.0.1.1 q)))
-        go false q = inl (loop_end (plain f) T r q)
-    firm_all {A} T f (d, (h, (o, p))) k (a ∷ others) xs r (ys, zs, e, x, y) =
-        shift (loop T (plain f)) (a ∷ others) xs ys zs r e
-        (go (first f d T o true a ys zs r (start_all (SpellsBy L unlimited f) T (head_starts facts L s unlimited T f d h) others [] zs y) x (λ x. k a ys r x)) (firm_all T f (d, (h, (o, p))) k others zs r y))
-      where
-        seen : sees T (ys ++ (zs ++ r)) ≡ true
-        seen = sees_more T ys (zs ++ r) (head_starts facts L s unlimited T f d h a (zs ++ []) ys x)
+        go : (b : Bool) → sees T r ≡ b → Firm {A = List A} o (reading body o (many T f) r) [] (Ends (many T f) rest r) r
+        go true q = inr (λ e. let no = none_left T (goes_on facts f) r e.0 in cc, more_turns o T f (d, (h, p)) r r q (more_takes o A f d r (sees_among T (begins facts f) r h.1.1 q)))
+        go false q = inl (loop_end (reading body o f) T r q)
+    firm_all o T {A} f (d, (h, (p, q))) k (a ∷ others) rest xs r (ys, zs, e, x, y) =
+        let line : xs ++ r ≡ ys ++ (zs ++ r) = ap (λ v. v ++ r) e ∙ append_assoc ys zs r in
+        let seen = ahead o T f d h a (zs ++ rest) ys (zs ++ r) x in
+        subst (λ v. Firm {A = List A} o (reading body o (many T f) v) (a ∷ others) (Ends (many T f) rest r) r) (sym line)
+        (rw (loop_turn T (some_front facts body sure (under o) f d h.0) (ys ++ (zs ++ r)), seen)
+        (firm_then (λ a others. a ∷ others) o true (goes_on facts f) (bars facts f) T (Ends (many T f) rest r) (Ends (many T f) rest r) (reading body o f (ys ++ (zs ++ r))) (reading body o (many T f)) a others zs rest r
+        (start_all (SpellsBy L (under o) f) T (head_starts facts L s (under o) T f d h) others rest zs y) p (λ e. (none_right T (goes_on facts f) r e.0, e.1)) (λ e. e) (left o (many T f) (d, (h, (p, q)))) (k a (zs ++ rest) ys (zs ++ r) x) (firm_all o T f (d, (h, (p, q))) k others rest zs r y)))
 
-        go : First (plain f (ys ++ (zs ++ r))) a zs r → Firm (loop T (plain f) (zs ++ r)) others r → Firm (loop T (plain f) (ys ++ (zs ++ r))) (a ∷ others) r
-        go (inl e) m = rw (loop_more T (ys ++ (zs ++ r)) (zs ++ r) a (some_front facts body sure unlimited f d h.0) seen e) (firm_map (loop T (plain f) (zs ++ r)) (λ rest. a ∷ rest) others r m)
-        go (inr q) m = inr (omega (arith, loop_first facts body sure T f (d, (h, (o, p))) (ys ++ (zs ++ r)) seen, q))
-
-    firm : (A : Type 0) (f : Form N Node A) → Decided facts f → (a : A) (xs r : List Tok) → SpellsBy L unlimited f a [] xs → Firm (plain f (xs ++ r)) a r
-    unfolding nested up_to
-    firm A (token T g) d a xs r (t, e, i, v) = inl (rw (e, i, v) refl)
-    firm A (give b) d a xs r (e, v) = inl (rw (e, v) refl)
-    firm A (call m) d a xs r x = firm' m a xs r x
-    firm A (map {A = B} h f) d b xs r (a, v, x) = subst (λ b. Firm (plain (map h f) (xs ++ r)) b r) (sym v) (firm_map (plain f (xs ++ r)) h a r (firm B f d a xs r x))
-    firm A (◌⨾◌ {A = B} {B = C} f g) (d, (d', (o, p))) a xs r (ys, zs, e, x, y) =
-        shift (plain (f ⨾ g)) a xs ys zs r e
-        (go (first f d (begins facts g) o (nullable facts g) a.0 ys zs r (starts facts L s unlimited g d' a.1 [] zs y) x (λ x. firm B f d a.0 ys r x)) (firm C g d' a.1 zs r y))
+    firm : (o : Option Limits) (A : Type 0) (f : Form N Node A) → Decided facts f → (a : A) (rest xs r : List Tok) → SpellsBy L (under o) f a rest xs → Firm o (reading body o f (xs ++ r)) a (Ends f rest r) r
+    firm o A (token T g) d a rest xs r (t, e, i, v) = inl (rw (e, i, v) refl)
+    firm o A (give b) d a rest xs r (e, v) = inl (rw (e, v) refl)
+    firm o A (call m) d a rest xs r x = rule o m a rest xs x r
+    firm o A (map {A = B} h f) d b rest xs r (a, v, x) =
+        subst (λ b. Firm o (reading body o (map h f) (xs ++ r)) b (Ends f rest r) r) (sym v) (firm_map o (reading body o f (xs ++ r)) h a (Ends f rest r) r (firm o B f d a rest xs r x))
+    firm o A (◌⨾◌ {A = B} {B = C} f g) (d, (d', (p, q))) a rest xs r (ys, zs, e, x, y) =
+        let line : xs ++ r ≡ ys ++ (zs ++ r) = ap (λ v. v ++ r) e ∙ append_assoc ys zs r in
+        let further = if_so (nullable facts g) (goes_on facts f) in
+        let barred = if_so (nullable facts g) (bars facts f) in
+        subst (λ v. Firm o (reading body o (f ⨾ g) v) a (Ends (f ⨾ g) rest r) r) (sym line)
+        (firm_then {D = B × C} (λ b c. (b, c)) o (nullable facts g) (goes_on facts f) (bars facts f) (begins facts g) (Ends (f ⨾ g) rest r) (Ends g rest r) (reading body o f (ys ++ (zs ++ r))) (reading body o g) a.0 a.1 zs rest r
+        (starts facts L s (under o) g d' a.1 rest zs y) p (λ e. (none_right (goes_on facts g) further r e.0, fair_right (bars facts g) barred rest r e.1))
+        (λ e. (none_left (goes_on facts g) further r e.0, fair_left (bars facts g) barred rest r e.1)) (left o g d') (firm o B f d a.0 (zs ++ rest) ys (zs ++ r) x) (firm o C g d' a.1 rest zs r y))
+    firm o A (choose T f g) (d, (d', (h, p))) a rest xs r (inl x) = rw (ahead o T f d h a rest xs r x) (firm_less o (reading body o f (xs ++ r)) a _ _ r (λ e. (none_left (goes_on facts f) (goes_on facts g) r (none_left (goes_on facts f ∪ goes_on facts g) (if_so (nullable facts g) T) r e.0), fair_left (bars facts f) (bars facts g) rest r e.1)) (firm o A f d a rest xs r x))
+    firm o A (choose T f g) (d, (d', (h, p))) a rest xs r (inr x) = go (starts facts L s (under o) g d' a rest xs x) (firm_less o (reading body o g (xs ++ r)) a (Ends (choose T f g) rest r) (Ends g rest r) r (λ e. (none_right (goes_on facts f) (goes_on facts g) r (none_left (goes_on facts f ∪ goes_on facts g) (if_so (nullable facts g) T) r e.0), fair_right (bars facts f) (bars facts g) rest r e.1)) (firm o A g d' a rest xs r x))
       where
-        go : First (plain f (ys ++ (zs ++ r))) a.0 zs r → Firm (plain g (zs ++ r)) a.1 r → Firm (plain (f ⨾ g) (ys ++ (zs ++ r))) a r
-        go (inl k) m = subst (λ (v : Read B). Firm {A = B × C} (bind v (λ b. plain g >>= (λ c. ret (b, c)))) a r) (sym k) (firm_map {B = B × C} (plain g (zs ++ r)) (λ c. (a.0, c)) a.1 r m)
-        go (inr q) m =
-            inr (bind_left {B = B × C} (plain f (ys ++ (zs ++ r))) (λ b. plain g >>= (λ c. ret (b, c))) (length r) (λ b s. omega (arith, ret_left {B = B × C} (plain g s) (λ c. (b, c)), form_left facts body sure unlimited g d' s)) q)
-    firm A (choose T f g) (d, (d', (h, o))) a xs r (inl x) = rw (sees_more T xs r (head_starts facts L s unlimited T f d h a [] xs x)) (firm A f d a xs r x)
-    firm A (choose T f g) (d, (d', (h, o))) a xs r (inr x) = go (starts facts L s unlimited g d' a [] xs x) (firm A g d' a xs r x)
+        go : Starts (nullable facts g) (begins facts g) xs → Firm o (reading body o g (xs ++ r)) a (Ends (choose T f g) rest r) r → Firm o (cond (sees T (xs ++ r)) (reading body o f (xs ++ r)) (reading body o g (xs ++ r))) a (Ends (choose T f g) rest r) r
+        go (inl (n, e)) m = subst (λ v. Firm o (cond (sees T (v ++ r)) (reading body o f (v ++ r)) (reading body o g (v ++ r))) a (Ends (choose T f g) rest r) r) (sym e)
+            (passed o T A f d h (reading body o g r) a (Ends (choose T f g) rest r) r (λ e. none_so (nullable facts g) T r n (none_right (goes_on facts f ∪ goes_on facts g) (if_so (nullable facts g) T) r e.0)) (subst (λ v. Firm o (reading body o g (v ++ r)) a (Ends (choose T f g) rest r) r) e m))
+        go (inr q) m = rw (sees_apart (begins facts g) T (xs ++ r) p (sees_more (begins facts g) xs r q)) m
+    firm o A (many {A = B} T f) (d, p) all rest xs r x = firm_all o T f (d, p) (firm o B f d) all rest xs r x
+    firm o A (or_none T f b) (d, h) a rest xs r (inl x) = rw (ahead o T f d h a rest xs r x) (firm_less o (reading body o f (xs ++ r)) a _ _ r (λ e. (e.0, fair_right T (bars facts f) rest r e.1)) (firm o A f d a rest xs r x))
+    firm o A (or_none T f b) (d, h) a rest xs r (inr (e, v, m)) =
+        subst (λ y. Firm o (cond (sees T (y ++ r)) (reading body o f (y ++ r)) (ret b (y ++ r))) a (Ends (or_none T f b) rest r) r) (sym e) (passed o T A f d h (ret b r) a (Ends (or_none T f b) rest r) r (λ e. fair_none T rest r m (fair_left T (bars facts f) rest r e.1)) (inl (ap (λ y. Ok (y, r)) (sym v))))
+    firm o A (nest m T f) (d, h) a rest xs r (p, x) = rw (nested_fits (under o).depth m T (reading body o f) (xs ++ r) p) (firm o A f d a rest xs r x)
+    firm o A (bounded f) (d, n) a rest xs r (p, x) = firm_up_to o (reading body None f) a (Ends f rest r) r xs p (firm None A f d a rest xs r x)
+    firm o A (two_ahead T U f g) (d, (d', (h, (p, q)))) a rest xs r (inl x) =
+        let second = if_so (not (long facts g)) U in
+        let others = bars facts f ∪ bars facts g in
+        rw (two_seen T U xs r (head_starts facts L s (under o) T f d h a rest xs x) (second_starts facts L s U (under o) _ f d p a rest xs x)) (firm_less o (reading body o f (xs ++ r)) a _ _ r
+        (λ e. (none_left (goes_on facts f) (goes_on facts g) r e.0, fair_left (bars facts f) (bars facts g) rest r (fair_right second others rest r e.1))) (firm o A f d a rest xs r x))
+    firm o A (two_ahead T U f g) (d, (d', (h, (p, (n, q))))) a rest xs r (inr (x, e)) = go (sees_two T U (xs ++ r)) refl (firm o A g d' a rest xs r x)
       where
-        go : Starts (nullable facts g) (begins facts g) xs → Firm (plain g (xs ++ r)) a r → Firm (cond (sees T (xs ++ r)) (plain f (xs ++ r)) (plain g (xs ++ r))) a r
-        go (inl (n, e)) m = subst (λ v. Firm (cond (sees T (v ++ r)) (plain f (v ++ r)) (plain g (v ++ r))) a r) (sym e) (passed T A f d h (plain g r) a r (subst (λ v. Firm (plain g (v ++ r)) a r) e m))
-        go (inr q) m = rw (sees_apart (begins facts g) T (xs ++ r) o (sees_more (begins facts g) xs r q)) m
-    firm A (many {A = B} T f) (d, o) all xs r x = firm_all T f (d, o) (firm B f d) all xs r x
-    firm A (or_none T f b) (d, h) a xs r (inl x) = rw (sees_more T xs r (head_starts facts L s unlimited T f d h a [] xs x)) (firm A f d a xs r x)
-    firm A (or_none T f b) (d, h) a xs r (inr (e, v, m)) =
-        subst (λ y. Firm (cond (sees T (y ++ r)) (plain f (y ++ r)) (ret b (y ++ r))) a r) (sym e) (passed T A f d h (ret b r) a r (inl (ap (λ y. Ok (y, r)) (sym v))))
-    firm A (nest m T f) (d, h) a xs r (p, x) = firm A f d a xs r x
-    firm A (bounded f) (d, o) a xs r (p, x) = firm A f d a xs r x
-    firm A (two_ahead T U f g) (d, (d', (h, (o, p)))) a xs r (inl x) =
-        rw (two_seen T U xs r (head_starts facts L s unlimited T f d h a [] xs x) (second_starts facts L s U unlimited _ f d o a [] xs x)) (firm A f d a xs r x)
-    firm A (two_ahead T U f g) (d, (d', (h, (o, (n, p))))) a xs r (inr (x, q)) = go xs q (some_starts facts L s unlimited g d' n a [] xs x) (firm A g d' a xs r x)
-      where
-        one_left : (t : Tok) (b c : Bool) → is T t ≡ b → sees U r ≡ c → Firm (plain g (t ∷ r)) a r → Firm (cond (b && c) (plain f (t ∷ r)) (plain g (t ∷ r))) a r
-        one_left t true true i j m = let k = takes_two facts body sure T U A f d o (t ∷ r) (sees_among T (begins facts f) (t ∷ r) h.1.1 i) j in inr (omega (arith, k))
-        one_left t true false i j m = m
-        one_left t false c i j m = m
+        second : Kinds
+        second = if_so (not (long facts g)) U
 
-        go : (us : List Tok) → sees_two T U (us ++ []) ≡ false → sees (begins facts g) us ≡ true → Firm (plain g (us ++ r)) a r → Firm (cond (sees_two T U (us ++ r)) (plain f (us ++ r)) (plain g (us ++ r))) a r
-        go [] q seen m = cc
-        go (t ∷ []) q seen m = one_left t (is T t) (sees U r) refl refl m
-        go (t ∷ u ∷ us) q seen m = subst (λ b. Firm (cond b (plain f (t ∷ u ∷ (us ++ r))) (plain g (t ∷ u ∷ (us ++ r)))) a r) (sym q) m
-    firm A (avoid T U f) (d, (e, (n, (t, (l, o))))) a xs r (x, q) = rw (two_own T U xs r (longs facts L s unlimited _ f d l a [] xs x) q) (firm A f d a xs r x)
+        others : Kinds
+        others = bars facts f ∪ bars facts g
 
-  within_firm : (h : ℕ) (n : N) (a : Node n) (xs r : List Tok) → Within body h unlimited n a [] xs → Firm (read body unlimited n (xs ++ r)) a r
+        some : xs ≡ [] → ⊥
+        some = seen_some (begins facts g) xs (some_starts facts L s (under o) g d' n a rest xs x)
+
+        go : (b : Bool) → sees_two T U (xs ++ r) ≡ b → Firm o (reading body o g (xs ++ r)) a (Ends g rest r) r → Firm o (cond b (reading body o f (xs ++ r)) (reading body o g (xs ++ r))) a (Ends (two_ahead T U f g) rest r) r
+        go true k m = inr (λ ends. let no = two_kept (long facts g) T U xs rest r (λ l. longs facts L s (under o) _ g d' l a rest xs x) some (fair_left second others rest r ends.1) e in cc, more_two o T U A f d p h xs rest r k e some)
+        go false k m = firm_less o (reading body o g (xs ++ r)) a _ _ r (λ e. (none_right (goes_on facts f) (goes_on facts g) r e.0, fair_right (bars facts f) (bars facts g) rest r (fair_right second others rest r e.1))) m
+    firm o A (avoid T U f) (d, (e, (n, (t, (l, p))))) a rest xs r (x, q) = rw (two_own T U xs r (longs facts L s (under o) _ f d l a rest xs x) q) (firm o A f d a rest xs r x)
+
+  within_firm : (h : ℕ) (o : Option Limits) (n : N) (a : Node n) (rest xs : List Tok) → Within body h (under o) n a rest xs → (r : List Tok) → Firm o (read body (under o) n (xs ++ r)) a (Ends (call n) rest r) r
   unfolding Within
-  within_firm zero n a xs r x = absurd x
-  within_firm (suc h) n a xs r x =
-      subst (λ y. Firm y a r) (sym (read_is facts body sure unlimited n (xs ++ r))) (firm (Within body h) (λ l m b s ys y. (h, y)) (within_firm h) (Node n) (body n) (sure n).sure a xs r x)
+  within_firm zero o n a rest xs x r = absurd x
+  within_firm (suc h) o n a rest xs x r = rw (read_is facts body sure (under o) n (xs ++ r)) (firm_less o (reading body o (body n) (xs ++ r)) a (Ends (call n) rest r) (Ends (body n) rest r) r
+      (λ e. (sees_none (goes_on facts (body n)) (facts n).goes_on r (sure n).further e.0, fair_less (bars facts (body n)) (facts n).bars rest r (λ ts. sees_none (bars facts (body n)) (facts n).bars ts (sure n).barred) e.1))
+      (firm (Within body h) (λ l m b s ys y. (h, y)) (within_firm h) o (Node n) (body n) (sure n).sure a rest xs r x))
 
-  -- what is spelled is read to its end, whatever comes after it
-  pub form_firm : (A : Type 0) (f : Form N Node A) → Decided facts f → (a : A) (xs r : List Tok) → SpellsBy (Spells body) unlimited f a [] xs → Firm (run (read body) unlimited f (xs ++ r)) a r
-  form_firm A f d a xs r x = firm (Spells body) (λ l m b s ys y. y) (λ n a xs r x. within_firm x.0 n a xs r x.1) A f d a xs r x
+  form_firm_so : (o : Option Limits) (A : Type 0) (f : Form N Node A) → Decided facts f → (a : A) (rest xs r : List Tok) → SpellsBy (Spells body) (under o) f a rest xs → Firm o (reading body o f (xs ++ r)) a (Ends f rest r) r
+  form_firm_so o A f d a rest xs r x = firm (Spells body) (λ l m b s ys y. y) (λ o n a rest xs x r. within_firm x.0 o n a rest xs x.1 r) o A f d a rest xs r x
+
+  -- without limits, what is spelled alone is read to its end, or more is taken
+  pub form_firm : (A : Type 0) (f : Form N Node A) → Decided facts f → (a : A) (xs r : List Tok) → SpellsBy (Spells body) unlimited f a [] xs → (run (read body) unlimited f (xs ++ r) ≡ Ok (a, r)) ⊎ (length (rest_of (run (read body) unlimited f (xs ++ r))) < length r)
+  form_firm A f d a xs r x = go (form_firm_so None A f d a [] xs r x)
+    where
+      go : Firm None (run (read body) unlimited f (xs ++ r)) a (Ends f [] r) r → (run (read body) unlimited f (xs ++ r) ≡ Ok (a, r)) ⊎ (length (rest_of (run (read body) unlimited f (xs ++ r))) < length r)
+      go (inl e) = inl e
+      go (inr (n, m)) = inr m
+
+  -- what is spelled is read, where nothing goes on with it
+  pub form_complete : (limits : Limits) {A : Type 0} (f : Form N Node A) → Decided facts f → (a : A) (rest xs : List Tok) → SpellsBy (Spells body) limits f a rest xs → sees (goes_on facts f) rest ≡ false → run (read body) limits f (xs ++ rest) ≡ Ok (a, rest)
+  form_complete limits {A} f d a rest xs x e = go (form_firm_so (Some limits) A f d a rest xs rest x)
+    where
+      go : Firm (Some limits) (run (read body) limits f (xs ++ rest)) a (Ends f rest rest) rest → run (read body) limits f (xs ++ rest) ≡ Ok (a, rest)
+      go (inl e) = e
+      go (inr (n, m)) = absurd (n (e, inr refl))

@@ -1,147 +1,189 @@
--- What a rule of a grammar reads depends on no token after the one at which it stops, and on no bound of the rules under way.
-use Rattle.std.proofs.Common.{◌≡◌, ℕ, zero, suc, ◌<◌, ◌≤◌, List, length, Ok, Bool, true, false, cond, not, ◌&&◌, ◌||◌, refl, sym, ap, subst, arith}
+-- What holds of each form whose parts it holds of, where they are read, holds of all forms; and a rule is its right side.
+use Rattle.std.proofs.Common.{◌≡◌, ◌⊎◌, inl, inr, ℕ, zero, suc, ◌<◌, ◌≤◌, ◌+◌, List, length, drop, length-drop, Ok, Bool, true, false, not, ◌&&◌, ◌||◌, Option, Some, None, sym, arith}
 use Rattle.arc_lex.specs.Tokens.{Tok}
-use Rattle.arc_form.specs.Kinds.{Kinds}
+use Rattle.arc_form.specs.Reader.{Read, Reader, loop, up_to, misfit, too_deep, ◌>>=◌, ret, sees, sees_two, is_above}
 use Rattle.arc_form.specs.Form.{Limits, unlimited, Form, Rules, Bodies, token, give, call, map, ◌⨾◌, choose, many, or_none, nest, bounded, two_ahead, avoid, run, deep, read}
-use Rattle.arc_form.proofs.Sets.{among, both, sees_among}
-use Rattle.arc_form.proofs.Static.{Facts, nullable, begins, guarded, Decided, Fits}
-use Rattle.arc_form.specs.Reader.{Reader}
-use Rattle.arc_form.proofs.Local.{StopsAt, Local, Takes, takes_second, rest_of, left_of, stops_fewer, then, after, weaker, local_ret, local_second, local_token, local_if, local_two, local_nested, local_up_to, local_loop, local_as}
+use Rattle.arc_form.proofs.Sets.{both}
+use Rattle.arc_form.proofs.Static.{Facts, nullable, guarded, Decided, Fits}
+use Rattle.arc_form.proofs.Local.{Alike, Takes, alike_less, alike_ret, alike_err, alike_then, alike_if, alike_token, alike_cut, turns_alike, nested_is, ok_left, all_left, rest_of}
+
+-- these limits, or none
+abbrev pub under : Option Limits → Limits
+under None = unlimited
+under (Some limits) = limits
+
+-- of a form that is read of some tokens, under limits or without
+abbrev pub Property : (N : Type 0) → (N → Type 0) → Type 1
+Property N Node = Option Limits → (A : Type 0) → Form N Node A → List Tok → Type 0
 
 -- the fewest tokens of what may be no token or not
 abbrev pub need : Bool → ℕ
 need true = 0
 need false = 1
 
-pub solid : {S : Type 0} {k : ℕ} {A : Type 0} {f h : Reader A} (b : Bool) → b ≡ false → Local S (need b) k f h → Local S 1 k f h
-solid true e l = cc
-solid false e l = l
+pub some_need : {A : Type 0} {x y : Read A} {ts : List Tok} (b : Bool) → b ≡ false → Alike (need b) ts x y → Alike 1 ts x y
+some_need true e l = cc
+some_need false e l = l
 
 need_one : (b : Bool) → need b ≤ 1
 need_one true = omega arith
 need_one false = omega arith
 
--- of two tests of which one says enough, or both must pass
-pub or_here : (b c d : Bool) → (b || (c && d)) ≡ true → (b || c) ≡ true
-or_here true c d e = refl
-or_here false c d e = (both c d e).0
+need_both : (b c : Bool) → need (b && c) ≤ need b + (need c + 0)
+need_both true c = omega arith
+need_both false c = omega arith
 
-pub or_there : (b c d : Bool) → (b || (c && d)) ≡ true → (b || d) ≡ true
-or_there true c d e = refl
-or_there false c d e = (both c d e).1
+-- there are fewer than k tokens, or k, and a token is taken before any rule is read
+abbrev Room : ℕ → Bool → List Tok → Type 0
+Room k b ts = (length ts < k) ⊎ ((b ≡ true) × (length ts ≤ k))
 
--- under which limits the tokens decide where a reader stops
-abbrev pub Deciding : Type 1
-Deciding = Limits → Type 0
+room_both : (k : ℕ) (b c : Bool) (ts : List Tok) → Room k (b && c) ts → Room k b ts × Room k c ts
+room_both k b c ts (inl p) = (inl p, inl p)
+room_both k b c ts (inr (q, p)) = let both_so = both b c q in (inr (both_so.0, p), inr (both_so.1, p))
+
+-- after a part that may be no token or not
+room_next : (k : ℕ) (b n : Bool) (ts s : List Tok) → Room k (not n || b) ts → need n + length s ≤ length ts → Room k b s
+room_next k b n ts s (inl p) le = inl (omega arith)
+room_next k b true ts s (inr (q, p)) le = inr (q, omega arith)
+room_next k b false ts s (inr (q, p)) le = inl (omega arith)
+
+fewer : (k : ℕ) (b : Bool) (ts us : List Tok) → length us ≤ length ts → Room k b ts → Room k b us
+fewer k b ts us le (inl p) = inl (omega arith)
+fewer k b ts us le (inr (e, p)) = inr (e, omega arith)
+
+-- it holds of a form's parts, of the tokens of which they are read, and C of a rule
+abbrev pub OfParts : {N : Type 0} {Node : N → Type 0} → (Limits → Rules N Node) → (Option Limits → N → List Tok → Type 0) → Property N Node → Property N Node
+OfParts of C P o A (token T g) ts = Unit {0}
+OfParts of C P o A (give a) ts = Unit {0}
+OfParts of C P o A (call n) ts = C o n ts
+OfParts of C P o A (map {A = B} h f) ts = P o B f ts
+OfParts of C P o A (◌⨾◌ {A = B} {B = D} f g) ts = P o B f ts × ((a : B) (s : List Tok) → run of (under o) f ts ≡ Ok (a, s) → P o D g s)
+OfParts of C P o A (choose T f g) ts = P o A f ts × P o A g ts
+OfParts of C P o A (many {A = B} T f) ts = ((us : List Tok) → length us ≤ length ts → P o B f us) × ((a : B) (s : List Tok) → run of (under o) f ts ≡ Ok (a, s) → P o A (many T f) s)
+OfParts of C P o A (or_none T f a) ts = P o A f ts
+OfParts of C P o A (nest d T f) ts = P o A f ts
+OfParts of C P o A (bounded f) ts = P None A f ts
+OfParts of C P o A (two_ahead T U f g) ts = P o A f ts × P o A g ts
+OfParts of C P o A (avoid T U f) ts = P o A f ts
+
+module _ {N : Type 0} {Node : N → Type 0} (body : Bodies N Node) where
+  abbrev pub reading : Option Limits → {A : Type 0} → Form N Node A → Reader A
+  reading o f = run (read body) (under o) f
+
+  abbrev pub PartsOf : Property N Node → Property N Node
+  PartsOf P = OfParts (read body) (λ o n ts. P o (Node n) (body n) ts) P
 
 module _ {N : Type 0} {Node : N → Type 0} (facts : N → Facts) where
-  abbrev pub Alike : Deciding → ℕ → (Limits → Rules N Node) → (Limits → Rules N Node) → Type 0
-  Alike S k g h = (limits : Limits) (n : N) → Local (S limits) 1 k (g limits n) (h limits n)
-
-  -- under these limits, which are none, a form takes tokens from the front, and one of those with which it begins
-  pub record Plain (h : Limits → Rules N Node) (limits : Limits) : Type 1 where
-    pub free : limits ≡ unlimited
-    pub take : (A : Type 0) (f : Form N Node A) → Decided facts f → Takes (begins facts f) (run h limits f)
-    pub front : (A : Type 0) (f : Form N Node A) → Decided facts f → nullable facts f ≡ false → (j : ℕ) → Local ⊥ 1 j (run h limits f) (run h limits f)
-
-  -- where rules are local, of fewer than k tokens, so is a form; and of k, if it reads a rule only after a token
-  module _ (S : Deciding) (k : ℕ) (g h : Limits → Rules N Node) (plain : (limits : Limits) → S limits → Plain h limits) (rec : Alike S k g h) where
-    takes_here : (limits : Limits) (A : Type 0) (f : Form N Node A) (T : Kinds) → among T (begins facts f) ≡ true → Decided facts f → S limits → Takes T (run h limits f)
-    takes_here limits A f T k d so ts e = (plain limits so).take A f d ts (sees_among T (begins facts f) ts k e)
-
-    inner : (b : Bool) (limits : Limits) (A : Type 0) (f : Form N Node A) → Decided facts f → (b || guarded facts f) ≡ true → Local (S limits) (need (nullable facts f)) (cond b k (suc k)) (run g limits f) (run h limits f)
-    inner b limits A (token T v) d e = local_token T v
-    inner b limits A (give a) d e = local_ret a
-    inner true limits A (call n) d e = rec limits n
-    inner false limits A (call n) d e = cc
-    inner b limits A (map {A = B} v f) d e = weaker (need (nullable facts f)) (omega arith) (then (inner b limits B f d e) (λ a. local_ret (v a)))
-    inner b limits A (◌⨾◌ {A = B} {B = C} f f') (d, (d', o)) e =
-        go b (nullable facts f) (or_there b (guarded facts f) (not (nullable facts f) || guarded facts f') e)
-        (inner b limits B f d (or_here b (guarded facts f) (not (nullable facts f) || guarded facts f') e)) (λ c t. inner c limits C f' d' t)
+  -- of forms whose rules are read so: what is left shows that rules are read of fewer than k tokens
+  module _ (of : Limits → Rules N Node) (C : Option Limits → N → List Tok → Type 0) (P : Property N Node)
+      (left : (o : Option Limits) (A : Type 0) (f : Form N Node A) → Decided facts f → (ts : List Tok) → P o A f ts → (a : A) (s : List Tok) → run of (under o) f ts ≡ Ok (a, s) → need (nullable facts f) + length s ≤ length ts)
+      (step : (o : Option Limits) (A : Type 0) (f : Form N Node A) → Decided facts f → (ts : List Tok) → OfParts of C P o A f ts → P o A f ts)
+      (k : ℕ) (rec : (o : Option Limits) (n : N) (ts : List Tok) → length ts < k → C o n ts) where
+    each : (o : Option Limits) (A : Type 0) (f : Form N Node A) → Decided facts f → (ts : List Tok) → Room k (guarded facts f) ts → P o A f ts
+    each o A (token T g) d ts p = step o A (token T g) d ts tt
+    each o A (give a) d ts p = step o A (give a) d ts tt
+    each o A (call n) d ts (inl p) = step o A (call n) d ts (rec o n ts p)
+    each o A (call n) d ts (inr (e, p)) = cc
+    each o A (map {A = B} h f) d ts p = step o A (map h f) d ts (each o B f d ts p)
+    each o A (◌⨾◌ {A = B} {B = D} f g) (d, (d', q)) ts p =
+        let room = room_both k (guarded facts f) (not (nullable facts f) || guarded facts g) ts p in
+        let first = each o B f d ts room.0 in
+        step o A (f ⨾ g) (d, (d', q)) ts (first, λ a s e. each o D g d' s (room_next k (guarded facts g) (nullable facts f) ts s room.1 (left o B f d ts first a s e)))
+    each o A (choose T f g) (d, (d', q)) ts p = let room = room_both k (guarded facts f) (guarded facts g) ts p in step o A (choose T f g) (d, (d', q)) ts (each o A f d ts room.0, each o A g d' ts room.1)
+    each o A (many {A = B} T f) (d, (h, q)) ts p = all (each o B f d) (suc (length ts)) ts (omega arith) p
       where
-        go : (b n : Bool) → (b || (not n || guarded facts f')) ≡ true → Local (S limits) (need n) (cond b k (suc k)) (run g limits f) (run h limits f)
-            → ((c : Bool) → (c || guarded facts f') ≡ true → Local (S limits) (need (nullable facts f')) (cond c k (suc k)) (run g limits f') (run h limits f'))
-            → Local (S limits) (need (n && nullable facts f')) (cond b k (suc k)) (run g limits (f ⨾ f')) (run h limits (f ⨾ f'))
-        go b true t l m = weaker (need (nullable facts f')) (omega arith) (then l (λ a. then (m b t) (λ c. local_ret (a, c))))
-        go true false t l m = weaker 1 (omega arith) (then l (λ a. then (m true refl) (λ c. local_ret (a, c))))
-        go false false t l m = weaker 1 (omega arith) (after l (λ a. then (m true refl) (λ c. local_ret (a, c))))
-    inner b limits A (choose T f f') (d, (d', ((n, o), q))) e =
-        local_if T (weaker (need (nullable facts f')) (need_one (nullable facts f')) (solid (nullable facts f) n (inner b limits A f d (or_here b (guarded facts f) (guarded facts f') e))))
-        (inner b limits A f' d' (or_there b (guarded facts f) (guarded facts f') e))
-    inner b limits A (many {A = B} T f) (d, ((n, o), q)) e = local_loop T (λ so. (plain limits so).front B f d n) (solid (nullable facts f) n (inner b limits B f d e))
-    inner b limits A (or_none T f a) (d, o) e = local_if T (weaker 0 (omega arith) (inner b limits A f d e)) (local_ret a)
-    inner b limits A (nest m T f) (d, (n, o)) e = local_nested limits.depth m T (solid (nullable facts f) n (inner b limits A f d e))
-    inner b limits A (bounded f) (d, n) e =
-        local_up_to limits.tokens (λ so. let p = (plain limits so).free in (ap (λ l. l.tokens) p, subst S p so)) (solid (nullable facts f) n (inner b unlimited A f d e))
-    inner b limits A (two_ahead T U f f') (d, (d', ((n, (w, a)), (s, (n', t))))) e =
-        local_two T U (takes_here limits A f T a d) (takes_here limits A f' T t d') (solid (nullable facts f) n (inner b limits A f d (or_here b (guarded facts f) (guarded facts f') e)))
-        (solid (nullable facts f') n' (inner b limits A f' d' (or_there b (guarded facts f) (guarded facts f') e)))
-    inner b limits A (avoid T U f) (d, (s, (n, (t, o)))) e =
-        local_two T U (λ so. takes_second A T) (takes_here limits A f T t d) local_second (solid (nullable facts f) n (inner b limits A f d e))
+        taken : (b : Bool) → b ≡ false → (s us : List Tok) → need b + length s ≤ length us → length s < length us
+        taken true e s us le = cc
+        taken false e s us le = omega arith
+
+        all : ((us : List Tok) → Room k (guarded facts f) us → P o B f us) → (j : ℕ) (us : List Tok) → length us < j → Room k (guarded facts f) us → P o A (many T f) us
+        all inside zero us r p = absurd (omega arith)
+        all inside (suc j) us r p =
+            step o A (many T f) (d, (h, q)) us (
+              λ vs le. inside vs (fewer k (guarded facts f) us vs le p),
+              λ a s e. let less = taken (nullable facts f) h.0 s us (left o B f d us (inside us p) a s e) in all inside j s (omega (arith, less)) (fewer k (guarded facts f) us s (omega (arith, less)) p),
+            )
+    each o A (or_none T f a) (d, q) ts p = step o A (or_none T f a) (d, q) ts (each o A f d ts p)
+    each o A (nest m T f) (d, q) ts p = step o A (nest m T f) (d, q) ts (each o A f d ts p)
+    each o A (bounded f) (d, q) ts p = step o A (bounded f) (d, q) ts (each None A f d ts p)
+    each o A (two_ahead T U f g) (d, (d', q)) ts p = let room = room_both k (guarded facts f) (guarded facts g) ts p in step o A (two_ahead T U f g) (d, (d', q)) ts (each o A f d ts room.0, each o A g d' ts room.1)
+    each o A (avoid T U f) (d, q) ts p = step o A (avoid T U f) (d, q) ts (each o A f d ts p)
+
+  -- two readings of a form by rules that read alike
+  module _ (g h : Limits → Rules N Node) where
+    abbrev AlikeAt : Property N Node
+    AlikeAt o A f ts = Alike (need (nullable facts f)) ts (run g (under o) f ts) (run h (under o) f ts)
+
+    abbrev AlikeRule : Option Limits → N → List Tok → Type 0
+    AlikeRule o n ts = Alike 1 ts (g (under o) n ts) (h (under o) n ts)
+
+    alike : (o : Option Limits) (A : Type 0) (f : Form N Node A) → Decided facts f → (ts : List Tok) → OfParts g AlikeRule AlikeAt o A f ts → AlikeAt o A f ts
+    unfolding loop up_to
+    alike o A (token T v) d ts x = alike_token T v ts
+    alike o A (give a) d ts x = alike_ret ts a
+    alike o A (call n) d ts x = x
+    alike o A (map v f) d ts x = alike_less (need (nullable facts f)) (omega arith) (alike_then (λ a. ret (v a)) (λ a. ret (v a)) x (λ a s e. alike_ret s (v a)))
+    alike o A (◌⨾◌ {A = B} {B = D} f f') d ts (x, y) =
+        alike_less (need (nullable facts (f ⨾ f'))) (need_both (nullable facts f) (nullable facts f')) (alike_then (λ a. run g (under o) f' >>= (λ b. ret (a, b))) (λ a. run h (under o) f' >>= (λ b. ret (a, b))) x (λ a s e. alike_then (λ b. ret (a, b)) (λ b. ret (a, b)) (y a s e) (λ b r q. alike_ret r (a, b))))
+    alike o A (choose T f f') (d, (d', (n, q))) ts (x, y) = alike_if (sees T ts) (alike_less (need (nullable facts f')) (need_one (nullable facts f')) (some_need (nullable facts f) n.0 x)) y
+    alike o A (many T f) (d, (n, q)) ts (x, y) = turns_alike T (suc (length ts)) (suc (length ts)) ts (omega arith) (omega arith) (λ us p. some_need (nullable facts f) n.0 (x us p))
+    alike o A (or_none T f a) d ts x = alike_if (sees T ts) (alike_less 0 (omega arith) x) (alike_ret ts a)
+    alike o A (nest m T f) (d, n) ts x =
+        rw (nested_is (under o).depth m T (run g (under o) f) ts, nested_is (under o).depth m T (run h (under o) f) ts) (alike_if (is_above (under o).depth m) (alike_if (sees T ts) (alike_err 1 ts ts too_deep (omega arith)) (alike_err 1 ts ts misfit (omega arith))) (some_need (nullable facts f) n.0 x))
+    alike o A (bounded f) (d, n) ts x = alike_cut (under o).tokens (some_need (nullable facts f) n x)
+    alike o A (two_ahead T U f f') (d, (d', (n, (s, (n', t))))) ts (x, y) = alike_if (sees_two T U ts) (some_need (nullable facts f) n.0 x) (some_need (nullable facts f') n' y)
+    alike o A (avoid T U f) (d, (s, (n, t))) ts x = alike_if (sees_two T U ts) (alike_err 1 ts (drop 1 ts) misfit (omega (arith, length-drop 1 ts))) (some_need (nullable facts f) n x)
+
+    alike_each : (k : ℕ) → ((o : Option Limits) (n : N) (ts : List Tok) → length ts < k → AlikeRule o n ts) → (o : Option Limits) (A : Type 0) (f : Form N Node A) → Decided facts f → (ts : List Tok) → Room k (guarded facts f) ts → AlikeAt o A f ts
+    alike_each = each g AlikeRule AlikeAt (λ o A f d ts l a s e. ok_left l e) alike
 
   module _ (body : Bodies N Node) (sure : (n : N) → Fits facts body n) where
-    step : (S : Deciding) (k : ℕ) (g h : Limits → Rules N Node) → ((limits : Limits) → S limits → Plain h limits) → Alike S k g h → Alike S (suc k) (λ limits n. run g limits (body n)) (λ limits n. run h limits (body n))
-    step S k g h plain rec limits n = solid (nullable facts (body n)) (sure n).head.0 (inner S k g h plain rec false limits (Node n) (body n) (sure n).sure (sure n).guard)
-
-    step_none : (k : ℕ) (g h : Limits → Rules N Node) → Alike (λ limits. ⊥) k g h → Alike (λ limits. ⊥) (suc k) (λ limits n. run g limits (body n)) (λ limits n. run h limits (body n))
-    step_none k g h rec = step (λ limits. ⊥) k g h (λ limits x. absurd x) rec
-
-    deep_local : (k n m : ℕ) → k ≤ n → k ≤ m → Alike (λ limits. ⊥) k (deep body n) (deep body m)
-    unfolding deep
-    deep_local zero n m _ _ limits rule = record { each = λ ts few. absurd (omega arith) }
-    deep_local (suc k) zero m p q limits rule = absurd (omega arith)
-    deep_local (suc k) (suc n) zero p q limits rule = absurd (omega arith)
-    deep_local (suc k) (suc n) (suc m) p q limits rule = step_none k (deep body n) (deep body m) (deep_local k n m (omega arith) (omega arith)) limits rule
-
     -- any bound of the rules under way is as good as another, if it is more than the tokens
-    deep_same : (n m : ℕ) (limits : Limits) (rule : N) (ts : List Tok) → length ts < n → length ts < m → deep body n limits rule ts ≡ deep body m limits rule ts
-    deep_same n m limits rule ts p q = ((deep_local (suc (length ts)) m n (omega arith) (omega arith) limits rule).each ts (omega arith)).agrees
+    deep_alike : (k n m : ℕ) → k ≤ n → k ≤ m → (o : Option Limits) (rule : N) (ts : List Tok) → length ts < k → Alike 1 ts (deep body n (under o) rule ts) (deep body m (under o) rule ts)
+    unfolding deep
+    deep_alike zero n m p q o rule ts few = absurd (omega arith)
+    deep_alike (suc k) zero m p q o rule ts few = absurd (omega arith)
+    deep_alike (suc k) (suc n) zero p q o rule ts few = absurd (omega arith)
+    deep_alike (suc k) (suc n) (suc m) p q o rule ts few =
+        some_need (nullable facts (body rule)) (sure rule).head.0
+        (alike_each (deep body n) (deep body m) k (deep_alike k n m (omega arith) (omega arith)) o (Node rule) (body rule) (sure rule).sure ts (inr ((sure rule).guard, omega arith)))
 
-    deep_read : (n : ℕ) (limits : Limits) (rule : N) (ts : List Tok) → length ts < n → StopsAt ⊥ 1 (deep body n limits rule ts) (read body limits rule) ts
+    read_takes : (o : Option Limits) (rule : N) (ts : List Tok) → Alike 1 ts (read body (under o) rule ts) (read body (under o) rule ts)
     unfolding read
-    deep_read n limits rule ts p =
-        let s = (deep_local (suc (length ts)) n n (omega arith) (omega arith) limits rule).each ts (omega arith) in
-        record { before = s.before; cut = s.cut; moves = s.moves; agrees = deep_same (suc (length ts)) n limits rule ts (omega arith) p; same = λ so. absurd so }
-
-    -- a rule takes a token at least, from the front
-    pub fronts : (k : ℕ) → Alike (λ limits. ⊥) k (read body) (read body)
-    unfolding read
-    fronts k limits rule = record { each = λ ts few. deep_read (suc (length ts)) limits rule ts (omega arith) }
+    read_takes o rule ts = let n = suc (length ts) in let a = deep_alike n n n (omega arith) (omega arith) o rule ts (omega arith) in a
 
     -- a rule is its right side, over the rules
-    pub read_is : (limits : Limits) (rule : N) (ts : List Tok) → read body limits rule ts ≡ run (read body) limits (body rule) ts
+    read_so : (o : Option Limits) (rule : N) (ts : List Tok) → read body (under o) rule ts ≡ reading body o (body rule) ts
     unfolding read deep
-    read_is limits rule ts = sym ((step_none (length ts) (deep body (length ts)) (read body) (λ l r. record { each = λ vs few. deep_read (length ts) l r vs few }) limits rule).each ts (omega arith)).agrees
+    read_so o rule ts =
+        let n = length ts in
+        sym (alike_each (deep body n) (read body) n (λ o r us p. deep_alike (suc (length us)) n (suc (length us)) p (omega arith) o r us (omega arith)) o (Node rule) (body rule) (sure rule).sure ts (inr ((sure rule).guard, omega arith))).same
 
-    -- a form takes tokens from the front
-    pub form_front : (limits : Limits) {A : Type 0} (f : Form N Node A) → Decided facts f → (j : ℕ) → Local ⊥ (need (nullable facts f)) j (run (read body) limits f) (run (read body) limits f)
-    form_front limits {A} f d j = inner (λ l. ⊥) j (read body) (read body) (λ l x. absurd x) (fronts j) true limits A f d refl
+    pub read_is : (limits : Limits) (rule : N) (ts : List Tok) → read body limits rule ts ≡ run (read body) limits (body rule) ts
+    read_is limits rule ts = read_so (Some limits) rule ts
 
-    -- and one at least, if it is some
-    pub some_front : (limits : Limits) {A : Type 0} (f : Form N Node A) → Decided facts f → nullable facts f ≡ false → (j : ℕ) → Local ⊥ 1 j (run (read body) limits f) (run (read body) limits f)
-    some_front limits f d n j = solid (nullable facts f) n (form_front limits f d j)
+    -- a rule takes a token at least
+    pub fronts : (limits : Limits) (rule : N) → Takes 1 (read body limits rule)
+    fronts limits rule = record { each = λ ts. read_takes (Some limits) rule ts }
 
-    pub form_left : (limits : Limits) {A : Type 0} (f : Form N Node A) → Decided facts f → (ts : List Tok) → length (rest_of (run (read body) limits f ts)) ≤ length ts
-    form_left limits f d ts = left_of (run (read body) limits f ts) ((form_front limits f d (suc (length ts))).each ts (omega arith))
+    form_takes_so : (o : Option Limits) (A : Type 0) (f : Form N Node A) → Decided facts f → (ts : List Tok) → Alike (need (nullable facts f)) ts (reading body o f ts) (reading body o f ts)
+    form_takes_so o A f d ts = alike_each (read body) (read body) (suc (length ts)) (λ o r us p. read_takes o r us) o A f d ts (inl (omega arith))
 
-    pub ok_left : (limits : Limits) {A : Type 0} (f : Form N Node A) → Decided facts f → (a : A) (ts s : List Tok) → run (read body) limits f ts ≡ Ok (a, s) → length s ≤ length ts
-    ok_left limits f d a ts s e = omega (arith, form_left limits f d ts, ap (λ x. length (rest_of x)) e)
+    -- and so does a form, if it is some
+    pub some_front : (limits : Limits) {A : Type 0} (f : Form N Node A) → Decided facts f → nullable facts f ≡ false → Takes 1 (run (read body) limits f)
+    some_front limits {A} f d n = record { each = λ ts. some_need (nullable facts f) n (form_takes_so (Some limits) A f d ts) }
 
-    pub ok_fewer : (limits : Limits) {A : Type 0} (f : Form N Node A) → Decided facts f → nullable facts f ≡ false → (a : A) (ts s : List Tok) → run (read body) limits f ts ≡ Ok (a, s) → length s < length ts
-    ok_fewer limits f d n a ts s e = stops_fewer (run (read body) limits f ts) a s ((some_front limits f d n (suc (length ts))).each ts (omega arith)) e
+    -- a form leaves no more than there is
+    pub form_left : {A : Type 0} (f : Form N Node A) → Decided facts f → (ts : List Tok) → length (rest_of (run (read body) unlimited f ts)) ≤ length ts
+    form_left {A} f d ts = let x = run (read body) unlimited f ts in all_left x x (form_takes_so None A f d ts)
 
-    -- without limits the tokens up to the one at which a rule stops decide what it reads
-    module _ (takes : (A : Type 0) (f : Form N Node A) → Decided facts f → Takes (begins facts f) (run (read body) unlimited f)) where
-      always : (limits : Limits) → limits ≡ unlimited → Plain (read body) limits
-      always limits so = record {
-        free = so;
-        take = subst (λ l. (A : Type 0) (f : Form N Node A) → Decided facts f → Takes (begins facts f) (run (read body) l f)) (sym so) takes;
-        front = λ A f d n j. some_front limits f d n j;
-      }
+    module _ (P : Property N Node) (step : (o : Option Limits) (A : Type 0) (f : Form N Node A) → Decided facts f → (ts : List Tok) → PartsOf body P o A f ts → P o A f ts) where
+      reads_each : (k : ℕ) → ((o : Option Limits) (n : N) (ts : List Tok) → length ts < k → P o (Node n) (body n) ts) → (o : Option Limits) (A : Type 0) (f : Form N Node A) → Decided facts f → (ts : List Tok) → Room k (guarded facts f) ts → P o A f ts
+      reads_each = each (read body) (λ o n ts. P o (Node n) (body n) ts) P (λ o A f d ts p a s e. ok_left (form_takes_so o A f d ts) e) step
 
-      read_local : (k : ℕ) → Alike (λ limits. limits ≡ unlimited) k (read body) (read body)
-      read_local zero limits rule = record { each = λ ts few. absurd (omega arith) }
-      read_local (suc k) limits rule = local_as (read_is limits rule) (step (λ limits. limits ≡ unlimited) k (read body) (read body) always (read_local k) limits rule)
+      rules : (k : ℕ) (o : Option Limits) (n : N) (ts : List Tok) → length ts < k → P o (Node n) (body n) ts
+      rules zero o n ts p = absurd (omega arith)
+      rules (suc k) o n ts p = reads_each k (rules k) o (Node n) (body n) (sure n).sure ts (inr ((sure n).guard, omega arith))
 
-      pub form_local : {A : Type 0} (f : Form N Node A) → Decided facts f → (k : ℕ) → Local (unlimited ≡ unlimited) (need (nullable facts f)) k (run (read body) unlimited f) (run (read body) unlimited f)
-      form_local {A} f d k = inner (λ limits. limits ≡ unlimited) k (read body) (read body) always (read_local k) true unlimited A f d refl
+      pub by_reading : (o : Option Limits) (A : Type 0) (f : Form N Node A) → Decided facts f → (ts : List Tok) → P o A f ts
+      by_reading o A f d ts = reads_each (suc (length ts)) (rules (suc (length ts))) o A f d ts (inl (omega arith))

@@ -41,6 +41,16 @@ none_left A B ts e = (sees_neither A B ts e).0
 pub none_right : (A B : Kinds) (ts : List Tok) → sees (A ∪ B) ts ≡ false → sees B ts ≡ false
 none_right A B ts e = (sees_neither A B ts e).1
 
+pub fair_left : (A B : Kinds) (r r' : List Tok) → Fair (A ∪ B) r r' → Fair A r r'
+fair_left A B r r' q = fair_less A (A ∪ B) r r' (none_left A B) q
+
+pub fair_right : (A B : Kinds) (r r' : List Tok) → Fair (A ∪ B) r r' → Fair B r r'
+fair_right A B r r' q = fair_less B (A ∪ B) r r' (none_right A B) q
+
+pub fair_none : (T : Kinds) (r r' : List Tok) → sees T r ≡ false → Fair T r r' → sees T r' ≡ false
+fair_none T r r' n (inl e) = e
+fair_none T r r' n (inr e) = sees_alike T r' r e ∙ n
+
 -- after tokens that begin so, or none
 pub fair_after : (b : Bool) (A T : Kinds) (zs r r' : List Tok) → Starts b T zs → Fair (if_so b A) r r' → Fair A (zs ++ r) (zs ++ r')
 fair_after b A T (t ∷ zs) r r' s f = inr refl
@@ -80,7 +90,7 @@ two_long T U xs r r' (t, u, zs, c) e = ap (λ v. sees_two T U (v ++ r')) c ∙ s
 pub two_own : (T U : Kinds) (xs r : List Tok) → Long xs → sees_two T U xs ≡ false → sees_two T U (xs ++ r) ≡ false
 two_own T U xs r (t, u, zs, c) e = ap (λ v. sees_two T U (v ++ r)) c ∙ sym (ap (sees_two T U) c) ∙ e
 
-two_kept : (l : Bool) (T U : Kinds) (xs r r' : List Tok) → (l ≡ true → Long xs) → (xs ≡ [] → ⊥) → Fair (if_so (not l) U) r r' → sees_two T U (xs ++ r) ≡ false → sees_two T U (xs ++ r') ≡ false
+pub two_kept : (l : Bool) (T U : Kinds) (xs r r' : List Tok) → (l ≡ true → Long xs) → (xs ≡ [] → ⊥) → Fair (if_so (not l) U) r r' → sees_two T U (xs ++ r) ≡ false → sees_two T U (xs ++ r') ≡ false
 two_kept true T U xs r r' k z f e = two_long T U xs r r' (k refl) e
 two_kept false T U xs r r' k z f e = two_fair T U xs r r' z f e
 
@@ -158,26 +168,25 @@ module _ {N : Type 0} {Node : N → Type 0} (facts : N → Facts) where
     fair O c limits (map h f) d b r r' xs (a, v, x) q = (a, v, fair O c limits f d a r r' xs x q)
     fair O c limits (f ⨾ g) (d, (d', o)) a r r' xs (ys, zs, e, x, y) q =
         let further = if_so (nullable facts g) (bars facts f) in
-        let ahead = fair_after (nullable facts g) (bars facts f) (begins facts g) zs r r' (starts limits g d' a.1 r zs y) (fair_less further (bars facts g ∪ further) r r' (none_right (bars facts g) further) q) in
-        (ys, zs, e, fair O c limits f d a.0 (zs ++ r) (zs ++ r') ys x ahead, fair O c limits g d' a.1 r r' zs y (fair_less (bars facts g) (bars facts g ∪ further) r r' (none_left (bars facts g) further) q))
-    fair O c limits (choose T f g) (d, o) a r r' xs (inl x) q = inl (fair O c limits f d a r r' xs x (fair_less (bars facts f) (bars facts f ∪ bars facts g) r r' (none_left (bars facts f) (bars facts g)) q))
-    fair O c limits (choose T f g) (d, (d', o)) a r r' xs (inr x) q = inr (fair O c limits g d' a r r' xs x (fair_less (bars facts g) (bars facts f ∪ bars facts g) r r' (none_right (bars facts f) (bars facts g)) q))
+        let ahead = fair_after (nullable facts g) (bars facts f) (begins facts g) zs r r' (starts limits g d' a.1 r zs y) (fair_right (bars facts g) further r r' q) in
+        (ys, zs, e, fair O c limits f d a.0 (zs ++ r) (zs ++ r') ys x ahead, fair O c limits g d' a.1 r r' zs y (fair_left (bars facts g) further r r' q))
+    fair O c limits (choose T f g) (d, o) a r r' xs (inl x) q = inl (fair O c limits f d a r r' xs x (fair_left (bars facts f) (bars facts g) r r' q))
+    fair O c limits (choose T f g) (d, (d', o)) a r r' xs (inr x) q = inr (fair O c limits g d' a r r' xs x (fair_right (bars facts f) (bars facts g) r r' q))
     fair O c limits (many T f) (d, o) all r r' xs x q = fair_all (SpellsBy L limits f) (SpellsBy O limits f) (bars facts f) (fair O c limits f d) all r r' xs x q
-    fair O c limits (or_none T f b) (d, o) a r r' xs (inl x) q = inl (fair O c limits f d a r r' xs x (fair_less (bars facts f) (T ∪ bars facts f) r r' (none_right T (bars facts f)) q))
-    fair O c limits (or_none T f b) d a r r' xs (inr (e, v, m)) (inl q) = inr (e, v, none_left T (bars facts f) r' q)
-    fair O c limits (or_none T f b) d a r r' xs (inr (e, v, m)) (inr q) = inr (e, v, sees_alike T r' r q ∙ m)
+    fair O c limits (or_none T f b) (d, o) a r r' xs (inl x) q = inl (fair O c limits f d a r r' xs x (fair_right T (bars facts f) r r' q))
+    fair O c limits (or_none T f b) d a r r' xs (inr (e, v, m)) q = inr (e, v, fair_none T r r' m (fair_left T (bars facts f) r r' q))
     fair O c limits (nest m T f) (d, o) a r r' xs (p, x) q = (p, fair O c limits f d a r r' xs x q)
     fair O c limits (bounded f) (d, o) a r r' xs (p, x) q = (p, fair O c unlimited f d a r r' xs x q)
     fair O c limits (two_ahead T U f g) (d, o) a r r' xs (inl x) q =
-        let second = if_so (not (long facts g)) U in
-        let others = bars facts f ∪ bars facts g in
-        inl (fair O c limits f d a r r' xs x (fair_less (bars facts f) (second ∪ others) r r' (λ ts n. none_left (bars facts f) (bars facts g) ts (none_right second others ts n)) q))
+        let others = fair_right (if_so (not (long facts g)) U) (bars facts f ∪ bars facts g) r r' q in
+        inl (fair O c limits f d a r r' xs x (fair_left (bars facts f) (bars facts g) r r' others))
     fair O c limits (two_ahead T U f g) (d, (d', (h, (o, (m, t))))) a r r' xs (inr (x, n)) q =
         let second = if_so (not (long facts g)) U in
-        let others = bars facts f ∪ bars facts g in
+        let others = fair_right second (bars facts f ∪ bars facts g) r r' q in
+        let some = seen_some (begins facts g) xs (some_starts limits g d' m a r xs x) in
         inr (
-          fair O c limits g d' a r r' xs x (fair_less (bars facts g) (second ∪ others) r r' (λ ts m. none_right (bars facts f) (bars facts g) ts (none_right second others ts m)) q),
-          two_kept (long facts g) T U xs r r' (λ l. longs limits _ g d' l a r xs x) (seen_some (begins facts g) xs (some_starts limits g d' m a r xs x)) (fair_less second (second ∪ others) r r' (none_left second others) q) n,
+          fair O c limits g d' a r r' xs x (fair_right (bars facts f) (bars facts g) r r' others),
+          two_kept (long facts g) T U xs r r' (λ l. longs limits _ g d' l a r xs x) some (fair_left second (bars facts f ∪ bars facts g) r r' q) n,
         )
     fair O c limits (avoid T U f) (d, o) a r r' xs (x, n) q = (fair O c limits f d a r r' xs x q, n)
 

@@ -1,154 +1,210 @@
 -- All of the tokens: what is read of them is what they spell, and each refusal says where and why they spell nothing.
-use Rattle.std.proofs.Common.{◌≡◌, ◌⊎◌, inl, inr, suc, List, [], ◌∷◌, ◌++◌, length, append_assoc, append-nil, Ok, Err, Some, None, refl, sym, ap, subst, ◌∙◌, arith}
-use Rattle.std.proofs.lemmas.List.{append_cancel_right}
+use Rattle.std.proofs.Common.{◌≡◌, inl, inr, ℕ, zero, suc, ◌<◌, ◌≤◌, ◌+◌, List, [], ◌∷◌, ◌++◌, length, length-append, append_assoc, append-nil, drop, nat_lt, Ok, Err, Bool, true, false, ◌&&◌, Option, Some, None, refl, sym, ap, subst, ◌∙◌, arith}
+use Rattle.std.proofs.lemmas.Bool.{ltb-false, lt-ltb}
+use Rattle.std.proofs.Math.Seq.{drop-append_seam}
 use Rattle.arc_lex.specs.Tokens.{Tok}
-use Rattle.arc_form.specs.Reader.{Read, Reader, Fault, misfit, too_deep, bind, ret, first}
-use Rattle.arc_form.specs.Form.{Limits, unlimited, Form, Bodies, run, read}
-use Rattle.arc_form.specs.Places.{Begun, Passes}
+use Rattle.arc_form.specs.Kinds.{Kinds}
+use Rattle.arc_form.specs.Reader.{Read, Reader, Fault, misfit, too_deep, bind, ◌>>=◌, ret, first, sees, loop, nested, goes_over, up_to}
+use Rattle.arc_form.specs.Form.{Limits, unlimited, Form, Bodies, token, give, call, map, ◌⨾◌, choose, many, or_none, nest, bounded, two_ahead, avoid, run, read}
+use Rattle.arc_form.specs.Meaning.{Spelling, SpellsAll, SpellsBy, Spells}
+use Rattle.arc_form.specs.Places.{Begun, OneTooMany, PassesBy, PassesWithin, Passes}
 use Rattle.arc_form.specs.Whole.{SpellsWhole, end, read_whole, FitsNone}
-use Rattle.arc_form.proofs.Static.{Facts, nullable, Decided, Fits}
-use Rattle.arc_form.proofs.Local.{StopsAt, rest_of, fault_of, put}
-use Rattle.arc_form.proofs.FormLocal.{need, form_local}
-use Rattle.arc_form.proofs.FormSound.{ok_is, form_sound}
-use Rattle.arc_form.proofs.FormBegins.{form_takes}
-use Rattle.arc_form.proofs.FormStarts.{form_alone}
-use Rattle.arc_form.proofs.FormComplete.{form_complete}
-use Rattle.arc_form.proofs.FormStuck.{form_stuck}
-use Rattle.arc_form.proofs.FormBelow.{Deeper, form_below}
-use Rattle.arc_form.proofs.FormTell.{Told, not_deep, ok_not_err, form_tells}
+use Rattle.arc_form.proofs.Sets.{apart, sees_among, sees_apart, sees_other, sees_more}
+use Rattle.arc_form.proofs.Static.{Facts, begins, goes_on, Decided, Heads, Fits}
+use Rattle.arc_form.proofs.Local.{Takes, rest_of, fault_of, loop_more, nested_is}
+use Rattle.arc_form.proofs.FormLocal.{read_is, some_front}
+use Rattle.arc_form.proofs.FormHeights.{form_free}
+use Rattle.arc_form.proofs.FormBegins.{Positive, deep_begins, deep_second}
+use Rattle.arc_form.proofs.FormStarts.{form_alone, Starts, start_all, head_starts, spells_starts}
+use Rattle.arc_form.proofs.FormFirm.{nested_fits, form_complete}
+use Rattle.arc_form.proofs.FormTold.{Told, What, Same, form_told}
 
--- two fronts of a list, of which the second has no less left
-front_of : (b c r s m : List Tok) → b ++ r ≡ c ++ s → r ≡ m ++ s → c ≡ b ++ m
-front_of b c r s m e f = append_cancel_right c (b ++ m) s (sym e ∙ ap (λ v. b ++ v) f ∙ sym (append_assoc b m s))
+-- of two fronts of a list, the longer one goes on from the other
+longer : (b s c r : List Tok) → b ++ s ≡ c ++ r → length b ≤ length c → (m : List Tok) × (c ≡ b ++ m) × (s ≡ m ++ r)
+longer [] s c r e p = (c, refl, e)
+longer (t ∷ b) s [] r e p = absurd (omega (arith, p))
+longer (t ∷ b) s (u ∷ c) r e p =
+    let same : t ≡ u = cc in
+    let tails : b ++ s ≡ c ++ r = cc in
+    let q = longer b s c r tails (omega (arith, p)) in
+    (q.0, ap (λ v. v ∷ c) (sym same) ∙ ap (λ v. t ∷ v) q.1, q.2)
 
-module _ {N : Type 0} {Node : N → Type 0} (facts : N → Facts) (body : Bodies N Node) (sure : (n : N) → Fits facts body n) (A : Type 0) (f : Form N Node A) (d : Decided facts f) where
-  abbrev pub limited : Limits → Reader A
-  limited limits = run (read body) limits f
+-- one answer is another
+ok_is : {A : Type 0} {a b : A} {r s : List Tok} → ret a r ≡ Ok (b, s) → (a ≡ b) × (r ≡ s)
+ok_is {A} {a} {b} {r} {s} e = let p : (a, r) ≡ (b, s) = cc in (ap (λ (x : A × List Tok). x.0) p, ap (λ (x : A × List Tok). x.1) p)
 
-  abbrev pub plain : Reader A
-  plain = run (read body) unlimited f
+module _ {N : Type 0} {Node : N → Type 0} (facts : N → Facts) (body : Bodies N Node) (sure : (n : N) → Fits facts body n) where
+  module _ (A : Type 0) (f : Form N Node A) (d : Decided facts f) where
+    abbrev limited : Limits → Reader A
+    limited limits = run (read body) limits f
 
-  reads_whole : (limits : Limits) (a : A) (xs : List Tok) → SpellsWhole body limits f a xs → limited limits xs ≡ Ok (a, [])
-  reads_whole limits a xs x = ap (limited limits) (sym (append-nil xs)) ∙ form_complete facts body sure limits f d a [] xs x refl
+    abbrev ToldSo : Limits → List Tok → Read A → Type 0
+    ToldSo limits ts x = Told (SpellsBy (Spells body) limits f) (Begun body f) (Passes body limits f) (limited unlimited) ts x
 
-  -- what is spelled is read
-  pub whole_complete : (limits : Limits) (a : A) (ts : List Tok) → SpellsWhole body limits f a ts → read_whole body limits f ts ≡ Ok (a, [])
-  unfolding read_whole
-  whole_complete limits a ts x = ap (λ y. bind y end) (reads_whole limits a ts x)
+    reads_whole : (limits : Limits) (a : A) (xs : List Tok) → SpellsWhole body limits f a xs → limited limits xs ≡ Ok (a, [])
+    reads_whole limits a xs x = ap (limited limits) (sym (append-nil xs)) ∙ form_complete facts body sure limits f d a [] xs x refl
 
-  ok_end : (a b : A) (s r : List Tok) → end b s ≡ Ok (a, r) → (s ≡ []) × (b ≡ a)
-  ok_end a b [] r e = (refl, (ok_is e).0)
-  ok_end a b (t ∷ s) r e = cc
+    -- what is read is spelled, within the limits
+    pub whole_within : (limits : Limits) (ts : List Tok) (a : A) (r : List Tok) → read_whole body limits f ts ≡ Ok (a, r) → SpellsWhole body limits f a ts
+    unfolding read_whole
+    whole_within limits ts a r e = go (limited limits ts) (form_told facts body sure (Some limits) A f d ts) e
+      where
+        go : (x : Read A) → ToldSo limits ts x → bind x end ≡ Ok (a, r) → SpellsWhole body limits f a ts
+        go (Ok (b, [])) t e =
+            subst (λ b. SpellsWhole body limits f b ts) (ok_is e).0 (subst (SpellsWhole body limits f b) (sym (t.cut ∙ append-nil t.taken)) t.what.0)
+        go (Ok (b, t ∷ s)) told e = cc
+        go (Err x) t e = cc
 
-  end_misfit : (b : A) (s r : List Tok) (y : Fault) → end b s ≡ Err (y, r) → (y ≡ misfit) × (s ≡ r) × (t : Tok) × (u : List Tok) × (s ≡ t ∷ u)
-  end_misfit b [] r y e = cc
-  end_misfit b (t ∷ s) r y e = (sym (ap (λ (z : Read A). fault_of z) e), ap (λ (z : Read A). rest_of z) e, t, s, refl)
+    -- and without them
+    pub whole_spelled : (limits : Limits) (ts : List Tok) (a : A) (r : List Tok) → read_whole body limits f ts ≡ Ok (a, r) → SpellsWhole body unlimited f a ts
+    whole_spelled limits ts a r e = form_free body limits f a [] ts (whole_within limits ts a r e)
 
-  whole_ok : (limits : Limits) (ts : List Tok) (a : A) (r : List Tok) → read_whole body limits f ts ≡ Ok (a, r) → limited limits ts ≡ Ok (a, [])
-  unfolding read_whole
-  whole_ok limits ts a r e = go (limited limits ts) e
+    -- the tokens spell nothing else
+    pub whole_alone : (limits : Limits) (ts : List Tok) (a other : A) (r : List Tok) → read_whole body limits f ts ≡ Ok (a, r) → SpellsWhole body unlimited f other ts → other ≡ a
+    whole_alone limits ts a other r e x = (ok_is (sym (reads_whole unlimited other ts x) ∙ reads_whole unlimited a ts (whole_spelled limits ts a r e))).0
+
+    -- what is spelled within the limits is not refused
+    pub whole_accepted : (limits : Limits) (ts : List Tok) (a : A) (y : Fault × List Tok) → read_whole body limits f ts ≡ Err y → SpellsWhole body limits f a ts → ⊥
+    unfolding read_whole
+    whole_accepted limits ts a y e x = let p = ap (λ (z : Read A). bind z end) (reads_whole limits a ts x) in cc
+
+    -- nothing that is spelled goes on with the first token that is left
+    no_more : (xs : List Tok) (x : Read A) → Same (limited unlimited) xs x → ((a : A) → x ≡ Ok (a, []) → ⊥) → (others : List Tok) (a : A) → first others ≡ first (rest_of x) → SpellsWhole body unlimited f a (xs ++ others) → ⊥
+    no_more xs (Ok (b, [])) same whole others a h m = whole b refl
+    no_more xs (Ok (b, t ∷ s)) same whole [] a h m = cc
+    no_more xs (Ok (b, t ∷ s)) same whole (u ∷ others) a h m = let p = (ok_is (sym (reads_whole unlimited a (xs ++ u ∷ others) m) ∙ same (u ∷ others) h)).1 in cc
+    no_more xs (Err x) same whole others a h m = let p = reads_whole unlimited a (xs ++ others) m in let q = same others h in cc
+
+    -- a token that does not fit, or the end
+    pub whole_misfit : (limits : Limits) (ts rest : List Tok) → read_whole body limits f ts ≡ Err (misfit, rest) → (before : List Tok) × (ts ≡ before ++ rest) × FitsNone body f before rest
+    unfolding read_whole
+    whole_misfit limits ts rest e = go (limited limits ts) (form_told facts body sure (Some limits) A f d ts) e
+      where
+        told : (x : Read A) (xs : List Tok) → rest_of x ≡ rest → ts ≡ xs ++ rest_of x → Begun body f xs → Same (limited unlimited) xs x → ((a : A) → x ≡ Ok (a, []) → ⊥) → (before : List Tok) × (ts ≡ before ++ rest) × FitsNone body f before rest
+        told x xs q c b same whole = (xs, c ∙ ap (λ v. xs ++ v) q, (b, λ others a h m. no_more xs x same whole others a (h ∙ ap first (sym q)) m))
+
+        go : (x : Read A) → ToldSo limits ts x → bind x end ≡ Err (misfit, rest) → (before : List Tok) × (ts ≡ before ++ rest) × FitsNone body f before rest
+        go (Ok (b, [])) t e = cc
+        go (Ok (b, u ∷ s)) t e =
+            let x = form_alone facts body sure unlimited f d b (u ∷ s) t.taken (form_free body limits f b (u ∷ s) t.taken t.what.0) in
+            let same : u ∷ s ≡ rest = ap (λ (z : Read A). rest_of z) e in
+            told (Ok (b, u ∷ s)) t.taken same t.cut (b, [], subst (SpellsWhole body unlimited f b) (sym (append-nil t.taken)) x) t.what.1 (λ a z. cc)
+        go (Err (misfit, r)) t e = let same : r ≡ rest = ap (λ (z : Read A). rest_of z) e in told (Err (misfit, r)) t.taken same t.cut t.what.0 t.what.1 (λ a z. cc)
+        go (Err (too_deep, r)) t e = let no : too_deep ≡ misfit = ap (λ (z : Read A). fault_of z) e in cc
+
+    -- a token that passes a limit: without limits something goes on with what is before it
+    pub whole_too_deep : (limits : Limits) (ts rest : List Tok) → read_whole body limits f ts ≡ Err (too_deep, rest) → (before : List Tok) × (ts ≡ before ++ rest) × Passes body limits f before rest × Begun body f before
+    unfolding read_whole
+    whole_too_deep limits ts rest e = go (limited limits ts) (form_told facts body sure (Some limits) A f d ts) e
+      where
+        fault : {r : List Tok} → ◌≡◌ {A = Read A} (Err (misfit, r)) (Err (too_deep, rest)) → ⊥
+        fault e = let no : misfit ≡ too_deep = ap (λ (z : Read A). fault_of z) e in cc
+
+        go : (x : Read A) → ToldSo limits ts x → bind x end ≡ Err (too_deep, rest) → (before : List Tok) × (ts ≡ before ++ rest) × Passes body limits f before rest × Begun body f before
+        go (Ok (b, [])) t e = cc
+        go (Ok (b, u ∷ s)) t e = absurd (fault e)
+        go (Err (misfit, r)) t e = absurd (fault e)
+        go (Err (too_deep, r)) t e = let same : r ≡ rest = ap (λ (z : Read A). rest_of z) e in (t.taken, t.cut ∙ ap (λ v. t.taken ++ v) same, subst (Passes body limits f t.taken) same t.what.1, t.what.0)
+
+  -- ---- where a limit is passed, a form refuses the token there
+
+  -- a form goes over a limit where one token is too many
+  goes_over_there : (n : ℕ) (A : Type 0) (f : Form N Node A) → Decided facts f → (before : List Tok) (t : Tok) (r : List Tok) → OneTooMany body (Some n) f before (t ∷ r) → goes_over n (before ++ t ∷ r) (run (read body) unlimited f (before ++ t ∷ r)) ≡ true
+  goes_over_there n A f d before t r (l, (a, others, y), whole) = go (goes_over n ts (run (read body) unlimited f ts)) refl (form_told facts body sure None A f d ts)
     where
-      go : (x : Read A) → bind x end ≡ Ok (a, r) → x ≡ Ok (a, [])
-      go (Ok x) q = let p = ok_end a x.0 x.1 r q in ap (λ y. Ok (x.0, y)) p.0 ∙ ap (λ y. Ok (y, [])) p.1
-      go (Err x) q = cc
+      ts : List Tok
+      ts = before ++ t ∷ r
 
-  spelled_so : (limits : Limits) (ts : List Tok) (a : A) → limited limits ts ≡ Ok (a, []) → SpellsWhole body limits f a ts
-  spelled_so limits ts a e =
-      let p = (form_sound facts body sure limits f d).each ts a [] e in
-      subst (SpellsWhole body limits f a) (sym (p.1 ∙ append-nil p.0)) p.2
+      all : length ts ≡ n + suc (length r)
+      all = omega (arith, l, length-append before (t ∷ r))
 
-  -- what is read is spelled, within the limits
-  pub whole_within : (limits : Limits) (ts : List Tok) (a : A) (r : List Tok) → read_whole body limits f ts ≡ Ok (a, r) → SpellsWhole body limits f a ts
-  whole_within limits ts a r e = spelled_so limits ts a (whole_ok limits ts a r e)
-
-  not_deeper : (x y : Read A) (b : A) (s : List Tok) → x ≡ Ok (b, s) → Deeper x y ⊎ (x ≡ y) → y ≡ Ok (b, s)
-  not_deeper x y b s e (inl p) = absurd (ok_not_err e p.refused)
-  not_deeper x y b s e (inr p) = sym p ∙ e
-
-  -- and without them
-  pub whole_spelled : (limits : Limits) (ts : List Tok) (a : A) (r : List Tok) → read_whole body limits f ts ≡ Ok (a, r) → SpellsWhole body unlimited f a ts
-  whole_spelled limits ts a r e = spelled_so unlimited ts a (not_deeper (limited limits ts) (plain ts) a [] (whole_ok limits ts a r e) (form_below facts body sure limits A f d ts))
-
-  -- the tokens spell nothing else
-  pub whole_alone : (limits : Limits) (ts : List Tok) (a other : A) (r : List Tok) → read_whole body limits f ts ≡ Ok (a, r) → SpellsWhole body unlimited f other ts → other ≡ a
-  whole_alone limits ts a other r e x = (ok_is (sym (reads_whole unlimited other ts x) ∙ reads_whole unlimited a ts (whole_spelled limits ts a r e))).0
-
-  -- what is spelled within the limits is not refused
-  pub whole_accepted : (limits : Limits) (ts : List Tok) (a : A) (y : Fault × List Tok) → read_whole body limits f ts ≡ Err y → SpellsWhole body limits f a ts → ⊥
-  whole_accepted limits ts a y e x = ok_not_err (whole_complete limits a ts x) e
-
-  local_here : (ts : List Tok) → StopsAt (unlimited ≡ unlimited) (need (nullable facts f)) (plain ts) plain ts
-  local_here ts = (form_local facts body sure (form_takes facts body sure) f d (suc (length ts))).each ts (omega arith)
-
-  -- nothing that is spelled goes on with the first token that is left
-  pub ends_there : (ts : List Tok) (x : Read A) → plain ts ≡ x → ((a : A) → x ≡ Ok (a, []) → ⊥) → (before : List Tok) → ts ≡ before ++ rest_of x → (others : List Tok) (a : A) → first others ≡ first (rest_of x) → SpellsWhole body unlimited f a (before ++ others) → ⊥
-  ends_there ts x e whole before c others a h m = go x e whole c h (subst (λ y. StopsAt (unlimited ≡ unlimited) (need (nullable facts f)) y plain ts) e (local_here ts))
-    where
-      go : (x : Read A) → plain ts ≡ x → ((a : A) → x ≡ Ok (a, []) → ⊥) → ts ≡ before ++ rest_of x → first others ≡ first (rest_of x) → StopsAt (unlimited ≡ unlimited) (need (nullable facts f)) x plain ts → ⊥
-      go x e whole c h s =
-          let same : before ≡ s.before = append_cancel_right before s.before (rest_of x) (sym c ∙ s.cut) in
-          let there : plain (before ++ others) ≡ put x others = ap (λ b. plain (b ++ others)) same ∙ s.same refl others h in
-          last x whole h (sym (reads_whole unlimited a (before ++ others) m) ∙ there)
+      -- no more than those before are taken
+      stops : (xs : List Tok) (x : Read A) → ts ≡ xs ++ rest_of x → length xs ≤ n → (before ≡ xs → Begun body f (before ++ t ∷ [])) → Same (run (read body) unlimited f) xs x → ⊥
+      stops xs x c p k same = let q = longer xs (rest_of x) before (t ∷ r) (sym c) (omega (arith, l)) in on q.0 q.1 q.2
         where
-          no_more : (b : A) (s : List Tok) → first others ≡ first s → others ≡ [] → ((a : A) → ret b s ≡ Ok (a, []) → ⊥) → ⊥
-          no_more b [] h z whole = whole b refl
-          no_more b (t ∷ s) h z whole = let no : None ≡ Some t = sym (ap first z) ∙ h in cc
+          some : {a : A} {u : Tok} {v : List Tok} → rest_of x ≡ u ∷ v → x ≡ Ok (a, []) → ⊥
+          some e z = let no : [] ≡ _ = ap (λ (y : Read A). rest_of y) (sym z) ∙ e in cc
 
-          last : (x : Read A) → ((a : A) → x ≡ Ok (a, []) → ⊥) → first others ≡ first (rest_of x) → ret a [] ≡ put x others → ⊥
-          last (Ok x) whole h q = no_more x.0 x.1 h (sym (ok_is q).1) whole
-          last (Err x) whole h q = cc
+          on : (m : List Tok) → before ≡ xs ++ m → rest_of x ≡ m ++ t ∷ r → ⊥
+          on [] e z = let b = k (e ∙ append-nil xs) in no_more A f d xs x same (λ a w. some z w) (t ∷ b.1) b.0 (sym (ap first z)) (subst (SpellsWhole body unlimited f b.0) (append_assoc before (t ∷ []) b.1 ∙ ap (λ v. v ++ t ∷ b.1) (e ∙ append-nil xs)) b.2)
+          on (u ∷ m) e z = no_more A f d xs x same (λ a w. some z w) (u ∷ (m ++ others)) a (sym (ap first z)) (subst (SpellsWhole body unlimited f a) (ap (λ v. v ++ others) e ∙ append_assoc xs (u ∷ m) others) y)
 
-  -- without limits, what is taken goes on to something that is spelled
-  pub begun_at : (ts : List Tok) (x : Read A) → plain ts ≡ x → (xs : List Tok) × (ts ≡ xs ++ rest_of x) × Begun body f xs
-  begun_at ts (Ok x) e =
-      let p = (form_sound facts body sure unlimited f d).each ts x.0 x.1 e in
-      (p.0, p.1, (x.0, [], subst (SpellsWhole body unlimited f x.0) (sym (append-nil p.0)) (form_alone facts body sure unlimited f d x.0 x.1 p.0 p.2)))
-  begun_at ts (Err x) e =
-      let k = (form_stuck facts body sure A f d ts).each x.0 x.1 e in
-      (k.0, k.3, (k.2, k.1, k.4 [] refl))
+      at : (x : Read A) (xs : List Tok) → ts ≡ xs ++ rest_of x → goes_over n ts x ≡ false → What (SpellsBy (Spells body) unlimited f) (Begun body f) (λ b r. ⊥) (run (read body) unlimited f) xs x → ⊥
+      at (Ok (b, s)) xs c e (m, k) =
+          let p = ltb-false (length s + n) (length ts) e in
+          stops xs (Ok (b, s)) c (omega (arith, p, ap length c, length-append xs s)) (λ z. whole b (subst (SpellsWhole body unlimited f b) (sym z) (form_alone facts body sure unlimited f d b s xs m))) k
+      at (Err (misfit, s)) xs c e (b, k) =
+          let p = ltb-false (length s + n) (suc (length ts)) (ap (λ b. b && nat_lt (length s + n) (suc (length ts))) (sym (lt-ltb n (length ts) (omega (arith, all)))) ∙ e) in
+          let few : length xs < n = omega (arith, p, ap length c, length-append xs s) in
+          stops xs (Err (misfit, s)) c (omega (arith, few)) (λ z. absurd (omega (arith, few, ap length z))) k
+      at (Err (too_deep, s)) xs c e (b, z) = z
 
-  -- a token that does not fit, or the end
-  pub whole_misfit : (limits : Limits) (ts rest : List Tok) → read_whole body limits f ts ≡ Err (misfit, rest) → (before : List Tok) × (ts ≡ before ++ rest) × FitsNone body f before rest
-  unfolding read_whole
-  whole_misfit limits ts rest e = go (limited limits ts) refl e (form_below facts body sure limits A f d ts)
+      go : (b : Bool) → goes_over n ts (run (read body) unlimited f ts) ≡ b → Told (SpellsBy (Spells body) unlimited f) (Begun body f) (λ b r. ⊥) (run (read body) unlimited f) ts (run (read body) unlimited f ts) → b ≡ true
+      go true e u = refl
+      go false e u = absurd (at (run (read body) unlimited f ts) u.taken u.cut e u.what)
+
+  bounded_there : (most : Option ℕ) (A : Type 0) (f : Form N Node A) → Decided facts f → (before r : List Tok) → OneTooMany body most f before r → up_to most (run (read body) unlimited f) (before ++ r) ≡ Err (too_deep, r)
+  unfolding up_to
+  bounded_there None A f d before r x = absurd x
+  bounded_there (Some n) A f d before [] x = absurd x
+  bounded_there (Some n) A f d before (t ∷ r) x = rw (goes_over_there n A f d before t r x) (ap (λ v. Err (too_deep, v)) (ap (λ k. drop k (before ++ t ∷ r)) (sym x.0) ∙ drop-append_seam before (t ∷ r)))
+
+  loop_there : {A : Type 0} (h : Reader A) (M : Spelling A) (T G : Kinds) → Takes 1 h → ((a : A) (rest xs : List Tok) → M a rest xs → sees T xs ≡ true) → apart G T ≡ true
+      → ((a : A) (rest xs : List Tok) → M a rest xs → sees G rest ≡ false → h (xs ++ rest) ≡ Ok (a, rest)) → (zs r : List Tok) → sees T (zs ++ r) ≡ true → h (zs ++ r) ≡ Err (too_deep, r)
+      → (all : List A) (ys : List Tok) → SpellsAll M all (zs ++ r) ys → loop T h (ys ++ (zs ++ r)) ≡ Err (too_deep, r)
+  unfolding loop
+  loop_there h M T G front one p k zs r seen x [] ys e = rw (e, seen, x) refl
+  loop_there h M T G front one p k zs r seen x (a ∷ others) ys (us, vs, e, m, y) =
+      let line : ys ++ (zs ++ r) ≡ us ++ (vs ++ (zs ++ r)) = ap (λ v. v ++ (zs ++ r)) e ∙ append_assoc us vs (zs ++ r) in
+      let ahead : sees G (vs ++ (zs ++ r)) ≡ false = sees_other G T (vs ++ (zs ++ r)) p (more vs (start_all M T one others (zs ++ r) vs y)) in
+      ap (loop T h) line ∙ loop_more T (us ++ (vs ++ (zs ++ r))) (vs ++ (zs ++ r)) a front (sees_more T us (vs ++ (zs ++ r)) (one a (vs ++ (zs ++ r)) us m)) (k a (vs ++ (zs ++ r)) us m ahead)
+      ∙ ap (λ v. bind v (λ rest. ret (a ∷ rest))) (loop_there h M T G front one p k zs r seen x others vs y)
     where
-      told : (x : Read A) → plain ts ≡ x → rest_of x ≡ rest → ((a : A) → x ≡ Ok (a, []) → ⊥) → (before : List Tok) × (ts ≡ before ++ rest) × FitsNone body f before rest
-      told x q r whole =
-          let b = begun_at ts x q in
-          (b.0, b.1 ∙ ap (λ v. b.0 ++ v) r, (b.2, λ others a h m. ends_there ts x q whole b.0 b.1 others a (h ∙ ap first (sym r)) m))
+      more : (vs : List Tok) → Starts true T vs → sees T (vs ++ (zs ++ r)) ≡ true
+      more vs (inl (z, q)) = ap (λ v. sees T (v ++ (zs ++ r))) q ∙ seen
+      more vs (inr q) = sees_more T vs (zs ++ r) q
 
-      go : (x : Read A) → limited limits ts ≡ x → bind x end ≡ Err (misfit, rest) → Deeper (limited limits ts) (plain ts) ⊎ (limited limits ts ≡ plain ts) → (before : List Tok) × (ts ≡ before ++ rest) × FitsNone body f before rest
-      go (Ok x) q h (inl p) = absurd (ok_not_err q p.refused)
-      go (Err x) q h (inl p) =
-          let same : x ≡ (misfit, rest) = cc in
-          absurd (not_deep (ap (λ (z : Read A). fault_of z) (sym (q ∙ ap (λ v. Err v) same) ∙ p.refused)))
-      go (Ok x) q h (inr p) =
-          let m = end_misfit x.0 x.1 rest misfit h in
-          told (Ok x) (sym p ∙ q) m.1 (λ a z. some m.4 (ok_is z).1)
-        where
-          some : {t : Tok} {u s : List Tok} → s ≡ t ∷ u → s ≡ [] → ⊥
-          some a b = cc
-      go (Err x) q h (inr p) = told (Err x) (sym p ∙ q) (ap (λ (z : Read A). rest_of z) h) (λ a z. cc)
+  module _ (h : ℕ) (limits : Limits) (positive : Positive limits) (rec : (n : N) (before r : List Tok) → PassesWithin body h limits n before r → read body limits n (before ++ r) ≡ Err (too_deep, r)) where
+    head : (A : Type 0) (f : Form N Node A) → Decided facts f → (T : Kinds) → Heads facts T f → (before r : List Tok) → run (read body) limits f (before ++ r) ≡ Err (too_deep, r) → sees T (before ++ r) ≡ true
+    head A f d T h before r e = sees_among (begins facts f) T (before ++ r) h.1.0 (deep_begins facts body sure limits positive A f d (before ++ r) r e)
 
-  -- a token that passes a limit: without limits something goes on with what is before it
-  pub whole_too_deep : (limits : Limits) (ts rest : List Tok) → read_whole body limits f ts ≡ Err (too_deep, rest) → (before : List Tok) × (ts ≡ before ++ rest) × Passes body limits f before rest × Begun body f before
+    answers : (A : Type 0) (f : Form N Node A) → Decided facts f → (before r : List Tok) → PassesBy body (PassesWithin body h) limits f before r → run (read body) limits f (before ++ r) ≡ Err (too_deep, r)
+    answers A (token T g) d before r x = absurd x
+    answers A (give a) d before r x = absurd x
+    answers A (call n) d before r x = rec n before r x
+    answers A (map {A = B} v f) d before r x = ap (λ y. bind y (λ a. ret (v a))) (answers B f d before r x)
+    answers A (◌⨾◌ {A = B} {B = C} f g) (d, o) before r (inl x) = ap (λ y. bind y (λ a. run (read body) limits g >>= (λ b. ret (a, b)))) (answers B f d before r x)
+    answers A (◌⨾◌ {A = B} {B = C} f g) (d, (d', (o, p))) before r (inr (a, ys, zs, e, m, x)) =
+        let line : before ++ r ≡ ys ++ (zs ++ r) = ap (λ v. v ++ r) e ∙ append_assoc ys zs r in
+        let there = answers C g d' zs r x in
+        let first_part = form_complete facts body sure limits f d a (zs ++ r) ys m (sees_other (goes_on facts f) (begins facts g) (zs ++ r) o (deep_begins facts body sure limits positive C g d' (zs ++ r) r there)) in
+        rw (line, first_part, there) refl
+    answers A (choose T f g) (d, (d', (h, o))) before r (inl x) = let there = answers A f d before r x in rw (head A f d T h before r there) there
+    answers A (choose T f g) (d, (d', (h, o))) before r (inr x) =
+        let there = answers A g d' before r x in
+        rw (sees_apart (begins facts g) T (before ++ r) o (deep_begins facts body sure limits positive A g d' (before ++ r) r there)) there
+    answers A (many {A = B} T f) (d, (h, (o, p))) before r (all, ys, zs, e, m, x) =
+        let there = answers B f d zs r x in
+        ap (loop T (run (read body) limits f)) (ap (λ v. v ++ r) e ∙ append_assoc ys zs r)
+        ∙ loop_there (run (read body) limits f) (SpellsBy (Spells body) limits f) T (goes_on facts f) (some_front facts body sure limits f d h.0) (head_starts facts (Spells body) (spells_starts facts body sure) limits T f d h) o
+        (form_complete facts body sure limits f d) zs r (head B f d T h zs r there) there all ys m
+    answers A (or_none T f a) (d, h) before r x = let there = answers A f d before r x in rw (head A f d T h before r there) there
+    answers A (nest m T f) (d, o) before r (inl (p, x)) = nested_fits limits.depth m T (run (read body) limits f) (before ++ r) p ∙ answers A f d before r x
+    answers A (nest m T f) d before r (inr (p, e, q)) = ap (λ v. nested limits.depth m T (run (read body) limits f) (v ++ r)) e ∙ rw (nested_is limits.depth m T (run (read body) limits f) r, p, q) refl
+    answers A (bounded f) (d, o) before r x = bounded_there limits.tokens A f d before r x
+    answers A (two_ahead T U f g) (d, (d', (h, (o, p)))) before r (inl x) =
+        let there = answers A f d before r x in
+        rw (head A f d T h before r there, deep_second facts body sure limits positive U A f d o (before ++ r) r there) there
+    answers A (two_ahead T U f g) (d, (d', o)) before r (inr (x, e)) = rw e (answers A g d' before r x)
+    answers A (avoid T U f) (d, o) before r (x, e) = rw e (answers A f d before r x)
+
+  within_answers : (h : ℕ) (limits : Limits) → Positive limits → (n : N) (before r : List Tok) → PassesWithin body h limits n before r → read body limits n (before ++ r) ≡ Err (too_deep, r)
+  unfolding PassesWithin
+  within_answers zero limits positive n before r x = absurd x
+  within_answers (suc h) limits positive n before r x =
+      read_is facts body sure limits n (before ++ r) ∙ answers h limits positive (within_answers h limits positive) (Node n) (body n) (sure n).sure before r x
+
+  -- where a limit is passed, that is answered, and nothing else
+  pub whole_passes : (limits : Limits) → Positive limits → (A : Type 0) (f : Form N Node A) → Decided facts f → (before r : List Tok) → Passes body limits f before r → read_whole body limits f (before ++ r) ≡ Err (too_deep, r)
   unfolding read_whole
-  whole_too_deep limits ts rest e = go (limited limits ts) refl e (form_below facts body sure limits A f d ts)
-    where
-      further : (p : Told (Passes body limits f) ts rest) → (m : List Tok) → rest ≡ m ++ rest_of (plain ts) → (before : List Tok) × (ts ≡ before ++ rest) × Passes body limits f before rest × Begun body f before
-      further p m c =
-          let b = begun_at ts (plain ts) refl in
-          let front : b.0 ≡ p.0 ++ m = front_of p.0 b.0 rest (rest_of (plain ts)) m (sym p.1 ∙ b.1) c in
-          (p.0, p.1, p.2, (b.2.0, m ++ b.2.1, subst (SpellsWhole body unlimited f b.2.0) (ap (λ v. v ++ b.2.1) front ∙ append_assoc p.0 m b.2.1) b.2.2))
-
-      go : (x : Read A) → limited limits ts ≡ x → bind x end ≡ Err (too_deep, rest) → Deeper (limited limits ts) (plain ts) ⊎ (limited limits ts ≡ plain ts) → (before : List Tok) × (ts ≡ before ++ rest) × Passes body limits f before rest × Begun body f before
-      go (Ok x) q h p = let m = end_misfit x.0 x.1 rest too_deep h in let no : too_deep ≡ misfit = m.0 in cc
-      go (Err x) q h (inl p) =
-          let same : x ≡ (too_deep, rest) = cc in
-          let t = (form_tells body facts sure limits A f d ts).each rest (q ∙ ap (λ v. Err v) same) in
-          further t p.between (ap (λ (z : Read A). rest_of z) (sym (ap (λ v. Err v) same) ∙ sym q ∙ p.refused) ∙ p.further)
-      go (Err x) q h (inr p) =
-          let same : x ≡ (too_deep, rest) = cc in
-          let here : limited limits ts ≡ Err (too_deep, rest) = q ∙ ap (λ v. Err v) same in
-          let t = (form_tells body facts sure limits A f d ts).each rest here in
-          further t [] (ap (λ (z : Read A). rest_of z) (sym here ∙ p))
+  whole_passes limits positive A f d before r (h, x) = ap (λ y. bind y end) (answers h limits positive (within_answers h limits positive) A f d before r x)

@@ -1,139 +1,74 @@
 -- What is read of the tokens up to a limit and one more decides what is read of so many tokens at most.
-use Rattle.std.proofs.Common.{◌≡◌, ℕ, zero, suc, ◌<◌, ◌≤◌, ◌+◌, ◌-◌, List, [], ◌∷◌, ◌++◌, length, length-append, take, drop, nat_lt, Ok, Err, Bool, true, false, ◌&&◌, Some, refl, sym, ap, subst, ◌∙◌, arith}
-use Rattle.std.proofs.lemmas.Bool.{ltb-false, le-ltb}
+use Rattle.std.proofs.Common.{◌≡◌, ℕ, zero, suc, ◌<◌, ◌≤◌, ◌-◌, List, [], ◌∷◌, ◌++◌, length, length-append, take, drop, Ok, Err, Bool, true, false, Some, None, refl, sym, ap, subst, ◌∙◌, arith}
+use Rattle.std.proofs.lemmas.Bool.{ltb-false}
+use Rattle.std.proofs.lemmas.Bool.Decides.{nat_tests}
+use Rattle.std.proofs.lemmas.List.{length-take}
 use Rattle.std.proofs.Math.Seq.{drop-append_seam}
 use Rattle.arc_lex.specs.declared.token.Token.{Token}
 use Rattle.arc_lex.specs.Tokens.{Tok, tok, toks}
-use Rattle.arc_form.specs.Reader.{Read, Reader, Fault, too_deep, first, goes_over, up_to}
-use Rattle.arc_form.specs.Form.{unlimited, Form, Bodies, bounded, run, read}
-use Rattle.arc_form.proofs.Sets.{and_no}
-use Rattle.arc_form.proofs.Static.{Facts, nullable, Decided, Fits}
-use Rattle.arc_form.proofs.Local.{StopsAt, Local, rest_of, put, left_of}
-use Rattle.arc_form.proofs.FormLocal.{solid, form_local}
-use Rattle.arc_form.proofs.FormBegins.{form_takes}
+use Rattle.arc_form.specs.Reader.{Read, Reader, Fault, misfit, too_deep, first, goes_over, up_to}
+use Rattle.arc_form.specs.Form.{unlimited, Form, Bodies, run, read}
+use Rattle.arc_form.specs.Meaning.{SpellsBy, Spells}
+use Rattle.arc_form.specs.Places.{Begun}
+use Rattle.arc_form.proofs.Static.{Facts, Decided, Fits}
+use Rattle.arc_form.proofs.Local.{rest_of, put}
+use Rattle.arc_form.proofs.FormTold.{Same, What, Told, form_told}
+
+-- f takes tokens, and gives this answer of all lists that are the same up to the token at which it stops
+pub record Stops {A : Type 0} (f : Reader A) (ts : List Tok) : Type 0 where
+  pub before : List Tok
+  pub cut : ts ≡ before ++ rest_of (f ts)
+  pub same : Same f before (f ts)
+
+module _ {N : Type 0} {Node : N → Type 0} (facts : N → Facts) (body : Bodies N Node) (sure : (n : N) → Fits facts body n) {A : Type 0} (f : Form N Node A) (d : Decided facts f) where
+  abbrev plain : Reader A
+  plain = run (read body) unlimited f
+
+  -- a form without limits stops so
+  pub form_stops : (ts : List Tok) → Stops plain ts
+  form_stops ts = let t = form_told facts body sure None A f d ts in record { before = t.taken; cut = t.cut; same = go (plain ts) t.taken t.what }
+    where
+      go : (x : Read A) (xs : List Tok) → What (SpellsBy (Spells body) unlimited f) (Begun body f) (λ b r. ⊥) plain xs x → Same plain xs x
+      go (Ok x) xs w = w.1
+      go (Err (misfit, r)) xs w = w.1
+      go (Err (too_deep, r)) xs w = absurd w.1
+
+  -- no token is too deep in it
+  pub never_deep : (ts r : List Tok) (y : Fault) → plain ts ≡ Err (y, r) → y ≡ misfit
+  never_deep ts r misfit e = refl
+  never_deep ts r too_deep e = absurd (subst (Told (SpellsBy (Spells body) unlimited f) (Begun body f) (λ b r. ⊥) plain ts) e (form_told facts body sure None A f d ts)).what.1
+
+first_take : (k : ℕ) (ts : List Tok) → first (take (suc k) ts) ≡ first ts
+first_take k [] = refl
+first_take k (t ∷ ts) = refl
 
 -- lists that begin alike
-split_alike : (k : ℕ) (b v ts : List Tok) → take k ts ≡ take k (b ++ v) → length b ≤ k → (r : List Tok) × (ts ≡ b ++ r) × (length b < k → first r ≡ first v)
-split_alike zero [] v ts e p = (ts, refl, λ q. absurd (omega arith))
-split_alike (suc k) [] [] [] e p = ([], refl, λ q. refl)
-split_alike (suc k) [] [] (t ∷ ts) e p = cc
-split_alike (suc k) [] (u ∷ v) [] e p = cc
-split_alike (suc k) [] (u ∷ v) (t ∷ ts) e p = (t ∷ ts, refl, λ q. cc)
-split_alike zero (u ∷ b) v ts e p = absurd (omega arith)
+split_alike : (k : ℕ) (b v ts : List Tok) → take k ts ≡ take k (b ++ v) → length b < k → (r : List Tok) × (ts ≡ b ++ r) × (first r ≡ first v)
+split_alike zero b v ts e p = absurd (omega arith)
+split_alike (suc k) [] v ts e p = (ts, refl, sym (first_take k ts) ∙ ap first e ∙ first_take k v)
 split_alike (suc k) (u ∷ b) v [] e p = cc
 split_alike (suc k) (u ∷ b) v (t ∷ ts) e p =
     let heads : t ≡ u = cc in
     let tails : take k ts ≡ take k (b ++ v) = cc in
-    let fewer : length b ≤ k = omega arith in
-    let s = split_alike k b v ts tails fewer in
-    (s.0, ap (λ x. x ∷ ts) heads ∙ ap (λ w. u ∷ w) s.1, λ q. let p : length b < k = omega (arith, q) in s.2 p)
+    let s = split_alike k b v ts tails (omega arith) in
+    (s.0, ap (λ x. x ∷ ts) heads ∙ ap (λ w. u ∷ w) s.1, s.2)
 
 take_twice : (n : ℕ) (ts : List Tok) → take n (take n ts) ≡ take n ts
 take_twice zero ts = refl
 take_twice (suc n) [] = refl
 take_twice (suc n) (t ∷ ts) = ap (λ v. t ∷ v) (take_twice n ts)
 
-no_first : (a b : List Tok) → first a ≡ first b → length b ≡ 0 → length a ≡ 0
-no_first [] b e z = refl
-no_first (t ∷ a) [] e z = cc
-no_first (t ∷ a) (u ∷ b) e z = absurd (omega arith)
+-- whether an answer goes over a limit hangs on how many tokens were taken and on whether one is left
+over_alike : {A : Type 0} (n : ℕ) (b r : List Tok) (x : Read A) → first r ≡ first (rest_of x) → goes_over n (b ++ r) (put x r) ≡ goes_over n (b ++ rest_of x) x
+over_alike n b r (Ok x) e = simp length-append (grind (arith, nat_tests))
+over_alike n b [] (Err (y, [])) e = refl
+over_alike n b [] (Err (y, u ∷ v)) e = cc
+over_alike n b (t ∷ r) (Err (y, [])) e = cc
+over_alike n b (t ∷ r) (Err (y, u ∷ v)) e = simp length-append (grind (arith, nat_tests))
 
-module _ {A : Type 0} {S : Type 0} (so : S) (n : ℕ) (f : Reader A) where
-  -- what stops within the limit stops before the limit or at it
-  stops_within : (x : Read A) (us : List Tok) (s : StopsAt S 1 x f us) → goes_over n us x ≡ false → length s.before ≤ n
-  stops_within (Ok x) us s o =
-      let far = ltb-false (length x.1 + n) (length us) o in
-      omega (arith, length-append s.before x.1, ap length s.cut, far)
-  stops_within (Err e) us s o = go (nat_lt n (length us)) refl o
-    where
-      go : (b : Bool) → nat_lt n (length us) ≡ b → (b && nat_lt (length e.1 + n) (suc (length us))) ≡ false → length s.before ≤ n
-      go true p q =
-          let far = ltb-false (length e.1 + n) (suc (length us)) q in
-          omega (arith, length-append s.before e.1, ap length s.cut, far)
-      go false p q =
-          let few = ltb-false n (length us) p in
-          omega (arith, length-append s.before e.1, ap length s.cut, few)
-
-  -- nor does it go over the limit with other tokens after it
-  within_too : (x : Read A) (us r : List Tok) (s : StopsAt S 1 x f us) → goes_over n us x ≡ false → first r ≡ first (rest_of x) → goes_over n (s.before ++ r) (put x r) ≡ false
-  within_too (Ok x) us r s o e =
-      let few = stops_within (Ok x) us s o in
-      le-ltb (length r + n) (length (s.before ++ r)) (omega (arith, length-append s.before r, few))
-  within_too (Err y) us r s o e = go (nat_lt n (length us)) refl o
-    where
-      all : List Tok
-      all = s.before ++ r
-
-      few : length all ≤ n → (nat_lt n (length all) && nat_lt (length r + n) (suc (length all))) ≡ false
-      few p = ap (λ b. b && nat_lt (length r + n) (suc (length all))) (le-ltb n (length all) p)
-
-      at : (k : ℕ) → length y.1 ≡ k → length us ≤ n → (nat_lt n (length all) && nat_lt (length r + n) (suc (length all))) ≡ false
-      at zero z p = few (omega (arith, length-append s.before y.1, ap length s.cut, length-append s.before r, p, no_first r y.1 e z))
-      at (suc k) z p = and_no (nat_lt n (length all)) _ (le-ltb (length r + n) (suc (length all)) (omega (arith, length-append s.before y.1, ap length s.cut, length-append s.before r, p)))
-
-      go : (b : Bool) → nat_lt n (length us) ≡ b → (b && nat_lt (length y.1 + n) (suc (length us))) ≡ false → (nat_lt n (length all) && nat_lt (length r + n) (suc (length all))) ≡ false
-      go true p q =
-          let far = ltb-false (length y.1 + n) (suc (length us)) q in
-          and_no (nat_lt n (length all)) _ (le-ltb (length r + n) (suc (length all)) (omega (arith, length-append s.before y.1, ap length s.cut, length-append s.before r, far)))
-      go false p q = at (length y.1) refl (ltb-false n (length us) p)
-
-  abbrev pub AlwaysLocal : Type 0
-  AlwaysLocal = (k : ℕ) → Local S 1 k f f
-
-  -- what stops within the limit is read so of all lists that are alike up to the limit and one token more
-  record Alike (us ts : List Tok) : Type 0 where
-    pub before : List Tok
-    pub rest : List Tok
-    pub cut : ts ≡ before ++ rest
-    pub here : us ≡ before ++ rest_of (f us)
-    pub same : f ts ≡ put (f us) rest
-    pub within : goes_over n ts (f ts) ≡ false
-
-  alike : (us ts : List Tok) → AlwaysLocal → take (suc n) ts ≡ take (suc n) us → goes_over n us (f us) ≡ false → Alike us ts
-  alike us ts loc e o =
-      let s = (loc (suc (length us))).each us (omega arith) in
-      let few = stops_within (f us) us s o in
-      let r = split_alike (suc n) s.before (rest_of (f us)) ts (e ∙ ap (take (suc n)) s.cut) (omega arith) in
-      let same : f (s.before ++ r.0) ≡ put (f us) r.0 = s.same so r.0 (r.2 (omega arith)) in
-      let is : f ts ≡ put (f us) r.0 = ap f r.1 ∙ same in
-      record {
-        before = s.before;
-        rest = r.0;
-        cut = r.1;
-        here = s.cut;
-        same = is;
-        within = subst (λ x. goes_over n ts x ≡ false) (sym is) (subst (λ v. goes_over n v (put (f us) r.0) ≡ false) (sym r.1) (within_too (f us) us r.0 s o (r.2 (omega arith))));
-      }
-
-  -- so lists that are alike so far go over the limit both, or none
-  over_alike : (us ts : List Tok) → AlwaysLocal → take (suc n) ts ≡ take (suc n) us → goes_over n us (f us) ≡ true → goes_over n ts (f ts) ≡ true
-  over_alike us ts loc e o = go (goes_over n ts (f ts)) refl
-    where
-      no : true ≡ false → ⊥
-      no q = cc
-
-      go : (b : Bool) → goes_over n ts (f ts) ≡ b → b ≡ true
-      go true q = refl
-      go false q = absurd (no (sym o ∙ (alike ts us loc (sym e) q).within))
-
-  module _ (loc : AlwaysLocal) (ts us : List Tok) (front : us ≡ take (suc n) ts) where
-    front_too : take (suc n) ts ≡ take (suc n) us
-    front_too = sym (ap (take (suc n)) front ∙ take_twice (suc n) ts)
-
-    over : goes_over n us (f us) ≡ true → up_to (Some n) f ts ≡ Err (too_deep, drop n ts)
-    unfolding up_to
-    over o = rw (over_alike us ts loc front_too o) refl
-
-    stays : goes_over n us (f us) ≡ false → up_to (Some n) f ts ≡ put (f us) (drop (length us - length (rest_of (f us))) ts)
-    unfolding up_to
-    stays o =
-        let a = alike us ts loc front_too o in
-        let many : length us - length (rest_of (f us)) ≡ length a.before = omega (arith, ap length a.here, length-append a.before (rest_of (f us))) in
-        let rest : drop (length us - length (rest_of (f us))) ts ≡ a.rest = ap (λ k. drop k ts) many ∙ ap (drop (length a.before)) a.cut ∙ drop-append_seam a.before a.rest in
-        rw (a.within) (a.same ∙ ap (put (f us)) (sym rest))
-
-    shorter : length (rest_of (f us)) ≤ length us
-    shorter = left_of (f us) ((loc (suc (length us))).each us (omega arith))
+stops_within : {A : Type 0} (n : ℕ) (b : List Tok) (x : Read A) → goes_over n (b ++ rest_of x) x ≡ false → length b ≤ n
+stops_within n b (Ok x) o = let p = ltb-false _ _ o in omega (arith, p, length-append b x.1)
+stops_within n b (Err x) o = let l = length-append b x.1 in grind (arith, nat_tests)
 
 -- ---- of tokens in memory
 
@@ -152,36 +87,57 @@ length_toks [] = refl
 length_toks (t ∷ l) = ap suc (length_toks l)
 
 pub take_short : (n : ℕ) (l : List Token) → length (take n l) ≤ length l
-take_short zero l = omega arith
-take_short (suc n) [] = omega arith
-take_short (suc n) (t ∷ l) = omega (arith, take_short n l)
+take_short n l = omega (arith, length-take n l)
 
--- `ahead` is the tokens up to the limit and one more, of which `rest` are left; of all tokens `r` are
-module _ {A : Type 0} {S : Type 0} (so : S) (n : ℕ) (f : Reader A) (loc : AlwaysLocal so n f) (tokens ahead rest r : List Token) (front : ahead ≡ take (suc n) tokens) where
-  alike_toks : toks ahead ≡ take (suc n) (toks tokens)
-  alike_toks = ap toks front ∙ toks_take (suc n) tokens
+module _ {A : Type 0} (n : ℕ) (f : Reader A) (stops : (ts : List Tok) → Stops f ts) where
+  -- what stops within the limit is read so of all lists that are alike up to the limit and one token more
+  record Alike (us ts : List Tok) : Type 0 where
+    pub rest : List Tok
+    pub cut : ts ≡ (stops us).before ++ rest
+    pub same : f ts ≡ put (f us) rest
+    pub within : goes_over n ts (f ts) ≡ false
 
-  at : (k : ℕ) → r ≡ drop k tokens → drop k (toks tokens) ≡ toks r
-  at k d = sym (ap toks d ∙ toks_drop k tokens)
+  alike : (us ts : List Tok) → take (suc n) ts ≡ take (suc n) us → goes_over n us (f us) ≡ false → Alike us ts
+  alike us ts e o =
+      let s = stops us in
+      let here : goes_over n (s.before ++ rest_of (f us)) (f us) ≡ false = ap (λ v. goes_over n v (f us)) (sym s.cut) ∙ o in
+      let few = stops_within n s.before (f us) here in
+      let r = split_alike (suc n) s.before (rest_of (f us)) ts (e ∙ ap (take (suc n)) s.cut) (omega (arith, few)) in
+      let same : f ts ≡ put (f us) r.0 = ap f r.1 ∙ s.same r.0 r.2 in
+      record { rest = r.0; cut = r.1; same = same; within = ap (goes_over n ts) same ∙ ap (λ v. goes_over n v (put (f us) r.0)) r.1 ∙ over_alike n s.before r.0 (f us) r.2 ∙ here }
 
-  at_left : (x : Read A) → rest_of x ≡ toks rest → r ≡ drop (length ahead - length rest) tokens → drop (length (toks ahead) - length (rest_of x)) (toks tokens) ≡ toks r
-  at_left x e d =
-      let many : length (toks ahead) - length (rest_of x) ≡ length ahead - length rest = omega (arith, length_toks ahead, length_toks rest, ap length e) in
-      ap (λ k. drop k (toks tokens)) many ∙ at (length ahead - length rest) d
+  -- `ahead` is the tokens up to the limit and one more, of which `rest` are left; of all tokens `r` are
+  module _ (tokens ahead rest r : List Token) (front : ahead ≡ take (suc n) tokens) where
+    ts : List Tok
+    ts = toks tokens
 
-  pub fits_so : (x : Read A) → f (toks ahead) ≡ x → rest_of x ≡ toks rest → goes_over n (toks ahead) x ≡ false → r ≡ drop (length ahead - length rest) tokens → up_to (Some n) f (toks tokens) ≡ put x (toks r)
-  fits_so x e l o d =
-      stays so n f loc (toks tokens) (toks ahead) alike_toks (ap (goes_over n (toks ahead)) e ∙ o)
-      ∙ ap (λ y. put y (drop (length (toks ahead) - length (rest_of y)) (toks tokens))) e ∙ ap (put x) (at_left x l d)
+    us : List Tok
+    us = toks ahead
 
-  pub over_so : (x : Read A) → f (toks ahead) ≡ x → goes_over n (toks ahead) x ≡ true → r ≡ drop n tokens → up_to (Some n) f (toks tokens) ≡ Err (too_deep, toks r)
-  over_so x e o d = over so n f loc (toks tokens) (toks ahead) alike_toks (ap (goes_over n (toks ahead)) e ∙ o) ∙ ap (λ u. Err (too_deep, u)) (at n d)
+    alike_toks : take (suc n) ts ≡ take (suc n) us
+    unfolding ts us
+    alike_toks = sym (ap (take (suc n)) (ap toks front ∙ toks_take (suc n) tokens) ∙ take_twice (suc n) (toks tokens))
 
-  -- no more are left than there were
-  pub rest_short : (y : Fault) → f (toks ahead) ≡ Err (y, toks rest) → length rest ≤ length ahead
-  rest_short y e = omega (arith, length_toks ahead, length_toks rest, shorter so n f loc (toks tokens) (toks ahead) alike_toks, ap (λ x. length (rest_of x)) e)
+    pub fits_so : (x : Read A) → f (toks ahead) ≡ x → rest_of x ≡ toks rest → goes_over n (toks ahead) x ≡ false → r ≡ drop (length ahead - length rest) tokens → up_to (Some n) f (toks tokens) ≡ put x (toks r)
+    unfolding up_to ts us
+    fits_so x e l o d =
+        let a = alike us ts alike_toks (ap (goes_over n us) e ∙ o) in
+        let b = (stops us).before in
+        let left : rest_of (f us) ≡ toks rest = ap (λ x. rest_of x) e ∙ l in
+        let many : length ahead - length rest ≡ length b = omega (arith, length_toks ahead, length_toks rest, ap length left, ap length (stops us).cut, length-append b (rest_of (f us))) in
+        let rest_is : toks r ≡ a.rest = ap toks d ∙ toks_drop (length ahead - length rest) tokens ∙ ap (λ k. drop k ts) many ∙ ap (drop (length b)) a.cut ∙ drop-append_seam b a.rest in
+        rw (a.within) (a.same ∙ ap (λ x. put x a.rest) e ∙ ap (put x) (sym rest_is))
 
--- a form without limits takes a token at least and stops as its tokens decide
-pub form_always : {N : Type 0} {Node : N → Type 0} (facts : N → Facts) (body : Bodies N Node) (sure : (n : N) → Fits facts body n) (n : ℕ) {A : Type 0} (f : Form N Node A)
-    → Decided facts (bounded f) → AlwaysLocal {S = unlimited ≡ unlimited} refl n (run (read body) unlimited f)
-form_always facts body sure n f d k = solid (nullable facts f) d.1 (form_local facts body sure (form_takes facts body sure) f d.0 k)
+    -- lists that are alike so far go over the limit both, or none
+    pub over_so : (x : Read A) → f (toks ahead) ≡ x → goes_over n (toks ahead) x ≡ true → r ≡ drop n tokens → up_to (Some n) f (toks tokens) ≡ Err (too_deep, toks r)
+    unfolding up_to ts us
+    over_so x e o d = rw (go (goes_over n ts (f ts)) refl) (ap (λ u. Err (too_deep, u)) (sym (ap toks d ∙ toks_drop n tokens)))
+      where
+        go : (b : Bool) → goes_over n (toks tokens) (f (toks tokens)) ≡ b → goes_over n (toks tokens) (f (toks tokens)) ≡ true
+        go true q = q
+        go false q = let no : true ≡ false = sym (ap (goes_over n us) e ∙ o) ∙ (alike ts us (sym alike_toks) q).within in cc
+
+    -- no more are left than there were
+    pub rest_short : (y : Fault) → f (toks ahead) ≡ Err (y, toks rest) → length rest ≤ length ahead
+    unfolding us
+    rest_short y e = omega (arith, length_toks ahead, length_toks rest, ap length (stops us).cut, length-append (stops us).before (rest_of (f us)), ap (λ x. length (rest_of x)) e)

@@ -1,14 +1,14 @@
 -- Loops that join one thing more, whatever it is, to what there is.
-use Rattle.std.proofs.Common.{◌≡◌, ℕ, List, Ok, Err, cond, refl, sym, ap, ◌∙◌}
+use Rattle.std.proofs.Common.{◌≡◌, List, Ok, Err, cond, refl, sym, ap, ◌∙◌}
 use Rattle.arc_lex.specs.Tokens.{Tok}
 use Rattle.arc_form.specs.Kinds.{Kinds}
 use Rattle.arc_form.specs.Operators.{fold}
 use Rattle.arc_form.specs.Reader.{Read, Reader, bind, ◌>>=◌, ret, sees, if_sees, loop}
 use Rattle.arc_form.proofs.Binding.{bind_twice, bind_if}
-use Rattle.arc_form.proofs.Local.{Local, loop_turn}
+use Rattle.arc_form.proofs.Local.{Takes, loop_turn}
 use Rattle.arc_form.specs.Joining.{joining}
 
-module _ {A B : Type 0} (T : Kinds) (f : Reader A) (join : B → A → B) (front : (j : ℕ) → Local ⊥ 1 j f f) where
+module _ {A B : Type 0} (T : Kinds) (f : Reader A) (join : B → A → B) (front : Takes 1 f) where
   -- one more is joined, or there is none
   pub joining_is : (b : B) (us : List Tok) → joining T f join b us ≡ if_sees T (f >>= (λ a. joining T f join (join b a))) (ret b) us
   joining_is b us = rw (loop_turn T front us) (simp (bind_if, bind_twice))

@@ -4,8 +4,7 @@ use Rattle.arc_lex.specs.Tokens.{Tok}
 use Rattle.arc_form.specs.Form.{unlimited}
 use Rattle.arc_form.specs.Reader.{Fault, misfit, too_deep}
 use Rattle.arc_form.specs.Whole.{read_whole}
-use Rattle.arc_form.proofs.FormWhole.{whole_within, whole_spelled, whole_alone, whole_accepted, whole_misfit, whole_too_deep}
-use Rattle.arc_form.proofs.FormAnswers.{whole_passes}
+use Rattle.arc_form.proofs.FormWhole.{whole_within, whole_spelled, whole_alone, whole_accepted, whole_misfit, whole_too_deep, whole_passes}
 use Rattle.arc_form.proofs.FormBegins.{Positive}
 use Rattle.arc_form.specs.Places.{Passes}
 use Rattle.arc_form.specs.Reader.{Read}

@@ -10,7 +10,7 @@ use Rattle.arc_form.specs.Kinds.{mark, at, name}
 use Rattle.arc_form.specs.Form.{map}
 use Rattle.arc_form.specs.Operators.{fold}
 use Rattle.arc_form.specs.Reader.{Read, Reader, bind, ◌>>=◌, ret, if_sees, take_one, from, named}
-use Rattle.arc_form.proofs.Local.{Local}
+use Rattle.arc_form.proofs.Local.{Takes}
 use Rattle.arc_grammar.specs.Grammar.{these, QualifiedType, QualifiedName, FieldGroup, OfWord, OfType, reads, qualifiers, begins_fields, next_name, more_names, next_qualified_name, more_qualified_names, next_starred_name, more_starred_names, plain_fields, object_fields, typed_fields, qualified_fields, group, groups, fields, field_of, fields_of, named_fields, visibility_of, begins_visibility, class_names}
 use Rattle.arc_grammar.proofs.Fits.{front, lines}
 use Rattle.arc_form.specs.Joining.{joining}
@@ -22,7 +22,7 @@ use Rattle.arc_top.specs.Fields.{begins_group, add_field, add_group, names_on, s
 abbrev pub groups_on : Visibility × List FieldTree → Reader (List FieldTree)
 groups_on s = joining begins_group (reads group) add_group s >>= (λ s. ret s.1)
 
-group_front : (j : ℕ) → Local ⊥ 1 j (reads group) (reads group)
+group_front : Takes 1 (reads group)
 unfolding lines
 group_front = front these group refl refl
 

@@ -9,7 +9,7 @@ use Rattle.arc_form.specs.Kinds.{mark, main, name, other_name}
 use Rattle.arc_form.specs.Operators.{fold}
 use Rattle.arc_form.specs.Reader.{Read, bind, ◌>>=◌, ret, sees, sees_second, if_sees, take_one, from}
 use Rattle.arc_form.specs.Joining.{joining}
-use Rattle.arc_form.proofs.Local.{Local}
+use Rattle.arc_form.proofs.Local.{Takes}
 use Rattle.arc_form.proofs.Joining.{joining_is}
 use Rattle.arc_form.proofs.Binding.{bind_twice, bind_if}
 use Rattle.arc_grammar.specs.Grammar.{Part, these, QualifiedType, OfFunction, OfGlobals, reads, some_qualifiers, plain_type, class_type, of_function, of_globals, main_function, other_function, function, global, next_global, more_globals, globals, next_global_reference, more_global_references, global_references, typed_top, of_plain, of_objects, plain_globals, object_globals, of_qualified}
@@ -23,7 +23,7 @@ globals_push [] g = refl
 globals_push (h ∷ l) g = ap (λ v. global_tree h ∷ v) (globals_push l g)
 
 -- further variables of a type, one by one
-further : (type : QualifiedType) (next : Part (QualifiedType → GlobalTree)) → ((j : ℕ) → Local ⊥ 1 j (reads next) (reads next)) → (made : List GlobalTree) (ts : List Tok)
+further : (type : QualifiedType) (next : Part (QualifiedType → GlobalTree)) → Takes 1 (reads next) → (made : List GlobalTree) (ts : List Tok)
     → joining (mark m.Comma) (reads next) (add_global type) made ts ≡ if_sees (mark m.Comma) (reads_after next type >>= (λ g. joining (mark m.Comma) (reads next) (add_global type) (made ++ g ∷ []))) (ret made) ts
 further type next front made ts = joining_is (mark m.Comma) (reads next) (add_global type) front made ts ∙ simp bind_twice
 

@@ -1,0 +1,340 @@
+-- What an answer says: a value is spelled by the tokens that were taken; those before a refused token go on to something that
+-- is spelled; a limit is passed where a token is too deep; and without limits a form stops at every other place, too.
+use Rattle.std.proofs.Common.{◌≡◌, ◌⊎◌, inl, inr, ℕ, suc, ◌<◌, ◌≤◌, ◌+◌, List, [], ◌∷◌, ◌++◌, length, length-append, append_assoc, append-nil, take, drop, nat_lt, Ok, Err, Bool, true, false, cond, ◌&&◌, ◌||◌, Option, Some, None, refl, sym, ap, subst, ◌∙◌, arith}
+use Rattle.std.proofs.lemmas.Bool.{ltb-true, ltb-false}
+use Rattle.std.proofs.lemmas.List.{take-append-drop, take-append-le, drop-append-le, length-take-le}
+use Rattle.arc_lex.specs.Tokens.{Tok}
+use Rattle.arc_form.specs.Kinds.{Kinds, is}
+use Rattle.arc_form.specs.Reader.{Read, Reader, misfit, too_deep, bind, ◌>>=◌, ret, second_unexpected, first, if_sees, if_sees_two, sees, sees_two, taken, take_one, is_above, goes_over, cut, up_to}
+use Rattle.arc_form.specs.Form.{Limits, unlimited, Form, Bodies, token, give, call, map, ◌⨾◌, choose, many, or_none, nest, bounded, two_ahead, avoid, run, read}
+use Rattle.arc_form.specs.Meaning.{AtMost, Spelling, SpellsBy, Spells}
+use Rattle.arc_form.specs.Places.{Place, Begun, OneTooMany, PassesBy, PassesWithin, Passes}
+use Rattle.arc_form.proofs.Sets.{both, two_less, two_alike, apart, sees_among, sees_alike, sees_none}
+use Rattle.arc_form.proofs.Static.{Facts, nullable, begins, bars, Decided, Fits}
+use Rattle.arc_form.proofs.Local.{rest_of, put, loop_turn, nested_is}
+use Rattle.arc_form.proofs.FormLocal.{read_is, some_front, Property, PartsOf, under, reading, by_reading}
+use Rattle.arc_form.proofs.FormHeights.{spells_body, form_free}
+use Rattle.arc_form.proofs.FormStarts.{form_alone}
+use Rattle.arc_form.proofs.FormBegins.{idle_some, form_idle, form_takes}
+use Rattle.arc_form.proofs.FormExamples.{Has, join, not_barred, some_example, avoided_example, goes_on_so, with_head}
+use Rattle.arc_form.proofs.FormFirm.{form_firm}
+
+-- h gives this answer of all lists that are the same up to the token at which it stops
+abbrev pub Same : {A : Type 0} → Reader A → List Tok → Read A → Type 0
+Same h xs x = (more : List Tok) → first more ≡ first (rest_of x) → h (xs ++ more) ≡ put x more
+
+-- what an answer says of the tokens that were taken
+abbrev pub What : {A : Type 0} → Spelling A → (List Tok → Type 0) → Place → Reader A → List Tok → Read A → Type 0
+What M B D h xs (Ok x) = M x.0 x.1 xs × Same h xs (Ok x)
+What M B D h xs (Err (misfit, r)) = B xs × Same {A = _} h xs (Err (misfit, r))
+What M B D h xs (Err (too_deep, r)) = B xs × D xs r
+
+pub record Told {A : Type 0} (M : Spelling A) (B : List Tok → Type 0) (D : Place) (h : Reader A) (ts : List Tok) (x : Read A) : Type 0 where
+  pub taken : List Tok
+  pub cut : ts ≡ taken ++ rest_of x
+  pub what : What M B D h taken x
+
+first_after : (b m r : List Tok) → first m ≡ first r → first (b ++ m) ≡ first (b ++ r)
+first_after [] m r e = e
+first_after (t ∷ b) m r e = refl
+
+-- the same answer, of which more is said
+told_as : {A : Type 0} {M O : Spelling A} {B E : List Tok → Type 0} {D F : Place} {h : Reader A} {ts : List Tok} {x : Read A} → ((a : A) (r xs : List Tok) → x ≡ Ok (a, r) → ts ≡ xs ++ r → M a r xs → O a r xs)
+    → ((xs r : List Tok) → ts ≡ xs ++ r → B xs → E xs) → ((xs r : List Tok) → ts ≡ xs ++ r → D xs r → F xs r) → Told M B D h ts x → Told O E F h ts x
+told_as {A} {M = M} {O = O} {B = B} {E = E} {D = D} {F = F} {h = h} {ts = ts} {x = x} of_value of_begun of_deep t = record { taken = t.taken; cut = t.cut; what = go x refl t.cut t.what }
+  where
+    go : (y : Read A) → x ≡ y → ts ≡ t.taken ++ rest_of y → What M B D h t.taken y → What O E F h t.taken y
+    go (Ok y) q c (m, k) = (of_value y.0 y.1 t.taken q c m, k)
+    go (Err (misfit, r)) q c (b, k) = (of_begun t.taken r c b, k)
+    go (Err (too_deep, r)) q c (b, d) = (of_begun t.taken r c b, of_deep t.taken r c d)
+
+-- a test says the same of these tokens and of those that are the same up to where h stops
+abbrev Keeps : {A : Type 0} → (List Tok → Bool) → Reader A → List Tok → Type 0
+Keeps test h ts = (xs r more : List Tok) → ts ≡ xs ++ r → rest_of (h ts) ≡ r → first more ≡ first r → test (xs ++ more) ≡ test ts
+
+told_with : {A : Type 0} {M : Spelling A} {B : List Tok → Type 0} {D : Place} {h h' : Reader A} {ts : List Tok} {x : Read A} → ((xs r more : List Tok) → ts ≡ xs ++ r → rest_of (h ts) ≡ r → first more ≡ first r → h' (xs ++ more) ≡ h (xs ++ more)) → Told M B D h ts x → Told M B D h' ts x
+told_with {A} {M = M} {B = B} {D = D} {h = h} {h' = h'} {ts = ts} {x = x} alike t = record { taken = t.taken; cut = t.cut; what = go x t.cut t.what }
+  where
+    same : (y : Read A) → ts ≡ t.taken ++ rest_of y → rest_of (put y (rest_of y)) ≡ rest_of y → Same h t.taken y → Same h' t.taken y
+    same y c e k more f = alike t.taken (rest_of y) more c (ap (λ us. rest_of (h us)) c ∙ ap (λ (z : Read A). rest_of z) (k (rest_of y) refl) ∙ e) f ∙ k more f
+
+    go : (y : Read A) → ts ≡ t.taken ++ rest_of y → What M B D h t.taken y → What M B D h' t.taken y
+    go (Ok y) c (m, k) = (m, same (Ok y) c refl k)
+    go (Err (misfit, r)) c (b, k) = (b, same (Err (misfit, r)) c refl k)
+    go (Err (too_deep, r)) c w = w
+
+told_if : {A : Type 0} {M : Spelling A} {B : List Tok → Type 0} {D : Place} {f g : Reader A} {ts : List Tok} {x y : Read A} (test : List Tok → Bool) → Keeps test f ts → Keeps test g ts
+    → (test ts ≡ true → Told M B D f ts x) → (test ts ≡ false → Told M B D g ts y) → Told M B D (λ us. cond (test us) (f us) (g us)) ts (cond (test ts) x y)
+told_if {A} {M = M} {B = B} {D = D} {f = f} {g = g} {ts = ts} {x = x} {y = y} test of_f of_g t u = go (test ts) refl
+  where
+    go : (b : Bool) → test ts ≡ b → Told M B D (λ us. cond (test us) (f us) (g us)) ts (cond b x y)
+    go true q = told_with (λ xs r more c k e. ap (λ b. cond b (f (xs ++ more)) (g (xs ++ more))) (of_f xs r more c k e ∙ q)) (t q)
+    go false q = told_with (λ xs r more c k e. ap (λ b. cond b (f (xs ++ more)) (g (xs ++ more))) (of_g xs r more c k e ∙ q)) (u q)
+
+told_first : {A : Type 0} {M : Spelling A} {B : List Tok → Type 0} {D : Place} {f g : Reader A} {ts : List Tok} {x y : Read A} (T : Kinds)
+    → (sees T ts ≡ true → Told M B D f ts x) → (sees T ts ≡ false → Told M B D g ts y) → Told M B D (if_sees T f g) ts (cond (sees T ts) x y)
+told_first {A} {f = f} {g = g} {ts = ts} T = told_if (sees T) (keeps f) (keeps g)
+  where
+    keeps : (h : Reader A) → Keeps (sees T) h ts
+    keeps h xs r more c k e = sees_alike T (xs ++ more) ts (first_after xs more r e ∙ ap first (sym c))
+
+-- of the first two, where each reader takes the first
+told_two : {A : Type 0} {M : Spelling A} {B : List Tok → Type 0} {D : Place} {f g : Reader A} {ts : List Tok} {x y : Read A} (T U : Kinds)
+    → (sees T ts ≡ true → length (rest_of (f ts)) < length ts) → (sees T ts ≡ true → length (rest_of (g ts)) < length ts)
+    → (sees_two T U ts ≡ true → Told M B D f ts x) → (sees_two T U ts ≡ false → Told M B D g ts y) → Told M B D (if_sees_two T U f g) ts (cond (sees_two T U ts) x y)
+told_two {A} {f = f} {g = g} {ts = ts} T U p q = told_if (sees_two T U) (keeps f p) (keeps g q)
+  where
+    keeps : (h : Reader A) → (sees T ts ≡ true → length (rest_of (h ts)) < length ts) → Keeps (sees_two T U) h ts
+    keeps h takes xs r more c k e = two_alike T U xs more r e (λ q. some xs c (takes (ap (sees T) c ∙ q))) ∙ ap (sees_two T U) (sym c)
+      where
+        some : (b : List Tok) → ts ≡ b ++ r → length (rest_of (h ts)) < length ts → (t : Tok) × (c : List Tok) × (b ≡ t ∷ c)
+        some [] c p = absurd (omega (arith, ap length k, ap length c))
+        some (t ∷ b) c p = (t, b, refl)
+
+told_map : {A C : Type 0} {M : Spelling A} {B E : List Tok → Type 0} {D : Place} {h : Reader A} {ts : List Tok} {x : Read A} (v : A → C) → ((xs : List Tok) → B xs → E xs) → Told M B D h ts x
+    → Told (λ c r xs. (a : A) × (c ≡ v a) × M a r xs) E D (h >>= (λ a. ret (v a))) ts (bind x (λ a. ret (v a)))
+told_map {A} {C} {M = M} {B = B} {E = E} {D = D} {h = h} {ts = ts} {x = x} v of_begun t = go x t.taken t.cut t.what
+  where
+    go : (y : Read A) (xs : List Tok) → ts ≡ xs ++ rest_of y → What M B D h xs y → Told (λ c r xs. (a : A) × (c ≡ v a) × M a r xs) E D (h >>= (λ a. ret (v a))) ts (bind y (λ a. ret (v a)))
+    go (Ok y) xs c (m, k) = record { taken = xs; cut = c; what = ((y.0, refl, m), λ more f. ap (λ z. bind z (λ a. ret (v a))) (k more f)) }
+    go (Err (misfit, r)) xs c (b, k) = record { taken = xs; cut = c; what = (of_begun xs b, λ more f. ap (λ z. bind z (λ a. ret (v a))) (k more f)) }
+    go (Err (too_deep, r)) xs c (b, d) = record { taken = xs; cut = c; what = (of_begun xs b, d) }
+
+abbrev both_of : {A B C : Type 0} → (A → B → C) → Read A → Reader B → Read C
+both_of make x g = bind x (λ a. g >>= (λ b. ret (make a b)))
+
+told_then : {A B C : Type 0} {M : Spelling A} {O : Spelling B} {Q : Spelling C} {K L E : List Tok → Type 0} {D F G : Place} {h : Reader A} {h' g : Reader B} {ts : List Tok} {x : Read A} (make : A → B → C)
+    → ((a : A) (b : B) (r xs ys : List Tok) → M a (ys ++ r) xs → O b r ys → Q (make a b) r (xs ++ ys)) → ((xs : List Tok) → K xs → E xs) → ((a : A) (r xs ys : List Tok) → M a (ys ++ r) xs → L ys → E (xs ++ ys))
+    → ((xs r : List Tok) → D xs r → G xs r) → ((a : A) (r xs ys : List Tok) → M a (ys ++ r) xs → F ys r → G (xs ++ ys) r)
+    → Told M K D h ts x → ((a : A) (s : List Tok) → x ≡ Ok (a, s) → Told O L F h' s (g s)) → Told Q E G (λ us. both_of make (h us) h') ts (both_of make x g)
+told_then {A} {B} {C} {M = M} {O = O} {Q = Q} {K = K} {L = L} {E = E} {D = D} {F = F} {G = G} {h = h} {h' = h'} {g = g} {ts = ts} {x = x} make joins begun begun_later deep deep_later t u = go x refl t.taken t.cut t.what
+  where
+    later : (a : A) (s xs : List Tok) → ts ≡ xs ++ s → M a s xs → Same h xs (Ok (a, s)) → (y : Read B) (ys : List Tok) → s ≡ ys ++ rest_of y → What O L F h' ys y → Told Q E G (λ us. both_of make (h us) h') ts (bind y (λ b. ret (make a b)))
+    later a s xs c m k y ys e w = go y e w
+      where
+        line : (r : List Tok) → s ≡ ys ++ r → ts ≡ (xs ++ ys) ++ r
+        line r e = c ∙ ap (λ v. xs ++ v) e ∙ sym (append_assoc xs ys r)
+
+        same : (y : Read B) → s ≡ ys ++ rest_of y → Same h' ys y → (more : List Tok) → first more ≡ first (rest_of y) → both_of make (h ((xs ++ ys) ++ more)) h' ≡ bind (put y more) (λ b. ret (make a b))
+        same y e n more f = rw (append_assoc xs ys more, k (ys ++ more) (first_after ys more (rest_of y) f ∙ ap first (sym e)), n more f) refl
+
+        go : (y : Read B) → s ≡ ys ++ rest_of y → What O L F h' ys y → Told Q E G (λ us. both_of make (h us) h') ts (bind y (λ b. ret (make a b)))
+        go (Ok y) e (o, n) = record { taken = xs ++ ys; cut = line y.1 e; what = (joins a y.0 y.1 xs ys (subst (λ v. M a v xs) e m) o, same (Ok y) e n) }
+        go (Err (misfit, r)) e (b, n) = record { taken = xs ++ ys; cut = line r e; what = (begun_later a r xs ys (subst (λ v. M a v xs) e m) b, same (Err (misfit, r)) e n) }
+        go (Err (too_deep, r)) e (b, d) = record { taken = xs ++ ys; cut = line r e; what = (begun_later a r xs ys (subst (λ v. M a v xs) e m) b, deep_later a r xs ys (subst (λ v. M a v xs) e m) d) }
+
+    go : (y : Read A) → x ≡ y → (xs : List Tok) → ts ≡ xs ++ rest_of y → What M K D h xs y → Told Q E G (λ us. both_of make (h us) h') ts (both_of make y g)
+    go (Ok y) q xs c (m, k) = let v = u y.0 y.1 q in later y.0 y.1 xs c m k (g y.1) v.taken v.cut v.what
+    go (Err (misfit, r)) q xs c (b, k) = record { taken = xs; cut = c; what = (begun xs b, λ more f. ap (λ z. both_of make z h') (k more f)) }
+    go (Err (too_deep, r)) q xs c (b, d) = record { taken = xs; cut = c; what = (begun xs b, deep xs r d) }
+
+-- what goes over a limit takes as many tokens at least, and there are more
+pub over_takes : {A : Type 0} (n : ℕ) (ts : List Tok) (x : Read A) → goes_over n ts x ≡ true → (n < length ts) × (length (rest_of x) + n ≤ length ts)
+over_takes n ts (Ok x) o = let p = ltb-true (length x.1 + n) (length ts) o in (omega (arith, p), omega (arith, p))
+over_takes n ts (Err e) o =
+    let q = both (nat_lt n (length ts)) (nat_lt (length e.1 + n) (suc (length ts))) o in
+    let p = ltb-true n (length ts) q.0 in
+    let m = ltb-true (length e.1 + n) (suc (length ts)) q.1 in
+    (p, omega (arith, m))
+
+at_most : (most : Option ℕ) (d : ℕ) → is_above most d ≡ false → AtMost most d
+at_most None d e = tt
+at_most (Some n) d e = ltb-false n d e
+
+none_taken : {A : Type 0} (T : Kinds) (g : Tok → A) (ts : List Tok) → sees T ts ≡ false → take_one T g ts ≡ Err (misfit, ts)
+none_taken T g [] e = refl
+none_taken T g (t ∷ ts) e = ap (λ b. taken b g t ts) e
+
+module _ {N : Type 0} {Node : N → Type 0} (facts : N → Facts) (body : Bodies N Node) (sure : (n : N) → Fits facts body n) where
+  abbrev plain : {A : Type 0} → Form N Node A → Reader A
+  plain f = run (read body) unlimited f
+
+  -- where a form passes limits, if there are some
+  abbrev pub Deep : Option Limits → {A : Type 0} → Form N Node A → Place
+  Deep None f xs r = ⊥
+  Deep (Some limits) f xs r = Passes body limits f xs r
+
+  deep_as : (o : Option Limits) {A B : Type 0} (f : Form N Node A) (g : Form N Node B) (xs ys r s : List Tok) → ((of : Limits → N → Place) → PassesBy body of (under o) f xs r → PassesBy body of (under o) g ys s) → Deep o f xs r → Deep o g ys s
+  deep_as None f g xs ys r s k p = p
+  deep_as (Some limits) f g xs ys r s k p = (p.0, k (PassesWithin body p.0) p.1)
+
+  deep_body : (o : Option Limits) (n : N) (xs r : List Tok) → Deep o (body n) xs r → Deep o (call n) xs r
+  unfolding PassesWithin
+  deep_body None n xs r p = p
+  deep_body (Some limits) n xs r p = (suc p.0, p.1)
+
+  begun_none : {A : Type 0} (f : Form N Node A) → Decided facts f → Begun body f []
+  begun_none f d = let e = some_example facts body sure _ f d in (e.0, e.1, e.3)
+
+  begun_as : {A : Type 0} (f : Form N Node A) (xs ys zs : List Tok) → xs ≡ ys ++ zs → Begun body f xs → Begun body f ys
+  begun_as f xs ys zs e (a, others, x) = (a, zs ++ others, subst (SpellsBy (Spells body) unlimited f a []) (ap (λ v. v ++ others) e ∙ append_assoc ys zs others) x)
+
+  abbrev pub ToldAs : Option Limits → {A : Type 0} → Form N Node A → List Tok → Read A → Type 0
+  ToldAs o f ts x = Told (SpellsBy (Spells body) (under o) f) (Begun body f) (Deep o f) (plain f) ts x
+
+  abbrev pub ToldAt : Property N Node
+  ToldAt o A f ts = ToldAs o f ts (reading body o f ts)
+
+  -- two parts, of which the second is refused: what the first spells goes on with what goes on from there
+  begun_second : (o : Option Limits) {A B : Type 0} (f : Form N Node A) (g : Form N Node B) → Decided facts f → Decided facts g → (nullable facts g || apart (bars facts f) (begins facts g)) ≡ true → (a : A) (r xs ys : List Tok)
+      → SpellsBy (Spells body) (under o) f a (ys ++ r) xs → Begun body g ys → Begun body (f ⨾ g) (xs ++ ys)
+  begun_second o f g d d' p a r xs [] x y = let e = some_example facts body sure _ g d' in (
+    (a, e.0),
+    e.1,
+    subst (SpellsBy (Spells body) unlimited (f ⨾ g) (a, e.0) []) (ap (λ v. v ++ e.1) (sym (append-nil xs)))
+        (join facts body sure f g d a e.0 r xs e.1 (form_free body (under o) f a r xs x) (not_barred facts body sure f g d' p r e) e.3),
+  )
+  begun_second o f g d d' p a r xs (t ∷ ys) x (b, others, y) = (
+    (a, b),
+    others,
+    subst (SpellsBy (Spells body) unlimited (f ⨾ g) (a, b) []) (sym (append_assoc xs (t ∷ ys) others))
+        (join facts body sure f g d a b (t ∷ (ys ++ r)) xs (t ∷ (ys ++ others)) (form_free body (under o) f a (t ∷ (ys ++ r)) xs x) (inr refl) y),
+  )
+
+  begun_first : {A B : Type 0} (f : Form N Node A) (g : Form N Node B) → Decided facts f → Decided facts g → (nullable facts g || apart (bars facts f) (begins facts g)) ≡ true → (xs : List Tok) → Begun body f xs → Begun body (f ⨾ g) xs
+  begun_first f g d d' p xs (a, others, x) = let e = some_example facts body sure _ g d' in ((a, e.0), others ++ e.1, subst (SpellsBy (Spells body) unlimited (f ⨾ g) (a, e.0) []) (append_assoc xs others e.1) (join facts body sure f g d a e.0 [] (xs ++ others) e.1 x (not_barred facts body sure f g d' p [] e) e.3))
+
+  told_pair : {A B C : Type 0} (make : A → B → C) (Q : Spelling C) (o : Option Limits) (f : Form N Node A) (g : Form N Node B) → Decided facts f → Decided facts g → (nullable facts g || apart (bars facts f) (begins facts g)) ≡ true → (ts : List Tok)
+      → ((a : A) (b : B) (r xs : List Tok) → SpellsBy (Spells body) (under o) (f ⨾ g) (a, b) r xs → Q (make a b) r xs)
+      → ToldAt o A f ts → ((a : A) (s : List Tok) → reading body o f ts ≡ Ok (a, s) → ToldAt o B g s) → Told Q (Begun body (f ⨾ g)) (Deep o (f ⨾ g)) (λ us. both_of make (plain f us) (plain g)) ts (both_of make (reading body o f ts) (reading body o g))
+  told_pair make Q o f g d d' p ts made t u =
+      told_then make (λ a b r xs ys x y. made a b r (xs ++ ys) (xs, ys, refl, x, y)) (begun_first f g d d' p) (begun_second o f g d d' p) (λ xs r q. deep_as o f (f ⨾ g) xs xs r r (λ of x. inl x) q)
+      (λ a r xs ys x q. deep_as o g (f ⨾ g) ys (xs ++ ys) r r (λ of y. inr (a, xs, ys, refl, x, y)) q) t u
+
+  -- a turn of a loop passes limits where the loop does
+  turn_passes : (of : Limits → N → Place) (limits : Limits) (T : Kinds) {A : Type 0} (f : Form N Node A) (before r : List Tok) → PassesBy body of limits (f ⨾ many T f) before r → PassesBy body of limits (many T f) before r
+  turn_passes of limits T f before r (inl p) = ([], [], before, refl, refl, p)
+  turn_passes of limits T f before r (inr (a, xs, us, e, m, (all, ys, zs, c, n, p))) =
+      (a ∷ all, xs ++ ys, zs, e ∙ ap (λ v. xs ++ v) c ∙ sym (append_assoc xs ys zs), (xs, ys, refl, subst (λ v. SpellsBy (Spells body) limits f a v xs) (ap (λ v. v ++ r) c ∙ append_assoc ys zs r) m, n), p)
+
+  told_many : (o : Option Limits) (T : Kinds) {A : Type 0} (f : Form N Node A) → Decided facts (many T f) → (ts : List Tok) → ToldAt o A f ts → ((a : A) (s : List Tok) → reading body o f ts ≡ Ok (a, s) → ToldAt o (List A) (many T f) s) → ToldAt o (List A) (many T f) ts
+  told_many o T {A} f (d, (h, p)) ts t u =
+      rw (loop_turn T (some_front facts body sure (under o) f d h.0) ts)
+      (told_with (λ xs r more c k e. loop_turn T (some_front facts body sure unlimited f d h.0) (xs ++ more))
+      (told_first T
+      (λ q. told_as (λ a r xs q c m. m) (λ xs r c b. (b.0.0 ∷ b.0.1, b.1, b.2)) (λ xs r c q. deep_as o (f ⨾ many T f) (many T f) xs xs r r (λ of x. turn_passes of (under o) T f xs r x) q)
+      (told_pair (λ a others. a ∷ others) (SpellsBy (Spells body) (under o) (many T f)) o f (many T f) d (d, (h, p)) refl ts (λ a others r xs x. x) t u))
+      (λ q. record { taken = []; cut = refl; what = (refl, λ more f. refl) })))
+
+  -- ---- the first tokens of more
+
+  -- a token that is one too many, or that comes after what is no whole
+  one_more : {A : Type 0} (f : Form N Node A) (n : ℕ) (before m r : List Tok) → length before ≡ n → n < length (before ++ (m ++ r)) → Begun body f (before ++ m) → (m ≡ [] → (a : A) → Has facts body sure f a [] before → ⊥)
+      → Begun body f before × OneTooMany body (Some n) f before (m ++ r)
+  one_more f n before [] [] l p b whole = absurd (omega (arith, length-append before []))
+  one_more f n before [] (t ∷ r) l p b whole = let front = begun_as f (before ++ []) before [] refl b in (front, (l, front, λ a x. absurd (whole refl a x)))
+  one_more f n before (u ∷ m) r l p b whole = let front = begun_as f (before ++ u ∷ m) before (u ∷ m) refl b in (front, (l, front, λ a x. begun_as f (before ++ u ∷ m) (before ++ u ∷ []) m (sym (append_assoc before (u ∷ []) m)) b))
+
+  -- where so many tokens are taken, or one more is refused, the next one is too many
+  too_many : (n : ℕ) (A : Type 0) (f : Form N Node A) → Decided facts f → (ts : List Tok) → ToldAt None A f ts → goes_over n ts (plain f ts) ≡ true → Begun body f (take n ts) × OneTooMany body (Some n) f (take n ts) (drop n ts)
+  too_many n A f d ts t o =
+      let xs = t.taken in
+      let r = rest_of (plain f ts) in
+      let p = over_takes n ts (plain f ts) o in
+      let l : n ≤ length xs = omega (arith, p.1, ap length t.cut, length-append xs r) in
+      let front : take n ts ≡ take n xs = ap (take n) t.cut ∙ take-append-le n xs r l in
+      let back : drop n ts ≡ drop n xs ++ r = ap (drop n) t.cut ∙ drop-append-le n xs r l in
+      let all : take n xs ++ drop n xs ≡ xs = take-append-drop n xs in
+      let line : ts ≡ take n xs ++ (drop n xs ++ r) = t.cut ∙ ap (λ v. v ++ r) (sym all) ∙ append_assoc (take n xs) (drop n xs) r in
+      rw (front, back) (one_more f n (take n xs) (drop n xs) r (length-take-le n xs l) (omega (arith, p.0, ap length line)) (subst (Begun body f) (sym all) (begun (plain f ts) xs t.what))
+      (λ z a x. stopped (plain f ts) refl a (take n xs) (length-take-le n xs l) (line ∙ ap (λ v. take n xs ++ (v ++ r)) z) (form_firm facts body sure A f d a (take n xs) r x)))
+    where
+      begun : (x : Read A) (xs : List Tok) → What (Has facts body sure f) (Begun body f) (Deep None f) (plain f) xs x → Begun body f xs
+      begun (Ok (a, r)) xs (m, k) = (a, [], subst (SpellsBy (Spells body) unlimited f a []) (sym (append-nil xs)) (form_alone facts body sure unlimited f d a r xs m))
+      begun (Err (misfit, r)) xs (b, k) = b
+      begun (Err (too_deep, r)) xs (b, _) = b
+
+      stopped : (x : Read A) → plain f ts ≡ x → (a : A) (ys : List Tok) → length ys ≡ n → ts ≡ ys ++ rest_of x → (plain f (ys ++ rest_of x) ≡ Ok (a, rest_of x)) ⊎ (length (rest_of (plain f (ys ++ rest_of x))) < length (rest_of x)) → ⊥
+      stopped (Ok x) e a ys l c k = let over = ltb-true (length x.1 + n) (length ts) (ap (goes_over n ts) (sym e) ∙ o) in omega (arith, over, l, ap length c, length-append ys x.1)
+      stopped (Err x) e a ys l c (inl k) = let no : ◌≡◌ {A = Read A} (Err x) (Ok (a, x.1)) = sym e ∙ ap (plain f) c ∙ k in cc
+      stopped (Err x) e a ys l c (inr k) = omega (arith, k, ap (λ us. length (rest_of (plain f us))) (sym c), ap (λ z. length (rest_of z)) e)
+
+  tokens_over : (o : Option Limits) (A : Type 0) (f : Form N Node A) → Decided facts f → (ts : List Tok) → ToldAt None A f ts → ToldAt o A (bounded f) ts
+  unfolding up_to
+  tokens_over None A f d ts t = told_as (λ a r xs q c m. (tt, m)) (λ xs r c b. (b.0, b.1, (tt, b.2))) (λ xs r c p. p) t
+  tokens_over (Some limits) A f d ts t = go limits.tokens (λ xs r p. (0, p))
+    where
+      go : (most : Option ℕ) → ((xs r : List Tok) → OneTooMany body most f xs r → Deep (Some limits) (bounded f) xs r) → Told (λ a r xs. AtMost most (length xs) × Has facts body sure f a r xs) (Begun body (bounded f)) (Deep (Some limits) (bounded f)) (plain f) ts (cut most ts (plain f ts))
+      go None k = told_as (λ a r xs q c m. (tt, m)) (λ xs r c b. (b.0, b.1, (tt, b.2))) (λ xs r c p. absurd p) t
+      go (Some n) k = at (goes_over n ts (plain f ts)) refl
+        where
+          few : (a : A) (r xs : List Tok) → goes_over n ts (plain f ts) ≡ false → plain f ts ≡ Ok (a, r) → ts ≡ xs ++ r → length xs ≤ n
+          few a r xs e q c = let p = ltb-false (length r + n) (length ts) (ap (goes_over n ts) (sym q) ∙ e) in omega (arith, length-append xs r, ap length c, p)
+
+          at : (b : Bool) → goes_over n ts (plain f ts) ≡ b → Told (λ a r xs. (length xs ≤ n) × Has facts body sure f a r xs) (Begun body (bounded f)) (Deep (Some limits) (bounded f)) (plain f) ts (cond b (Err (too_deep, drop n ts)) (plain f ts))
+          at true e = let p = too_many n A f d ts t e in record { taken = take n ts; cut = sym (take-append-drop n ts); what = ((p.0.0, p.0.1, (tt, p.0.2)), k (take n ts) (drop n ts) p.1) }
+          at false e = told_as (λ a r xs q c m. (few a r xs e q c, m)) (λ xs r c b. (b.0, b.1, (tt, b.2))) (λ xs r c p. absurd p) t
+
+  told_nest : (o : Option Limits) (m : ℕ) (T : Kinds) (A : Type 0) (f : Form N Node A) → Decided facts (nest m T f) → (ts : List Tok) → ToldAt o A f ts → ToldAt o A (nest m T f) ts
+  told_nest o m T A f (d, h) ts x =
+      rw (nested_is (under o).depth m T (reading body o f) ts) (told_with (λ xs r more c k e. nested_is None m T (plain f) (xs ++ more)) (go (is_above (under o).depth m) refl (sees T ts) refl))
+    where
+      deep : (o : Option Limits) → is_above (under o).depth m ≡ true → sees T ts ≡ true → Deep o (nest m T f) [] ts
+      deep None q s = cc
+      deep (Some limits) q s = (0, inr (q, refl, s))
+
+      begun : Begun body (nest m T f) []
+      begun = let b = begun_none f d in (b.0, b.1, (tt, b.2))
+
+      go : (b : Bool) → is_above (under o).depth m ≡ b → (c : Bool) → sees T ts ≡ c
+          → Told (SpellsBy (Spells body) (under o) (nest m T f)) (Begun body (nest m T f)) (Deep o (nest m T f)) (plain f) ts (cond b (cond c (Err (too_deep, ts)) (Err (misfit, ts))) (reading body o f ts))
+      go true q true s = record { taken = []; cut = refl; what = (begun, deep o q s) }
+      go true q false s = record { taken = []; cut = refl; what = (begun, λ more e. idle_some (nullable facts f) (plain f more) more h.0 (form_idle facts body sure f d more (sees_none (begins facts f) T more h.1.0 (sees_alike T more ts e ∙ s)))) }
+      go false q c s = told_as (λ a r xs z c x. (at_most (under o).depth m q, x)) (λ xs r c b. (b.0, b.1, (tt, b.2))) (λ xs r c p. deep_as o f (nest m T f) xs xs r r (λ of y. inl (at_most (under o).depth m q, y)) p) x
+
+  -- the first two tokens are not those that may not come
+  begun_two : {A : Type 0} (T U : Kinds) (g K : Form N Node A) (ts : List Tok) → sees_two T U ts ≡ false → Begun body K [] → ((t : Tok) → is T t ≡ true → (a : A) × (others : List Tok) × Has facts body sure K a [] (t ∷ others))
+      → ((a : A) (xs : List Tok) → Has facts body sure g a [] xs → sees_two T U (xs ++ []) ≡ false → Has facts body sure K a [] xs) → (xs r : List Tok) → ts ≡ xs ++ r → Begun body g xs → Begun body K xs
+  begun_two T U g K ts n empty head joins [] r c b = empty
+  begun_two T U g K ts n empty head joins (t ∷ []) r c (a, others, x) = go (is T t) refl
+    where
+      go : (b : Bool) → is T t ≡ b → Begun body K (t ∷ [])
+      go true q = head t q
+      go false q = (a, others, joins a (t ∷ others) x (ap (λ b. b && sees U (others ++ [])) q))
+  begun_two T U g K ts n empty head joins (t ∷ u ∷ xs) r c (a, others, x) = (a, others, joins a (t ∷ u ∷ (xs ++ others)) x (ap (sees_two T U) (sym c) ∙ n))
+
+  second_refused : (T U : Kinds) (A : Type 0) (f : Form N Node A) (M : Spelling A) (D : Place) → Decided facts (avoid T U f) → (ts : List Tok) → sees_two T U ts ≡ true → Told M (Begun body (avoid T U f)) D second_unexpected ts (second_unexpected ts)
+  second_refused T U A f M D d [] seen = cc
+  second_refused T U A f M D d (t ∷ ts) seen = record { taken = t ∷ []; cut = refl; what = (goes_on_so facts body sure T U A f d t (both (is T t) (sees U ts) seen).0, λ more e. refl) }
+
+  told : (o : Option Limits) (A : Type 0) (f : Form N Node A) → Decided facts f → (ts : List Tok) → PartsOf body ToldAt o A f ts → ToldAt o A f ts
+  told o A (token T g) d ts x = go ts (sees T ts) refl
+    where
+      go : (ts : List Tok) (b : Bool) → sees T ts ≡ b → ToldAt o A (token T g) ts
+      go ts false q = rw (none_taken T g ts q) (record { taken = []; cut = refl; what = (begun_none (token T g) d, λ more f. none_taken T g more (sees_alike T more ts f ∙ q)) })
+      go [] true q = cc
+      go (t ∷ ts) true q = subst (λ b. ToldAs o (token T g) (t ∷ ts) (taken b g t ts)) (sym q) (record { taken = t ∷ []; cut = refl; what = ((t, refl, q, refl), λ more f. ap (λ b. taken b g t more) q) })
+  told o A (give a) d ts x = record { taken = []; cut = refl; what = ((refl, refl), λ more f. refl) }
+  told o A (call n) d ts x =
+      rw (read_is facts body sure (under o) n ts) (told_with (λ xs r more c k e. read_is facts body sure unlimited n (xs ++ more))
+      (told_as (λ a r xs q c m. spells_body body (under o) n a r xs m) (λ xs r c b. (b.0, b.1, spells_body body unlimited n b.0 [] (xs ++ b.1) b.2)) (λ xs r c p. deep_body o n xs r p) x))
+  told o A (map h f) d ts x = told_as (λ a r xs q c m. m) (λ xs r c b. b) (λ xs r c p. deep_as o f (map h f) xs xs r r (λ of y. y) p) (told_map h (λ xs b. (h b.0, b.1, (b.0, refl, b.2))) x)
+  told o A (◌⨾◌ {A = B} {B = C} f g) (d, (d', (p, q))) ts (x, y) = told_pair (λ b c. (b, c)) (SpellsBy (Spells body) (under o) (f ⨾ g)) o f g d d' q ts (λ a b r xs m. m) x y
+  told o A (choose T f g) d ts (x, y) =
+      told_first T (λ q. told_as (λ a r xs q c m. inl m) (λ xs r c b. (b.0, b.1, inl b.2)) (λ xs r c p. deep_as o f (choose T f g) xs xs r r (λ of x. inl x) p) x)
+      (λ q. told_as (λ a r xs q c m. inr m) (λ xs r c b. (b.0, b.1, inr b.2)) (λ xs r c p. deep_as o g (choose T f g) xs xs r r (λ of x. inr x) p) y)
+  told o A (many {A = B} T f) d ts (x, y) = told_many o T f d ts (x ts (omega arith)) y
+  told o A (or_none T f a) d ts x =
+      told_first T (λ q. told_as (λ a r xs q c m. inl m) (λ xs r c b. (b.0, b.1, inl b.2)) (λ xs r c p. deep_as o f (or_none T f a) xs xs r r (λ of x. x) p) x)
+      (λ q. record { taken = []; cut = refl; what = (inr (refl, refl, q), λ more f. refl) })
+  told o A (nest m T f) d ts x = told_nest o m T A f d ts x
+  told o A (bounded f) (d, n) ts x = tokens_over o A f d ts x
+  told o A (two_ahead T U f g) (d, (d', (h, (p, (n, k))))) ts (x, y) =
+      told_two T U (λ s. form_takes facts body sure A f d ts (sees_among T (begins facts f) ts h.1.1 s)) (λ s. form_takes facts body sure A g d' ts (sees_among T (begins facts g) ts k s))
+      (λ q. told_as (λ a r xs z c m. inl m) (λ xs r c b. (b.0, b.1, inl b.2)) (λ xs r c p. deep_as o f (two_ahead T U f g) xs xs r r (λ of x. inl x) p) x)
+      (λ q. told_as (λ a r xs z c m. inr (m, ap (sees_two T U) (sym c) ∙ q))
+      (begun_two T U g (two_ahead T U f g) ts q (let b = begun_none f d in (b.0, b.1, inl b.2)) (λ t i. let w = with_head facts body sure U A f d p t (sees_among T (begins facts f) (t ∷ []) h.1.1 i) in (w.0, w.1, inl w.2)) (λ a xs m z. inr (m, z)))
+      (λ xs r c p. deep_as o g (two_ahead T U f g) xs xs r r (λ of y. inr (y, ap (sees_two T U) (sym c) ∙ q)) p) y)
+  told o A (avoid T U f) (d, (i, (n, (k, l)))) ts x =
+      told_two T U (λ s. second_taken ts s) (λ s. form_takes facts body sure A f d ts (sees_among T (begins facts f) ts k s))
+      (λ q. second_refused T U A f (SpellsBy (Spells body) (under o) (avoid T U f)) (Deep o (avoid T U f)) (d, (i, (n, (k, l)))) ts q)
+      (λ q. told_as (λ a r xs z c m. (m, two_less T U xs r (ap (sees_two T U) (sym c) ∙ q)))
+      (begun_two T U f (avoid T U f) ts q (let e = avoided_example facts body sure T U A f (d, (i, (n, (k, l)))) in (e.0, e.1, e.3)) (goes_on_so facts body sure T U A f (d, (i, (n, (k, l))))) (λ a xs m z. (m, two_less T U xs [] z)))
+      (λ xs r c p. deep_as o f (avoid T U f) xs xs r r (λ of y. (y, ap (sees_two T U) (sym c) ∙ q)) p) x)
+    where
+      second_taken : (us : List Tok) → sees T us ≡ true → length (drop 1 us) < length us
+      second_taken [] s = cc
+      second_taken (t ∷ us) s = omega arith
+
+  pub form_told : (o : Option Limits) (A : Type 0) (f : Form N Node A) → Decided facts f → (ts : List Tok) → ToldAt o A f ts
+  form_told o A f d ts = by_reading facts body sure ToldAt told o A f d ts
