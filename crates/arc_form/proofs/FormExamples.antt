@@ -5,7 +5,7 @@ use Rattle.arc_form.specs.Kinds.{Kinds, is}
 use Rattle.arc_form.specs.Reader.{sees}
 use Rattle.arc_form.specs.Form.{unlimited, Form, Bodies, token, give, call, map, ◌⨾◌, choose, many, or_none, nest, bounded, two_ahead, avoid}
 use Rattle.arc_form.specs.Meaning.{Spelling, SpellsBy, Spells}
-use Rattle.arc_form.proofs.Sets.{and_no, apart, both, no_both, sees_among, sees_other}
+use Rattle.arc_form.proofs.Sets.{and_no, apart, both, sees_among, sees_other}
 use Rattle.arc_form.proofs.Samples.{sample}
 use Rattle.arc_form.proofs.Static.{Facts, if_so, nullable, begins, bars, simple, second, alone, parts, Decided, Holds, Fits}
 use Rattle.arc_form.proofs.FormHeights.{spells_body}
@@ -71,7 +71,7 @@ module _ {N : Type 0} {Node : N → Type 0} (facts : N → Facts) (body : Bodies
     where
       pick : ((b || simple facts g) ≡ true) ⊎ ((nullable facts g ≡ false) × ((b || simple facts f) ≡ true)) → ((b || simple facts g) ≡ true → Example g) → ((b || simple facts f) ≡ true → Example f) → Example (choose T f g)
       pick (inl q) of_g of_f = let y = of_g q in (y.0, y.1, y.2, inr y.3)
-      pick (inr (n, q)) of_g of_f = let x = of_f q in (x.0, x.1, λ m. absurd (no_both (nullable facts g) m n), inl x.3)
+      pick (inr (n, q)) of_g of_f = let x = of_f q in (x.0, x.1, λ m. cc, inl x.3)
   example b k A (many T f) d e = ([], [], λ x. refl, refl)
   example b k A (or_none T f a) d e = (a, [], λ x. refl, inr (refl, refl, refl))
   example b k A (nest m T f) (d, o) e = let x = example b k A f d e in (x.0, x.1, λ z. cc, (tt, x.3))

@@ -9,15 +9,10 @@ use Rattle.arc_form.specs.Meaning.{AtMost, SpellsAll, SpellsBy, Within, Spells}
 use Rattle.arc_form.proofs.Sets.{apart, both, sees_among, sees_none, sees_apart, sees_other, sees_more, second_more}
 use Rattle.arc_form.proofs.Static.{Facts, if_so, nullable, begins, goes_on, bars, long, second, Decided, Heads, Holds, Fits}
 use Rattle.arc_form.proofs.Local.{rest_of, loop_turn}
-use Rattle.arc_form.proofs.FormLocal.{read_is, some_front, form_left, under, reading}
+use Rattle.arc_form.proofs.FormLocal.{read_is, some_front, under, reading}
 use Rattle.arc_form.proofs.FormHeights.{OfRules, ◌⇒◌}
-use Rattle.arc_form.proofs.FormBegins.{loop_end, loop_first, bind_left, ret_left, none_so, form_takes, takes_two}
+use Rattle.arc_form.proofs.FormBegins.{More, more_then, left, loop_end, loop_first, ret_left, form_takes, takes_two}
 use Rattle.arc_form.proofs.FormStarts.{Starts, AllStart, Fair, fair_less, fair_left, fair_right, fair_none, fair_after, none_left, none_right, starts, start_all, some_starts, head_starts, longs, second_starts, two_own, two_kept, seen_some, spells_starts}
-
--- without limits fewer tokens are left
-abbrev More : {A : Type 0} → Option Limits → Read A → List Tok → Type 0
-More None x r = length (rest_of x) < length r
-More (Some limits) x r = Unit {0}
 
 -- an answer is this value with these tokens left, or more is taken, and not where E holds
 abbrev Firm : {A : Type 0} → Option Limits → Read A → A → Type 0 → List Tok → Type 0
@@ -27,17 +22,17 @@ firm_less : {A : Type 0} (o : Option Limits) (x : Read A) (a : A) (E F : Type 0)
 firm_less o x a E F r k (inl e) = inl e
 firm_less o x a E F r k (inr (n, m)) = inr (λ e. n (k e), m)
 
-more_then : {A B : Type 0} (o : Option Limits) (x : Read A) (g : A → Reader B) (r : List Tok) → (o ≡ None → (a : A) (s : List Tok) → length (rest_of (g a s)) ≤ length s) → More o x r → More o (bind x g) r
-more_then None x g r k m = bind_left x g (length r) (k refl) m
-more_then (Some limits) x g r k m = tt
-
 firm_map : {A B : Type 0} (o : Option Limits) (x : Read A) (h : A → B) (a : A) (E : Type 0) (r : List Tok) → Firm o x a E r → Firm o (bind x (λ a. ret (h a))) (h a) E r
 firm_map o x h a E r (inl e) = inl (ap (λ y. bind y (λ a. ret (h a))) e)
 firm_map o x h a E r (inr (n, m)) = inr (n, more_then o x (λ a. ret (h a)) r (λ z a s. omega arith) m)
 
+none_so : (A : Kinds) (b : Bool) (ts : List Tok) → b ≡ true → sees (if_so b A) ts ≡ false → sees A ts ≡ false
+none_so A true ts e h = h
+none_so A false ts e h = cc
+
 -- what comes after tokens that begin so, or none, goes on with nothing
 after : (b : Bool) (A T : Kinds) (xs rest : List Tok) → Starts b T xs → apart A T ≡ true → sees (if_so b A) rest ≡ false → sees A (xs ++ rest) ≡ false
-after b A T xs rest (inl (q, n)) p e = ap (λ v. sees A (v ++ rest)) n ∙ none_so b A rest q e
+after b A T xs rest (inl (q, n)) p e = ap (λ v. sees A (v ++ rest)) n ∙ none_so A b rest q e
 after b A T xs rest (inr s) p e = sees_other A T (xs ++ rest) p (sees_more T xs rest s)
 
 -- Two parts, of which the second is spelled by zs: what goes on with the first one does so with both, where zs is none.
@@ -46,11 +41,11 @@ firm_then : {A B D : Type 0} (make : A → B → D) (o : Option Limits) (b : Boo
     → Firm o x a ((sees G (zs ++ r) ≡ false) × Fair K (zs ++ rest) (zs ++ r)) (zs ++ r) → Firm o (g (zs ++ r)) c F r → Firm o (bind x (λ a. g >>= (λ c. ret (make a c)))) (make a c) E r
 firm_then {A} {B} {D} make o b G K T E F x g a c zs rest r s p of_first of_second left (inl e) m =
     subst (λ (y : Read A). Firm {A = D} o (bind y (λ a. g >>= (λ c. ret (make a c)))) (make a c) E r) (sym e) (firm_map o (g (zs ++ r)) (make a) c E r (firm_less o (g (zs ++ r)) c E F r of_second m))
-firm_then {A} {B} {D} make o b G K T E F x g a c zs rest r s p of_first of_second left (inr (n, k)) m =
+firm_then {A} {B} {D} make o b G K T E F x g a c zs rest r s p of_first of_second few (inr (n, k)) m =
     inr (λ e. n (after b G T zs r s p (of_first e).0, fair_after b K T zs rest r s (of_first e).1), go zs s n k)
   where
     go : (zs : List Tok) → Starts b T zs → (((sees G (zs ++ r) ≡ false) × Fair K (zs ++ rest) (zs ++ r)) → ⊥) → More o x (zs ++ r) → More o (bind x (λ a. g >>= (λ c. ret (make a c)))) r
-    go [] s n k = more_then o x (λ a. g >>= (λ c. ret (make a c))) r (λ z a v. omega (arith, ret_left (g v) (make a), left z v)) k
+    go [] s n k = more_then o x (λ a. g >>= (λ c. ret (make a c))) r (λ z a v. omega (arith, ret_left (g v) (make a), few z v)) k
     go (t ∷ zs) (inl (e, z)) n k = cc
     go (t ∷ zs) (inr s) n k = absurd (n (sees_other G T (t ∷ (zs ++ r)) p s, inr refl))
 
@@ -80,10 +75,6 @@ module _ {N : Type 0} {Node : N → Type 0} (facts : N → Facts) (body : Bodies
   more_takes : (o : Option Limits) (A : Type 0) (f : Form N Node A) → Decided facts f → (r : List Tok) → sees (begins facts f) r ≡ true → More o (reading body o f r) r
   more_takes None A f d r s = form_takes facts body sure A f d r s
   more_takes (Some limits) A f d r s = tt
-
-  left : (o : Option Limits) {A : Type 0} (f : Form N Node A) → Decided facts f → o ≡ None → (s : List Tok) → length (rest_of (reading body o f s)) ≤ length s
-  left None f d z s = form_left facts body sure f d s
-  left (Some limits) f d z s = cc
 
   more_turns : (o : Option Limits) (T : Kinds) {A : Type 0} (f : Form N Node A) → Decided facts (many T f) → (ts r : List Tok) → sees T ts ≡ true → More o (reading body o f ts) r → More o (reading body o (many T f) ts) r
   more_turns None T f d ts r s m = omega (arith, loop_first facts body sure T f d ts s, m)
@@ -126,7 +117,7 @@ module _ {N : Type 0} {Node : N → Type 0} (facts : N → Facts) (body : Bodies
         subst (λ v. Firm {A = List A} o (reading body o (many T f) v) (a ∷ others) (Ends (many T f) rest r) r) (sym line)
         (rw (loop_turn T (some_front facts body sure (under o) f d h.0) (ys ++ (zs ++ r)), seen)
         (firm_then (λ a others. a ∷ others) o true (goes_on facts f) (bars facts f) T (Ends (many T f) rest r) (Ends (many T f) rest r) (reading body o f (ys ++ (zs ++ r))) (reading body o (many T f)) a others zs rest r
-        (start_all (SpellsBy L (under o) f) T (head_starts facts L s (under o) T f d h) others rest zs y) p (λ e. (none_right T (goes_on facts f) r e.0, e.1)) (λ e. e) (left o (many T f) (d, (h, (p, q)))) (k a (zs ++ rest) ys (zs ++ r) x) (firm_all o T f (d, (h, (p, q))) k others rest zs r y)))
+        (start_all (SpellsBy L (under o) f) T (head_starts facts L s (under o) T f d h) others rest zs y) p (λ e. (none_right T (goes_on facts f) r e.0, e.1)) (λ e. e) (left facts body sure o (many T f) (d, (h, (p, q)))) (k a (zs ++ rest) ys (zs ++ r) x) (firm_all o T f (d, (h, (p, q))) k others rest zs r y)))
 
     firm : (o : Option Limits) (A : Type 0) (f : Form N Node A) → Decided facts f → (a : A) (rest xs r : List Tok) → SpellsBy L (under o) f a rest xs → Firm o (reading body o f (xs ++ r)) a (Ends f rest r) r
     firm o A (token T g) d a rest xs r (t, e, i, v) = inl (rw (e, i, v) refl)
@@ -141,13 +132,13 @@ module _ {N : Type 0} {Node : N → Type 0} (facts : N → Facts) (body : Bodies
         subst (λ v. Firm o (reading body o (f ⨾ g) v) a (Ends (f ⨾ g) rest r) r) (sym line)
         (firm_then {D = B × C} (λ b c. (b, c)) o (nullable facts g) (goes_on facts f) (bars facts f) (begins facts g) (Ends (f ⨾ g) rest r) (Ends g rest r) (reading body o f (ys ++ (zs ++ r))) (reading body o g) a.0 a.1 zs rest r
         (starts facts L s (under o) g d' a.1 rest zs y) p (λ e. (none_right (goes_on facts g) further r e.0, fair_right (bars facts g) barred rest r e.1))
-        (λ e. (none_left (goes_on facts g) further r e.0, fair_left (bars facts g) barred rest r e.1)) (left o g d') (firm o B f d a.0 (zs ++ rest) ys (zs ++ r) x) (firm o C g d' a.1 rest zs r y))
+        (λ e. (none_left (goes_on facts g) further r e.0, fair_left (bars facts g) barred rest r e.1)) (left facts body sure o g d') (firm o B f d a.0 (zs ++ rest) ys (zs ++ r) x) (firm o C g d' a.1 rest zs r y))
     firm o A (choose T f g) (d, (d', (h, p))) a rest xs r (inl x) = rw (ahead o T f d h a rest xs r x) (firm_less o (reading body o f (xs ++ r)) a _ _ r (λ e. (none_left (goes_on facts f) (goes_on facts g) r (none_left (goes_on facts f ∪ goes_on facts g) (if_so (nullable facts g) T) r e.0), fair_left (bars facts f) (bars facts g) rest r e.1)) (firm o A f d a rest xs r x))
     firm o A (choose T f g) (d, (d', (h, p))) a rest xs r (inr x) = go (starts facts L s (under o) g d' a rest xs x) (firm_less o (reading body o g (xs ++ r)) a (Ends (choose T f g) rest r) (Ends g rest r) r (λ e. (none_right (goes_on facts f) (goes_on facts g) r (none_left (goes_on facts f ∪ goes_on facts g) (if_so (nullable facts g) T) r e.0), fair_right (bars facts f) (bars facts g) rest r e.1)) (firm o A g d' a rest xs r x))
       where
         go : Starts (nullable facts g) (begins facts g) xs → Firm o (reading body o g (xs ++ r)) a (Ends (choose T f g) rest r) r → Firm o (cond (sees T (xs ++ r)) (reading body o f (xs ++ r)) (reading body o g (xs ++ r))) a (Ends (choose T f g) rest r) r
         go (inl (n, e)) m = subst (λ v. Firm o (cond (sees T (v ++ r)) (reading body o f (v ++ r)) (reading body o g (v ++ r))) a (Ends (choose T f g) rest r) r) (sym e)
-            (passed o T A f d h (reading body o g r) a (Ends (choose T f g) rest r) r (λ e. none_so (nullable facts g) T r n (none_right (goes_on facts f ∪ goes_on facts g) (if_so (nullable facts g) T) r e.0)) (subst (λ v. Firm o (reading body o g (v ++ r)) a (Ends (choose T f g) rest r) r) e m))
+            (passed o T A f d h (reading body o g r) a (Ends (choose T f g) rest r) r (λ e. none_so T (nullable facts g) r n (none_right (goes_on facts f ∪ goes_on facts g) (if_so (nullable facts g) T) r e.0)) (subst (λ v. Firm o (reading body o g (v ++ r)) a (Ends (choose T f g) rest r) r) e m))
         go (inr q) m = rw (sees_apart (begins facts g) T (xs ++ r) p (sees_more (begins facts g) xs r q)) m
     firm o A (many {A = B} T f) (d, p) all rest xs r x = firm_all o T f (d, p) (firm o B f d) all rest xs r x
     firm o A (or_none T f b) (d, h) a rest xs r (inl x) = rw (ahead o T f d h a rest xs r x) (firm_less o (reading body o f (xs ++ r)) a _ _ r (λ e. (e.0, fair_right T (bars facts f) rest r e.1)) (firm o A f d a rest xs r x))

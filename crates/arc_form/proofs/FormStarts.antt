@@ -1,12 +1,12 @@
 -- How the tokens begin that a form spells, and before which others they spell the same.
-use Rattle.std.proofs.Common.{◌≡◌, ◌⊎◌, inl, inr, List, [], ◌∷◌, ◌++◌, Bool, true, false, not, ◌&&◌, refl, sym, ap, subst, ◌∙◌}
+use Rattle.std.proofs.Common.{arith, ◌≡◌, ◌⊎◌, inl, inr, List, [], ◌∷◌, ◌++◌, Bool, true, false, not, ◌&&◌, refl, sym, ap, subst, ◌∙◌}
 use Rattle.arc_lex.specs.Tokens.{Tok}
 use Rattle.arc_form.specs.Kinds.{Kinds, ◌∪◌, is}
 use Rattle.arc_form.specs.Reader.{first, sees, sees_second, sees_two}
 use Rattle.arc_form.specs.Form.{Limits, unlimited, Form, Bodies, token, give, call, map, ◌⨾◌, choose, many, or_none, nest, bounded, two_ahead, avoid}
 use Rattle.arc_form.specs.Meaning.{Spelling, SpellsAll, SpellsBy, Spells}
 use Rattle.arc_form.proofs.FormHeights.{OfRules, spells_body, by_height}
-use Rattle.arc_form.proofs.Sets.{and_no, both, no_both, not_true, sees_among, sees_none, sees_left, sees_right, sees_neither, sees_alike, sees_more}
+use Rattle.arc_form.proofs.Sets.{and_no, both, sees_among, sees_none, sees_left, sees_right, sees_neither, sees_alike, sees_more}
 use Rattle.arc_form.proofs.Static.{Facts, if_so, nullable, begins, bars, long, Decided, Heads, Holds, second, Fits}
 
 -- There are no tokens, where there may be none, or they begin so.
@@ -14,7 +14,7 @@ abbrev pub Starts : Bool → Kinds → List Tok → Type 0
 Starts b T xs = ((b ≡ true) × (xs ≡ [])) ⊎ (sees T xs ≡ true)
 
 pub starts_some : (b : Bool) (T : Kinds) (xs : List Tok) → b ≡ false → Starts b T xs → sees T xs ≡ true
-starts_some b T xs n (inl (e, z)) = absurd (no_both b e n)
+starts_some b T xs n (inl (e, z)) = cc
 starts_some b T xs n (inr s) = s
 
 starts_then : (a b : Bool) (S T : Kinds) (xs ys : List Tok) → Starts a S xs → Starts b T ys → Starts (a && b) (S ∪ if_so a T) (xs ++ ys)
@@ -142,7 +142,7 @@ module _ {N : Type 0} {Node : N → Type 0} (facts : N → Facts) where
     longs limits A (map {A = B} h f) d e b rest xs (a, v, x) = longs limits B f d e a rest xs x
     longs limits A (f ⨾ g) (d, (d', o)) e a rest xs (ys, zs, c, x, y) =
         let q = both (not (nullable facts f)) (not (nullable facts g)) e in
-        subst Long (sym c) (long_both (begins facts f) (begins facts g) ys zs (some_starts limits f d (not_true (nullable facts f) q.0) a.0 (zs ++ rest) ys x) (some_starts limits g d' (not_true (nullable facts g) q.1) a.1 rest zs y))
+        subst Long (sym c) (long_both (begins facts f) (begins facts g) ys zs (some_starts limits f d (grind (arith, q.0)) a.0 (zs ++ rest) ys x) (some_starts limits g d' (grind (arith, q.1)) a.1 rest zs y))
     longs limits A (choose T f g) (d, o) e a rest xs (inl x) = longs limits A f d (both (long facts f) (long facts g) e).0 a rest xs x
     longs limits A (choose T f g) (d, (d', o)) e a rest xs (inr x) = longs limits A g d' (both (long facts f) (long facts g) e).1 a rest xs x
     longs limits A (nest m T f) (d, o) e a rest xs (p, x) = longs limits A f d e a rest xs x

@@ -15,7 +15,7 @@ use Rattle.arc_form.proofs.Local.{rest_of, put, loop_turn, nested_is}
 use Rattle.arc_form.proofs.FormLocal.{read_is, some_front, Property, PartsOf, under, reading, by_reading}
 use Rattle.arc_form.proofs.FormHeights.{spells_body, form_free}
 use Rattle.arc_form.proofs.FormStarts.{form_alone}
-use Rattle.arc_form.proofs.FormBegins.{idle_some, form_idle, form_takes}
+use Rattle.arc_form.proofs.FormBegins.{form_idle, form_takes}
 use Rattle.arc_form.proofs.FormExamples.{Has, join, not_barred, some_example, avoided_example, goes_on_so, with_head}
 use Rattle.arc_form.proofs.FormFirm.{form_firm}
 
@@ -279,7 +279,7 @@ module _ {N : Type 0} {Node : N → Type 0} (facts : N → Facts) (body : Bodies
       go : (b : Bool) → is_above (under o).depth m ≡ b → (c : Bool) → sees T ts ≡ c
           → Told (SpellsBy (Spells body) (under o) (nest m T f)) (Begun body (nest m T f)) (Deep o (nest m T f)) (plain f) ts (cond b (cond c (Err (too_deep, ts)) (Err (misfit, ts))) (reading body o f ts))
       go true q true s = record { taken = []; cut = refl; what = (begun, deep o q s) }
-      go true q false s = record { taken = []; cut = refl; what = (begun, λ more e. idle_some (nullable facts f) (plain f more) more h.0 (form_idle facts body sure f d more (sees_none (begins facts f) T more h.1.0 (sees_alike T more ts e ∙ s)))) }
+      go true q false s = record { taken = []; cut = refl; what = (begun, λ more e. form_idle facts body sure f d h.0 more (sees_none (begins facts f) T more h.1.0 (sees_alike T more ts e ∙ s))) }
       go false q c s = told_as (λ a r xs z c x. (at_most (under o).depth m q, x)) (λ xs r c b. (b.0, b.1, (tt, b.2))) (λ xs r c p. deep_as o f (nest m T f) xs xs r r (λ of y. inl (at_most (under o).depth m q, y)) p) x
 
   -- the first two tokens are not those that may not come

@@ -1,5 +1,5 @@
 -- Tests on sets of kinds, which compute.
-use Rattle.std.proofs.Common.{◌≡◌, List, [], ◌∷◌, ◌++◌, Bool, true, false, not, ◌&&◌, ◌||◌, nat_eq, refl, sym, ap, subst, ◌∙◌, ap₂}
+use Rattle.std.proofs.Common.{◌≡◌, List, [], ◌∷◌, ◌++◌, Bool, true, false, not, ◌&&◌, ◌||◌, nat_eq, refl, sym, ap, subst, ap₂, arith}
 use Rattle.std.proofs.lemmas.Bool.{eqb-true}
 use Rattle.std.proofs.lemmas.Slice.Eq.{bytes_eq-Decides}
 use Rattle.std.specs.Str.{bytes_eq}
@@ -7,28 +7,16 @@ use Rattle.arc_lex.specs.Tokens.{Tok}
 use Rattle.arc_form.specs.Kinds.{Kind, Kinds, main_or_none, none, one, ◌∪◌, same, has, kind, is, name}
 use Rattle.arc_form.specs.Reader.{first, sees, sees_second, sees_two}
 
--- ---- conjunctions
+-- ---- tests
 
 pub both : (a b : Bool) → (a && b) ≡ true → (a ≡ true) × (b ≡ true)
-both true true e = (refl, refl)
-both true false e = cc
-both false b e = cc
+both a b e = grind arith
 
 pub and_of : (a b : Bool) → a ≡ true → b ≡ true → (a && b) ≡ true
-and_of true b p q = q
-and_of false b p q = cc
+and_of a b p q = grind arith
 
-pub neither : (a b : Bool) → (a || b) ≡ false → (a ≡ false) × (b ≡ false)
-neither false false e = (refl, refl)
-neither false true e = cc
-neither true b e = cc
-
-pub no_both : (a : Bool) → a ≡ true → a ≡ false → ⊥
-no_both a e n = cc
-
-pub not_true : (b : Bool) → not b ≡ true → b ≡ false
-not_true true e = cc
-not_true false e = refl
+pub and_no : (a b : Bool) → b ≡ false → (a && b) ≡ false
+and_no a b e = grind arith
 
 -- ---- sets of kinds
 
@@ -52,24 +40,12 @@ same_is (i, j) (k, l) e =
 among_has : (A B : Kinds) (k : Kind) → among A B ≡ true → has A k ≡ true → has B k ≡ true
 among_has none B k e h = cc
 among_has (one a) B k e h = subst (λ x. has B x ≡ true) (sym (same_is k a h)) e
-among_has (A ∪ C) B k e h =
-    let p = both (among A B) (among C B) e in
-    go (has A k) refl (among_has A B k p.0) (among_has C B k p.1)
-  where
-    go : (b : Bool) → has A k ≡ b → (has A k ≡ true → has B k ≡ true) → (has C k ≡ true → has B k ≡ true) → has B k ≡ true
-    go true q a c = a q
-    go false q a c = c (ap (λ b. b || has C k) (sym q) ∙ h)
+among_has (A ∪ C) B k e h = grind (arith, among_has A B k, among_has C B k)
 
 apart_has : (A B : Kinds) (k : Kind) → apart A B ≡ true → has A k ≡ true → has B k ≡ false
 apart_has none B k e h = cc
-apart_has (one a) B k e h = subst (λ x. has B x ≡ false) (sym (same_is k a h)) (not_true (has B a) e)
-apart_has (A ∪ C) B k e h =
-    let p = both (apart A B) (apart C B) e in
-    go (has A k) refl (apart_has A B k p.0) (apart_has C B k p.1)
-  where
-    go : (b : Bool) → has A k ≡ b → (has A k ≡ true → has B k ≡ false) → (has C k ≡ true → has B k ≡ false) → has B k ≡ false
-    go true q a c = a q
-    go false q a c = c (ap (λ b. b || has C k) (sym q) ∙ h)
+apart_has (one a) B k e h = subst (λ x. has B x ≡ false) (sym (same_is k a h)) (grind arith)
+apart_has (A ∪ C) B k e h = grind (arith, apart_has A B k, apart_has C B k)
 
 pub name_has : (b : Bool) → has name (0, main_or_none b) ≡ true
 name_has true = refl
@@ -87,40 +63,24 @@ sees_apart A B (t ∷ ts) e h = apart_has A B (kind t.sort) e h
 
 -- what is none of these is none of fewer
 pub sees_none : (A B : Kinds) (ts : List Tok) → among A B ≡ true → sees B ts ≡ false → sees A ts ≡ false
-sees_none A B ts e h = go (sees A ts) refl
-  where
-    go : (b : Bool) → sees A ts ≡ b → sees A ts ≡ false
-    go true q = absurd (no_both (sees B ts) (sees_among A B ts e q) h)
-    go false q = q
+sees_none A B ts e h = grind (arith, sees_among A B ts e)
 
 -- what is one of these is none of others
 pub sees_other : (A B : Kinds) (ts : List Tok) → apart A B ≡ true → sees B ts ≡ true → sees A ts ≡ false
-sees_other A B ts p e = go (sees A ts) refl
-  where
-    go : (b : Bool) → sees A ts ≡ b → sees A ts ≡ false
-    go true q = absurd (no_both (sees B ts) e (sees_apart A B ts p q))
-    go false q = q
+sees_other A B ts p e = grind (arith, sees_apart A B ts p)
 
 pub sees_or : (A B : Kinds) (ts : List Tok) → sees (A ∪ B) ts ≡ (sees A ts || sees B ts)
 sees_or A B [] = refl
 sees_or A B (t ∷ ts) = refl
 
-or_true : (b : Bool) → (b || true) ≡ true
-or_true true = refl
-or_true false = refl
-
 pub sees_left : (A B : Kinds) (ts : List Tok) → sees A ts ≡ true → sees (A ∪ B) ts ≡ true
-sees_left A B ts h = sees_or A B ts ∙ ap (λ b. b || sees B ts) h
+sees_left A B ts h = grind (arith, sees_or A B ts)
 
 pub sees_right : (A B : Kinds) (ts : List Tok) → sees B ts ≡ true → sees (A ∪ B) ts ≡ true
-sees_right A B ts h = sees_or A B ts ∙ ap (λ b. sees A ts || b) h ∙ or_true (sees A ts)
+sees_right A B ts h = grind (arith, sees_or A B ts)
 
 pub sees_neither : (A B : Kinds) (ts : List Tok) → sees (A ∪ B) ts ≡ false → (sees A ts ≡ false) × (sees B ts ≡ false)
-sees_neither A B ts h = neither (sees A ts) (sees B ts) (sym (sees_or A B ts) ∙ h)
-
-pub sees_nothing : (ts : List Tok) → sees none ts ≡ false
-sees_nothing [] = refl
-sees_nothing (t ∷ ts) = refl
+sees_neither A B ts h = grind (arith, sees_or A B ts)
 
 -- a test of the first token alone
 pub sees_alike : (T : Kinds) (a b : List Tok) → first a ≡ first b → sees T a ≡ sees T b
@@ -137,25 +97,18 @@ pub second_more : (U : Kinds) (xs rest : List Tok) → sees_second U xs ≡ true
 second_more U [] rest e = cc
 second_more U (t ∷ xs) rest e = sees_more U xs rest e
 
-pub and_no : (a b : Bool) → b ≡ false → (a && b) ≡ false
-and_no true b e = e
-and_no false b e = refl
-
 -- what does not begin so with others after it does not begin so alone
 pub two_less : (T U : Kinds) (xs r : List Tok) → sees_two T U (xs ++ r) ≡ false → sees_two T U xs ≡ false
 two_less T U [] r e = refl
-two_less T U (t ∷ []) r e = and_no (is T t) false refl
+two_less T U (t ∷ []) r e = grind arith
 two_less T U (t ∷ u ∷ xs) r e = e
 
 -- a test of the first two tokens, of lists that share the first one at least where it passes
 pub two_alike : (T U : Kinds) (b more rest : List Tok) → first more ≡ first rest → (sees T (b ++ rest) ≡ true → (t : Tok) × (c : List Tok) × (b ≡ t ∷ c)) → sees_two T U (b ++ more) ≡ sees_two T U (b ++ rest)
-two_alike T U [] more rest e k = go (sees T rest) refl
+two_alike T U [] more rest e k = go (sees T rest) refl (sees_alike T more rest e)
   where
-    none_there : (b : Bool) → b ≡ false → (b && sees_second U more) ≡ false
-    none_there b q = ap (λ b. b && sees_second U more) q
-
-    go : (b : Bool) → sees T rest ≡ b → sees_two T U more ≡ sees_two T U rest
-    go true q = let p = k q in let no : [] ≡ p.0 ∷ p.1 = p.2 in cc
-    go false q = none_there (sees T more) (sees_alike T more rest e ∙ q) ∙ sym (ap (λ b. b && sees_second U rest) q)
+    go : (b : Bool) → sees T rest ≡ b → sees T more ≡ sees T rest → (sees T more && sees_second U more) ≡ (sees T rest && sees_second U rest)
+    go true q f = let p = k q in let no : [] ≡ p.0 ∷ p.1 = p.2 in cc
+    go false q f = grind arith
 two_alike T U (t ∷ []) more rest e k = ap (λ b. is T t && b) (sees_alike U more rest e)
 two_alike T U (t ∷ u ∷ b) more rest e k = refl

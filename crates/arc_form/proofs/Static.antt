@@ -1,8 +1,8 @@
 -- What is read off a form without any tokens, and the test that each rule of a grammar must pass.
-use Rattle.std.proofs.Common.{◌≡◌, Bool, true, false, not, ◌&&◌, ◌||◌}
+use Rattle.std.proofs.Common.{◌≡◌, Bool, true, false, not, ◌&&◌, ◌||◌, arith}
 use Rattle.arc_form.specs.Kinds.{Kinds, none, ◌∪◌, is}
 use Rattle.arc_form.specs.Form.{Form, Bodies, token, give, call, map, ◌⨾◌, choose, many, or_none, nest, bounded, two_ahead, avoid}
-use Rattle.arc_form.proofs.Sets.{among, apart, both, not_true}
+use Rattle.arc_form.proofs.Sets.{among, apart, both}
 use Rattle.arc_form.proofs.Samples.{sample}
 
 -- Tests of which each must pass, or must fail.
@@ -25,7 +25,7 @@ Holds (s and t) = Holds s × Holds t
 
 pub holds : (t : Test) → passes t ≡ true → Holds t
 holds (yes b) e = e
-holds (no b) e = not_true b e
+holds (no b) e = grind arith
 holds (s and t) e = let p = both (passes s) (passes t) e in (holds s p.0, holds t p.1)
 
 -- Of a rule: with which kinds it begins, which kinds would go on with it where it could end, and which may not come after it.
@@ -41,18 +41,13 @@ if_so false T = none
 module _ {N : Type 0} {Node : N → Type 0} (facts : N → Facts) where
   -- whether it may be no token at all; a rule never is
   abbrev pub nullable : {A : Type 0} → Form N Node A → Bool
-  nullable (token T g) = false
   nullable (give a) = true
-  nullable (call n) = false
   nullable (map h f) = nullable f
   nullable (f ⨾ g) = nullable f && nullable g
   nullable (choose T f g) = nullable g
   nullable (many T f) = true
   nullable (or_none T f a) = true
-  nullable (nest d T f) = false
-  nullable (bounded f) = false
-  nullable (two_ahead T U f g) = false
-  nullable (avoid T U f) = false
+  nullable _ = false
 
   abbrev pub begins : {A : Type 0} → Form N Node A → Kinds
   begins (token T g) = T
@@ -69,8 +64,6 @@ module _ {N : Type 0} {Node : N → Type 0} (facts : N → Facts) where
   begins (avoid T U f) = begins f
 
   abbrev pub goes_on : {A : Type 0} → Form N Node A → Kinds
-  goes_on (token T g) = none
-  goes_on (give a) = none
   goes_on (call n) = (facts n).goes_on
   goes_on (map h f) = goes_on f
   goes_on (f ⨾ g) = goes_on g ∪ if_so (nullable g) (goes_on f)
@@ -81,25 +74,20 @@ module _ {N : Type 0} {Node : N → Type 0} (facts : N → Facts) where
   goes_on (bounded f) = goes_on f
   goes_on (two_ahead T U f g) = goes_on f ∪ goes_on g
   goes_on (avoid T U f) = goes_on f
+  goes_on _ = none
 
   -- whether it is two tokens at least
   abbrev pub long : {A : Type 0} → Form N Node A → Bool
-  long (token T g) = false
-  long (give a) = false
-  long (call n) = false
   long (map h f) = long f
   long (f ⨾ g) = not (nullable f) && not (nullable g)
   long (choose T f g) = long f && long g
-  long (many T f) = false
-  long (or_none T f a) = false
   long (nest d T f) = long f
   long (bounded f) = long f
   long (two_ahead T U f g) = long f && long g
   long (avoid T U f) = long f
+  long _ = false
 
   abbrev pub bars : {A : Type 0} → Form N Node A → Kinds
-  bars (token T g) = none
-  bars (give a) = none
   bars (call n) = (facts n).bars
   bars (map h f) = bars f
   bars (f ⨾ g) = bars g ∪ if_so (nullable g) (bars f)
@@ -110,11 +98,10 @@ module _ {N : Type 0} {Node : N → Type 0} (facts : N → Facts) where
   bars (bounded f) = bars f
   bars (two_ahead T U f g) = if_so (not (long g)) U ∪ (bars f ∪ bars g)
   bars (avoid T U f) = bars f
+  bars _ = none
 
   -- whether a token is taken before any rule is read
   abbrev pub guarded : {A : Type 0} → Form N Node A → Bool
-  guarded (token T g) = true
-  guarded (give a) = true
   guarded (call n) = false
   guarded (map h f) = guarded f
   guarded (f ⨾ g) = guarded f && (not (nullable f) || guarded g)
@@ -125,6 +112,7 @@ module _ {N : Type 0} {Node : N → Type 0} (facts : N → Facts) where
   guarded (bounded f) = guarded f
   guarded (two_ahead T U f g) = guarded f && guarded g
   guarded (avoid T U f) = guarded f
+  guarded _ = true
 
   -- it is some token at least, the first one of exactly these kinds
   abbrev pub heads : Kinds → {A : Type 0} → Form N Node A → Test
@@ -133,17 +121,15 @@ module _ {N : Type 0} {Node : N → Type 0} (facts : N → Facts) where
   -- whether it has an example that no rule takes part in
   abbrev pub simple : {A : Type 0} → Form N Node A → Bool
   simple (token T g) = is T (sample T)
-  simple (give a) = true
-  simple (call n) = false
   simple (map h f) = simple f
   simple (f ⨾ g) = simple f && simple g
   simple (choose T f g) = simple g || (not (nullable g) && simple f)
-  simple (many T f) = true
-  simple (or_none T f a) = true
   simple (nest d T f) = simple f
   simple (bounded f) = simple f
   simple (two_ahead T U f g) = simple f
+  simple (call n) = false
   simple (avoid T U f) = false
+  simple _ = true
 
   -- the second token is exactly of these kinds, and the first is a token of the form itself
   abbrev pub second : Kinds → {A : Type 0} → Form N Node A → Test
@@ -169,8 +155,6 @@ module _ {N : Type 0} {Node : N → Type 0} (facts : N → Facts) where
   -- the tokens ahead decide each choice, and each token has an example
   abbrev pub decided : {A : Type 0} → Form N Node A → Test
   decided (token T g) = yes (is T (sample T))
-  decided (give a) = yes true
-  decided (call n) = yes true
   decided (map h f) = decided f
   decided (f ⨾ g) = decided f and decided g and yes (apart (goes_on f) (begins g)) and yes (nullable g || apart (bars f) (begins g))
   decided (choose T f g) = decided f and decided g and heads T f and yes (apart (begins g) T)
@@ -180,6 +164,7 @@ module _ {N : Type 0} {Node : N → Type 0} (facts : N → Facts) where
   decided (bounded f) = decided f and no (nullable f)
   decided (two_ahead T U f g) = decided f and decided g and heads T f and second U f and no (nullable g) and yes (among T (begins g))
   decided (avoid T U f) = decided f and yes (is T (sample T)) and no (nullable f) and yes (among T (begins f)) and yes (long f) and parts T U f
+  decided _ = yes true
 
   abbrev pub Decided : {A : Type 0} → Form N Node A → Type 0
   Decided f = Holds (decided f)
