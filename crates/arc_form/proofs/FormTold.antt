@@ -5,13 +5,13 @@ use Rattle.std.proofs.lemmas.Bool.{ltb-true, ltb-false}
 use Rattle.std.proofs.lemmas.List.{take-append-drop, take-append-le, drop-append-le, length-take-le}
 use Rattle.arc_lex.specs.Tokens.{Tok}
 use Rattle.arc_form.specs.Kinds.{Kinds, is}
-use Rattle.arc_form.specs.Reader.{Read, Reader, misfit, too_deep, bind, ◌>>=◌, ret, second_unexpected, first, if_sees, if_sees_two, sees, sees_two, taken, take_one, is_above, goes_over, cut, up_to}
+use Rattle.arc_form.specs.Reader.{Read, Reader, Fault, misfit, too_deep, bind, ◌>>=◌, ret, second_unexpected, first, if_sees, if_sees_two, sees, sees_two, taken, take_one, is_above, goes_over, cut, up_to}
 use Rattle.arc_form.specs.Form.{Limits, unlimited, Form, Bodies, token, give, call, map, ◌⨾◌, choose, many, or_none, nest, bounded, two_ahead, avoid, run, read}
 use Rattle.arc_form.specs.Meaning.{AtMost, Spelling, SpellsBy, Spells}
 use Rattle.arc_form.specs.Places.{Place, Begun, OneTooMany, PassesBy, PassesWithin, Passes}
 use Rattle.arc_form.proofs.Sets.{both, two_less, two_alike, apart, sees_among, sees_alike, sees_none}
 use Rattle.arc_form.proofs.Static.{Facts, nullable, begins, bars, Decided, Fits}
-use Rattle.arc_form.proofs.Local.{rest_of, put, loop_turn, nested_is}
+use Rattle.arc_form.proofs.Local.{rest_of, fault_of, put, loop_turn, nested_is}
 use Rattle.arc_form.proofs.FormLocal.{read_is, some_front, Property, PartsOf, under, reading, by_reading}
 use Rattle.arc_form.proofs.FormHeights.{spells_body, form_free}
 use Rattle.arc_form.proofs.FormStarts.{form_alone}
@@ -23,16 +23,17 @@ use Rattle.arc_form.proofs.FormFirm.{form_firm}
 abbrev pub Same : {A : Type 0} → Reader A → List Tok → Read A → Type 0
 Same h xs x = (more : List Tok) → first more ≡ first (rest_of x) → h (xs ++ more) ≡ put x more
 
--- what an answer says of the tokens that were taken
-abbrev pub What : {A : Type 0} → Spelling A → (List Tok → Type 0) → Place → Reader A → List Tok → Read A → Type 0
-What M B D h xs (Ok x) = M x.0 x.1 xs × Same h xs (Ok x)
-What M B D h xs (Err (misfit, r)) = B xs × Same {A = _} h xs (Err (misfit, r))
-What M B D h xs (Err (too_deep, r)) = B xs × D xs r
+-- what the tokens spell that were taken, or go on to
+abbrev Good : {A : Type 0} → Spelling A → (List Tok → Type 0) → List Tok → Read A → Type 0
+Good M B xs (Ok x) = M x.0 x.1 xs
+Good M B xs (Err e) = B xs
 
 pub record Told {A : Type 0} (M : Spelling A) (B : List Tok → Type 0) (D : Place) (h : Reader A) (ts : List Tok) (x : Read A) : Type 0 where
   pub taken : List Tok
   pub cut : ts ≡ taken ++ rest_of x
-  pub what : What M B D h taken x
+  pub good : Good M B taken x
+  pub same : fault_of x ≡ misfit → Same h taken x
+  pub deep : fault_of x ≡ too_deep → D taken (rest_of x)
 
 first_after : (b m r : List Tok) → first m ≡ first r → first (b ++ m) ≡ first (b ++ r)
 first_after [] m r e = e
@@ -41,27 +42,27 @@ first_after (t ∷ b) m r e = refl
 -- the same answer, of which more is said
 told_as : {A : Type 0} {M O : Spelling A} {B E : List Tok → Type 0} {D F : Place} {h : Reader A} {ts : List Tok} {x : Read A} → ((a : A) (r xs : List Tok) → x ≡ Ok (a, r) → ts ≡ xs ++ r → M a r xs → O a r xs)
     → ((xs r : List Tok) → ts ≡ xs ++ r → B xs → E xs) → ((xs r : List Tok) → ts ≡ xs ++ r → D xs r → F xs r) → Told M B D h ts x → Told O E F h ts x
-told_as {A} {M = M} {O = O} {B = B} {E = E} {D = D} {F = F} {h = h} {ts = ts} {x = x} of_value of_begun of_deep t = record { taken = t.taken; cut = t.cut; what = go x refl t.cut t.what }
+told_as {A} {M = M} {O = O} {B = B} {E = E} {ts = ts} {x = x} of_value of_begun of_deep t =
+    record { taken = t.taken; cut = t.cut; good = go x refl t.cut t.good; same = t.same; deep = λ q. of_deep t.taken (rest_of x) t.cut (t.deep q) }
   where
-    go : (y : Read A) → x ≡ y → ts ≡ t.taken ++ rest_of y → What M B D h t.taken y → What O E F h t.taken y
-    go (Ok y) q c (m, k) = (of_value y.0 y.1 t.taken q c m, k)
-    go (Err (misfit, r)) q c (b, k) = (of_begun t.taken r c b, k)
-    go (Err (too_deep, r)) q c (b, d) = (of_begun t.taken r c b, of_deep t.taken r c d)
+    go : (y : Read A) → x ≡ y → ts ≡ t.taken ++ rest_of y → Good M B t.taken y → Good O E t.taken y
+    go (Ok y) q c m = of_value y.0 y.1 t.taken q c m
+    go (Err y) q c b = of_begun t.taken y.1 c b
 
 -- a test says the same of these tokens and of those that are the same up to where h stops
 abbrev Keeps : {A : Type 0} → (List Tok → Bool) → Reader A → List Tok → Type 0
 Keeps test h ts = (xs r more : List Tok) → ts ≡ xs ++ r → rest_of (h ts) ≡ r → first more ≡ first r → test (xs ++ more) ≡ test ts
 
-told_with : {A : Type 0} {M : Spelling A} {B : List Tok → Type 0} {D : Place} {h h' : Reader A} {ts : List Tok} {x : Read A} → ((xs r more : List Tok) → ts ≡ xs ++ r → rest_of (h ts) ≡ r → first more ≡ first r → h' (xs ++ more) ≡ h (xs ++ more)) → Told M B D h ts x → Told M B D h' ts x
-told_with {A} {M = M} {B = B} {D = D} {h = h} {h' = h'} {ts = ts} {x = x} alike t = record { taken = t.taken; cut = t.cut; what = go x t.cut t.what }
+told_with : {A : Type 0} {M : Spelling A} {B : List Tok → Type 0} {D : Place} {h h' : Reader A} {ts : List Tok} {x : Read A}
+    → ((xs r more : List Tok) → ts ≡ xs ++ r → rest_of (h ts) ≡ r → first more ≡ first r → h' (xs ++ more) ≡ h (xs ++ more)) → Told M B D h ts x → Told M B D h' ts x
+told_with {A} {h = h} {ts = ts} {x = x} alike t = record { taken = t.taken; cut = t.cut; good = t.good; same = λ q more f. alike t.taken (rest_of x) more t.cut (left q) f ∙ t.same q more f; deep = t.deep }
   where
-    same : (y : Read A) → ts ≡ t.taken ++ rest_of y → rest_of (put y (rest_of y)) ≡ rest_of y → Same h t.taken y → Same h' t.taken y
-    same y c e k more f = alike t.taken (rest_of y) more c (ap (λ us. rest_of (h us)) c ∙ ap (λ (z : Read A). rest_of z) (k (rest_of y) refl) ∙ e) f ∙ k more f
+    rest : (y : Read A) → rest_of (put y (rest_of y)) ≡ rest_of y
+    rest (Ok y) = refl
+    rest (Err y) = refl
 
-    go : (y : Read A) → ts ≡ t.taken ++ rest_of y → What M B D h t.taken y → What M B D h' t.taken y
-    go (Ok y) c (m, k) = (m, same (Ok y) c refl k)
-    go (Err (misfit, r)) c (b, k) = (b, same (Err (misfit, r)) c refl k)
-    go (Err (too_deep, r)) c w = w
+    left : fault_of x ≡ misfit → rest_of (h ts) ≡ rest_of x
+    left q = ap (λ us. rest_of (h us)) t.cut ∙ ap (λ (z : Read A). rest_of z) (t.same q (rest_of x) refl) ∙ rest x
 
 told_if : {A : Type 0} {M : Spelling A} {B : List Tok → Type 0} {D : Place} {f g : Reader A} {ts : List Tok} {x y : Read A} (test : List Tok → Bool) → Keeps test f ts → Keeps test g ts
     → (test ts ≡ true → Told M B D f ts x) → (test ts ≡ false → Told M B D g ts y) → Told M B D (λ us. cond (test us) (f us) (g us)) ts (cond (test ts) x y)
@@ -93,12 +94,11 @@ told_two {A} {f = f} {g = g} {ts = ts} T U p q = told_if (sees_two T U) (keeps f
 
 told_map : {A C : Type 0} {M : Spelling A} {B E : List Tok → Type 0} {D : Place} {h : Reader A} {ts : List Tok} {x : Read A} (v : A → C) → ((xs : List Tok) → B xs → E xs) → Told M B D h ts x
     → Told (λ c r xs. (a : A) × (c ≡ v a) × M a r xs) E D (h >>= (λ a. ret (v a))) ts (bind x (λ a. ret (v a)))
-told_map {A} {C} {M = M} {B = B} {E = E} {D = D} {h = h} {ts = ts} {x = x} v of_begun t = go x t.taken t.cut t.what
+told_map {A} {C} {M = M} {B = B} {E = E} {D = D} {h = h} {ts = ts} {x = x} v of_begun t = go x t
   where
-    go : (y : Read A) (xs : List Tok) → ts ≡ xs ++ rest_of y → What M B D h xs y → Told (λ c r xs. (a : A) × (c ≡ v a) × M a r xs) E D (h >>= (λ a. ret (v a))) ts (bind y (λ a. ret (v a)))
-    go (Ok y) xs c (m, k) = record { taken = xs; cut = c; what = ((y.0, refl, m), λ more f. ap (λ z. bind z (λ a. ret (v a))) (k more f)) }
-    go (Err (misfit, r)) xs c (b, k) = record { taken = xs; cut = c; what = (of_begun xs b, λ more f. ap (λ z. bind z (λ a. ret (v a))) (k more f)) }
-    go (Err (too_deep, r)) xs c (b, d) = record { taken = xs; cut = c; what = (of_begun xs b, d) }
+    go : (y : Read A) → Told M B D h ts y → Told (λ c r xs. (a : A) × (c ≡ v a) × M a r xs) E D (h >>= (λ a. ret (v a))) ts (bind y (λ a. ret (v a)))
+    go (Ok y) t = record { taken = t.taken; cut = t.cut; good = (y.0, refl, t.good); same = λ q more f. ap (λ z. bind z (λ a. ret (v a))) (t.same q more f); deep = t.deep }
+    go (Err y) t = record { taken = t.taken; cut = t.cut; good = of_begun t.taken t.good; same = λ q more f. ap (λ z. bind z (λ a. ret (v a))) (t.same q more f); deep = t.deep }
 
 abbrev both_of : {A B C : Type 0} → (A → B → C) → Read A → Reader B → Read C
 both_of make x g = bind x (λ a. g >>= (λ b. ret (make a b)))
@@ -107,26 +107,31 @@ told_then : {A B C : Type 0} {M : Spelling A} {O : Spelling B} {Q : Spelling C} 
     → ((a : A) (b : B) (r xs ys : List Tok) → M a (ys ++ r) xs → O b r ys → Q (make a b) r (xs ++ ys)) → ((xs : List Tok) → K xs → E xs) → ((a : A) (r xs ys : List Tok) → M a (ys ++ r) xs → L ys → E (xs ++ ys))
     → ((xs r : List Tok) → D xs r → G xs r) → ((a : A) (r xs ys : List Tok) → M a (ys ++ r) xs → F ys r → G (xs ++ ys) r)
     → Told M K D h ts x → ((a : A) (s : List Tok) → x ≡ Ok (a, s) → Told O L F h' s (g s)) → Told Q E G (λ us. both_of make (h us) h') ts (both_of make x g)
-told_then {A} {B} {C} {M = M} {O = O} {Q = Q} {K = K} {L = L} {E = E} {D = D} {F = F} {G = G} {h = h} {h' = h'} {g = g} {ts = ts} {x = x} make joins begun begun_later deep deep_later t u = go x refl t.taken t.cut t.what
+told_then {A} {B} {C} {M = M} {O = O} {Q = Q} {K = K} {L = L} {E = E} {D = D} {F = F} {G = G} {h = h} {h' = h'} {g = g} {ts = ts} {x = x} make joins begun begun_later deep deep_later t u = go x refl t
   where
-    later : (a : A) (s xs : List Tok) → ts ≡ xs ++ s → M a s xs → Same h xs (Ok (a, s)) → (y : Read B) (ys : List Tok) → s ≡ ys ++ rest_of y → What O L F h' ys y → Told Q E G (λ us. both_of make (h us) h') ts (bind y (λ b. ret (make a b)))
-    later a s xs c m k y ys e w = go y e w
+    later : (a : A) (s : List Tok) → Told M K D h ts (Ok (a, s)) → (y : Read B) → Told O L F h' s y → Told Q E G (λ us. both_of make (h us) h') ts (bind y (λ b. ret (make a b)))
+    later a s t y u = go y u.taken u.cut u.good u.same u.deep
       where
-        line : (r : List Tok) → s ≡ ys ++ r → ts ≡ (xs ++ ys) ++ r
-        line r e = c ∙ ap (λ v. xs ++ v) e ∙ sym (append_assoc xs ys r)
+        line : (ys r : List Tok) → s ≡ ys ++ r → ts ≡ (t.taken ++ ys) ++ r
+        line ys r e = t.cut ∙ ap (λ v. t.taken ++ v) e ∙ sym (append_assoc t.taken ys r)
 
-        same : (y : Read B) → s ≡ ys ++ rest_of y → Same h' ys y → (more : List Tok) → first more ≡ first (rest_of y) → both_of make (h ((xs ++ ys) ++ more)) h' ≡ bind (put y more) (λ b. ret (make a b))
-        same y e n more f = rw (append_assoc xs ys more, k (ys ++ more) (first_after ys more (rest_of y) f ∙ ap first (sym e)), n more f) refl
+        value : (ys r : List Tok) → s ≡ ys ++ r → M a (ys ++ r) t.taken
+        value ys r e = subst (λ v. M a v t.taken) e t.good
 
-        go : (y : Read B) → s ≡ ys ++ rest_of y → What O L F h' ys y → Told Q E G (λ us. both_of make (h us) h') ts (bind y (λ b. ret (make a b)))
-        go (Ok y) e (o, n) = record { taken = xs ++ ys; cut = line y.1 e; what = (joins a y.0 y.1 xs ys (subst (λ v. M a v xs) e m) o, same (Ok y) e n) }
-        go (Err (misfit, r)) e (b, n) = record { taken = xs ++ ys; cut = line r e; what = (begun_later a r xs ys (subst (λ v. M a v xs) e m) b, same (Err (misfit, r)) e n) }
-        go (Err (too_deep, r)) e (b, d) = record { taken = xs ++ ys; cut = line r e; what = (begun_later a r xs ys (subst (λ v. M a v xs) e m) b, deep_later a r xs ys (subst (λ v. M a v xs) e m) d) }
+        same : (y : Read B) (ys : List Tok) → s ≡ ys ++ rest_of y → Same h' ys y → (more : List Tok) → first more ≡ first (rest_of y) → both_of make (h ((t.taken ++ ys) ++ more)) h' ≡ bind (put y more) (λ b. ret (make a b))
+        same y ys e n more f = rw (append_assoc t.taken ys more, t.same refl (ys ++ more) (first_after ys more (rest_of y) f ∙ ap first (sym e)), n more f) refl
 
-    go : (y : Read A) → x ≡ y → (xs : List Tok) → ts ≡ xs ++ rest_of y → What M K D h xs y → Told Q E G (λ us. both_of make (h us) h') ts (both_of make y g)
-    go (Ok y) q xs c (m, k) = let v = u y.0 y.1 q in later y.0 y.1 xs c m k (g y.1) v.taken v.cut v.what
-    go (Err (misfit, r)) q xs c (b, k) = record { taken = xs; cut = c; what = (begun xs b, λ more f. ap (λ z. both_of make z h') (k more f)) }
-    go (Err (too_deep, r)) q xs c (b, d) = record { taken = xs; cut = c; what = (begun xs b, deep xs r d) }
+        go : (y : Read B) (ys : List Tok) → s ≡ ys ++ rest_of y → Good O L ys y → (fault_of y ≡ misfit → Same h' ys y) → (fault_of y ≡ too_deep → F ys (rest_of y)) → Told Q E G (λ us. both_of make (h us) h') ts (bind y (λ b. ret (make a b)))
+        go (Ok y) ys e o n d = record { taken = t.taken ++ ys; cut = line ys y.1 e; good = joins a y.0 y.1 t.taken ys (value ys y.1 e) o; same = λ q. same (Ok y) ys e (n q); deep = λ q. cc }
+        go (Err y) ys e b n d = record { taken = t.taken ++ ys; cut = line ys y.1 e; good = begun_later a y.1 t.taken ys (value ys y.1 e) b; same = λ q. same (Err y) ys e (n q); deep = λ q. deep_later a y.1 t.taken ys (value ys y.1 e) (d q) }
+
+    go : (y : Read A) → x ≡ y → Told M K D h ts y → Told Q E G (λ us. both_of make (h us) h') ts (both_of make y g)
+    go (Ok y) q t = later y.0 y.1 t (g y.1) (u y.0 y.1 q)
+    go (Err y) q t = record { taken = t.taken; cut = t.cut; good = begun t.taken t.good; same = λ q more f. ap (λ z. both_of make z h') (t.same q more f); deep = λ q. deep t.taken y.1 (t.deep q) }
+
+-- where nothing is taken and nothing is too deep
+told_none : {A : Type 0} {M : Spelling A} {B : List Tok → Type 0} {D : Place} {h : Reader A} {ts : List Tok} (x : Read A) → rest_of x ≡ ts → fault_of x ≡ misfit → Good M B [] x → Same h [] x → Told M B D h ts x
+told_none x r q good same = record { taken = []; cut = sym r; good = good; same = λ q. same; deep = λ p. let no : misfit ≡ too_deep = sym q ∙ p in cc }
 
 -- what goes over a limit takes as many tokens at least, and there are more
 pub over_takes : {A : Type 0} (n : ℕ) (ts : List Tok) (x : Read A) → goes_over n ts x ≡ true → (n < length ts) × (length (rest_of x) + n ≤ length ts)
@@ -168,6 +173,10 @@ module _ {N : Type 0} {Node : N → Type 0} (facts : N → Facts) (body : Bodies
 
   begun_as : {A : Type 0} (f : Form N Node A) (xs ys zs : List Tok) → xs ≡ ys ++ zs → Begun body f xs → Begun body f ys
   begun_as f xs ys zs e (a, others, x) = (a, zs ++ others, subst (SpellsBy (Spells body) unlimited f a []) (ap (λ v. v ++ others) e ∙ append_assoc ys zs others) x)
+
+  pub told_begun : (o : Option Limits) {A : Type 0} (f : Form N Node A) → Decided facts f → (x : Read A) (xs : List Tok) → Good (SpellsBy (Spells body) (under o) f) (Begun body f) xs x → Begun body f xs
+  told_begun o f d (Ok (a, r)) xs m = (a, [], subst (SpellsBy (Spells body) unlimited f a []) (sym (append-nil xs)) (form_alone facts body sure unlimited f d a r xs (form_free body (under o) f a r xs m)))
+  told_begun o f d (Err x) xs b = b
 
   abbrev pub ToldAs : Option Limits → {A : Type 0} → Form N Node A → List Tok → Read A → Type 0
   ToldAs o f ts x = Told (SpellsBy (Spells body) (under o) f) (Begun body f) (Deep o f) (plain f) ts x
@@ -214,7 +223,7 @@ module _ {N : Type 0} {Node : N → Type 0} (facts : N → Facts) (body : Bodies
       (told_first T
       (λ q. told_as (λ a r xs q c m. m) (λ xs r c b. (b.0.0 ∷ b.0.1, b.1, b.2)) (λ xs r c q. deep_as o (f ⨾ many T f) (many T f) xs xs r r (λ of x. turn_passes of (under o) T f xs r x) q)
       (told_pair (λ a others. a ∷ others) (SpellsBy (Spells body) (under o) (many T f)) o f (many T f) d (d, (h, p)) refl ts (λ a others r xs x. x) t u))
-      (λ q. record { taken = []; cut = refl; what = (refl, λ more f. refl) })))
+      (λ q. told_none (ret [] ts) refl refl refl (λ more f. refl))))
 
   -- ---- the first tokens of more
 
@@ -236,14 +245,9 @@ module _ {N : Type 0} {Node : N → Type 0} (facts : N → Facts) (body : Bodies
       let back : drop n ts ≡ drop n xs ++ r = ap (drop n) t.cut ∙ drop-append-le n xs r l in
       let all : take n xs ++ drop n xs ≡ xs = take-append-drop n xs in
       let line : ts ≡ take n xs ++ (drop n xs ++ r) = t.cut ∙ ap (λ v. v ++ r) (sym all) ∙ append_assoc (take n xs) (drop n xs) r in
-      rw (front, back) (one_more f n (take n xs) (drop n xs) r (length-take-le n xs l) (omega (arith, p.0, ap length line)) (subst (Begun body f) (sym all) (begun (plain f ts) xs t.what))
+      rw (front, back) (one_more f n (take n xs) (drop n xs) r (length-take-le n xs l) (omega (arith, p.0, ap length line)) (subst (Begun body f) (sym all) (told_begun None f d (plain f ts) xs t.good))
       (λ z a x. stopped (plain f ts) refl a (take n xs) (length-take-le n xs l) (line ∙ ap (λ v. take n xs ++ (v ++ r)) z) (form_firm facts body sure A f d a (take n xs) r x)))
     where
-      begun : (x : Read A) (xs : List Tok) → What (Has facts body sure f) (Begun body f) (Deep None f) (plain f) xs x → Begun body f xs
-      begun (Ok (a, r)) xs (m, k) = (a, [], subst (SpellsBy (Spells body) unlimited f a []) (sym (append-nil xs)) (form_alone facts body sure unlimited f d a r xs m))
-      begun (Err (misfit, r)) xs (b, k) = b
-      begun (Err (too_deep, r)) xs (b, _) = b
-
       stopped : (x : Read A) → plain f ts ≡ x → (a : A) (ys : List Tok) → length ys ≡ n → ts ≡ ys ++ rest_of x → (plain f (ys ++ rest_of x) ≡ Ok (a, rest_of x)) ⊎ (length (rest_of (plain f (ys ++ rest_of x))) < length (rest_of x)) → ⊥
       stopped (Ok x) e a ys l c k = let over = ltb-true (length x.1 + n) (length ts) (ap (goes_over n ts) (sym e) ∙ o) in omega (arith, over, l, ap length c, length-append ys x.1)
       stopped (Err x) e a ys l c (inl k) = let no : ◌≡◌ {A = Read A} (Err x) (Ok (a, x.1)) = sym e ∙ ap (plain f) c ∙ k in cc
@@ -262,7 +266,7 @@ module _ {N : Type 0} {Node : N → Type 0} (facts : N → Facts) (body : Bodies
           few a r xs e q c = let p = ltb-false (length r + n) (length ts) (ap (goes_over n ts) (sym q) ∙ e) in omega (arith, length-append xs r, ap length c, p)
 
           at : (b : Bool) → goes_over n ts (plain f ts) ≡ b → Told (λ a r xs. (length xs ≤ n) × Has facts body sure f a r xs) (Begun body (bounded f)) (Deep (Some limits) (bounded f)) (plain f) ts (cond b (Err (too_deep, drop n ts)) (plain f ts))
-          at true e = let p = too_many n A f d ts t e in record { taken = take n ts; cut = sym (take-append-drop n ts); what = ((p.0.0, p.0.1, (tt, p.0.2)), k (take n ts) (drop n ts) p.1) }
+          at true e = let p = too_many n A f d ts t e in record { taken = take n ts; cut = sym (take-append-drop n ts); good = (p.0.0, p.0.1, (tt, p.0.2)); same = λ q. cc; deep = λ q. k (take n ts) (drop n ts) p.1 }
           at false e = told_as (λ a r xs q c m. (few a r xs e q c, m)) (λ xs r c b. (b.0, b.1, (tt, b.2))) (λ xs r c p. absurd p) t
 
   told_nest : (o : Option Limits) (m : ℕ) (T : Kinds) (A : Type 0) (f : Form N Node A) → Decided facts (nest m T f) → (ts : List Tok) → ToldAt o A f ts → ToldAt o A (nest m T f) ts
@@ -278,8 +282,8 @@ module _ {N : Type 0} {Node : N → Type 0} (facts : N → Facts) (body : Bodies
 
       go : (b : Bool) → is_above (under o).depth m ≡ b → (c : Bool) → sees T ts ≡ c
           → Told (SpellsBy (Spells body) (under o) (nest m T f)) (Begun body (nest m T f)) (Deep o (nest m T f)) (plain f) ts (cond b (cond c (Err (too_deep, ts)) (Err (misfit, ts))) (reading body o f ts))
-      go true q true s = record { taken = []; cut = refl; what = (begun, deep o q s) }
-      go true q false s = record { taken = []; cut = refl; what = (begun, λ more e. form_idle facts body sure f d h.0 more (sees_none (begins facts f) T more h.1.0 (sees_alike T more ts e ∙ s))) }
+      go true q true s = record { taken = []; cut = refl; good = begun; same = λ q. cc; deep = λ z. deep o q s }
+      go true q false s = told_none (Err (misfit, ts)) refl refl begun (λ more e. form_idle facts body sure f d h.0 more (sees_none (begins facts f) T more h.1.0 (sees_alike T more ts e ∙ s)))
       go false q c s = told_as (λ a r xs z c x. (at_most (under o).depth m q, x)) (λ xs r c b. (b.0, b.1, (tt, b.2))) (λ xs r c p. deep_as o f (nest m T f) xs xs r r (λ of y. inl (at_most (under o).depth m q, y)) p) x
 
   -- the first two tokens are not those that may not come
@@ -295,16 +299,16 @@ module _ {N : Type 0} {Node : N → Type 0} (facts : N → Facts) (body : Bodies
 
   second_refused : (T U : Kinds) (A : Type 0) (f : Form N Node A) (M : Spelling A) (D : Place) → Decided facts (avoid T U f) → (ts : List Tok) → sees_two T U ts ≡ true → Told M (Begun body (avoid T U f)) D second_unexpected ts (second_unexpected ts)
   second_refused T U A f M D d [] seen = cc
-  second_refused T U A f M D d (t ∷ ts) seen = record { taken = t ∷ []; cut = refl; what = (goes_on_so facts body sure T U A f d t (both (is T t) (sees U ts) seen).0, λ more e. refl) }
+  second_refused T U A f M D d (t ∷ ts) seen = record { taken = t ∷ []; cut = refl; good = goes_on_so facts body sure T U A f d t (both (is T t) (sees U ts) seen).0; same = λ q more e. refl; deep = λ q. cc }
 
   told : (o : Option Limits) (A : Type 0) (f : Form N Node A) → Decided facts f → (ts : List Tok) → PartsOf body ToldAt o A f ts → ToldAt o A f ts
   told o A (token T g) d ts x = go ts (sees T ts) refl
     where
       go : (ts : List Tok) (b : Bool) → sees T ts ≡ b → ToldAt o A (token T g) ts
-      go ts false q = rw (none_taken T g ts q) (record { taken = []; cut = refl; what = (begun_none (token T g) d, λ more f. none_taken T g more (sees_alike T more ts f ∙ q)) })
+      go ts false q = rw (none_taken T g ts q) (told_none (Err (misfit, ts)) refl refl (begun_none (token T g) d) (λ more f. none_taken T g more (sees_alike T more ts f ∙ q)))
       go [] true q = cc
-      go (t ∷ ts) true q = subst (λ b. ToldAs o (token T g) (t ∷ ts) (taken b g t ts)) (sym q) (record { taken = t ∷ []; cut = refl; what = ((t, refl, q, refl), λ more f. ap (λ b. taken b g t more) q) })
-  told o A (give a) d ts x = record { taken = []; cut = refl; what = ((refl, refl), λ more f. refl) }
+      go (t ∷ ts) true q = subst (λ b. ToldAs o (token T g) (t ∷ ts) (taken b g t ts)) (sym q) (record { taken = t ∷ []; cut = refl; good = (t, refl, q, refl); same = λ z more f. ap (λ b. taken b g t more) q; deep = λ z. cc })
+  told o A (give a) d ts x = told_none (ret a ts) refl refl (refl, refl) (λ more f. refl)
   told o A (call n) d ts x =
       rw (read_is facts body sure (under o) n ts) (told_with (λ xs r more c k e. read_is facts body sure unlimited n (xs ++ more))
       (told_as (λ a r xs q c m. spells_body body (under o) n a r xs m) (λ xs r c b. (b.0, b.1, spells_body body unlimited n b.0 [] (xs ++ b.1) b.2)) (λ xs r c p. deep_body o n xs r p) x))
@@ -316,7 +320,7 @@ module _ {N : Type 0} {Node : N → Type 0} (facts : N → Facts) (body : Bodies
   told o A (many {A = B} T f) d ts (x, y) = told_many o T f d ts (x ts (omega arith)) y
   told o A (or_none T f a) d ts x =
       told_first T (λ q. told_as (λ a r xs q c m. inl m) (λ xs r c b. (b.0, b.1, inl b.2)) (λ xs r c p. deep_as o f (or_none T f a) xs xs r r (λ of x. x) p) x)
-      (λ q. record { taken = []; cut = refl; what = (inr (refl, refl, q), λ more f. refl) })
+      (λ q. told_none (ret a ts) refl refl (inr (refl, refl, q)) (λ more f. refl))
   told o A (nest m T f) d ts x = told_nest o m T A f d ts x
   told o A (bounded f) (d, n) ts x = tokens_over o A f d ts x
   told o A (two_ahead T U f g) (d, (d', (h, (p, (n, k))))) ts (x, y) =
@@ -338,3 +342,11 @@ module _ {N : Type 0} {Node : N → Type 0} (facts : N → Facts) (body : Bodies
 
   pub form_told : (o : Option Limits) (A : Type 0) (f : Form N Node A) → Decided facts f → (ts : List Tok) → ToldAt o A f ts
   form_told o A f d ts = by_reading facts body sure ToldAt told o A f d ts
+
+  -- without limits no token is too deep
+  pub stays : (A : Type 0) (f : Form N Node A) → Decided facts f → (ts : List Tok) → fault_of (run (read body) unlimited f ts) ≡ misfit
+  stays A f d ts = go (fault_of (plain f ts)) (form_told None A f d ts).deep
+    where
+      go : (y : Fault) → (y ≡ too_deep → ⊥) → y ≡ misfit
+      go misfit k = refl
+      go too_deep k = absurd (k refl)

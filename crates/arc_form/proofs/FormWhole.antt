@@ -1,6 +1,7 @@
 -- All of the tokens: what is read of them is what they spell, and each refusal says where and why they spell nothing.
 use Rattle.std.proofs.Common.{◌≡◌, inl, inr, ℕ, zero, suc, ◌<◌, ◌≤◌, ◌+◌, List, [], ◌∷◌, ◌++◌, length, length-append, append_assoc, append-nil, drop, nat_lt, Ok, Err, Bool, true, false, ◌&&◌, Option, Some, None, refl, sym, ap, subst, ◌∙◌, arith}
-use Rattle.std.proofs.lemmas.Bool.{ltb-false, lt-ltb}
+use Rattle.std.proofs.lemmas.Bool.{ltb-false}
+use Rattle.std.proofs.lemmas.Bool.Decides.{nat_tests}
 use Rattle.std.proofs.Math.Seq.{drop-append_seam}
 use Rattle.arc_lex.specs.Tokens.{Tok}
 use Rattle.arc_form.specs.Kinds.{Kinds}
@@ -17,7 +18,7 @@ use Rattle.arc_form.proofs.FormHeights.{form_free}
 use Rattle.arc_form.proofs.FormBegins.{Positive, deep_begins, deep_second}
 use Rattle.arc_form.proofs.FormStarts.{form_alone, Starts, start_all, head_starts, spells_starts}
 use Rattle.arc_form.proofs.FormFirm.{nested_fits, form_complete}
-use Rattle.arc_form.proofs.FormTold.{Told, What, Same, form_told}
+use Rattle.arc_form.proofs.FormTold.{Told, Same, told_begun, form_told, stays}
 
 -- of two fronts of a list, the longer one goes on from the other
 longer : (b s c r : List Tok) → b ++ s ≡ c ++ r → length b ≤ length c → (m : List Tok) × (c ≡ b ++ m) × (s ≡ m ++ r)
@@ -29,9 +30,23 @@ longer (t ∷ b) s (u ∷ c) r e p =
     let q = longer b s c r tails (omega (arith, p)) in
     (q.0, ap (λ v. v ∷ c) (sym same) ∙ ap (λ v. t ∷ v) q.1, q.2)
 
+not_over : (n k l : ℕ) → n < l → (nat_lt n l && nat_lt (k + n) (suc l)) ≡ false → l < k + n
+not_over n k l p e = grind (arith, nat_tests)
+
 -- one answer is another
 ok_is : {A : Type 0} {a b : A} {r s : List Tok} → ret a r ≡ Ok (b, s) → (a ≡ b) × (r ≡ s)
 ok_is {A} {a} {b} {r} {s} e = let p : (a, r) ≡ (b, s) = cc in (ap (λ (x : A × List Tok). x.0) p, ap (λ (x : A × List Tok). x.1) p)
+
+-- what is read to the end, and what is not
+end_ok : {A : Type 0} (x : Read A) (a : A) (r : List Tok) → bind x end ≡ Ok (a, r) → x ≡ Ok (a, [])
+end_ok (Ok (b, [])) a r e = ap (λ b. Ok (b, [])) (ok_is e).0
+end_ok (Ok (b, u ∷ s)) a r e = cc
+end_ok (Err x) a r e = cc
+
+end_not : {A : Type 0} (x : Read A) (y : Fault) (rest : List Tok) → bind x end ≡ Err (y, rest) → (rest_of x ≡ rest) × (fault_of x ≡ y) × ((a : A) → x ≡ Ok (a, []) → ⊥)
+end_not (Ok (b, [])) y rest e = cc
+end_not {A} (Ok (b, u ∷ s)) y rest e = (ap (λ (z : Read A). rest_of z) e, ap (λ (z : Read A). fault_of z) e, λ a z. let no = (ok_is z).1 in cc)
+end_not {A} (Err x) y rest e = (ap (λ (z : Read A). rest_of z) e, ap (λ (z : Read A). fault_of z) e, λ a z. cc)
 
 module _ {N : Type 0} {Node : N → Type 0} (facts : N → Facts) (body : Bodies N Node) (sure : (n : N) → Fits facts body n) where
   module _ (A : Type 0) (f : Form N Node A) (d : Decided facts f) where
@@ -47,13 +62,9 @@ module _ {N : Type 0} {Node : N → Type 0} (facts : N → Facts) (body : Bodies
     -- what is read is spelled, within the limits
     pub whole_within : (limits : Limits) (ts : List Tok) (a : A) (r : List Tok) → read_whole body limits f ts ≡ Ok (a, r) → SpellsWhole body limits f a ts
     unfolding read_whole
-    whole_within limits ts a r e = go (limited limits ts) (form_told facts body sure (Some limits) A f d ts) e
-      where
-        go : (x : Read A) → ToldSo limits ts x → bind x end ≡ Ok (a, r) → SpellsWhole body limits f a ts
-        go (Ok (b, [])) t e =
-            subst (λ b. SpellsWhole body limits f b ts) (ok_is e).0 (subst (SpellsWhole body limits f b) (sym (t.cut ∙ append-nil t.taken)) t.what.0)
-        go (Ok (b, t ∷ s)) told e = cc
-        go (Err x) t e = cc
+    whole_within limits ts a r e =
+        let t = subst (ToldSo limits ts) (end_ok (limited limits ts) a r e) (form_told facts body sure (Some limits) A f d ts) in
+        subst (SpellsWhole body limits f a) (sym (t.cut ∙ append-nil t.taken)) t.good
 
     -- and without them
     pub whole_spelled : (limits : Limits) (ts : List Tok) (a : A) (r : List Tok) → read_whole body limits f ts ≡ Ok (a, r) → SpellsWhole body unlimited f a ts
@@ -78,39 +89,26 @@ module _ {N : Type 0} {Node : N → Type 0} (facts : N → Facts) (body : Bodies
     -- a token that does not fit, or the end
     pub whole_misfit : (limits : Limits) (ts rest : List Tok) → read_whole body limits f ts ≡ Err (misfit, rest) → (before : List Tok) × (ts ≡ before ++ rest) × FitsNone body f before rest
     unfolding read_whole
-    whole_misfit limits ts rest e = go (limited limits ts) (form_told facts body sure (Some limits) A f d ts) e
-      where
-        told : (x : Read A) (xs : List Tok) → rest_of x ≡ rest → ts ≡ xs ++ rest_of x → Begun body f xs → Same (limited unlimited) xs x → ((a : A) → x ≡ Ok (a, []) → ⊥) → (before : List Tok) × (ts ≡ before ++ rest) × FitsNone body f before rest
-        told x xs q c b same whole = (xs, c ∙ ap (λ v. xs ++ v) q, (b, λ others a h m. no_more xs x same whole others a (h ∙ ap first (sym q)) m))
-
-        go : (x : Read A) → ToldSo limits ts x → bind x end ≡ Err (misfit, rest) → (before : List Tok) × (ts ≡ before ++ rest) × FitsNone body f before rest
-        go (Ok (b, [])) t e = cc
-        go (Ok (b, u ∷ s)) t e =
-            let x = form_alone facts body sure unlimited f d b (u ∷ s) t.taken (form_free body limits f b (u ∷ s) t.taken t.what.0) in
-            let same : u ∷ s ≡ rest = ap (λ (z : Read A). rest_of z) e in
-            told (Ok (b, u ∷ s)) t.taken same t.cut (b, [], subst (SpellsWhole body unlimited f b) (sym (append-nil t.taken)) x) t.what.1 (λ a z. cc)
-        go (Err (misfit, r)) t e = let same : r ≡ rest = ap (λ (z : Read A). rest_of z) e in told (Err (misfit, r)) t.taken same t.cut t.what.0 t.what.1 (λ a z. cc)
-        go (Err (too_deep, r)) t e = let no : too_deep ≡ misfit = ap (λ (z : Read A). fault_of z) e in cc
+    whole_misfit limits ts rest e =
+        let x = limited limits ts in
+        let p = end_not x misfit rest e in
+        let t = form_told facts body sure (Some limits) A f d ts in
+        (t.taken, t.cut ∙ ap (λ v. t.taken ++ v) p.0, (told_begun facts body sure (Some limits) f d x t.taken t.good, λ others a h m. no_more t.taken x (t.same p.1) p.2 others a (h ∙ ap first (sym p.0)) m))
 
     -- a token that passes a limit: without limits something goes on with what is before it
     pub whole_too_deep : (limits : Limits) (ts rest : List Tok) → read_whole body limits f ts ≡ Err (too_deep, rest) → (before : List Tok) × (ts ≡ before ++ rest) × Passes body limits f before rest × Begun body f before
     unfolding read_whole
-    whole_too_deep limits ts rest e = go (limited limits ts) (form_told facts body sure (Some limits) A f d ts) e
-      where
-        fault : {r : List Tok} → ◌≡◌ {A = Read A} (Err (misfit, r)) (Err (too_deep, rest)) → ⊥
-        fault e = let no : misfit ≡ too_deep = ap (λ (z : Read A). fault_of z) e in cc
-
-        go : (x : Read A) → ToldSo limits ts x → bind x end ≡ Err (too_deep, rest) → (before : List Tok) × (ts ≡ before ++ rest) × Passes body limits f before rest × Begun body f before
-        go (Ok (b, [])) t e = cc
-        go (Ok (b, u ∷ s)) t e = absurd (fault e)
-        go (Err (misfit, r)) t e = absurd (fault e)
-        go (Err (too_deep, r)) t e = let same : r ≡ rest = ap (λ (z : Read A). rest_of z) e in (t.taken, t.cut ∙ ap (λ v. t.taken ++ v) same, subst (Passes body limits f t.taken) same t.what.1, t.what.0)
+    whole_too_deep limits ts rest e =
+        let x = limited limits ts in
+        let p = end_not x too_deep rest e in
+        let t = form_told facts body sure (Some limits) A f d ts in
+        (t.taken, t.cut ∙ ap (λ v. t.taken ++ v) p.0, subst (Passes body limits f t.taken) p.0 (t.deep p.1), told_begun facts body sure (Some limits) f d x t.taken t.good)
 
   -- ---- where a limit is passed, a form refuses the token there
 
   -- a form goes over a limit where one token is too many
   goes_over_there : (n : ℕ) (A : Type 0) (f : Form N Node A) → Decided facts f → (before : List Tok) (t : Tok) (r : List Tok) → OneTooMany body (Some n) f before (t ∷ r) → goes_over n (before ++ t ∷ r) (run (read body) unlimited f (before ++ t ∷ r)) ≡ true
-  goes_over_there n A f d before t r (l, (a, others, y), whole) = go (goes_over n ts (run (read body) unlimited f ts)) refl (form_told facts body sure None A f d ts)
+  goes_over_there n A f d before t r (l, (a, others, y), whole) = go (goes_over n ts (run (read body) unlimited f ts)) refl
     where
       ts : List Tok
       ts = before ++ t ∷ r
@@ -129,19 +127,18 @@ module _ {N : Type 0} {Node : N → Type 0} (facts : N → Facts) (body : Bodies
           on [] e z = let b = k (e ∙ append-nil xs) in no_more A f d xs x same (λ a w. some z w) (t ∷ b.1) b.0 (sym (ap first z)) (subst (SpellsWhole body unlimited f b.0) (append_assoc before (t ∷ []) b.1 ∙ ap (λ v. v ++ t ∷ b.1) (e ∙ append-nil xs)) b.2)
           on (u ∷ m) e z = no_more A f d xs x same (λ a w. some z w) (u ∷ (m ++ others)) a (sym (ap first z)) (subst (SpellsWhole body unlimited f a) (ap (λ v. v ++ others) e ∙ append_assoc xs (u ∷ m) others) y)
 
-      at : (x : Read A) (xs : List Tok) → ts ≡ xs ++ rest_of x → goes_over n ts x ≡ false → What (SpellsBy (Spells body) unlimited f) (Begun body f) (λ b r. ⊥) (run (read body) unlimited f) xs x → ⊥
-      at (Ok (b, s)) xs c e (m, k) =
+      at : (x : Read A) → Told (SpellsBy (Spells body) unlimited f) (Begun body f) (λ b r. ⊥) (run (read body) unlimited f) ts x → fault_of x ≡ misfit → goes_over n ts x ≡ false → ⊥
+      at (Ok (b, s)) u z e =
           let p = ltb-false (length s + n) (length ts) e in
-          stops xs (Ok (b, s)) c (omega (arith, p, ap length c, length-append xs s)) (λ z. whole b (subst (SpellsWhole body unlimited f b) (sym z) (form_alone facts body sure unlimited f d b s xs m))) k
-      at (Err (misfit, s)) xs c e (b, k) =
-          let p = ltb-false (length s + n) (suc (length ts)) (ap (λ b. b && nat_lt (length s + n) (suc (length ts))) (sym (lt-ltb n (length ts) (omega (arith, all)))) ∙ e) in
-          let few : length xs < n = omega (arith, p, ap length c, length-append xs s) in
-          stops xs (Err (misfit, s)) c (omega (arith, few)) (λ z. absurd (omega (arith, few, ap length z))) k
-      at (Err (too_deep, s)) xs c e (b, z) = z
+          stops u.taken (Ok (b, s)) u.cut (omega (arith, p, ap length u.cut, length-append u.taken s)) (λ z. whole b (subst (SpellsWhole body unlimited f b) (sym z) (form_alone facts body sure unlimited f d b s u.taken u.good))) (u.same z)
+      at (Err (y, s)) u z e =
+          let p = not_over n (length s) (length ts) (omega (arith, all)) e in
+          let few : length u.taken < n = omega (arith, p, ap length u.cut, length-append u.taken s) in
+          stops u.taken (Err (y, s)) u.cut (omega (arith, few)) (λ z. absurd (omega (arith, few, ap length z))) (u.same z)
 
-      go : (b : Bool) → goes_over n ts (run (read body) unlimited f ts) ≡ b → Told (SpellsBy (Spells body) unlimited f) (Begun body f) (λ b r. ⊥) (run (read body) unlimited f) ts (run (read body) unlimited f ts) → b ≡ true
-      go true e u = refl
-      go false e u = absurd (at (run (read body) unlimited f ts) u.taken u.cut e u.what)
+      go : (b : Bool) → goes_over n ts (run (read body) unlimited f ts) ≡ b → b ≡ true
+      go true e = refl
+      go false e = absurd (at (run (read body) unlimited f ts) (form_told facts body sure None A f d ts) (stays facts body sure A f d ts) e)
 
   bounded_there : (most : Option ℕ) (A : Type 0) (f : Form N Node A) → Decided facts f → (before r : List Tok) → OneTooMany body most f before r → up_to most (run (read body) unlimited f) (before ++ r) ≡ Err (too_deep, r)
   unfolding up_to

@@ -1,5 +1,5 @@
 -- What is read of the tokens up to a limit and one more decides what is read of so many tokens at most.
-use Rattle.std.proofs.Common.{◌≡◌, ℕ, zero, suc, ◌<◌, ◌≤◌, ◌-◌, List, [], ◌∷◌, ◌++◌, length, length-append, take, drop, Ok, Err, Bool, true, false, Some, None, refl, sym, ap, subst, ◌∙◌, arith}
+use Rattle.std.proofs.Common.{◌≡◌, ℕ, zero, suc, ◌<◌, ◌≤◌, ◌-◌, List, [], ◌∷◌, ◌++◌, length, length-append, take, drop, Ok, Err, Bool, true, false, Some, None, refl, sym, ap, ◌∙◌, arith}
 use Rattle.std.proofs.lemmas.Bool.{ltb-false}
 use Rattle.std.proofs.lemmas.Bool.Decides.{nat_tests}
 use Rattle.std.proofs.lemmas.List.{length-take}
@@ -8,11 +8,9 @@ use Rattle.arc_lex.specs.declared.token.Token.{Token}
 use Rattle.arc_lex.specs.Tokens.{Tok, tok, toks}
 use Rattle.arc_form.specs.Reader.{Read, Reader, Fault, misfit, too_deep, first, goes_over, up_to}
 use Rattle.arc_form.specs.Form.{unlimited, Form, Bodies, run, read}
-use Rattle.arc_form.specs.Meaning.{SpellsBy, Spells}
-use Rattle.arc_form.specs.Places.{Begun}
 use Rattle.arc_form.proofs.Static.{Facts, Decided, Fits}
-use Rattle.arc_form.proofs.Local.{rest_of, put}
-use Rattle.arc_form.proofs.FormTold.{Same, What, Told, form_told}
+use Rattle.arc_form.proofs.Local.{rest_of, fault_of, put}
+use Rattle.arc_form.proofs.FormTold.{Same, form_told, stays}
 
 -- f takes tokens, and gives this answer of all lists that are the same up to the token at which it stops
 pub record Stops {A : Type 0} (f : Reader A) (ts : List Tok) : Type 0 where
@@ -26,17 +24,11 @@ module _ {N : Type 0} {Node : N → Type 0} (facts : N → Facts) (body : Bodies
 
   -- a form without limits stops so
   pub form_stops : (ts : List Tok) → Stops plain ts
-  form_stops ts = let t = form_told facts body sure None A f d ts in record { before = t.taken; cut = t.cut; same = go (plain ts) t.taken t.what }
-    where
-      go : (x : Read A) (xs : List Tok) → What (SpellsBy (Spells body) unlimited f) (Begun body f) (λ b r. ⊥) plain xs x → Same plain xs x
-      go (Ok x) xs w = w.1
-      go (Err (misfit, r)) xs w = w.1
-      go (Err (too_deep, r)) xs w = absurd w.1
+  form_stops ts = let t = form_told facts body sure None A f d ts in record { before = t.taken; cut = t.cut; same = t.same (stays facts body sure A f d ts) }
 
   -- no token is too deep in it
   pub never_deep : (ts r : List Tok) (y : Fault) → plain ts ≡ Err (y, r) → y ≡ misfit
-  never_deep ts r misfit e = refl
-  never_deep ts r too_deep e = absurd (subst (Told (SpellsBy (Spells body) unlimited f) (Begun body f) (λ b r. ⊥) plain ts) e (form_told facts body sure None A f d ts)).what.1
+  never_deep ts r y e = sym (ap (λ (x : Read A). fault_of x) e) ∙ stays facts body sure A f d ts
 
 first_take : (k : ℕ) (ts : List Tok) → first (take (suc k) ts) ≡ first ts
 first_take k [] = refl
