@@ -1,5 +1,5 @@
 -- Each form spells something.
-use Rattle.std.proofs.Common.{◌≡◌, ◌⊎◌, inl, inr, List, [], ◌∷◌, ◌++◌, append-nil, Bool, true, false, not, ◌&&◌, ◌||◌, refl, sym, ap, subst, ◌∙◌}
+use Rattle.std.proofs.Common.{arith, ◌≡◌, ◌⊎◌, inl, inr, List, [], ◌∷◌, ◌++◌, append-nil, Bool, true, false, not, ◌&&◌, ◌||◌, refl, sym, ap, subst, ◌∙◌}
 use Rattle.arc_lex.specs.Tokens.{Tok}
 use Rattle.arc_form.specs.Kinds.{Kinds, is}
 use Rattle.arc_form.specs.Reader.{sees}
@@ -13,21 +13,10 @@ use Rattle.arc_form.proofs.FormStarts.{Starts, Fair, starts, some_starts, spells
 
 -- of two tests of which one says enough, or both must pass
 or_here : (b c d : Bool) → (b || (c && d)) ≡ true → ((b || c) ≡ true) × ((b || d) ≡ true)
-or_here true c d e = (refl, refl)
-or_here false c d e = both c d e
-
-or_so : (n b : Bool) → n ≡ false → (n || b) ≡ true → b ≡ true
-or_so n b z h = cc
-
-or_false : (b : Bool) → (b || false) ≡ true → b ≡ true
-or_false true e = refl
-or_false false e = e
+or_here b c d e = grind arith
 
 choice : (b s n t : Bool) → (b || (s || (not n && t))) ≡ true → ((b || s) ≡ true) ⊎ ((n ≡ false) × ((b || t) ≡ true))
-choice true s n t e = inl refl
-choice false true n t e = inl refl
-choice false false true t e = cc
-choice false false false t e = inr (refl, e)
+choice b s n t e = grind arith
 
 clear : (b : Bool) (B T : Kinds) (ys : List Tok) → (b || apart B T) ≡ true → (b ≡ true → ys ≡ []) → Starts b T ys → sees B ys ≡ false
 clear true B T ys p z s = ap (sees B) (z refl)
@@ -80,37 +69,29 @@ module _ {N : Type 0} {Node : N → Type 0} (facts : N → Facts) (body : Bodies
   example true k A (avoid T U f) d e = (k refl).avoided T U A f d
   example false k A (avoid T U f) d e = cc
 
-  nothing : (A : Type 0) (f : Form N Node A) → nullable facts f ≡ true → (a : A) × Has f a [] []
-  nothing A (give a) n = (a, (refl, refl))
-  nothing A (map {A = B} h f) n = let x = nothing B f n in (h x.0, (x.0, refl, x.1))
-  nothing A (◌⨾◌ {A = B} {B = C} f g) n = let p = both (nullable facts f) (nullable facts g) n in let x = nothing B f p.0 in let y = nothing C g p.1 in ((x.0, y.0), ([], [], refl, x.1, y.1))
-  nothing A (choose T f g) n = let x = nothing A g n in (x.0, inr x.1)
-  nothing A (many T f) n = ([], refl)
-  nothing A (or_none T f a) n = (a, inr (refl, refl, refl))
-  nothing A f n = cc
-
   -- a token of those that are a form by themselves
-  one_alone : (A : Type 0) (f : Form N Node A) (t : Tok) → is (alone facts f) t ≡ true → (a : A) × Has f a [] (t ∷ [])
-  one_alone A (token T g) t i = (g t, (t, refl, i, refl))
-  one_alone A (map {A = B} h f) t i = let x = one_alone B f t i in (h x.0, (x.0, refl, x.1))
-  one_alone A (◌⨾◌ {A = B} {B = C} f g) t i = go (nullable facts g) i (nothing C g) (one_alone B f t)
+  one_alone : (A : Type 0) (f : Form N Node A) → Decided facts f → (t : Tok) → is (alone facts f) t ≡ true → (a : A) × Has f a [] (t ∷ [])
+  one_alone A (token T g) d t i = (g t, (t, refl, i, refl))
+  one_alone A (map {A = B} h f) d t i = let x = one_alone B f d t i in (h x.0, (x.0, refl, x.1))
+  one_alone A (◌⨾◌ {A = B} {B = C} f g) (d, (d', o)) t i = go (nullable facts g) (simple facts g) i (example false (λ z. cc) C g d') (one_alone B f d t)
     where
-      go : (n : Bool) → is (if_so n (alone facts f)) t ≡ true → (n ≡ true → (c : C) × Has g c [] []) → (is (alone facts f) t ≡ true → (b : B) × Has f b [] (t ∷ [])) → (a : B × C) × Has (f ⨾ g) a [] (t ∷ [])
-      go true i y x = let u = x i in let v = y refl in ((u.0, v.0), (t ∷ [], [], refl, u.1, v.1))
-      go false i y x = cc
-  one_alone A (choose T f g) t i = go (is (alone facts f) t) refl i (one_alone A f t) (one_alone A g t)
+      go : (n s : Bool) → is (if_so (n && s) (alone facts f)) t ≡ true → (s ≡ true → (c : C) × (xs : List Tok) × (n ≡ true → xs ≡ []) × Has g c [] xs) → (is (alone facts f) t ≡ true → (b : B) × Has f b [] (t ∷ [])) → (a : B × C) × Has (f ⨾ g) a [] (t ∷ [])
+      go true true i y x = let u = x i in let v = y refl in ((u.0, v.0), (t ∷ [], [], refl, u.1, subst (Has g v.0 []) (v.2 refl) v.3))
+      go true false i y x = cc
+      go false s i y x = cc
+  one_alone A (choose T f g) (d, (d', o)) t i = go (is (alone facts f) t) refl i (one_alone A f d t) (one_alone A g d' t)
     where
       go : (b : Bool) → is (alone facts f) t ≡ b → (b || is (alone facts g) t) ≡ true → (is (alone facts f) t ≡ true → (a : A) × Has f a [] (t ∷ [])) → (is (alone facts g) t ≡ true → (a : A) × Has g a [] (t ∷ [])) → (a : A) × Has (choose T f g) a [] (t ∷ [])
       go true q i x y = let u = x q in (u.0, inl u.1)
       go false q i x y = let u = y i in (u.0, inr u.1)
-  one_alone A (bounded f) t i = let x = one_alone A f t i in (x.0, (tt, x.1))
-  one_alone A f t i = cc
+  one_alone A (bounded f) (d, o) t i = let x = one_alone A f d t i in (x.0, (tt, x.1))
+  one_alone A f d t i = cc
 
   -- the token goes on to something, and not by a token of U
   other_second : (T U : Kinds) (A : Type 0) (f : Form N Node A) → Decided facts f → Holds (parts facts T U f) → (t : Tok) → is T t ≡ true → (a : A) × (others : List Tok) × (sees U others ≡ false) × Has f a [] (t ∷ others)
   other_second T U A (map {A = B} h f) d e t i = let x = other_second T U B f d e t i in (h x.0, x.1, x.2, (x.0, refl, x.3))
   other_second T U A (◌⨾◌ {A = B} {B = C} f g) (d, (d', (o, p))) (l, (m, (n, k))) t i =
-      let x = one_alone B f t (sees_among T (alone facts f) (t ∷ []) l i) in
+      let x = one_alone B f d t (sees_among T (alone facts f) (t ∷ []) l i) in
       let y = example false (λ z. cc) C g d' m in
       ((x.0, y.0), y.1, sees_other U (begins facts g) y.1 k (some_starts facts (Spells body) (spells_starts facts body sure) unlimited g d' n y.0 [] y.1 y.3), join f g d x.0 y.0 [] (t ∷ []) y.1 x.1 (not_barred f g d' p [] y) y.3)
   other_second T U A f d e t i = cc
@@ -132,5 +113,5 @@ module _ {N : Type 0} {Node : N → Type 0} (facts : N → Facts) (body : Bodies
   -- something begins with each first token of what has two heads
   pub with_head : (U : Kinds) (A : Type 0) (f : Form N Node A) → Decided facts f → Holds (second facts U f) → (t : Tok) → is (begins facts f) t ≡ true → (a : A) × (others : List Tok) × Has f a [] (t ∷ others)
   with_head U A (map {A = B} h f) d e t i = let x = with_head U B f d e t i in (h x.0, x.1, (x.0, refl, x.2))
-  with_head U A (◌⨾◌ {A = B} {B = C} (token V v) g) (s, (d, o)) e t i = let y = some_example C g d in ((v t, y.0), y.1, (t ∷ [], y.1, refl, (t, refl, or_false (is V t) i, refl), y.3))
+  with_head U A (◌⨾◌ {A = B} {B = C} (token V v) g) (s, (d, o)) e t i = let y = some_example C g d in ((v t, y.0), y.1, (t ∷ [], y.1, refl, (t, refl, grind (arith, i), refl), y.3))
   with_head U A f d e t i = cc

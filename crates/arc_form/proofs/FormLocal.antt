@@ -3,7 +3,6 @@ use Rattle.std.proofs.Common.{◌≡◌, ◌⊎◌, inl, inr, ℕ, zero, suc, �
 use Rattle.arc_lex.specs.Tokens.{Tok}
 use Rattle.arc_form.specs.Reader.{Read, Reader, loop, up_to, misfit, too_deep, ◌>>=◌, ret, sees, sees_two, is_above}
 use Rattle.arc_form.specs.Form.{Limits, unlimited, Form, Rules, Bodies, token, give, call, map, ◌⨾◌, choose, many, or_none, nest, bounded, two_ahead, avoid, run, deep, read}
-use Rattle.arc_form.proofs.Sets.{both}
 use Rattle.arc_form.proofs.Static.{Facts, nullable, guarded, Decided, Fits}
 use Rattle.arc_form.proofs.Local.{Alike, Takes, alike_less, alike_ret, alike_err, alike_then, alike_if, alike_token, alike_cut, turns_alike, nested_is, ok_left, all_left, rest_of}
 
@@ -26,30 +25,24 @@ some_need true e l = cc
 some_need false e l = l
 
 need_one : (b : Bool) → need b ≤ 1
-need_one true = omega arith
-need_one false = omega arith
+need_one b = grind arith
 
 need_both : (b c : Bool) → need (b && c) ≤ need b + (need c + 0)
-need_both true c = omega arith
-need_both false c = omega arith
+need_both b c = grind arith
 
 -- there are fewer than k tokens, or k, and a token is taken before any rule is read
 abbrev Room : ℕ → Bool → List Tok → Type 0
 Room k b ts = (length ts < k) ⊎ ((b ≡ true) × (length ts ≤ k))
 
 room_both : (k : ℕ) (b c : Bool) (ts : List Tok) → Room k (b && c) ts → Room k b ts × Room k c ts
-room_both k b c ts (inl p) = (inl p, inl p)
-room_both k b c ts (inr (q, p)) = let both_so = both b c q in (inr (both_so.0, p), inr (both_so.1, p))
+room_both k b c ts p = grind arith
 
 -- after a part that may be no token or not
 room_next : (k : ℕ) (b n : Bool) (ts s : List Tok) → Room k (not n || b) ts → need n + length s ≤ length ts → Room k b s
-room_next k b n ts s (inl p) le = inl (omega arith)
-room_next k b true ts s (inr (q, p)) le = inr (q, omega arith)
-room_next k b false ts s (inr (q, p)) le = inl (omega arith)
+room_next k b n ts s p le = grind arith
 
 fewer : (k : ℕ) (b : Bool) (ts us : List Tok) → length us ≤ length ts → Room k b ts → Room k b us
-fewer k b ts us le (inl p) = inl (omega arith)
-fewer k b ts us le (inr (e, p)) = inr (e, omega arith)
+fewer k b ts us le p = grind arith
 
 -- it holds of a form's parts, of the tokens of which they are read, and C of a rule
 abbrev pub OfParts : {N : Type 0} {Node : N → Type 0} → (Limits → Rules N Node) → (Option Limits → N → List Tok → Type 0) → Property N Node → Property N Node
@@ -93,8 +86,7 @@ module _ {N : Type 0} {Node : N → Type 0} (facts : N → Facts) where
     each o A (many {A = B} T f) (d, (h, q)) ts p = all (each o B f d) (suc (length ts)) ts (omega arith) p
       where
         taken : (b : Bool) → b ≡ false → (s us : List Tok) → need b + length s ≤ length us → length s < length us
-        taken true e s us le = cc
-        taken false e s us le = omega arith
+        taken b e s us le = grind arith
 
         all : ((us : List Tok) → Room k (guarded facts f) us → P o B f us) → (j : ℕ) (us : List Tok) → length us < j → Room k (guarded facts f) us → P o A (many T f) us
         all inside zero us r p = absurd (omega arith)

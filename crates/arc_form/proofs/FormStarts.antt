@@ -1,5 +1,5 @@
 -- How the tokens begin that a form spells, and before which others they spell the same.
-use Rattle.std.proofs.Common.{arith, ◌≡◌, ◌⊎◌, inl, inr, List, [], ◌∷◌, ◌++◌, Bool, true, false, not, ◌&&◌, refl, sym, ap, subst, ◌∙◌}
+use Rattle.std.proofs.Common.{arith, ◌≤◌, length, length-append, ◌≡◌, ◌⊎◌, inl, inr, List, [], ◌∷◌, ◌++◌, Bool, true, false, not, ◌&&◌, refl, sym, ap, subst, ◌∙◌}
 use Rattle.arc_lex.specs.Tokens.{Tok}
 use Rattle.arc_form.specs.Kinds.{Kinds, ◌∪◌, is}
 use Rattle.arc_form.specs.Reader.{first, sees, sees_second, sees_two}
@@ -66,37 +66,17 @@ fair_all M O B k (a ∷ others) r r' xs (ys, zs, e, x, y) q = (ys, zs, e, k a (z
     ahead [] = q
     ahead (t ∷ zs) = inr refl
 
+pub seen_some : (T : Kinds) (xs : List Tok) → sees T xs ≡ true → 1 ≤ length xs
+seen_some T [] s = cc
+seen_some T (t ∷ xs) s = omega arith
+
 -- a test of two tokens that failed before some tokens fails before others
-two_fair : (T U : Kinds) (xs r r' : List Tok) → (xs ≡ [] → ⊥) → Fair U r r' → sees_two T U (xs ++ r) ≡ false → sees_two T U (xs ++ r') ≡ false
-two_fair T U [] r r' z f e = absurd (z refl)
-two_fair T U (t ∷ u ∷ xs) r r' z f e = e
-two_fair T U (t ∷ []) r r' z (inr f) e = ap (λ b. is T t && b) (sees_alike U r' r f) ∙ e
-two_fair T U (t ∷ []) r r' z (inl f) e = and_no (is T t) (sees U r') f
-
-abbrev pub Long : List Tok → Type 0
-Long xs = (t u : Tok) × (zs : List Tok) × (xs ≡ t ∷ u ∷ zs)
-
-long_both : (T U : Kinds) (xs ys : List Tok) → sees T xs ≡ true → sees U ys ≡ true → Long (xs ++ ys)
-long_both T U [] ys s q = cc
-long_both T U (t ∷ xs) [] s q = cc
-long_both T U (t ∷ []) (u ∷ ys) s q = (t, u, ys, refl)
-long_both T U (t ∷ v ∷ xs) (u ∷ ys) s q = (t, v, xs ++ u ∷ ys, refl)
-
--- of two tokens at least the test hangs on no token after them
-two_long : (T U : Kinds) (xs r r' : List Tok) → Long xs → sees_two T U (xs ++ r) ≡ false → sees_two T U (xs ++ r') ≡ false
-two_long T U xs r r' (t, u, zs, c) e = ap (λ v. sees_two T U (v ++ r')) c ∙ sym (ap (λ v. sees_two T U (v ++ r)) c) ∙ e
-
--- nor on any after them
-pub two_own : (T U : Kinds) (xs r : List Tok) → Long xs → sees_two T U xs ≡ false → sees_two T U (xs ++ r) ≡ false
-two_own T U xs r (t, u, zs, c) e = ap (λ v. sees_two T U (v ++ r)) c ∙ sym (ap (sees_two T U) c) ∙ e
-
-pub two_kept : (l : Bool) (T U : Kinds) (xs r r' : List Tok) → (l ≡ true → Long xs) → (xs ≡ [] → ⊥) → Fair (if_so (not l) U) r r' → sees_two T U (xs ++ r) ≡ false → sees_two T U (xs ++ r') ≡ false
-two_kept true T U xs r r' k z f e = two_long T U xs r r' (k refl) e
-two_kept false T U xs r r' k z f e = two_fair T U xs r r' z f e
-
-pub seen_some : (T : Kinds) (xs : List Tok) → sees T xs ≡ true → xs ≡ [] → ⊥
-seen_some T [] s e = cc
-seen_some T (t ∷ xs) s e = cc
+pub two_kept : (l : Bool) (T U : Kinds) (xs r r' : List Tok) → (l ≡ true → 2 ≤ length xs) → 1 ≤ length xs → Fair (if_so (not l) U) r r' → sees_two T U (xs ++ r) ≡ false → sees_two T U (xs ++ r') ≡ false
+two_kept l T U [] r r' k z f e = absurd (omega arith)
+two_kept l T U (t ∷ u ∷ xs) r r' k z f e = e
+two_kept true T U (t ∷ []) r r' k z f e = let two = k refl in absurd (omega (arith, two))
+two_kept false T U (t ∷ []) r r' k z (inl f) e = and_no (is T t) (sees U r') f
+two_kept false T U (t ∷ []) r r' k z (inr f) e = ap (λ b. is T t && b) (sees_alike U r' r f) ∙ e
 
 module _ {N : Type 0} {Node : N → Type 0} (facts : N → Facts) where
   -- what rules spell begins as it must
@@ -138,11 +118,13 @@ module _ {N : Type 0} {Node : N → Type 0} (facts : N → Facts) where
     head_starts limits T f d (n, (w, k)) a rest xs x = sees_among (begins facts f) T xs w (some_starts limits f d n a rest xs x)
 
     -- what is long is two tokens at least
-    pub longs : (limits : Limits) (A : Type 0) (f : Form N Node A) → Decided facts f → long facts f ≡ true → (a : A) (rest xs : List Tok) → SpellsBy L limits f a rest xs → Long xs
+    pub longs : (limits : Limits) (A : Type 0) (f : Form N Node A) → Decided facts f → long facts f ≡ true → (a : A) (rest xs : List Tok) → SpellsBy L limits f a rest xs → 2 ≤ length xs
     longs limits A (map {A = B} h f) d e b rest xs (a, v, x) = longs limits B f d e a rest xs x
     longs limits A (f ⨾ g) (d, (d', o)) e a rest xs (ys, zs, c, x, y) =
         let q = both (not (nullable facts f)) (not (nullable facts g)) e in
-        subst Long (sym c) (long_both (begins facts f) (begins facts g) ys zs (some_starts limits f d (grind (arith, q.0)) a.0 (zs ++ rest) ys x) (some_starts limits g d' (grind (arith, q.1)) a.1 rest zs y))
+        let first = seen_some (begins facts f) ys (some_starts limits f d (grind (arith, q.0)) a.0 (zs ++ rest) ys x) in
+        let next = seen_some (begins facts g) zs (some_starts limits g d' (grind (arith, q.1)) a.1 rest zs y) in
+        omega (arith, first, next, ap length c, length-append ys zs)
     longs limits A (choose T f g) (d, o) e a rest xs (inl x) = longs limits A f d (both (long facts f) (long facts g) e).0 a rest xs x
     longs limits A (choose T f g) (d, (d', o)) e a rest xs (inr x) = longs limits A g d' (both (long facts f) (long facts g) e).1 a rest xs x
     longs limits A (nest m T f) (d, o) e a rest xs (p, x) = longs limits A f d e a rest xs x

@@ -1,11 +1,11 @@
 -- What an answer says: a value is spelled by the tokens that were taken; those before a refused token go on to something that
 -- is spelled; a limit is passed where a token is too deep; and without limits a form stops at every other place, too.
-use Rattle.std.proofs.Common.{◌≡◌, ◌⊎◌, inl, inr, ℕ, suc, ◌<◌, ◌≤◌, ◌+◌, List, [], ◌∷◌, ◌++◌, length, length-append, append_assoc, append-nil, take, drop, nat_lt, Ok, Err, Bool, true, false, cond, ◌&&◌, ◌||◌, Option, Some, None, refl, sym, ap, subst, ◌∙◌, arith}
+use Rattle.std.proofs.Common.{◌≡◌, inl, inr, ℕ, suc, ◌<◌, ◌≤◌, ◌+◌, List, [], ◌∷◌, ◌++◌, length, length-append, append_assoc, append-nil, take, drop, nat_lt, Ok, Err, Bool, true, false, cond, ◌&&◌, ◌||◌, Option, Some, None, refl, sym, ap, subst, ◌∙◌, arith}
 use Rattle.std.proofs.lemmas.Bool.{ltb-true, ltb-false}
 use Rattle.std.proofs.lemmas.List.{take-append-drop, take-append-le, drop-append-le, length-take-le}
 use Rattle.arc_lex.specs.Tokens.{Tok}
 use Rattle.arc_form.specs.Kinds.{Kinds, is}
-use Rattle.arc_form.specs.Reader.{Read, Reader, Fault, misfit, too_deep, bind, ◌>>=◌, ret, second_unexpected, first, if_sees, if_sees_two, sees, sees_two, taken, take_one, is_above, goes_over, cut, up_to}
+use Rattle.arc_form.specs.Reader.{Read, Reader, Fault, misfit, too_deep, bind, ret, second_unexpected, first, if_sees, if_sees_two, sees, sees_two, taken, take_one, is_above, goes_over, cut, up_to}
 use Rattle.arc_form.specs.Form.{Limits, unlimited, Form, Bodies, token, give, call, map, ◌⨾◌, choose, many, or_none, nest, bounded, two_ahead, avoid, run, read}
 use Rattle.arc_form.specs.Meaning.{AtMost, Spelling, SpellsBy, Spells}
 use Rattle.arc_form.specs.Places.{Place, Begun, OneTooMany, PassesBy, PassesWithin, Passes}
@@ -17,7 +17,7 @@ use Rattle.arc_form.proofs.FormHeights.{spells_body, form_free}
 use Rattle.arc_form.proofs.FormStarts.{form_alone}
 use Rattle.arc_form.proofs.FormBegins.{form_idle, form_takes}
 use Rattle.arc_form.proofs.FormExamples.{Has, join, not_barred, some_example, avoided_example, goes_on_so, with_head}
-use Rattle.arc_form.proofs.FormFirm.{form_firm}
+use Rattle.arc_form.proofs.FormFirm.{both_of, Firm, Ends, form_firm}
 
 -- h gives this answer of all lists that are the same up to the token at which it stops
 abbrev pub Same : {A : Type 0} → Reader A → List Tok → Read A → Type 0
@@ -91,17 +91,6 @@ told_two {A} {f = f} {g = g} {ts = ts} T U p q = told_if (sees_two T U) (keeps f
         some : (b : List Tok) → ts ≡ b ++ r → length (rest_of (h ts)) < length ts → (t : Tok) × (c : List Tok) × (b ≡ t ∷ c)
         some [] c p = absurd (omega (arith, ap length k, ap length c))
         some (t ∷ b) c p = (t, b, refl)
-
-told_map : {A C : Type 0} {M : Spelling A} {B E : List Tok → Type 0} {D : Place} {h : Reader A} {ts : List Tok} {x : Read A} (v : A → C) → ((xs : List Tok) → B xs → E xs) → Told M B D h ts x
-    → Told (λ c r xs. (a : A) × (c ≡ v a) × M a r xs) E D (h >>= (λ a. ret (v a))) ts (bind x (λ a. ret (v a)))
-told_map {A} {C} {M = M} {B = B} {E = E} {D = D} {h = h} {ts = ts} {x = x} v of_begun t = go x t
-  where
-    go : (y : Read A) → Told M B D h ts y → Told (λ c r xs. (a : A) × (c ≡ v a) × M a r xs) E D (h >>= (λ a. ret (v a))) ts (bind y (λ a. ret (v a)))
-    go (Ok y) t = record { taken = t.taken; cut = t.cut; good = (y.0, refl, t.good); same = λ q more f. ap (λ z. bind z (λ a. ret (v a))) (t.same q more f); deep = t.deep }
-    go (Err y) t = record { taken = t.taken; cut = t.cut; good = of_begun t.taken t.good; same = λ q more f. ap (λ z. bind z (λ a. ret (v a))) (t.same q more f); deep = t.deep }
-
-abbrev both_of : {A B C : Type 0} → (A → B → C) → Read A → Reader B → Read C
-both_of make x g = bind x (λ a. g >>= (λ b. ret (make a b)))
 
 told_then : {A B C : Type 0} {M : Spelling A} {O : Spelling B} {Q : Spelling C} {K L E : List Tok → Type 0} {D F G : Place} {h : Reader A} {h' g : Reader B} {ts : List Tok} {x : Read A} (make : A → B → C)
     → ((a : A) (b : B) (r xs ys : List Tok) → M a (ys ++ r) xs → O b r ys → Q (make a b) r (xs ++ ys)) → ((xs : List Tok) → K xs → E xs) → ((a : A) (r xs ys : List Tok) → M a (ys ++ r) xs → L ys → E (xs ++ ys))
@@ -246,12 +235,12 @@ module _ {N : Type 0} {Node : N → Type 0} (facts : N → Facts) (body : Bodies
       let all : take n xs ++ drop n xs ≡ xs = take-append-drop n xs in
       let line : ts ≡ take n xs ++ (drop n xs ++ r) = t.cut ∙ ap (λ v. v ++ r) (sym all) ∙ append_assoc (take n xs) (drop n xs) r in
       rw (front, back) (one_more f n (take n xs) (drop n xs) r (length-take-le n xs l) (omega (arith, p.0, ap length line)) (subst (Begun body f) (sym all) (told_begun None f d (plain f ts) xs t.good))
-      (λ z a x. stopped (plain f ts) refl a (take n xs) (length-take-le n xs l) (line ∙ ap (λ v. take n xs ++ (v ++ r)) z) (form_firm facts body sure A f d a (take n xs) r x)))
+      (λ z a x. stopped (plain f ts) refl a (take n xs) (length-take-le n xs l) (line ∙ ap (λ v. take n xs ++ (v ++ r)) z) (form_firm facts body sure None A f d a [] (take n xs) r x)))
     where
-      stopped : (x : Read A) → plain f ts ≡ x → (a : A) (ys : List Tok) → length ys ≡ n → ts ≡ ys ++ rest_of x → (plain f (ys ++ rest_of x) ≡ Ok (a, rest_of x)) ⊎ (length (rest_of (plain f (ys ++ rest_of x))) < length (rest_of x)) → ⊥
+      stopped : (x : Read A) → plain f ts ≡ x → (a : A) (ys : List Tok) → length ys ≡ n → ts ≡ ys ++ rest_of x → Firm None (plain f (ys ++ rest_of x)) a (Ends facts body sure f [] (rest_of x)) (rest_of x) → ⊥
       stopped (Ok x) e a ys l c k = let over = ltb-true (length x.1 + n) (length ts) (ap (goes_over n ts) (sym e) ∙ o) in omega (arith, over, l, ap length c, length-append ys x.1)
       stopped (Err x) e a ys l c (inl k) = let no : ◌≡◌ {A = Read A} (Err x) (Ok (a, x.1)) = sym e ∙ ap (plain f) c ∙ k in cc
-      stopped (Err x) e a ys l c (inr k) = omega (arith, k, ap (λ us. length (rest_of (plain f us))) (sym c), ap (λ z. length (rest_of z)) e)
+      stopped (Err x) e a ys l c (inr (_, k)) = omega (arith, k, ap (λ us. length (rest_of (plain f us))) (sym c), ap (λ z. length (rest_of z)) e)
 
   tokens_over : (o : Option Limits) (A : Type 0) (f : Form N Node A) → Decided facts f → (ts : List Tok) → ToldAt None A f ts → ToldAt o A (bounded f) ts
   unfolding up_to
@@ -301,6 +290,10 @@ module _ {N : Type 0} {Node : N → Type 0} (facts : N → Facts) (body : Bodies
   second_refused T U A f M D d [] seen = cc
   second_refused T U A f M D d (t ∷ ts) seen = record { taken = t ∷ []; cut = refl; good = goes_on_so facts body sure T U A f d t (both (is T t) (sees U ts) seen).0; same = λ q more e. refl; deep = λ q. cc }
 
+  none_after : (o : Option Limits) {A : Type 0} (f : Form N Node A) (a : A) (r xs ys : List Tok) → ys ≡ [] → SpellsBy (Spells body) (under o) f a (ys ++ r) xs → SpellsBy (Spells body) (under o) f a r (xs ++ ys)
+  none_after o f a r xs [] z m = subst (SpellsBy (Spells body) (under o) f a r) (sym (append-nil xs)) m
+  none_after o f a r xs (t ∷ ys) z m = cc
+
   told : (o : Option Limits) (A : Type 0) (f : Form N Node A) → Decided facts f → (ts : List Tok) → PartsOf body ToldAt o A f ts → ToldAt o A f ts
   told o A (token T g) d ts x = go ts (sees T ts) refl
     where
@@ -312,7 +305,9 @@ module _ {N : Type 0} {Node : N → Type 0} (facts : N → Facts) (body : Bodies
   told o A (call n) d ts x =
       rw (read_is facts body sure (under o) n ts) (told_with (λ xs r more c k e. read_is facts body sure unlimited n (xs ++ more))
       (told_as (λ a r xs q c m. spells_body body (under o) n a r xs m) (λ xs r c b. (b.0, b.1, spells_body body unlimited n b.0 [] (xs ++ b.1) b.2)) (λ xs r c p. deep_body o n xs r p) x))
-  told o A (map h f) d ts x = told_as (λ a r xs q c m. m) (λ xs r c b. b) (λ xs r c p. deep_as o f (map h f) xs xs r r (λ of y. y) p) (told_map h (λ xs b. (h b.0, b.1, (b.0, refl, b.2))) x)
+  told o A (map {A = B} h f) d ts x =
+      told_then {O = λ (u : Unit {0}) r ys. ys ≡ []} {L = λ ys. ⊥} {F = λ ys r. ⊥} {h' = ret tt} {g = ret tt} (λ a u. h a) (λ a u r xs ys m z. (a, refl, none_after o f a r xs ys z m)) (λ xs b. (h b.0, b.1, (b.0, refl, b.2))) (λ a r xs ys m no. absurd no)
+      (λ xs r p. deep_as o f (map h f) xs xs r r (λ of y. y) p) (λ a r xs ys m no. absurd no) x (λ a s e. told_none (ret tt s) refl refl refl (λ more f. refl))
   told o A (◌⨾◌ {A = B} {B = C} f g) (d, (d', (p, q))) ts (x, y) = told_pair (λ b c. (b, c)) (SpellsBy (Spells body) (under o) (f ⨾ g)) o f g d d' q ts (λ a b r xs m. m) x y
   told o A (choose T f g) d ts (x, y) =
       told_first T (λ q. told_as (λ a r xs q c m. inl m) (λ xs r c b. (b.0, b.1, inl b.2)) (λ xs r c p. deep_as o f (choose T f g) xs xs r r (λ of x. inl x) p) x)

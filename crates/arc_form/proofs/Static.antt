@@ -141,7 +141,7 @@ module _ {N : Type 0} {Node : N → Type 0} (facts : N → Facts) where
   abbrev pub alone : {A : Type 0} → Form N Node A → Kinds
   alone (token T g) = T
   alone (map h f) = alone f
-  alone (f ⨾ g) = if_so (nullable g) (alone f)
+  alone (f ⨾ g) = if_so (nullable g && simple g) (alone f)
   alone (choose T f g) = alone f ∪ alone g
   alone (bounded f) = alone f
   alone _ = none
