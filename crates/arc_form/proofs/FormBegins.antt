@@ -69,11 +69,8 @@ front_none o false x a ts p = (a, refl)
 front_nest : {A : Type 0} (o : Option Limits) (m : ℕ) (c : Bool) (x : Read A) (ts : List Tok) → Front o c false x ts → Front o c false (cond (is_above (under o).depth m) (cond {A = Read A} c (Err (too_deep, ts)) (Err (misfit, ts))) x) ts
 front_nest None m c x ts p = p
 front_nest (Some limits) m true x ts p = tt
-front_nest {A} (Some limits) m false x ts p = rw p (go (is_above limits.depth m))
-  where
-    go : (b : Bool) → cond {A = Read A} b (Err (misfit, ts)) (Err (misfit, ts)) ≡ Err (misfit, ts)
-    go true = refl
-    go false = refl
+front_nest {A} (Some limits) m false x ts p =
+    rw p (elim (is_above limits.depth m) as (λ b. cond {A = Read A} b (Err (misfit, ts)) (Err (misfit, ts)) ≡ Err (misfit, ts)) [ true ↦ refl | false ↦ refl ])
 
 -- a limit on tokens is no less than 1
 abbrev pub Positive : Limits → Type 0
@@ -123,14 +120,13 @@ module _ {N : Type 0} {Node : N → Type 0} (facts : N → Facts) (body : Bodies
   unfolding up_to
   front o A (token T g) d ts x z = go o ts
     where
-      at : (o : Option Limits) (t : Tok) (ts : List Tok) (b : Bool) → Front o b false (taken b g t ts) (t ∷ ts)
-      at None t ts true = omega arith
-      at (Some limits) t ts true = tt
-      at o t ts false = refl
+      taken_more : (o : Option Limits) (t : Tok) (ts : List Tok) → More o (Ok (g t, ts)) (t ∷ ts)
+      taken_more None t ts = omega arith
+      taken_more (Some limits) t ts = tt
 
       go : (o : Option Limits) (ts : List Tok) → Front o (sees T ts) false (reading body o (token T g) ts) ts
       go o [] = refl
-      go o (t ∷ ts) = at o t ts (is T t)
+      go o (t ∷ ts) = elim (is T t) as (λ b. Front o b false (taken b g t ts) (t ∷ ts)) [ true ↦ taken_more o t ts | false ↦ refl ]
   front o A (give a) d [] x z = (a, refl)
   front o A (give a) d (t ∷ ts) x z = (a, refl)
   front o A (call m) d ts x z = rw (read_is facts body sure (under o) m ts) (headed o (facts m).begins (body m) (sure m).head ts x z)
@@ -166,12 +162,15 @@ module _ {N : Type 0} {Node : N → Type 0} (facts : N → Facts) (body : Bodies
 
   -- where a limit is passed, a token is ahead with which the form begins
   pub deep_begins : (limits : Limits) → Positive limits → (A : Type 0) (f : Form N Node A) → Decided facts f → (ts r : List Tok) → run (read body) limits f ts ≡ Err (too_deep, r) → sees (begins facts f) ts ≡ true
-  deep_begins limits positive A f d ts r e = go (sees (begins facts f) ts) (nullable facts f) (by_reading facts body sure FrontAt front (Some limits) A f d ts positive)
-    where
-      go : (b n : Bool) → Front (Some limits) b n (run (read body) limits f ts) ts → b ≡ true
-      go true n p = refl
-      go false true (a, q) = cc
-      go false false q = let no : misfit ≡ too_deep = ap (λ (y : Read A). fault_of y) (sym q ∙ e) in cc
+  deep_begins limits positive A f d ts r e =
+      let wrong : misfit ≡ too_deep → ⊥ = λ q. cc in
+      (elim (sees (begins facts f) ts) as (λ b. Front (Some limits) b (nullable facts f) (run (read body) limits f ts) ts → b ≡ true) [
+        | true ↦ λ p. refl
+        | false ↦ elim (nullable facts f) as (λ n. Front (Some limits) false n (run (read body) limits f ts) ts → false ≡ true) [
+          | true ↦ λ p. let no : ret p.0 ts ≡ Err (too_deep, r) = sym p.1 ∙ e in cc
+          | false ↦ λ p. absurd (wrong (ap (λ (y : Read A). fault_of y) (sym p ∙ e)))
+        ]
+      ]) (by_reading facts body sure FrontAt front (Some limits) A f d ts positive)
 
   -- and after it one that comes second
   pub deep_second : (limits : Limits) → Positive limits → (U : Kinds) (A : Type 0) (f : Form N Node A) → Decided facts f → Holds (second facts U f) → (ts r : List Tok) → run (read body) limits f ts ≡ Err (too_deep, r) → sees_second U ts ≡ true
@@ -186,11 +185,10 @@ module _ {N : Type 0} {Node : N → Type 0} (facts : N → Facts) (body : Bodies
 
   -- a loop takes what its first turn takes, at least
   pub loop_first : (T : Kinds) {A : Type 0} (f : Form N Node A) → Decided facts (many T f) → (ts : List Tok) → sees T ts ≡ true → length (rest_of (run (read body) unlimited (many T f) ts)) ≤ length (rest_of (run (read body) unlimited f ts))
-  loop_first T {A} f d ts e = rw (loop_turn T (some_front facts body sure unlimited f d.0 d.1.0.0) ts, e) (go (reading body None f ts))
-    where
-      go : (x : Read A) → length (rest_of (bind x (λ a. loop T (reading body None f) >>= (λ others. ret (a ∷ others))))) ≤ length (rest_of x)
-      go (Ok x) = omega (arith, ret_left (loop T (reading body None f) x.1) (λ others. x.0 ∷ others), form_left facts body sure (many T f) d x.1)
-      go (Err x) = omega arith
+  loop_first T {A} f d ts e =
+      rw (loop_turn T (some_front facts body sure unlimited f d.0 d.1.0.0) ts, e)
+      (elim (reading body None f ts) as (λ (x : Read A). length (rest_of (bind x (λ a. loop T (reading body None f) >>= (λ others. ret (a ∷ others))))) ≤ length (rest_of x))
+      [ Ok x ↦ omega (arith, ret_left (loop T (reading body None f) x.1) (λ others. x.0 ∷ others), form_left facts body sure (many T f) d x.1) | Err x ↦ omega arith ])
 
   -- and where the second token is of those that come second, that one too
   pub takes_two : (T U : Kinds) (A : Type 0) (f : Form N Node A) → Decided facts f → Holds (second facts U f) → (ts : List Tok) → sees (begins facts f) ts ≡ true → sees_second U ts ≡ true → length (rest_of (run (read body) unlimited f ts)) + 2 ≤ length ts

@@ -11,10 +11,6 @@ use Rattle.arc_form.proofs.Static.{Facts, if_so, nullable, begins, bars, simple,
 use Rattle.arc_form.proofs.FormHeights.{spells_body}
 use Rattle.arc_form.proofs.FormStarts.{Starts, Fair, starts, some_starts, spells_starts, form_fair}
 
--- of two tests of which one says enough, or both must pass
-or_here : (b c d : Bool) → (b || (c && d)) ≡ true → ((b || c) ≡ true) × ((b || d) ≡ true)
-or_here b c d e = grind arith
-
 choice : (b s n t : Bool) → (b || (s || (not n && t))) ≡ true → ((b || s) ≡ true) ⊎ ((n ≡ false) × ((b || t) ≡ true))
 choice b s n t e = grind arith
 
@@ -52,15 +48,15 @@ module _ {N : Type 0} {Node : N → Type 0} (facts : N → Facts) (body : Bodies
   example false k A (call n) d e = cc
   example b k A (map {A = B} h f) d e = let x = example b k B f d e in (h x.0, x.1, x.2, (x.0, refl, x.3))
   example b k A (◌⨾◌ {A = B} {B = C} f g) (d, (d', (o, p))) e =
-      let t = or_here b (simple facts f) (simple facts g) e in
+      let t : ((b || simple facts f) ≡ true) × ((b || simple facts g) ≡ true) = grind (arith, e) in
       let x = example b k B f d t.0 in
       let y = example b k C g d' t.1 in
       ((x.0, y.0), x.1 ++ y.1, λ z. let u = both (nullable facts f) (nullable facts g) z in ap (λ v. v ++ y.1) (x.2 u.0) ∙ y.2 u.1, join f g d x.0 y.0 [] x.1 y.1 x.3 (not_barred f g d' p [] y) y.3)
-  example b k A (choose T f g) (d, (d', o)) e = pick (choice b (simple facts g) (nullable facts g) (simple facts f) e) (example b k A g d') (example b k A f d)
-    where
-      pick : ((b || simple facts g) ≡ true) ⊎ ((nullable facts g ≡ false) × ((b || simple facts f) ≡ true)) → ((b || simple facts g) ≡ true → Example g) → ((b || simple facts f) ≡ true → Example f) → Example (choose T f g)
-      pick (inl q) of_g of_f = let y = of_g q in (y.0, y.1, y.2, inr y.3)
-      pick (inr (n, q)) of_g of_f = let x = of_f q in (x.0, x.1, λ m. cc, inl x.3)
+  example b k A (choose T f g) (d, (d', o)) e =
+      let of_f = example b k A f d in
+      let of_g = example b k A g d' in
+      elim (choice b (simple facts g) (nullable facts g) (simple facts f) e) as (λ s. Example (choose T f g))
+      [ inl q ↦ let y = of_g q in (y.0, y.1, y.2, inr y.3) | inr q ↦ let x = of_f q.1 in (x.0, x.1, λ m. let no = q.0 in cc, inl x.3) ]
   example b k A (many T f) d e = ([], [], λ x. refl, refl)
   example b k A (or_none T f a) d e = (a, [], λ x. refl, inr (refl, refl, refl))
   example b k A (nest m T f) (d, o) e = let x = example b k A f d e in (x.0, x.1, λ z. cc, (tt, x.3))
@@ -79,11 +75,11 @@ module _ {N : Type 0} {Node : N → Type 0} (facts : N → Facts) (body : Bodies
       go true true i y x = let u = x i in let v = y refl in ((u.0, v.0), (t ∷ [], [], refl, u.1, subst (Has g v.0 []) (v.2 refl) v.3))
       go true false i y x = cc
       go false s i y x = cc
-  one_alone A (choose T f g) (d, (d', o)) t i = go (is (alone facts f) t) refl i (one_alone A f d t) (one_alone A g d' t)
-    where
-      go : (b : Bool) → is (alone facts f) t ≡ b → (b || is (alone facts g) t) ≡ true → (is (alone facts f) t ≡ true → (a : A) × Has f a [] (t ∷ [])) → (is (alone facts g) t ≡ true → (a : A) × Has g a [] (t ∷ [])) → (a : A) × Has (choose T f g) a [] (t ∷ [])
-      go true q i x y = let u = x q in (u.0, inl u.1)
-      go false q i x y = let u = y i in (u.0, inr u.1)
+  one_alone A (choose T f g) (d, (d', o)) t i =
+      let of_f = one_alone A f d t in
+      let of_g = one_alone A g d' t in
+      (elim (is (alone facts f) t) as (λ b. (b ≡ true → (a : A) × Has f a [] (t ∷ [])) → (b || is (alone facts g) t) ≡ true → (a : A) × Has (choose T f g) a [] (t ∷ []))
+      [ true ↦ λ x i. let u = x refl in (u.0, inl u.1) | false ↦ λ x i. let u = of_g i in (u.0, inr u.1) ]) of_f i
   one_alone A (bounded f) (d, o) t i = let x = one_alone A f d t i in (x.0, (tt, x.1))
   one_alone A f d t i = cc
 

@@ -103,11 +103,9 @@ module _ {N : Type 0} {Node : N → Type 0} (facts : N → Facts) (body : Bodies
 
   -- what may be passed over is passed over, or takes a token
   passed : (o : Option Limits) (T : Kinds) (A : Type 0) (f : Form N Node A) → Decided facts f → Heads facts T f → (y : Read A) (a : A) (E : Type 0) (r : List Tok) → (E → sees T r ≡ false) → Firm o y a E r → Firm o (cond (sees T r) (reading body o f r) y) a E r
-  passed o T A f d (n, (w, k)) y a E r not_seen m = go (sees T r) refl
-    where
-      go : (b : Bool) → sees T r ≡ b → Firm o (cond b (reading body o f r) y) a E r
-      go true q = inr (λ e. let no = not_seen e in cc, more_takes o A f d r (sees_among T (begins facts f) r k q))
-      go false q = m
+  passed o T A f d (n, (w, k)) y a E r not_seen m =
+      (elim (sees T r) as (λ b. sees T r ≡ b → Firm o (cond b (reading body o f r) y) a E r)
+      [ true ↦ λ q. inr (λ e. let no = not_seen e in cc, more_takes o A f d r (sees_among T (begins facts f) r k q)) | false ↦ λ q. m ]) refl
 
   module _ (L : OfRules N Node) (up : L ⇒ Spells body) (rule : (o : Option Limits) (n : N) (a : Node n) (rest xs : List Tok) → L (under o) n a rest xs → (r : List Tok) → Firm o (read body (under o) n (xs ++ r)) a (Ends (call n) rest r) r) where
     s : AllStart facts L
@@ -118,11 +116,12 @@ module _ {N : Type 0} {Node : N → Type 0} (facts : N → Facts) (body : Bodies
 
     firm_all : (o : Option Limits) (T : Kinds) {A : Type 0} (f : Form N Node A) → Decided facts (many T f) → ((a : A) (rest xs r : List Tok) → SpellsBy L (under o) f a rest xs → Firm o (reading body o f (xs ++ r)) a (Ends f rest r) r)
         → (all : List A) (rest xs r : List Tok) → SpellsAll (SpellsBy L (under o) f) all rest xs → Firm o (reading body o (many T f) (xs ++ r)) all (Ends (many T f) rest r) r
-    firm_all o T {A} f (d, (h, p)) k [] rest xs r e = subst (λ v. Firm {A = List A} o (reading body o (many T f) (v ++ r)) [] (Ends (many T f) rest r) r) (sym e) (go (sees T r) refl)
-      where
-        go : (b : Bool) → sees T r ≡ b → Firm {A = List A} o (reading body o (many T f) r) [] (Ends (many T f) rest r) r
-        go true q = inr (λ e. let no = none_left T (goes_on facts f) r e.0 in cc, more_turns o T f (d, (h, p)) r r q (more_takes o A f d r (sees_among T (begins facts f) r h.1.1 q)))
-        go false q = inl (loop_end (reading body o f) T r q)
+    firm_all o T {A} f (d, (h, p)) k [] rest xs r e =
+        subst (λ v. Firm {A = List A} o (reading body o (many T f) (v ++ r)) [] (Ends (many T f) rest r) r) (sym e)
+        ((elim (sees T r) as (λ b. sees T r ≡ b → Firm {A = List A} o (reading body o (many T f) r) [] (Ends (many T f) rest r) r) [
+          | true ↦ λ q. inr (λ e. let no = none_left T (goes_on facts f) r e.0 in cc, more_turns o T f (d, (h, p)) r r q (more_takes o A f d r (sees_among T (begins facts f) r h.1.1 q)))
+          | false ↦ λ q. inl (loop_end (reading body o f) T r q)
+        ]) refl)
     firm_all o T {A} f (d, (h, (p, q))) k (a ∷ others) rest xs r (ys, zs, e, x, y) =
         let seen = sees_more T xs r (ap (sees T) e ∙ sees_more T ys zs (head_starts facts L s (under o) T f d h a (zs ++ rest) ys x)) in
         let more = start_all (SpellsBy L (under o) f) T (head_starts facts L s (under o) T f d h) others rest zs y in
@@ -184,8 +183,5 @@ module _ {N : Type 0} {Node : N → Type 0} (facts : N → Facts) (body : Bodies
 
   -- what is spelled is read, where nothing goes on with it
   pub form_complete : (limits : Limits) {A : Type 0} (f : Form N Node A) → Decided facts f → (a : A) (rest xs : List Tok) → SpellsBy (Spells body) limits f a rest xs → sees (goes_on facts f) rest ≡ false → run (read body) limits f (xs ++ rest) ≡ Ok (a, rest)
-  form_complete limits {A} f d a rest xs x e = go (form_firm (Some limits) A f d a rest xs rest x)
-    where
-      go : Firm (Some limits) (run (read body) limits f (xs ++ rest)) a (Ends f rest rest) rest → run (read body) limits f (xs ++ rest) ≡ Ok (a, rest)
-      go (inl e) = e
-      go (inr (n, m)) = absurd (n (e, inr refl))
+  form_complete limits {A} f d a rest xs x e =
+      elim (form_firm (Some limits) A f d a rest xs rest x) as (λ m. run (read body) limits f (xs ++ rest) ≡ Ok (a, rest)) [ inl q ↦ q | inr m ↦ absurd (m.0 (e, inr refl)) ]

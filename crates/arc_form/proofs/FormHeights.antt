@@ -1,5 +1,5 @@
 -- Derivations of any height: what the right side of a rule spells, the rule does, and what holds of each rule if it holds of those in it holds of all.
-use Rattle.std.proofs.Common.{◌≡◌, inl, inr, Bool, true, false, refl, subst, length, ℕ, zero, suc, ◌≤◌, ◌+◌, List, [], ◌∷◌, ◌++◌, arith}
+use Rattle.std.proofs.Common.{◌≡◌, inl, inr, refl, subst, length, ℕ, zero, suc, ◌≤◌, ◌+◌, List, [], ◌∷◌, ◌++◌, arith}
 use Rattle.arc_lex.specs.Tokens.{Tok}
 use Rattle.arc_form.specs.Form.{Limits, unlimited, Form, Bodies, token, give, call, map, ◌⨾◌, choose, many, or_none, nest, bounded, two_ahead, avoid}
 use Rattle.arc_form.specs.Meaning.{AtMost, Spelling, SpellsAll, SpellsBy, Within, Spells}
@@ -24,27 +24,11 @@ infixr 11 ◌⇒◌
 abbrev pub ◌⇒◌ : {N : Type 0} {Node : N → Type 0} → OfRules N Node → OfRules N Node → Type 0
 ◌⇒◌ {N = N} {Node = Node} L M = (limits : Limits) (n : N) (a : Node n) (r xs : List Tok) → L limits n a r xs → M limits n a r xs
 
--- the same limits, or none
-abbrev of_these : Bool → Limits → Limits
-of_these true limits = limits
-of_these false limits = unlimited
-
-depth_of : (b : Bool) (limits : Limits) (n : ℕ) → AtMost limits.depth n → AtMost (of_these b limits).depth n
-depth_of true limits n p = p
-depth_of false limits n p = tt
-
-tokens_of : (b : Bool) (limits : Limits) (n : ℕ) → AtMost limits.tokens n → AtMost (of_these b limits).tokens n
-tokens_of true limits n p = p
-tokens_of false limits n p = tt
-
-none_of : (b : Bool) → of_these b unlimited ≡ unlimited
-none_of true = refl
-none_of false = refl
-
 module _ {N : Type 0} {Node : N → Type 0} (body : Bodies N Node) where
-  module _ (b : Bool) (O : ℕ → OfRules N Node) where
+  -- to limits that allow as much
+  module _ (to : Limits → Limits) (depth : (l : Limits) (n : ℕ) → AtMost l.depth n → AtMost (to l).depth n) (tokens : (l : Limits) (n : ℕ) → AtMost l.tokens n → AtMost (to l).tokens n) (free : to unlimited ≡ unlimited) (O : ℕ → OfRules N Node) where
     abbrev Height : {A : Type 0} → Limits → Form N Node A → A → List Tok → List Tok → ℕ → Type 0
-    Height limits f a r xs m = SpellsBy (O m) (of_these b limits) f a r xs
+    Height limits f a r xs m = SpellsBy (O m) (to limits) f a r xs
 
     -- where rules are spelled by derivations of each height from some number on, so is a form, and by as many limits or none
     settle : (L : OfRules N Node) → ((limits : Limits) (n : N) (a : Node n) (r xs : List Tok) → L limits n a r xs → From (Height limits (call n) a r xs))
@@ -59,13 +43,13 @@ module _ {N : Type 0} {Node : N → Type 0} (body : Bodies N Node) where
         (u.0 + v.0, λ m p. (ys, zs, e, u.1 m (omega (arith, p)), v.1 m (omega (arith, p))))
     settle L k limits (choose T f g) a r xs (inl x) = let y = settle L k limits f a r xs x in (y.0, λ m p. inl (y.1 m p))
     settle L k limits (choose T f g) a r xs (inr x) = let y = settle L k limits g a r xs x in (y.0, λ m p. inr (y.1 m p))
-    settle L k limits (many T f) all r xs x = settle_all (SpellsBy L limits f) (λ m. SpellsBy (O m) (of_these b limits) f) (settle L k limits f) all r xs x
+    settle L k limits (many T f) all r xs x = settle_all (SpellsBy L limits f) (λ m. SpellsBy (O m) (to limits) f) (settle L k limits f) all r xs x
     settle L k limits (or_none T f c) a r xs (inl x) = let y = settle L k limits f a r xs x in (y.0, λ m p. inl (y.1 m p))
     settle L k limits (or_none T f c) a r xs (inr x) = (0, λ m p. inr x)
-    settle L k limits (nest d T f) a r xs (q, x) = let y = settle L k limits f a r xs x in (y.0, λ m p. (depth_of b limits d q, y.1 m p))
+    settle L k limits (nest d T f) a r xs (q, x) = let y = settle L k limits f a r xs x in (y.0, λ m p. (depth limits d q, y.1 m p))
     settle L k limits (bounded f) a r xs (q, x) =
         let y = settle L k unlimited f a r xs x in
-        (y.0, λ m p. (tokens_of b limits (length xs) q, subst (λ l. SpellsBy (O m) l f a r xs) (none_of b) (y.1 m p)))
+        (y.0, λ m p. (tokens limits (length xs) q, subst (λ l. SpellsBy (O m) l f a r xs) free (y.1 m p)))
     settle L k limits (two_ahead T U f g) a r xs (inl x) = let y = settle L k limits f a r xs x in (y.0, λ m p. inl (y.1 m p))
     settle L k limits (two_ahead T U f g) a r xs (inr (x, e)) = let y = settle L k limits g a r xs x in (y.0, λ m p. inr (y.1 m p, e))
     settle L k limits (avoid T U f) a r xs (x, e) = let y = settle L k limits f a r xs x in (y.0, λ m p. (y.1 m p, e))
@@ -73,28 +57,26 @@ module _ {N : Type 0} {Node : N → Type 0} (body : Bodies N Node) where
   within_from : (h : ℕ) (limits : Limits) (n : N) (a : Node n) (r xs : List Tok) → Within body h limits n a r xs → From (λ m. Within body m limits n a r xs)
   unfolding Within
   within_from zero limits n a r xs x = absurd x
-  within_from (suc h) limits n a r xs x = let y = settle true (Within body) (Within body h) (within_from h) limits (body n) a r xs x in (suc y.0, λ m p. go m y.0 p y.1)
-    where
-      go : (m k : ℕ) → suc k ≤ m → ((m : ℕ) → k ≤ m → SpellsBy (Within body m) limits (body n) a r xs) → Within body m limits n a r xs
-      go zero k p y = absurd (omega (arith, p))
-      go (suc m) k p y = y m (omega (arith, p))
+  within_from (suc h) limits n a r xs x =
+      let y = settle (λ l. l) (λ l n p. p) (λ l n p. p) refl (Within body) (Within body h) (within_from h) limits (body n) a r xs x in
+      (suc y.0, λ m. elim m as (λ m. suc y.0 ≤ m → Within body m limits n a r xs) [ zero ↦ λ p. absurd (omega (arith, p)) | suc m ↦ λ p. y.1 m (omega (arith, p)) ])
 
   -- what the right side of a rule spells, the rule does
   pub spells_body : (limits : Limits) (n : N) (a : Node n) (r xs : List Tok) → SpellsBy (Spells body) limits (body n) a r xs → Spells body limits n a r xs
   unfolding Within
-  spells_body limits n a r xs x = let y = settle true (Within body) (Spells body) (λ l m b s ys z. within_from z.0 l m b s ys z.1) limits (body n) a r xs x in (suc y.0, y.1 y.0 (omega arith))
+  spells_body limits n a r xs x = let y = settle (λ l. l) (λ l n p. p) (λ l n p. p) refl (Within body) (Spells body) (λ l m b s ys z. within_from z.0 l m b s ys z.1) limits (body n) a r xs x in (suc y.0, y.1 y.0 (omega arith))
 
   free_within : (h : ℕ) (limits : Limits) (n : N) (a : Node n) (r xs : List Tok) → Within body h limits n a r xs → Spells body unlimited n a r xs
   unfolding Within
   free_within zero limits n a r xs x = absurd x
   free_within (suc h) limits n a r xs x =
-      let y = settle false (λ m. Spells body) (Within body h) (λ l m b s ys z. (0, λ k p. free_within h l m b s ys z)) limits (body n) a r xs x in
+      let y = settle (λ l. unlimited) (λ l n p. tt) (λ l n p. tt) refl (λ m. Spells body) (Within body h) (λ l m b s ys z. (0, λ k p. free_within h l m b s ys z)) limits (body n) a r xs x in
       spells_body unlimited n a r xs (y.1 y.0 (omega arith))
 
   -- what is spelled under limits is spelled without
   pub form_free : (limits : Limits) {A : Type 0} (f : Form N Node A) (a : A) (r xs : List Tok) → SpellsBy (Spells body) limits f a r xs → SpellsBy (Spells body) unlimited f a r xs
   form_free limits f a r xs x =
-      let y = settle false (λ m. Spells body) (Spells body) (λ l m b s ys z. (0, λ k p. free_within z.0 l m b s ys z.1)) limits f a r xs x in
+      let y = settle (λ l. unlimited) (λ l n p. tt) (λ l n p. tt) refl (λ m. Spells body) (Spells body) (λ l m b s ys z. (0, λ k p. free_within z.0 l m b s ys z.1)) limits f a r xs x in
       y.1 y.0 (omega arith)
 
   module _ (Q : OfRules N Node) (step : (L : OfRules N Node) → L ⇒ Spells body → L ⇒ Q → (λ limits n. SpellsBy L limits (body n)) ⇒ Q) where

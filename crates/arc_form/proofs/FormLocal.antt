@@ -24,12 +24,6 @@ pub some_need : {A : Type 0} {x y : Read A} {ts : List Tok} (b : Bool) → b ≡
 some_need true e l = cc
 some_need false e l = l
 
-need_one : (b : Bool) → need b ≤ 1
-need_one b = grind arith
-
-need_both : (b c : Bool) → need (b && c) ≤ need b + (need c + 0)
-need_both b c = grind arith
-
 -- there are fewer than k tokens, or k, and a token is taken before any rule is read
 abbrev Room : ℕ → Bool → List Tok → Type 0
 Room k b ts = (length ts < k) ⊎ ((b ≡ true) × (length ts ≤ k))
@@ -116,8 +110,8 @@ module _ {N : Type 0} {Node : N → Type 0} (facts : N → Facts) where
     alike o A (call n) d ts x = x
     alike o A (map v f) d ts x = alike_less (need (nullable facts f)) (omega arith) (alike_then (λ a. ret (v a)) (λ a. ret (v a)) x (λ a s e. alike_ret s (v a)))
     alike o A (◌⨾◌ {A = B} {B = D} f f') d ts (x, y) =
-        alike_less (need (nullable facts (f ⨾ f'))) (need_both (nullable facts f) (nullable facts f')) (alike_then (λ a. run g (under o) f' >>= (λ b. ret (a, b))) (λ a. run h (under o) f' >>= (λ b. ret (a, b))) x (λ a s e. alike_then (λ b. ret (a, b)) (λ b. ret (a, b)) (y a s e) (λ b r q. alike_ret r (a, b))))
-    alike o A (choose T f f') (d, (d', (n, q))) ts (x, y) = alike_if (sees T ts) (alike_less (need (nullable facts f')) (need_one (nullable facts f')) (some_need (nullable facts f) n.0 x)) y
+        alike_less (need (nullable facts (f ⨾ f'))) (grind arith) (alike_then (λ a. run g (under o) f' >>= (λ b. ret (a, b))) (λ a. run h (under o) f' >>= (λ b. ret (a, b))) x (λ a s e. alike_then (λ b. ret (a, b)) (λ b. ret (a, b)) (y a s e) (λ b r q. alike_ret r (a, b))))
+    alike o A (choose T f f') (d, (d', (n, q))) ts (x, y) = alike_if (sees T ts) (alike_less (need (nullable facts f')) (grind arith) (some_need (nullable facts f) n.0 x)) y
     alike o A (many T f) (d, (n, q)) ts (x, y) = turns_alike T (suc (length ts)) (suc (length ts)) ts (omega arith) (omega arith) (λ us p. some_need (nullable facts f) n.0 (x us p))
     alike o A (or_none T f a) d ts x = alike_if (sees T ts) (alike_less 0 (omega arith) x) (alike_ret ts a)
     alike o A (nest m T f) (d, n) ts x =
@@ -145,14 +139,12 @@ module _ {N : Type 0} {Node : N → Type 0} (facts : N → Facts) where
     read_takes o rule ts = let n = suc (length ts) in let a = deep_alike n n n (omega arith) (omega arith) o rule ts (omega arith) in a
 
     -- a rule is its right side, over the rules
-    read_so : (o : Option Limits) (rule : N) (ts : List Tok) → read body (under o) rule ts ≡ reading body o (body rule) ts
-    unfolding read deep
-    read_so o rule ts =
-        let n = length ts in
-        sym (alike_each (deep body n) (read body) n (λ o r us p. deep_alike (suc (length us)) n (suc (length us)) p (omega arith) o r us (omega arith)) o (Node rule) (body rule) (sure rule).sure ts (inr ((sure rule).guard, omega arith))).same
-
     pub read_is : (limits : Limits) (rule : N) (ts : List Tok) → read body limits rule ts ≡ run (read body) limits (body rule) ts
-    read_is limits rule ts = read_so (Some limits) rule ts
+    unfolding read deep
+    read_is limits rule ts =
+        let n = length ts in
+        let each = alike_each (deep body n) (read body) n (λ o r us p. deep_alike (suc (length us)) n (suc (length us)) p (omega arith) o r us (omega arith)) in
+        sym (each (Some limits) (Node rule) (body rule) (sure rule).sure ts (inr ((sure rule).guard, omega arith))).same
 
     -- a rule takes a token at least
     pub fronts : (limits : Limits) (rule : N) → Takes 1 (read body limits rule)

@@ -60,11 +60,9 @@ fair_after false A T [] r r' (inl (e, z)) f = cc
 
 pub fair_all : {A : Type 0} (M O : Spelling A) (B : Kinds) → ((a : A) (r r' xs : List Tok) → M a r xs → Fair B r r' → O a r' xs) → (all : List A) (r r' xs : List Tok) → SpellsAll M all r xs → Fair B r r' → SpellsAll O all r' xs
 fair_all M O B k [] r r' xs e q = e
-fair_all M O B k (a ∷ others) r r' xs (ys, zs, e, x, y) q = (ys, zs, e, k a (zs ++ r) (zs ++ r') ys x (ahead zs), fair_all M O B k others r r' zs y q)
-  where
-    ahead : (zs : List Tok) → Fair B (zs ++ r) (zs ++ r')
-    ahead [] = q
-    ahead (t ∷ zs) = inr refl
+fair_all M O B k (a ∷ others) r r' xs (ys, zs, e, x, y) q =
+    let ahead = elim zs as (λ zs. Fair B (zs ++ r) (zs ++ r')) [ [] ↦ q | t ∷ zs ↦ inr refl ] in
+    (ys, zs, e, k a (zs ++ r) (zs ++ r') ys x ahead, fair_all M O B k others r r' zs y q)
 
 pub seen_some : (T : Kinds) (xs : List Tok) → sees T xs ≡ true → 1 ≤ length xs
 seen_some T [] s = cc
@@ -94,11 +92,8 @@ module _ {N : Type 0} {Node : N → Type 0} (facts : N → Facts) where
         subst (Starts (nullable facts f && nullable facts g) (begins facts f ∪ if_so (nullable facts f) (begins facts g))) (sym c)
         (starts_then (nullable facts f) (nullable facts g) (begins facts f) (begins facts g) ys zs (starts limits f d a.0 (zs ++ rest) ys x) (starts limits g d' a.1 rest zs y))
     starts limits (choose T f g) (d, (d', ((n, o), q))) a rest xs (inl x) = inr (sees_left (begins facts f) (begins facts g) xs (starts_some (nullable facts f) (begins facts f) xs n (starts limits f d a rest xs x)))
-    starts limits (choose T f g) (d, (d', o)) a rest xs (inr x) = go (starts limits g d' a rest xs x)
-      where
-        go : Starts (nullable facts g) (begins facts g) xs → Starts (nullable facts g) (begins facts f ∪ begins facts g) xs
-        go (inl e) = inl e
-        go (inr e) = inr (sees_right (begins facts f) (begins facts g) xs e)
+    starts limits (choose T f g) (d, (d', o)) a rest xs (inr x) =
+        elim (starts limits g d' a rest xs x) as (λ s. Starts (nullable facts g) (begins facts f ∪ begins facts g) xs) [ inl e ↦ inl e | inr e ↦ inr (sees_right (begins facts f) (begins facts g) xs e) ]
     starts limits (many T f) (d, ((n, o), q)) all rest xs x =
         start_all (SpellsBy L limits f) (begins facts f) (λ a r ys y. starts_some (nullable facts f) (begins facts f) ys n (starts limits f d a r ys y)) all rest xs x
     starts limits (or_none T f b) (d, (n, o)) a rest xs (inl x) = inr (starts_some (nullable facts f) (begins facts f) xs n (starts limits f d a rest xs x))

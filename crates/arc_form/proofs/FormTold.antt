@@ -5,7 +5,7 @@ use Rattle.std.proofs.lemmas.Bool.{ltb-true, ltb-false}
 use Rattle.std.proofs.lemmas.List.{take-append-drop, take-append-le, drop-append-le, length-take-le}
 use Rattle.arc_lex.specs.Tokens.{Tok}
 use Rattle.arc_form.specs.Kinds.{Kinds, is}
-use Rattle.arc_form.specs.Reader.{Read, Reader, Fault, misfit, too_deep, bind, ret, second_unexpected, first, if_sees, if_sees_two, sees, sees_two, taken, take_one, is_above, goes_over, cut, up_to}
+use Rattle.arc_form.specs.Reader.{Read, Reader, misfit, too_deep, bind, ret, second_unexpected, first, if_sees, if_sees_two, sees, sees_two, taken, take_one, is_above, goes_over, cut, up_to}
 use Rattle.arc_form.specs.Form.{Limits, unlimited, Form, Bodies, token, give, call, map, ◌⨾◌, choose, many, or_none, nest, bounded, two_ahead, avoid, run, read}
 use Rattle.arc_form.specs.Meaning.{AtMost, Spelling, SpellsBy, Spells}
 use Rattle.arc_form.specs.Places.{Place, Begun, OneTooMany, PassesBy, PassesWithin, Passes}
@@ -66,11 +66,11 @@ told_with {A} {h = h} {ts = ts} {x = x} alike t = record { taken = t.taken; cut 
 
 told_if : {A : Type 0} {M : Spelling A} {B : List Tok → Type 0} {D : Place} {f g : Reader A} {ts : List Tok} {x y : Read A} (test : List Tok → Bool) → Keeps test f ts → Keeps test g ts
     → (test ts ≡ true → Told M B D f ts x) → (test ts ≡ false → Told M B D g ts y) → Told M B D (λ us. cond (test us) (f us) (g us)) ts (cond (test ts) x y)
-told_if {A} {M = M} {B = B} {D = D} {f = f} {g = g} {ts = ts} {x = x} {y = y} test of_f of_g t u = go (test ts) refl
-  where
-    go : (b : Bool) → test ts ≡ b → Told M B D (λ us. cond (test us) (f us) (g us)) ts (cond b x y)
-    go true q = told_with (λ xs r more c k e. ap (λ b. cond b (f (xs ++ more)) (g (xs ++ more))) (of_f xs r more c k e ∙ q)) (t q)
-    go false q = told_with (λ xs r more c k e. ap (λ b. cond b (f (xs ++ more)) (g (xs ++ more))) (of_g xs r more c k e ∙ q)) (u q)
+told_if {M = M} {B = B} {D = D} {f = f} {g = g} {ts = ts} {x = x} {y = y} test of_f of_g t u =
+    (elim (test ts) as (λ b. test ts ≡ b → Told M B D (λ us. cond (test us) (f us) (g us)) ts (cond b x y)) [
+      | true ↦ λ q. told_with (λ xs r more c k e. ap (λ b. cond b (f (xs ++ more)) (g (xs ++ more))) (of_f xs r more c k e ∙ q)) (t q)
+      | false ↦ λ q. told_with (λ xs r more c k e. ap (λ b. cond b (f (xs ++ more)) (g (xs ++ more))) (of_g xs r more c k e ∙ q)) (u q)
+    ]) refl
 
 told_first : {A : Type 0} {M : Spelling A} {B : List Tok → Type 0} {D : Place} {f g : Reader A} {ts : List Tok} {x y : Read A} (T : Kinds)
     → (sees T ts ≡ true → Told M B D f ts x) → (sees T ts ≡ false → Told M B D g ts y) → Told M B D (if_sees T f g) ts (cond (sees T ts) x y)
@@ -279,11 +279,8 @@ module _ {N : Type 0} {Node : N → Type 0} (facts : N → Facts) (body : Bodies
   begun_two : {A : Type 0} (T U : Kinds) (g K : Form N Node A) (ts : List Tok) → sees_two T U ts ≡ false → Begun body K [] → ((t : Tok) → is T t ≡ true → (a : A) × (others : List Tok) × Has facts body sure K a [] (t ∷ others))
       → ((a : A) (xs : List Tok) → Has facts body sure g a [] xs → sees_two T U (xs ++ []) ≡ false → Has facts body sure K a [] xs) → (xs r : List Tok) → ts ≡ xs ++ r → Begun body g xs → Begun body K xs
   begun_two T U g K ts n empty head joins [] r c b = empty
-  begun_two T U g K ts n empty head joins (t ∷ []) r c (a, others, x) = go (is T t) refl
-    where
-      go : (b : Bool) → is T t ≡ b → Begun body K (t ∷ [])
-      go true q = head t q
-      go false q = (a, others, joins a (t ∷ others) x (ap (λ b. b && sees U (others ++ [])) q))
+  begun_two T U g K ts n empty head joins (t ∷ []) r c (a, others, x) =
+      (elim (is T t) as (λ b. is T t ≡ b → Begun body K (t ∷ [])) [ true ↦ head t | false ↦ λ q. (a, others, joins a (t ∷ others) x (ap (λ b. b && sees U (others ++ [])) q)) ]) refl
   begun_two T U g K ts n empty head joins (t ∷ u ∷ xs) r c (a, others, x) = (a, others, joins a (t ∷ u ∷ (xs ++ others)) x (ap (sees_two T U) (sym c) ∙ n))
 
   second_refused : (T U : Kinds) (A : Type 0) (f : Form N Node A) (M : Spelling A) (D : Place) → Decided facts (avoid T U f) → (ts : List Tok) → sees_two T U ts ≡ true → Told M (Begun body (avoid T U f)) D second_unexpected ts (second_unexpected ts)
@@ -340,8 +337,4 @@ module _ {N : Type 0} {Node : N → Type 0} (facts : N → Facts) (body : Bodies
 
   -- without limits no token is too deep
   pub stays : (A : Type 0) (f : Form N Node A) → Decided facts f → (ts : List Tok) → fault_of (run (read body) unlimited f ts) ≡ misfit
-  stays A f d ts = go (fault_of (plain f ts)) (form_told None A f d ts).deep
-    where
-      go : (y : Fault) → (y ≡ too_deep → ⊥) → y ≡ misfit
-      go misfit k = refl
-      go too_deep k = absurd (k refl)
+  stays A f d ts = (elim (fault_of (plain f ts)) as (λ y. (y ≡ too_deep → ⊥) → y ≡ misfit) [ misfit ↦ λ k. refl | too_deep ↦ λ k. absurd (k refl) ]) (form_told None A f d ts).deep

@@ -1,6 +1,6 @@
 -- All of the tokens: what is read of them is what they spell, and each refusal says where and why they spell nothing.
-use Rattle.std.proofs.Common.{◌≡◌, inl, inr, ℕ, zero, suc, ◌<◌, ◌≤◌, ◌+◌, List, [], ◌∷◌, ◌++◌, length, length-append, append_assoc, append-nil, drop, nat_lt, Ok, Err, Bool, true, false, ◌&&◌, Option, Some, None, refl, sym, ap, subst, ◌∙◌, arith}
-use Rattle.std.proofs.lemmas.Bool.{ltb-false}
+use Rattle.std.proofs.Common.{◌≡◌, inl, inr, ℕ, zero, suc, ◌<◌, ◌≤◌, ◌+◌, List, [], ◌∷◌, ◌++◌, length, length-append, append_assoc, append-nil, drop, nat_lt, Ok, Err, true, false, ◌&&◌, Option, Some, None, refl, sym, ap, subst, ◌∙◌, arith}
+use Rattle.std.proofs.lemmas.Bool.{true_from_ne_false, ltb-false}
 use Rattle.std.proofs.lemmas.Bool.Decides.{nat_tests}
 use Rattle.std.proofs.Math.Seq.{drop-append_seam}
 use Rattle.arc_lex.specs.Tokens.{Tok}
@@ -108,7 +108,8 @@ module _ {N : Type 0} {Node : N → Type 0} (facts : N → Facts) (body : Bodies
 
   -- a form goes over a limit where one token is too many
   goes_over_there : (n : ℕ) (A : Type 0) (f : Form N Node A) → Decided facts f → (before : List Tok) (t : Tok) (r : List Tok) → OneTooMany body (Some n) f before (t ∷ r) → goes_over n (before ++ t ∷ r) (run (read body) unlimited f (before ++ t ∷ r)) ≡ true
-  goes_over_there n A f d before t r (l, (a, others, y), whole) = go (goes_over n ts (run (read body) unlimited f ts)) refl
+  goes_over_there n A f d before t r (l, (a, others, y), whole) =
+      true_from_ne_false _ (at (run (read body) unlimited f ts) (form_told facts body sure None A f d ts) (stays facts body sure A f d ts))
     where
       ts : List Tok
       ts = before ++ t ∷ r
@@ -135,10 +136,6 @@ module _ {N : Type 0} {Node : N → Type 0} (facts : N → Facts) (body : Bodies
           let p = not_over n (length s) (length ts) (omega (arith, all)) e in
           let few : length u.taken < n = omega (arith, p, ap length u.cut, length-append u.taken s) in
           stops u.taken (Err (y, s)) u.cut (omega (arith, few)) (λ z. absurd (omega (arith, few, ap length z))) (u.same z)
-
-      go : (b : Bool) → goes_over n ts (run (read body) unlimited f ts) ≡ b → b ≡ true
-      go true e = refl
-      go false e = absurd (at (run (read body) unlimited f ts) (form_told facts body sure None A f d ts) (stays facts body sure A f d ts) e)
 
   bounded_there : (most : Option ℕ) (A : Type 0) (f : Form N Node A) → Decided facts f → (before r : List Tok) → OneTooMany body most f before r → up_to most (run (read body) unlimited f) (before ++ r) ≡ Err (too_deep, r)
   unfolding up_to

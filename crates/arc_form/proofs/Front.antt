@@ -1,6 +1,6 @@
 -- What is read of the tokens up to a limit and one more decides what is read of so many tokens at most.
-use Rattle.std.proofs.Common.{◌≡◌, ℕ, zero, suc, ◌<◌, ◌≤◌, ◌-◌, List, [], ◌∷◌, ◌++◌, length, length-append, take, drop, Ok, Err, Bool, true, false, Some, None, refl, sym, ap, ◌∙◌, arith}
-use Rattle.std.proofs.lemmas.Bool.{ltb-false}
+use Rattle.std.proofs.Common.{◌≡◌, ℕ, zero, suc, ◌<◌, ◌≤◌, ◌-◌, List, [], ◌∷◌, ◌++◌, length, length-append, take, drop, Ok, Err, true, false, Some, None, refl, sym, ap, ◌∙◌, arith}
+use Rattle.std.proofs.lemmas.Bool.{ltb-false, true_from_ne_false}
 use Rattle.std.proofs.lemmas.Bool.Decides.{nat_tests}
 use Rattle.std.proofs.lemmas.List.{length-take}
 use Rattle.std.proofs.Math.Seq.{drop-append_seam}
@@ -123,11 +123,9 @@ module _ {A : Type 0} (n : ℕ) (f : Reader A) (stops : (ts : List Tok) → Stop
     -- lists that are alike so far go over the limit both, or none
     pub over_so : (x : Read A) → f (toks ahead) ≡ x → goes_over n (toks ahead) x ≡ true → r ≡ drop n tokens → up_to (Some n) f (toks tokens) ≡ Err (too_deep, toks r)
     unfolding up_to ts us
-    over_so x e o d = rw (go (goes_over n ts (f ts)) refl) (ap (λ u. Err (too_deep, u)) (sym (ap toks d ∙ toks_drop n tokens)))
-      where
-        go : (b : Bool) → goes_over n (toks tokens) (f (toks tokens)) ≡ b → goes_over n (toks tokens) (f (toks tokens)) ≡ true
-        go true q = q
-        go false q = let no : true ≡ false = sym (ap (goes_over n us) e ∙ o) ∙ (alike ts us (sym alike_toks) q).within in cc
+    over_so x e o d =
+        let over : goes_over n ts (f ts) ≡ true = true_from_ne_false _ (λ q. let no : true ≡ false = sym (ap (goes_over n us) e ∙ o) ∙ (alike ts us (sym alike_toks) q).within in cc) in
+        rw over (ap (λ u. Err (too_deep, u)) (sym (ap toks d ∙ toks_drop n tokens)))
 
     -- no more are left than there were
     pub rest_short : (y : Fault) → f (toks ahead) ≡ Err (y, toks rest) → length rest ≤ length ahead

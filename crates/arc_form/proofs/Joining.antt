@@ -18,8 +18,5 @@ module _ {A B : Type 0} (T : Kinds) (f : Reader A) (join : B → A → B) (front
   joined b us = bind {A = B → B} (bind (loop T f us) (λ all. ret (λ left. fold join left all))) (λ make. ret (make b))
 
   pub joined_is : (b : B) (us : List Tok) → joined b us ≡ if_sees T (f >>= (λ a. joined (join b a))) (ret b) us
-  joined_is b us = bind_twice (loop T f us) (λ all. ret (λ left. fold join left all)) (λ make. ret (make b)) ∙ joining_is b us ∙ ap (λ y. cond (sees T us) y (ret b us)) (back (f us))
-    where
-      back : (x : Read A) → bind x (λ a. joining T f join (join b a)) ≡ bind x (λ a. joined (join b a))
-      back (Ok x) = sym (bind_twice (loop T f x.1) (λ all. ret (λ left. fold join left all)) (λ make. ret (make (join b x.0))))
-      back (Err x) = refl
+  joined_is b us = bind_twice (loop T f us) (λ all. ret (λ left. fold join left all)) (λ make. ret (make b)) ∙ joining_is b us ∙ ap (λ y. cond (sees T us) y (ret b us)) (elim (f us) as (λ (x : Read A). bind x (λ a. joining T f join (join b a)) ≡ bind x (λ a. joined (join b a)))
+      [ Ok x ↦ sym (bind_twice (loop T f x.1) (λ all. ret (λ left. fold join left all)) (λ make. ret (make (join b x.0)))) | Err x ↦ refl ])

@@ -32,12 +32,12 @@ pub record Alike {A : Type 0} (d : ℕ) (ts : List Tok) (x y : Read A) : Type 0 
 pub record Takes {A : Type 0} (d : ℕ) (f : Reader A) : Type 0 where
   pub each : (ts : List Tok) → Alike d ts (f ts) (f ts)
 
+least_less : {A : Type 0} (d e : ℕ) (x : Read A) → e ≤ d → (least e x ≤ least d x) × (length (rest_of x) ≤ least d x)
+least_less d e (Ok x) p = (omega arith, omega arith)
+least_less d e (Err x) p = (omega arith, omega arith)
+
 pub alike_less : {A : Type 0} {d : ℕ} {ts : List Tok} {x y : Read A} (e : ℕ) → e ≤ d → Alike d ts x y → Alike e ts x y
-alike_less {A} {d = d} {ts = ts} {x = x} e p a = record { same = a.same; left = go x a.left }
-  where
-    go : (z : Read A) → least d z ≤ length ts → least e z ≤ length ts
-    go (Ok z) q = omega arith
-    go (Err z) q = q
+alike_less {d = d} {x = x} e p a = record { same = a.same; left = omega (arith, (least_less d e x p).0, a.left) }
 
 pub alike_ret : {A : Type 0} (ts : List Tok) (a : A) → Alike 0 ts (ret a ts) (ret a ts)
 alike_ret ts a = record { same = refl; left = omega arith }
@@ -62,22 +62,15 @@ alike_if false p q = q
 
 pub alike_token : {A : Type 0} (T : Kinds) (g : Tok → A) (ts : List Tok) → Alike 1 ts (take_one T g ts) (take_one T g ts)
 alike_token T g [] = record { same = refl; left = omega arith }
-alike_token T g (t ∷ ts) = go (is T t)
-  where
-    go : (b : Bool) → Alike 1 (t ∷ ts) (taken b g t ts) (taken b g t ts)
-    go true = record { same = refl; left = omega arith }
-    go false = record { same = refl; left = omega arith }
+alike_token T g (t ∷ ts) =
+    elim (is T t) as (λ b. Alike 1 (t ∷ ts) (taken b g t ts) (taken b g t ts)) [ true ↦ record { same = refl; left = omega arith } | false ↦ record { same = refl; left = omega arith } ]
 
 -- what is left after a value
 pub ok_left : {A : Type 0} {d : ℕ} {ts : List Tok} {x y : Read A} {a : A} {s : List Tok} → Alike d ts x y → x ≡ Ok (a, s) → d + length s ≤ length ts
 ok_left {d = d} {ts = ts} l e = subst (λ z. least d z ≤ length ts) e l.left
 
 pub all_left : {A : Type 0} {d : ℕ} {ts : List Tok} (x y : Read A) → Alike d ts x y → length (rest_of x) ≤ length ts
-all_left {A} {d = d} {ts = ts} x y l = go x l.left
-  where
-    go : (z : Read A) → least d z ≤ length ts → length (rest_of z) ≤ length ts
-    go (Ok z) q = omega arith
-    go (Err z) q = q
+all_left {d = d} x y l = omega (arith, (least_less d d x (omega arith)).1, l.left)
 
 -- one reader after another
 pub then : {A B : Type 0} {d e : ℕ} {f : Reader A} {g : A → Reader B} → Takes d f → ((a : A) → Takes e (g a)) → Takes (d + e) (f >>= g)
@@ -96,19 +89,16 @@ takes_ret a = record { each = λ ts. alike_ret ts a }
 
 pub nested_is : {A : Type 0} (most : Option ℕ) (d : ℕ) (T : Kinds) (f : Reader A) (ts : List Tok) → nested most d T f ts ≡ cond (is_above most d) (cond (sees T ts) (Err (too_deep, ts)) (Err (misfit, ts))) (f ts)
 unfolding nested
-nested_is most d T f ts = go (is_above most d)
-  where
-    go : (b : Bool) → cond b (λ us. cond (sees T us) (Err (too_deep, us)) (Err (misfit, us))) f ts ≡ cond b (cond (sees T ts) (Err (too_deep, ts)) (Err (misfit, ts))) (f ts)
-    go true = refl
-    go false = refl
+nested_is {A} most d T f ts =
+    let refused : Reader A = λ us. cond (sees T us) (Err (too_deep, us)) (Err (misfit, us)) in
+    elim (is_above most d) as (λ b. cond b refused f ts ≡ cond b (refused ts) (f ts)) [ true ↦ refl | false ↦ refl ]
 
 pub alike_cut : {A : Type 0} {d : ℕ} {ts : List Tok} {x y : Read A} (most : Option ℕ) → Alike d ts x y → Alike d ts (cut most ts x) (cut most ts y)
 alike_cut None a = a
-alike_cut {d = d} {ts = ts} {x = x} (Some n) a = record { same = ap (cut (Some n) ts) a.same; left = go (goes_over n ts x) }
-  where
-    go : (b : Bool) → least d (cond b (Err (too_deep, drop n ts)) x) ≤ length ts
-    go true = omega (arith, length-drop n ts)
-    go false = a.left
+alike_cut {d = d} {ts = ts} {x = x} (Some n) a = record {
+  same = ap (cut (Some n) ts) a.same;
+  left = elim (goes_over n ts x) as (λ b. least d (cond b (Err (too_deep, drop n ts)) x) ≤ length ts) [ true ↦ omega (arith, length-drop n ts) | false ↦ a.left ];
+}
 
 -- any numbers of turns, if they are more than the tokens
 pub turns_alike : {A : Type 0} {f h : Reader A} (T : Kinds) (n m : ℕ) (ts : List Tok) → length ts < n → length ts < m → ((us : List Tok) → length us ≤ length ts → Alike 1 us (f us) (h us)) → Alike 0 ts (turns n T f ts) (turns m T h ts)

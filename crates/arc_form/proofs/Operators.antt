@@ -54,11 +54,9 @@ module _ {O : Type 0} where
 
   other_has : (rows : List (Row O)) (l i : ℕ) (j : List ℕ) → nat_eq i 5 ≡ false → has (marks_at l rows) (i, j) ≡ false
   other_has [] l i j e = refl
-  other_has (r ∷ rows) l i j e = go (nat_eq r.level l) (other_has rows l i j e)
-    where
-      go : (c : Bool) → has (marks_at l rows) (i, j) ≡ false → has (cond c (mark r.mark ∪ marks_at l rows) (marks_at l rows)) (i, j) ≡ false
-      go true h = rw e h
-      go false h = h
+  other_has (r ∷ rows) l i j e =
+      let rest = other_has rows l i j e in
+      elim (nat_eq r.level l) as (λ c. has (cond c (mark r.mark ∪ marks_at l rows) (marks_at l rows)) (i, j) ≡ false) [ true ↦ rw e rest | false ↦ rest ]
 
   -- whether a token is of a level
   is_operator : (rows : List (Row O)) → distinct rows ≡ true → (l : ℕ) (s : Sort) → has (marks_at l rows) (kind s) ≡ is_at l (entry_of rows s)
@@ -71,11 +69,11 @@ module _ {O : Type 0} where
     where
       row : (rows : List (Row O)) (m : Mark) → t.sort ≡ Sign m → entry rows m ≡ Some e → operator_of other rows t ≡ e.1
       row [] m s q = cc
-      row (r ∷ rows) m s q = ap (λ z. cond (has (mark r.mark) (kind z)) r.operator (operator_of other rows t)) s ∙ pick (has (mark r.mark) (kind (Sign m))) q (row rows m s)
-        where
-          pick : (b : Bool) → cond b (Some (r.level, r.operator)) (entry rows m) ≡ Some e → (entry rows m ≡ Some e → operator_of other rows t ≡ e.1) → cond b r.operator (operator_of other rows t) ≡ e.1
-          pick true q h = let is_e : (r.level, r.operator) ≡ e = cc in ap (λ (x : ℕ × O). x.1) is_e
-          pick false q h = h q
+      row (r ∷ rows) m s q =
+          let rest = row rows m s in
+          let first : (x : ℕ × O) → Some x ≡ Some e → x.1 ≡ e.1 = λ x q. let same : x ≡ e = cc in ap (λ (x : ℕ × O). x.1) same in
+          ap (λ z. cond (has (mark r.mark) (kind z)) r.operator (operator_of other rows t)) s
+          ∙ (elim (has (mark r.mark) (kind (Sign m))) as (λ b. cond b (Some (r.level, r.operator)) (entry rows m) ≡ Some e → cond b r.operator (operator_of other rows t) ≡ e.1) [ true ↦ first (r.level, r.operator) | false ↦ rest ]) q
 
       go : (s : Sort) → t.sort ≡ s → entry_of rows s ≡ Some e → operator_of other rows t ≡ e.1
       go (Sign m) s q = row rows m s q
@@ -88,10 +86,7 @@ module _ {O : Type 0} where
       → take_one (marks_at l rows) (placed_operator other rows) (t ∷ ts) ≡ taken_entry l t.from (entry_of rows t.sort) (t ∷ ts)
   takes_operator rows d other l t ts = go (entry_of rows t.sort) refl (is_operator rows d l t.sort)
     where
-      at : (e : ℕ × O) → operator_of other rows t ≡ e.1 → (b : Bool) → taken b (placed_operator other rows) t ts ≡ cond b (Ok ((t.from, e.1), ts)) (Err (misfit, t ∷ ts))
-      at e q true = ap (λ o. Ok ((t.from, o), ts)) q
-      at e q false = refl
-
       go : (x : Option (ℕ × O)) → entry_of rows t.sort ≡ x → is (marks_at l rows) t ≡ is_at l x → take_one (marks_at l rows) (placed_operator other rows) (t ∷ ts) ≡ taken_entry l t.from x (t ∷ ts)
       go None q h = rw h refl
-      go (Some e) q h = rw h (at e (operator_is rows other t e q) (nat_eq e.0 l))
+      go (Some e) q h = rw h (elim (nat_eq e.0 l) as (λ b. taken b (placed_operator other rows) t ts ≡ cond b (Ok ((t.from, e.1), ts)) (Err (misfit, t ∷ ts)))
+          [ true ↦ ap (λ o. Ok ((t.from, o), ts)) (operator_is rows other t e q) | false ↦ refl ])

@@ -24,16 +24,10 @@ before_is tree (a ∷ made) others = ap (λ v. tree a ∷ v) (before_is tree mad
 
 -- what a loop reads after these is joined to them, one by one
 pub row_is : {A T : Type 0} (tree : A → T) (K : Kinds) (f : Reader T) (made : List A) (us : List Tok) → with_row tree made (loop K f us) ≡ joining K f push (all tree made) us
-row_is {A} {T} tree K f made us = go (loop K f us)
-  where
-    go : (x : Read (List T)) → with_row tree made x ≡ bind x (λ others. ret (fold push (all tree made) others))
-    go (Ok x) = ap (λ v. Ok (v, x.1)) (before_is tree made x.0 ∙ sym (fold_push (all tree made) x.0))
-    go (Err x) = refl
+row_is {A} {T} tree K f made us =
+    elim (loop K f us) as (λ (x : Read (List T)). with_row tree made x ≡ bind x (λ others. ret (fold push (all tree made) others)))
+    [ Ok x ↦ ap (λ v. Ok (v, x.1)) (before_is tree made x.0 ∙ sym (fold_push (all tree made) x.0)) | Err x ↦ refl ]
 
 -- and what it reads after none
 pub row_start : {T : Type 0} (K : Kinds) (f : Reader T) (us : List Tok) → loop K f us ≡ joining K f push [] us
-row_start {T} K f us = go (loop K f us)
-  where
-    go : (x : Read (List T)) → x ≡ bind x (λ others. ret (fold push [] others))
-    go (Ok x) = ap (λ v. Ok (v, x.1)) (sym (fold_push [] x.0))
-    go (Err x) = refl
+row_start {T} K f us = elim (loop K f us) as (λ (x : Read (List T)). x ≡ bind x (λ others. ret (fold push [] others))) [ Ok x ↦ ap (λ v. Ok (v, x.1)) (sym (fold_push [] x.0)) | Err x ↦ refl ]
