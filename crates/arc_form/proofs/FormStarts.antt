@@ -120,13 +120,6 @@ module _ {N : Type 0} {Node : N → Type 0} (facts : N → Facts) where
         let first = seen_some (begins facts f) ys (some_starts limits f d (grind (arith, q.0)) a.0 (zs ++ rest) ys x) in
         let next = seen_some (begins facts g) zs (some_starts limits g d' (grind (arith, q.1)) a.1 rest zs y) in
         omega (arith, first, next, ap length c, length-append ys zs)
-    longs limits A (choose T f g) (d, o) e a rest xs (inl x) = longs limits A f d (both (long facts f) (long facts g) e).0 a rest xs x
-    longs limits A (choose T f g) (d, (d', o)) e a rest xs (inr x) = longs limits A g d' (both (long facts f) (long facts g) e).1 a rest xs x
-    longs limits A (nest m T f) (d, o) e a rest xs (p, x) = longs limits A f d e a rest xs x
-    longs limits A (bounded f) (d, o) e a rest xs (p, x) = longs unlimited A f d e a rest xs x
-    longs limits A (two_ahead T U f g) (d, o) e a rest xs (inl x) = longs limits A f d (both (long facts f) (long facts g) e).0 a rest xs x
-    longs limits A (two_ahead T U f g) (d, (d', o)) e a rest xs (inr (x, n)) = longs limits A g d' (both (long facts f) (long facts g) e).1 a rest xs x
-    longs limits A (avoid T U f) (d, o) e a rest xs (x, n) = longs limits A f d e a rest xs x
     longs limits A f d e a rest xs x = cc
 
     -- the second token of what has two heads

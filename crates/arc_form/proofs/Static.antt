@@ -80,11 +80,6 @@ module _ {N : Type 0} {Node : N → Type 0} (facts : N → Facts) where
   abbrev pub long : {A : Type 0} → Form N Node A → Bool
   long (map h f) = long f
   long (f ⨾ g) = not (nullable f) && not (nullable g)
-  long (choose T f g) = long f && long g
-  long (nest d T f) = long f
-  long (bounded f) = long f
-  long (two_ahead T U f g) = long f && long g
-  long (avoid T U f) = long f
   long _ = false
 
   abbrev pub bars : {A : Type 0} → Form N Node A → Kinds
