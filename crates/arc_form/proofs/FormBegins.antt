@@ -1,5 +1,5 @@
 -- Without limits a form takes a first token with which it begins, and refuses any other.
-use Rattle.std.proofs.Common.{◌≡◌, ℕ, suc, ◌<◌, ◌≤◌, ◌+◌, List, [], ◌∷◌, length, nat_lt, Ok, Err, Bool, true, false, cond, ◌&&◌, ◌||◌, Option, Some, None, refl, sym, ap, subst, ◌∙◌, arith}
+use Rattle.std.proofs.Common.{◌≡◌, ℕ, suc, ◌<◌, ◌≤◌, ◌+◌, List, [], ◌∷◌, length, drop, nat_lt, Ok, Err, Bool, true, false, cond, ◌&&◌, ◌||◌, Option, Some, None, refl, sym, ap, subst, ◌∙◌, arith}
 use Rattle.std.proofs.lemmas.Bool.Decides.{nat_tests}
 use Rattle.arc_lex.specs.Tokens.{Tok}
 use Rattle.arc_form.specs.Kinds.{Kinds, ◌∪◌, is}
@@ -94,6 +94,10 @@ front_two o true true false x y ts k p q = let no = k refl in cc
 front_two o true false b x y ts k p q = q
 front_two o false u b x y ts k p q = q
 
+pub second_taken : (T : Kinds) (ts : List Tok) → sees T ts ≡ true → length (drop 1 ts) < length ts
+second_taken T [] s = cc
+second_taken T (t ∷ ts) s = omega arith
+
 module _ {N : Type 0} {Node : N → Type 0} (facts : N → Facts) (body : Bodies N Node) (sure : (n : N) → Fits facts body n) where
   abbrev FrontAt : Property N Node
   FrontAt o A f ts = Positive (under o) → Front o (sees (begins facts f) ts) (nullable facts f) (reading body o f ts) ts
@@ -149,8 +153,7 @@ module _ {N : Type 0} {Node : N → Type 0} (facts : N → Facts) (body : Bodies
     where
       second_more : (o : Option Limits) (ts : List Tok) → sees T ts ≡ true → More {A = A} o (second_unexpected ts) ts
       second_more (Some limits) ts s = tt
-      second_more None [] s = cc
-      second_more None (t ∷ ts) s = omega arith
+      second_more None ts s = second_taken T ts s
 
   -- a form takes a token of those with which it begins
   pub form_takes : (A : Type 0) (f : Form N Node A) → Decided facts f → (ts : List Tok) → sees (begins facts f) ts ≡ true → length (rest_of (run (read body) unlimited f ts)) < length ts

@@ -67,11 +67,8 @@ firm_up_to : {A : Type 0} (o : Option Limits) (f : Reader A) (a : A) (E : Type 0
 unfolding up_to
 firm_up_to None f a E r xs p m = m
 firm_up_to (Some limits) f a E r xs p (inr (n, m)) = inr (n, tt)
-firm_up_to (Some limits) f a E r xs p (inl e) = inl (go limits.tokens p)
-  where
-    go : (most : Option ℕ) → AtMost most (length xs) → up_to most f (xs ++ r) ≡ Ok (a, r)
-    go None p = e
-    go (Some n) p = rw (e, le-ltb (length r + n) (length (xs ++ r)) (omega (arith, length-append xs r, p))) refl
+firm_up_to (Some limits) f a E r xs p (inl e) =
+    inl ((elim limits.tokens as (λ most. AtMost most (length xs) → up_to most f (xs ++ r) ≡ Ok (a, r)) [ None ↦ λ p. e | Some n ↦ λ p. rw (e, le-ltb (length r + n) (length (xs ++ r)) (omega (arith, length-append xs r, p))) refl ]) p)
 
 pub two_seen : (T U : Kinds) (xs rest : List Tok) → sees T xs ≡ true → sees_second U xs ≡ true → sees_two T U (xs ++ rest) ≡ true
 two_seen T U xs rest p q = rw (sees_more T xs rest p) (second_more U xs rest q)
@@ -157,17 +154,16 @@ module _ {N : Type 0} {Node : N → Type 0} (facts : N → Facts) (body : Bodies
     firm o A (two_ahead T U f g) (d, (d', (h, (p, q)))) a rest xs r (inl x) =
         rw (two_seen T U xs r (head_starts facts L s (under o) T f d h a rest xs x) (second_starts facts L s U (under o) _ f d p a rest xs x)) (firm_less o (reading body o f (xs ++ r)) a _ _ r
         (λ e. (both_ends f g rest r e.0 (fair_right (if_so (not (long facts g)) U) (bars facts f ∪ bars facts g) rest r e.1)).0) (firm o A f d a rest xs r x))
-    firm o A (two_ahead T U f g) (d, (d', (h, (p, (n, q))))) a rest xs r (inr (x, e)) = go (sees_two T U (xs ++ r)) refl (firm o A g d' a rest xs r x)
-      where
-        second : Kinds
-        second = if_so (not (long facts g)) U
-
-        some : 1 ≤ length xs
-        some = seen_some (begins facts g) xs (some_starts facts L s (under o) g d' n a rest xs x)
-
-        go : (b : Bool) → sees_two T U (xs ++ r) ≡ b → Firm o (reading body o g (xs ++ r)) a (Ends g rest r) r → Firm o (cond b (reading body o f (xs ++ r)) (reading body o g (xs ++ r))) a (Ends (two_ahead T U f g) rest r) r
-        go true k m = inr (λ ends. let no = two_kept (long facts g) T U xs rest r (λ l. longs facts L s (under o) _ g d' l a rest xs x) some (fair_left second (bars facts f ∪ bars facts g) rest r ends.1) e in cc, more_two o T U A f d p h xs rest r k e some)
-        go false k m = firm_less o (reading body o g (xs ++ r)) a _ _ r (λ e. (both_ends f g rest r e.0 (fair_right second (bars facts f ∪ bars facts g) rest r e.1)).1) m
+    firm o A (two_ahead T U f g) (d, (d', (h, (p, (n, q))))) a rest xs r (inr (x, e)) =
+        let second = if_so (not (long facts g)) U in
+        let others = bars facts f ∪ bars facts g in
+        let some = seen_some (begins facts g) xs (some_starts facts L s (under o) g d' n a rest xs x) in
+        let kept = two_kept (long facts g) T U xs rest r (λ l. longs facts L s (under o) _ g d' l a rest xs x) some in
+        let of_g = firm o A g d' a rest xs r x in
+        (elim (sees_two T U (xs ++ r)) as (λ b. sees_two T U (xs ++ r) ≡ b → Firm o (cond b (reading body o f (xs ++ r)) (reading body o g (xs ++ r))) a (Ends (two_ahead T U f g) rest r) r) [
+          | true ↦ λ k. inr (λ ends. let no = kept (fair_left second others rest r ends.1) e in cc, more_two o T U A f d p h xs rest r k e some)
+          | false ↦ λ k. firm_less o (reading body o g (xs ++ r)) a _ _ r (λ e. (both_ends f g rest r e.0 (fair_right second others rest r e.1)).1) of_g
+        ]) refl
     firm o A (avoid T U f) (d, (e, (n, (t, (l, p))))) a rest xs r (x, q) = rw (two_kept true T U xs [] r (λ z. longs facts L s (under o) _ f d l a rest xs x) (seen_some (begins facts f) xs (some_starts facts L s (under o) f d n a rest xs x)) (inl (none_seen r)) (ap (sees_two T U) (append-nil xs) ∙ q)) (firm o A f d a rest xs r x)
 
   within_firm : (h : ℕ) (o : Option Limits) (n : N) (a : Node n) (rest xs : List Tok) → Within body h (under o) n a rest xs → (r : List Tok) → Firm o (read body (under o) n (xs ++ r)) a (Ends (call n) rest r) r

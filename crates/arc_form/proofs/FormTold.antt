@@ -15,7 +15,7 @@ use Rattle.arc_form.proofs.Local.{rest_of, fault_of, put, loop_turn, nested_is}
 use Rattle.arc_form.proofs.FormLocal.{read_is, some_front, Property, PartsOf, under, reading, by_reading}
 use Rattle.arc_form.proofs.FormHeights.{spells_body, form_free}
 use Rattle.arc_form.proofs.FormStarts.{form_alone}
-use Rattle.arc_form.proofs.FormBegins.{form_idle, form_takes}
+use Rattle.arc_form.proofs.FormBegins.{second_taken, form_idle, form_takes}
 use Rattle.arc_form.proofs.FormExamples.{Has, join, not_barred, some_example, avoided_example, goes_on_so, with_head}
 use Rattle.arc_form.proofs.FormFirm.{both_of, Firm, Ends, form_firm}
 
@@ -249,14 +249,15 @@ module _ {N : Type 0} {Node : N → Type 0} (facts : N → Facts) (body : Bodies
     where
       go : (most : Option ℕ) → ((xs r : List Tok) → OneTooMany body most f xs r → Deep (Some limits) (bounded f) xs r) → Told (λ a r xs. AtMost most (length xs) × Has facts body sure f a r xs) (Begun body (bounded f)) (Deep (Some limits) (bounded f)) (plain f) ts (cut most ts (plain f ts))
       go None k = told_as (λ a r xs q c m. (tt, m)) (λ xs r c b. (b.0, b.1, (tt, b.2))) (λ xs r c p. absurd p) t
-      go (Some n) k = at (goes_over n ts (plain f ts)) refl
-        where
-          few : (a : A) (r xs : List Tok) → goes_over n ts (plain f ts) ≡ false → plain f ts ≡ Ok (a, r) → ts ≡ xs ++ r → length xs ≤ n
-          few a r xs e q c = let p = ltb-false (length r + n) (length ts) (ap (goes_over n ts) (sym q) ∙ e) in omega (arith, length-append xs r, ap length c, p)
-
-          at : (b : Bool) → goes_over n ts (plain f ts) ≡ b → Told (λ a r xs. (length xs ≤ n) × Has facts body sure f a r xs) (Begun body (bounded f)) (Deep (Some limits) (bounded f)) (plain f) ts (cond b (Err (too_deep, drop n ts)) (plain f ts))
-          at true e = let p = too_many n A f d ts t e in record { taken = take n ts; cut = sym (take-append-drop n ts); good = (p.0.0, p.0.1, (tt, p.0.2)); same = λ q. cc; deep = λ q. k (take n ts) (drop n ts) p.1 }
-          at false e = told_as (λ a r xs q c m. (few a r xs e q c, m)) (λ xs r c b. (b.0, b.1, (tt, b.2))) (λ xs r c p. absurd p) t
+      go (Some n) k =
+          let few : (a : A) (r xs : List Tok) → goes_over n ts (plain f ts) ≡ false → plain f ts ≡ Ok (a, r) → ts ≡ xs ++ r → length xs ≤ n =
+          λ a r xs e q c. let p = ltb-false (length r + n) (length ts) (ap (goes_over n ts) (sym q) ∙ e) in omega (arith, length-append xs r, ap length c, p)
+          in
+          (elim (goes_over n ts (plain f ts)) as (λ b. goes_over n ts (plain f ts) ≡ b
+          → Told (λ a r xs. (length xs ≤ n) × Has facts body sure f a r xs) (Begun body (bounded f)) (Deep (Some limits) (bounded f)) (plain f) ts (cond b (Err (too_deep, drop n ts)) (plain f ts))) [
+            | true ↦ λ e. let p = too_many n A f d ts t e in record { taken = take n ts; cut = sym (take-append-drop n ts); good = (p.0.0, p.0.1, (tt, p.0.2)); same = λ q. cc; deep = λ q. k (take n ts) (drop n ts) p.1 }
+            | false ↦ λ e. told_as (λ a r xs q c m. (few a r xs e q c, m)) (λ xs r c b. (b.0, b.1, (tt, b.2))) (λ xs r c p. absurd p) t
+          ]) refl
 
   told_nest : (o : Option Limits) (m : ℕ) (T : Kinds) (A : Type 0) (f : Form N Node A) → Decided facts (nest m T f) → (ts : List Tok) → ToldAt o A f ts → ToldAt o A (nest m T f) ts
   told_nest o m T A f (d, h) ts x =
@@ -322,15 +323,11 @@ module _ {N : Type 0} {Node : N → Type 0} (facts : N → Facts) (body : Bodies
       (begun_two T U g (two_ahead T U f g) ts q (let b = begun_none f d in (b.0, b.1, inl b.2)) (λ t i. let w = with_head facts body sure U A f d p t (sees_among T (begins facts f) (t ∷ []) h.1.1 i) in (w.0, w.1, inl w.2)) (λ a xs m z. inr (m, z)))
       (λ xs r c p. deep_as o g (two_ahead T U f g) xs xs r r (λ of y. inr (y, ap (sees_two T U) (sym c) ∙ q)) p) y)
   told o A (avoid T U f) (d, (i, (n, (k, l)))) ts x =
-      told_two T U (λ s. second_taken ts s) (λ s. form_takes facts body sure A f d ts (sees_among T (begins facts f) ts k s))
+      told_two T U (λ s. second_taken T ts s) (λ s. form_takes facts body sure A f d ts (sees_among T (begins facts f) ts k s))
       (λ q. second_refused T U A f (SpellsBy (Spells body) (under o) (avoid T U f)) (Deep o (avoid T U f)) (d, (i, (n, (k, l)))) ts q)
       (λ q. told_as (λ a r xs z c m. (m, two_less T U xs r (ap (sees_two T U) (sym c) ∙ q)))
       (begun_two T U f (avoid T U f) ts q (let e = avoided_example facts body sure T U A f (d, (i, (n, (k, l)))) in (e.0, e.1, e.3)) (goes_on_so facts body sure T U A f (d, (i, (n, (k, l))))) (λ a xs m z. (m, two_less T U xs [] z)))
       (λ xs r c p. deep_as o f (avoid T U f) xs xs r r (λ of y. (y, ap (sees_two T U) (sym c) ∙ q)) p) x)
-    where
-      second_taken : (us : List Tok) → sees T us ≡ true → length (drop 1 us) < length us
-      second_taken [] s = cc
-      second_taken (t ∷ us) s = omega arith
 
   pub form_told : (o : Option Limits) (A : Type 0) (f : Form N Node A) → Decided facts f → (ts : List Tok) → ToldAt o A f ts
   form_told o A f d ts = by_reading facts body sure ToldAt told o A f d ts

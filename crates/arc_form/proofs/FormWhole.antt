@@ -1,34 +1,32 @@
 -- All of the tokens: what is read of them is what they spell, and each refusal says where and why they spell nothing.
-use Rattle.std.proofs.Common.{◌≡◌, inl, inr, ℕ, zero, suc, ◌<◌, ◌≤◌, ◌+◌, List, [], ◌∷◌, ◌++◌, length, length-append, append_assoc, append-nil, drop, nat_lt, Ok, Err, true, false, ◌&&◌, Option, Some, None, refl, sym, ap, subst, ◌∙◌, arith}
+use Rattle.std.proofs.Common.{◌≡◌, inl, inr, ℕ, zero, suc, ◌<◌, ◌≤◌, ◌+◌, List, [], ◌∷◌, ◌++◌, length, length-append, append_assoc, append-nil, take, drop, nat_lt, Ok, Err, true, false, ◌&&◌, Option, Some, None, refl, sym, ap, subst, ◌∙◌, arith}
 use Rattle.std.proofs.lemmas.Bool.{true_from_ne_false, ltb-false}
 use Rattle.std.proofs.lemmas.Bool.Decides.{nat_tests}
-use Rattle.std.proofs.Math.Seq.{drop-append_seam}
+use Rattle.std.proofs.lemmas.List.{take-append-drop, take-append-le, drop-append-le}
+use Rattle.std.proofs.Math.Seq.{take-append_seam, drop-append_seam}
 use Rattle.arc_lex.specs.Tokens.{Tok}
 use Rattle.arc_form.specs.Kinds.{Kinds}
 use Rattle.arc_form.specs.Reader.{Read, Reader, Fault, misfit, too_deep, bind, ◌>>=◌, ret, first, sees, loop, nested, goes_over, up_to}
 use Rattle.arc_form.specs.Form.{Limits, unlimited, Form, Bodies, token, give, call, map, ◌⨾◌, choose, many, or_none, nest, bounded, two_ahead, avoid, run, read}
-use Rattle.arc_form.specs.Meaning.{Spelling, SpellsAll, SpellsBy, Spells}
+use Rattle.arc_form.specs.Meaning.{SpellsAll, SpellsBy, Spells}
 use Rattle.arc_form.specs.Places.{Begun, OneTooMany, PassesBy, PassesWithin, Passes}
 use Rattle.arc_form.specs.Whole.{SpellsWhole, end, read_whole, FitsNone}
-use Rattle.arc_form.proofs.Sets.{apart, sees_among, sees_apart, sees_other, sees_more}
+use Rattle.arc_form.proofs.Sets.{sees_among, sees_apart, sees_other, sees_more}
 use Rattle.arc_form.proofs.Static.{Facts, begins, goes_on, Decided, Heads, Fits}
-use Rattle.arc_form.proofs.Local.{Takes, rest_of, fault_of, loop_more, nested_is}
+use Rattle.arc_form.proofs.Local.{rest_of, fault_of, loop_more, nested_is, loop_turn}
 use Rattle.arc_form.proofs.FormLocal.{read_is, some_front}
 use Rattle.arc_form.proofs.FormHeights.{form_free}
 use Rattle.arc_form.proofs.FormBegins.{Positive, deep_begins, deep_second}
-use Rattle.arc_form.proofs.FormStarts.{form_alone, Starts, start_all, head_starts, spells_starts}
+use Rattle.arc_form.proofs.FormStarts.{form_alone, head_starts, spells_starts}
 use Rattle.arc_form.proofs.FormFirm.{nested_fits, form_complete}
 use Rattle.arc_form.proofs.FormTold.{Told, Same, told_begun, form_told, stays}
 
 -- of two fronts of a list, the longer one goes on from the other
 longer : (b s c r : List Tok) → b ++ s ≡ c ++ r → length b ≤ length c → (m : List Tok) × (c ≡ b ++ m) × (s ≡ m ++ r)
-longer [] s c r e p = (c, refl, e)
-longer (t ∷ b) s [] r e p = absurd (omega (arith, p))
-longer (t ∷ b) s (u ∷ c) r e p =
-    let same : t ≡ u = cc in
-    let tails : b ++ s ≡ c ++ r = cc in
-    let q = longer b s c r tails (omega (arith, p)) in
-    (q.0, ap (λ v. v ∷ c) (sym same) ∙ ap (λ v. t ∷ v) q.1, q.2)
+longer b s c r e p =
+    let n = length b in
+    let front : take n c ≡ b = sym (take-append-le n c r p) ∙ sym (ap (take n) e) ∙ take-append_seam b s in
+    (drop n c, sym (take-append-drop n c) ∙ ap (λ v. v ++ drop n c) front, sym (drop-append_seam b s) ∙ ap (drop n) e ∙ drop-append-le n c r p)
 
 not_over : (n k l : ℕ) → n < l → (nat_lt n l && nat_lt (k + n) (suc l)) ≡ false → l < k + n
 not_over n k l p e = grind (arith, nat_tests)
@@ -143,24 +141,22 @@ module _ {N : Type 0} {Node : N → Type 0} (facts : N → Facts) (body : Bodies
   bounded_there (Some n) A f d before [] x = absurd x
   bounded_there (Some n) A f d before (t ∷ r) x = rw (goes_over_there n A f d before t r x) (ap (λ v. Err (too_deep, v)) (ap (λ k. drop k (before ++ t ∷ r)) (sym x.0) ∙ drop-append_seam before (t ∷ r)))
 
-  loop_there : {A : Type 0} (h : Reader A) (M : Spelling A) (T G : Kinds) → Takes 1 h → ((a : A) (rest xs : List Tok) → M a rest xs → sees T xs ≡ true) → apart G T ≡ true
-      → ((a : A) (rest xs : List Tok) → M a rest xs → sees G rest ≡ false → h (xs ++ rest) ≡ Ok (a, rest)) → (zs r : List Tok) → sees T (zs ++ r) ≡ true → h (zs ++ r) ≡ Err (too_deep, r)
-      → (all : List A) (ys : List Tok) → SpellsAll M all (zs ++ r) ys → loop T h (ys ++ (zs ++ r)) ≡ Err (too_deep, r)
-  unfolding loop
-  loop_there h M T G front one p k zs r seen x [] ys e = rw (e, seen, x) refl
-  loop_there h M T G front one p k zs r seen x (a ∷ others) ys (us, vs, e, m, y) =
-      let line : ys ++ (zs ++ r) ≡ us ++ (vs ++ (zs ++ r)) = ap (λ v. v ++ (zs ++ r)) e ∙ append_assoc us vs (zs ++ r) in
-      let ahead : sees G (vs ++ (zs ++ r)) ≡ false = sees_other G T (vs ++ (zs ++ r)) p (more vs (start_all M T one others (zs ++ r) vs y)) in
-      ap (loop T h) line ∙ loop_more T (us ++ (vs ++ (zs ++ r))) (vs ++ (zs ++ r)) a front (sees_more T us (vs ++ (zs ++ r)) (one a (vs ++ (zs ++ r)) us m)) (k a (vs ++ (zs ++ r)) us m ahead)
-      ∙ ap (λ v. bind v (λ rest. ret (a ∷ rest))) (loop_there h M T G front one p k zs r seen x others vs y)
-    where
-      more : (vs : List Tok) → Starts true T vs → sees T (vs ++ (zs ++ r)) ≡ true
-      more vs (inl (z, q)) = ap (λ v. sees T (v ++ (zs ++ r))) q ∙ seen
-      more vs (inr q) = sees_more T vs (zs ++ r) q
-
   module _ (h : ℕ) (limits : Limits) (positive : Positive limits) (rec : (n : N) (before r : List Tok) → PassesWithin body h limits n before r → read body limits n (before ++ r) ≡ Err (too_deep, r)) where
     head : (A : Type 0) (f : Form N Node A) → Decided facts f → (T : Kinds) → Heads facts T f → (before r : List Tok) → run (read body) limits f (before ++ r) ≡ Err (too_deep, r) → sees T (before ++ r) ≡ true
     head A f d T h before r e = sees_among (begins facts f) T (before ++ r) h.1.0 (deep_begins facts body sure limits positive A f d (before ++ r) r e)
+
+    -- in a turn of a loop, after others
+    turns_there : (T : Kinds) (A : Type 0) (f : Form N Node A) → Decided facts (many T f) → (zs r : List Tok) → run (read body) limits f (zs ++ r) ≡ Err (too_deep, r)
+        → (all : List A) (ys : List Tok) → SpellsAll (SpellsBy (Spells body) limits f) all (zs ++ r) ys → run (read body) limits (many T f) (ys ++ (zs ++ r)) ≡ Err (too_deep, r)
+    turns_there T A f (d, (h, p)) zs r there [] ys e =
+        rw (e, loop_turn T (some_front facts body sure limits f d h.0) (zs ++ r), head A f d T h zs r there, there) refl
+    turns_there T A f (d, (h, p)) zs r there (a ∷ others) ys (us, vs, e, m, y) =
+        let rest = vs ++ (zs ++ r) in
+        let later = turns_there T A f (d, (h, p)) zs r there others vs y in
+        let first = form_complete facts body sure limits f d a rest us m (sees_other (goes_on facts f) T rest p.0 (sees_among (begins facts f) T rest h.1.0 (deep_begins facts body sure limits positive (List A) (many T f) (d, (h, p)) rest r later))) in
+        ap (loop T (run (read body) limits f)) (ap (λ v. v ++ (zs ++ r)) e ∙ append_assoc us vs (zs ++ r))
+        ∙ loop_more T (us ++ rest) rest a (some_front facts body sure limits f d h.0) (sees_more T us rest (head_starts facts (Spells body) (spells_starts facts body sure) limits T f d h a rest us m)) first
+        ∙ ap (λ v. bind v (λ others. ret (a ∷ others))) later
 
     answers : (A : Type 0) (f : Form N Node A) → Decided facts f → (before r : List Tok) → PassesBy body (PassesWithin body h) limits f before r → run (read body) limits f (before ++ r) ≡ Err (too_deep, r)
     answers A (token T g) d before r x = absurd x
@@ -177,11 +173,8 @@ module _ {N : Type 0} {Node : N → Type 0} (facts : N → Facts) (body : Bodies
     answers A (choose T f g) (d, (d', (h, o))) before r (inr x) =
         let there = answers A g d' before r x in
         rw (sees_apart (begins facts g) T (before ++ r) o (deep_begins facts body sure limits positive A g d' (before ++ r) r there)) there
-    answers A (many {A = B} T f) (d, (h, (o, p))) before r (all, ys, zs, e, m, x) =
-        let there = answers B f d zs r x in
-        ap (loop T (run (read body) limits f)) (ap (λ v. v ++ r) e ∙ append_assoc ys zs r)
-        ∙ loop_there (run (read body) limits f) (SpellsBy (Spells body) limits f) T (goes_on facts f) (some_front facts body sure limits f d h.0) (head_starts facts (Spells body) (spells_starts facts body sure) limits T f d h) o
-        (form_complete facts body sure limits f d) zs r (head B f d T h zs r there) there all ys m
+    answers A (many {A = B} T f) d before r (all, ys, zs, e, m, x) =
+        ap (loop T (run (read body) limits f)) (ap (λ v. v ++ r) e ∙ append_assoc ys zs r) ∙ turns_there T B f d zs r (answers B f d.0 zs r x) all ys m
     answers A (or_none T f a) (d, h) before r x = let there = answers A f d before r x in rw (head A f d T h before r there) there
     answers A (nest m T f) (d, o) before r (inl (p, x)) = nested_fits limits.depth m T (run (read body) limits f) (before ++ r) p ∙ answers A f d before r x
     answers A (nest m T f) d before r (inr (p, e, q)) = ap (λ v. nested limits.depth m T (run (read body) limits f) (v ++ r)) e ∙ rw (nested_is limits.depth m T (run (read body) limits f) r, p, q) refl

@@ -2,7 +2,7 @@
 use Rattle.std.proofs.Common.{◌≡◌, ℕ, zero, suc, ◌<◌, ◌≤◌, ◌-◌, List, [], ◌∷◌, ◌++◌, length, length-append, take, drop, Ok, Err, true, false, Some, None, refl, sym, ap, ◌∙◌, arith}
 use Rattle.std.proofs.lemmas.Bool.{ltb-false, true_from_ne_false}
 use Rattle.std.proofs.lemmas.Bool.Decides.{nat_tests}
-use Rattle.std.proofs.lemmas.List.{length-take}
+use Rattle.std.proofs.lemmas.List.{length-take, take-take}
 use Rattle.std.proofs.Math.Seq.{drop-append_seam}
 use Rattle.arc_lex.specs.declared.token.Token.{Token}
 use Rattle.arc_lex.specs.Tokens.{Tok, tok, toks}
@@ -44,11 +44,6 @@ split_alike (suc k) (u ∷ b) v (t ∷ ts) e p =
     let tails : take k ts ≡ take k (b ++ v) = cc in
     let s = split_alike k b v ts tails (omega arith) in
     (s.0, ap (λ x. x ∷ ts) heads ∙ ap (λ w. u ∷ w) s.1, s.2)
-
-take_twice : (n : ℕ) (ts : List Tok) → take n (take n ts) ≡ take n ts
-take_twice zero ts = refl
-take_twice (suc n) [] = refl
-take_twice (suc n) (t ∷ ts) = ap (λ v. t ∷ v) (take_twice n ts)
 
 -- whether an answer goes over a limit hangs on how many tokens were taken and on whether one is left
 over_alike : {A : Type 0} (n : ℕ) (b r : List Tok) (x : Read A) → first r ≡ first (rest_of x) → goes_over n (b ++ r) (put x r) ≡ goes_over n (b ++ rest_of x) x
@@ -108,7 +103,7 @@ module _ {A : Type 0} (n : ℕ) (f : Reader A) (stops : (ts : List Tok) → Stop
 
     alike_toks : take (suc n) ts ≡ take (suc n) us
     unfolding ts us
-    alike_toks = sym (ap (take (suc n)) (ap toks front ∙ toks_take (suc n) tokens) ∙ take_twice (suc n) (toks tokens))
+    alike_toks = sym (ap (take (suc n)) (ap toks front ∙ toks_take (suc n) tokens) ∙ take-take (suc n) (suc n) (toks tokens) (omega arith))
 
     pub fits_so : (x : Read A) → f (toks ahead) ≡ x → rest_of x ≡ toks rest → goes_over n (toks ahead) x ≡ false → r ≡ drop (length ahead - length rest) tokens → up_to (Some n) f (toks tokens) ≡ put x (toks r)
     unfolding up_to ts us
