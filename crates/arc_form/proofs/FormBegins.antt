@@ -120,6 +120,13 @@ module _ {N : Type 0} {Node : N → Type 0} (facts : N → Facts) (body : Bodies
   left None f d z s = form_left facts body sure f d s
   left (Some limits) f d z s = cc
 
+  -- a loop takes what its first turn takes, at least
+  pub more_turn : (o : Option Limits) (T : Kinds) {A : Type 0} (f : Form N Node A) → Decided facts (many T f) → (ts r : List Tok) → More o (reading body o f ts) r
+      → More o (bind (reading body o f ts) (λ a. reading body o (many T f) >>= (λ others. ret (a ∷ others)))) r
+  more_turn o T f d ts r m =
+      let few = left o (many T f) d in
+      more_then o (reading body o f ts) (λ a. reading body o (many T f) >>= (λ others. ret (a ∷ others))) r (λ n a s. omega (arith, ret_left (reading body o (many T f) s) (λ others. a ∷ others), few n s)) m
+
   front : (o : Option Limits) (A : Type 0) (f : Form N Node A) → Decided facts f → (ts : List Tok) → PartsOf body FrontAt o A f ts → FrontAt o A f ts
   unfolding up_to
   front o A (token T g) d ts x z = go o ts
@@ -142,8 +149,7 @@ module _ {N : Type 0} {Node : N → Type 0} (facts : N → Facts) (body : Bodies
       rw (sees_or (begins facts f) (begins facts g) ts, sees_same (begins facts f) T ts h.1.0 h.1.1) (front_if o (sees T ts) (sees (begins facts g) ts) (nullable facts g) (reading body o f ts) (reading body o g ts) ts (headed o T f h ts x z) (y z))
   front o A (many {A = B} T f) (d, (h, p)) ts (x, y) z =
       rw (loop_turn T (some_front facts body sure (under o) f d h.0) ts, sees_same (begins facts f) T ts h.1.0 h.1.1) (front_none o (sees T ts) (bind (reading body o f ts) (λ a. reading body o (many T f) >>= (λ others. ret (a ∷ others)))) [] ts
-      (λ s. more_then o (reading body o f ts) (λ a. reading body o (many T f) >>= (λ others. ret (a ∷ others))) ts (λ n a s. omega (arith, ret_left (reading body o (many T f) s) (λ others. a ∷ others), left o (many T f) (d, (h, p)) n s))
-      (more_of o (sees T ts) (reading body o f ts) ts (headed o T f h ts (x ts (omega arith)) z) s)))
+      (λ s. more_turn o T f (d, (h, p)) ts ts (more_of o (sees T ts) (reading body o f ts) ts (headed o T f h ts (x ts (omega arith)) z) s)))
   front o A (or_none T f b) (d, h) ts x z = rw (sees_same (begins facts f) T ts h.1.0 h.1.1) (front_none o (sees T ts) (reading body o f ts) b ts (more_of o (sees T ts) (reading body o f ts) ts (headed o T f h ts x z)))
   front o A (nest m T f) (d, h) ts x z = rw (nested_is (under o).depth m T (reading body o f) ts, sees_same (begins facts f) T ts h.1.0 h.1.1) (front_nest o m (sees T ts) (reading body o f ts) ts (headed o T f h ts x z))
   front o A (bounded f) (d, n) ts x z = front_cut o (sees (begins facts f) ts) (reading body None f ts) ts z (some None f n ts x free)
@@ -185,13 +191,6 @@ module _ {N : Type 0} {Node : N → Type 0} (facts : N → Facts) (body : Bodies
       go true q = sees_among (begins facts g) U ts w (deep_begins limits positive C g d ts r (map_fails {B = B × C} (run (read body) limits g ts) (λ c. (v t, c)) (too_deep, r) q))
       go false q = let no = ap (λ (y : Read (B × C)). fault_of y) q in cc
   deep_second limits positive U A f d e ts r q = cc
-
-  -- a loop takes what its first turn takes, at least
-  pub loop_first : (T : Kinds) {A : Type 0} (f : Form N Node A) → Decided facts (many T f) → (ts : List Tok) → sees T ts ≡ true → length (rest_of (run (read body) unlimited (many T f) ts)) ≤ length (rest_of (run (read body) unlimited f ts))
-  loop_first T {A} f d ts e =
-      rw (loop_turn T (some_front facts body sure unlimited f d.0 d.1.0.0) ts, e)
-      (elim (reading body None f ts) as (λ (x : Read A). length (rest_of (bind x (λ a. loop T (reading body None f) >>= (λ others. ret (a ∷ others))))) ≤ length (rest_of x))
-      [ Ok x ↦ omega (arith, ret_left (loop T (reading body None f) x.1) (λ others. x.0 ∷ others), form_left facts body sure (many T f) d x.1) | Err x ↦ omega arith ])
 
   -- and where the second token is of those that come second, that one too
   pub takes_two : (T U : Kinds) (A : Type 0) (f : Form N Node A) → Decided facts f → Holds (second facts U f) → (ts : List Tok) → sees (begins facts f) ts ≡ true → sees_second U ts ≡ true → length (rest_of (run (read body) unlimited f ts)) + 2 ≤ length ts

@@ -8,8 +8,7 @@ use Rattle.arc_form.specs.Meaning.{Spelling, SpellsBy, Spells}
 use Rattle.arc_form.proofs.Sets.{and_no, apart, both, sees_among, sees_other}
 use Rattle.arc_form.proofs.Samples.{sample}
 use Rattle.arc_form.proofs.Static.{Facts, if_so, nullable, begins, bars, simple, second, alone, parts, Decided, Holds, Fits}
-use Rattle.arc_form.proofs.FormHeights.{spells_body}
-use Rattle.arc_form.proofs.FormStarts.{Starts, Fair, starts, some_starts, spells_starts, form_fair}
+use Rattle.arc_form.proofs.FormStarts.{spells_body, Starts, Fair, starts, some_starts, spells_starts, form_fair}
 
 choice : (b s n t : Bool) → (b || (s || (not n && t))) ≡ true → ((b || s) ≡ true) ⊎ ((n ≡ false) × ((b || t) ≡ true))
 choice b s n t e = grind arith

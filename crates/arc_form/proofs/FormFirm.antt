@@ -3,16 +3,15 @@ use Rattle.std.proofs.Common.{◌≡◌, ◌⊎◌, inl, inr, ℕ, zero, suc, �
 use Rattle.std.proofs.lemmas.Bool.{le-ltb}
 use Rattle.arc_lex.specs.Tokens.{Tok}
 use Rattle.arc_form.specs.Kinds.{none, Kinds, ◌∪◌, is}
-use Rattle.arc_form.specs.Reader.{Read, Reader, bind, ◌>>=◌, ret, sees, sees_second, sees_two, nested, up_to}
+use Rattle.arc_form.specs.Reader.{Read, Reader, bind, ◌>>=◌, ret, sees, sees_two, nested, up_to}
 use Rattle.arc_form.specs.Form.{run, Limits, Form, Bodies, token, give, call, map, ◌⨾◌, choose, many, or_none, nest, bounded, two_ahead, avoid, read}
 use Rattle.arc_form.specs.Meaning.{AtMost, SpellsAll, SpellsBy, Within, Spells}
 use Rattle.arc_form.proofs.Sets.{sees_neither, apart, both, sees_among, sees_none, sees_apart, sees_other, sees_more, second_more}
 use Rattle.arc_form.proofs.Static.{Facts, if_so, nullable, begins, goes_on, bars, long, second, Decided, Heads, Holds, Fits}
 use Rattle.arc_form.proofs.Local.{rest_of, loop_turn}
 use Rattle.arc_form.proofs.FormLocal.{read_is, some_front, under, reading}
-use Rattle.arc_form.proofs.FormHeights.{OfRules, ◌⇒◌}
-use Rattle.arc_form.proofs.FormBegins.{More, more_then, left, loop_end, loop_first, ret_left, form_takes, takes_two}
-use Rattle.arc_form.proofs.FormStarts.{Starts, AllStart, Fair, fair_less, fair_left, fair_right, fair_none, fair_after, none_left, none_right, starts, start_all, some_starts, head_starts, longs, second_starts, two_kept, seen_some, spells_starts}
+use Rattle.arc_form.proofs.FormBegins.{More, more_then, left, loop_end, more_turn, ret_left, form_takes, takes_two}
+use Rattle.arc_form.proofs.FormStarts.{OfRules, ◌⇒◌, Starts, AllStart, Fair, fair_less, fair_left, fair_right, fair_none, fair_after, none_left, none_right, starts, start_all, some_starts, head_starts, longs, second_starts, two_kept, seen_some, spells_starts}
 
 -- an answer is this value with these tokens left, or more is taken, and not where E holds
 abbrev pub Firm : {A : Type 0} → Option Limits → Read A → A → Type 0 → List Tok → Type 0
@@ -70,9 +69,6 @@ firm_up_to (Some limits) f a E r xs p (inr (n, m)) = inr (n, tt)
 firm_up_to (Some limits) f a E r xs p (inl e) =
     inl ((elim limits.tokens as (λ most. AtMost most (length xs) → up_to most f (xs ++ r) ≡ Ok (a, r)) [ None ↦ λ p. e | Some n ↦ λ p. rw (e, le-ltb (length r + n) (length (xs ++ r)) (omega (arith, length-append xs r, p))) refl ]) p)
 
-pub two_seen : (T U : Kinds) (xs rest : List Tok) → sees T xs ≡ true → sees_second U xs ≡ true → sees_two T U (xs ++ rest) ≡ true
-two_seen T U xs rest p q = rw (sees_more T xs rest p) (second_more U xs rest q)
-
 module _ {N : Type 0} {Node : N → Type 0} (facts : N → Facts) (body : Bodies N Node) (sure : (n : N) → Fits facts body n) where
   -- r can come after what the form spells before rest
   abbrev pub Ends : {A : Type 0} → Form N Node A → List Tok → List Tok → Type 0
@@ -86,8 +82,7 @@ module _ {N : Type 0} {Node : N → Type 0} (facts : N → Facts) (body : Bodies
   more_takes (Some limits) A f d r s = tt
 
   more_turns : (o : Option Limits) (T : Kinds) {A : Type 0} (f : Form N Node A) → Decided facts (many T f) → (ts r : List Tok) → sees T ts ≡ true → More o (reading body o f ts) r → More o (reading body o (many T f) ts) r
-  more_turns None T f d ts r s m = omega (arith, loop_first facts body sure T f d ts s, m)
-  more_turns (Some limits) T f d ts r s m = tt
+  more_turns o T f d ts r s m = rw (loop_turn T (some_front facts body sure (under o) f d.0 d.1.0.0) ts, s) (more_turn facts body sure o T f d ts r m)
 
   more_two : (o : Option Limits) (T U : Kinds) (A : Type 0) (f : Form N Node A) → Decided facts f → Holds (second facts U f) → Heads facts T f → (xs rest r : List Tok) → sees_two T U (xs ++ r) ≡ true → sees_two T U (xs ++ rest) ≡ false → 1 ≤ length xs → More o (reading body o f (xs ++ r)) r
   more_two (Some limits) T U A f d s h xs rest r p q z = tt
@@ -152,7 +147,7 @@ module _ {N : Type 0} {Node : N → Type 0} (facts : N → Facts) (body : Bodies
     firm o A (nest m T f) (d, h) a rest xs r (p, x) = rw (nested_fits (under o).depth m T (reading body o f) (xs ++ r) p) (firm o A f d a rest xs r x)
     firm o A (bounded f) (d, n) a rest xs r (p, x) = firm_up_to o (reading body None f) a (Ends f rest r) r xs p (firm None A f d a rest xs r x)
     firm o A (two_ahead T U f g) (d, (d', (h, (p, q)))) a rest xs r (inl x) =
-        rw (two_seen T U xs r (head_starts facts L s (under o) T f d h a rest xs x) (second_starts facts L s U (under o) _ f d p a rest xs x)) (firm_less o (reading body o f (xs ++ r)) a _ _ r
+        rw (ahead o T f d h a rest xs r x, second_more U xs r (second_starts facts L s U (under o) _ f d p a rest xs x)) (firm_less o (reading body o f (xs ++ r)) a _ _ r
         (λ e. (both_ends f g rest r e.0 (fair_right (if_so (not (long facts g)) U) (bars facts f ∪ bars facts g) rest r e.1)).0) (firm o A f d a rest xs r x))
     firm o A (two_ahead T U f g) (d, (d', (h, (p, (n, q))))) a rest xs r (inr (x, e)) =
         let second = if_so (not (long facts g)) U in

@@ -1,5 +1,5 @@
 -- What holds of each form whose parts it holds of, where they are read, holds of all forms; and a rule is its right side.
-use Rattle.std.proofs.Common.{◌≡◌, ◌⊎◌, inl, inr, ℕ, zero, suc, ◌<◌, ◌≤◌, ◌+◌, List, length, drop, length-drop, Ok, Bool, true, false, not, ◌&&◌, ◌||◌, Option, Some, None, sym, arith}
+use Rattle.std.proofs.Common.{subst, ◌≡◌, ◌⊎◌, inl, inr, ℕ, zero, suc, ◌<◌, ◌≤◌, ◌+◌, List, length, drop, length-drop, Ok, Bool, true, false, not, ◌&&◌, ◌||◌, Option, Some, None, sym, arith}
 use Rattle.arc_lex.specs.Tokens.{Tok}
 use Rattle.arc_form.specs.Reader.{Read, Reader, loop, up_to, misfit, too_deep, ◌>>=◌, ret, sees, sees_two, is_above}
 use Rattle.arc_form.specs.Form.{Limits, unlimited, Form, Rules, Bodies, token, give, call, map, ◌⨾◌, choose, many, or_none, nest, bounded, two_ahead, avoid, run, deep, read}
@@ -20,9 +20,8 @@ abbrev pub need : Bool → ℕ
 need true = 0
 need false = 1
 
-pub some_need : {A : Type 0} {x y : Read A} {ts : List Tok} (b : Bool) → b ≡ false → Alike (need b) ts x y → Alike 1 ts x y
-some_need true e l = cc
-some_need false e l = l
+pub some_need : {A : Type 0} {ts : List Tok} {x y : Read A} (b : Bool) → b ≡ false → Alike (need b) ts x y → Alike 1 ts x y
+some_need {ts = ts} {x = x} {y = y} b e l = subst (λ b. Alike (need b) ts x y) e l
 
 -- there are fewer than k tokens, or k, and a token is taken before any rule is read
 abbrev Room : ℕ → Bool → List Tok → Type 0

@@ -13,8 +13,7 @@ use Rattle.arc_form.proofs.Sets.{both, two_less, two_alike, apart, sees_among, s
 use Rattle.arc_form.proofs.Static.{Facts, nullable, begins, bars, Decided, Fits}
 use Rattle.arc_form.proofs.Local.{rest_of, fault_of, put, loop_turn, nested_is}
 use Rattle.arc_form.proofs.FormLocal.{read_is, some_front, Property, PartsOf, under, reading, by_reading}
-use Rattle.arc_form.proofs.FormHeights.{spells_body, form_free}
-use Rattle.arc_form.proofs.FormStarts.{form_alone}
+use Rattle.arc_form.proofs.FormStarts.{spells_body, form_free, form_alone}
 use Rattle.arc_form.proofs.FormBegins.{second_taken, form_idle, form_takes}
 use Rattle.arc_form.proofs.FormExamples.{Has, join, not_barred, some_example, avoided_example, goes_on_so, with_head}
 use Rattle.arc_form.proofs.FormFirm.{both_of, Firm, Ends, form_firm}

@@ -15,9 +15,8 @@ use Rattle.arc_form.proofs.Sets.{sees_among, sees_apart, sees_other, sees_more}
 use Rattle.arc_form.proofs.Static.{Facts, begins, goes_on, Decided, Heads, Fits}
 use Rattle.arc_form.proofs.Local.{rest_of, fault_of, loop_more, nested_is, loop_turn}
 use Rattle.arc_form.proofs.FormLocal.{read_is, some_front}
-use Rattle.arc_form.proofs.FormHeights.{form_free}
 use Rattle.arc_form.proofs.FormBegins.{Positive, deep_begins, deep_second}
-use Rattle.arc_form.proofs.FormStarts.{form_alone, head_starts, spells_starts}
+use Rattle.arc_form.proofs.FormStarts.{form_free, form_alone, head_starts, spells_starts}
 use Rattle.arc_form.proofs.FormFirm.{nested_fits, form_complete}
 use Rattle.arc_form.proofs.FormTold.{Told, Same, told_begun, form_told, stays}
 

@@ -78,51 +78,44 @@ take_short n l = omega (arith, length-take n l)
 
 module _ {A : Type 0} (n : ℕ) (f : Reader A) (stops : (ts : List Tok) → Stops f ts) where
   -- what stops within the limit is read so of all lists that are alike up to the limit and one token more
-  record Alike (us ts : List Tok) : Type 0 where
-    pub rest : List Tok
-    pub cut : ts ≡ (stops us).before ++ rest
-    pub same : f ts ≡ put (f us) rest
-    pub within : goes_over n ts (f ts) ≡ false
-
-  alike : (us ts : List Tok) → take (suc n) ts ≡ take (suc n) us → goes_over n us (f us) ≡ false → Alike us ts
+  alike : (us ts : List Tok) → take (suc n) ts ≡ take (suc n) us → goes_over n us (f us) ≡ false
+      → (rest : List Tok) × (ts ≡ (stops us).before ++ rest) × (f ts ≡ put (f us) rest) × (goes_over n ts (f ts) ≡ false)
   alike us ts e o =
       let s = stops us in
       let here : goes_over n (s.before ++ rest_of (f us)) (f us) ≡ false = ap (λ v. goes_over n v (f us)) (sym s.cut) ∙ o in
       let few = stops_within n s.before (f us) here in
       let r = split_alike (suc n) s.before (rest_of (f us)) ts (e ∙ ap (take (suc n)) s.cut) (omega (arith, few)) in
       let same : f ts ≡ put (f us) r.0 = ap f r.1 ∙ s.same r.0 r.2 in
-      record { rest = r.0; cut = r.1; same = same; within = ap (goes_over n ts) same ∙ ap (λ v. goes_over n v (put (f us) r.0)) r.1 ∙ over_alike n s.before r.0 (f us) r.2 ∙ here }
+      (r.0, r.1, same, ap (goes_over n ts) same ∙ ap (λ v. goes_over n v (put (f us) r.0)) r.1 ∙ over_alike n s.before r.0 (f us) r.2 ∙ here)
 
   -- `ahead` is the tokens up to the limit and one more, of which `rest` are left; of all tokens `r` are
   module _ (tokens ahead rest r : List Token) (front : ahead ≡ take (suc n) tokens) where
-    ts : List Tok
+    abbrev ts : List Tok
     ts = toks tokens
 
-    us : List Tok
+    abbrev us : List Tok
     us = toks ahead
 
     alike_toks : take (suc n) ts ≡ take (suc n) us
-    unfolding ts us
     alike_toks = sym (ap (take (suc n)) (ap toks front ∙ toks_take (suc n) tokens) ∙ take-take (suc n) (suc n) (toks tokens) (omega arith))
 
     pub fits_so : (x : Read A) → f (toks ahead) ≡ x → rest_of x ≡ toks rest → goes_over n (toks ahead) x ≡ false → r ≡ drop (length ahead - length rest) tokens → up_to (Some n) f (toks tokens) ≡ put x (toks r)
-    unfolding up_to ts us
+    unfolding up_to
     fits_so x e l o d =
         let a = alike us ts alike_toks (ap (goes_over n us) e ∙ o) in
         let b = (stops us).before in
         let left : rest_of (f us) ≡ toks rest = ap (λ x. rest_of x) e ∙ l in
         let many : length ahead - length rest ≡ length b = omega (arith, length_toks ahead, length_toks rest, ap length left, ap length (stops us).cut, length-append b (rest_of (f us))) in
-        let rest_is : toks r ≡ a.rest = ap toks d ∙ toks_drop (length ahead - length rest) tokens ∙ ap (λ k. drop k ts) many ∙ ap (drop (length b)) a.cut ∙ drop-append_seam b a.rest in
-        rw (a.within) (a.same ∙ ap (λ x. put x a.rest) e ∙ ap (put x) (sym rest_is))
+        let rest_is : toks r ≡ a.0 = ap toks d ∙ toks_drop (length ahead - length rest) tokens ∙ ap (λ k. drop k ts) many ∙ ap (drop (length b)) a.1 ∙ drop-append_seam b a.0 in
+        rw (a.3) (a.2 ∙ ap (λ x. put x a.0) e ∙ ap (put x) (sym rest_is))
 
     -- lists that are alike so far go over the limit both, or none
     pub over_so : (x : Read A) → f (toks ahead) ≡ x → goes_over n (toks ahead) x ≡ true → r ≡ drop n tokens → up_to (Some n) f (toks tokens) ≡ Err (too_deep, toks r)
-    unfolding up_to ts us
+    unfolding up_to
     over_so x e o d =
-        let over : goes_over n ts (f ts) ≡ true = true_from_ne_false _ (λ q. let no : true ≡ false = sym (ap (goes_over n us) e ∙ o) ∙ (alike ts us (sym alike_toks) q).within in cc) in
+        let over : goes_over n ts (f ts) ≡ true = true_from_ne_false _ (λ q. let no : true ≡ false = sym (ap (goes_over n us) e ∙ o) ∙ (alike ts us (sym alike_toks) q).3 in cc) in
         rw over (ap (λ u. Err (too_deep, u)) (sym (ap toks d ∙ toks_drop n tokens)))
 
     -- no more are left than there were
     pub rest_short : (y : Fault) → f (toks ahead) ≡ Err (y, toks rest) → length rest ≤ length ahead
-    unfolding us
     rest_short y e = omega (arith, length_toks ahead, length_toks rest, ap length (stops us).cut, length-append (stops us).before (rest_of (f us)), ap (λ x. length (rest_of x)) e)

@@ -4,7 +4,6 @@ pub mod Samples
 pub mod Static
 pub mod Local
 pub mod FormLocal
-pub mod FormHeights
 pub mod FormStarts
 pub mod FormBegins
 pub mod FormExamples
