@@ -41,12 +41,14 @@ first_after (t ∷ b) m r e = refl
 -- the same answer, of which more is said
 told_as : {A : Type 0} {M O : Spelling A} {B E : List Tok → Type 0} {D F : Place} {h : Reader A} {ts : List Tok} {x : Read A} → ((a : A) (r xs : List Tok) → x ≡ Ok (a, r) → ts ≡ xs ++ r → M a r xs → O a r xs)
     → ((xs r : List Tok) → ts ≡ xs ++ r → B xs → E xs) → ((xs r : List Tok) → ts ≡ xs ++ r → D xs r → F xs r) → Told M B D h ts x → Told O E F h ts x
-told_as {A} {M = M} {O = O} {B = B} {E = E} {ts = ts} {x = x} of_value of_begun of_deep t =
-    record { taken = t.taken; cut = t.cut; good = go x refl t.cut t.good; same = t.same; deep = λ q. of_deep t.taken (rest_of x) t.cut (t.deep q) }
-  where
-    go : (y : Read A) → x ≡ y → ts ≡ t.taken ++ rest_of y → Good M B t.taken y → Good O E t.taken y
-    go (Ok y) q c m = of_value y.0 y.1 t.taken q c m
-    go (Err y) q c b = of_begun t.taken y.1 c b
+told_as {M = M} {O = O} {B = B} {E = E} {ts = ts} {x = x} of_value of_begun of_deep t = record {
+  taken = t.taken;
+  cut = t.cut;
+  good = (elim x as (λ y. x ≡ y → ts ≡ t.taken ++ rest_of y → Good M B t.taken y → Good O E t.taken y)
+      [ Ok y ↦ λ q c m. of_value y.0 y.1 t.taken q c m | Err y ↦ λ q c b. of_begun t.taken y.1 c b ]) refl t.cut t.good;
+  same = t.same;
+  deep = λ q. of_deep t.taken (rest_of x) t.cut (t.deep q);
+}
 
 -- a test says the same of these tokens and of those that are the same up to where h stops
 abbrev Keeps : {A : Type 0} → (List Tok → Bool) → Reader A → List Tok → Type 0
@@ -54,14 +56,10 @@ Keeps test h ts = (xs r more : List Tok) → ts ≡ xs ++ r → rest_of (h ts) �
 
 told_with : {A : Type 0} {M : Spelling A} {B : List Tok → Type 0} {D : Place} {h h' : Reader A} {ts : List Tok} {x : Read A}
     → ((xs r more : List Tok) → ts ≡ xs ++ r → rest_of (h ts) ≡ r → first more ≡ first r → h' (xs ++ more) ≡ h (xs ++ more)) → Told M B D h ts x → Told M B D h' ts x
-told_with {A} {h = h} {ts = ts} {x = x} alike t = record { taken = t.taken; cut = t.cut; good = t.good; same = λ q more f. alike t.taken (rest_of x) more t.cut (left q) f ∙ t.same q more f; deep = t.deep }
-  where
-    rest : (y : Read A) → rest_of (put y (rest_of y)) ≡ rest_of y
-    rest (Ok y) = refl
-    rest (Err y) = refl
-
-    left : fault_of x ≡ misfit → rest_of (h ts) ≡ rest_of x
-    left q = ap (λ us. rest_of (h us)) t.cut ∙ ap (λ (z : Read A). rest_of z) (t.same q (rest_of x) refl) ∙ rest x
+told_with {A} {h = h} {ts = ts} {x = x} alike t =
+    let rest : rest_of (put x (rest_of x)) ≡ rest_of x = elim x as (λ y. rest_of (put y (rest_of y)) ≡ rest_of y) [ Ok y ↦ refl | Err y ↦ refl ] in
+    let left : fault_of x ≡ misfit → rest_of (h ts) ≡ rest_of x = λ q. ap (λ us. rest_of (h us)) t.cut ∙ ap (λ (z : Read A). rest_of z) (t.same q (rest_of x) refl) ∙ rest in
+    record { taken = t.taken; cut = t.cut; good = t.good; same = λ q more f. alike t.taken (rest_of x) more t.cut (left q) f ∙ t.same q more f; deep = t.deep }
 
 told_if : {A : Type 0} {M : Spelling A} {B : List Tok → Type 0} {D : Place} {f g : Reader A} {ts : List Tok} {x y : Read A} (test : List Tok → Bool) → Keeps test f ts → Keeps test g ts
     → (test ts ≡ true → Told M B D f ts x) → (test ts ≡ false → Told M B D g ts y) → Told M B D (λ us. cond (test us) (f us) (g us)) ts (cond (test ts) x y)
@@ -85,11 +83,8 @@ told_two : {A : Type 0} {M : Spelling A} {B : List Tok → Type 0} {D : Place} {
 told_two {A} {f = f} {g = g} {ts = ts} T U p q = told_if (sees_two T U) (keeps f p) (keeps g q)
   where
     keeps : (h : Reader A) → (sees T ts ≡ true → length (rest_of (h ts)) < length ts) → Keeps (sees_two T U) h ts
-    keeps h takes xs r more c k e = two_alike T U xs more r e (λ q. some xs c (takes (ap (sees T) c ∙ q))) ∙ ap (sees_two T U) (sym c)
-      where
-        some : (b : List Tok) → ts ≡ b ++ r → length (rest_of (h ts)) < length ts → (t : Tok) × (c : List Tok) × (b ≡ t ∷ c)
-        some [] c p = absurd (omega (arith, ap length k, ap length c))
-        some (t ∷ b) c p = (t, b, refl)
+    keeps h takes xs r more c k e =
+        two_alike T U xs more r e (λ q. let few = takes (ap (sees T) c ∙ q) in omega (arith, few, ap length k, ap length c, length-append xs r)) ∙ ap (sees_two T U) (sym c)
 
 told_then : {A B C : Type 0} {M : Spelling A} {O : Spelling B} {Q : Spelling C} {K L E : List Tok → Type 0} {D F G : Place} {h : Reader A} {h' g : Reader B} {ts : List Tok} {x : Read A} (make : A → B → C)
     → ((a : A) (b : B) (r xs ys : List Tok) → M a (ys ++ r) xs → O b r ys → Q (make a b) r (xs ++ ys)) → ((xs : List Tok) → K xs → E xs) → ((a : A) (r xs ys : List Tok) → M a (ys ++ r) xs → L ys → E (xs ++ ys))

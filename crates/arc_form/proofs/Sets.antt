@@ -1,5 +1,5 @@
 -- Tests on sets of kinds, which compute.
-use Rattle.std.proofs.Common.{◌≡◌, List, [], ◌∷◌, ◌++◌, Bool, true, false, not, ◌&&◌, ◌||◌, nat_eq, refl, sym, ap, subst, ap₂, arith}
+use Rattle.std.proofs.Common.{◌≤◌, length, ◌≡◌, List, [], ◌∷◌, ◌++◌, Bool, true, false, not, ◌&&◌, ◌||◌, nat_eq, refl, sym, ap, subst, ap₂, arith}
 use Rattle.std.proofs.lemmas.Bool.{eqb-true}
 use Rattle.std.proofs.lemmas.Slice.Eq.{bytes_eq-Decides}
 use Rattle.std.specs.Str.{bytes_eq}
@@ -104,11 +104,11 @@ two_less T U (t ∷ []) r e = grind arith
 two_less T U (t ∷ u ∷ xs) r e = e
 
 -- a test of the first two tokens, of lists that share the first one at least where it passes
-pub two_alike : (T U : Kinds) (b more rest : List Tok) → first more ≡ first rest → (sees T (b ++ rest) ≡ true → (t : Tok) × (c : List Tok) × (b ≡ t ∷ c)) → sees_two T U (b ++ more) ≡ sees_two T U (b ++ rest)
+pub two_alike : (T U : Kinds) (b more rest : List Tok) → first more ≡ first rest → (sees T (b ++ rest) ≡ true → 1 ≤ length b) → sees_two T U (b ++ more) ≡ sees_two T U (b ++ rest)
 two_alike T U [] more rest e k = go (sees T rest) refl (sees_alike T more rest e)
   where
     go : (b : Bool) → sees T rest ≡ b → sees T more ≡ sees T rest → (sees T more && sees_second U more) ≡ (sees T rest && sees_second U rest)
-    go true q f = let p = k q in let no : [] ≡ p.0 ∷ p.1 = p.2 in cc
+    go true q f = let p = k q in absurd (omega (arith, p))
     go false q f = grind arith
 two_alike T U (t ∷ []) more rest e k = ap (λ b. is T t && b) (sees_alike U more rest e)
 two_alike T U (t ∷ u ∷ b) more rest e k = refl
