@@ -62,15 +62,9 @@ more_past : (l : ℕ) (left : ExprTree) (ts : List Tok) → sees (marks_at l tab
 more_past l left ts s = read_more l left ts ∙ rw s refl
 
 -- those of the levels up to one, level by level
-up_one : (l : ℕ) (left : ExprTree) (ts : List Tok) → reads_on (up_to (suc l)) left ts ≡ (reads_on (up_to l) left >>= (λ tighter. reads_on (more (suc l)) tighter)) ts
+pub up_one : (l : ℕ) (left : ExprTree) (ts : List Tok) → reads_on (up_to (suc l)) left ts ≡ (reads_on (up_to l) left >>= (λ tighter. reads_on (more (suc l)) tighter)) ts
 unfolding up_to
 up_one l left ts = simp bind_twice
-
-pub read_up_to : (l : ℕ) (left : ExprTree) (ts : List Tok) → 1 ≤ l → reads_on (up_to l) left ts ≡ (reads_on (up_to (l - 1)) left >>= (λ tighter. reads_on (more l) tighter)) ts
-read_up_to zero left ts p = absurd (omega arith)
-read_up_to (suc l) left ts p =
-    let before : suc l - 1 ≡ l = omega arith in
-    rw before (up_one l left ts)
 
 -- and none where no operator of such a level is ahead
 pub read_past : (l : ℕ) (left : ExprTree) (ts : List Tok) → sees (marks_up_to l) ts ≡ false → reads_on (up_to l) left ts ≡ Ok (left, ts)

@@ -23,13 +23,11 @@ fn refused<'a>(tokens: &'a [Token], ahead: &'a [Token], rest: &'a [Token]) -> Fa
     ensures { Fails result (reads grammar.full (toks tokens.now)) }
 {
     let taken = ahead.len() - rest.len();
-    if ahead.len() <= MOST_TOKENS {
-        return Fail::Unexpected(after(tokens, taken));
+    if ahead.len() > MOST_TOKENS && taken >= MOST_TOKENS {
+        Fail::TooDeep(after(tokens, MOST_TOKENS))
+    } else {
+        Fail::Unexpected(after(tokens, taken))
     }
-    if taken < MOST_TOKENS {
-        return Fail::Unexpected(after(tokens, taken));
-    }
-    Fail::TooDeep(after(tokens, MOST_TOKENS))
 }
 
 /// A full-expression. Only the tokens up to the limit and one more are looked at.

@@ -20,7 +20,8 @@ pub const ASSIGNING: usize = 11;
 /// The level and the operator of a mark.
 #[tactic(auto, unfolding(arc_grammar::specs::Grammar::table))]
 fn of_mark(mark: Mark) -> Option<(usize, BinaryOperator)>
-    ensures { result ≡ entry table mark }
+    ensures found { result ≡ entry table mark }
+    ensures level { IfSome result (λ found. 1 ≤ found.0) }
 {
     match mark {
         Mark::Star => Some((1, BinaryOperator::Multiply)),
@@ -57,7 +58,8 @@ fn of_mark(mark: Mark) -> Option<(usize, BinaryOperator)>
 
 /// The level and the operator of a token.
 fn of_token(token: &Token) -> Option<(usize, BinaryOperator)>
-    ensures { result ≡ entry_of table (tok token.now).sort }
+    ensures found { result ≡ entry_of table (tok token.now).sort }
+    ensures level { IfSome result (λ found. 1 ≤ found.0) }
 {
     match token.kind {
         TokenKind::Mark(mark) => of_mark(mark),
@@ -66,6 +68,7 @@ fn of_token(token: &Token) -> Option<(usize, BinaryOperator)>
 }
 
 /// Whether the first token is an operator of this level.
+#[tactic(auto, using(crate::proofs::Table::sees_some, crate::proofs::Table::sees_no))]
 pub fn sees_operator(level: usize, tokens: &[Token]) -> bool
     ensures { result ≡ sees (marks_at level table) (toks tokens.now) }
 {
@@ -79,6 +82,7 @@ pub fn sees_operator(level: usize, tokens: &[Token]) -> bool
 }
 
 /// The level of the first token, where it is an operator of this level or of a tighter one.
+#[tactic(auto, using(crate::proofs::Table::sees_own, crate::proofs::Table::sees_none, crate::proofs::Table::sees_looser))]
 pub fn level_ahead(level: usize, tokens: &[Token]) -> Option<usize>
     ensures none { result ≡ None → sees (marks_up_to level) (toks tokens.now) ≡ false }
     ensures within { IfSome result (λ found. 1 ≤ found × found ≤ level) }
@@ -87,7 +91,7 @@ pub fn level_ahead(level: usize, tokens: &[Token]) -> Option<usize>
 {
     match tokens.first() {
         Some(token) => match of_token(token) {
-            Some((found, _)) if 1 <= found && found <= level => Some(found),
+            Some((found, _)) if found <= level => Some(found),
             Some(_) => None,
             None => None,
         },

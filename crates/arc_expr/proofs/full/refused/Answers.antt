@@ -1,5 +1,5 @@
 use Rattle.std.proofs.Common.{length, ap, arith}
-use Rattle.arc_expr.proofs.Bound.{rest_short, fails_over, fails_short, fails_early}
+use Rattle.arc_expr.proofs.Bound.{rest_short, fails_over, fails_fits}
 use Rattle.arc_form.proofs.Front.{take_short}
 use Rattle.arc_expr.proofs.full.refused.Goals as goal
 
@@ -9,17 +9,11 @@ overflow_sub-taken c = rest_short c.args.tokens.now c.args.ahead.now c.args.rest
 pub after-requires : goal.after-requires
 after-requires c = omega (arith, ap length c.requires.first, take_short 1001 c.args.tokens.now)
 
-pub returns-then-ahead-le-MOST_TOKENS : goal.returns-then-ahead-le-MOST_TOKENS
-returns-then-ahead-le-MOST_TOKENS c = fails_short _ _ c.args.rest.now _ c.requires.first _ c.requires.fails.1 c.if-ahead-le-MOST_TOKENS.true c.after.ensures
+pub after-requires-else-ahead-gt-MOST_TOKENS : goal.after-requires-else-ahead-gt-MOST_TOKENS
+after-requires-else-ahead-gt-MOST_TOKENS c = omega (arith, ap length c.requires.first, take_short 1001 c.args.tokens.now)
 
-pub after-requires-then-taken-lt-MOST_TOKENS : goal.after-requires-then-taken-lt-MOST_TOKENS
-after-requires-then-taken-lt-MOST_TOKENS c = omega (arith, ap length c.requires.first, take_short 1001 c.args.tokens.now)
+pub returns-then-taken-ge-MOST_TOKENS : goal.returns-then-taken-ge-MOST_TOKENS
+returns-then-taken-ge-MOST_TOKENS c = fails_over _ _ c.args.rest.now _ c.requires.first _ c.requires.fails.1 c.if-ahead-gt-MOST_TOKENS.true c.if-taken-ge-MOST_TOKENS.true c.after.ensures
 
-pub returns-then-taken-lt-MOST_TOKENS : goal.returns-then-taken-lt-MOST_TOKENS
-returns-then-taken-lt-MOST_TOKENS c = fails_early _ _ c.args.rest.now _ c.requires.first _ c.requires.fails.1 c.if-taken-lt-MOST_TOKENS.true c.after-then-taken-lt-MOST_TOKENS.ensures
-
-pub after-requires-2 : goal.after-requires-2
-after-requires-2 c = omega (arith, ap length c.requires.first, take_short 1001 c.args.tokens.now, c.if-ahead-le-MOST_TOKENS.false)
-
-pub returns : goal.returns
-returns c = fails_over _ _ c.args.rest.now _ c.requires.first _ c.requires.fails.1 c.if-ahead-le-MOST_TOKENS.false c.if-taken-lt-MOST_TOKENS.false c.after-2.ensures
+pub returns-else-ahead-gt-MOST_TOKENS : goal.returns-else-ahead-gt-MOST_TOKENS
+returns-else-ahead-gt-MOST_TOKENS c = fails_fits _ _ c.args.rest.now _ c.requires.first _ c.requires.fails.1 c.else-ahead-gt-MOST_TOKENS.either c.after-else-ahead-gt-MOST_TOKENS.ensures
