@@ -11,33 +11,22 @@ use Rattle.arc_form.specs.Operators.{marks_at, placed_operator}
 use Rattle.arc_form.proofs.Joining.{joined_is}
 use Rattle.arc_form.proofs.Binding.{bind_twice, pair_then, second_then}
 use Rattle.arc_form.proofs.Sets.{sees_neither}
-use Rattle.arc_form.proofs.Local.{Takes, weaker, then, takes_token, takes_ret}
+use Rattle.arc_form.proofs.Local.{Local, weaker, then, local_token, local_ret}
 use Rattle.arc_form.proofs.FormLocal.{read_is, fronts}
-use Rattle.arc_grammar.specs.Grammar.{Sent, rules, reads_free, reads_on, body, expr, unary, binary, condition, table, assigning, marks_up_to, join, further, more, up_to, choice, continued, conditional_expr, operations, expression, prefixed, counting, field_name, begins_suffix, suffix, suffixes, next_argument, more_arguments, add, argument_part, next_part, more_parts, add_part}
-use Rattle.arc_grammar.proofs.Fits.{facts, sure, front}
+use Rattle.arc_grammar.specs.Grammar.{Sent, rules, reads_free, reads_on, body, expr, binary, table, assigning, marks_up_to, join, further, more, up_to, choice, continued, operations, begins_suffix, suffix, suffixes, next_argument, more_arguments, add, next_part, more_parts, add_part}
+use Rattle.arc_grammar.proofs.Fits.{facts, sure}
+use Rattle.arc_grammar.proofs.Loops.{one_more_on, taking}
 use Rattle.arc_expr.specs.declared.operator.TheConstants.{ASSIGNING, LOOSEST}
 
-further_front : (l : ℕ) → Takes 1 (reads_free (further l))
+further_front : (l j : ℕ) → Local ⊥ 1 j (reads_free (further l)) (reads_free (further l))
 unfolding further
-further_front l = weaker 1 (omega arith) (then (takes_token (marks_at l table) (placed_operator operators.Add table)) (λ o. then (fronts facts body sure unlimited (binary (l - 1))) (λ right. takes_ret (o, right))))
-
-pub read_expr : (ts : List Tok) → rules unlimited expr ts ≡ reads_free expression ts
-unfolding body
-read_expr ts = read_is facts body sure unlimited expr ts
-
-pub read_unary : (ts : List Tok) → rules unlimited unary ts ≡ reads_free prefixed ts
-unfolding body
-read_unary ts = read_is facts body sure unlimited unary ts
+further_front l j = weaker 1 (omega arith) (then (local_token (marks_at l table) (placed_operator operators.Add table)) (λ o. then (fronts facts body sure j unlimited (binary (l - 1))) (λ right. local_ret (o, right))))
 
 pub read_binary : (l : ℕ) (ts : List Tok) → l ≤ LOOSEST → rules unlimited (binary l) ts ≡ reads_free (operations l) ts
 unfolding body table
 read_binary l ts p =
     let same : min l LOOSEST ≡ l = omega (arith, p) in
     read_is facts body sure unlimited (binary l) ts ∙ ap (λ k. reads_free (operations k) ts) same
-
-pub read_condition : (ts : List Tok) → rules unlimited condition ts ≡ reads_free conditional_expr ts
-unfolding body
-read_condition ts = read_is facts body sure unlimited condition ts
 
 -- the level of the operators that assign
 pub assigning_is : assigning ≡ ASSIGNING
@@ -75,34 +64,20 @@ read_past (suc l) left ts s =
     up_one l left ts ∙ ap (λ x. bind x (λ tighter. reads_on (more (suc l)) tighter)) (read_past l left ts p.0)
     ∙ more_past (suc l) left ts p.1
 
--- the suffixes after an operand, one by one
-suffix_front : Takes 1 (reads_free suffix)
-unfolding suffix field_name counting
-suffix_front = front unlimited suffix refl refl
-
+-- the suffixes after an operand, further arguments, and further parts of a selector, one by one
 pub read_suffixes : (operand : ExprTree) (ts : List Tok)
     → reads_on suffixes operand ts ≡ if_sees begins_suffix (reads_on suffix operand >>= (λ whole. reads_on suffixes whole)) (ret operand) ts
 unfolding suffixes
-read_suffixes operand ts = joined_is begins_suffix (reads_free suffix) (λ a make. make a) suffix_front operand ts
+read_suffixes operand ts = one_more_on begins_suffix suffix (λ a make. make a) (search taking) operand ts
     ∙ ap (λ y. cond (sees begins_suffix ts) y (ret operand ts)) (sym (bind_twice (reads_free suffix ts) (λ make. ret (make operand)) (λ whole. reads_on suffixes whole)))
-
--- further arguments, one by one
-argument_front : Takes 1 (reads_free next_argument)
-unfolding next_argument
-argument_front = front unlimited next_argument refl refl
 
 pub read_more_arguments : (before : List ExprTree) (ts : List Tok)
     → reads_on more_arguments before ts ≡ if_sees (mark m.Comma) (take_one (mark m.Comma) from >>= (λ comma. rules unlimited expr >>= (λ a. reads_on more_arguments (add before a)))) (ret before) ts
 unfolding more_arguments next_argument
-read_more_arguments before ts = joined_is (mark m.Comma) (reads_free next_argument) add argument_front before ts
+read_more_arguments before ts = one_more_on (mark m.Comma) next_argument add (search taking) before ts
     ∙ ap (λ y. cond (sees (mark m.Comma) ts) y (ret before ts)) (second_then (take_one (mark m.Comma) from ts) (rules unlimited expr) (λ a. reads_on more_arguments (add before a)))
-
--- further parts of a selector, one by one
-part_front : Takes 1 (reads_free next_part)
-unfolding next_part argument_part
-part_front = front unlimited next_part refl refl
 
 pub read_more_parts : (before : Sent) (ts : List Tok)
     → reads_on more_parts before ts ≡ if_sees name (reads_free next_part >>= (λ p. reads_on more_parts (add_part before p))) (ret before) ts
 unfolding more_parts
-read_more_parts before ts = joined_is name (reads_free next_part) add_part part_front before ts
+read_more_parts = one_more_on name next_part add_part (search taking)

@@ -1,5 +1,5 @@
 -- Operators read one after another, each at its own level, are those that are read level by level.
-use Rattle.std.proofs.Common.{◌≡◌, ◌≤◌, ◌<◌, ◌-◌, ◌⊎◌, inl, inr, ℕ, zero, suc, List, true, false, Ok, Err, refl, sym, ap, subst, ◌∙◌, arith}
+use Rattle.std.proofs.Common.{◌≡◌, ◌≤◌, ◌<◌, ◌-◌, ◌⊎◌, inl, inr, ℕ, zero, suc, List, true, false, Ok, Err, refl, ◌∙◌, arith}
 use Rattle.std.proofs.lemmas.Bool.{cases_lt}
 use Rattle.arc_lex.specs.Tokens.{Tok, toks}
 use Rattle.arc_ast.specs.declared.tree.BinaryOperator.{BinaryOperator}
@@ -8,7 +8,7 @@ use Rattle.arc_ast.specs.Tree.{ExprTree, Binary, begins}
 use Rattle.arc_form.specs.declared.fail.Fail.{Fail}
 use Rattle.arc_form.specs.declared.fail.Fail.TheVariants.{Memory, Unexpected, TooDeep}
 use Rattle.arc_form.specs.Form.{unlimited}
-use Rattle.arc_form.specs.Reader.{Read, Fails, Fault, misfit, too_deep, bind, sees, take_one}
+use Rattle.arc_form.specs.Reader.{Read, Fails, misfit, too_deep, bind, sees, take_one}
 use Rattle.arc_form.specs.Operators.{marks_at, placed_operator}
 use Rattle.arc_grammar.specs.Grammar.{rules, reads_on, binary, table, marks_up_to, more, up_to}
 use Rattle.arc_expr.proofs.Fix.{read_more, read_past, up_one}

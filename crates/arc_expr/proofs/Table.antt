@@ -1,5 +1,5 @@
 -- What the table of operators has of the first token.
-use Rattle.std.proofs.Common.{◌≡◌, ◌<◌, ◌≤◌, ◌-◌, ℕ, zero, suc, List, [], ◌∷◌, true, false, slice_get, Option, Some, None, nat_eq, refl, sym, ap, ◌∙◌, arith}
+use Rattle.std.proofs.Common.{◌≡◌, ◌<◌, ◌≤◌, ℕ, zero, suc, List, [], ◌∷◌, true, false, slice_get, Option, Some, None, nat_eq, refl, sym, ap, ◌∙◌, arith}
 use Rattle.std.proofs.lemmas.Bool.{eq-eqb, ne_eqb}
 use Rattle.arc_lex.specs.Tokens.{Tok, tok, toks}
 use Rattle.arc_lex.specs.declared.token.Token.{Token}

@@ -46,7 +46,7 @@ fn place_of(expr: &Expr) -> usize
 
 /// An expression.
 #[cycle(exprs)]
-#[tactic(auto, using(crate::proofs::Fix::read_expr), unfolding(arc_grammar::specs::Grammar::expression))]
+#[tactic(auto, using(arc_grammar::proofs::Fits::read_rule), unfolding(arc_grammar::specs::Grammar::body, arc_grammar::specs::Grammar::expression))]
 pub fn expr<'a>(alloc: Global, tokens: &'a [Token]) -> Read<'a, Expr>
     ensures gives { Gives (λ x. (expr_tree x.0, toks x.1.now)) result (rules unlimited grammar.expr (toks tokens.now)) }
     ensures shorter { IfOk result (λ x. length x.1.now < length tokens.now) }
@@ -148,7 +148,7 @@ fn chosen<'a>(alloc: Global, test: Expr, tokens: &'a [Token]) -> Read<'a, Expr>
 
 /// An expression that is no assignment.
 #[cycle(exprs)]
-#[tactic(auto, using(crate::proofs::Fix::read_condition), unfolding(arc_grammar::specs::Grammar::conditional_expr))]
+#[tactic(auto, using(arc_grammar::proofs::Fits::read_rule), unfolding(arc_grammar::specs::Grammar::body, arc_grammar::specs::Grammar::conditional_expr))]
 fn condition<'a>(alloc: Global, tokens: &'a [Token]) -> Read<'a, Expr>
     ensures gives { Gives (λ x. (expr_tree x.0, toks x.1.now)) result (rules unlimited grammar.condition (toks tokens.now)) }
     ensures shorter { IfOk result (λ x. length x.1.now < length tokens.now) }
@@ -211,7 +211,7 @@ fn prefixed<'a>(alloc: Global, tokens: &'a [Token]) -> Read<'a, Expr>
 
 /// An operator and the unary expression after it.
 #[cycle(exprs)]
-#[tactic(auto, using(crate::proofs::Fix::read_unary), unfolding(arc_grammar::specs::Grammar::signed))]
+#[tactic(auto, using(arc_grammar::proofs::Fits::read_rule), unfolding(arc_grammar::specs::Grammar::body, arc_grammar::specs::Grammar::signed))]
 fn signed<'a>(alloc: Global, tokens: &'a [Token]) -> Read<'a, Expr>
     ensures gives { Gives (λ x. (expr_tree x.0, toks x.1.now)) result (reads_free grammar.signed (toks tokens.now)) }
     ensures shorter { IfOk result (λ x. length x.1.now < length tokens.now) }
@@ -223,7 +223,7 @@ fn signed<'a>(alloc: Global, tokens: &'a [Token]) -> Read<'a, Expr>
 
 /// `++` or `--` and the unary expression after it.
 #[cycle(exprs)]
-#[tactic(auto, using(crate::proofs::Fix::read_unary), unfolding(arc_grammar::specs::Grammar::counted))]
+#[tactic(auto, using(arc_grammar::proofs::Fits::read_rule), unfolding(arc_grammar::specs::Grammar::body, arc_grammar::specs::Grammar::counted))]
 fn counted<'a>(alloc: Global, tokens: &'a [Token]) -> Read<'a, Expr>
     ensures gives { Gives (λ x. (expr_tree x.0, toks x.1.now)) result (reads_free grammar.counted (toks tokens.now)) }
     ensures shorter { IfOk result (λ x. length x.1.now < length tokens.now) }
@@ -284,7 +284,7 @@ fn inside<'a>(alloc: Global, at: usize, tokens: &'a [Token]) -> Read<'a, Expr>
 
 /// What is after the `(`, which is at this place, of a cast to a type that names no class.
 #[cycle(exprs)]
-#[tactic(auto, using(crate::proofs::Fix::read_unary), unfolding(arc_grammar::specs::Grammar::cast_to_plain))]
+#[tactic(auto, using(arc_grammar::proofs::Fits::read_rule), unfolding(arc_grammar::specs::Grammar::body, arc_grammar::specs::Grammar::cast_to_plain))]
 fn cast_to_plain<'a>(alloc: Global, at: usize, tokens: &'a [Token]) -> Read<'a, Expr>
     ensures gives { Gives (λ x. (expr_tree x.0, toks x.1.now)) result (reads_on grammar.cast_to_plain at (toks tokens.now)) }
     ensures shorter { IfOk result (λ x. length x.1.now < length tokens.now) }
@@ -313,7 +313,7 @@ fn starred<'a>(alloc: Global, at: usize, tokens: &'a [Token]) -> Read<'a, Expr>
 
 /// What is after `(`, which is at this place, this name and `*` in a cast.
 #[cycle(exprs)]
-#[tactic(auto, using(crate::proofs::Fix::read_unary), unfolding(arc_grammar::specs::Grammar::cast))]
+#[tactic(auto, using(arc_grammar::proofs::Fits::read_rule), unfolding(arc_grammar::specs::Grammar::body, arc_grammar::specs::Grammar::cast))]
 fn cast<'a>(
     alloc: Global,
     at: usize,
@@ -332,7 +332,7 @@ fn cast<'a>(
 
 /// What is after `(`, which is at this place, this name and `*` in a product in parentheses.
 #[cycle(exprs)]
-#[tactic(auto, using(crate::proofs::Fix::read_unary), unfolding(arc_grammar::specs::Grammar::product))]
+#[tactic(auto, using(arc_grammar::proofs::Fits::read_rule), unfolding(arc_grammar::specs::Grammar::body, arc_grammar::specs::Grammar::product))]
 fn product<'a>(
     alloc: Global,
     at: usize,

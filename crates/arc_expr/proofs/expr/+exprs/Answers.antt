@@ -1,8 +1,7 @@
-use Rattle.std.proofs.Common.{◌≡◌, rules, sym, ap, ◌∙◌, Ok}
+use Rattle.std.proofs.Common.{rules, Ok}
 use Rattle.std.proofs.lemmas.Result.{err_from_is_err_and}
 use Rattle.arc_lex.specs.Tokens.{toks}
-use Rattle.arc_ast.specs.Tree.{Call, Send, SendSuper, Binary, begins, expr_tree}
-use Rattle.arc_form.specs.Views.{all}
+use Rattle.arc_ast.specs.Tree.{expr_tree}
 use Rattle.arc_grammar.specs.Grammar.{reads_on, exprs}
 use Rattle.arc_grammar.specs.Grammar as grammar
 use Rattle.arc_expr.proofs.Levels.{one_more, no_operand}
