@@ -23,7 +23,7 @@ use std::alloc::Global;
 
 /// A statement that is nested so deep.
 #[cycle(stmts)]
-#[tactic(auto, using(crate::proofs::Fix::read_stmt), unfolding(arc_form::specs::Reader::nested))]
+#[tactic(auto, using(arc_grammar::proofs::Fits::read_rule), unfolding(arc_grammar::specs::Grammar::body, arc_form::specs::Reader::nested))]
 fn stmt<'a>(alloc: Global, depth: usize, tokens: &'a [Token]) -> Read<'a, Stmt>
     ensures gives { Gives (λ x. (stmt_tree x.0, toks x.1.now)) result (rules these (grammar.stmt depth) (toks tokens.now)) }
     ensures shorter { IfOk result (λ x. length x.1.now < length tokens.now) }
@@ -206,7 +206,7 @@ fn block<'a>(alloc: Global, depth: usize, tokens: &'a [Token]) -> Read<'a, Stmt>
 
 /// The items of a block, each a declaration or a statement.
 #[cycle(stmts)]
-#[tactic(auto, using(crate::proofs::Fix::begin_items, crate::proofs::Fix::read_items_on, arc_form::proofs::Rows::all_push))]
+#[tactic(auto, using(arc_grammar::proofs::Loops::one_more, arc_grammar::proofs::Loops::taking, arc_form::proofs::Rows::row_start, arc_form::proofs::Rows::all_push), unfolding(arc_grammar::specs::Grammar::items))]
 pub fn items<'a>(alloc: Global, depth: usize, tokens: &'a [Token]) -> Read<'a, Vec<Stmt>>
     requires { depth ≤ 201 }
     ensures gives { Gives (λ x. (all stmt_tree x.0.items, toks x.1.now)) result (reads (grammar.items depth) (toks tokens.now)) }

@@ -62,7 +62,7 @@ fn next_variable<'a>(alloc: Global, tokens: &'a [Token]) -> Read<'a, Variable>
 }
 
 /// These variables and the further ones, each after a comma.
-#[tactic(auto, using(crate::proofs::Fix::begin_variables, crate::proofs::Fix::read_variables_on, arc_form::proofs::Rows::all_push))]
+#[tactic(auto, using(arc_grammar::proofs::Loops::one_more, arc_grammar::proofs::Loops::taking, arc_form::proofs::Rows::row_is, arc_form::proofs::Rows::all_push), unfolding(arc_grammar::specs::Grammar::more_variables))]
 fn more_variables<'a>(
     alloc: Global,
     before: Vec<Variable>,
@@ -102,7 +102,7 @@ fn next_reference<'a>(alloc: Global, tokens: &'a [Token]) -> Read<'a, Variable>
 }
 
 /// These variables and the further ones, each after a comma and with a `*`.
-#[tactic(auto, using(crate::proofs::Fix::begin_references, crate::proofs::Fix::read_references_on, arc_form::proofs::Rows::all_push))]
+#[tactic(auto, using(arc_grammar::proofs::Loops::one_more, arc_grammar::proofs::Loops::taking, arc_form::proofs::Rows::row_is, arc_form::proofs::Rows::all_push), unfolding(arc_grammar::specs::Grammar::more_references))]
 fn more_references<'a>(
     alloc: Global,
     before: Vec<Variable>,
@@ -122,7 +122,7 @@ fn more_references<'a>(
 }
 
 /// A type that names no class, one variable or more and `;`, after qualifiers.
-#[tactic(auto, using(crate::proofs::Trees::variables_is), unfolding(arc_grammar::specs::Grammar::declaration))]
+#[tactic(auto, using(arc_grammar::proofs::Lists::alls), unfolding(arc_grammar::specs::Grammar::declaration))]
 pub fn declaration<'a>(alloc: Global, qualifiers: Qualifiers, tokens: &'a [Token]) -> Read<'a, Stmt>
     ensures gives { Gives (λ x. (stmt_tree x.0, toks x.1.now)) result (reads_after grammar.declaration qualifiers (toks tokens.now)) }
     ensures shorter { IfOk result (λ x. length x.1.now < length tokens.now) }
@@ -137,7 +137,7 @@ pub fn declaration<'a>(alloc: Global, qualifiers: Qualifiers, tokens: &'a [Token
 }
 
 /// The name of a class, one variable or more, with a `*` each, and `;`, after qualifiers.
-#[tactic(auto, using(crate::proofs::Trees::variables_is), unfolding(arc_grammar::specs::Grammar::objects))]
+#[tactic(auto, using(arc_grammar::proofs::Lists::alls), unfolding(arc_grammar::specs::Grammar::objects))]
 pub fn objects<'a>(alloc: Global, qualifiers: Qualifiers, tokens: &'a [Token]) -> Read<'a, Stmt>
     ensures gives { Gives (λ x. (stmt_tree x.0, toks x.1.now)) result (reads_after grammar.objects qualifiers (toks tokens.now)) }
     ensures shorter { IfOk result (λ x. length x.1.now < length tokens.now) }

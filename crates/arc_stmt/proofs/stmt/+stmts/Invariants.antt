@@ -1,10 +1,8 @@
-use Rattle.std.proofs.Common.{◌≡◌, ◌+◌, ◌*◌, ◌≤◌, length}
-use Rattle.arc_lex.specs.Tokens.{toks}
+use Rattle.std.proofs.Common.{◌+◌, ◌*◌, length}
 use Rattle.arc_form.specs.Views.{all}
 use Rattle.arc_ast.specs.Tree.{stmt_tree}
-use Rattle.arc_grammar.specs.Grammar.{reads}
-use Rattle.arc_grammar.specs.Grammar as grammar
-use Rattle.arc_stmt.proofs.Fix.{items_on}
+use Rattle.arc_grammar.specs.Grammar.{reads, items, item, begins_item}
+use Rattle.arc_grammar.proofs.Loops.{SoFar, row}
 use Rattle.arc_stmt.proofs.stmt.+stmts.Given as goal
 
 abbrev pub decreases-stmt : goal.decreases-stmt
@@ -48,10 +46,7 @@ decreases-item l = 16 * length l.tokens.now + 8
 
 -- the items so far and those to come are all
 abbrev pub invariant-items-items : goal.invariant-items-items
-invariant-items-items l = record {
-  rest : length l.rest ≤ length l.tokens;
-  all : reads (grammar.items l.fn.depth) (toks l.tokens) ≡ items_on l.fn.depth (all stmt_tree l.all.items) (toks l.rest);
-}
+invariant-items-items l = SoFar l.tokens l.rest (reads (items l.fn.depth)) (row begins_item (item l.fn.depth) (all stmt_tree l.all.items))
 
 abbrev pub decreases-items-items : goal.decreases-items-items
 decreases-items-items l = length l.rest
