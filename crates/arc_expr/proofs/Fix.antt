@@ -6,10 +6,10 @@ use Rattle.arc_ast.specs.declared.tree.BinaryOperator.TheVariants as operators
 use Rattle.arc_ast.specs.Tree.{ExprTree, Binary, begins}
 use Rattle.arc_form.specs.Form.{unlimited}
 use Rattle.arc_form.specs.Kinds.{mark, name}
-use Rattle.arc_form.specs.Reader.{bind, ◌>>=◌, ret, sees, if_sees, take_one, from}
+use Rattle.arc_form.specs.Reader.{◌>>=◌, ret, sees, if_sees, take_one, from}
 use Rattle.arc_form.specs.Operators.{marks_at, placed_operator}
-use Rattle.arc_form.proofs.Joining.{joined_is}
 use Rattle.arc_form.proofs.Binding.{bind_twice, pair_then, second_then}
+use Rattle.arc_form.proofs.Joining.{joined_is}
 use Rattle.arc_form.proofs.Sets.{sees_neither}
 use Rattle.arc_form.proofs.Local.{Local, weaker, then, local_token, local_ret}
 use Rattle.arc_form.proofs.FormLocal.{read_is, fronts}
@@ -47,9 +47,6 @@ read_more l left ts =
     joined_is K (reads_free (further l)) join (further_front l) left ts
     ∙ ap (λ y. cond (sees K ts) y (ret left ts)) (pair_then (take_one K (placed_operator operators.Add table) ts) (rules unlimited (binary (l - 1))) (λ a. reads_on (more l) (join left a)))
 
-more_past : (l : ℕ) (left : ExprTree) (ts : List Tok) → sees (marks_at l table) ts ≡ false → reads_on (more l) left ts ≡ Ok (left, ts)
-more_past l left ts s = read_more l left ts ∙ rw s refl
-
 -- those of the levels up to one, level by level
 pub up_one : (l : ℕ) (left : ExprTree) (ts : List Tok) → reads_on (up_to (suc l)) left ts ≡ (reads_on (up_to l) left >>= (λ tighter. reads_on (more (suc l)) tighter)) ts
 unfolding up_to
@@ -61,8 +58,7 @@ unfolding up_to
 read_past zero left ts s = refl
 read_past (suc l) left ts s =
     let p = sees_neither (marks_up_to l) (marks_at (suc l) table) ts s in
-    up_one l left ts ∙ ap (λ x. bind x (λ tighter. reads_on (more (suc l)) tighter)) (read_past l left ts p.0)
-    ∙ more_past (suc l) left ts p.1
+    up_one l left ts ∙ rw (read_past l left ts p.0) (read_more (suc l) left ts ∙ rw p.1 refl)
 
 -- the suffixes after an operand, further arguments, and further parts of a selector, one by one
 pub read_suffixes : (operand : ExprTree) (ts : List Tok)

@@ -1,6 +1,5 @@
 pub mod Table
 pub mod Fix
 pub mod Levels
-pub mod Trees
 pub mod Bound
 pub mod Qualifiers

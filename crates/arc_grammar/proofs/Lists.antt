@@ -1,5 +1,7 @@
 -- Lists of trees, whatever they are of.
 use Rattle.std.proofs.Common.{◌≡◌, List, [], ◌∷◌, ◌++◌, refl, ap, ◌∙◌}
+use Rattle.arc_ast.specs.declared.tree.Expr.{Expr}
+use Rattle.arc_ast.specs.declared.tree.Stmt.{Stmt}
 use Rattle.arc_ast.specs.declared.tree.Variable.{Variable}
 use Rattle.arc_ast.specs.declared.tree.Parameter.{Parameter}
 use Rattle.arc_ast.specs.declared.tree.MethodHead.{MethodHead}
@@ -11,6 +13,7 @@ use Rattle.arc_ast.specs.declared.tree.Interface.{Interface}
 use Rattle.arc_ast.specs.declared.tree.Implementation.{Implementation}
 use Rattle.arc_ast.specs.Tree as tree
 use Rattle.arc_form.specs.Views.{all}
+use Rattle.arc_grammar.specs.Grammar as grammar
 
 module _ {A T : Type 0} (of : A → T) (trees : List A → List T) (none : trees [] ≡ []) (more : (a : A) (l : List A) → trees (a ∷ l) ≡ of a ∷ trees l) where
   all_is : (l : List A) → trees l ≡ all of l
@@ -20,6 +23,14 @@ module _ {A T : Type 0} (of : A → T) (trees : List A → List T) (none : trees
   append_is : (l m : List A) → trees (l ++ m) ≡ trees l ++ trees m
   append_is [] m = rw none refl
   append_is (a ∷ l) m = rw (more a (l ++ m), more a l) (ap (λ v. of a ∷ v) (append_is l m))
+
+pub exprs_all : (l : List Expr) → grammar.exprs (all tree.expr_tree l) ≡ tree.expr_trees l
+exprs_all [] = refl
+exprs_all (a ∷ l) = ap (tree.and_expr (tree.expr_tree a)) (exprs_all l)
+
+pub stmts_all : (l : List Stmt) → grammar.stmts (all tree.stmt_tree l) ≡ tree.stmt_trees l
+stmts_all [] = refl
+stmts_all (a ∷ l) = ap (tree.and_stmt (tree.stmt_tree a)) (stmts_all l)
 
 -- lists of trees, as those of what was made
 pub alls : ((l : List Variable) → tree.variable_trees l ≡ all tree.variable_tree l) × ((l : List Parameter) → tree.parameter_trees l ≡ all tree.parameter_tree l)

@@ -1,8 +1,11 @@
 -- Loops that read one thing more, whatever it is, and join it to what there is.
-use Rattle.std.proofs.Common.{◌≡◌, ◌≤◌, ℕ, List, length, true, false, refl}
+use Rattle.std.proofs.Common.{◌≡◌, ◌≤◌, ℕ, List, true, false, refl}
+pub use Rattle.std.proofs.Common.{length}
 use Rattle.arc_lex.specs.declared.token.Token.{Token}
 use Rattle.arc_lex.specs.Tokens.{Tok, toks}
-use Rattle.arc_form.specs.Kinds.{Kinds}
+use Rattle.arc_lex.specs.declared.token.Mark.TheVariants.{Comma}
+use Rattle.arc_form.specs.Kinds.{Kinds, mark}
+use Rattle.arc_form.specs.Views.{all}
 use Rattle.arc_form.specs.Reader.{Reader, ◌>>=◌, ret, if_sees}
 use Rattle.arc_form.specs.Form.{unlimited, map, many}
 use Rattle.arc_form.specs.Operators.{fold}
@@ -19,9 +22,12 @@ pub record SoFar {A : Type 0} (tokens rest : List Token) (whole now : Reader A) 
   pub fewer : length rest ≤ length tokens
   pub same : whole (toks tokens) ≡ now (toks rest)
 
--- what a loop reads after these
-abbrev pub row : {A : Type 0} → Kinds → Part A → List A → Reader (List A)
-row T part = joining T (reads part) push
+-- what a loop reads after what was made, and where each part is after a comma
+abbrev pub row : {A T : Type 0} → Kinds → Part T → (A → T) → List A → Reader (List T)
+row K part tree made = joining K (reads part) push (all tree made)
+
+abbrev pub listed : {A T : Type 0} → Part T → (A → T) → List A → Reader (List T)
+listed = row (mark Comma)
 
 -- a part that is some token at least
 pub record Takes {A : Type 0} (part : Part A) : Type 0 where

@@ -5,20 +5,21 @@ use Rattle.arc_ast.specs.Tree.{expr_tree}
 use Rattle.arc_grammar.specs.Grammar.{reads_on, exprs}
 use Rattle.arc_grammar.specs.Grammar as grammar
 use Rattle.arc_expr.proofs.Levels.{one_more, no_operand}
-use Rattle.arc_expr.proofs.Trees.{call_is, send_is, send_super_is}
+use Rattle.arc_ast.proofs.Trees.{call_tree, send_tree, send_super_tree}
+use Rattle.arc_grammar.proofs.Lists.{exprs_all}
 use Rattle.arc_expr.proofs.expr.+exprs.Goals as goal
 
 pub call-returns-clause-gives : goal.call-returns-clause-gives
 unfolding grammar.arguments
-call-returns-clause-gives t c = rw (call_is c.args.at c.in_ok-from_slice.field-0 c.in_ok-all.all, c.in_ok-from_slice.ensures.items) (search rules)
+call-returns-clause-gives t c = rw (call_tree c.args.at c.in_ok-from_slice.field-0 c.in_ok-all.all, ← exprs_all c.in_ok-all.all.items, c.in_ok-from_slice.ensures.items) (search rules)
 
 pub to_super-returns-clause-gives : goal.to_super-returns-clause-gives
 unfolding grammar.to_super
-to_super-returns-clause-gives t c = rw (send_super_is c.args.at c.in_ok-part.part c.in_ok-super_at.super_at c.in_ok-part.selector c.in_ok-part.all) (search rules)
+to_super-returns-clause-gives t c = rw (send_super_tree c.args.at c.in_ok-part.part c.in_ok-super_at.super_at c.in_ok-part.selector c.in_ok-part.all, ← exprs_all c.in_ok-part.all.items) (search rules)
 
 pub to_object-returns-clause-gives : goal.to_object-returns-clause-gives
 unfolding grammar.to_object
-to_object-returns-clause-gives t c = rw (send_is c.args.at c.in_ok-part.part c.in_ok-object-2.object c.in_ok-part.selector c.in_ok-part.all) (search rules)
+to_object-returns-clause-gives t c = rw (send_tree c.args.at c.in_ok-part.part c.in_ok-object-2.object c.in_ok-part.selector c.in_ok-part.all, ← exprs_all c.in_ok-part.all.items) (search rules)
 
 pub up_to-returns-in_err-right-clause-gives : goal.up_to-returns-in_err-right-clause-gives
 up_to-returns-in_err-right-clause-gives t c =

@@ -1,8 +1,7 @@
-use Rattle.std.proofs.Common.{length}
 use Rattle.arc_ast.specs.Types.{and_qualifier}
 use Rattle.arc_form.specs.Joining.{joining}
 use Rattle.arc_grammar.specs.Grammar.{reads, qualifier, begins_qualifier}
-use Rattle.arc_grammar.proofs.Loops.{SoFar}
+use Rattle.arc_grammar.proofs.Loops.{length, SoFar}
 use Rattle.arc_expr.proofs.qualifier.more_qualifiers.Given as goal
 
 -- the qualifiers so far and those to come are all

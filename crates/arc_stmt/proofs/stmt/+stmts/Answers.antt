@@ -1,11 +1,12 @@
 use Rattle.std.proofs.Common.{◌≡◌, ◌+◌, suc, rules, arith}
 use Rattle.arc_grammar.specs.Grammar as grammar
-use Rattle.arc_stmt.proofs.Stmts.{block_tree}
+use Rattle.arc_ast.proofs.Trees.{block_tree}
+use Rattle.arc_grammar.proofs.Lists.{stmts_all}
 use Rattle.arc_stmt.proofs.stmt.+stmts.Goals as goal
 
 pub block-returns-clause-gives : goal.block-returns-clause-gives
 unfolding grammar.block
-block-returns-clause-gives t c = rw (block_tree c.in_ok-at.at c.in_ok-all.all) (search rules)
+block-returns-clause-gives t c = rw (block_tree c.in_ok-at.at c.in_ok-all.all, ← stmts_all c.in_ok-all.all.items) (search rules)
 
 pub conditional-returns-in_err-second-clause-gives : goal.conditional-returns-in_err-second-clause-gives
 unfolding grammar.if_else

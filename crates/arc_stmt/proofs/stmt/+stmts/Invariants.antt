@@ -1,5 +1,4 @@
 use Rattle.std.proofs.Common.{◌+◌, ◌*◌, length}
-use Rattle.arc_form.specs.Views.{all}
 use Rattle.arc_ast.specs.Tree.{stmt_tree}
 use Rattle.arc_grammar.specs.Grammar.{reads, items, item, begins_item}
 use Rattle.arc_grammar.proofs.Loops.{SoFar, row}
@@ -46,7 +45,7 @@ decreases-item l = 16 * length l.tokens.now + 8
 
 -- the items so far and those to come are all
 abbrev pub invariant-items-items : goal.invariant-items-items
-invariant-items-items l = SoFar l.tokens l.rest (reads (items l.fn.depth)) (row begins_item (item l.fn.depth) (all stmt_tree l.all.items))
+invariant-items-items l = SoFar l.tokens l.rest (reads (items l.fn.depth)) (row begins_item (item l.fn.depth) stmt_tree l.all.items)
 
 abbrev pub decreases-items-items : goal.decreases-items-items
 decreases-items-items l = length l.rest
