@@ -1,45 +1,27 @@
 -- The fields of classes: the loops that read them.
-use Rattle.std.proofs.Common.{◌≡◌, ℕ, List, [], ◌∷◌, ◌++◌, append_assoc, append-nil, Ok, Err, refl, sym, ap, ◌∙◌}
+use Rattle.std.proofs.Common.{◌≡◌, List, [], ◌∷◌, ◌++◌, append_assoc, append-nil, Ok, Err, refl, sym, ap, ◌∙◌}
 use Rattle.arc_lex.specs.Tokens.{Tok}
 use Rattle.arc_lex.specs.declared.token.Mark.TheVariants as m
 use Rattle.arc_lex.specs.declared.token.AtWord.TheVariants as words
 use Rattle.arc_ast.specs.declared.tree.Visibility.{Visibility}
-use Rattle.arc_ast.specs.declared.tree.Field.{Field}
-use Rattle.arc_ast.specs.Tree.{FieldTree, field_tree, field_trees}
+use Rattle.arc_ast.specs.Tree.{FieldTree}
 use Rattle.arc_form.specs.Kinds.{mark, at, name}
 use Rattle.arc_form.specs.Form.{map}
 use Rattle.arc_form.specs.Operators.{fold}
 use Rattle.arc_form.specs.Reader.{Read, Reader, bind, ◌>>=◌, ret, if_sees, take_one, from, named}
-use Rattle.arc_form.proofs.Local.{Takes}
-use Rattle.arc_grammar.specs.Grammar.{these, QualifiedType, QualifiedName, FieldGroup, OfWord, OfType, reads, qualifiers, begins_fields, next_name, more_names, next_qualified_name, more_qualified_names, next_starred_name, more_starred_names, plain_fields, object_fields, typed_fields, qualified_fields, group, groups, fields, field_of, fields_of, named_fields, visibility_of, begins_visibility, class_names}
-use Rattle.arc_grammar.proofs.Fits.{front, lines}
+use Rattle.arc_grammar.specs.Grammar.{QualifiedType, QualifiedName, FieldGroup, OfWord, OfType, reads, qualifiers, begins_fields, more_names, more_qualified_names, more_starred_names, plain_fields, object_fields, typed_fields, qualified_fields, group, groups, fields, field_of, fields_of, named_fields, visibility_of, begins_visibility, class_names}
+use Rattle.arc_grammar.proofs.Loops.{one_more, taking}
 use Rattle.arc_form.specs.Joining.{joining}
-use Rattle.arc_form.proofs.Joining.{joining_is}
 use Rattle.arc_form.proofs.Binding.{bind_twice, bind_if}
-use Rattle.arc_top.specs.Fields.{begins_group, add_field, add_group, names_on, starred_names_on, typed_fields_on, group_on, skip, names_skipped}
+use Rattle.arc_top.specs.Fields.{begins_group, add_field, add_group, typed_fields_on, group_on, names_skipped}
 
 -- the fields of a class after these
 abbrev pub groups_on : Visibility × List FieldTree → Reader (List FieldTree)
 groups_on s = joining begins_group (reads group) add_group s >>= (λ s. ret s.1)
 
-group_front : Takes 1 (reads group)
-unfolding lines
-group_front = front these group refl refl
-
 -- one group more, or none
 pub read_groups_on : (s : Visibility × List FieldTree) (ts : List Tok) → groups_on s ts ≡ if_sees begins_group (group_on s >>= (λ s. groups_on s)) (ret s.1) ts
-read_groups_on s ts = rw (joining_is begins_group (reads group) add_group group_front s ts) (simp (bind_if, bind_twice))
-
--- further names of a type, one by one
-pub read_names_on : (v : Visibility) (type : QualifiedType) (made : List FieldTree) (ts : List Tok)
-    → names_on v type made ts ≡ if_sees (mark m.Comma) (reads next_qualified_name >>= (λ n. names_on v type (add_field v type made n))) (ret made) ts
-unfolding lines
-read_names_on v type = joining_is (mark m.Comma) (reads next_qualified_name) (add_field v type) (front these next_qualified_name refl refl)
-
-pub read_starred_names_on : (v : Visibility) (type : QualifiedType) (made : List FieldTree) (ts : List Tok)
-    → starred_names_on v type made ts ≡ if_sees (mark m.Comma) (reads next_starred_name >>= (λ n. starred_names_on v type (add_field v type made n))) (ret made) ts
-unfolding lines
-read_starred_names_on v type = joining_is (mark m.Comma) (reads next_starred_name) (add_field v type) (front these next_starred_name refl refl)
+read_groups_on s ts = rw (one_more begins_group group add_group (search taking) s ts) (simp (bind_if, bind_twice))
 
 pub read_group : (v : Visibility) (made : List FieldTree) (ts : List Tok) → group_on (v, made) ts
     ≡ if_sees begins_fields (reads qualifiers >>= (λ q us. (typed_fields_on v q made >>= (λ all. ret (v, all))) us)) (take_one begins_visibility (λ t. visibility_of t.sort) >>= (λ next. ret (next, made))) ts
@@ -72,16 +54,7 @@ pub read_fields : (v : Visibility) (ts : List Tok) → reads (fields v) ts
 unfolding fields
 read_fields v ts = simp bind_twice
 
-pub fields_push : (l : List Field) (f : Field) → field_trees (l ++ f ∷ []) ≡ field_trees l ++ field_tree f ∷ []
-fields_push [] f = refl
-fields_push (g ∷ l) f = ap (λ v. field_tree g ∷ v) (fields_push l f)
-
--- ---- names of classes
-
-pub read_names_skipped : (ts : List Tok) → names_skipped ts ≡ if_sees (mark m.Comma) (reads next_name >>= (λ n. names_skipped)) (ret tt) ts
-unfolding lines
-read_names_skipped = joining_is (mark m.Comma) (reads next_name) skip (front these next_name refl refl) tt
-
+-- names of classes
 pub read_class_names : (ts : List Tok) → reads class_names ts ≡ (take_one (at words.Class) from >>= (λ a us. (take_one name named >>= (λ n vs. (names_skipped >>= (λ u. take_one (mark m.Semicolon) from >>= (λ end. ret tt))) vs)) us)) ts
 unfolding class_names more_names
 read_class_names ts = simp bind_twice

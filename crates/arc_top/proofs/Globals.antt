@@ -1,41 +1,24 @@
 -- Variables of the whole program: the loop that reads them, and what tells them from a function.
-use Rattle.std.proofs.Common.{◌≡◌, ℕ, List, [], ◌∷◌, ◌++◌, map as list_map, append_assoc, append-nil, Bool, true, false, ◌&&◌, ◌||◌, cond, refl, sym, ap, ◌∙◌}
+use Rattle.std.proofs.Common.{◌≡◌, List, [], ◌∷◌, ◌++◌, map as list_map, append_assoc, append-nil, Bool, true, false, ◌&&◌, ◌||◌, cond, sym, ◌∙◌}
 use Rattle.arc_lex.specs.Tokens.{Tok}
 use Rattle.arc_lex.specs.declared.token.Mark.TheVariants as m
-use Rattle.arc_ast.specs.declared.tree.Global.{Global}
 use Rattle.arc_ast.specs.declared.tree.Qualifiers.TheVariants.{Unqualified}
-use Rattle.arc_ast.specs.Tree.{TypeTree, ResultTree, FunctionTree, GlobalTree, Value, global_tree, global_trees}
+use Rattle.arc_ast.specs.Tree.{TypeTree, ResultTree, FunctionTree, GlobalTree, Value}
 use Rattle.arc_form.specs.Kinds.{mark, main, name, other_name}
 use Rattle.arc_form.specs.Operators.{fold}
 use Rattle.arc_form.specs.Reader.{Read, bind, ◌>>=◌, ret, sees, sees_second, if_sees, take_one, from}
 use Rattle.arc_form.specs.Joining.{joining}
-use Rattle.arc_form.proofs.Local.{Takes}
-use Rattle.arc_form.proofs.Joining.{joining_is}
 use Rattle.arc_form.proofs.Binding.{bind_twice, bind_if}
-use Rattle.arc_grammar.specs.Grammar.{Part, these, QualifiedType, OfFunction, OfGlobals, reads, some_qualifiers, plain_type, class_type, of_function, of_globals, main_function, other_function, function, global, next_global, more_globals, globals, next_global_reference, more_global_references, global_references, typed_top, of_plain, of_objects, plain_globals, object_globals, of_qualified}
-use Rattle.arc_grammar.proofs.Fits.{front, lines}
+use Rattle.arc_grammar.specs.Grammar.{Part, QualifiedType, OfFunction, OfGlobals, reads, some_qualifiers, plain_type, class_type, of_function, of_globals, main_function, other_function, function, global, more_globals, globals, more_global_references, global_references, typed_top, of_plain, of_objects, plain_globals, object_globals, of_qualified}
+use Rattle.arc_grammar.proofs.Loops.{Takes, one_more}
 use Rattle.arc_top.proofs.Alike.{bind_alike}
 use Rattle.arc_top.specs.Globals.{add_global, globals_on, global_references_on, typed_on}
 use Rattle.arc_top.specs.Signatures.{reads_after}
 
-pub globals_push : (l : List Global) (g : Global) → global_trees (l ++ g ∷ []) ≡ global_trees l ++ global_tree g ∷ []
-globals_push [] g = refl
-globals_push (h ∷ l) g = ap (λ v. global_tree h ∷ v) (globals_push l g)
-
 -- further variables of a type, one by one
-further : (type : QualifiedType) (next : Part (QualifiedType → GlobalTree)) → Takes 1 (reads next) → (made : List GlobalTree) (ts : List Tok)
+pub further : (type : QualifiedType) (next : Part (QualifiedType → GlobalTree)) → Takes next → (made : List GlobalTree) (ts : List Tok)
     → joining (mark m.Comma) (reads next) (add_global type) made ts ≡ if_sees (mark m.Comma) (reads_after next type >>= (λ g. joining (mark m.Comma) (reads next) (add_global type) (made ++ g ∷ []))) (ret made) ts
-further type next front made ts = joining_is (mark m.Comma) (reads next) (add_global type) front made ts ∙ simp bind_twice
-
-pub read_globals_on : (type : QualifiedType) (made : List GlobalTree) (ts : List Tok)
-    → globals_on type made ts ≡ if_sees (mark m.Comma) (reads_after next_global type >>= (λ g. globals_on type (made ++ g ∷ []))) (ret made) ts
-unfolding lines
-read_globals_on type made ts = further type next_global (front these next_global refl refl) made ts
-
-pub read_global_references_on : (type : QualifiedType) (made : List GlobalTree) (ts : List Tok)
-    → global_references_on type made ts ≡ if_sees (mark m.Comma) (reads_after next_global_reference type >>= (λ g. global_references_on type (made ++ g ∷ []))) (ret made) ts
-unfolding lines
-read_global_references_on type made ts = further type next_global_reference (front these next_global_reference refl refl) made ts
+further type next t made ts = one_more (mark m.Comma) next (add_global type) t made ts ∙ simp bind_twice
 
 all_made : (type : QualifiedType) (made : List GlobalTree) (others : List (QualifiedType → GlobalTree)) → fold (add_global type) made others ≡ made ++ list_map (λ other. other type) others
 all_made type made [] = sym (append-nil made)

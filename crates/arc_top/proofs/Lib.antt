@@ -1,5 +1,4 @@
 pub mod Alike
-pub mod Trees
 pub mod Rests
 pub mod Typed
 pub mod Fields

@@ -1,15 +1,13 @@
 -- The parts of a selector, which a loop appends to those that are there.
-use Rattle.std.proofs.Common.{◌≡◌, ℕ, List, [], ◌∷◌, ◌++◌, append_assoc, append-nil, refl, sym, ap₂, ◌∙◌}
+use Rattle.std.proofs.Common.{◌≡◌, ℕ, List, [], ◌∷◌, ◌++◌, append_assoc, append-nil, sym, ap₂, ◌∙◌}
 use Rattle.arc_lex.specs.Tokens.{Tok}
 use Rattle.arc_ast.specs.Tree.{ParameterTree}
 use Rattle.arc_form.specs.Kinds.{name}
 use Rattle.arc_form.specs.Operators.{fold}
-use Rattle.arc_form.specs.Reader.{Reader, ◌>>=◌, ret, if_sees}
+use Rattle.arc_form.specs.Reader.{Reader, ◌>>=◌}
 use Rattle.arc_form.specs.Joining.{joining}
 use Rattle.arc_form.proofs.Binding.{bind_twice}
-use Rattle.arc_form.proofs.Joining.{joining_is}
-use Rattle.arc_grammar.specs.Grammar.{Typed, these, reads, typed, next_typed, typed_parts, selector_of, seconds}
-use Rattle.arc_grammar.proofs.Fits.{front, lines}
+use Rattle.arc_grammar.specs.Grammar.{Typed, reads, typed, next_typed, typed_parts, selector_of, seconds}
 use Rattle.arc_top.specs.Signatures.{reads_after, more_typed}
 
 -- one part more, with its parameter
@@ -27,10 +25,6 @@ typed_on = joining name (reads next_typed) and_typed
 pub begin_typed : (s : Typed) (ts : List Tok) → reads_after more_typed s ts ≡ typed_on s ts
 unfolding more_typed
 begin_typed s ts = simp (bind_twice, fold_typed)
-
-pub read_typed_on : (s : Typed) (ts : List Tok) → typed_on s ts ≡ if_sees name (reads next_typed >>= (λ p. typed_on (and_typed s p))) (ret s) ts
-unfolding lines
-read_typed_on = joining_is name (reads next_typed) and_typed (front these next_typed refl refl)
 
 -- the first part, and then further ones
 pub read_typed_parts : (first : List ℕ) (ts : List Tok) → reads_after typed_parts first ts ≡ (reads typed >>= (λ p us. reads_after more_typed (first ++ 58 ∷ [], p ∷ []) us)) ts

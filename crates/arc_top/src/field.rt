@@ -140,7 +140,7 @@ fn typed_fields<'a>(
 }
 
 /// These fields and those of a class, one name or more with a `*` each and `;`.
-#[tactic(auto, using(crate::proofs::Fields::fields_push))]
+#[tactic(auto, using(arc_grammar::proofs::Lists::appends))]
 fn object_fields<'a>(
     alloc: Global,
     visibility: Visibility,
@@ -162,7 +162,7 @@ fn object_fields<'a>(
 }
 
 /// These fields and those of a type that names no class, one name or more and `;`.
-#[tactic(auto, using(crate::proofs::Fields::fields_push))]
+#[tactic(auto, using(arc_grammar::proofs::Lists::appends))]
 fn plain_fields<'a>(
     alloc: Global,
     visibility: Visibility,
@@ -183,7 +183,7 @@ fn plain_fields<'a>(
 }
 
 /// These fields and the further ones of this type, each of which is after a comma.
-#[tactic(auto, using(crate::proofs::Fields::read_names_on, crate::proofs::Fields::fields_push))]
+#[tactic(auto, using(arc_grammar::proofs::Loops::one_more, arc_grammar::proofs::Loops::taking, arc_grammar::proofs::Lists::appends))]
 fn more_fields<'a>(
     alloc: Global,
     visibility: Visibility,
@@ -206,7 +206,7 @@ fn more_fields<'a>(
 }
 
 /// These fields and the further ones of this class, each of which is after a comma and `*`.
-#[tactic(auto, using(crate::proofs::Fields::read_starred_names_on, crate::proofs::Fields::fields_push))]
+#[tactic(auto, using(arc_grammar::proofs::Loops::one_more, arc_grammar::proofs::Loops::taking, arc_grammar::proofs::Lists::appends))]
 fn more_starred_fields<'a>(
     alloc: Global,
     visibility: Visibility,

@@ -85,7 +85,7 @@ fn function_body<'a>(alloc: Global, tokens: &'a [Token]) -> Read<'a, Option<Vec<
 }
 
 /// The block of a function or a method.
-#[tactic(auto, using(arc_stmt::proofs::Stmts::stmts_all), unfolding(arc_grammar::specs::Grammar::braces))]
+#[tactic(auto, using(arc_grammar::proofs::Lists::stmts_all), unfolding(arc_grammar::specs::Grammar::braces))]
 pub fn braces<'a>(alloc: Global, tokens: &'a [Token]) -> Read<'a, Vec<Stmt>>
     ensures gives { Gives (λ x. (stmt_trees x.0.items, toks x.1.now)) result (reads grammar.braces (toks tokens.now)) }
     ensures shorter { IfOk result (λ x. length x.1.now < length tokens.now) }

@@ -71,7 +71,7 @@ fn void_parameters<'a>(alloc: Global, tokens: &'a [Token]) -> Read<'a, Parameter
 }
 
 /// One parameter or more.
-#[tactic(auto, using(crate::proofs::Trees::parameters_is), unfolding(arc_grammar::specs::Grammar::some_parameters))]
+#[tactic(auto, using(arc_grammar::proofs::Lists::alls), unfolding(arc_grammar::specs::Grammar::some_parameters))]
 fn some_parameters<'a>(alloc: Global, tokens: &'a [Token]) -> Read<'a, Parameters>
     ensures gives { Gives (λ x. (parameters_tree x.0, toks x.1.now)) result (reads grammar.some_parameters (toks tokens.now)) }
     ensures shorter { IfOk result (λ x. length x.1.now < length tokens.now) }
@@ -128,7 +128,7 @@ fn next_parameter<'a>(alloc: Global, tokens: &'a [Token]) -> Read<'a, Parameter>
 }
 
 /// These parameters and the further ones, each after a comma.
-#[tactic(auto, using(crate::proofs::Rests::begin_parameters, crate::proofs::Rests::read_parameters_on, arc_form::proofs::Rows::all_push))]
+#[tactic(auto, using(arc_grammar::proofs::Loops::one_more, arc_grammar::proofs::Loops::taking, arc_form::proofs::Rows::row_is, arc_form::proofs::Rows::all_push), unfolding(arc_grammar::specs::Grammar::more_parameters))]
 fn more_parameters<'a>(
     alloc: Global,
     before: Vec<Parameter>,
@@ -148,7 +148,7 @@ fn more_parameters<'a>(
 }
 
 /// This parameter and further ones.
-#[tactic(auto, using(crate::proofs::Trees::parameters_is))]
+#[tactic(auto, using(arc_grammar::proofs::Lists::alls))]
 fn listed_after<'a>(alloc: Global, first: Parameter, tokens: &'a [Token]) -> Read<'a, Parameters>
     ensures gives { Gives (λ x. (parameters_tree x.0, toks x.1.now)) result (signatures.listed_after (parameter_tree first) (toks tokens.now)) }
     ensures shorter { IfOk result (λ x. length x.1.now ≤ length tokens.now) }
@@ -251,7 +251,7 @@ fn second<'a>(alloc: Global, first: Parameter, tokens: &'a [Token]) -> Read<'a, 
 {
     let (_, rest) = expect(Mark::Comma, tokens)?;
     if begins_texts(rest) {
-        texts(rest)
+        texts(&first, rest)
     } else {
         further_parameters(alloc, first, rest)
     }
@@ -266,7 +266,7 @@ fn begins_texts(tokens: &[Token]) -> bool
 }
 
 /// The first parameter and others, of which the next one comes.
-#[tactic(auto, using(crate::proofs::Trees::parameters_is), unfolding(arc_grammar::specs::Grammar::further_parameters))]
+#[tactic(auto, using(arc_grammar::proofs::Lists::alls), unfolding(arc_grammar::specs::Grammar::further_parameters))]
 fn further_parameters<'a>(
     alloc: Global,
     first: Parameter,
@@ -283,10 +283,10 @@ fn further_parameters<'a>(
     Ok((Parameters::Listed(all), rest))
 }
 
-/// The texts that `main` takes after their count.
+/// The texts that `main` takes after this count of them.
 #[tactic(auto, unfolding(arc_grammar::specs::Grammar::texts))]
-fn texts(tokens: &[Token]) -> Read<'_, Parameters>
-    ensures gives { (count : ParameterTree) → Gives (λ x. (parameters_tree x.0, toks x.1.now)) result (reads_after grammar.texts count (toks tokens.now)) }
+fn texts<'a>(_count: &Parameter, tokens: &'a [Token]) -> Read<'a, Parameters>
+    ensures gives { Gives (λ x. (parameters_tree x.0, toks x.1.now)) result (reads_after grammar.texts (parameter_tree _count.now) (toks tokens.now)) }
     ensures shorter { IfOk result (λ x. length x.1.now < length tokens.now) }
 {
     let (_, rest) = perhaps_const(tokens)?;

@@ -1,15 +1,11 @@
-use Rattle.std.proofs.Common.{◌≡◌, ◌≤◌, length}
-use Rattle.arc_lex.specs.Tokens.{toks}
 use Rattle.arc_ast.specs.Tree.{type_tree, field_trees}
+use Rattle.arc_grammar.proofs.Loops.{length, SoFar}
 use Rattle.arc_top.specs.Fields.{starred_names_on}
 use Rattle.arc_top.proofs.field.more_starred_fields.Given as goal
 
 -- the fields so far and those to come are all
 abbrev pub invariant-fields : goal.invariant-fields
-invariant-fields l = record {
-  rest : length l.rest ≤ length l.tokens;
-  all : starred_names_on l.visibility (l.qualifiers, type_tree l.type_name) (field_trees l.fn.before.items) (toks l.tokens) ≡ starred_names_on l.visibility (l.qualifiers, type_tree l.type_name) (field_trees l.all.items) (toks l.rest);
-}
+invariant-fields l = SoFar l.tokens l.rest (starred_names_on l.visibility (l.qualifiers, type_tree l.type_name) (field_trees l.fn.before.items)) (starred_names_on l.visibility (l.qualifiers, type_tree l.type_name) (field_trees l.all.items))
 
 abbrev pub decreases-fields : goal.decreases-fields
 decreases-fields l = length l.rest

@@ -1,15 +1,11 @@
-use Rattle.std.proofs.Common.{◌≡◌, ◌≤◌, length}
-use Rattle.arc_lex.specs.Tokens.{toks}
 use Rattle.arc_ast.specs.Tree.{type_tree, global_trees}
+use Rattle.arc_grammar.proofs.Loops.{length, SoFar}
 use Rattle.arc_top.specs.Globals.{global_references_on}
 use Rattle.arc_top.proofs.global.more_global_references.Given as goal
 
 -- the variables so far and those to come are all
 abbrev pub invariant-references : goal.invariant-references
-invariant-references l = record {
-  rest : length l.rest ≤ length l.tokens;
-  all : global_references_on (l.qualifiers, type_tree l.type_name) (global_trees l.fn.before.items) (toks l.tokens) ≡ global_references_on (l.qualifiers, type_tree l.type_name) (global_trees l.all.items) (toks l.rest);
-}
+invariant-references l = SoFar l.tokens l.rest (global_references_on (l.qualifiers, type_tree l.type_name) (global_trees l.fn.before.items)) (global_references_on (l.qualifiers, type_tree l.type_name) (global_trees l.all.items))
 
 abbrev pub decreases-references : goal.decreases-references
 decreases-references l = length l.rest

@@ -1,15 +1,11 @@
-use Rattle.std.proofs.Common.{◌≡◌, ◌≤◌, length}
-use Rattle.arc_lex.specs.Tokens.{toks}
 use Rattle.arc_ast.specs.Tree.{type_tree, global_trees}
+use Rattle.arc_grammar.proofs.Loops.{length, SoFar}
 use Rattle.arc_top.specs.Globals.{globals_on}
 use Rattle.arc_top.proofs.global.more_globals.Given as goal
 
 -- the variables so far and those to come are all
 abbrev pub invariant-globals : goal.invariant-globals
-invariant-globals l = record {
-  rest : length l.rest ≤ length l.tokens;
-  all : globals_on (l.qualifiers, type_tree l.type_name) (global_trees l.fn.before.items) (toks l.tokens) ≡ globals_on (l.qualifiers, type_tree l.type_name) (global_trees l.all.items) (toks l.rest);
-}
+invariant-globals l = SoFar l.tokens l.rest (globals_on (l.qualifiers, type_tree l.type_name) (global_trees l.fn.before.items)) (globals_on (l.qualifiers, type_tree l.type_name) (global_trees l.all.items))
 
 abbrev pub decreases-globals : goal.decreases-globals
 decreases-globals l = length l.rest

@@ -1,17 +1,13 @@
-use Rattle.std.proofs.Common.{◌≡◌, ◌≤◌, length}
-use Rattle.arc_lex.specs.Tokens.{toks}
 use Rattle.arc_form.specs.Views.{all}
 use Rattle.arc_ast.specs.Tree.{parameter_tree}
+use Rattle.arc_grammar.proofs.Loops.{length, SoFar}
 use Rattle.arc_top.specs.Signatures.{reads_after, more_typed}
 use Rattle.arc_top.proofs.Typed.{typed_on}
 use Rattle.arc_top.proofs.method.more_typed.Given as goal
 
 -- the parts so far and those to come are all
 abbrev pub invariant-parts : goal.invariant-parts
-invariant-parts l = record {
-  rest : length l.rest ≤ length l.tokens;
-  all : reads_after more_typed (l.fn.before.items, all parameter_tree l.fn.given.items) (toks l.tokens) ≡ typed_on (l.selector.items, all parameter_tree l.all.items) (toks l.rest);
-}
+invariant-parts l = SoFar l.tokens l.rest (reads_after more_typed (l.fn.before.items, all parameter_tree l.fn.given.items)) (typed_on (l.selector.items, all parameter_tree l.all.items))
 
 abbrev pub decreases-parts : goal.decreases-parts
 decreases-parts l = length l.rest
