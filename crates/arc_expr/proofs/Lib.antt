@@ -2,4 +2,3 @@ pub mod Table
 pub mod Fix
 pub mod Levels
 pub mod Bound
-pub mod Qualifiers

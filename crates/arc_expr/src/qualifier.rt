@@ -46,7 +46,7 @@ fn more_qualifiers(before: Qualifiers, tokens: &[Token]) -> Read<'_, Qualifiers>
 }
 
 /// Qualifiers, as many as there are.
-#[tactic(auto, using(crate::proofs::Qualifiers::read_qualifiers))]
+#[tactic(auto, using(arc_form::proofs::Binding::bind_twice), unfolding(arc_grammar::specs::Grammar::qualifiers, arc_grammar::specs::Grammar::more_qualifiers))]
 pub fn qualifiers(tokens: &[Token]) -> Read<'_, Qualifiers>
     ensures gives { Gives (λ x. (x.0, toks x.1.now)) result (reads grammar.qualifiers (toks tokens.now)) }
     ensures shorter { IfOk result (λ x. length x.1.now ≤ length tokens.now) }
@@ -55,7 +55,7 @@ pub fn qualifiers(tokens: &[Token]) -> Read<'_, Qualifiers>
 }
 
 /// One qualifier or more.
-#[tactic(auto, using(crate::proofs::Qualifiers::read_some_qualifiers))]
+#[tactic(auto, using(arc_form::proofs::Binding::bind_twice), unfolding(arc_grammar::specs::Grammar::some_qualifiers, arc_grammar::specs::Grammar::more_qualifiers))]
 pub fn some_qualifiers(tokens: &[Token]) -> Read<'_, Qualifiers>
     ensures gives { Gives (λ x. (x.0, toks x.1.now)) result (reads grammar.some_qualifiers (toks tokens.now)) }
     ensures shorter { IfOk result (λ x. length x.1.now < length tokens.now) }
