@@ -1,19 +1,16 @@
 -- The fields of classes: the loops that read them.
 use Rattle.std.proofs.Common.{◌≡◌, List, [], ◌∷◌, ◌++◌, append_assoc, append-nil, Ok, Err, refl, sym, ap, ◌∙◌}
 use Rattle.arc_lex.specs.Tokens.{Tok}
-use Rattle.arc_lex.specs.declared.token.Mark.TheVariants as m
-use Rattle.arc_lex.specs.declared.token.AtWord.TheVariants as words
 use Rattle.arc_ast.specs.declared.tree.Visibility.{Visibility}
 use Rattle.arc_ast.specs.Tree.{FieldTree}
-use Rattle.arc_form.specs.Kinds.{mark, at, name}
 use Rattle.arc_form.specs.Form.{map}
 use Rattle.arc_form.specs.Operators.{fold}
-use Rattle.arc_form.specs.Reader.{Read, Reader, bind, ◌>>=◌, ret, if_sees, take_one, from, named}
-use Rattle.arc_grammar.specs.Grammar.{QualifiedType, QualifiedName, FieldGroup, OfWord, OfType, reads, qualifiers, begins_fields, more_names, more_qualified_names, more_starred_names, plain_fields, object_fields, typed_fields, qualified_fields, group, groups, fields, field_of, fields_of, named_fields, visibility_of, begins_visibility, class_names}
+use Rattle.arc_form.specs.Reader.{Read, Reader, bind, ◌>>=◌, ret, if_sees, take_one}
+use Rattle.arc_grammar.specs.Grammar.{QualifiedType, QualifiedName, FieldGroup, OfWord, OfType, reads, qualifiers, begins_fields, more_qualified_names, more_starred_names, plain_fields, object_fields, typed_fields, qualified_fields, group, groups, field_of, fields_of, named_fields, visibility_of, begins_visibility}
 use Rattle.arc_grammar.proofs.Loops.{one_more, taking}
 use Rattle.arc_form.specs.Joining.{joining}
 use Rattle.arc_form.proofs.Binding.{bind_twice, bind_if}
-use Rattle.arc_top.specs.Fields.{begins_group, add_field, add_group, typed_fields_on, group_on, names_skipped}
+use Rattle.arc_top.specs.Fields.{begins_group, add_field, add_group, typed_fields_on, group_on}
 
 -- the fields of a class after these
 abbrev pub groups_on : Visibility × List FieldTree → Reader (List FieldTree)
@@ -47,14 +44,3 @@ groups_start v ts = go (reads groups ts)
     go : (x : Read (List FieldGroup)) → bind x (λ all. ret (fields_of v all)) ≡ bind (bind x (λ all. ret (fold add_group (v, []) all))) (λ s. ret s.1)
     go (Ok x) = ap (λ y. Ok (y, x.1)) (sym (groups_fold (v, []) x.0))
     go (Err x) = refl
-
--- the braces and what is in them
-pub read_fields : (v : Visibility) (ts : List Tok) → reads (fields v) ts
-    ≡ if_sees (mark m.OpenBrace) (take_one (mark m.OpenBrace) from >>= (λ start us. (reads (map (fields_of v) groups) >>= (λ all. take_one (mark m.CloseBrace) from >>= (λ end. ret all))) us)) (ret []) ts
-unfolding fields
-read_fields v ts = simp bind_twice
-
--- names of classes
-pub read_class_names : (ts : List Tok) → reads class_names ts ≡ (take_one (at words.Class) from >>= (λ a us. (take_one name named >>= (λ n vs. (names_skipped >>= (λ u. take_one (mark m.Semicolon) from >>= (λ end. ret tt))) vs)) us)) ts
-unfolding class_names more_names
-read_class_names ts = simp bind_twice

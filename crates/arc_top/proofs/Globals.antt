@@ -1,17 +1,16 @@
 -- Variables of the whole program: the loop that reads them, and what tells them from a function.
-use Rattle.std.proofs.Common.{◌≡◌, List, [], ◌∷◌, ◌++◌, map as list_map, append_assoc, append-nil, Bool, true, false, ◌&&◌, ◌||◌, cond, sym, ◌∙◌}
+use Rattle.std.proofs.Common.{◌≡◌, List, [], ◌∷◌, ◌++◌, map as list_map, append_assoc, append-nil, Bool, true, false, ◌&&◌, ◌||◌, cond, Ok, Err, refl, sym, ◌∙◌}
 use Rattle.arc_lex.specs.Tokens.{Tok}
 use Rattle.arc_lex.specs.declared.token.Mark.TheVariants as m
 use Rattle.arc_ast.specs.declared.tree.Qualifiers.TheVariants.{Unqualified}
 use Rattle.arc_ast.specs.Tree.{TypeTree, ResultTree, FunctionTree, GlobalTree, Value}
 use Rattle.arc_form.specs.Kinds.{mark, main, name, other_name}
 use Rattle.arc_form.specs.Operators.{fold}
-use Rattle.arc_form.specs.Reader.{Read, bind, ◌>>=◌, ret, sees, sees_second, if_sees, take_one, from}
+use Rattle.arc_form.specs.Reader.{Read, Reader, bind, ◌>>=◌, ret, sees, sees_second, if_sees, take_one, from}
 use Rattle.arc_form.specs.Joining.{joining}
 use Rattle.arc_form.proofs.Binding.{bind_twice, bind_if}
 use Rattle.arc_grammar.specs.Grammar.{Part, QualifiedType, OfFunction, OfGlobals, reads, some_qualifiers, plain_type, class_type, of_function, of_globals, main_function, other_function, function, global, more_globals, globals, more_global_references, global_references, typed_top, of_plain, of_objects, plain_globals, object_globals, of_qualified}
 use Rattle.arc_grammar.proofs.Loops.{Takes, one_more}
-use Rattle.arc_top.proofs.Alike.{bind_alike}
 use Rattle.arc_top.specs.Globals.{add_global, globals_on, global_references_on, typed_on}
 use Rattle.arc_top.specs.Signatures.{reads_after}
 
@@ -33,6 +32,11 @@ unfolding global_references more_global_references
 read_global_references type ts = simp (bind_twice, all_made)
 
 -- ---- what is after a type
+
+-- readers of which each part reads alike
+bind_alike : {A B : Type 0} (x : Read A) (f g : A → Reader B) → ((a : A) (us : List Tok) → f a us ≡ g a us) → bind x f ≡ bind x g
+bind_alike (Ok x) f g k = k x.0 x.1
+bind_alike (Err x) f g k = refl
 
 -- a function whose result has this type, or variables of it
 read_typed : (type : TypeTree) (variables : Part (QualifiedType → List GlobalTree)) (ts : List Tok) → reads_after (typed_top variables) type ts ≡ typed_on variables type ts

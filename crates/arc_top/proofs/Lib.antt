@@ -1,5 +1,3 @@
-pub mod Alike
-pub mod Rests
-pub mod Typed
+pub mod Signatures
 pub mod Fields
 pub mod Globals

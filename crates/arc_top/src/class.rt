@@ -65,7 +65,7 @@ pub fn implementation<'a>(alloc: Global, tokens: &'a [Token]) -> Read<'a, Implem
 }
 
 /// `@class`, names of classes and `;`
-#[tactic(auto, using(crate::proofs::Fields::read_class_names))]
+#[tactic(auto, using(arc_form::proofs::Binding::bind_twice), unfolding(arc_grammar::specs::Grammar::class_names, arc_grammar::specs::Grammar::more_names))]
 pub fn class_names(tokens: &[Token]) -> Read<'_, ()>
     ensures gives { Gives (λ x. (x.0, toks x.1.now)) result (reads grammar.class_names (toks tokens.now)) }
     ensures shorter { IfOk result (λ x. length x.1.now < length tokens.now) }

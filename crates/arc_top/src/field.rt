@@ -21,7 +21,7 @@ use arc_lex::token::{AtWord, Mark, Token, TokenKind};
 use std::alloc::{AllocError, Global};
 
 /// The fields in braces, if there are any; those before any word are visible so.
-#[tactic(auto, using(crate::proofs::Fields::read_fields))]
+#[tactic(auto, using(arc_form::proofs::Binding::bind_twice), unfolding(arc_grammar::specs::Grammar::fields))]
 pub fn fields<'a>(alloc: Global, first: Visibility, tokens: &'a [Token]) -> Read<'a, Vec<Field>>
     ensures gives { Gives (λ x. (field_trees x.0.items, toks x.1.now)) result (reads (grammar.fields first) (toks tokens.now)) }
     ensures shorter { IfOk result (λ x. length x.1.now ≤ length tokens.now) }

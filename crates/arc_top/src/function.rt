@@ -18,7 +18,7 @@ use arc_stmt::stmt::items;
 use std::alloc::Global;
 
 /// A declaration or a definition of a function, but for `static` and the type of its result, which is given.
-#[tactic(auto, using(crate::proofs::Rests::read_function))]
+#[tactic(auto, using(crate::proofs::Signatures::read_function))]
 pub fn function<'a>(alloc: Global, written: ResultType, tokens: &'a [Token]) -> Read<'a, Function>
     ensures gives { Gives (λ x. (function_tree x.0, toks x.1.now)) result (reads_after grammar.function (result_tree written) (toks tokens.now)) }
     ensures shorter { IfOk result (λ x. length x.1.now < length tokens.now) }

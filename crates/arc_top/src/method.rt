@@ -181,7 +181,7 @@ fn selector<'a>(alloc: Global, tokens: &'a [Token]) -> Read<'a, Typed>
 }
 
 /// The selector whose first part has this name, and the parameters, one or more.
-#[tactic(auto, using(crate::proofs::Typed::read_typed_parts))]
+#[tactic(auto, using(crate::proofs::Signatures::read_typed_parts))]
 fn typed_parts<'a>(alloc: Global, first: Vec<u8>, tokens: &'a [Token]) -> Read<'a, Typed>
     ensures gives { Gives (λ x. ((x.0.0.items, all parameter_tree x.0.1.items), toks x.1.now)) result (reads_after grammar.typed_parts first.items (toks tokens.now)) }
     ensures shorter { IfOk result (λ x. length x.1.now < length tokens.now) }
@@ -195,7 +195,7 @@ fn typed_parts<'a>(alloc: Global, first: Vec<u8>, tokens: &'a [Token]) -> Read<'
 }
 
 /// This selector and these parameters, and further parts with theirs.
-#[tactic(auto, using(crate::proofs::Typed::begin_typed, arc_grammar::proofs::Loops::one_more, arc_grammar::proofs::Loops::taking, arc_form::proofs::Rows::all_push))]
+#[tactic(auto, using(crate::proofs::Signatures::begin_typed, arc_grammar::proofs::Loops::one_more, arc_grammar::proofs::Loops::taking, arc_form::proofs::Rows::all_push))]
 fn more_typed<'a>(
     alloc: Global,
     before: Vec<u8>,

@@ -2,7 +2,7 @@ use Rattle.arc_form.specs.Views.{all}
 use Rattle.arc_ast.specs.Tree.{parameter_tree}
 use Rattle.arc_grammar.proofs.Loops.{length, SoFar}
 use Rattle.arc_top.specs.Signatures.{reads_after, more_typed}
-use Rattle.arc_top.proofs.Typed.{typed_on}
+use Rattle.arc_top.proofs.Signatures.{typed_on}
 use Rattle.arc_top.proofs.method.more_typed.Given as goal
 
 -- the parts so far and those to come are all
