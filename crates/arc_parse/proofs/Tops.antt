@@ -1,27 +1,21 @@
 -- What a unit has: the loop that reads it, and the lists of each kind.
-use Rattle.std.proofs.Common.{◌≡◌, List, [], ◌∷◌, ◌++◌, append_assoc, append-nil, refl, ap, ◌∙◌}
+use Rattle.std.proofs.Common.{◌≡◌, List, [], ◌∷◌, ◌++◌, append_assoc, append-nil, refl, ◌∙◌}
 use Rattle.arc_lex.specs.Tokens.{Tok}
 use Rattle.arc_ast.specs.declared.tree.Function.{Function}
 use Rattle.arc_ast.specs.declared.tree.Global.{Global}
 use Rattle.arc_ast.specs.declared.tree.Interface.{Interface}
 use Rattle.arc_ast.specs.declared.tree.Implementation.{Implementation}
-use Rattle.arc_ast.specs.Tree.{FunctionTree, GlobalTree, InterfaceTree, ImplementationTree, UnitTree, function_tree, function_trees, global_tree, global_trees, interface_tree, interface_trees, implementation_tree, implementation_trees}
+use Rattle.arc_ast.specs.Tree.{FunctionTree, GlobalTree, InterfaceTree, ImplementationTree, UnitTree, function_trees, global_trees, interface_trees, implementation_trees}
 use Rattle.arc_form.specs.Operators.{fold}
-use Rattle.arc_form.specs.Reader.{Reader, ◌>>=◌, ret, if_sees}
-use Rattle.arc_form.proofs.Joining.{joining_is}
+use Rattle.arc_form.specs.Reader.{Reader}
 use Rattle.arc_grammar.specs.Grammar.{TopTree, OfNames, OfFunction, OfGlobals, OfInterface, OfImplementation, functions_of, globals_of, interfaces_of, implementations_of, these, reads, body, begins_top, unit}
 use Rattle.arc_grammar.specs.Grammar as grammar
-use Rattle.arc_grammar.proofs.Fits.{front, lines}
 use Rattle.arc_form.specs.Joining.{joining}
 use Rattle.arc_parse.specs.private.Views.{and_top}
 
 -- a unit, and after it all that is read
 abbrev pub tops_on : UnitTree → Reader UnitTree
 tops_on = joining begins_top (reads grammar.top) and_top
-
-pub read_tops_on : (u : UnitTree) (ts : List Tok) → tops_on u ts ≡ if_sees begins_top (reads grammar.top >>= (λ t. tops_on (and_top u t))) (ret u) ts
-unfolding lines
-read_tops_on = joining_is begins_top (reads grammar.top) and_top (front these grammar.top refl refl)
 
 -- a unit of these
 abbrev pub made : List FunctionTree → List GlobalTree → List InterfaceTree → List ImplementationTree → UnitTree
@@ -31,11 +25,8 @@ made f g i j = record { functions = f; globals = g; interfaces = i; implementati
 abbrev and_tops : UnitTree → List TopTree → UnitTree
 and_tops u all = made (u.functions ++ functions_of all) (u.globals ++ globals_of all) (u.interfaces ++ interfaces_of all) (u.implementations ++ implementations_of all)
 
-none_more : (f : List FunctionTree) (g : List GlobalTree) (i : List InterfaceTree) (j : List ImplementationTree) → made f g i j ≡ made (f ++ []) (g ++ []) (i ++ []) (j ++ [])
-none_more f g i j = rw (append-nil f, append-nil g, append-nil i, append-nil j) refl
-
 tops_fold : (u : UnitTree) (all : List TopTree) → fold and_top u all ≡ and_tops u all
-tops_fold u [] = none_more u.functions u.globals u.interfaces u.implementations
+tops_fold u [] = rw (append-nil u.functions, append-nil u.globals, append-nil u.interfaces, append-nil u.implementations) refl
 tops_fold u (OfNames ∷ others) = tops_fold u others
 tops_fold u (OfFunction f ∷ others) = tops_fold (and_top u (OfFunction f)) others ∙ simp append_assoc
 tops_fold u (OfGlobals gs ∷ others) = tops_fold (and_top u (OfGlobals gs)) others ∙ simp append_assoc
@@ -50,19 +41,3 @@ tops_start ts = simp tops_fold
 pub nothing_yet : (fs : List Function) (gs : List Global) (is : List Interface) (js : List Implementation) → fs ≡ [] → gs ≡ [] → is ≡ [] → js ≡ []
     → made (function_trees fs) (global_trees gs) (interface_trees is) (implementation_trees js) ≡ made [] [] [] []
 nothing_yet fs gs is js p o q r = rw (p, o, q, r) refl
-
-pub globals_append : (before all : List Global) → global_trees (before ++ all) ≡ global_trees before ++ global_trees all
-globals_append [] all = refl
-globals_append (g ∷ before) all = ap (λ v. global_tree g ∷ v) (globals_append before all)
-
-pub functions_push : (all : List Function) (a : Function) → function_trees (all ++ a ∷ []) ≡ function_trees all ++ function_tree a ∷ []
-functions_push [] a = refl
-functions_push (b ∷ all) a = ap (λ v. function_tree b ∷ v) (functions_push all a)
-
-pub interfaces_push : (all : List Interface) (a : Interface) → interface_trees (all ++ a ∷ []) ≡ interface_trees all ++ interface_tree a ∷ []
-interfaces_push [] a = refl
-interfaces_push (b ∷ all) a = ap (λ v. interface_tree b ∷ v) (interfaces_push all a)
-
-pub implementations_push : (all : List Implementation) (a : Implementation) → implementation_trees (all ++ a ∷ []) ≡ implementation_trees all ++ implementation_tree a ∷ []
-implementations_push [] a = refl
-implementations_push (b ∷ all) a = ap (λ v. implementation_tree b ∷ v) (implementations_push all a)

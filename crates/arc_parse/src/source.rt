@@ -28,7 +28,7 @@ pub fn unit<'a>(alloc: Global, tokens: &'a [Token]) -> Read<'a, TranslationUnit>
 }
 
 /// As much as there is of what stands outside of all else.
-#[tactic(auto, using(crate::proofs::Tops::tops_start, crate::proofs::Tops::read_tops_on, crate::proofs::Tops::nothing_yet))]
+#[tactic(auto, using(crate::proofs::Tops::tops_start, arc_grammar::proofs::Loops::one_more, arc_grammar::proofs::Loops::taking, crate::proofs::Tops::nothing_yet))]
 fn tops<'a>(alloc: Global, tokens: &'a [Token]) -> Read<'a, TranslationUnit>
     ensures gives { Gives (λ x. (unit_tree x.0, toks x.1.now)) result (reads grammar.unit (toks tokens.now)) }
 {
@@ -48,7 +48,7 @@ fn tops<'a>(alloc: Global, tokens: &'a [Token]) -> Read<'a, TranslationUnit>
 }
 
 /// Puts this after what the unit has of its kind.
-#[tactic(auto, using(crate::proofs::Tops::functions_push, crate::proofs::Tops::globals_append, crate::proofs::Tops::interfaces_push, crate::proofs::Tops::implementations_push))]
+#[tactic(auto, using(arc_grammar::proofs::Lists::appends))]
 fn keep(unit: &mut TranslationUnit, top: Top) -> Result<(), AllocError>
     ensures { IfOk result (λ _. unit_tree unit.new ≡ and_top (unit_tree unit.old) (top_tree top)) }
 {
