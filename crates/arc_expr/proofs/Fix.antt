@@ -11,16 +11,16 @@ use Rattle.arc_form.specs.Operators.{marks_at, placed_operator}
 use Rattle.arc_form.proofs.Binding.{bind_twice, pair_then, second_then}
 use Rattle.arc_form.proofs.Joining.{joined_is}
 use Rattle.arc_form.proofs.Sets.{sees_neither}
-use Rattle.arc_form.proofs.Local.{Local, weaker, then, local_token, local_ret}
+use Rattle.arc_form.proofs.Local.{Takes, weaker, then, takes_token, takes_ret}
 use Rattle.arc_form.proofs.FormLocal.{read_is, fronts}
 use Rattle.arc_grammar.specs.Grammar.{Sent, rules, reads_free, reads_on, body, expr, binary, table, assigning, marks_up_to, join, further, more, up_to, choice, continued, operations, begins_suffix, suffix, suffixes, next_argument, more_arguments, add, next_part, more_parts, add_part}
 use Rattle.arc_grammar.proofs.Fits.{facts, sure}
 use Rattle.arc_grammar.proofs.Loops.{one_more_on, taking}
 use Rattle.arc_expr.specs.declared.operator.TheConstants.{ASSIGNING, LOOSEST}
 
-further_front : (l j : ℕ) → Local ⊥ 1 j (reads_free (further l)) (reads_free (further l))
+further_front : (l : ℕ) → Takes 1 (reads_free (further l))
 unfolding further
-further_front l j = weaker 1 (omega arith) (then (local_token (marks_at l table) (placed_operator operators.Add table)) (λ o. then (fronts facts body sure j unlimited (binary (l - 1))) (λ right. local_ret (o, right))))
+further_front l = weaker 1 (omega arith) (then (takes_token (marks_at l table) (placed_operator operators.Add table)) (λ o. then (fronts facts body sure unlimited (binary (l - 1))) (λ right. takes_ret (o, right))))
 
 pub read_binary : (l : ℕ) (ts : List Tok) → l ≤ LOOSEST → rules unlimited (binary l) ts ≡ reads_free (operations l) ts
 unfolding body table

@@ -8,7 +8,7 @@ use Rattle.arc_form.specs.Kinds.{none, ◌∪◌, mark, word}
 use Rattle.arc_form.specs.Form.{Limits, bounded, run}
 use Rattle.arc_form.proofs.Static.{Facts, passes, holds, decided, Decided, nullable, fits_as, fits, Fits, of_fits}
 use Rattle.arc_form.proofs.Sets.{both}
-use Rattle.arc_form.proofs.Local.{Local}
+use Rattle.arc_form.proofs.Local.{Takes}
 use Rattle.arc_form.proofs.FormLocal.{some_front, read_is}
 use Rattle.arc_grammar.specs.Grammar.{Part, Rule, rules, expr, unary, binary, condition, stmt, table, begins_suffix, begins_expr, begins_stmt, assigning, loosest, marks_up_to, further, more, up_to, chosen, choice, continued, conditional_expr, perhaps_int, perhaps_long, long_type, bool_type, integer_type, int_type, other_type, number_type, id_type, plain_type, class_type, value_type, other_value_type, qualifier, more_qualifiers, qualifiers, some_qualifiers, literal, counting, field_name, suffix, suffixes, next_argument, more_arguments, some_arguments, no_arguments, given, arguments, named, argument_part, next_part, more_parts, parts, sent, to_super, to_object, message, inside, cast_to_plain, cast, product, starred, parenthesized, primary, postfix, operator_before, signed, counted, prefixed, operations, assigned, updated, operation, expression, full, initial, variable, next_variable, more_variables, declaration, reference, next_reference, more_references, objects, qualified_declaration, simple, empty, value, returned, controlling, otherwise, if_else, while_do, test_after, do_while, beginning, step, clauses, for_do, breaking, continuing, looped, by_name, item, items, block, worded, statement, parameter, next_parameter, more_parameters, void_parameters, some_parameters, parameters, texts_name, perhaps_const, texts, further_parameters, second, counted_of_main, qualified_of_main, int_of_main, qualified_type_of_main, others_of_main, some_of_main, parameters_of_main, enclosed, braces, function_body, main_function, other_function, function, plain_constant, negative_constant, constant, first_constant, global, next_global, more_globals, globals, global_reference, next_global_reference, more_global_references, global_references, enclosed_type, typed, next_typed, typed_parts, selector, sign, result_type, enclosed_result, method_result, method_head, next_head, method_heads, perhaps_semicolon, method, methods, next_name, more_names, qualified_name, next_qualified_name, more_qualified_names, plain_fields, starred_name, next_starred_name, more_starred_names, object_fields, typed_fields, qualified_fields, group, groups, fields, interface, implementation, class_names, perhaps_static, of_void, typed_top, of_plain, of_objects, plain_globals, object_globals, of_qualified, external, top, tops, unit, body}
 
@@ -71,8 +71,8 @@ unfolding lines
 sure_full = holds (decided facts (bounded expression)) refl
 
 -- a part that is some token at least takes one
-pub front : (limits : Limits) {A : Type 0} (part : Part A) → passes (decided facts part) ≡ true → nullable facts part ≡ false → (j : ℕ) → Local ⊥ 1 j (run rules limits part) (run rules limits part)
-front limits part d n j = some_front facts body sure limits part (holds (decided facts part) d) n j
+pub front : (limits : Limits) {A : Type 0} (part : Part A) → passes (decided facts part) ≡ true → nullable facts part ≡ false → Takes 1 (run rules limits part)
+front limits part d n = some_front facts body sure limits part (holds (decided facts part) d) n
 
 -- a rule reads what its line does
 pub read_rule : (limits : Limits) (n : Rule) (ts : List Tok) → rules limits n ts ≡ run rules limits (body n) ts

@@ -5,8 +5,7 @@ use Rattle.arc_form.specs.Reader.{Read, misfit, too_deep}
 use Rattle.arc_form.proofs.Local.{rest_of, fault_of}
 use Rattle.arc_form.specs.Whole.{read_whole}
 use Rattle.arc_form.specs.Places.{Passes}
-use Rattle.arc_form.proofs.FormWhole.{whole_within, whole_misfit, whole_too_deep}
-use Rattle.arc_form.proofs.FormAnswers.{whole_passes}
+use Rattle.arc_form.proofs.FormWhole.{whole_within, whole_misfit, whole_too_deep, whole_passes}
 use Rattle.arc_form.proofs.FormBegins.{Positive}
 use Rattle.arc_ast.specs.Tree.{UnitTree}
 use Rattle.arc_grammar.specs.Grammar.{body, unit, these}
