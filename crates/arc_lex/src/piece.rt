@@ -8,7 +8,7 @@ use crate::number::integer;
 use crate::skipped::{is_skipped, to_close};
 use crate::spelling::{at_text, at_word_at, mark_at, mark_text, word_of};
 use crate::text::{Scan, read_quoted};
-use crate::token::TokenKind;
+use crate::token::{NameBytes, TokenKind};
 use std::alloc::{AllocError, Global};
 
 /// A rule about tokens that bytes break.
@@ -42,7 +42,10 @@ fn name_piece(alloc: Global, bytes: &[u8]) -> Result<Piece, AllocError>
     let (name, _) = bytes.split_at(n);
     match word_of(name) {
         Some(word) => Ok(Piece::Whole(TokenKind::Word(word), name.len())),
-        None => Ok(Piece::Whole(TokenKind::Name(Vec::from_slice(alloc, name)?), name.len())),
+        None => Ok(Piece::Whole(
+            TokenKind::Name(NameBytes::from_slice(alloc, name)?),
+            name.len(),
+        )),
     }
 }
 

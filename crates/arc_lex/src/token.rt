@@ -1,5 +1,7 @@
 //! The tokens of a source.
 
+use smallvec::SmallVec;
+
 /// The bytes that a token takes: from the first one up to the one after the last, counted from 0.
 #[derive(Clone, Copy, Debug, PartialEq, Eq)]
 pub struct Span {
@@ -129,11 +131,14 @@ pub enum AtWord {
     AutoreleasePool,
 }
 
+/// The bytes of a name. Most names are short, and need no memory of their own.
+pub type NameBytes = SmallVec<u8, 16>;
+
 /// What a token is. A name holds its bytes, an integer or a character its value and whether it has a suffix, and a text the bytes that
 /// it stands for.
 #[derive(Debug, Drop)]
 pub enum TokenKind {
-    Name(Vec<u8>),
+    Name(NameBytes),
     Integer(i64, bool),
     Text(Vec<u8>),
     Word(Word),
