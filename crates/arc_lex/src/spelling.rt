@@ -347,14 +347,32 @@ pub fn mark_at(bytes: &[u8]) -> Option<Mark>
 pub fn at_word_at(bytes: &[u8]) -> Option<AtWord>
     ensures { result ≡ first_front at_bytes AT_WORDS bytes.now }
 {
-    first_at_word(&AT_WORDS, bytes)
+    match bytes {
+        [b'@', b'i', ..] => first_at_word(&[AtWord::Implementation, AtWord::Interface], bytes),
+        [b'@', b'e', ..] => first_at_word(&[AtWord::End], bytes),
+        [b'@', b'c', ..] => first_at_word(&[AtWord::Class], bytes),
+        [b'@', b'p', ..] => first_at_word(
+            &[
+                AtWord::Protected,
+                AtWord::Protocol,
+                AtWord::Property,
+                AtWord::Private,
+                AtWord::Public,
+            ],
+            bytes,
+        ),
+        _ => first_at_word(&AT_WORDS, bytes),
+    }
 }
 
-/// The reserved word that is written so.
+/// The reserved word that is written so. Those that most sources have most often are found at once.
 pub fn word_of(name: &[u8]) -> Option<Word>
     ensures { result ≡ first_equal word_bytes WORDS name.now }
 {
     match name {
+        [b'i', b'n', b't'] => Some(Word::Int),
+        [b'i', b'f'] => Some(Word::If),
+        [b'r', b'e', b't', b'u', b'r', b'n'] => Some(Word::Return),
         [b'B', ..] => first_word(&[Word::Bool], name),
         [b'N', ..] => first_word(&[Word::No, Word::NsInteger, Word::Null], name),
         [b'Y', ..] => first_word(&[Word::Yes], name),
