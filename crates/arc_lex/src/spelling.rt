@@ -291,7 +291,7 @@ fn first_word(words: &[Word], name: &[u8]) -> Option<Word>
     None
 }
 
-/// The longest mark with which the bytes begin.
+/// The longest mark with which the bytes begin. One that a space ends, or that is sure with its second byte, is found at once.
 pub fn mark_at(bytes: &[u8]) -> Option<Mark>
     ensures { result ≡ first_front mark_bytes MARKS bytes.now }
 {
@@ -308,6 +308,23 @@ pub fn mark_at(bytes: &[u8]) -> Option<Mark>
         [b'.', ..] => Some(Mark::Dot),
         [b'?', ..] => Some(Mark::Question),
         [b'~', ..] => Some(Mark::Tilde),
+        [b'=', b' ', ..] => Some(Mark::Assign),
+        [b'+', b' ', ..] => Some(Mark::Plus),
+        [b'-', b' ', ..] => Some(Mark::Minus),
+        [b'*', b' ', ..] => Some(Mark::Star),
+        [b'<', b' ', ..] => Some(Mark::Less),
+        [b'>', b' ', ..] => Some(Mark::Greater),
+        [b'=', b'=', ..] => Some(Mark::Equal),
+        [b'!', b'=', ..] => Some(Mark::NotEqual),
+        [b'<', b'=', ..] => Some(Mark::LessEqual),
+        [b'>', b'=', ..] => Some(Mark::GreaterEqual),
+        [b'+', b'=', ..] => Some(Mark::PlusAssign),
+        [b'-', b'=', ..] => Some(Mark::MinusAssign),
+        [b'+', b'+', ..] => Some(Mark::Increment),
+        [b'-', b'-', ..] => Some(Mark::Decrement),
+        [b'-', b'>', ..] => Some(Mark::Arrow),
+        [b'&', b'&', ..] => Some(Mark::And),
+        [b'|', b'|', ..] => Some(Mark::Or),
         [b'<', ..] => first_mark(
             &[
                 Mark::ShiftLeftAssign,
