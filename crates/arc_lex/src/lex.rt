@@ -1,5 +1,5 @@
 //! Cuts a source into tokens.
-ghost use Rattle.std.specs.Prelude.{◌≡◌, ◌<◌, IfOk, IfErr};
+ghost use Rattle.std.specs.Prelude.{◌≡◌, ◌∷◌, ◌<◌, IfOk, IfErr, IfSome};
 ghost use Rattle.arc_lex.specs.Faults.{fault_of, IsLexFault, OnlyTokens, OnlyFault};
 ghost use Rattle.arc_lex.specs.Source.{Tokens, SpansSpell};
 ghost use Rattle.arc_lex.specs.Tokens.{toks};
@@ -25,6 +25,16 @@ fn fault_of(rule: Rule, at: usize) -> LexFault
     }
 }
 
+/// The bytes after a space, where one stands in front.
+fn after_space(bytes: &[u8]) -> Option<&[u8]>
+    ensures { IfSome result (λ after. bytes.now ≡ 32 ∷ after.now) }
+{
+    match bytes {
+        [b' ', after @ ..] => Some(after),
+        _ => None,
+    }
+}
+
 /// The tokens of a source, in order, each with its span.
 ///
 /// Fails with `TooLong` at a source of over 1,048,576 bytes, and otherwise with the first place, in reading order, where a rule about
@@ -44,6 +54,11 @@ pub fn lex(alloc: Global, source: &[u8]) -> Result<Vec<Token>, LexFault>
     let mut starts = true;
     let mut rest = source;
     'pieces: while at < source.len() {
+        if let Some(after) = after_space(rest) {
+            at += 1;
+            rest = after;
+            continue;
+        }
         match lawful_piece(alloc, starts, rest)? {
             Piece::Blank(newline) => {
                 starts = newline | starts;

@@ -1,17 +1,37 @@
-use Rattle.std.proofs.Common.{◌≡◌, ◌∷◌, ◌+◌, ◌≤◌, ℕ, length, List, [], ◌++◌, true, false, ◌||◌, refl, sym, ap, subst, ◌∙◌, arith}
+use Rattle.std.proofs.Common.{◌≡◌, ◌∷◌, ◌+◌, ◌≤◌, ℕ, length, List, [], ◌++◌, drop, Bool, true, false, ◌||◌, refl, sym, ap, subst, ◌∙◌, arith}
 use Rattle.std.proofs.lemmas.List.{append-nil}
 use Rattle.arc_lex.specs.Faults.{fault_of, IsLexFault}
-use Rattle.arc_lex.specs.private.Pieces.{Law, Blank, Skip, Whole, Broken}
+use Rattle.arc_lex.specs.private.Pieces.{Law, Blank, Skip, Whole, Broken, piece}
 use Rattle.arc_lex.specs.Source.{Cuts, FaultAt, done, here, most_bytes}
 use Rattle.arc_lex.specs.Tokens.{tok, toks, sort_of}
 use Rattle.arc_lex.specs.declared.piece.Rule.{Rule}
 use Rattle.arc_lex.specs.declared.piece.Rule.TheVariants as rules
 use Rattle.arc_lex.specs.declared.token.Span.{Span}
 use Rattle.arc_lex.specs.declared.token.Token.{Token}
+use Rattle.arc_lex.proofs.Law.{piece_law}
 use Rattle.arc_lex.proofs.OneAnswer.{only_tokens, only_fault}
 use Rattle.arc_lex.proofs.Spans.{spans_spell}
 use Rattle.arc_lex.proofs.Walks.{blank_cuts, skip_cuts, token_cuts, blank_fault, skip_fault, token_fault, toks_push}
 use Rattle.arc_lex.proofs.lex.lex.Goals as goal
+
+space_law : (starts : Bool) (bs : List ℕ) → Law starts (32 ∷ bs) (Blank false)
+unfolding piece
+space_law starts bs = piece_law starts (32 ∷ bs) (omega arith)
+
+pub pieces-preserved-in-Some : goal.pieces-preserved-in-Some
+pieces-preserved-in-Some c =
+    let at = c.pieces.at in
+    let starts = c.pieces.starts in
+    let rest = c.pieces.rest.now in
+    let front : rest ≡ 32 ∷ c.in-Some.after.now = rw c.in-Some.is at c.after_space.ensures in
+    let law : Law starts rest (Blank false) = subst (λ us. Law starts us (Blank false)) (sym front) (space_law starts c.in-Some.after.now) in
+    let back : c.in-Some.after.now ≡ drop 1 rest = sym (ap (drop 1) front) in
+    record {
+      short = c.pieces.invariant.short;
+      count = omega (arith, ap length front, c.pieces.invariant.count);
+      cut = λ ts h. c.pieces.invariant.cut ts (blank_cuts starts false at rest law ts (subst (λ us. Cuts (at + 1) starts us ts) back h));
+      fault = λ p rule h. c.pieces.invariant.fault p rule (blank_fault starts false at rest law p rule (subst (λ us. FaultAt (at + 1) starts us p rule) back h));
+    }
 
 pub pieces-preserved-in-Blank : goal.pieces-preserved-in-Blank
 pieces-preserved-in-Blank c =
