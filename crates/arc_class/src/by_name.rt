@@ -10,9 +10,6 @@ use std::collections::BTreeMap;
 use std::hash::{FoldHasher, Hasher};
 use std::marker::Model;
 
-/// How many names a part has on average, where there are as many as there is room for.
-const NAMES_OF_A_PART: usize = 4;
-
 /// A map from names.
 #[derive(Drop)]
 pub struct ByName<'a, V> {
@@ -73,11 +70,11 @@ impl<'a, V: Copy> ByName<'a, V> {
         }
     }
 
-    /// No names yet, with room for so many.
+    /// No names yet, with room for so many: there is a part for each, so that most parts have one name or none.
     pub fn with_room(alloc: Global, names: usize) -> Result<ByName<'a, V>, AllocError>
         ensures { IfOk result (λ map. map ≡ []) }
     {
-        let count = names / NAMES_OF_A_PART + 1;
+        let count = names.max(1);
         let mut parts = Vec::with_capacity(alloc, count)?;
         for _part in 0..count {
             parts.push(BTreeMap::new(alloc))?;
