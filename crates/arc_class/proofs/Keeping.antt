@@ -67,6 +67,16 @@ put_first {X} old name value sought none = go (bytes_eq name sought) refl
         sym (ap (λ o. or_else o (one_at name value sought)) (ap old (sym same) ∙ none) ∙ ap (λ b. if b then Some value else None) turned)
     go false e = sym (ap (λ b. or_else (old sought) (if b then Some value else None)) (eq_turned sought name ∙ e) ∙ or_none (old sought))
 
+-- what there was is put back
+pub put_back : {X : Type 0} (old put : List ℕ → Option X) (name : List ℕ) (value first : X) (sought : List ℕ) → old name ≡ Some first
+    → put sought ≡ update bytes_eq old name (Some value) sought → update bytes_eq put name (Some first) sought ≡ or_else (old sought) (one_at name value sought)
+put_back {X} old put name value first sought had made = go (bytes_eq name sought) refl
+  where
+    go : (b : Bool) → bytes_eq name sought ≡ b → cond b (Some first) (put sought) ≡ or_else (old sought) (one_at name value sought)
+    go true e = sym (ap (λ o. or_else o (one_at name value sought)) (ap old (sym ((bytes_eq-Decides name sought).0 e)) ∙ had))
+    go false e =
+        made ∙ ap (λ b. cond b (Some value) (old sought)) e ∙ sym (ap (λ b. or_else (old sought) (if b then Some value else None)) (eq_turned sought name ∙ e) ∙ or_none (old sought))
+
 -- what has a value at a name keeps it
 pub stays_kept : {X : Type 0} (old : List ℕ → Option X) (name : List ℕ) (value : X) (sought : List ℕ) → is_some (old name) ≡ true → old sought ≡ or_else (old sought) (one_at name value sought)
 stays_kept {X} old name value sought some = go (bytes_eq sought name) refl

@@ -20,10 +20,14 @@ pub fn keep_first<'a, V: Copy>(
 ) -> Result<(), AllocError>
     ensures { OnOk result ((sought : List ℕ) → at_name map.new sought ≡ or_else (at_name map.old sought) (one_at name.now value sought)) }
 {
-    if at_name(map, name).is_none() {
-        map.insert(name, value)?;
+    let before = map.insert(name, value)?;
+    match before {
+        None => Ok(()),
+        Some(first) => {
+            map.insert(name, first)?;
+            Ok(())
+        }
     }
-    Ok(())
 }
 
 /// A method for each sign and selector.
