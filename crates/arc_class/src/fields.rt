@@ -426,6 +426,12 @@ impl<'a> Source<'a> {
         ensures { own_trees result ≡ fields_declared (unit_tree self.now.unit.now) class (interface_tree interface.now) }
     {
         let declared: &'a [tree::Field] = &interface.fields;
+        if self.fields_by(&interface.name).is_empty() {
+            return OwnFields {
+                earlier: declared,
+                later: &[],
+            };
+        }
         let added = self.fields_added(class, interface);
         if self.implemented_before(&interface.name, interface.at) {
             OwnFields {
