@@ -8,7 +8,7 @@ ghost use Rattle.arc_emit.specs.Emitted.{code_of, most_instrs, IsLarge};
 
 use crate::classes::copy_classes;
 use crate::fault::EmitFault;
-use crate::instr::{instr_of, text_of};
+use crate::instr::{append_text, instr_of};
 use arc_class::table::ClassTable;
 use arc_code::code::Code;
 use arc_ir::action::Ir;
@@ -41,12 +41,12 @@ fn write_code(alloc: Global, ir: &Ir) -> Result<Code, EmitFault>
     if ir.actions.len() > MOST_INSTRS {
         return Err(EmitFault::TooLarge);
     }
-    let mut instrs = Vec::new(alloc);
+    let mut instrs = Vec::with_capacity(alloc, ir.actions.len())?;
     let mut texts = Vec::new(alloc);
     for action in &ir.actions {
         let at = instrs.len() as u32;
         instrs.push(instr_of(ir, at, texts.len() as u32, action))?;
-        texts.extend_from_slice(text_of(action))?;
+        append_text(&mut texts, action)?;
     }
     let globals = Vec::from_slice(alloc, &ir.globals)?;
     let classes = copy_classes(alloc, &ir.classes)?;

@@ -1,11 +1,12 @@
 //! The instruction of one action, and its text.
-ghost use Rattle.std.specs.Prelude.{◌≡◌, ◌≤◌, length};
+ghost use Rattle.std.specs.Prelude.{◌≡◌, ◌≤◌, ◌++◌, length, OnOk};
 ghost use Rattle.arc_ir.specs.Acting.{program_of, lands, entry};
 ghost use Rattle.arc_emit.specs.Emitted.{instr_of, text_of};
 
 use arc_code::code::{Instruction, Piece};
 use arc_code::instr::Instr;
 use arc_ir::action::{Action, Ir, Target};
+use std::alloc::AllocError;
 
 /// The instruction of the action with the number `at` of this program; `from` is where the action's
 /// text begins among all texts.
@@ -66,13 +67,13 @@ fn entry(ir: &Ir, function: usize) -> usize
     }
 }
 
-/// The text that an action prints, of at most 16 bytes; of an action without a text it is empty.
-pub fn text_of(action: &Action) -> &[u8]
-    ensures text { result.now ≡ text_of action.now }
+/// Appends the text that an action prints, of at most 16 bytes; of an action without a text it is empty.
+pub fn append_text(texts: &mut Vec<u8>, action: &Action) -> Result<(), AllocError>
+    ensures appended { OnOk result (texts.new.items ≡ texts.old.items ++ text_of action.now) }
     ensures short { length (text_of action.now) ≤ 16 }
 {
     match action {
-        Instr::PrintText(part) => &part.bytes,
-        _ => &[],
+        Instr::PrintText(part) => texts.extend_from_slice(&part.bytes),
+        _ => Ok(()),
     }
 }
