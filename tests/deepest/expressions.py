@@ -150,7 +150,7 @@ def spelled(head, tokens, tail):
 
 
 def number_case(runner, name, form, head, tail, place, ends=()):
-    """The form of 1,000 tokens, which is accepted, and of one more. These ends of objects come behind what is printed."""
+    """The form of 1,000 tokens, which is accepted, and of one more. These ends of objects come after what is printed."""
     opening, closing, answer = PLACES[place]
     taken = TAKEN.get(place, 0)
     full_head = head + opening.encode() + b" "
@@ -225,8 +225,8 @@ def object_cases(runner):
 def cast_cases(runner):
     head, tail = CLASSES + b"@implementation B -(int)go { return 0; } @end int main(void) { A *a = [A new]; return ", b"; }"
 
-    def casts(size, layer, leaf, behind):
-        room = size - len(leaf) - len(behind)
+    def casts(size, layer, leaf, after):
+        room = size - len(leaf) - len(after)
         first = []
         layers = room // len(layer)
         if (room - layers * len(layer)) % 2:
@@ -234,13 +234,13 @@ def cast_cases(runner):
         if (room - layers * len(layer)) % 2:
             first = ["(", "id", ")"]
         pairs = (room - len(first) - layers * len(layer)) // 2
-        return layer * layers + first + ["("] * pairs + leaf + [")"] * pairs + behind
+        return layer * layers + first + ["("] * pairs + leaf + [")"] * pairs + after
 
     forms = {
         "casts to id": lambda n: casts(n, ["(", "id", ")"], ["nil"], ["!=", "nil"]),
         "casts to a class": lambda n: casts(n, ["(", "A", "*", ")"], ["a"], ["!=", "nil"]),
-        "a field behind casts": lambda n: ["("] + casts(n - 4, ["(", "A", "*", ")"], ["a"], []) + [")", "->", "_v"],
-        "a field behind casts in parentheses": lambda n: field_behind_casts(n),
+        "a field after casts": lambda n: ["("] + casts(n - 4, ["(", "A", "*", ")"], ["a"], []) + [")", "->", "_v"],
+        "a field after casts in parentheses": lambda n: field_after_casts(n),
         "messages to casts": lambda n: messages_to_casts(n),
     }
     for name, form in forms.items():
@@ -252,7 +252,7 @@ def cast_cases(runner):
         tokens = form(MOST_TOKENS + 1)
         source, places = spelled(head, tokens, tail)
         runner.case(f"1,001 tokens: {name}", source, stop=Refused(12, places[MOST_TOKENS]))
-    # a field of a field is no object's: the kinds are refused at the first field, and the limit is told before
+    # a field of a field is no object's: the kinds are refused at the first field, and the limit is reported before
     for size in (999, 1001):
         tokens = ["a"] + ["->", "_v"] * ((size - 1) // 2)
         source, places = spelled(head, tokens, tail)
@@ -260,7 +260,7 @@ def cast_cases(runner):
         runner.case(f"{size} tokens: fields of fields", source, stop=stop)
 
 
-def field_behind_casts(size):
+def field_after_casts(size):
     tokens = ["a"]
     while len(tokens) + 6 <= size - 2:
         tokens = ["(", "(", "A", "*", ")"] + tokens + [")"]
@@ -356,7 +356,7 @@ def nested_cases(runner):
         "else": (f"if ({no}) return 9; else ", "", 198),
         "loops": (f"while ({one}) ", "", 198),
         "loops with a step": (f"for (; {one}; {one}) ", "", 198),
-        "loops with the test behind": ("do ", f" while ({one});", 198),
+        "loops with the test after": ("do ", f" while ({one});", 198),
     }
     for name, (before, after, times) in layers.items():
         source = f"int main(void) {{ {before * times} return {one}; {after * times} }}"

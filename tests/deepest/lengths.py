@@ -56,7 +56,7 @@ def top_cases(runner):
     case("declarations of main", b"", b"int main();", MAIN, **END)
     case("global variables", b"", lambda n: b"int %s_;" % known[n], MAIN, **END)
     case("global variables with a value", b"long a", lambda n: b",%s_=-9" % known[n], b";" + MAIN, **END)
-    case("names behind @class", b"@class a", lambda n: b"," + known[n], b";" + MAIN, **END)
+    case("names after @class", b"@class a", lambda n: b"," + known[n], b";" + MAIN, **END)
     case("@class", b"", b"@class a;", MAIN, **END)
     case("classes", b"", lambda n: b"@interface %s_:NSObject@end@implementation %s_@end" % (known[n], known[n]), MAIN, **END)
     case("methods that are declared", b"@interface A:NSObject ", lambda n: b"-(int)%s;" % known[n], b"@end@implementation A@end " + MAIN, **END)

@@ -122,7 +122,7 @@ class Runner:
         self.times.append((seconds, name))
 
     def case(self, name, source, shown=Shown(), stop=Ended(), given=b"", options=(), commands=("check", "code", "run", "trace"), addresses=None):
-        """One source by each command. What a command wrote, told and ended with must be what is expected."""
+        """One source by each command. What a command wrote, reported and ended with must be what is expected."""
         if not self.is_asked_for(name):
             return
         problems = []
@@ -133,15 +133,15 @@ class Runner:
             with open(path, "wb") as file:
                 file.write(source)
             for command in commands:
-                told, wrote, status = self.expected(command, shown, stop)
+                reported, wrote, status = self.expected(command, shown, stop)
                 words = [command, path, *(options if command in ("run", "trace") else ())]
                 got_status, got_out, got_err, seconds, memory = self.call(folder, words, given, addresses=addresses)
                 slowest = max(slowest, seconds)
                 largest = max(largest, memory)
                 if got_status != status:
                     problems.append(f"{command}: status {got_status} and not {status}; {got_err[:200]!r}")
-                elif got_err != told:
-                    problems.append(f"{command}: told {got_err[:200]!r} and not {told[:200]!r}")
+                elif got_err != reported:
+                    problems.append(f"{command}: reported {got_err[:200]!r} and not {reported[:200]!r}")
                 elif wrote is not None and got_out != wrote:
                     problems.append(f"{command}: wrote {difference(got_out, wrote)}")
                 elif wrote is None and not is_listing(got_out):
@@ -151,7 +151,7 @@ class Runner:
         self.judge(name, problems, slowest, largest)
 
     def expected(self, command, shown, stop):
-        """What a command tells, what it writes (None is a listing) and its status."""
+        """What a command reports, what it writes (None is a listing) and its status."""
         if isinstance(stop, Refused):
             return stop.errors, b"", stop.status
         if command == "check":

@@ -3,7 +3,7 @@ from running import Ended, Refused, Shown, filled
 
 MOST_DEPTH = 200
 
-# a statement's text in front of the one in it, and behind it
+# a statement's text in front of the one in it, and after it
 FORMS = {
     "blocks": [("{", "}")],
     "blocks with numbers": [("{ int a = 1; ", " a = 0; }")],
@@ -28,7 +28,7 @@ FORMS = {
 
 
 def nested(form, depth):
-    """What stands in front of the statement at that depth of a body, what stands behind it, and where the first statement at
+    """What stands in front of the statement at that depth of a body, what stands after it, and where the first statement at
     that depth begins. The body's statements are at depth 2."""
     before, after = "", ""
     at = 2

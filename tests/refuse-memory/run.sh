@@ -13,7 +13,7 @@ program=$PWD/crates/arcc/out/arcc
 passed=0
 failed=0
 
-# Whether what was written is a first part of what is written with ample memory; a trace tells at its end that there
+# Whether what was written is a first part of what is written with ample memory; a trace says at its end that there
 # was no room.
 is_front() {
   local size last

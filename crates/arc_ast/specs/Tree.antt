@@ -190,7 +190,7 @@ begins (Update at _ _ _ _ _) = at
 begins (Send at _ _ _ _) = at
 begins (SendSuper at _ _ _ _) = at
 
--- the place at which an expression is told that breaks a rule: an assignment's `=`, a field's name, a message's first selector part, and else the first byte
+-- the place at which an expression is reported that breaks a rule: an assignment's `=`, a field's name, a message's first selector part, and else the first byte
 -- (this project's own choice)
 abbrev pub place : ExprTree → ℕ
 place (Integer at _ _) = at

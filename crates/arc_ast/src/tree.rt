@@ -85,7 +85,7 @@ pub enum OperatorSort {
     Logic,
 }
 
-/// The sort of an operator, in which all rules but that of its value are told.
+/// The sort of an operator, in which all rules but that of its value are reported.
 pub fn operator_sort(operator: BinaryOperator) -> OperatorSort
     ensures { result ≡ sort_of operator }
 {

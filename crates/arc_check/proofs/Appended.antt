@@ -1,4 +1,4 @@
--- Methods behind functions, and copies of classes.
+-- Methods after functions, and copies of classes.
 use Rattle.std.proofs.Common.{◌≡◌, ℕ, ◌+◌, ◌<◌, ◌≤◌, List, [], ◌∷◌, ◌++◌, length, get_or, drop, Option, append-nil, refl, sym, ap, ◌∙◌, map}
 use Rattle.std.specs.List.{flat_map}
 use Rattle.arc_ast.specs.declared.tree.Implementation.{Implementation}

@@ -19,8 +19,8 @@ use Rattle.arc_check.specs.declared.checked.CheckedFunction.{CheckedFunction}
 use Rattle.arc_check.specs.private.Building.{ahead_of, function_of, functions_ahead}
 use Rattle.arc_check.specs.Checked as checked
 use Rattle.arc_check.specs.Resolving.{declared, resolved_variables, resolved_stmt, resolved_stmts, resolved_body, resolved_function, with_loop}
-use Rattle.arc_check.specs.Scopes.{Known, Scope, declare, with_parameters, leave, behind, behind_all, outermost, owned_in}
-use Rattle.arc_check.proofs.Leaving.{behind_all_same}
+use Rattle.arc_check.specs.Scopes.{Known, Scope, declare, with_parameters, leave, scope_after, scope_after_all, outermost, owned_in}
+use Rattle.arc_check.proofs.Leaving.{after_all_same}
 use Rattle.arc_check.proofs.Lists.{drop_turn, drop_end}
 use Rattle.arc_ast.proofs.Trees.{block_tree}
 use Rattle.arc_check.proofs.Trees.{sequence_command}
@@ -52,7 +52,7 @@ declared_end type s xs i all whole l w = sym (w ∙ ap (λ us. ahead_of all (res
 
 -- ---- statements
 
-pub commands_turn : (s after : Scope) (xs : List Stmt) (i : ℕ) (x : Stmt) (old new : List Command) (a : Command) (whole : Commands) → i < length xs → x ≡ get_or xs i x → after ≡ behind s (stmt_tree x) → checked.command a ≡ resolved_stmt s (stmt_tree x) → new ≡ old ++ a ∷ []
+pub commands_turn : (s after : Scope) (xs : List Stmt) (i : ℕ) (x : Stmt) (old new : List Command) (a : Command) (whole : Commands) → i < length xs → x ≡ get_or xs i x → after ≡ scope_after s (stmt_tree x) → checked.command a ≡ resolved_stmt s (stmt_tree x) → new ≡ old ++ a ∷ []
     → whole ≡ ahead_of old (resolved_stmts s (stmt_trees (drop i xs))) → whole ≡ ahead_of new (resolved_stmts after (stmt_trees (drop (i + 1) xs)))
 commands_turn s after xs i x old new a whole l e d h n w =
     w ∙ ap (λ us. ahead_of old (resolved_stmts s (stmt_trees us))) (drop_turn xs i x l e)
@@ -62,18 +62,18 @@ commands_turn s after xs i x old new a whole l e d h n w =
 pub commands_end : (s : Scope) (xs : List Stmt) (i : ℕ) (all : List Command) (whole : Commands) → length xs ≤ i → whole ≡ ahead_of all (resolved_stmts s (stmt_trees (drop i xs))) → checked.commands all ≡ whole
 commands_end s xs i all whole l w = sym (w ∙ ap (λ us. ahead_of all (resolved_stmts s (stmt_trees us))) (drop_end xs i l) ∙ ahead_of-none all)
 
-pub behind_turn : (s after whole : Scope) (xs : List Stmt) (i : ℕ) (x : Stmt) → i < length xs → x ≡ get_or xs i x → after ≡ behind s (stmt_tree x) → whole ≡ behind_all s (stmt_trees (drop i xs)) → whole ≡ behind_all after (stmt_trees (drop (i + 1) xs))
-behind_turn s after whole xs i x l e a w = w ∙ ap (λ us. behind_all s (stmt_trees us)) (drop_turn xs i x l e) ∙ ap (λ p. behind_all p (stmt_trees (drop (i + 1) xs))) (sym a)
+pub after_turn : (s after whole : Scope) (xs : List Stmt) (i : ℕ) (x : Stmt) → i < length xs → x ≡ get_or xs i x → after ≡ scope_after s (stmt_tree x) → whole ≡ scope_after_all s (stmt_trees (drop i xs)) → whole ≡ scope_after_all after (stmt_trees (drop (i + 1) xs))
+after_turn s after whole xs i x l e a w = w ∙ ap (λ us. scope_after_all s (stmt_trees us)) (drop_turn xs i x l e) ∙ ap (λ p. scope_after_all p (stmt_trees (drop (i + 1) xs))) (sym a)
 
 -- a block, with its own variables that name objects
 abbrev pub block_of : Scope → StmtTrees → resolved.Command
-block_of s all = resolved.Sequence s.names ((behind_all s all).names - s.names) (resolved_stmts s all)
+block_of s all = resolved.Sequence s.names ((scope_after_all s all).names - s.names) (resolved_stmts s all)
 
 pub block_command : (s : Scope) (a : Stmt) (at : ℕ) (all : Vec Stmt Global) (items : List Stmt) → a ≡ stmt.Block at all → items ≡ all.items → block_of s (stmt_trees items) ≡ resolved_stmt s (stmt_tree a)
 block_command s a at all items e m = ap (λ us. block_of s (stmt_trees us)) m ∙ sym (ap (resolved_stmt s) (ap stmt_tree e ∙ block_tree at all))
 
-pub block_scope : (s : Scope) (a : Stmt) (at : ℕ) (all : Vec Stmt Global) (items : List Stmt) → a ≡ stmt.Block at all → items ≡ all.items → leave s (behind_all s (stmt_trees items)) ≡ behind s (stmt_tree a)
-block_scope s a at all items e m = ap (λ us. leave s (behind_all s (stmt_trees us))) m ∙ sym (ap (behind s) (ap stmt_tree e ∙ block_tree at all))
+pub block_scope : (s : Scope) (a : Stmt) (at : ℕ) (all : Vec Stmt Global) (items : List Stmt) → a ≡ stmt.Block at all → items ≡ all.items → leave s (scope_after_all s (stmt_trees items)) ≡ scope_after s (stmt_tree a)
+block_scope s a at all items e m = ap (λ us. leave s (scope_after_all s (stmt_trees us))) m ∙ sym (ap (scope_after s) (ap stmt_tree e ∙ block_tree at all))
 
 pub choose_is : (test other : resolved.Value) (a b c d : resolved.Command) → test ≡ other → a ≡ b → c ≡ d → resolved.Choose test a c ≡ resolved.Choose other b d
 choose_is test other a b c d t e f = rw (t, e, f) refl
@@ -91,13 +91,13 @@ loop_command s own first count all a b one loop i n m e f = sequence_command fir
 abbrev function : ℕ → ℕ → ℕ → Gives → Bool → Commands → resolved.Function
 function slots names parameters gives owns body = record { slots = slots; names = names; parameters = parameters; gives = gives; owns = owns; body = body }
 
-pub function_is : (parameters : List ParameterTree) (body : StmtTrees) (f : CheckedFunction) (empty before after : Scope) → before ≡ with_parameters empty parameters → after ≡ behind_all before body → checked.commands f.body.items ≡ resolved_stmts before body
+pub function_is : (parameters : List ParameterTree) (body : StmtTrees) (f : CheckedFunction) (empty before after : Scope) → before ≡ with_parameters empty parameters → after ≡ scope_after_all before body → checked.commands f.body.items ≡ resolved_stmts before body
     → f.slots ≡ after.next → f.names ≡ after.names → f.parameters ≡ before.names - owned_in before.owns → f.gives ≡ gives_of after.result → f.owns ≡ after.owns → function_of f ≡ resolved_body (with_parameters empty parameters) body
 function_is parameters body f empty before after b a c n m p g o =
     let start = with_parameters empty parameters in
-    let end = behind_all start body in
-    let same : after ≡ end = a ∙ ap (λ s. behind_all s body) b in
-    let stays = behind_all_same start body in
+    let end = scope_after_all start body in
+    let same : after ≡ end = a ∙ ap (λ s. scope_after_all s body) b in
+    let stays = after_all_same start body in
     let all = checked.commands f.body.items in
     let passed = start.names - owned_in start.owns in
     ap (λ x. function x f.names f.parameters f.gives f.owns all) (n ∙ ap (λ s. s.next) same) ∙ ap (λ x. function end.next x f.parameters f.gives f.owns all) (m ∙ ap (λ s. s.names) same)

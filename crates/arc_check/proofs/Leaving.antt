@@ -1,11 +1,11 @@
--- Where a scope stands stays the same behind its statements.
+-- Where a scope stands stays the same after its statements.
 use Rattle.std.proofs.Common.{◌≡◌, ℕ, Bool, true, false, List, [], ◌∷◌, option_map, refl, ap, ◌∙◌}
 use Rattle.arc_ast.specs.Tree as tree
 use Rattle.arc_ast.specs.Tree.{TypeTree, VariableTree, StmtTree, StmtTrees, Block, Empty, Simple, Return, Variables, If, IfElse, While, Do, For, Break, Continue, no_stmts, and_stmt}
 use Rattle.arc_class.specs.declared.table.ClassTable.{ClassTable}
 use Rattle.arc_class.specs.Table.{number_of_class}
 use Rattle.arc_check.specs.declared.scope.Visible.{Visible}
-use Rattle.arc_check.specs.Scopes.{Scope, has_place, with_variable, declare, with_variables, leave, behind, behind_all}
+use Rattle.arc_check.specs.Scopes.{Scope, has_place, with_variable, declare, with_variables, leave, scope_after, scope_after_all}
 use Rattle.arc_check.specs.private.Views.{local_in, seen}
 use Rattle.arc_check.proofs.Scoping.{scope_is}
 
@@ -41,23 +41,23 @@ variables_same : (type : TypeTree) (s : Scope) (all : List VariableTree) → Sam
 variables_same type s [] = same s
 variables_same type s (v ∷ all) = after _ _ _ (variables_same type (declare v.name type s) all) (declare_same v.name type s)
 
-pub behind_same : (s : Scope) (a : StmtTree) → SameBody (behind s a) s
-behind_same s (Block at all) = record { class = refl; sign = refl; result = refl; owns = refl; hidden = refl }
-behind_same s (Empty at) = same s
-behind_same s (Simple a) = same s
-behind_same s (Return at a) = same s
-behind_same s (Variables at qualifiers type all) = variables_same type s all
-behind_same s (If at c a) = record { class = refl; sign = refl; result = refl; owns = refl; hidden = refl }
-behind_same s (IfElse at c a b) = record { class = refl; sign = refl; result = refl; owns = refl; hidden = refl }
-behind_same s (While at c a) = record { class = refl; sign = refl; result = refl; owns = refl; hidden = refl }
-behind_same s (Do at a c) = record { class = refl; sign = refl; result = refl; owns = refl; hidden = refl }
-behind_same s (For at a c e b) = record { class = refl; sign = refl; result = refl; owns = refl; hidden = refl }
-behind_same s (Break at) = same s
-behind_same s (Continue at) = same s
+pub after_same : (s : Scope) (a : StmtTree) → SameBody (scope_after s a) s
+after_same s (Block at all) = record { class = refl; sign = refl; result = refl; owns = refl; hidden = refl }
+after_same s (Empty at) = same s
+after_same s (Simple a) = same s
+after_same s (Return at a) = same s
+after_same s (Variables at qualifiers type all) = variables_same type s all
+after_same s (If at c a) = record { class = refl; sign = refl; result = refl; owns = refl; hidden = refl }
+after_same s (IfElse at c a b) = record { class = refl; sign = refl; result = refl; owns = refl; hidden = refl }
+after_same s (While at c a) = record { class = refl; sign = refl; result = refl; owns = refl; hidden = refl }
+after_same s (Do at a c) = record { class = refl; sign = refl; result = refl; owns = refl; hidden = refl }
+after_same s (For at a c e b) = record { class = refl; sign = refl; result = refl; owns = refl; hidden = refl }
+after_same s (Break at) = same s
+after_same s (Continue at) = same s
 
-pub behind_all_same : (s : Scope) (all : StmtTrees) → SameBody (behind_all s all) s
-behind_all_same s no_stmts = same s
-behind_all_same s (and_stmt a all) = after _ _ _ (behind_all_same (behind s a) all) (behind_same s a)
+pub after_all_same : (s : Scope) (all : StmtTrees) → SameBody (scope_after_all s all) s
+after_all_same s no_stmts = same s
+after_all_same s (and_stmt a all) = after _ _ _ (after_all_same (scope_after s a) all) (after_same s a)
 
 -- what `leave` keeps of what is visible
 pub record Left (old new : Visible) : Type 0 where

@@ -1,4 +1,4 @@
--- What is told of methods, and one more.
+-- What is reported of methods, and one more.
 use Rattle.std.proofs.Common.{◌≡◌, false, Some, ℕ, ◌+◌, ◌<◌, Bool, List, ◌++◌, length, get_or, drop, Option, refl, ap, ◌∙◌}
 use Rattle.std.specs.List.{flat_map}
 use Rattle.arc_ast.specs.declared.tree.Implementation.{Implementation}

@@ -1,4 +1,4 @@
--- From what is told of a source and what is built of it to an answer.
+-- From what is reported of a source and what is built of it to an answer.
 use Rattle.std.proofs.Common.{◌≡◌, ℕ, ℤ, Bool, List, [], ◌++◌, Option, Some, None, option_map, refl, sym, ap, ◌∙◌}
 use Rattle.std.specs.Option.{unwrap_or}
 use Rattle.std.specs.List.{flat_map, filter_map}
@@ -19,7 +19,7 @@ use Rattle.arc_check.specs.declared.checked.CheckedFunction.{CheckedFunction}
 use Rattle.arc_fault.specs.declared.check.CheckFault.{CheckFault}
 use Rattle.arc_fault.specs.declared.check.CheckFault.TheVariants as f
 use Rattle.arc_check.specs.Checked as checked
-use Rattle.arc_check.specs.Fault.{told, Refuses}
+use Rattle.arc_check.specs.Fault.{reported, Refuses}
 use Rattle.arc_check.specs.Resolving.{resolved_function, resolved_methods, resolved_unit}
 use Rattle.arc_check.specs.Rules.{broken_function, broken_global, broken_interface, broken_implementation, broken_unit, known_of}
 use Rattle.arc_check.specs.Scopes.{Known}
@@ -27,7 +27,7 @@ use Rattle.arc_check.specs.private.Views.{known_in}
 use Rattle.arc_spec.specs.Classes.{Class, classes_of, descends}
 use Rattle.arc_spec.specs.Resolved as resolved
 
-refuses : (all : List Broken) (fault : CheckFault) → first all ≡ Some (told fault) → Refuses all fault
+refuses : (all : List Broken) (fault : CheckFault) → first all ≡ Some (reported fault) → Refuses all fault
 refuses all (f.UnknownName at) h = h
 refuses all (f.NoSuchMethod at) h = h
 refuses all (f.KindMismatch at) h = h
@@ -39,11 +39,11 @@ refuses all (f.FieldHidden at) h = h
 refuses all (f.TooManyLocals at) h = h
 refuses all f.Memory h = tt
 
-pub unbroken : (all : List Broken) (fault : Option CheckFault) → option_map told fault ≡ first all → fault ≡ None → all ≡ []
-unbroken all fault e n = none_broken all (sym e ∙ ap (option_map told) n)
+pub unbroken : (all : List Broken) (fault : Option CheckFault) → option_map reported fault ≡ first all → fault ≡ None → all ≡ []
+unbroken all fault e n = none_broken all (sym e ∙ ap (option_map reported) n)
 
-pub refused : (all : List Broken) (fault : Option CheckFault) (one : CheckFault) → option_map told fault ≡ first all → fault ≡ Some one → Refuses all one
-refused all fault one e n = refuses all one (sym e ∙ ap (option_map told) n)
+pub refused : (all : List Broken) (fault : Option CheckFault) (one : CheckFault) → option_map reported fault ≡ first all → fault ≡ Some one → Refuses all one
+refused all fault one e n = refuses all one (sym e ∙ ap (option_map reported) n)
 
 -- ---- what a table of a source knows of names
 
@@ -60,12 +60,12 @@ known_is u table t =
     names_are _ _ _ _ _ _ _ _ _ _ _ _ _ _ _ _ _ _ _ _ _ _ _ _ (fun_ext t.knows) (fun_ext t.globals) (fun_ext t.parameters) (fun_ext (λ sign. fun_ext (t.passed sign))) (fun_ext t.numbers) (fun_ext t.superclasses) (ap descends t.classes) (fun_ext (λ name. ap (option_map number_of_class) (t.function_classes name))) (fun_ext (λ from. fun_ext (λ sign. fun_ext (t.results from sign)))) (fun_ext t.any_results) (fun_ext t.selectors)
     (fun_ext (λ class. fun_ext (t.named class)))
 
--- ---- what is told of a source
+-- ---- what is reported of a source
 
-pub told_of_unit : (u : UnitTree) (table : ClassTable) (fs : List FunctionTree) (gs : List GlobalTree) (is : List InterfaceTree) (ms : List ImplementationTree) (one held two three classes between all : Option Broken) → IsTableOf u table → fs ≡ u.functions → gs ≡ u.globals → is ≡ u.interfaces → ms ≡ u.implementations
+pub reported_of_unit : (u : UnitTree) (table : ClassTable) (fs : List FunctionTree) (gs : List GlobalTree) (is : List InterfaceTree) (ms : List ImplementationTree) (one held two three classes between all : Option Broken) → IsTableOf u table → fs ≡ u.functions → gs ≡ u.globals → is ≡ u.interfaces → ms ≡ u.implementations
     → one ≡ first (flat_map (broken_function (known_in table)) fs) → held ≡ first (flat_map broken_global gs) → two ≡ first (flat_map broken_interface is) → three ≡ first (flat_map (broken_implementation (known_in table)) ms)
     → classes ≡ earlier_of two three → between ≡ earlier_of held classes → all ≡ earlier_of one between → all ≡ first (broken_unit u)
-told_of_unit u table fs gs is ms one held two three classes between all t f v i m o h p q b d a =
+reported_of_unit u table fs gs is ms one held two three classes between all t f v i m o h p q b d a =
     let k = known_of u in
     let same = known_is u table t in
     let functions : one ≡ first (flat_map (broken_function k) u.functions) = o ∙ ap (λ us. first (flat_map (broken_function (known_in table)) us)) f ∙ ap (λ known. first (flat_map (broken_function known) u.functions)) same in

@@ -1,4 +1,4 @@
--- What is told of lists of nodes, and one more.
+-- What is reported of lists of nodes, and one more.
 use Rattle.std.proofs.Common.{◌≡◌, ℕ, ◌+◌, ◌<◌, List, ◌++◌, length, get_or, drop, Option, option_map, sym, ap, ◌∙◌}
 use Rattle.arc_ast.specs.declared.tree.Parameter.{Parameter}
 use Rattle.arc_ast.specs.declared.tree.Variable.{Variable}
@@ -10,9 +10,9 @@ use Rattle.arc_check.specs.Rules.{broken_parameters, broken_initial, broken_vari
 use Rattle.arc_check.specs.Scopes.{Scope, is_full, declare, with_variables}
 use Rattle.arc_check.proofs.Lists.{drop_turn}
 
-pub told_turn : (s after : Scope) (xs : List Parameter) (i : ℕ) (x : Parameter) (so_far one now whole : Option Broken) → i < length xs → x ≡ get_or xs i x → one ≡ first (broken_if (is_full s) x.at 50) → after ≡ declare x.name.items (tree.type_tree x.type_name) s
+pub reported_turn : (s after : Scope) (xs : List Parameter) (i : ℕ) (x : Parameter) (so_far one now whole : Option Broken) → i < length xs → x ≡ get_or xs i x → one ≡ first (broken_if (is_full s) x.at 50) → after ≡ declare x.name.items (tree.type_tree x.type_name) s
     → now ≡ earlier_of so_far one → whole ≡ earlier_of so_far (first (broken_parameters s (parameter_trees (drop i xs)))) → whole ≡ earlier_of now (first (broken_parameters after (parameter_trees (drop (i + 1) xs))))
-told_turn s after xs i x so_far one now whole l e o a n w =
+reported_turn s after xs i x so_far one now whole l e o a n w =
     first_turn (broken_if (is_full s) x.at 50) (broken_parameters (declare x.name.items (tree.type_tree x.type_name) s) (parameter_trees (drop (i + 1) xs))) so_far one now whole o n
     (w ∙ ap (λ us. earlier_of so_far (first (broken_parameters s (parameter_trees us)))) (drop_turn xs i x l e))
     ∙ ap (λ p. earlier_of now (first (broken_parameters p (parameter_trees (drop (i + 1) xs))))) (sym a)

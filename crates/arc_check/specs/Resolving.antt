@@ -36,7 +36,7 @@ use Rattle.arc_check.specs.declared.format.Begun.TheVariants.{Nothing}
 use Rattle.arc_check.specs.Kinds.{literal_kind, wider, computing_kind, given_kind}
 use Rattle.arc_check.specs.Formats.{parts, printed}
 use Rattle.arc_check.specs.Scopes as scopes
-use Rattle.arc_check.specs.Scopes.{Known, Scope, declare, with_parameters, leave, behind, behind_all, outermost, owned_in, callee, own_field, variable, class_receiver, kind_given, object_result, super_kind, class_of}
+use Rattle.arc_check.specs.Scopes.{Known, Scope, declare, with_parameters, leave, scope_after, scope_after_all, outermost, owned_in, callee, own_field, variable, class_receiver, kind_given, object_result, super_kind, class_of}
 use Rattle.arc_check.specs.Passing.{first_wanted, wanted_by, receiver_sign}
 use Rattle.arc_check.specs.Rules.{is_object, of_method, known_of}
 
@@ -147,14 +147,14 @@ abbrev pub format : ExprTrees → List ℕ
 format no_exprs = []
 format (and_expr a others) = text_of a
 
-abbrev pub behind_first : Arguments → Arguments
-behind_first no_arguments = no_arguments
-behind_first (number_argument a others) = others
-behind_first (object_argument a others) = others
+abbrev pub but_first : Arguments → Arguments
+but_first no_arguments = no_arguments
+but_first (number_argument a others) = others
+but_first (object_argument a others) = others
 
 -- a call of printf, from its arguments and their values
 abbrev pub printing : ExprTrees → Arguments → Value
-printing arguments all = Print (printed (parts Nothing (format arguments))) (behind_first all)
+printing arguments all = Print (printed (parts Nothing (format arguments))) (but_first all)
 
 -- a call of the function with a number, which gives a value of a kind
 abbrev pub invoked : Kind → (function : ℕ) → Arguments → Resolution
@@ -362,30 +362,30 @@ returned kind a = Return (Some (converted kind a))
 -- A statement. A block's own variables that name objects are those that got their numbers in it. A `while` is a loop whose step does nothing.
 abbrev mutual
   pub resolved_stmt : Scope → StmtTree → Command
-  resolved_stmt s (Block at all) = Sequence s.names ((behind_all s all).names - s.names) (resolved_stmts s all)
+  resolved_stmt s (Block at all) = Sequence s.names ((scope_after_all s all).names - s.names) (resolved_stmts s all)
   resolved_stmt s (Empty at) = nothing
   resolved_stmt s (Simple a) = evaluated (resolved s a)
   resolved_stmt s (tree.Return at a) = option_map_or (λ e. returned s.result (resolved s e)) a (Return None)
   resolved_stmt s (Variables at qualifiers type all) = Sequence 0 0 (resolved_variables type s all)
   resolved_stmt s (If at c a) = Choose (number_in (resolved s c)) (resolved_stmt s a) nothing
-  resolved_stmt s (IfElse at c a b) = Choose (number_in (resolved s c)) (resolved_stmt s a) (resolved_stmt (leave s (behind s a)) b)
+  resolved_stmt s (IfElse at c a b) = Choose (number_in (resolved s c)) (resolved_stmt s a) (resolved_stmt (leave s (scope_after s a)) b)
   resolved_stmt s (While at c a) = Repeat (number_in (resolved s c)) nothing (resolved_stmt s a)
   resolved_stmt s (Do at a c) = RepeatAfter (resolved_stmt s a) (number_in (resolved s c))
   resolved_stmt s (For at a c e b) =
-      with_loop s (behind s a) (resolved_stmt s a) (Repeat (tested (behind s a) c) (stepped (behind s a) e) (resolved_stmt (behind s a) b))
+      with_loop s (scope_after s a) (resolved_stmt s a) (Repeat (tested (scope_after s a) c) (stepped (scope_after s a) e) (resolved_stmt (scope_after s a) b))
   resolved_stmt s (tree.Break at) = Break
   resolved_stmt s (tree.Continue at) = Continue
 
   pub resolved_stmts : Scope → StmtTrees → Commands
   resolved_stmts s no_stmts = no_commands
-  resolved_stmts s (and_stmt a others) = and_command (resolved_stmt s a) (resolved_stmts (behind s a) others)
+  resolved_stmts s (and_stmt a others) = and_command (resolved_stmt s a) (resolved_stmts (scope_after s a) others)
 
 -- a function, in whose scope its parameters are; it has as many variables as have got numbers, and those of its variables that name objects are its parameters that have
 -- got theirs before its body
 abbrev pub resolved_body : Scope → StmtTrees → Function
 resolved_body s body = record {
-  slots = (behind_all s body).next;
-  names = (behind_all s body).names;
+  slots = (scope_after_all s body).next;
+  names = (scope_after_all s body).names;
   parameters = s.names - owned_in s.owns;
   gives = gives_of s.result;
   owns = s.owns;

@@ -31,7 +31,7 @@ use Rattle.arc_check.specs.declared.callee.Callee.TheVariants.{Printf, GetChar, 
 use Rattle.arc_check.specs.Formats.{wanted, fits}
 use Rattle.arc_check.specs.Kinds.{literal_kind, wider}
 use Rattle.arc_check.specs.Passing.{first_wanted, wanted_by, receiver_sign}
-use Rattle.arc_check.specs.Scopes.{Known, Local, Scope, is_full, declare, with_parameters, leave, behind, outermost, in_method, variable, callee, result_kind, is_printf, own_class, own_field, is_visible, class_receiver, sent_kind, super_kind, class_of}
+use Rattle.arc_check.specs.Scopes.{Known, Local, Scope, is_full, declare, with_parameters, leave, scope_after, outermost, in_method, variable, callee, result_kind, is_printf, own_class, own_field, is_visible, class_receiver, sent_kind, super_kind, class_of}
 use Rattle.arc_check.specs.Scopes as scopes
 
 abbrev pub is_text : ExprTree → Bool
@@ -348,17 +348,17 @@ abbrev mutual
   broken_stmt gives_nothing in_loop s (Return at a) = broken_result gives_nothing s a
   broken_stmt gives_nothing in_loop s (Variables at qualifiers type all) = broken_variables type s all
   broken_stmt gives_nothing in_loop s (If at c a) = broken_test s c ++ broken_stmt gives_nothing in_loop s a
-  broken_stmt gives_nothing in_loop s (IfElse at c a b) = broken_test s c ++ (broken_stmt gives_nothing in_loop s a ++ broken_stmt gives_nothing in_loop (leave s (behind s a)) b)
+  broken_stmt gives_nothing in_loop s (IfElse at c a b) = broken_test s c ++ (broken_stmt gives_nothing in_loop s a ++ broken_stmt gives_nothing in_loop (leave s (scope_after s a)) b)
   broken_stmt gives_nothing in_loop s (While at c a) = broken_test s c ++ broken_stmt gives_nothing true s a
   broken_stmt gives_nothing in_loop s (Do at a c) = broken_test s c ++ broken_stmt gives_nothing true s a
   broken_stmt gives_nothing in_loop s (For at a c e b) =
-      broken_stmt gives_nothing false s a ++ (broken_clauses (behind s a) c e ++ broken_stmt gives_nothing true (behind s a) b)
+      broken_stmt gives_nothing false s a ++ (broken_clauses (scope_after s a) c e ++ broken_stmt gives_nothing true (scope_after s a) b)
   broken_stmt gives_nothing in_loop s (Break at) = broken_if (not in_loop) at 48
   broken_stmt gives_nothing in_loop s (Continue at) = broken_if (not in_loop) at 48
 
   pub broken_stmts : (gives_nothing in_loop : Bool) → Scope → StmtTrees → List Broken
   broken_stmts gives_nothing in_loop s no_stmts = []
-  broken_stmts gives_nothing in_loop s (and_stmt a others) = broken_stmt gives_nothing in_loop s a ++ broken_stmts gives_nothing in_loop (behind s a) others
+  broken_stmts gives_nothing in_loop s (and_stmt a others) = broken_stmt gives_nothing in_loop s a ++ broken_stmts gives_nothing in_loop (scope_after s a) others
 
 -- the parameters of a mere declaration are counted alone
 abbrev pub broken_body : (result : Kind) → Known → List ParameterTree → Option StmtTrees → List Broken

@@ -105,23 +105,23 @@ leave outer inner = record outer { next = inner.next; names = inner.names }
 
 -- what names mean after a statement
 abbrev mutual
-  pub behind : Scope → StmtTree → Scope
-  behind s (Block at all) = leave s (behind_all s all)
-  behind s (Empty at) = s
-  behind s (Simple a) = s
-  behind s (Return at a) = s
-  behind s (Variables at qualifiers type all) = with_variables type s all
-  behind s (If at c a) = leave s (behind s a)
-  behind s (IfElse at c a b) = leave s (behind (leave s (behind s a)) b)
-  behind s (While at c a) = leave s (behind s a)
-  behind s (Do at a c) = leave s (behind s a)
-  behind s (For at a c e b) = leave s (behind (behind s a) b)
-  behind s (Break at) = s
-  behind s (Continue at) = s
+  pub scope_after : Scope → StmtTree → Scope
+  scope_after s (Block at all) = leave s (scope_after_all s all)
+  scope_after s (Empty at) = s
+  scope_after s (Simple a) = s
+  scope_after s (Return at a) = s
+  scope_after s (Variables at qualifiers type all) = with_variables type s all
+  scope_after s (If at c a) = leave s (scope_after s a)
+  scope_after s (IfElse at c a b) = leave s (scope_after (leave s (scope_after s a)) b)
+  scope_after s (While at c a) = leave s (scope_after s a)
+  scope_after s (Do at a c) = leave s (scope_after s a)
+  scope_after s (For at a c e b) = leave s (scope_after (scope_after s a) b)
+  scope_after s (Break at) = s
+  scope_after s (Continue at) = s
 
-  pub behind_all : Scope → StmtTrees → Scope
-  behind_all s no_stmts = s
-  behind_all s (and_stmt a others) = behind_all (behind s a) others
+  pub scope_after_all : Scope → StmtTrees → Scope
+  scope_after_all s no_stmts = s
+  scope_after_all s (and_stmt a others) = scope_after_all (scope_after s a) others
 
 -- before the parameters of a function that gives a value of a kind (C99, section 6.9.1)
 abbrev pub outermost : Known → (result : Kind) → Scope

@@ -6,10 +6,10 @@ ghost use Rattle.arc_ast.specs.Tree.{expr_tree, type_tree, variable_trees, param
 ghost use Rattle.arc_class.specs.Broken.{broken_if, first};
 ghost use Rattle.arc_class.specs.declared.table.ClassTable.{ClassTable};
 ghost use Rattle.arc_sites.specs.Sites as sites;
-ghost use Rattle.arc_check.specs.Fault.{told};
+ghost use Rattle.arc_check.specs.Fault.{reported};
 ghost use Rattle.arc_check.specs.Rules as rules;
 ghost use Rattle.arc_check.specs.Rules.{broken_clauses, broken_test, broken_whole, broken_initial, broken_variables, broken_parameters, broken_result, broken_stmt, broken_stmts, broken_body, broken_function};
-ghost use Rattle.arc_check.specs.Scopes.{is_full, leave, behind, behind_all, with_variables, with_parameters};
+ghost use Rattle.arc_check.specs.Scopes.{is_full, leave, scope_after, scope_after_all, with_variables, with_parameters};
 ghost use Rattle.arc_check.specs.private.Views.{known_in, seen};
 
 use crate::rule::place;
@@ -28,7 +28,7 @@ fn initial<'a>(
     type_name: &TypeName,
     expr: &'a Option<Expr>,
 ) -> Option<CheckFault>
-    ensures { option_map told result ≡ first (broken_initial (seen table.now visible.now) (type_tree type_name.now) (option_map expr_tree expr.now)) }
+    ensures { option_map reported result ≡ first (broken_initial (seen table.now visible.now) (type_tree type_name.now) (option_map expr_tree expr.now)) }
 {
     match expr {
         None => None,
@@ -43,7 +43,7 @@ fn returned<'a>(
     visible: &Visible<'a>,
     expr: &'a Option<Expr>,
 ) -> Option<CheckFault>
-    ensures { option_map told result ≡ first (broken_result gives_nothing (seen table.now visible.now) (option_map expr_tree expr.now)) }
+    ensures { option_map reported result ≡ first (broken_result gives_nothing (seen table.now visible.now) (option_map expr_tree expr.now)) }
 {
     let Some(expr) = expr else {
         return None;
@@ -58,7 +58,7 @@ fn returned<'a>(
 
 /// The rule that one variable more breaks, whose name is at this place.
 fn place_fault(visible: &Visible, at: usize) -> Option<CheckFault>
-    ensures { (table : ClassTable) → option_map told result ≡ first (broken_if (is_full (seen table visible.now)) at 50) }
+    ensures { (table : ClassTable) → option_map reported result ≡ first (broken_if (is_full (seen table visible.now)) at 50) }
 {
     if visible.is_full() {
         Some(CheckFault::TooManyLocals(at))
@@ -74,7 +74,7 @@ fn variables<'a>(
     type_name: &'a TypeName,
     all: &'a [Variable],
 ) -> Result<Option<CheckFault>, AllocError>
-    ensures fault { IfOk result (λ fault. option_map told fault ≡ first (broken_variables (type_tree type_name.now) (seen table.now visible.old) (variable_trees all.now))) }
+    ensures fault { IfOk result (λ fault. option_map reported fault ≡ first (broken_variables (type_tree type_name.now) (seen table.now visible.old) (variable_trees all.now))) }
     ensures scope { OnOk result (seen table.now visible.new ≡ with_variables (type_tree type_name.now) (seen table.now visible.old) (variable_trees all.now)) }
     ensures keeps { OnOk result (take (length visible.old.bound.items) visible.new.bound.items ≡ visible.old.bound.items) }
 {
@@ -93,7 +93,7 @@ fn parameters<'a>(
     visible: &mut Visible<'a>,
     all: &'a [Parameter],
 ) -> Result<Option<CheckFault>, AllocError>
-    ensures fault { IfOk result (λ fault. option_map told fault ≡ first (broken_parameters (seen table.now visible.old) (parameter_trees all.now))) }
+    ensures fault { IfOk result (λ fault. option_map reported fault ≡ first (broken_parameters (seen table.now visible.old) (parameter_trees all.now))) }
     ensures scope { OnOk result (seen table.now visible.new ≡ with_parameters (seen table.now visible.old) (parameter_trees all.now)) }
 {
     let mut fault = None;
@@ -106,7 +106,7 @@ fn parameters<'a>(
 
 /// The rule that a `break` or a `continue` at this place breaks, which is in the body of a loop or isn't.
 fn loop_fault(in_loop: bool, at: usize) -> Option<CheckFault>
-    ensures { option_map told result ≡ first (broken_if (not in_loop) at 48) }
+    ensures { option_map reported result ≡ first (broken_if (not in_loop) at 48) }
 {
     if in_loop {
         None
@@ -121,7 +121,7 @@ fn maybe_test<'a>(
     visible: &Visible<'a>,
     expr: &'a Option<Expr>,
 ) -> Option<CheckFault>
-    ensures { option_map told result ≡ first (option_map_or (broken_test (seen table.now visible.now)) (option_map expr_tree expr.now) []) }
+    ensures { option_map reported result ≡ first (option_map_or (broken_test (seen table.now visible.now)) (option_map expr_tree expr.now) []) }
 {
     match expr {
         None => None,
@@ -135,7 +135,7 @@ fn maybe_step<'a>(
     visible: &Visible<'a>,
     expr: &'a Option<Expr>,
 ) -> Option<CheckFault>
-    ensures { option_map told result ≡ first (option_map_or (broken_whole (seen table.now visible.now)) (option_map expr_tree expr.now) []) }
+    ensures { option_map reported result ≡ first (option_map_or (broken_whole (seen table.now visible.now)) (option_map expr_tree expr.now) []) }
 {
     match expr {
         None => None,
@@ -150,7 +150,7 @@ fn clauses<'a>(
     test: &'a Option<Expr>,
     step: &'a Option<Expr>,
 ) -> Option<CheckFault>
-    ensures { option_map told result ≡ first (broken_clauses (seen table.now visible.now) (option_map expr_tree test.now) (option_map expr_tree step.now)) }
+    ensures { option_map reported result ≡ first (broken_clauses (seen table.now visible.now) (option_map expr_tree test.now) (option_map expr_tree step.now)) }
 {
     let test = maybe_test(table, visible, test);
     earlier(test, maybe_step(table, visible, step))
@@ -165,8 +165,8 @@ fn scoped<'a>(
     visible: &mut Visible<'a>,
     inner: &'a Stmt,
 ) -> Result<Option<CheckFault>, AllocError>
-    ensures fault { IfOk result (λ fault. option_map told fault ≡ first (broken_stmt gives_nothing in_loop (seen table.now visible.old) (stmt_tree inner.now))) }
-    ensures scope { OnOk result (seen table.now visible.new ≡ leave (seen table.now visible.old) (behind (seen table.now visible.old) (stmt_tree inner.now))) }
+    ensures fault { IfOk result (λ fault. option_map reported fault ≡ first (broken_stmt gives_nothing in_loop (seen table.now visible.old) (stmt_tree inner.now))) }
+    ensures scope { OnOk result (seen table.now visible.new ≡ leave (seen table.now visible.old) (scope_after (seen table.now visible.old) (stmt_tree inner.now))) }
     ensures keeps { OnOk result (visible.new.bound.items ≡ visible.old.bound.items) }
 {
     let count = visible.bound.len();
@@ -184,8 +184,8 @@ fn block<'a>(
     visible: &mut Visible<'a>,
     all: &'a [Stmt],
 ) -> Result<Option<CheckFault>, AllocError>
-    ensures fault { IfOk result (λ fault. option_map told fault ≡ first (broken_stmts gives_nothing in_loop (seen table.now visible.old) (stmt_trees all.now))) }
-    ensures scope { OnOk result (seen table.now visible.new ≡ leave (seen table.now visible.old) (behind_all (seen table.now visible.old) (stmt_trees all.now))) }
+    ensures fault { IfOk result (λ fault. option_map reported fault ≡ first (broken_stmts gives_nothing in_loop (seen table.now visible.old) (stmt_trees all.now))) }
+    ensures scope { OnOk result (seen table.now visible.new ≡ leave (seen table.now visible.old) (scope_after_all (seen table.now visible.old) (stmt_trees all.now))) }
     ensures keeps { OnOk result (visible.new.bound.items ≡ visible.old.bound.items) }
 {
     let count = visible.bound.len();
@@ -203,8 +203,8 @@ fn statement<'a>(
     visible: &mut Visible<'a>,
     statement: &'a Stmt,
 ) -> Result<Option<CheckFault>, AllocError>
-    ensures fault { IfOk result (λ fault. option_map told fault ≡ first (broken_stmt gives_nothing in_loop (seen table.now visible.old) (stmt_tree statement.now))) }
-    ensures scope { OnOk result (seen table.now visible.new ≡ behind (seen table.now visible.old) (stmt_tree statement.now)) }
+    ensures fault { IfOk result (λ fault. option_map reported fault ≡ first (broken_stmt gives_nothing in_loop (seen table.now visible.old) (stmt_tree statement.now))) }
+    ensures scope { OnOk result (seen table.now visible.new ≡ scope_after (seen table.now visible.old) (stmt_tree statement.now)) }
     ensures keeps { OnOk result (take (length visible.old.bound.items) visible.new.bound.items ≡ visible.old.bound.items) }
 {
     match statement {
@@ -253,10 +253,10 @@ fn stepped<'a>(
     step: &'a Option<Expr>,
     body: &'a Stmt,
 ) -> Result<Option<CheckFault>, AllocError>
-    ensures fault { let s = seen table.now visible.old in let own = behind s (stmt_tree beginning.now) in
-        IfOk result (λ fault. option_map told fault ≡ first (broken_stmt gives_nothing false s (stmt_tree beginning.now)
+    ensures fault { let s = seen table.now visible.old in let own = scope_after s (stmt_tree beginning.now) in
+        IfOk result (λ fault. option_map reported fault ≡ first (broken_stmt gives_nothing false s (stmt_tree beginning.now)
         ++ (broken_clauses own (option_map expr_tree test.now) (option_map expr_tree step.now) ++ broken_stmt gives_nothing true own (stmt_tree body.now)))) }
-    ensures scope { let s = seen table.now visible.old in OnOk result (seen table.now visible.new ≡ leave s (behind (behind s (stmt_tree beginning.now)) (stmt_tree body.now))) }
+    ensures scope { let s = seen table.now visible.old in OnOk result (seen table.now visible.new ≡ leave s (scope_after (scope_after s (stmt_tree beginning.now)) (stmt_tree body.now))) }
     ensures keeps { OnOk result (visible.new.bound.items ≡ visible.old.bound.items) }
 {
     let count = visible.bound.len();
@@ -276,8 +276,8 @@ fn statements<'a>(
     visible: &mut Visible<'a>,
     all: &'a [Stmt],
 ) -> Result<Option<CheckFault>, AllocError>
-    ensures fault { IfOk result (λ fault. option_map told fault ≡ first (broken_stmts gives_nothing in_loop (seen table.now visible.old) (stmt_trees all.now))) }
-    ensures scope { OnOk result (seen table.now visible.new ≡ behind_all (seen table.now visible.old) (stmt_trees all.now)) }
+    ensures fault { IfOk result (λ fault. option_map reported fault ≡ first (broken_stmts gives_nothing in_loop (seen table.now visible.old) (stmt_trees all.now))) }
+    ensures scope { OnOk result (seen table.now visible.new ≡ scope_after_all (seen table.now visible.old) (stmt_trees all.now)) }
     ensures keeps { OnOk result (take (length visible.old.bound.items) visible.new.bound.items ≡ visible.old.bound.items) }
 {
     let mut fault = None;
@@ -305,7 +305,7 @@ const MOST_PARAMETERS: usize = 16;
 
 /// The rule that a function or a method with so many parameters breaks, at its place.
 pub fn count_fault(at: usize, count: usize) -> Option<CheckFault>
-    ensures { option_map told result ≡ first (broken_if (nat_lt MOST_PARAMETERS count) at 45) }
+    ensures { option_map reported result ≡ first (broken_if (nat_lt MOST_PARAMETERS count) at 45) }
 {
     if count > MOST_PARAMETERS {
         Some(CheckFault::ArgumentCount(at))
@@ -329,7 +329,7 @@ pub fn inside<'a>(
     named: &'a [Parameter],
     all: &'a [Stmt],
 ) -> Result<Option<CheckFault>, AllocError>
-    ensures { IfOk result (λ fault. option_map told fault
+    ensures { IfOk result (λ fault. option_map reported fault
         ≡ first (broken_parameters (seen table.now visible.entry) (parameter_trees named.now)
         ++ broken_stmts gives_nothing false (with_parameters (seen table.now visible.entry) (parameter_trees named.now)) (stmt_trees all.now))) }
 {
@@ -348,7 +348,7 @@ fn body<'a>(
     named: &'a [Parameter],
     all: &'a Option<Vec<Stmt>>,
 ) -> Result<Option<CheckFault>, AllocError>
-    ensures { IfOk result (λ fault. option_map told fault
+    ensures { IfOk result (λ fault. option_map reported fault
         ≡ first (broken_body gives (known_in table.now) (parameter_trees named.now) (option_map (λ b. stmt_trees b.items) all.now))) }
 {
     let Some(all) = all else {
@@ -364,7 +364,7 @@ fn function<'a>(
     table: &ClassTable<'a>,
     function: &'a Function,
 ) -> Result<Option<CheckFault>, AllocError>
-    ensures { IfOk result (λ fault. option_map told fault ≡ first (broken_function (known_in table.now) (function_tree function.now))) }
+    ensures { IfOk result (λ fault. option_map reported fault ≡ first (broken_function (known_in table.now) (function_tree function.now))) }
 {
     let named = named_parameters(&function.parameters);
     let own = count_fault(function.at, named.len());
@@ -379,7 +379,7 @@ pub fn judge_functions<'a>(
     table: &ClassTable<'a>,
     functions: &'a [Function],
 ) -> Result<Option<CheckFault>, AllocError>
-    ensures { IfOk result (λ fault. option_map told fault ≡ first (flat_map (broken_function (known_in table.now)) (function_trees functions.now))) }
+    ensures { IfOk result (λ fault. option_map reported fault ≡ first (flat_map (broken_function (known_in table.now)) (function_trees functions.now))) }
 {
     let mut fault = None;
     for one in functions {

@@ -5,7 +5,7 @@ ghost use Rattle.arc_class.specs.Broken.{first};
 ghost use Rattle.arc_class.specs.Table.{IsTableOf};
 ghost use Rattle.arc_check.specs.Checked as checked;
 ghost use Rattle.arc_check.specs.Checked.{program_of};
-ghost use Rattle.arc_check.specs.Fault.{Refuses, told};
+ghost use Rattle.arc_check.specs.Fault.{Refuses, reported};
 ghost use Rattle.arc_check.specs.Resolving.{resolved_unit};
 ghost use Rattle.arc_check.specs.Rules.{broken_unit};
 
@@ -28,7 +28,7 @@ fn judge_unit<'a>(
     table: &ClassTable<'a>,
 ) -> Result<Option<CheckFault>, AllocError>
     requires { IsTableOf (unit_tree unit.now) table.now }
-    ensures { IfOk result (λ fault. option_map told fault ≡ first (broken_unit (unit_tree unit.now))) }
+    ensures { IfOk result (λ fault. option_map reported fault ≡ first (broken_unit (unit_tree unit.now))) }
 {
     let functions = judge_functions(alloc, table, &unit.functions)?;
     let globals = judge_globals(&unit.globals);

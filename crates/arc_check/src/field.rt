@@ -3,7 +3,7 @@ ghost use Rattle.std.specs.Prelude.{◌≡◌, false, option_map, nat_eq};
 ghost use Rattle.std.specs.Option.{option_map_or};
 ghost use Rattle.arc_class.specs.Broken.{first};
 ghost use Rattle.arc_class.specs.Table.{number_of_class};
-ghost use Rattle.arc_check.specs.Fault.{told};
+ghost use Rattle.arc_check.specs.Fault.{reported};
 ghost use Rattle.arc_check.specs.Rules as rules;
 ghost use Rattle.arc_check.specs.Scopes as scopes;
 ghost use Rattle.arc_check.specs.private.Views.{known_in, local_of, seen};
@@ -148,7 +148,7 @@ pub fn field_fault(
     found: Option<FoundField>,
     at: usize,
 ) -> Option<CheckFault>
-    ensures { option_map told result ≡ first (rules.no_field (seen table.now visible.now) found at) }
+    ensures { option_map reported result ≡ first (rules.no_field (seen table.now visible.now) found at) }
 {
     match found {
         None => Some(CheckFault::UnknownName(at)),

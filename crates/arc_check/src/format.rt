@@ -80,7 +80,7 @@ pub fn take_conversion(format: &[u8], kind: Option<Kind>) -> (bool, &[u8])
 {
     match next_conversion(format) {
         None => (false, format),
-        Some((part, behind)) => (may_print(part, kind), behind),
+        Some((part, scope_after)) => (may_print(part, kind), scope_after),
     }
 }
 

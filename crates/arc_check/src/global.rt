@@ -3,7 +3,7 @@ ghost use Rattle.std.specs.Prelude.{◌≡◌, flat_map, length, option_map, IfO
 ghost use Rattle.std.specs.List.{filter};
 ghost use Rattle.arc_ast.specs.Tree.{global_tree, global_trees};
 ghost use Rattle.arc_class.specs.Broken.{first};
-ghost use Rattle.arc_check.specs.Fault.{told};
+ghost use Rattle.arc_check.specs.Fault.{reported};
 ghost use Rattle.arc_check.specs.Resolving as resolving;
 ghost use Rattle.arc_check.specs.Rules as rules;
 
@@ -37,7 +37,7 @@ fn constant_place(constant: Constant) -> usize
 
 /// The rule that a variable breaks by what it begins with.
 fn judge_global(global: &tree::Global) -> Option<CheckFault>
-    ensures { option_map told result ≡ first (rules.broken_global (global_tree global.now)) }
+    ensures { option_map reported result ≡ first (rules.broken_global (global_tree global.now)) }
 {
     let constant = global.initial?;
     let wanted = Some(global.type_name.kind());
@@ -47,7 +47,7 @@ fn judge_global(global: &tree::Global) -> Option<CheckFault>
 
 /// The first rule that variables break by what they begin with.
 pub fn judge_globals(globals: &[tree::Global]) -> Option<CheckFault>
-    ensures { option_map told result ≡ first (flat_map rules.broken_global (global_trees globals.now)) }
+    ensures { option_map reported result ≡ first (flat_map rules.broken_global (global_trees globals.now)) }
 {
     let mut fault = None;
     for global in globals {

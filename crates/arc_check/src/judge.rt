@@ -6,7 +6,7 @@ ghost use Rattle.arc_ast.specs.Tree.{Arrow, Assign, Cast, Conditional, Itself, N
 ghost use Rattle.arc_class.specs.Broken.{broken_if, earlier_of, first};
 ghost use Rattle.arc_class.specs.declared.table.ClassTable.{ClassTable};
 ghost use Rattle.arc_class.specs.Table.{number_of_class};
-ghost use Rattle.arc_check.specs.Fault.{told};
+ghost use Rattle.arc_check.specs.Fault.{reported};
 ghost use Rattle.arc_check.specs.Formats.{wanted};
 ghost use Rattle.arc_check.specs.private.Judging.{Judges, JudgesAll, JudgesCall, counted};
 ghost use Rattle.arc_check.specs.Rules as rules;
@@ -108,9 +108,9 @@ fn combined(
     ensures kind { result.kind ≡ rules.binary_kind (sort_of operator) left.kind right.kind }
     ensures class { result.class ≡ None }
     ensures taken { result.taken ≡ right.taken }
-    ensures fault { option_map told result.fault
-        ≡ earlier_of (earlier_of (option_map told left.fault) (first (no_left (sort_of operator) left.kind left_at)))
-        (earlier_of (option_map told right.fault) (first (no_right (sort_of operator) left.kind right.kind right_at))) }
+    ensures fault { option_map reported result.fault
+        ≡ earlier_of (earlier_of (option_map reported left.fault) (first (no_left (sort_of operator) left.kind left_at)))
+        (earlier_of (option_map reported right.fault) (first (no_right (sort_of operator) left.kind right.kind right_at))) }
 {
     let sort = operator_sort(operator);
     let first = earlier(left.fault, no_left(sort, left.kind, left_at));
@@ -138,7 +138,7 @@ fn called(
 ) -> Judged
     ensures kind { result.kind ≡ kind }
     ensures class { result.class ≡ class }
-    ensures fault { option_map told result.fault ≡ earlier_of (option_map told own) (option_map told inside.fault) }
+    ensures fault { option_map reported result.fault ≡ earlier_of (option_map reported own) (option_map reported inside.fault) }
     ensures taken { result.taken ≡ inside.taken }
 {
     Judged {
@@ -174,7 +174,7 @@ fn judge_own_field(
 ) -> Judged
     ensures kind { result.kind ≡ rules.field_kind (seen table.now visible.now) own }
     ensures class { option_map number_of_class result.class ≡ scopes.field_class own }
-    ensures fault { option_map told result.fault ≡ first (rules.no_field (seen table.now visible.now) own at) }
+    ensures fault { option_map reported result.fault ≡ first (rules.no_field (seen table.now visible.now) own at) }
     ensures taken { result.taken ≡ counted (counted before (rules.at_if (is_some own) at)) (rules.at_if (rules.is_object (rules.field_kind (seen table.now visible.now) own)) at) }
     ensures unread { result.unread ≡ counted before (rules.at_if (is_some own) at) }
 {
@@ -293,10 +293,10 @@ fn chosen(
     ensures kind { result.kind ≡ rules.either_kind one.kind other.kind }
     ensures class { result.class ≡ class }
     ensures taken { result.taken ≡ other.taken }
-    ensures fault { option_map told result.fault
-        ≡ earlier_of (earlier_of (option_map told test.fault) (first (no_value test.kind test_at)))
-        (earlier_of (earlier_of (option_map told one.fault) (first (no_left OperatorSort.Equality one.kind one_at)))
-        (earlier_of (option_map told other.fault) (first (no_right OperatorSort.Equality one.kind other.kind other_at)))) }
+    ensures fault { option_map reported result.fault
+        ≡ earlier_of (earlier_of (option_map reported test.fault) (first (no_value test.kind test_at)))
+        (earlier_of (earlier_of (option_map reported one.fault) (first (no_left OperatorSort.Equality one.kind one_at)))
+        (earlier_of (option_map reported other.fault) (first (no_right OperatorSort.Equality one.kind other.kind other_at)))) }
 {
     let sort = OperatorSort::Equality;
     let by_test = earlier(test.fault, no_value(test.kind, test_at));
@@ -371,8 +371,8 @@ fn field_of(
 ) -> Judged
     ensures kind { result.kind ≡ rules.arrow_kind (seen table.now visible.now) base.kind found }
     ensures class { option_map number_of_class result.class ≡ scopes.field_class found }
-    ensures fault { option_map told result.fault
-        ≡ earlier_of (earlier_of (option_map told base.fault) (first (rules.no_object base.kind base_at)))
+    ensures fault { option_map reported result.fault
+        ≡ earlier_of (earlier_of (option_map reported base.fault) (first (rules.no_object base.kind base_at)))
         (first (rules.broken_field (seen table.now visible.now) base.kind found name_at)) }
     ensures taken { result.taken ≡ counted base.taken (rules.at_if (rules.is_object (rules.arrow_kind (seen table.now visible.now) base.kind found)) name_at) }
     ensures unread { result.unread ≡ base.taken }
@@ -441,9 +441,9 @@ fn assigned(
 ) -> Judged
     ensures kind { result.kind ≡ (if is_assignable then left.kind else None) }
     ensures class { result.class ≡ left.class }
-    ensures fault { option_map told result.fault
-        ≡ earlier_of (earlier_of (option_map told left.fault) (first (broken_if (not is_assignable) sign 44)))
-        (earlier_of (option_map told right.fault) (first (rules.no_such left.kind right.kind right_at))) }
+    ensures fault { option_map reported result.fault
+        ≡ earlier_of (earlier_of (option_map reported left.fault) (first (broken_if (not is_assignable) sign 44)))
+        (earlier_of (option_map reported right.fault) (first (rules.no_such left.kind right.kind right_at))) }
     ensures taken { result.taken ≡ right.taken }
 {
     let other = earlier(right.fault, no_such(left.kind, right.kind, right_at));
@@ -485,9 +485,9 @@ fn judge_assignment<'a>(
 fn updated(is_updatable: bool, sign: usize, left: Judged, right: Judged, right_at: usize) -> Judged
     ensures kind { result.kind ≡ (if is_updatable then left.kind else None) }
     ensures class { result.class ≡ None }
-    ensures fault { option_map told result.fault
-        ≡ earlier_of (earlier_of (option_map told left.fault) (first (broken_if (not is_updatable) sign 44)))
-        (earlier_of (option_map told right.fault) (first (rules.no_number right.kind right_at))) }
+    ensures fault { option_map reported result.fault
+        ≡ earlier_of (earlier_of (option_map reported left.fault) (first (broken_if (not is_updatable) sign 44)))
+        (earlier_of (option_map reported right.fault) (first (rules.no_number right.kind right_at))) }
     ensures taken { result.taken ≡ right.taken }
 {
     let other = earlier(right.fault, no_number(right.kind, right_at));
@@ -535,8 +535,8 @@ fn message_kind<'a>(
 
 /// The rule that a receiver breaks which is the class or, with none, on which this is the judgement.
 fn receiver_fault(class: Option<ClassId>, receiver: Judged, at: usize) -> Option<CheckFault>
-    ensures { option_map told result
-        ≡ (if is_some (option_map number_of_class class) then None else earlier_of (option_map told receiver.fault) (first (rules.no_object receiver.kind at))) }
+    ensures { option_map reported result
+        ≡ (if is_some (option_map number_of_class class) then None else earlier_of (option_map reported receiver.fault) (first (rules.no_object receiver.kind at))) }
 {
     match class {
         Some(_) => None,
@@ -546,7 +546,7 @@ fn receiver_fault(class: Option<ClassId>, receiver: Judged, at: usize) -> Option
 
 /// The rule that a message of no kind breaks.
 fn unknown_method(kind: Option<Kind>, part: usize) -> Option<CheckFault>
-    ensures { option_map told result ≡ first (broken_if (is_none kind) part 42) }
+    ensures { option_map reported result ≡ first (broken_if (is_none kind) part 42) }
 {
     match kind {
         Some(_) => None,
@@ -564,7 +564,7 @@ fn method_fault(
 ) -> Option<CheckFault>
     ensures { (table : ClassTable) (visible : Visible) (selector : List ℕ)
         → kind ≡ rules.message_kind (seen table visible) (option_map number_of_class class) receiver.kind (option_map number_of_class receiver.class) selector
-        → option_map told result
+        → option_map reported result
         ≡ first (rules.no_method (seen table visible) (option_map number_of_class class) receiver.kind (option_map number_of_class receiver.class) selector part) }
 {
     if class.is_none() && !is_object(receiver.kind) {
@@ -712,7 +712,7 @@ fn judge_argument<'a>(
     argument: &'a Expr,
 ) -> Judged
     ensures kind { result.kind ≡ rules.kind_of (seen table.now visible.now) (expr_tree argument.now) }
-    ensures fault { option_map told result.fault
+    ensures fault { option_map reported result.fault
         ≡ earlier_of (first (rules.broken (seen table.now visible.now) (expr_tree argument.now))) (first (rules.no_such wanted (rules.kind_of (seen table.now visible.now) (expr_tree argument.now)) (tree.place (expr_tree argument.now)))) }
     ensures taken { result.taken ≡ counted before (rules.taken (seen table.now visible.now) (expr_tree argument.now)) }
 {
@@ -738,25 +738,25 @@ fn judge_arguments<'a>(
 {
     let mut rest = format;
     let mut parameters = passed;
-    let mut told = Arguments {
+    let mut reported = Arguments {
         fit: true,
         fault: None,
         taken: before,
     };
     for argument in arguments {
         let wanted = first_wanted(parameters);
-        let judged = judge_argument(table, visible, told.taken, wanted, argument);
-        let (fit, behind) = take_conversion(rest, judged.kind);
-        rest = behind;
+        let judged = judge_argument(table, visible, reported.taken, wanted, argument);
+        let (fit, scope_after) = take_conversion(rest, judged.kind);
+        rest = scope_after;
         parameters = after_first(parameters);
-        told = Arguments {
-            fit: told.fit && fit,
-            fault: earlier(told.fault, judged.fault),
+        reported = Arguments {
+            fit: reported.fit && fit,
+            fault: earlier(reported.fault, judged.fault),
             taken: judged.taken,
         };
     }
     Arguments {
-        fit: told.fit && next_conversion(rest).is_none(),
-        ..told
+        fit: reported.fit && next_conversion(rest).is_none(),
+        ..reported
     }
 }

@@ -4,7 +4,7 @@ ghost use Rattle.std.specs.List.{flat_map};
 ghost use Rattle.arc_ast.specs.Tree.{head_tree, head_trees, method_tree, method_trees, interface_trees, implementation_trees};
 ghost use Rattle.arc_class.specs.Broken.{first};
 ghost use Rattle.arc_class.specs.Table.{number_of_class};
-ghost use Rattle.arc_check.specs.Fault.{told};
+ghost use Rattle.arc_check.specs.Fault.{reported};
 ghost use Rattle.arc_check.specs.Rules.{broken_head, broken_interface, broken_method, broken_implementation};
 ghost use Rattle.arc_check.specs.private.Views.{known_in};
 
@@ -18,14 +18,14 @@ use std::alloc::{AllocError, Global};
 
 /// The rule that a method breaks as it is declared.
 fn head(head: &MethodHead) -> Option<CheckFault>
-    ensures { option_map told result ≡ first (broken_head (head_tree head.now)) }
+    ensures { option_map reported result ≡ first (broken_head (head_tree head.now)) }
 {
     count_fault(head.at, head.parameters.len())
 }
 
 /// The first rule that the methods of an interface break.
 fn heads(all: &[MethodHead]) -> Option<CheckFault>
-    ensures { option_map told result ≡ first (flat_map broken_head (head_trees all.now)) }
+    ensures { option_map reported result ≡ first (flat_map broken_head (head_trees all.now)) }
 {
     let mut fault = None;
     for one in all {
@@ -36,7 +36,7 @@ fn heads(all: &[MethodHead]) -> Option<CheckFault>
 
 /// The first rule that the methods of the interfaces break.
 pub fn judge_interfaces(all: &[Interface]) -> Option<CheckFault>
-    ensures { option_map told result ≡ first (flat_map broken_interface (interface_trees all.now)) }
+    ensures { option_map reported result ≡ first (flat_map broken_interface (interface_trees all.now)) }
 {
     let mut fault = None;
     for one in all {
@@ -52,7 +52,7 @@ fn method<'a>(
     class: Option<ClassId>,
     method: &'a Method,
 ) -> Result<Option<CheckFault>, AllocError>
-    ensures { IfOk result (λ fault. option_map told fault
+    ensures { IfOk result (λ fault. option_map reported fault
         ≡ first (broken_method (known_in table.now) (option_map number_of_class class) (method_tree method.now))) }
 {
     let gives = method.head.result.kind();
@@ -74,7 +74,7 @@ fn methods<'a>(
     class: Option<ClassId>,
     all: &'a [Method],
 ) -> Result<Option<CheckFault>, AllocError>
-    ensures { IfOk result (λ fault. option_map told fault
+    ensures { IfOk result (λ fault. option_map reported fault
         ≡ first (flat_map (broken_method (known_in table.now) (option_map number_of_class class)) (method_trees all.now))) }
 {
     let mut fault = None;
@@ -90,7 +90,7 @@ pub fn judge_implementations<'a>(
     table: &ClassTable<'a>,
     all: &'a [Implementation],
 ) -> Result<Option<CheckFault>, AllocError>
-    ensures { IfOk result (λ fault. option_map told fault ≡ first (flat_map (broken_implementation (known_in table.now)) (implementation_trees all.now))) }
+    ensures { IfOk result (λ fault. option_map reported fault ≡ first (flat_map (broken_implementation (known_in table.now)) (implementation_trees all.now))) }
 {
     let mut fault = None;
     for one in all {

@@ -10,7 +10,7 @@ ghost use Rattle.arc_check.specs.private.Building.{ahead_of, function_of, functi
 ghost use Rattle.arc_check.specs.Checked as checked;
 ghost use Rattle.arc_check.specs.Resolving as resolving;
 ghost use Rattle.arc_check.specs.Resolving.{number_as, resolved_variables, resolved_stmt, resolved_stmts, resolved_body, resolved_function, resolved_method, resolved_methods};
-ghost use Rattle.arc_check.specs.Scopes.{declare, leave, behind, behind_all, with_parameters, with_variables};
+ghost use Rattle.arc_check.specs.Scopes.{declare, leave, scope_after, scope_after_all, with_parameters, with_variables};
 ghost use Rattle.arc_check.specs.private.Views.{known_in, seen};
 
 use crate::body::named_parameters;
@@ -239,7 +239,7 @@ fn scoped<'a>(
     inner: &'a Stmt,
 ) -> Result<Box<Command>, AllocError>
     ensures command { IfOk result (λ new. checked.command new.value ≡ resolved_stmt (seen table.now visible.old) (stmt_tree inner.now)) }
-    ensures scope { OnOk result (seen table.now visible.new ≡ leave (seen table.now visible.old) (behind (seen table.now visible.old) (stmt_tree inner.now))) }
+    ensures scope { OnOk result (seen table.now visible.new ≡ leave (seen table.now visible.old) (scope_after (seen table.now visible.old) (stmt_tree inner.now))) }
     ensures keeps { OnOk result (visible.new.bound.items ≡ visible.old.bound.items) }
 {
     let count = visible.bound.len();
@@ -257,8 +257,8 @@ fn block<'a>(
     statements: &'a [Stmt],
 ) -> Result<Command, AllocError>
     ensures command { IfOk result (λ new. checked.command new
-        ≡ Sequence (seen table.now visible.old).names ((behind_all (seen table.now visible.old) (stmt_trees statements.now)).names - (seen table.now visible.old).names) (resolved_stmts (seen table.now visible.old) (stmt_trees statements.now))) }
-    ensures scope { OnOk result (seen table.now visible.new ≡ leave (seen table.now visible.old) (behind_all (seen table.now visible.old) (stmt_trees statements.now))) }
+        ≡ Sequence (seen table.now visible.old).names ((scope_after_all (seen table.now visible.old) (stmt_trees statements.now)).names - (seen table.now visible.old).names) (resolved_stmts (seen table.now visible.old) (stmt_trees statements.now))) }
+    ensures scope { OnOk result (seen table.now visible.new ≡ leave (seen table.now visible.old) (scope_after_all (seen table.now visible.old) (stmt_trees statements.now))) }
     ensures keeps { OnOk result (visible.new.bound.items ≡ visible.old.bound.items) }
 {
     let count = visible.bound.len();
@@ -280,7 +280,7 @@ fn chosen_or_nothing<'a>(
 ) -> Result<Command, AllocError>
     ensures command { IfOk result (λ new. checked.command new
         ≡ Choose (resolving.number_in (resolving.resolved (seen table.now visible.old) (expr_tree condition.now))) (resolved_stmt (seen table.now visible.old) (stmt_tree then.now)) resolving.nothing) }
-    ensures scope { OnOk result (seen table.now visible.new ≡ leave (seen table.now visible.old) (behind (seen table.now visible.old) (stmt_tree then.now))) }
+    ensures scope { OnOk result (seen table.now visible.new ≡ leave (seen table.now visible.old) (scope_after (seen table.now visible.old) (stmt_tree then.now))) }
     ensures keeps { OnOk result (visible.new.bound.items ≡ visible.old.bound.items) }
 {
     let test = test(alloc, table, visible, condition)?;
@@ -301,9 +301,9 @@ fn chosen<'a>(
 ) -> Result<Command, AllocError>
     ensures command { IfOk result (λ new. checked.command new
         ≡ Choose (resolving.number_in (resolving.resolved (seen table.now visible.old) (expr_tree condition.now))) (resolved_stmt (seen table.now visible.old) (stmt_tree then.now))
-        (resolved_stmt (leave (seen table.now visible.old) (behind (seen table.now visible.old) (stmt_tree then.now))) (stmt_tree other.now))) }
+        (resolved_stmt (leave (seen table.now visible.old) (scope_after (seen table.now visible.old) (stmt_tree then.now))) (stmt_tree other.now))) }
     ensures scope { OnOk result (seen table.now visible.new
-        ≡ leave (seen table.now visible.old) (behind (leave (seen table.now visible.old) (behind (seen table.now visible.old) (stmt_tree then.now))) (stmt_tree other.now))) }
+        ≡ leave (seen table.now visible.old) (scope_after (leave (seen table.now visible.old) (scope_after (seen table.now visible.old) (stmt_tree then.now))) (stmt_tree other.now))) }
     ensures keeps { OnOk result (visible.new.bound.items ≡ visible.old.bound.items) }
 {
     let test = test(alloc, table, visible, condition)?;
@@ -323,7 +323,7 @@ fn repeated<'a>(
 ) -> Result<Command, AllocError>
     ensures command { IfOk result (λ new. checked.command new
         ≡ Repeat (resolving.number_in (resolving.resolved (seen table.now visible.old) (expr_tree condition.now))) resolving.nothing (resolved_stmt (seen table.now visible.old) (stmt_tree body.now))) }
-    ensures scope { OnOk result (seen table.now visible.new ≡ leave (seen table.now visible.old) (behind (seen table.now visible.old) (stmt_tree body.now))) }
+    ensures scope { OnOk result (seen table.now visible.new ≡ leave (seen table.now visible.old) (scope_after (seen table.now visible.old) (stmt_tree body.now))) }
     ensures keeps { OnOk result (visible.new.bound.items ≡ visible.old.bound.items) }
 {
     let test = test(alloc, table, visible, condition)?;
@@ -343,7 +343,7 @@ fn repeated_after<'a>(
 ) -> Result<Command, AllocError>
     ensures command { IfOk result (λ new. checked.command new
         ≡ RepeatAfter (resolved_stmt (seen table.now visible.old) (stmt_tree body.now)) (resolving.number_in (resolving.resolved (seen table.now visible.old) (expr_tree condition.now)))) }
-    ensures scope { OnOk result (seen table.now visible.new ≡ leave (seen table.now visible.old) (behind (seen table.now visible.old) (stmt_tree body.now))) }
+    ensures scope { OnOk result (seen table.now visible.new ≡ leave (seen table.now visible.old) (scope_after (seen table.now visible.old) (stmt_tree body.now))) }
     ensures keeps { OnOk result (visible.new.bound.items ≡ visible.old.bound.items) }
 {
     let test = test(alloc, table, visible, condition)?;
@@ -363,7 +363,7 @@ fn turns<'a>(
 ) -> Result<Command, AllocError>
     ensures command { IfOk result (λ new. checked.command new
         ≡ Repeat (resolving.tested (seen table.now visible.old) (option_map expr_tree test.now)) (resolving.stepped (seen table.now visible.old) (option_map expr_tree step.now)) (resolved_stmt (seen table.now visible.old) (stmt_tree body.now))) }
-    ensures scope { OnOk result (seen table.now visible.new ≡ leave (seen table.now visible.old) (behind (seen table.now visible.old) (stmt_tree body.now))) }
+    ensures scope { OnOk result (seen table.now visible.new ≡ leave (seen table.now visible.old) (scope_after (seen table.now visible.old) (stmt_tree body.now))) }
     ensures keeps { OnOk result (visible.new.bound.items ≡ visible.old.bound.items) }
 {
     let test = test_or_one(alloc, table, visible, test)?;
@@ -383,10 +383,10 @@ fn stepped<'a>(
     step: &'a Option<Expr>,
     body: &'a Stmt,
 ) -> Result<Command, AllocError>
-    ensures command { let s = seen table.now visible.old in let own = behind s (stmt_tree beginning.now) in
+    ensures command { let s = seen table.now visible.old in let own = scope_after s (stmt_tree beginning.now) in
         IfOk result (λ new. checked.command new ≡ resolving.with_loop s own (resolved_stmt s (stmt_tree beginning.now))
         (Repeat (resolving.tested own (option_map expr_tree test.now)) (resolving.stepped own (option_map expr_tree step.now)) (resolved_stmt own (stmt_tree body.now)))) }
-    ensures scope { let s = seen table.now visible.old in OnOk result (seen table.now visible.new ≡ leave s (behind (behind s (stmt_tree beginning.now)) (stmt_tree body.now))) }
+    ensures scope { let s = seen table.now visible.old in OnOk result (seen table.now visible.new ≡ leave s (scope_after (scope_after s (stmt_tree beginning.now)) (stmt_tree body.now))) }
     ensures keeps { OnOk result (visible.new.bound.items ≡ visible.old.bound.items) }
 {
     let count = visible.bound.len();
@@ -408,7 +408,7 @@ fn command<'a>(
     statement: &'a Stmt,
 ) -> Result<Command, AllocError>
     ensures command { IfOk result (λ new. checked.command new ≡ resolved_stmt (seen table.now visible.old) (stmt_tree statement.now)) }
-    ensures scope { OnOk result (seen table.now visible.new ≡ behind (seen table.now visible.old) (stmt_tree statement.now)) }
+    ensures scope { OnOk result (seen table.now visible.new ≡ scope_after (seen table.now visible.old) (stmt_tree statement.now)) }
     ensures keeps { OnOk result (take (length visible.old.bound.items) visible.new.bound.items ≡ visible.old.bound.items) }
 {
     match statement {
@@ -442,7 +442,7 @@ fn commands<'a>(
     statements: &'a [Stmt],
 ) -> Result<Vec<Command>, AllocError>
     ensures commands { IfOk result (λ all. checked.commands all.items ≡ resolved_stmts (seen table.now visible.old) (stmt_trees statements.now)) }
-    ensures scope { OnOk result (seen table.now visible.new ≡ behind_all (seen table.now visible.old) (stmt_trees statements.now)) }
+    ensures scope { OnOk result (seen table.now visible.new ≡ scope_after_all (seen table.now visible.old) (stmt_trees statements.now)) }
     ensures keeps { OnOk result (take (length visible.old.bound.items) visible.new.bound.items ≡ visible.old.bound.items) }
 {
     let mut all = Vec::new(alloc);

@@ -3,7 +3,7 @@ ghost use Rattle.std.specs.Prelude.{◌≡◌, option_map};
 ghost use Rattle.arc_ast.specs.Tree as tree;
 ghost use Rattle.arc_ast.specs.Tree.{expr_tree};
 ghost use Rattle.arc_class.specs.Broken.{first};
-ghost use Rattle.arc_check.specs.Fault.{told};
+ghost use Rattle.arc_check.specs.Fault.{reported};
 ghost use Rattle.arc_check.specs.Kinds as kinds;
 ghost use Rattle.arc_check.specs.Rules as rules;
 ghost use Rattle.arc_check.specs.Scopes as scopes;
@@ -180,7 +180,7 @@ pub fn binary_kind(sort: OperatorSort, a: Option<Kind>, b: Option<Kind>) -> Opti
 
 /// The rule that an expression of the kind breaks where a value is needed.
 pub fn no_value(kind: Option<Kind>, at: usize) -> Option<CheckFault>
-    ensures { option_map told result ≡ first (no_value kind at) }
+    ensures { option_map reported result ≡ first (no_value kind at) }
 {
     match kind {
         Some(Kind::Void) => Some(CheckFault::KindMismatch(at)),
@@ -190,7 +190,7 @@ pub fn no_value(kind: Option<Kind>, at: usize) -> Option<CheckFault>
 
 /// The rule that an expression of the kind breaks where a number is needed.
 pub fn no_number(kind: Option<Kind>, at: usize) -> Option<CheckFault>
-    ensures { option_map told result ≡ first (no_number kind at) }
+    ensures { option_map reported result ≡ first (no_number kind at) }
 {
     match kind {
         Some(Kind::Void) | Some(Kind::Object) => Some(CheckFault::KindMismatch(at)),
@@ -200,7 +200,7 @@ pub fn no_number(kind: Option<Kind>, at: usize) -> Option<CheckFault>
 
 /// The rule that an expression of the kind breaks where an object is needed.
 pub fn no_object(kind: Option<Kind>, at: usize) -> Option<CheckFault>
-    ensures { option_map told result ≡ first (rules.no_object kind at) }
+    ensures { option_map reported result ≡ first (rules.no_object kind at) }
 {
     match kind {
         None | Some(Kind::Object) => None,
@@ -210,7 +210,7 @@ pub fn no_object(kind: Option<Kind>, at: usize) -> Option<CheckFault>
 
 /// The rule that an expression of a kind breaks which is assigned to what holds the wanted one, or cast to it.
 pub fn no_such(wanted: Option<Kind>, given: Option<Kind>, at: usize) -> Option<CheckFault>
-    ensures { option_map told result ≡ first (rules.no_such wanted given at) }
+    ensures { option_map reported result ≡ first (rules.no_such wanted given at) }
 {
     match wanted {
         None => None,
@@ -221,7 +221,7 @@ pub fn no_such(wanted: Option<Kind>, given: Option<Kind>, at: usize) -> Option<C
 
 /// The rule that an operand of the kind breaks which has an operator before it.
 pub fn no_operand(operator: UnaryOperator, kind: Option<Kind>, at: usize) -> Option<CheckFault>
-    ensures { option_map told result ≡ first (no_operand operator kind at) }
+    ensures { option_map reported result ≡ first (no_operand operator kind at) }
 {
     match operator {
         UnaryOperator::Not => no_value(kind, at),
@@ -233,7 +233,7 @@ pub fn no_operand(operator: UnaryOperator, kind: Option<Kind>, at: usize) -> Opt
 
 /// The rule that a left operand of the kind breaks.
 pub fn no_left(sort: OperatorSort, kind: Option<Kind>, at: usize) -> Option<CheckFault>
-    ensures { option_map told result ≡ first (no_left sort kind at) }
+    ensures { option_map reported result ≡ first (no_left sort kind at) }
 {
     match sort {
         OperatorSort::Equality | OperatorSort::Logic => no_value(kind, at),
@@ -245,7 +245,7 @@ pub fn no_left(sort: OperatorSort, kind: Option<Kind>, at: usize) -> Option<Chec
 
 /// The rule that the second of two things breaks, of these kinds, that are compared.
 pub fn no_other(left: Option<Kind>, right: Option<Kind>, at: usize) -> Option<CheckFault>
-    ensures { option_map told result ≡ first (no_right OperatorSort.Equality left right at) }
+    ensures { option_map reported result ≡ first (no_right OperatorSort.Equality left right at) }
 {
     match (left, right) {
         (Some(Kind::Object), Some(Kind::Object)) => None,
@@ -261,7 +261,7 @@ pub fn no_right(
     right: Option<Kind>,
     at: usize,
 ) -> Option<CheckFault>
-    ensures { option_map told result ≡ first (no_right sort left right at) }
+    ensures { option_map reported result ≡ first (no_right sort left right at) }
 {
     match sort {
         OperatorSort::Equality => no_other(left, right, at),
@@ -274,7 +274,7 @@ pub fn no_right(
 
 /// The rule that a call of a function other than printf breaks at its name.
 pub fn call_fault(callee: Callee, at: usize, count: usize) -> Option<CheckFault>
-    ensures { option_map told result ≡ first (broken_at at (other_rule callee count)) }
+    ensures { option_map reported result ≡ first (broken_at at (other_rule callee count)) }
 {
     let wanted = match callee {
         Callee::Unknown => return Some(CheckFault::UnknownName(at)),

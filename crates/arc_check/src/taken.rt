@@ -1,7 +1,7 @@
 //! How many objects a full-expression takes.
 ghost use Rattle.std.specs.Prelude.{◌≡◌, option_map};
 ghost use Rattle.arc_class.specs.Broken.{first};
-ghost use Rattle.arc_check.specs.Fault.{told};
+ghost use Rattle.arc_check.specs.Fault.{reported};
 ghost use Rattle.arc_check.specs.private.Judging.{counted, none_counted, one_counted};
 ghost use Rattle.arc_check.specs.Rules.{at_if};
 ghost use Rattle.arc_sites.specs.Violations.{violates};
@@ -57,7 +57,7 @@ impl Taken {
 
     /// The rule that is broken where more are taken.
     pub fn fault(self) -> Option<CheckFault>
-        ensures { option_map told result ≡ first (violates 50 self.past) }
+        ensures { option_map reported result ≡ first (violates 50 self.past) }
     {
         match self.past {
             None => None,

@@ -2,7 +2,7 @@
 ghost use Rattle.std.specs.Prelude.{◌≡◌, Some, false, option_map};
 ghost use Rattle.arc_ast.specs.Tree.{expr_tree, type_tree};
 ghost use Rattle.arc_class.specs.Broken.{first};
-ghost use Rattle.arc_check.specs.Fault.{told};
+ghost use Rattle.arc_check.specs.Fault.{reported};
 ghost use Rattle.arc_check.specs.private.Judging.{JudgesWhole};
 ghost use Rattle.arc_check.specs.Rules as rules;
 ghost use Rattle.arc_check.specs.private.Views.{seen};
@@ -33,7 +33,7 @@ pub fn result_fault<'a>(
     visible: &Visible<'a>,
     expr: &'a Expr,
 ) -> Option<CheckFault>
-    ensures { option_map told result ≡ first (rules.broken_result false (seen table.now visible.now) (Some (expr_tree expr.now))) }
+    ensures { option_map reported result ≡ first (rules.broken_result false (seen table.now visible.now) (Some (expr_tree expr.now))) }
 {
     let judged = judge_whole(table, visible, expr);
     let wanted = Some(visible.result);
@@ -46,7 +46,7 @@ pub fn test_fault<'a>(
     visible: &Visible<'a>,
     expr: &'a Expr,
 ) -> Option<CheckFault>
-    ensures { option_map told result ≡ first (rules.broken_test (seen table.now visible.now) (expr_tree expr.now)) }
+    ensures { option_map reported result ≡ first (rules.broken_test (seen table.now visible.now) (expr_tree expr.now)) }
 {
     let judged = judge_whole(table, visible, expr);
     earlier(judged.fault, no_value(judged.kind, place(expr)))
@@ -59,7 +59,7 @@ pub fn initial_fault<'a>(
     type_name: &TypeName,
     expr: &'a Expr,
 ) -> Option<CheckFault>
-    ensures { option_map told result ≡ first (rules.broken_initial (seen table.now visible.now) (type_tree type_name.now) (Some (expr_tree expr.now))) }
+    ensures { option_map reported result ≡ first (rules.broken_initial (seen table.now visible.now) (type_tree type_name.now) (Some (expr_tree expr.now))) }
 {
     let judged = judge_whole(table, visible, expr);
     let wanted = Some(type_name.kind());

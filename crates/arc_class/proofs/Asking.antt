@@ -15,13 +15,13 @@ use Rattle.arc_class.specs.declared.table.Place.{Place}
 use Rattle.arc_class.specs.Classes.{result_of, is_object, built_in_result}
 use Rattle.arc_class.specs.Entries.{EntryTree, entry_tree, root_entry}
 use Rattle.arc_class.specs.Lookups.{head_at, superclass_among, superclass_of_entry, own_result_in, given_in, own_given_in, superclass_of_fields, own_field_in, field_among}
-use Rattle.arc_class.specs.Owners.{Tells, TellsMethods, TellsFields, views, view_at, has_at, own_of, owner_by}
+use Rattle.arc_class.specs.Owners.{Finds, FindsMethods, FindsFields, views, view_at, has_at, own_of, owner_by}
 use Rattle.arc_class.specs.Table.{owners_in, nearest_result_in}
-use Rattle.arc_class.proofs.Chains.{told_at}
+use Rattle.arc_class.proofs.Chains.{reported_at}
 
-methods_told : (table : ClassTable) (sign : Sign) → TellsMethods table.entries.items sign (owners_in table sign)
-methods_told table signs.Class = table.class_methods_told
-methods_told table signs.Instance = table.instance_methods_told
+methods_reported : (table : ClassTable) (sign : Sign) → FindsMethods table.entries.items sign (owners_in table sign)
+methods_reported table signs.Class = table.class_methods_reported
+methods_reported table signs.Instance = table.instance_methods_reported
 
 -- whether a class has a method of its own is the same for its kind alone and for all that it gives
 named_owner : {X Y : Type 0} (f : X → Y) (class : ℕ) (o : Option X) → option_map (λ found. class) o ≡ option_map (λ found. class) (option_map f o)
@@ -49,19 +49,19 @@ own_given names entries sign = owner_by (λ class selector. own_given_in names c
 same_owners : (names : Named Place) (entries : List Entry) (sign : Sign) → own_results entries sign ≡ own_given names entries sign
 same_owners names entries sign = fun_ext (λ class. fun_ext (λ selector. same_owner names sign selector class (slice_get entries class)))
 
-pub result_told : (table : ClassTable) (sign : Sign) (selector : List ℕ) (owners : Owners) → owners ≡ owners_in table sign → (class : ℕ) → is_some (view_at (views owners) (Some class)) ≡ true
+pub result_reported : (table : ClassTable) (sign : Sign) (selector : List ℕ) (owners : Owners) → owners ≡ owners_in table sign → (class : ℕ) → is_some (view_at (views owners) (Some class)) ≡ true
     → (found : Option ℕ) → found ≡ has_at (view_at (views owners) (Some class)) selector
     → own_of (λ c. own_given_in table.names c (slice_get table.entries.items c) sign selector) found ≡ nearest_result_in table class sign selector
-result_told table sign selector owners e class known found is =
+result_reported table sign selector owners e class known found is =
     let entries = table.entries.items in
-    let P : Owners → Type 0 = λ o. TellsMethods entries sign o in
-    let Q : (ℕ → List ℕ → Option ℕ) → Type 0 = λ own. Tells (map superclass_of_entry entries) own (views owners) in
-    told_at (map superclass_of_entry entries) (λ c name. own_given_in table.names c (slice_get entries c) sign name) (views owners) (subst Q (same_owners table.names entries sign) (subst P (sym e) (methods_told table sign))) class known selector found is
+    let P : Owners → Type 0 = λ o. FindsMethods entries sign o in
+    let Q : (ℕ → List ℕ → Option ℕ) → Type 0 = λ own. Finds (map superclass_of_entry entries) own (views owners) in
+    reported_at (map superclass_of_entry entries) (λ c name. own_given_in table.names c (slice_get entries c) sign name) (views owners) (subst Q (same_owners table.names entries sign) (subst P (sym e) (methods_reported table sign))) class known selector found is
 
-pub field_told : (classes : List ClassFields) (owners : Owners) → TellsFields classes owners → (name : List ℕ) (class : ℕ) → is_some (view_at (views owners) (Some class)) ≡ true
+pub field_reported : (classes : List ClassFields) (owners : Owners) → FindsFields classes owners → (name : List ℕ) (class : ℕ) → is_some (view_at (views owners) (Some class)) ≡ true
     → (found : Option ℕ) → found ≡ has_at (view_at (views owners) (Some class)) name → own_of (λ c. own_field_in (slice_get classes c) name) found ≡ field_among classes (Some class) name
-field_told classes owners t name class known found is =
-    told_at (map superclass_of_fields classes) (λ c name. own_field_in (slice_get classes c) name) (views owners) t class known name found is
+field_reported classes owners t name class known found is =
+    reported_at (map superclass_of_fields classes) (λ c name. own_field_in (slice_get classes c) name) (views owners) t class known name found is
 
 -- the root has no superclass
 pub root_is_top : (names : Named Place) (entries : List Entry) (rest : List EntryTree) → map (entry_tree names) entries ≡ root_entry ∷ rest → superclass_among entries 0 ≡ None

@@ -1,4 +1,4 @@
--- The maps of classes, added in turn, tell the nearest class that has a name.
+-- The maps of classes, added in turn, report the nearest class that has a name.
 use Rattle.std.proofs.Common.{◌≡◌, ℕ, zero, suc, ◌-◌, ◌<◌, ◌≤◌, ◌⊎◌, inl, inr, Bool, true, List, [], ◌∷◌, ◌++◌, length, map, Option, Some, None, option_map, is_some, slice_get, IfSome, if◌then◌else◌, refl, sym, ap, subst, ◌∙◌, true≢false, arith}
 use Rattle.std.proofs.Math.Path.{fun_ext}
 use Rattle.std.proofs.lemmas.Option.{slice_get-map, slice_get_within}
@@ -9,7 +9,7 @@ use Rattle.arc_class.specs.declared.owners.Owners.{Owners}
 use Rattle.arc_class.specs.declared.numbered.TheConstants.{LEVELS}
 use Rattle.arc_class.specs.Classes.{or_else, number_among}
 use Rattle.arc_class.specs.Numbered.{at_number, IsWithin}
-use Rattle.arc_class.specs.Owners.{names_in, at_number_of, in_map, IsMap, Keeps, Adds, view_of, views, IsOwners, joined, view_at, has_at, with_own, own_of, owner_by, Tells}
+use Rattle.arc_class.specs.Owners.{names_in, at_number_of, in_map, IsMap, Keeps, Adds, view_of, views, IsOwners, joined, view_at, has_at, with_own, own_of, owner_by, Finds}
 use Rattle.arc_class.proofs.Digits.{none_within, at_none}
 use Rattle.arc_class.proofs.Keeping.{or_none}
 
@@ -76,14 +76,14 @@ own_view old new m made passes class view a e = ap Some (fun_ext a.found) ∙ ap
 
 -- ---- from a class up
 
--- `Tells`, for any number of classes that are looked at, if it is more than the class's own number
+-- `Finds`, for any number of classes that are looked at, if it is more than the class's own number
 abbrev pub Follows : {X : Type 0} → (superclasses : List (Option ℕ)) → (own : ℕ → List ℕ → Option X) → List (Option (List ℕ → Option ℕ)) → Type 0
 Follows superclasses own all = (class : ℕ) (view : List ℕ → Option ℕ) → slice_get all class ≡ Some (Some view) → (n : ℕ) → class < n → (name : List ℕ)
     → first_that_has (λ c. own c name) (ancestry_within n superclasses (Some class)) ≡ own_of (λ c. own c name) (view name)
 
 module _ {X : Type 0} (superclasses : List (Option ℕ)) (own : ℕ → List ℕ → Option X) (all : List (Option (List ℕ → Option ℕ))) where
-  pub tells_all : length all ≤ length superclasses → Follows superclasses own all → Tells superclasses own all
-  tells_all few f class view e name =
+  pub finds_all : length all ≤ length superclasses → Follows superclasses own all → Finds superclasses own all
+  finds_all few f class view e name =
       let within : class < length all = slice_get_within all class (Some view) e in
       f class view e (length superclasses) (omega arith) name
 
@@ -189,19 +189,19 @@ first_owner {X} own (c ∷ others) = go (own c) refl (first_owner own others)
     go None e h = h
     go (Some a) e h = sym e
 
-told_nearest : {X : Type 0} (superclasses : List (Option ℕ)) (own : ℕ → List ℕ → Option X) (all : List (Option (List ℕ → Option ℕ))) → Tells superclasses (owner_by own) all
+reported_nearest : {X : Type 0} (superclasses : List (Option ℕ)) (own : ℕ → List ℕ → Option X) (all : List (Option (List ℕ → Option ℕ))) → Finds superclasses (owner_by own) all
     → (number : ℕ) (view : List ℕ → Option ℕ) → slice_get all number ≡ Some (Some view) → (name : List ℕ)
     → first_that_has (λ c. own c name) (ancestry superclasses (Some number)) ≡ own_of (λ c. own c name) (view name)
-told_nearest superclasses own all t number view e name =
+reported_nearest superclasses own all t number view e name =
     first_owner (λ c. own c name) (ancestry superclasses (Some number)) ∙ ap (own_of (λ c. own c name)) (t number view e name) ∙ owned_again (λ c. own c name) (view name)
 
-pub told_at : {X : Type 0} (superclasses : List (Option ℕ)) (own : ℕ → List ℕ → Option X) (all : List (Option (List ℕ → Option ℕ))) → Tells superclasses (owner_by own) all
+pub reported_at : {X : Type 0} (superclasses : List (Option ℕ)) (own : ℕ → List ℕ → Option X) (all : List (Option (List ℕ → Option ℕ))) → Finds superclasses (owner_by own) all
     → (number : ℕ) → is_some (view_at all (Some number)) ≡ true → (name : List ℕ) (found : Option ℕ) → found ≡ has_at (view_at all (Some number)) name
     → own_of (λ c. own c name) found ≡ first_that_has (λ c. own c name) (ancestry superclasses (Some number))
-told_at {X} superclasses own all t number known name found is = ap (own_of (λ c. own c name)) is ∙ go (slice_get all number) refl known
+reported_at {X} superclasses own all t number known name found is = ap (own_of (λ c. own c name)) is ∙ go (slice_get all number) refl known
   where
     go : (o : Option (Option (List ℕ → Option ℕ))) → slice_get all number ≡ o → is_some (joined o) ≡ true
         → own_of (λ c. own c name) (has_at (joined o) name) ≡ first_that_has (λ c. own c name) (ancestry superclasses (Some number))
     go None e h = absurd (true≢false (sym h))
     go (Some None) e h = absurd (true≢false (sym h))
-    go (Some (Some view)) e h = sym (told_nearest superclasses own all t number view e name)
+    go (Some (Some view)) e h = sym (reported_nearest superclasses own all t number view e name)

@@ -229,7 +229,7 @@ side_within levels n nodes first number e w =
     let opened : IsWithin (suc n) nodes first = subst Within e w in
     within_side n nodes (node_at nodes first) number opened.1 opened.2
 
--- the value itself, behind the last digit
+-- the value itself, after the last digit
 pub put_last : (nodes : List Node) (levels : ℕ) (first : Option ℕ) (number value : ℕ) → levels ≡ 0 → number < 2 ^ levels → Puts levels nodes nodes first number value value
 unfolding IsWithin at_number
 put_last nodes levels first number value e lt =

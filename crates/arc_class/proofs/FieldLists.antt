@@ -386,9 +386,9 @@ lists_kept u all e class = go (nat_lt class (suc (length u.interfaces))) refl
     gone n past =
         class_past u n (slice_none u.interfaces n past)
 
-    behind : (class : ℕ) → suc (length u.interfaces) ≤ class → fields u class ≡ []
-    behind zero past = refl
-    behind (suc n) past = gone n (omega (arith, past))
+    later_on : (class : ℕ) → suc (length u.interfaces) ≤ class → fields u class ≡ []
+    later_on zero past = refl
+    later_on (suc n) past = gone n (omega (arith, past))
 
     go : (b : Bool) → nat_lt class (suc (length u.interfaces)) ≡ b → list_at (slice_get all class) ≡ fields u class
     go true t =
@@ -397,4 +397,4 @@ lists_kept u all e class = go (nat_lt class (suc (length u.interfaces))) refl
     go false t =
         let past : suc (length u.interfaces) ≤ class = grind (arith, nat_tests) in
         let few : length all ≤ class = omega (arith, past, sym (length-map all list_of) ∙ ap length e ∙ counted 0 (suc (length u.interfaces))) in
-        ap list_at (slice_none all class few) ∙ sym (behind class past)
+        ap list_at (slice_none all class few) ∙ sym (later_on class past)

@@ -7,7 +7,7 @@ use Rattle.arc_ast.specs.Tree.{FunctionTree, function_tree, function_trees}
 use Rattle.arc_ast.specs.declared.tree.Function.{Function}
 use Rattle.arc_class.specs.declared.look.Seen.{Seen}
 use Rattle.arc_class.specs.declared.table.Declared.{Declared}
-use Rattle.arc_class.specs.Fault.{told}
+use Rattle.arc_class.specs.Fault.{reported}
 use Rattle.arc_class.specs.Look.{Sums, IsMore, or_number, joined, fault_with}
 use Rattle.arc_class.specs.Broken.{Broken, first, earlier_of}
 use Rattle.arc_class.specs.Classes.{bodies}
@@ -128,7 +128,7 @@ fault_by found at false = sym (earlier_of-none found)
 
 fault-more : (xs : List FunctionTree) (old : Seen) (f : FunctionTree) → Sums xs old → fault_with old.fault (at_name old.known f.name) f ≡ first (duplicates [] (xs ++ f ∷ []))
 fault-more xs old f h =
-    ap (λ o. fault_with old.fault o f) (h.knows f.name) ∙ fault_by (option_map told old.fault) f.at (is_library f.name || clashes (known xs f.name) f) ∙ ap (λ s. earlier_of s (first (duplicate xs f))) h.fault ∙ sym (first-push xs f)
+    ap (λ o. fault_with old.fault o f) (h.knows f.name) ∙ fault_by (option_map reported old.fault) f.at (is_library f.name || clashes (known xs f.name) f) ∙ ap (λ s. earlier_of s (first (duplicate xs f))) h.fault ∙ sym (first-push xs f)
 
 sums_more : (xs : List FunctionTree) (old new : Seen) (f : FunctionTree) → Sums xs old → IsMore old f new → Sums (xs ++ f ∷ []) new
 sums_more xs old new f h m = record {

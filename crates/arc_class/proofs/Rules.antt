@@ -1,4 +1,4 @@
--- What is told of methods, interfaces and implementations, and one more.
+-- What is reported of methods, interfaces and implementations, and one more.
 use Rattle.std.proofs.Common.{◌≡◌, ℕ, zero, suc, ◌+◌, ◌<◌, Bool, true, false, ◌||◌, List, [], ◌∷◌, ◌++◌, length, not, nat_lt, Option, Some, None, is_some, is_none, option_map, slice_get, if◌then◌else◌, take, drop, get_or, length-take-le, append_assoc, refl, sym, ap, ◌∙◌, arith}
 use Rattle.std.specs.List.{flat_map}
 use Rattle.std.proofs.lemmas.List.{take_more}

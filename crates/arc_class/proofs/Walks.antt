@@ -1,4 +1,4 @@
--- What is told of lists of nodes, and one more.
+-- What is reported of lists of nodes, and one more.
 use Rattle.std.proofs.Common.{◌≡◌, ℕ, ◌+◌, ◌<◌, Bool, List, ◌++◌, length, get_or, drop, Vec, Box, Global, Option, Some, option_map, sym, ap, ◌∙◌}
 use Rattle.arc_ast.specs.declared.tree.Expr as ast
 use Rattle.arc_ast.specs.declared.tree.Stmt as stmt

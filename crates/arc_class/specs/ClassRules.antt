@@ -34,17 +34,17 @@ abbrev pub differs_from : Option Kind → HeadTree → Bool
 differs_from kind h = option_map_or (λ given. not (same_kind given (result_of h))) kind false
 
 -- the selectors of the methods of the root that say what an object's class is or has (OPL, "Introspection")
-abbrev pub tells_class : List ℕ → Bool
-tells_class selector = bytes_eq selector (codes "isKindOfClass:") || (bytes_eq selector (codes "isMemberOfClass:")
+abbrev pub asks_class : List ℕ → Bool
+asks_class selector = bytes_eq selector (codes "isKindOfClass:") || (bytes_eq selector (codes "isMemberOfClass:")
     || (bytes_eq selector (codes "respondsToSelector:") || bytes_eq selector (codes "conformsToProtocol:")))
 
 -- these give a BOOL; no source can send them yet
-abbrev pub told_kind : Sign → List ℕ → Option Kind
-told_kind sign selector = if same_sign sign signs.Instance && tells_class selector then Some k.Bool else None
+abbrev pub asked_kind : Sign → List ℕ → Option Kind
+asked_kind sign selector = if same_sign sign signs.Instance && asks_class selector then Some k.Bool else None
 
 -- what the methods of the root give, which are built in
 abbrev pub built_in_kind : Sign → List ℕ → Option Kind
-built_in_kind sign selector = or_else (built_in_result sign selector) (told_kind sign selector)
+built_in_kind sign selector = or_else (built_in_result sign selector) (asked_kind sign selector)
 
 -- 24 SelectorKinds: a method whose result or one of whose parameters is of another kind than that of an earlier method of its sign with its selector, those of
 -- the root being built in, at its `+` or `-` (this project's own choice)
@@ -59,7 +59,7 @@ abbrev pub is_class_hook : List ℕ → Bool
 is_class_hook selector = bytes_eq selector (codes "load") || (bytes_eq selector (codes "initialize") || bytes_eq selector (codes "alloc"))
 
 abbrev pub is_hook_of : Sign → List ℕ → Bool
-is_hook_of sign selector = if same_sign sign signs.Class then is_class_hook selector else tells_class selector
+is_hook_of sign selector = if same_sign sign signs.Class then is_class_hook selector else asks_class selector
 
 abbrev pub is_hook : HeadTree → Bool
 is_hook h = is_hook_of h.sign h.selector || bytes_eq h.selector (codes "class")

@@ -6,10 +6,10 @@ use Rattle.arc_class.specs.Broken.{Broken, first}
 use Rattle.arc_fault.specs.Class.{report}
 
 -- the broken rule that a fault reports
-abbrev pub told : ClassFault → Broken
-told f = record { at = (report f).at; number = (report f).number }
+abbrev pub reported : ClassFault → Broken
+reported f = record { at = (report f).at; number = (report f).number }
 
 -- When each fault is answered: it reports the first of all broken rules; want of memory may come at any source.
 abbrev pub Refuses : List Broken → ClassFault → Type 0
 Refuses all f.Memory = Unit {0}
-Refuses all fault = first all ≡ Some (told fault)
+Refuses all fault = first all ≡ Some (reported fault)

@@ -8,7 +8,7 @@ use Rattle.arc_class.specs.declared.look.Seen.{Seen}
 use Rattle.arc_class.specs.declared.table.Declared.{Declared}
 use Rattle.arc_class.specs.Broken.{Broken, first, earlier_of}
 use Rattle.arc_class.specs.Classes.{bodies}
-use Rattle.arc_class.specs.Fault.{told}
+use Rattle.arc_class.specs.Fault.{reported}
 use Rattle.arc_class.specs.Functions.{is_library, clashes, duplicates}
 use Rattle.arc_class.specs.Names.{has_body, signature, known, number_of, is_main}
 use Rattle.arc_class.specs.Lookups.{at_name}
@@ -18,7 +18,7 @@ pub record Sums (functions : List FunctionTree) (seen : Seen) : Type 0 where
   pub knows : (name : List ℕ) → at_name seen.known name ≡ known functions name
   pub counts : seen.bodies ≡ bodies functions
   pub main : seen.main ≡ number_of is_main functions
-  pub fault : option_map told seen.fault ≡ first (duplicates [] functions)
+  pub fault : option_map reported seen.fault ≡ first (duplicates [] functions)
 
 -- a number that was found, or else that of a function which passes
 abbrev pub or_number : Option ℕ → Bool → ℕ → Option ℕ
@@ -33,7 +33,7 @@ joined (Some d) number f = record { signature = d.signature; body = or_number d.
 -- the fault that is reported, once a function is seen too
 abbrev pub fault_with : Option ClassFault → Option Declared → FunctionTree → Option Broken
 fault_with fault earlier f =
-    if is_library f.name || clashes earlier f then earlier_of (option_map told fault) (Some (record { at = f.at; number = 21 })) else option_map told fault
+    if is_library f.name || clashes earlier f then earlier_of (option_map reported fault) (Some (record { at = f.at; number = 21 })) else option_map reported fault
 
 -- which function a program begins with, once a function is seen too
 abbrev pub main_with : Option ℕ → ℕ → FunctionTree → Option ℕ
@@ -44,4 +44,4 @@ pub record IsMore (old : Seen) (f : FunctionTree) (new : Seen) : Type 0 where
   pub knows : (name : List ℕ) → at_name new.known name ≡ update bytes_eq (at_name old.known) f.name (Some (joined (at_name old.known f.name) old.bodies f)) name
   pub bodies : new.bodies ≡ (if has_body f then suc old.bodies else old.bodies)
   pub main : new.main ≡ main_with old.main old.bodies f
-  pub fault : option_map told new.fault ≡ fault_with old.fault (at_name old.known f.name) f
+  pub fault : option_map reported new.fault ≡ fault_with old.fault (at_name old.known f.name) f

@@ -92,8 +92,8 @@ owner_by own class name = option_map (λ found. class) (own class name)
 
 -- Where a class's map is known, it says which class has the nearest of a name. A map may name a class that has nothing of the name, as those of methods name
 -- the root for all selectors: so what the named class has is asked for (`own_of`).
-abbrev pub Tells : {X : Type 0} → (superclasses : List (Option ℕ)) → (own : ℕ → List ℕ → Option X) → List (Option (List ℕ → Option ℕ)) → Type 0
-Tells superclasses own all = (class : ℕ) (view : List ℕ → Option ℕ) → slice_get all class ≡ Some (Some view) → (name : List ℕ)
+abbrev pub Finds : {X : Type 0} → (superclasses : List (Option ℕ)) → (own : ℕ → List ℕ → Option X) → List (Option (List ℕ → Option ℕ)) → Type 0
+Finds superclasses own all = (class : ℕ) (view : List ℕ → Option ℕ) → slice_get all class ≡ Some (Some view) → (name : List ℕ)
     → first_that_has (λ c. own c name) (ancestry superclasses (Some class)) ≡ own_of (λ c. own c name) (view name)
 
 -- what is known of a class after others by its methods of a sign; the root, which is the first, has all
@@ -102,9 +102,9 @@ entry_view zero e sign all = Some (λ name. Some 0)
 entry_view (suc n) e sign all = with_own (λ name. is_some (head_at e.methods sign name)) (suc n) (view_at all e.superclass)
 
 -- The owners of the methods of a sign, and of the fields: which class has the nearest, by what is known of each class.
-abbrev pub TellsMethods : List Entry → Sign → Owners → Type 0
-TellsMethods entries sign owners =
-    Tells (map superclass_of_entry entries) (owner_by (λ class selector. own_result_in class (slice_get entries class) sign selector)) (views owners)
+abbrev pub FindsMethods : List Entry → Sign → Owners → Type 0
+FindsMethods entries sign owners =
+    Finds (map superclass_of_entry entries) (owner_by (λ class selector. own_result_in class (slice_get entries class) sign selector)) (views owners)
 
-abbrev pub TellsFields : List ClassFields → Owners → Type 0
-TellsFields classes owners = Tells (map superclass_of_fields classes) (owner_by (λ class name. own_field_in (slice_get classes class) name)) (views owners)
+abbrev pub FindsFields : List ClassFields → Owners → Type 0
+FindsFields classes owners = Finds (map superclass_of_fields classes) (owner_by (λ class name. own_field_in (slice_get classes class) name)) (views owners)

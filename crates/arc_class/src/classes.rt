@@ -7,10 +7,10 @@ ghost use Rattle.arc_class.specs.ClassRules.{broken_names, broken_members, broke
 ghost use Rattle.arc_class.specs.Classes as classes;
 ghost use Rattle.arc_class.specs.Classes.{interface_number};
 ghost use Rattle.arc_class.specs.Entries.{fields_tree, all_class_fields};
-ghost use Rattle.arc_class.specs.Fault.{told};
+ghost use Rattle.arc_class.specs.Fault.{reported};
 ghost use Rattle.arc_class.specs.Globals.{variable_before};
 ghost use Rattle.arc_class.specs.Kept.{Knows, place_before};
-ghost use Rattle.arc_class.specs.Owners.{TellsFields};
+ghost use Rattle.arc_class.specs.Owners.{FindsFields};
 ghost use Rattle.arc_class.specs.Walk.{holds};
 
 use crate::fault::fault_if;
@@ -100,7 +100,7 @@ impl<'a> Source<'a> {
     /// The first function that clashes with a class, a global variable, or the first function of its name.
     fn functions_fault(&self) -> Option<ClassFault>
         requires { Knows (unit_tree self.now.unit.now) self.now }
-        ensures { option_map told result ≡ first (clashing_functions (unit_tree self.now.unit.now).interfaces (unit_tree self.now.unit.now).globals (unit_tree self.now.unit.now).functions (unit_tree self.now.unit.now).functions) }
+        ensures { option_map reported result ≡ first (clashing_functions (unit_tree self.now.unit.now).interfaces (unit_tree self.now.unit.now).globals (unit_tree self.now.unit.now).functions (unit_tree self.now.unit.now).functions) }
     {
         let mut fault = None;
         for function in &self.unit.functions {
@@ -126,7 +126,7 @@ impl<'a> Source<'a> {
     /// The first rule that a global variable breaks.
     fn global_fault(&self, global: &'a tree::Global) -> Option<ClassFault>
         requires { Knows (unit_tree self.now.unit.now) self.now }
-        ensures { option_map told result ≡ first (broken_global (unit_tree self.now.unit.now) (global_tree global.now)) }
+        ensures { option_map reported result ≡ first (broken_global (unit_tree self.now.unit.now) (global_tree global.now)) }
     {
         let again = fault_if(self.is_again(global), ClassFault::Duplicate(global.at));
         earlier(again, missing_class(self, &global.type_name))
@@ -135,7 +135,7 @@ impl<'a> Source<'a> {
     /// The first rule that the global variables break.
     fn globals_fault(&self) -> Option<ClassFault>
         requires { Knows (unit_tree self.now.unit.now) self.now }
-        ensures { option_map told result ≡ first (broken_globals (unit_tree self.now.unit.now) (unit_tree self.now.unit.now).globals) }
+        ensures { option_map reported result ≡ first (broken_globals (unit_tree self.now.unit.now) (unit_tree self.now.unit.now).globals) }
     {
         let mut fault = None;
         for global in &self.unit.globals {
@@ -147,7 +147,7 @@ impl<'a> Source<'a> {
     /// The first class that a function's parameters name and that the source doesn't have.
     fn signatures_fault(&self) -> Option<ClassFault>
         requires { Knows (unit_tree self.now.unit.now) self.now }
-        ensures { option_map told result ≡ first (broken_signatures (unit_tree self.now.unit.now) (unit_tree self.now.unit.now).functions) }
+        ensures { option_map reported result ≡ first (broken_signatures (unit_tree self.now.unit.now) (unit_tree self.now.unit.now).functions) }
     {
         let mut fault = None;
         for function in &self.unit.functions {
@@ -176,7 +176,7 @@ impl<'a> Source<'a> {
     fn names_fault(&self, before: &Scope<'a>, interface: &'a Interface) -> Option<ClassFault>
         requires { Knows (unit_tree self.now.unit.now) self.now }
         ensures { (earlier : List InterfaceTree) → ((name : List ℕ) → holds before.now name ≡ is_some (interface_number earlier name))
-            → option_map told result ≡ first (broken_names (unit_tree self.now.unit.now) earlier (interface_tree interface.now)) }
+            → option_map reported result ≡ first (broken_names (unit_tree self.now.unit.now) earlier (interface_tree interface.now)) }
     {
         let taken = self.is_taken(before, interface);
         let implemented = at_name(&self.implemented, &interface.name).is_some();
@@ -200,15 +200,15 @@ impl<'a> Source<'a> {
     ) -> Result<Option<ClassFault>, AllocError>
         requires knows { Knows (unit_tree self.now.unit.now) self.now }
         requires fields { map fields_tree fields.now ≡ all_class_fields (unit_tree self.now.unit.now) }
-        requires owners { TellsFields fields.now owners.now }
-        ensures { IfOk result (λ fault. option_map told fault ≡ first (broken_own_fields (unit_tree self.now.unit.now) class (interface_tree interface.now))) }
+        requires owners { FindsFields fields.now owners.now }
+        ensures { IfOk result (λ fault. option_map reported fault ≡ first (broken_own_fields (unit_tree self.now.unit.now) class (interface_tree interface.now))) }
     {
         let own = self.own_fields(class, interface);
         let places = field_places(alloc, &own)?;
         let above = class_number(&self.names, &interface.superclass);
         let before = fields_fault(fields, owners, above, &places, own.earlier);
-        let behind = fields_fault(fields, owners, above, &places, own.later);
-        Ok(earlier(before, behind))
+        let later_on = fields_fault(fields, owners, above, &places, own.later);
+        Ok(earlier(before, later_on))
     }
 
     /// The first rule that the members of an interface break, whose class has this number.
@@ -222,9 +222,9 @@ impl<'a> Source<'a> {
     ) -> Result<Option<ClassFault>, AllocError>
         requires knows { Knows (unit_tree self.now.unit.now) self.now }
         requires fields { map fields_tree fields.now ≡ all_class_fields (unit_tree self.now.unit.now) }
-        requires owners { TellsFields fields.now owners.now }
+        requires owners { FindsFields fields.now owners.now }
         requires there { class ≤ length (unit_tree self.now.unit.now).interfaces }
-        ensures { IfOk result (λ fault. option_map told fault ≡ first (broken_members (unit_tree self.now.unit.now) class (interface_tree interface.now))) }
+        ensures { IfOk result (λ fault. option_map reported fault ≡ first (broken_members (unit_tree self.now.unit.now) class (interface_tree interface.now))) }
     {
         let many = counted_among(fields, Some(class)).is_above(MOST_FIELDS);
         let many = fault_if(many, ClassFault::TooManyFields(interface.at));
@@ -243,8 +243,8 @@ impl<'a> Source<'a> {
     ) -> Result<Option<ClassFault>, AllocError>
         requires knows { Knows (unit_tree self.now.unit.now) self.now }
         requires fields { map fields_tree fields.now ≡ all_class_fields (unit_tree self.now.unit.now) }
-        requires owners { TellsFields fields.now owners.now }
-        ensures { IfOk result (λ fault. option_map told fault ≡ first (broken_interfaces (unit_tree self.now.unit.now) [] (unit_tree self.now.unit.now).interfaces)) }
+        requires owners { FindsFields fields.now owners.now }
+        ensures { IfOk result (λ fault. option_map reported fault ≡ first (broken_interfaces (unit_tree self.now.unit.now) [] (unit_tree self.now.unit.now).interfaces)) }
     {
         let mut before = Scope::with_room(alloc, self.unit.interfaces.len())?;
         let mut fault = None;
@@ -267,7 +267,7 @@ impl<'a> Source<'a> {
     ) -> Option<ClassFault>
         requires { Knows (unit_tree self.now.unit.now) self.now }
         ensures { (earlier : List ImplementationTree) → ((name : List ℕ) → holds before.now name ≡ rules.is_implemented earlier name)
-            → option_map told result ≡ first (broken_own_names (unit_tree self.now.unit.now) earlier (implementation_tree implementation.now)) }
+            → option_map reported result ≡ first (broken_own_names (unit_tree self.now.unit.now) earlier (implementation_tree implementation.now)) }
     {
         let again = is_known(before, &implementation.name);
         let known = class_number(&self.names, &implementation.name).is_some();
@@ -286,7 +286,7 @@ impl<'a> Source<'a> {
     ) -> Result<Option<ClassFault>, AllocError>
         requires { Knows (unit_tree self.now.unit.now) self.now }
         ensures { (earlier : List ImplementationTree) → ((name : List ℕ) → holds before.now name ≡ rules.is_implemented earlier name)
-            → IfOk result (λ fault. option_map told fault ≡ first (broken_implementation (unit_tree self.now.unit.now) earlier (implementation_tree implementation.now))) }
+            → IfOk result (λ fault. option_map reported fault ≡ first (broken_implementation (unit_tree self.now.unit.now) earlier (implementation_tree implementation.now))) }
     {
         let names = self.own_names_fault(before, implementation);
         let types = field_types_fault(self, &implementation.fields);
@@ -297,7 +297,7 @@ impl<'a> Source<'a> {
     /// The first rule that the implementations break.
     fn implementations_fault(&self, alloc: Global) -> Result<Option<ClassFault>, AllocError>
         requires { Knows (unit_tree self.now.unit.now) self.now }
-        ensures { IfOk result (λ fault. option_map told fault
+        ensures { IfOk result (λ fault. option_map reported fault
             ≡ first (broken_implementations (unit_tree self.now.unit.now) [] (unit_tree self.now.unit.now).implementations)) }
     {
         let mut before = Scope::with_room(alloc, self.unit.implementations.len())?;
@@ -319,8 +319,8 @@ impl<'a> Source<'a> {
     ) -> Result<Option<ClassFault>, AllocError>
         requires knows { Knows (unit_tree self.now.unit.now) self.now }
         requires fields { map fields_tree fields.now ≡ all_class_fields (unit_tree self.now.unit.now) }
-        requires owners { TellsFields fields.now owners.now }
-        ensures { IfOk result (λ fault. option_map told fault ≡ first (clashing_functions (unit_tree self.now.unit.now).interfaces (unit_tree self.now.unit.now).globals (unit_tree self.now.unit.now).functions (unit_tree self.now.unit.now).functions
+        requires owners { FindsFields fields.now owners.now }
+        ensures { IfOk result (λ fault. option_map reported fault ≡ first (clashing_functions (unit_tree self.now.unit.now).interfaces (unit_tree self.now.unit.now).globals (unit_tree self.now.unit.now).functions (unit_tree self.now.unit.now).functions
             ++ (broken_signatures (unit_tree self.now.unit.now) (unit_tree self.now.unit.now).functions
             ++ (broken_globals (unit_tree self.now.unit.now) (unit_tree self.now.unit.now).globals
             ++ (broken_interfaces (unit_tree self.now.unit.now) [] (unit_tree self.now.unit.now).interfaces

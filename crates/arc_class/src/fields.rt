@@ -8,12 +8,12 @@ ghost use Rattle.arc_class.specs.ClassRules as rules;
 ghost use Rattle.arc_class.specs.ClassRules.{broken_field, broken_fields, broken_pair};
 ghost use Rattle.arc_fault.specs.declared.class.ClassFault.TheVariants.{Memory};
 ghost use Rattle.arc_class.specs.Entries.{own_trees, fields_tree, root_fields, all_class_fields, class_fields_with, counted_among, inherited_place};
-ghost use Rattle.arc_class.specs.Fault.{told};
+ghost use Rattle.arc_class.specs.Fault.{reported};
 ghost use Rattle.arc_class.specs.Fields as specs;
 ghost use Rattle.arc_class.specs.Fields.{numbered, field_after, written_kinds, held_by, owned, fields_declared, all_fields_from};
 ghost use Rattle.arc_class.specs.Kept.{Knows};
 ghost use Rattle.arc_class.specs.Lookups.{at_name, class_number_in, own_field_in, own_place_in, field_among, place_among, field_tree, list_of, list_among, number_of_class, least_of};
-ghost use Rattle.arc_class.specs.Owners.{TellsFields};
+ghost use Rattle.arc_class.specs.Owners.{FindsFields};
 ghost use Rattle.arc_class.specs.Sorts.{with_all};
 
 use crate::by_name::ByName;
@@ -175,7 +175,7 @@ pub fn field_of<'a>(
     class: Option<usize>,
     name: &'a [u8],
 ) -> Option<FoundField>
-    requires { TellsFields classes.now owners.now }
+    requires { FindsFields classes.now owners.now }
     ensures { result ≡ field_among classes.now class name.now }
 {
     let Some(number) = class else {
@@ -263,7 +263,7 @@ fn inherited_place<'a>(
     above: Option<usize>,
     name: &'a [u8],
 ) -> Option<usize>
-    requires { TellsFields classes.now owners.now }
+    requires { FindsFields classes.now owners.now }
     ensures { (u : UnitTree) → map fields_tree classes.now ≡ all_class_fields u → result ≡ inherited_place u above name.now }
 {
     if field_of(classes, owners, above, name).is_none() {
@@ -274,7 +274,7 @@ fn inherited_place<'a>(
 
 /// The fault of a field at the place whose name has this other place too.
 fn pair_fault(place: Option<usize>, at: usize) -> Option<ClassFault>
-    ensures { option_map told result ≡ first (broken_pair place at) }
+    ensures { option_map reported result ≡ first (broken_pair place at) }
 {
     match place {
         None => None,
@@ -292,10 +292,10 @@ fn field_fault<'a>(
     places: &FieldPlaces<'a>,
     field: &'a tree::Field,
 ) -> Option<ClassFault>
-    requires { TellsFields classes.now owners.now }
+    requires { FindsFields classes.now owners.now }
     ensures { (u : UnitTree) (all : List FieldTree) → map fields_tree classes.now ≡ all_class_fields u
         → ((name : List ℕ) → at_name places.now name ≡ rules.field_place name all)
-        → option_map told result ≡ first (broken_field u above all field.now.at field.now.name.items) }
+        → option_map reported result ≡ first (broken_field u above all field.now.at field.now.name.items) }
 {
     let stands = is_earlier(at_name(places, &field.name), field.at);
     let again = fault_if(stands, ClassFault::Duplicate(field.at));
@@ -312,10 +312,10 @@ pub fn fields_fault<'a>(
     places: &FieldPlaces<'a>,
     fields: &'a [tree::Field],
 ) -> Option<ClassFault>
-    requires { TellsFields classes.now owners.now }
+    requires { FindsFields classes.now owners.now }
     ensures { (u : UnitTree) (all : List FieldTree) → map fields_tree classes.now ≡ all_class_fields u
         → ((name : List ℕ) → at_name places.now name ≡ rules.field_place name all)
-        → option_map told result ≡ first (broken_fields u above all (field_trees fields.now)) }
+        → option_map reported result ≡ first (broken_fields u above all (field_trees fields.now)) }
 {
     let mut fault = None;
     for field in fields {

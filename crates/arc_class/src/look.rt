@@ -3,7 +3,7 @@ ghost use Rattle.std.specs.Prelude.{◌≡◌, ◌<◌, suc, option_map, if◌th
 ghost use Rattle.arc_ast.specs.declared.tree.Kind.{Kind};
 ghost use Rattle.arc_ast.specs.Tree.{function_tree, function_trees, parameter_trees, parameters_tree};
 ghost use Rattle.arc_sites.specs.Sites.{named_parameters};
-ghost use Rattle.arc_class.specs.Fault.{told};
+ghost use Rattle.arc_class.specs.Fault.{reported};
 ghost use Rattle.arc_class.specs.Functions as rules;
 ghost use Rattle.arc_class.specs.Look.{Sums, IsMore, joined, fault_with, main_with};
 ghost use Rattle.arc_class.specs.Names as names;
@@ -171,7 +171,7 @@ fn bodies_with(bodies: usize, function: &Function) -> usize
 impl<'a> Seen<'a> {
     /// The fault, once the function is seen too.
     fn fault_with(&self, known: Option<Declared>, function: &Function) -> Option<ClassFault>
-        ensures { option_map told result ≡ fault_with self.now.fault known (function_tree function.now) }
+        ensures { option_map reported result ≡ fault_with self.now.fault known (function_tree function.now) }
     {
         if is_library(&function.name) || clashes(known, function) {
             earlier(self.fault, Some(ClassFault::Duplicate(function.at)))

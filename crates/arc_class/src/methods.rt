@@ -6,7 +6,7 @@ ghost use Rattle.arc_class.specs.Broken.{first};
 ghost use Rattle.arc_class.specs.ClassRules as rules;
 ghost use Rattle.arc_class.specs.ClassRules.{broken_head, broken_method, broken_methods};
 ghost use Rattle.arc_class.specs.Classes.{first_head};
-ghost use Rattle.arc_class.specs.Fault.{told};
+ghost use Rattle.arc_class.specs.Fault.{reported};
 ghost use Rattle.arc_class.specs.Kept.{head_in, Knows};
 
 use crate::fault::fault_if;
@@ -30,8 +30,8 @@ fn is_class_hook(selector: &[u8]) -> bool
 }
 
 /// Whether a method of the root with the selector says what an object's class is or has.
-fn tells_class(selector: &[u8]) -> bool
-    ensures { result ≡ rules.tells_class selector.now }
+fn asks_class(selector: &[u8]) -> bool
+    ensures { result ≡ rules.asks_class selector.now }
 {
     selector == b"isKindOfClass:".as_slice()
         || selector == b"isMemberOfClass:".as_slice()
@@ -40,13 +40,13 @@ fn tells_class(selector: &[u8]) -> bool
 }
 
 /// The kind of what a method of the root gives that says what an object's class is or has.
-fn told_kind(sign: Sign, selector: &[u8]) -> Option<Kind>
-    ensures { result ≡ rules.told_kind sign selector.now }
+fn asked_kind(sign: Sign, selector: &[u8]) -> Option<Kind>
+    ensures { result ≡ rules.asked_kind sign selector.now }
 {
     match sign {
         Sign::Class => None,
         Sign::Instance => {
-            if tells_class(selector) {
+            if asks_class(selector) {
                 Some(Kind::Bool)
             } else {
                 None
@@ -61,7 +61,7 @@ fn built_in_kind(sign: Sign, selector: &[u8]) -> Option<Kind>
 {
     match built_in_result(sign, selector) {
         Some(kind) => Some(kind),
-        None => told_kind(sign, selector),
+        None => asked_kind(sign, selector),
     }
 }
 
@@ -71,7 +71,7 @@ fn is_hook_of(sign: Sign, selector: &[u8]) -> bool
 {
     match sign {
         Sign::Class => is_class_hook(selector),
-        Sign::Instance => tells_class(selector),
+        Sign::Instance => asks_class(selector),
     }
 }
 
@@ -125,7 +125,7 @@ impl<'a> Source<'a> {
     /// The first rule that a method breaks as it is declared.
     fn head_fault(&self, head: &'a MethodHead) -> Option<ClassFault>
         requires { Knows (unit_tree self.now.unit.now) self.now }
-        ensures { option_map told result ≡ first (broken_head (unit_tree self.now.unit.now) (head_tree head.now)) }
+        ensures { option_map reported result ≡ first (broken_head (unit_tree self.now.unit.now) (head_tree head.now)) }
     {
         let kind = fault_if(self.changes_kind(head), ClassFault::SelectorKinds(head.at));
         let hook = fault_if(is_hook(head), ClassFault::HookMethod(head.at));
@@ -137,7 +137,7 @@ impl<'a> Source<'a> {
     /// The first rule that an interface's methods break.
     pub fn heads_fault(&self, heads: &'a [MethodHead]) -> Option<ClassFault>
         requires { Knows (unit_tree self.now.unit.now) self.now }
-        ensures { option_map told result ≡ first (flat_map (broken_head (unit_tree self.now.unit.now)) (head_trees heads.now)) }
+        ensures { option_map reported result ≡ first (flat_map (broken_head (unit_tree self.now.unit.now)) (head_trees heads.now)) }
     {
         let mut fault = None;
         for head in heads {
@@ -150,7 +150,7 @@ impl<'a> Source<'a> {
     fn method_fault(&self, before: &Heads<'a>, head: &'a MethodHead) -> Option<ClassFault>
         requires { Knows (unit_tree self.now.unit.now) self.now }
         ensures { (earlier : List HeadTree) → ((sign : Sign) (selector : List ℕ) → head_in before.now sign selector ≡ first_head sign selector earlier)
-            → option_map told result ≡ first (broken_method (unit_tree self.now.unit.now) earlier (head_tree head.now)) }
+            → option_map reported result ≡ first (broken_method (unit_tree self.now.unit.now) earlier (head_tree head.now)) }
     {
         let stands = before.get(head.sign, &head.selector).is_some();
         let again = fault_if(stands, ClassFault::Duplicate(head.at));
@@ -164,7 +164,7 @@ impl<'a> Source<'a> {
         methods: &'a [Method],
     ) -> Result<Option<ClassFault>, AllocError>
         requires { Knows (unit_tree self.now.unit.now) self.now }
-        ensures { IfOk result (λ fault. option_map told fault
+        ensures { IfOk result (λ fault. option_map reported fault
             ≡ first (broken_methods (unit_tree self.now.unit.now) [] (method_trees methods.now))) }
     {
         let mut before = Heads::new(alloc);

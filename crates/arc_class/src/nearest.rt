@@ -2,7 +2,7 @@
 ghost use Rattle.std.specs.Prelude.{◌≡◌, ◌++◌, ◌∷◌, [], None, length, IfOk, IfErr, OnOk};
 ghost use Rattle.arc_fault.specs.declared.class.ClassFault.TheVariants.{Memory};
 ghost use Rattle.arc_class.specs.Lookups.{superclass_among};
-ghost use Rattle.arc_class.specs.Owners.{IsOwners, views, entry_view, TellsMethods, TellsFields};
+ghost use Rattle.arc_class.specs.Owners.{IsOwners, views, entry_view, FindsMethods, FindsFields};
 
 use crate::fields::ClassFields;
 use crate::owners::Owners;
@@ -40,7 +40,7 @@ pub fn method_owners<'a>(
     sign: Sign,
 ) -> Result<Owners<'a>, ClassFault>
     requires { superclass_among entries.now 0 ≡ None }
-    ensures tells { IfOk result (λ owners. TellsMethods entries.now sign owners) }
+    ensures finds { IfOk result (λ owners. FindsMethods entries.now sign owners) }
     ensures refused { IfErr result (λ fault. fault ≡ Memory) }
 {
     let mut owners = Owners::new(alloc);
@@ -56,7 +56,7 @@ pub fn field_owners<'a>(
     alloc: Global,
     classes: &[ClassFields<'a>],
 ) -> Result<Owners<'a>, ClassFault>
-    ensures tells { IfOk result (λ owners. TellsFields classes.now owners) }
+    ensures finds { IfOk result (λ owners. FindsFields classes.now owners) }
     ensures refused { IfErr result (λ fault. fault ≡ Memory) }
 {
     let mut owners = Owners::new(alloc);

@@ -7,14 +7,14 @@ ghost use Rattle.arc_class.specs.Classes.{is_root};
 ghost use Rattle.arc_class.specs.ClassRules.{broken};
 ghost use Rattle.arc_fault.specs.declared.class.ClassFault.TheVariants.{Memory};
 ghost use Rattle.arc_class.specs.Entries.{fields_tree, all_class_fields};
-ghost use Rattle.arc_class.specs.Fault.{Refuses, told};
+ghost use Rattle.arc_class.specs.Fault.{Refuses, reported};
 ghost use Rattle.arc_class.specs.Functions.{missing_main};
 ghost use Rattle.arc_class.specs.Kept.{Knows};
 ghost use Rattle.arc_class.specs.Names.{parameter_kinds, number_of, is_main};
 ghost use Rattle.arc_ast.specs.declared.tree.Sign.TheVariants as signs;
 ghost use Rattle.arc_class.specs.Classes.{or_else};
 ghost use Rattle.arc_class.specs.Lookups.{head_at, at_name, class_number_in, type_class_in, result_class_in, given_in, own_given_in, result_at, given_among, field_tree, items_at, ends_object, nearest_dealloc, number_of_class, number_of_selector, number_of_method};
-ghost use Rattle.arc_class.specs.Owners.{TellsMethods, TellsFields};
+ghost use Rattle.arc_class.specs.Owners.{FindsMethods, FindsFields};
 ghost use Rattle.std.proofs.Props.{props};
 
 use crate::building::{Parts, Selectors};
@@ -127,7 +127,7 @@ fn result_class<'a>(names: &Names<'a>, written: &'a ResultType) -> Option<ClassI
 
 /// The fault of a source in which no function that a program can begin with has a body.
 fn missing_main(main: Option<usize>) -> Option<ClassFault>
-    ensures { option_map told result ≡ first (missing_main main) }
+    ensures { option_map reported result ≡ first (missing_main main) }
 {
     match main {
         None => Some(ClassFault::NoMain),
@@ -355,9 +355,9 @@ pub struct ClassTable<'a> {
     /// The classes as a running program knows them.
     pub classes: Vec<Class>,
     built_in: BuiltIn,
-    ghost class_methods_told: { TellsMethods entries.items signs.Class class_methods } by { Prim.hlevel props },
-    ghost instance_methods_told: { TellsMethods entries.items signs.Instance instance_methods } by { Prim.hlevel props },
-    ghost fields_told: { TellsFields named_fields.items field_owners } by { Prim.hlevel props },
+    ghost class_methods_reported: { FindsMethods entries.items signs.Class class_methods } by { Prim.hlevel props },
+    ghost instance_methods_reported: { FindsMethods entries.items signs.Instance instance_methods } by { Prim.hlevel props },
+    ghost fields_reported: { FindsFields named_fields.items field_owners } by { Prim.hlevel props },
 }
 
 impl<'a> ClassTable<'a> {
@@ -610,7 +610,7 @@ impl<'a> ClassTable<'a> {
     ) -> Result<ClassTable<'a>, ClassFault>
         requires knows { Knows (unit_tree source.unit.now) source }
         requires fields { map fields_tree named_fields.items ≡ all_class_fields (unit_tree source.unit.now) }
-        requires owners { TellsFields named_fields.items field_owners }
+        requires owners { FindsFields named_fields.items field_owners }
         requires main { number_of is_main (unit_tree source.unit.now).functions ≡ Some main }
         ensures table { IfOk result (λ table. IsTableOf (unit_tree source.entry.unit.now) table) }
         ensures refused { IfErr result (λ fault. fault ≡ Memory) }

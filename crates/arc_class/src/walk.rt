@@ -4,7 +4,7 @@ ghost use Rattle.arc_ast.specs.Tree.{type_tree, expr_tree, expr_trees, variable_
 ghost use Rattle.arc_sites.specs.Sites as sites;
 ghost use Rattle.arc_class.specs.Broken.{broken_if, first};
 ghost use Rattle.arc_class.specs.Walk.{broken_type, broken_expr, broken_exprs, broken_maybe, broken_variables, broken_stmt, broken_stmts, broken_parameters, broken_function, broken_inside, broken_methods, broken_walked, no_name, and_name, names_with, names_after, names_taken, missing_in, holds};
-ghost use Rattle.arc_class.specs.Fault.{told};
+ghost use Rattle.arc_class.specs.Fault.{reported};
 
 use crate::by_name::ByName;
 use crate::fault::fault_if;
@@ -33,7 +33,7 @@ fn lacks_body<'a>(source: &Source<'a>, name: &'a [u8]) -> bool
 
 /// The rule that a type breaks.
 pub fn type_fault<'a>(source: &Source<'a>, written: &'a TypeName) -> Option<ClassFault>
-    ensures { option_map told result ≡ first (broken_type (missing_in source.now) (type_tree written.now)) }
+    ensures { option_map reported result ≡ first (broken_type (missing_in source.now) (type_tree written.now)) }
 {
     match written {
         TypeName::Bool | TypeName::Int | TypeName::Long | TypeName::Id => None,
@@ -47,7 +47,7 @@ pub fn type_fault<'a>(source: &Source<'a>, written: &'a TypeName) -> Option<Clas
 /// The first rule that is broken in an expression.
 #[cycle(expressions)]
 fn expression<'a>(source: &Source<'a>, expr: &'a Expr) -> Option<ClassFault>
-    ensures { option_map told result ≡ first (broken_expr (missing_in source.now) (expr_tree expr.now)) }
+    ensures { option_map reported result ≡ first (broken_expr (missing_in source.now) (expr_tree expr.now)) }
 {
     match expr {
         Expr::Integer(_, _, _)
@@ -97,7 +97,7 @@ fn call<'a>(
     name: &'a [u8],
     arguments: &'a [Expr],
 ) -> Option<ClassFault>
-    ensures { option_map told result ≡ first (broken_if ((missing_in source.now).bodies name.now) at 30 ++ broken_exprs (missing_in source.now) (expr_trees arguments.now)) }
+    ensures { option_map reported result ≡ first (broken_if ((missing_in source.now).bodies name.now) at 30 ++ broken_exprs (missing_in source.now) (expr_trees arguments.now)) }
 {
     let own = if lacks_body(source, name) {
         Some(ClassFault::UndefinedFunction(at))
@@ -110,7 +110,7 @@ fn call<'a>(
 /// The first rule that is broken in some expressions.
 #[cycle(expressions)]
 fn expressions<'a>(source: &Source<'a>, all: &'a [Expr]) -> Option<ClassFault>
-    ensures { option_map told result ≡ first (broken_exprs (missing_in source.now) (expr_trees all.now)) }
+    ensures { option_map reported result ≡ first (broken_exprs (missing_in source.now) (expr_trees all.now)) }
 {
     let mut fault = None;
     for expr in all {
@@ -121,7 +121,7 @@ fn expressions<'a>(source: &Source<'a>, all: &'a [Expr]) -> Option<ClassFault>
 
 /// The first rule that is broken in an expression, if there is one.
 fn maybe<'a>(source: &Source<'a>, expr: &'a Option<Expr>) -> Option<ClassFault>
-    ensures { option_map told result ≡ first (broken_maybe (missing_in source.now) (option_map expr_tree expr.now)) }
+    ensures { option_map reported result ≡ first (broken_maybe (missing_in source.now) (option_map expr_tree expr.now)) }
 {
     match expr {
         None => None,
@@ -142,7 +142,7 @@ fn declare<'a>(
     at: usize,
     name: &'a [u8],
 ) -> Result<Option<ClassFault>, AllocError>
-    ensures fault { IfOk result (λ fault. option_map told fault ≡ first (broken_if (holds scope.old name.now) at 21)) }
+    ensures fault { IfOk result (λ fault. option_map reported fault ≡ first (broken_if (holds scope.old name.now) at 21)) }
     ensures scope { OnOk result (holds scope.new ≡ and_name name.now (holds scope.old)) }
 {
     let stood = scope.insert(name, ())?.is_some();
@@ -160,7 +160,7 @@ fn variables<'a>(
     all: &'a [Variable],
 ) -> Result<Option<ClassFault>, AllocError>
     ensures fault { IfOk result
-        (λ fault. option_map told fault ≡ first (broken_variables (missing_in source.now) (holds scope.old) (variable_trees all.now))) }
+        (λ fault. option_map reported fault ≡ first (broken_variables (missing_in source.now) (holds scope.old) (variable_trees all.now))) }
     ensures scope { OnOk result (holds scope.new ≡ names_with (holds scope.old) (variable_trees all.now)) }
 {
     let mut fault = None;
@@ -177,7 +177,7 @@ fn parameters<'a>(
     all: &'a [Parameter],
 ) -> Result<Option<ClassFault>, AllocError>
     ensures fault { IfOk result
-        (λ fault. option_map told fault ≡ first (broken_parameters (holds scope.old) (parameter_trees all.now))) }
+        (λ fault. option_map reported fault ≡ first (broken_parameters (holds scope.old) (parameter_trees all.now))) }
     ensures scope { OnOk result (holds scope.new ≡ names_taken (holds scope.old) (parameter_trees all.now)) }
 {
     let mut fault = None;
@@ -194,7 +194,7 @@ fn scoped<'a>(
     source: &Source<'a>,
     statement: &'a Stmt,
 ) -> Result<Option<ClassFault>, AllocError>
-    ensures { IfOk result (λ fault. option_map told fault ≡ first (broken_stmt (missing_in source.now) no_name (stmt_tree statement.now))) }
+    ensures { IfOk result (λ fault. option_map reported fault ≡ first (broken_stmt (missing_in source.now) no_name (stmt_tree statement.now))) }
 {
     let mut scope = Scope::new(alloc);
     in_scope(alloc, source, &mut scope, statement)
@@ -209,7 +209,7 @@ fn in_scope<'a>(
     statement: &'a Stmt,
 ) -> Result<Option<ClassFault>, AllocError>
     ensures fault { IfOk result
-        (λ fault. option_map told fault ≡ first (broken_stmt (missing_in source.now) (holds scope.old) (stmt_tree statement.now))) }
+        (λ fault. option_map reported fault ≡ first (broken_stmt (missing_in source.now) (holds scope.old) (stmt_tree statement.now))) }
     ensures scope { OnOk result (holds scope.new ≡ names_after (holds scope.old) (stmt_tree statement.now)) }
 {
     match statement {
@@ -260,7 +260,7 @@ fn statements<'a>(
     all: &'a [Stmt],
 ) -> Result<Option<ClassFault>, AllocError>
     ensures { IfOk result
-        (λ fault. option_map told fault ≡ first (broken_stmts (missing_in source.now) (holds scope.old) (stmt_trees all.now))) }
+        (λ fault. option_map reported fault ≡ first (broken_stmts (missing_in source.now) (holds scope.old) (stmt_trees all.now))) }
 {
     let mut fault = None;
     for statement in all {
@@ -286,7 +286,7 @@ fn inside<'a>(
     taken: &'a [Parameter],
     body: &'a [Stmt],
 ) -> Result<Option<ClassFault>, AllocError>
-    ensures { IfOk result (λ fault. option_map told fault
+    ensures { IfOk result (λ fault. option_map reported fault
         ≡ first (broken_parameters no_name (parameter_trees taken.now) ++ broken_stmts (missing_in source.now) (names_taken no_name (parameter_trees taken.now)) (stmt_trees body.now))) }
 {
     let mut scope = Scope::new(alloc);
@@ -301,7 +301,7 @@ fn function<'a>(
     function: &'a Function,
 ) -> Result<Option<ClassFault>, AllocError>
     ensures { IfOk result
-        (λ fault. option_map told fault ≡ first (broken_function (missing_in source.now) (function_tree function.now))) }
+        (λ fault. option_map reported fault ≡ first (broken_function (missing_in source.now) (function_tree function.now))) }
 {
     let Some(body) = &function.body else {
         return Ok(None);
@@ -316,7 +316,7 @@ fn functions<'a>(
     functions: &'a [Function],
 ) -> Result<Option<ClassFault>, AllocError>
     ensures { IfOk result
-        (λ fault. option_map told fault ≡ first (flat_map (broken_function (missing_in source.now)) (function_trees functions.now))) }
+        (λ fault. option_map reported fault ≡ first (flat_map (broken_function (missing_in source.now)) (function_trees functions.now))) }
 {
     let mut fault = None;
     for one in functions {
@@ -332,7 +332,7 @@ fn methods<'a>(
     methods: &'a [Method],
 ) -> Result<Option<ClassFault>, AllocError>
     ensures { IfOk result
-        (λ fault. option_map told fault ≡ first (flat_map (broken_inside (missing_in source.now)) (method_trees methods.now))) }
+        (λ fault. option_map reported fault ≡ first (flat_map (broken_inside (missing_in source.now)) (method_trees methods.now))) }
 {
     let mut fault = None;
     for one in methods {
@@ -349,7 +349,7 @@ fn implementations<'a>(
     implementations: &'a [Implementation],
 ) -> Result<Option<ClassFault>, AllocError>
     ensures { IfOk result
-        (λ fault. option_map told fault ≡ first (flat_map (broken_methods (missing_in source.now)) (implementation_trees implementations.now))) }
+        (λ fault. option_map reported fault ≡ first (flat_map (broken_methods (missing_in source.now)) (implementation_trees implementations.now))) }
 {
     let mut fault = None;
     for one in implementations {
@@ -365,7 +365,7 @@ pub fn walk<'a>(
     unit: &'a TranslationUnit,
 ) -> Result<Option<ClassFault>, AllocError>
     ensures { IfOk result
-        (λ fault. option_map told fault ≡ first (broken_walked (missing_in source.now) (unit_tree unit.now))) }
+        (λ fault. option_map reported fault ≡ first (broken_walked (missing_in source.now) (unit_tree unit.now))) }
 {
     let functions = functions(alloc, source, &unit.functions)?;
     let implementations = implementations(alloc, source, &unit.implementations)?;

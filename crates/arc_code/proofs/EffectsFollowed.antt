@@ -17,12 +17,12 @@ module _ (classes : List Class) (s : State) where
   By e = Follows e s
 
   -- after the operation, with this stack, these objects and these places
-  abbrev behind : List ℤ → Held → State
-  behind stack held = record { at = s.at + 1; stack = stack; frames = s.frames; held = held }
+  abbrev after : List ℤ → Held → State
+  after stack held = record { at = s.at + 1; stack = stack; frames = s.frames; held = held }
 
   -- so many numbers and references were taken, and numbers given
   gives : (taken given names : ℕ) (stack : List ℤ) (held : Held) → length stack + taken ≡ length s.stack + given → length held.names + names ≡ length s.held.names
-      → held.temporaries ≡ s.held.temporaries → held.variables ≡ s.held.variables → held.places ≡ s.held.places → By (of_names taken given names) (behind stack held)
+      → held.temporaries ≡ s.held.temporaries → held.variables ≡ s.held.variables → held.places ≡ s.held.places → By (of_names taken given names) (after stack held)
   gives taken given names stack held n r t v p = record {
     numbers = n;
     names = omega (arith, r);
@@ -34,12 +34,12 @@ module _ (classes : List Class) (s : State) where
   }
 
   -- the same of numbers alone
-  counts : (taken given : ℕ) (stack : List ℤ) → length stack + taken ≡ length s.stack + given → By (on_numbers taken given) (behind stack s.held)
+  counts : (taken given : ℕ) (stack : List ℤ) → length stack + taken ≡ length s.stack + given → By (on_numbers taken given) (after stack s.held)
   counts taken given stack n = gives taken given 0 stack s.held n (omega arith) refl refl refl
 
   -- so many references were taken, others given, and so many temporaries more hold objects
   refers : (taken given more : ℕ) (held : Held) → length held.names + taken ≡ length s.held.names + given → length held.temporaries ≡ length s.held.temporaries + more
-      → held.variables ≡ s.held.variables → held.places ≡ s.held.places → By (on_names taken given more) (behind s.stack held)
+      → held.variables ≡ s.held.variables → held.places ≡ s.held.places → By (on_names taken given more) (after s.stack held)
   refers taken given more held r t v p = record { numbers = refl; names = r; temporaries = t; variables = omega (arith, ap length v); places = p; at = refl; frames = refl }
 
   or_fault_follows : (v : Option ℤ) (rest : List ℤ) → suc (length rest) + 2 ≡ length s.stack + 1 → After (By (on_numbers 2 1)) (or_fault v s rest)

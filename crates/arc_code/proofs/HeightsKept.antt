@@ -15,7 +15,7 @@ use Rattle.arc_spec.specs.Stepping.{Next, Goes, Asks, Ends, Faults, Stuck, Safe,
 use Rattle.arc_spec.specs.Holding.{Held, Frame, Calling, Ending, Clearing, Waiter, Counted, stacked, with_temporaries, with_names, raised, lowered, resumed, with_strong_field, stores_field}
 use Rattle.arc_code.specs.declared.instr.Instr.{Instr}
 use Rattle.arc_code.specs.declared.instr.Instr.TheVariants.{Plain, PrintText, Jump, JumpZero, Call, Send, SendSuper, SendTo, SendToSuper, StoreStrong, StoreGlobal, StoreField, Empty, DropAll, Settle, Give, Return, EndStep}
-use Rattle.arc_code.specs.Instructions.{Program, State, start, moved, keeps, has_level, enters, answers, operates, gives_at_once, answers_object, sends, begins_end, ends_behind, releases, settles, drops_all, ends_object, runs_dealloc, clears, after_deallocs, ends_class, clears_next, end_goes_on, leaves, hands_over, executes, step, Fits, IsSound}
+use Rattle.arc_code.specs.Instructions.{Program, State, start, moved, keeps, has_level, enters, answers, operates, gives_at_once, answers_object, sends, begins_end, ends_after, releases, settles, drops_all, ends_object, runs_dealloc, clears, after_deallocs, ends_class, clears_next, end_goes_on, leaves, hands_over, executes, step, Fits, IsSound}
 use Rattle.arc_code.specs.Effects.{Effect, Height, on_numbers, as_number, as_object, giving, operation_effect, no_height, FitsBetween, FitsCall, SameResult, Follows, After, HeightsFit, room_for, HasAtMost, NeverHasMore}
 use Rattle.arc_code.proofs.Outcomes.{along_both, after_map, top_after, taken_after, found_after, chosen_after, if_after, object_after, named_after, reference_after, field_after, left_after, result_after, lets_go_after, place_after, receiver_after, dying_in, stores_after, clears_after}
 use Rattle.arc_code.proofs.EffectsFollowed.{operation_follows}
@@ -209,10 +209,10 @@ module _ {J F T : Type 0} (p : Program J F T) (height : ℕ → Height) (result 
       releases_within r h a = lets_go_after Within r h _ _ (record { above = a; levels = w.levels; waits = waits_at (s.at + 1) same }) (λ o. begins_end_within (s.at + 1) r o.class _ (has_level s) refl a (waits_at (s.at + 1) same))
 
       -- a field of an object takes another
-      stores_within : (r : ℕ) (o : Object) (index value : ℕ) (h : Held) → Above (height (s.at + 1)) (result (s.at + 1)) s.frames s.stack h → After Within (stores_field r o index value h (keeps s s.stack) (ends_behind p s))
+      stores_within : (r : ℕ) (o : Object) (index value : ℕ) (h : Held) → Above (height (s.at + 1)) (result (s.at + 1)) s.frames s.stack h → After Within (stores_field r o index value h (keeps s s.stack) (ends_after p s))
       stores_within r o index value h a =
           let waits = waits_at (s.at + 1) same in
-          stores_after Within r o index value h (keeps s s.stack) (ends_behind p s) (record { above = a; levels = w.levels; waits = waits }) (λ old. record { above = a; levels = w.levels; waits = waits })
+          stores_after Within r o index value h (keeps s s.stack) (ends_after p s) (record { above = a; levels = w.levels; waits = waits }) (λ old. record { above = a; levels = w.levels; waits = waits })
           (λ old ob. begins_end_within (s.at + 1) old ob.class (dying_in old ob (raised value (with_strong_field h r o index value))) (has_level s) refl a waits)
 
       -- the temporary before the last one is dropped

@@ -127,17 +127,17 @@ abbrev pub no_height : Height
 no_height = record { numbers = 0; names = 0; temporaries = 0; variables = 0 }
 
 -- what an effect leaves of the one height is within the other
-pub record FitsBetween (before behind : Height) (e : Effect) : Type 0 where
-  pub numbers : before.numbers + e.numbers_given ≤ behind.numbers + e.numbers_taken
-  pub names : before.names + e.names_given ≤ behind.names + e.names_taken
-  pub temporaries : before.temporaries + e.temporaries ≤ behind.temporaries
-  pub variables : before.variables + e.variables ≤ behind.variables
+pub record FitsBetween (before after : Height) (e : Effect) : Type 0 where
+  pub numbers : before.numbers + e.numbers_given ≤ after.numbers + e.numbers_taken
+  pub names : before.names + e.names_given ≤ after.names + e.names_taken
+  pub temporaries : before.temporaries + e.temporaries ≤ after.temporaries
+  pub variables : before.variables + e.variables ≤ after.variables
 
 -- A table says how many numbers, references and places the running function has at most before the instruction with a number.
 module _ {J F T : Type 0} (p : Program J F T) (height : ℕ → Height) where
   -- what an instruction leaves of the one height is within the other
-  abbrev pub FitsFrom : (before behind : Height) → Instr J F T → Type 0
-  FitsFrom before behind x = FitsBetween before behind (effect x)
+  abbrev pub FitsFrom : (before after : Height) → Instr J F T → Type 0
+  FitsFrom before after x = FitsBetween before after (effect x)
 
   -- what an instruction leaves is within the table there
   abbrev pub FitsTo : (pc to : ℕ) → Instr J F T → Type 0

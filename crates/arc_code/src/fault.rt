@@ -5,7 +5,7 @@ ghost use Rattle.arc_code.specs.Faulty.{fault_number, fault_name};
 use crate::code::IoFault;
 
 impl IoFault {
-    /// The number by which the fault is told.
+    /// The number by which the fault is reported.
     pub fn number(self) -> u8
         ensures { result ≡ fault_number self }
     {
@@ -15,7 +15,7 @@ impl IoFault {
         }
     }
 
-    /// The name by which the fault is told.
+    /// The name by which the fault is reported.
     pub fn name(self) -> &'static str
         ensures { result.now ≡ fault_name self }
     {

@@ -30,26 +30,26 @@ module _ (p : acting.Program) where
 
   -- ---- one action
 
-  text_is : (before text behind : List ℕ) → code.texts ≡ before ++ (text ++ behind) → length text ≤ 16 → running.text_of code (record { from = length before; len = length text }) ≡ Some text
-  text_is before text behind e short =
+  text_is : (before text after : List ℕ) → code.texts ≡ before ++ (text ++ after) → length text ≤ 16 → running.text_of code (record { from = length before; len = length text }) ≡ Some text
+  text_is before text after e short =
       let from = length before in
       let len = length text in
       let whole : Option (List ℕ) = Some (text_at code (record { from = from; len = len })) in
-      let within : from + len ≤ length code.texts = omega (arith, ap length e, length-append before (text ++ behind), length-append text behind) in
+      let within : from + len ≤ length code.texts = omega (arith, ap length e, length-append before (text ++ after), length-append text after) in
       let n : from + len - from ≡ len = omega arith in
       ap (λ b. if b && nat_le (from + len) (length code.texts) then whole else None) (le_true len 16 short)
       ∙ ap (λ b. if b then whole else None) (le_true (from + len) (length code.texts) within)
       ∙ ap (λ k. Some (take k (drop from code.texts))) n
       ∙ ap (λ l. Some (take len (drop from l))) e
-      ∙ ap (λ l. Some (take len l)) (drop-append_seam before (text ++ behind))
-      ∙ ap Some (take-append_seam text behind)
+      ∙ ap (λ l. Some (take len l)) (drop-append_seam before (text ++ after))
+      ∙ ap Some (take-append_seam text after)
 
-  print_same : (a : Action) (part : TextPart) (before behind : List ℕ) → a ≡ PrintText part → code.texts ≡ before ++ (text_of a ++ behind) → running.text_of code (piece (length before) part) ≡ Some part.bytes.items
-  print_same a part before behind is e = text_is before part.bytes.items behind (subst (λ (x : Action). code.texts ≡ before ++ (text_of x ++ behind)) is e) part.short
+  print_same : (a : Action) (part : TextPart) (before after : List ℕ) → a ≡ PrintText part → code.texts ≡ before ++ (text_of a ++ after) → running.text_of code (piece (length before) part) ≡ Some part.bytes.items
+  print_same a part before after is e = text_is before part.bytes.items after (subst (λ (x : Action). code.texts ≡ before ++ (text_of x ++ after)) is e) part.short
 
-  instr_same : (a : Action) (before behind : List ℕ) (s : State) → code.texts ≡ before ++ (text_of a ++ behind) → running.executes code (Some (instr_of p s.at (length before) a)) s ≡ acting.executes p (Some a) s
-  instr_same a before behind s e =
-      renamed_same (acting.linked p) code.instrs (λ at to. to) (λ to. Some to) (running.text_of code) (lands s.at) (entry p) (piece (length before)) s a (λ to. refl) (λ f is. refl) (λ part is. print_same a part before behind is e)
+  instr_same : (a : Action) (before after : List ℕ) (s : State) → code.texts ≡ before ++ (text_of a ++ after) → running.executes code (Some (instr_of p s.at (length before) a)) s ≡ acting.executes p (Some a) s
+  instr_same a before after s e =
+      renamed_same (acting.linked p) code.instrs (λ at to. to) (λ to. Some to) (running.text_of code) (lands s.at) (entry p) (piece (length before)) s a (λ to. refl) (λ f is. refl) (λ part is. print_same a part before after is e)
 
   -- ---- runs
 

@@ -6,9 +6,9 @@ use Rattle.arc_sites.specs.declared.violation.Violation.{Violation}
 use Rattle.arc_sites.specs.Violations.{first}
 
 -- the violation that a fault reports
-abbrev pub told : OwnFault → Violation
-told f = record { at = (report f).at; number = (report f).number }
+abbrev pub reported : OwnFault → Violation
+reported f = record { at = (report f).at; number = (report f).number }
 
 -- when a fault is answered: it reports the first of all violations
 abbrev pub Refuses : List Violation → OwnFault → Type 0
-Refuses all fault = first all ≡ Some (told fault)
+Refuses all fault = first all ≡ Some (reported fault)

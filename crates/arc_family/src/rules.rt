@@ -8,7 +8,7 @@ ghost use Rattle.arc_sites.specs.Sites as sites;
 ghost use Rattle.arc_sites.specs.Violations.{first, at_if, violates};
 ghost use Rattle.arc_sites.specs.Finding.{enclosing_of, node_of, around, message_of};
 ghost use Rattle.arc_family.specs.Rules as rules;
-ghost use Rattle.arc_family.specs.Fault.{told};
+ghost use Rattle.arc_family.specs.Fault.{reported};
 
 use arc_ast::tree::{
     Expr, Kind, MethodHead, Parameter, Parameters, Qualifiers, ResultType, Sign, TranslationUnit,
@@ -36,7 +36,7 @@ pub(crate) struct Ownership<'a, 't> {
 impl<'a, 't> Visitor for Ownership<'a, 't> {
     ghost violations = { λ ownership. rules.violations (unit_tree ownership.unit.now) };
 
-    ghost found = { λ ownership. option_map told ownership.fault };
+    ghost found = { λ ownership. option_map reported ownership.fault };
 
     fn visit(&mut self, enclosing: Enclosing, node: Node) {
         self.fault = earlier(self.fault, first_broken(self.table, enclosing, node));
@@ -45,7 +45,7 @@ impl<'a, 't> Visitor for Ownership<'a, 't> {
 
 /// The first rule that a site breaks.
 fn first_broken(table: &ClassTable, enclosing: Enclosing, node: Node) -> Option<OwnFault>
-    ensures { (u : UnitTree) → IsTableOf u table.now → (scope : sites.Scope) (need : sites.Need) → option_map told result ≡ first (rules.violations u (around (enclosing_of enclosing.entry) scope need) (node_of node.entry)) }
+    ensures { (u : UnitTree) → IsTableOf u table.now → (scope : sites.Scope) (need : sites.Need) → option_map reported result ≡ first (rules.violations u (around (enclosing_of enclosing.entry) scope need) (node_of node.entry)) }
 {
     let qualifier = qualifier(node);
     let result = earlier(init_result(table, enclosing, node), qualifier);
@@ -58,7 +58,7 @@ fn first_broken(table: &ClassTable, enclosing: Enclosing, node: Node) -> Option<
 
 /// 47 SelfConst.
 fn self_const(enclosing: Enclosing, node: Node) -> Option<OwnFault>
-    ensures { (scope : sites.Scope) (need : sites.Need) → option_map told result ≡ first (violates 47 (rules.rule_47 (around (enclosing_of enclosing.entry) scope need) (node_of node.entry))) }
+    ensures { (scope : sites.Scope) (need : sites.Need) → option_map reported result ≡ first (violates 47 (rules.rule_47 (around (enclosing_of enclosing.entry) scope need) (node_of node.entry))) }
 {
     match node {
         Node::Value(Expr::Assign(_, sign, left, _)) => {
@@ -105,7 +105,7 @@ fn fault_if(broken: bool, fault: OwnFault) -> Option<OwnFault>
 
 /// 60 Unretained.
 fn unretained(node: Node) -> Option<OwnFault>
-    ensures { option_map told result ≡ first (violates 60 (rules.rule_60 (node_of node.entry))) }
+    ensures { option_map reported result ≡ first (violates 60 (rules.rule_60 (node_of node.entry))) }
 {
     match node {
         Node::Function(function) => {
@@ -131,7 +131,7 @@ fn is_manual(selector: &[u8]) -> bool
 
 /// 61 ManualMemory, of a method with its place, or of a message with that of its selector's first part.
 fn manual(selector: &[u8], at: usize) -> Option<OwnFault>
-    ensures { option_map told result ≡ first (violates 61 (at_if (rules.is_manual selector.now) at)) }
+    ensures { option_map reported result ≡ first (violates 61 (at_if (rules.is_manual selector.now) at)) }
 {
     if is_manual(selector) {
         Some(OwnFault::ManualMemory(at))
@@ -142,7 +142,7 @@ fn manual(selector: &[u8], at: usize) -> Option<OwnFault>
 
 /// 61 ManualMemory.
 fn manual_memory(node: Node) -> Option<OwnFault>
-    ensures { (s : sites.Around) → option_map told result ≡ first (violates 61 (rules.rule_61 s (node_of node.entry))) }
+    ensures { (s : sites.Around) → option_map reported result ≡ first (violates 61 (rules.rule_61 s (node_of node.entry))) }
 {
     match node {
         Node::Declared(head) => manual(&head.selector, head.at),
@@ -157,7 +157,7 @@ fn manual_memory(node: Node) -> Option<OwnFault>
 
 /// 62 DeallocSent.
 fn dealloc_sent(node: Node) -> Option<OwnFault>
-    ensures { (s : sites.Around) → option_map told result ≡ first (violates 62 (rules.rule_62 s (node_of node.entry))) }
+    ensures { (s : sites.Around) → option_map reported result ≡ first (violates 62 (rules.rule_62 s (node_of node.entry))) }
 {
     match node {
         Node::Value(expr) => match sent_message(expr) {
@@ -205,7 +205,7 @@ fn is_delegated(table: &ClassTable, enclosing: Enclosing, message: Message) -> b
 
 /// 63 DelegateInit.
 fn delegate_init(table: &ClassTable, enclosing: Enclosing, node: Node) -> Option<OwnFault>
-    ensures { (u : UnitTree) → IsTableOf u table.now → (scope : sites.Scope) (need : sites.Need) → option_map told result ≡ first (violates 63 (rules.rule_63 u (around (enclosing_of enclosing.entry) scope need) (node_of node.entry))) }
+    ensures { (u : UnitTree) → IsTableOf u table.now → (scope : sites.Scope) (need : sites.Need) → option_map reported result ≡ first (violates 63 (rules.rule_63 u (around (enclosing_of enclosing.entry) scope need) (node_of node.entry))) }
 {
     match node {
         Node::Value(expr) => match sent_message(expr) {
@@ -262,7 +262,7 @@ fn may_be_given(table: &ClassTable, class: &[u8], written: &ResultType) -> bool
 
 /// 66 InitResult, of a method of a class.
 fn wrong_init(table: &ClassTable, class: &[u8], head: &MethodHead) -> Option<OwnFault>
-    ensures { (u : UnitTree) → IsTableOf u table.now → option_map told result ≡ first (violates 66 (at_if (rules.is_wrong_init u class.now (head_tree head.now)) head.now.at)) }
+    ensures { (u : UnitTree) → IsTableOf u table.now → option_map reported result ≡ first (violates 66 (at_if (rules.is_wrong_init u class.now (head_tree head.now)) head.now.at)) }
 {
     let is_init = matches!(head_family(head), Family::Init);
     let broken = is_init && !may_be_given(table, class, &head.result);
@@ -271,7 +271,7 @@ fn wrong_init(table: &ClassTable, class: &[u8], head: &MethodHead) -> Option<Own
 
 /// 66 InitResult.
 fn init_result(table: &ClassTable, enclosing: Enclosing, node: Node) -> Option<OwnFault>
-    ensures { (u : UnitTree) → IsTableOf u table.now → option_map told result ≡ first (violates 66 (rules.rule_66 u (enclosing_of enclosing.entry) (node_of node.entry))) }
+    ensures { (u : UnitTree) → IsTableOf u table.now → option_map reported result ≡ first (violates 66 (rules.rule_66 u (enclosing_of enclosing.entry) (node_of node.entry))) }
 {
     match (enclosing, node) {
         (Enclosing::Interface(interface), Node::Declared(head)) => {
@@ -297,7 +297,7 @@ fn is_misqualified(qualifiers: Qualifiers, kind: Kind) -> bool
 
 /// 67 Qualifier, of what has the qualifiers and the type.
 fn misqualified(qualifiers: Qualifiers, type_name: &TypeName, at: usize) -> Option<OwnFault>
-    ensures { option_map told result ≡ first (violates 67 (at_if (rules.is_misqualified qualifiers (type_kind (type_tree type_name.now))) at)) }
+    ensures { option_map reported result ≡ first (violates 67 (at_if (rules.is_misqualified qualifiers (type_kind (type_tree type_name.now))) at)) }
 {
     let broken = is_misqualified(qualifiers, type_name.kind());
     fault_if(broken, OwnFault::Qualifier(at))
@@ -305,7 +305,7 @@ fn misqualified(qualifiers: Qualifiers, type_name: &TypeName, at: usize) -> Opti
 
 /// 67 Qualifier, of parameters.
 fn misqualified_among(all: &[Parameter]) -> Option<OwnFault>
-    ensures { option_map told result ≡ first (violates 67 (rules.misqualified_among (parameter_trees all.now))) }
+    ensures { option_map reported result ≡ first (violates 67 (rules.misqualified_among (parameter_trees all.now))) }
 {
     for parameter in all {
         let fault = misqualified(parameter.qualifiers, &parameter.type_name, parameter.at);
@@ -328,7 +328,7 @@ fn listed(parameters: &Parameters) -> &[Parameter]
 
 /// 67 Qualifier.
 fn qualifier(node: Node) -> Option<OwnFault>
-    ensures { option_map told result ≡ first (violates 67 (rules.rule_67 (node_of node.entry))) }
+    ensures { option_map reported result ≡ first (violates 67 (rules.rule_67 (node_of node.entry))) }
 {
     match node {
         Node::Variable(before, type_name, variable) => {

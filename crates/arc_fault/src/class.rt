@@ -11,7 +11,7 @@ use thiserror::Error;
 pub enum ClassFault {
     /// A second body of a function, a declaration that differs from an earlier one, a function or a class of the library's name, a second
     /// class or implementation of a name, a name for both a class and a function, a second variable of a name in a scope, or a second field
-    /// of a name in a class and those above it, told at the name; or a second method of an implementation of its sign with its selector, told
+    /// of a name in a class and those above it, reported at the name; or a second method of an implementation of its sign with its selector, reported
     /// at its `+` or `-`.
     #[error("the name at {0} is declared in another way already")]
     Duplicate(usize),
@@ -29,7 +29,7 @@ pub enum ClassFault {
     /// More than 120 fields in the objects of a class; the place is that of its interface's name.
     #[error("the class at {0} has more than 120 fields")]
     TooManyFields(usize),
-    /// A class method `load`, `initialize` or `alloc`, or a method that tells of an object's class, as `class` or `isKindOfClass:`; the place
+    /// A class method `load`, `initialize` or `alloc`, or a method that says of an object's class, as `class` or `isKindOfClass:`; the place
     /// is that of its `+` or `-`.
     #[error("the method at {0} has a name that classes cannot take")]
     HookMethod(usize),

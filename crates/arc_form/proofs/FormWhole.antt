@@ -18,7 +18,7 @@ use Rattle.arc_form.proofs.FormLocal.{read_is, some_front}
 use Rattle.arc_form.proofs.FormBegins.{Positive, deep_begins, deep_second}
 use Rattle.arc_form.proofs.FormStarts.{form_free, form_alone, head_starts, spells_starts}
 use Rattle.arc_form.proofs.FormFirm.{nested_fits, form_complete}
-use Rattle.arc_form.proofs.FormTold.{Told, Same, told_begun, form_told, stays}
+use Rattle.arc_form.proofs.FormAnswers.{Reported, Same, reported_begun, form_reported, stays}
 
 -- of two fronts of a list, the longer one goes on from the other
 longer : (b s c r : List Tok) → b ++ s ≡ c ++ r → length b ≤ length c → (m : List Tok) × (c ≡ b ++ m) × (s ≡ m ++ r)
@@ -51,7 +51,7 @@ module _ {N : Type 0} {Node : N → Type 0} (facts : N → Facts) (body : Bodies
     limited limits = run (read body) limits f
 
     abbrev ToldSo : Limits → List Tok → Read A → Type 0
-    ToldSo limits ts x = Told (SpellsBy (Spells body) limits f) (Begun body f) (Passes body limits f) (limited unlimited) ts x
+    ToldSo limits ts x = Reported (SpellsBy (Spells body) limits f) (Begun body f) (Passes body limits f) (limited unlimited) ts x
 
     reads_whole : (limits : Limits) (a : A) (xs : List Tok) → SpellsWhole body limits f a xs → limited limits xs ≡ Ok (a, [])
     reads_whole limits a xs x = ap (limited limits) (sym (append-nil xs)) ∙ form_complete facts body sure limits f d a [] xs x refl
@@ -60,7 +60,7 @@ module _ {N : Type 0} {Node : N → Type 0} (facts : N → Facts) (body : Bodies
     pub whole_within : (limits : Limits) (ts : List Tok) (a : A) (r : List Tok) → read_whole body limits f ts ≡ Ok (a, r) → SpellsWhole body limits f a ts
     unfolding read_whole
     whole_within limits ts a r e =
-        let t = subst (ToldSo limits ts) (end_ok (limited limits ts) a r e) (form_told facts body sure (Some limits) A f d ts) in
+        let t = subst (ToldSo limits ts) (end_ok (limited limits ts) a r e) (form_reported facts body sure (Some limits) A f d ts) in
         subst (SpellsWhole body limits f a) (sym (t.cut ∙ append-nil t.taken)) t.good
 
     -- and without them
@@ -89,8 +89,8 @@ module _ {N : Type 0} {Node : N → Type 0} (facts : N → Facts) (body : Bodies
     whole_misfit limits ts rest e =
         let x = limited limits ts in
         let p = end_not x misfit rest e in
-        let t = form_told facts body sure (Some limits) A f d ts in
-        (t.taken, t.cut ∙ ap (λ v. t.taken ++ v) p.0, (told_begun facts body sure (Some limits) f d x t.taken t.good, λ others a h m. no_more t.taken x (t.same p.1) p.2 others a (h ∙ ap first (sym p.0)) m))
+        let t = form_reported facts body sure (Some limits) A f d ts in
+        (t.taken, t.cut ∙ ap (λ v. t.taken ++ v) p.0, (reported_begun facts body sure (Some limits) f d x t.taken t.good, λ others a h m. no_more t.taken x (t.same p.1) p.2 others a (h ∙ ap first (sym p.0)) m))
 
     -- a token that passes a limit: without limits something goes on with what is before it
     pub whole_too_deep : (limits : Limits) (ts rest : List Tok) → read_whole body limits f ts ≡ Err (too_deep, rest) → (before : List Tok) × (ts ≡ before ++ rest) × Passes body limits f before rest × Begun body f before
@@ -98,15 +98,15 @@ module _ {N : Type 0} {Node : N → Type 0} (facts : N → Facts) (body : Bodies
     whole_too_deep limits ts rest e =
         let x = limited limits ts in
         let p = end_not x too_deep rest e in
-        let t = form_told facts body sure (Some limits) A f d ts in
-        (t.taken, t.cut ∙ ap (λ v. t.taken ++ v) p.0, subst (Passes body limits f t.taken) p.0 (t.deep p.1), told_begun facts body sure (Some limits) f d x t.taken t.good)
+        let t = form_reported facts body sure (Some limits) A f d ts in
+        (t.taken, t.cut ∙ ap (λ v. t.taken ++ v) p.0, subst (Passes body limits f t.taken) p.0 (t.deep p.1), reported_begun facts body sure (Some limits) f d x t.taken t.good)
 
   -- ---- where a limit is passed, a form refuses the token there
 
   -- a form goes over a limit where one token is too many
   goes_over_there : (n : ℕ) (A : Type 0) (f : Form N Node A) → Decided facts f → (before : List Tok) (t : Tok) (r : List Tok) → OneTooMany body (Some n) f before (t ∷ r) → goes_over n (before ++ t ∷ r) (run (read body) unlimited f (before ++ t ∷ r)) ≡ true
   goes_over_there n A f d before t r (l, (a, others, y), whole) =
-      true_from_ne_false _ (at (run (read body) unlimited f ts) (form_told facts body sure None A f d ts) (stays facts body sure A f d ts))
+      true_from_ne_false _ (at (run (read body) unlimited f ts) (form_reported facts body sure None A f d ts) (stays facts body sure A f d ts))
     where
       ts : List Tok
       ts = before ++ t ∷ r
@@ -125,7 +125,7 @@ module _ {N : Type 0} {Node : N → Type 0} (facts : N → Facts) (body : Bodies
           on [] e z = let b = k (e ∙ append-nil xs) in no_more A f d xs x same (λ a w. some z w) (t ∷ b.1) b.0 (sym (ap first z)) (subst (SpellsWhole body unlimited f b.0) (append_assoc before (t ∷ []) b.1 ∙ ap (λ v. v ++ t ∷ b.1) (e ∙ append-nil xs)) b.2)
           on (u ∷ m) e z = no_more A f d xs x same (λ a w. some z w) (u ∷ (m ++ others)) a (sym (ap first z)) (subst (SpellsWhole body unlimited f a) (ap (λ v. v ++ others) e ∙ append_assoc xs (u ∷ m) others) y)
 
-      at : (x : Read A) → Told (SpellsBy (Spells body) unlimited f) (Begun body f) (λ b r. ⊥) (run (read body) unlimited f) ts x → fault_of x ≡ misfit → goes_over n ts x ≡ false → ⊥
+      at : (x : Read A) → Reported (SpellsBy (Spells body) unlimited f) (Begun body f) (λ b r. ⊥) (run (read body) unlimited f) ts x → fault_of x ≡ misfit → goes_over n ts x ≡ false → ⊥
       at (Ok (b, s)) u z e =
           let p = ltb-false (length s + n) (length ts) e in
           stops u.taken (Ok (b, s)) u.cut (omega (arith, p, ap length u.cut, length-append u.taken s)) (λ z. whole b (subst (SpellsWhole body unlimited f b) (sym z) (form_alone facts body sure unlimited f d b s u.taken u.good))) (u.same z)

@@ -10,7 +10,7 @@ use Rattle.arc_form.specs.Reader.{Read, Reader, Fault, misfit, too_deep, first, 
 use Rattle.arc_form.specs.Form.{unlimited, Form, Bodies, run, read}
 use Rattle.arc_form.proofs.Static.{Facts, Decided, Fits}
 use Rattle.arc_form.proofs.Local.{rest_of, fault_of, put}
-use Rattle.arc_form.proofs.FormTold.{Same, form_told, stays}
+use Rattle.arc_form.proofs.FormAnswers.{Same, form_reported, stays}
 
 -- f takes tokens, and gives this answer of all lists that are the same up to the token at which it stops
 pub record Stops {A : Type 0} (f : Reader A) (ts : List Tok) : Type 0 where
@@ -24,7 +24,7 @@ module _ {N : Type 0} {Node : N → Type 0} (facts : N → Facts) (body : Bodies
 
   -- a form without limits stops so
   pub form_stops : (ts : List Tok) → Stops plain ts
-  form_stops ts = let t = form_told facts body sure None A f d ts in record { before = t.taken; cut = t.cut; same = t.same (stays facts body sure A f d ts) }
+  form_stops ts = let t = form_reported facts body sure None A f d ts in record { before = t.taken; cut = t.cut; same = t.same (stays facts body sure A f d ts) }
 
   -- no token is too deep in it
   pub never_deep : (ts r : List Tok) (y : Fault) → plain ts ≡ Err (y, r) → y ≡ misfit

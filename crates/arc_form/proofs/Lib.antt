@@ -8,7 +8,7 @@ pub mod FormStarts
 pub mod FormBegins
 pub mod FormExamples
 pub mod FormFirm
-pub mod FormTold
+pub mod FormAnswers
 pub mod FormWhole
 pub mod Front
 pub mod Joining

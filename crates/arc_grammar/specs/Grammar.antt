@@ -754,7 +754,7 @@ next_global_reference = map (λ (comma, make). make) (the m.Comma ⨾ global_ref
 unfoldable pub more_global_references : Part (List (QualifiedType → GlobalTree))
 more_global_references = many (mark m.Comma) next_global_reference
 
--- one or more of these, of which the first is behind its `*`, and `;`
+-- one or more of these, of which the first is after its `*`, and `;`
 unfoldable pub global_references : Part (QualifiedType → List GlobalTree)
 global_references = map (λ (make, (others, end)) type. make type ∷ list_map (λ other. other type) others) (global ⨾ more_global_references ⨾ the m.Semicolon)
 

@@ -221,7 +221,7 @@ whole_rows (suc (suc (suc (suc (suc (suc (suc class))))))) above known = absurd 
 before_or_past : (i j : ℕ) → (i < j) ⊎ (j ≤ i)
 before_or_past i j = grind arith
 
--- rows were added behind, at which no block starts
+-- rows were added after, at which no block starts
 pub same_marks : (marks longer : List Mark) → length marks ≤ length longer
     → ((row : ℕ) → row < length marks → mark_at longer row ≡ mark_at marks row)
     → ((row : ℕ) → length marks ≤ row → row < length longer → mark_at longer row ≡ Inside)
@@ -234,7 +234,7 @@ same_marks marks longer more kept added row = elim (before_or_past row (length m
   ]
 ]
 
--- the marks and words of a store to which a block was added behind all others
+-- the marks and words of a store to which a block was added after all others
 pub record IsLonger (marks longer : List Mark) (words new : List ℕ) (class : ℕ) : Type 0 where
   pub above : 0 < class
   pub known : class ≤ 6

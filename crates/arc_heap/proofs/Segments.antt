@@ -7,7 +7,7 @@ use Rattle.std.proofs.Math.Seq.{ext_get_or, take-set-lt, take-append_seam}
 pub length_segment : (words : List ℕ) (first count : ℕ) → first + count ≤ length words → length (take count (drop first words)) ≡ count
 length_segment words first count within = length-take-le count (drop first words) (omega (arith, length-drop first words))
 
--- a word of a segment is the word of the whole so far behind its first
+-- a word of a segment is the word of the whole so far after its first
 pub get_segment : (words : List ℕ) (first count i : ℕ) → i < count → get_or (take count (drop first words)) i 0 ≡ get_or words (first + i) 0
 get_segment words first count i below = get_or-take count (drop first words) i 0 below ∙ get_or-drop first words i 0
 

@@ -85,7 +85,7 @@ impl PlainStore {
         Some(Ref { at })
     }
 
-    /// Takes a block of a class behind all others, or is None and changes no block where memory is
+    /// Takes a block of a class after all others, or is None and changes no block where memory is
     /// refused.
     fn cut(&mut self, class: u8) -> Option<Ref>
         requires { (0 < class) × (class ≤ 6) }

@@ -88,13 +88,13 @@ known source input turns events stop short e = go (tree_of source) refl e
 
 -- ---- sources that are refused
 
-abbrev pub told : (number at : ℕ) → Option Violation
-told number at = Some (record { at = at; number = number })
+abbrev pub violation_at : (number at : ℕ) → Option Violation
+violation_at number at = Some (record { at = at; number = number })
 
 abbrev pub of_read : List Tok → Read UnitTree → Option Violation
 of_read ts (Ok x) = reported x.0
-of_read ts (Err (misfit, rest)) = told (report (Unexpected 0)).number (place_of ts rest)
-of_read ts (Err (too_deep, rest)) = told (report (TooDeep 0)).number (place_of ts rest)
+of_read ts (Err (misfit, rest)) = violation_at (report (Unexpected 0)).number (place_of ts rest)
+of_read ts (Err (too_deep, rest)) = violation_at (report (TooDeep 0)).number (place_of ts rest)
 
 abbrev pub of_tokens : Option (List Tok) → Option Violation
 of_tokens None = None
@@ -102,7 +102,7 @@ of_tokens (Some ts) = of_read ts (read_whole body these unit ts)
 
 abbrev pub of_fault : List ℕ → Option (ℕ × Rule) → Option Violation
 of_fault source None = of_tokens (tokens_of (suc (length source)) 0 true source)
-of_fault source (Some f) = told (fault_number (fault_of f.1 f.0)) f.0
+of_fault source (Some f) = violation_at (fault_number (fault_of f.1 f.0)) f.0
 
 -- the rule by which a source is refused, and the position
 abbrev pub refusal : List ℕ → Option Violation
@@ -117,29 +117,29 @@ at_in None = 0
 at_in (Some v) = v.at
 
 module _ (source : List ℕ) (number at : ℕ) (short : length source ≤ most_bytes) where
-  by_fault : (p : ℕ) (rule : Rule) → fault_in (suc (length source)) 0 true source ≡ Some (p, rule) → told (fault_number (fault_of rule p)) p ≡ told number at → IsRefused source number at
+  by_fault : (p : ℕ) (rule : Rule) → fault_in (suc (length source)) 0 true source ≡ Some (p, rule) → violation_at (fault_number (fault_of rule p)) p ≡ violation_at number at → IsRefused source number at
   by_fault p rule k e = subst (IsRefused source number) (ap at_in e) (in_tokens rule (short, breaks (suc (length source)) 0 true source p rule k) (ap number_in e))
 
-  by_misfit : (ts rest : List Tok) → Tokens source ts → read_whole body these unit ts ≡ Err (misfit, rest) → told (report (Unexpected 0)).number (place_of ts rest) ≡ told number at
+  by_misfit : (ts rest : List Tok) → Tokens source ts → read_whole body these unit ts ≡ Err (misfit, rest) → violation_at (report (Unexpected 0)).number (place_of ts rest) ≡ violation_at number at
       → IsRefused source number at
   by_misfit ts rest cut k e = subst (IsRefused source number) (ap at_in e) (in_tree ts cut (unfit ts rest k) (ap number_in e))
 
-  by_depth : (ts rest : List Tok) → Tokens source ts → read_whole body these unit ts ≡ Err (too_deep, rest) → told (report (TooDeep 0)).number (place_of ts rest) ≡ told number at
+  by_depth : (ts rest : List Tok) → Tokens source ts → read_whole body these unit ts ≡ Err (too_deep, rest) → violation_at (report (TooDeep 0)).number (place_of ts rest) ≡ violation_at number at
       → IsRefused source number at
   by_depth ts rest cut k e = subst (IsRefused source number) (ap at_in e) (in_depth ts cut (too_deep_at ts rest k) (ap number_in e))
 
-  by_read : (ts : List Tok) → Tokens source ts → (x : Read UnitTree) → read_whole body these unit ts ≡ x → of_read ts x ≡ told number at → IsRefused source number at
+  by_read : (ts : List Tok) → Tokens source ts → (x : Read UnitTree) → read_whole body these unit ts ≡ x → of_read ts x ≡ violation_at number at → IsRefused source number at
   by_read ts cut (Ok x) k e = in_rules x.0 (record { tokens = ts; cut = cut; spelled = within ts x.0 x.1 k }) e
   by_read ts cut (Err (misfit, rest)) k e = by_misfit ts rest cut k e
   by_read ts cut (Err (too_deep, rest)) k e = by_depth ts rest cut k e
 
-  by_tokens : (found : Option (List Tok)) → tokens_of (suc (length source)) 0 true source ≡ found → of_tokens found ≡ told number at → IsRefused source number at
+  by_tokens : (found : Option (List Tok)) → tokens_of (suc (length source)) 0 true source ≡ found → of_tokens found ≡ violation_at number at → IsRefused source number at
   by_tokens None k e = cc
   by_tokens (Some ts) k e = by_read ts (short, cuts (suc (length source)) 0 true source ts k) (read_whole body these unit ts) refl e
 
-  by_any : (found : Option (ℕ × Rule)) → fault_in (suc (length source)) 0 true source ≡ found → of_fault source found ≡ told number at → IsRefused source number at
+  by_any : (found : Option (ℕ × Rule)) → fault_in (suc (length source)) 0 true source ≡ found → of_fault source found ≡ violation_at number at → IsRefused source number at
   by_any None k e = by_tokens (tokens_of (suc (length source)) 0 true source) refl e
   by_any (Some f) k e = by_fault f.0 f.1 k e
 
-pub refused : (source : List ℕ) (number at : ℕ) → nat_le (length source) most_bytes ≡ true → refusal source ≡ told number at → IsRefused source number at
+pub refused : (source : List ℕ) (number at : ℕ) → nat_le (length source) most_bytes ≡ true → refusal source ≡ violation_at number at → IsRefused source number at
 refused source number at short e = by_any source number at (leb-true (length source) most_bytes short) (fault_in (suc (length source)) 0 true source) refl e

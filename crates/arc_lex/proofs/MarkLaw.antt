@@ -1,4 +1,4 @@
--- The piece where a mark, a word behind `@` or a blank stands.
+-- The piece where a mark, a word after `@` or a blank stands.
 use Rattle.std.proofs.Common.{◌≡◌, ◌≤◌, ◌<◌, inl, inr, ℕ, List, [], ◌∷◌, ◌++◌, length, true, false, Bool, nat_eq, Option, Some, None, refl, sym, ap, subst, ◌∙◌, arith}
 use Rattle.arc_lex.specs.declared.spelling.TheConstants.{MARKS, AT_WORDS}
 use Rattle.arc_lex.specs.declared.token.Mark.{Mark}
@@ -18,7 +18,7 @@ some_bytes : (xs : List ℕ) (o : Sort) → IsToken xs o → 0 < length xs
 some_bytes [] o t = absurd (not_empty o t)
 some_bytes (x ∷ xs) o t = omega arith
 
--- ---- a word behind `@`
+-- ---- a word after `@`
 
 module _ (starts : Bool) (bs : List ℕ) where
   at_first : (word : AtWord) (r : List ℕ) → 64 ∷ bs ≡ at_bytes word ++ r → first_front at_bytes AT_WORDS (64 ∷ bs) ≡ None → ⊥

@@ -8,7 +8,7 @@ use Rattle.arc_lex.specs.declared.piece.Rule.TheVariants as rules
 use Rattle.arc_lex.specs.declared.bytes.Class.TheVariants as c
 use Rattle.arc_lex.specs.Bytes.{all_in, begins, run, is_blank}
 use Rattle.arc_lex.specs.Faults.{fault_of, IsFirst, IsLexFault, OnlyTokens, OnlyFault}
-use Rattle.arc_lex.specs.Source.{Tokens, most_bytes, IsToken, IsComment, Skipped, to_close, Breaks, Cuts, done, blank, skipped, token, FaultAt, here, behind_blank, behind_skipped, behind_token}
+use Rattle.arc_lex.specs.Source.{Tokens, most_bytes, IsToken, IsComment, Skipped, to_close, Breaks, Cuts, done, blank, skipped, token, FaultAt, here, after_blank, after_skipped, after_token}
 use Rattle.arc_lex.specs.Tokens.{Sort, Tok}
 use Rattle.arc_lex.proofs.Firsts.{head_is, tail_is, first_opens, not_empty, blank_not, blank_opens_none, line_opens_none}
 use Rattle.arc_lex.proofs.OneRule.{one_rule, none_at_end}
@@ -133,47 +133,47 @@ cut_or_fault at s bytes _ (done _ _) there z others p rule q e (here _ _ _ _ h) 
 cut_or_fault at s bytes _ (blank _ _ b rest _ is clean more) there z others p rule q e (here _ _ _ _ h) = clean rule (moved s z bytes others rule q e h)
 cut_or_fault at s bytes _ (skipped _ _ xs rest _ is clean more) there z others p rule q e (here _ _ _ _ h) = clean rule (moved s z bytes others rule q e h)
 cut_or_fault at s bytes _ (token _ _ xs o rest _ g free clean more) there z others p rule q e (here _ _ _ _ h) = clean rule (moved s z bytes others rule q e h)
-cut_or_fault at s _ _ (done _ _) there z _ p rule q e (behind_blank _ _ d r _ _ also _ other) = cc
-cut_or_fault at s _ _ (blank _ _ b rest ts is clean more) there z _ p rule q e (behind_blank _ _ d r _ _ also _ other) =
+cut_or_fault at s _ _ (done _ _) there z _ p rule q e (after_blank _ _ d r _ _ also _ other) = cc
+cut_or_fault at s _ _ (blank _ _ b rest ts is clean more) there z _ p rule q e (after_blank _ _ d r _ _ also _ other) =
     let same : b ≡ d = head_is b d rest r e in
     cut_or_fault (at + 1) (nat_eq b 10 || s) rest ts more (there + 1) (nat_eq d 10 || z) r p rule (ap (λ u. nat_eq u 10 || s) same ∙ ap (λ u. nat_eq d 10 || u) q) (tail_is b d rest r e) other
-cut_or_fault at s _ _ (skipped _ _ xs rest _ is clean more) there z _ p rule q e (behind_blank _ _ d r _ _ also _ other) = skip_no_blank s d r xs rest also is (sym e)
-cut_or_fault at s _ _ (token _ _ xs o rest _ g free clean more) there z _ p rule q e (behind_blank _ _ d r _ _ also _ other) = no_blank d r xs o rest also g.token (sym e)
-cut_or_fault at s _ _ (done _ _) there z _ p rule q e (behind_skipped _ _ ys r _ _ also _ other) = skip_no_end z ys r also e
-cut_or_fault at s _ _ (blank _ _ b rest ts is clean more) there z _ p rule q e (behind_skipped _ _ ys r _ _ also _ other) = skip_no_blank z b rest ys r is also e
-cut_or_fault at s _ _ (skipped _ _ xs rest ts is clean more) there z _ p rule q e (behind_skipped _ _ ys r _ _ also _ other) =
+cut_or_fault at s _ _ (skipped _ _ xs rest _ is clean more) there z _ p rule q e (after_blank _ _ d r _ _ also _ other) = skip_no_blank s d r xs rest also is (sym e)
+cut_or_fault at s _ _ (token _ _ xs o rest _ g free clean more) there z _ p rule q e (after_blank _ _ d r _ _ also _ other) = no_blank d r xs o rest also g.token (sym e)
+cut_or_fault at s _ _ (done _ _) there z _ p rule q e (after_skipped _ _ ys r _ _ also _ other) = skip_no_end z ys r also e
+cut_or_fault at s _ _ (blank _ _ b rest ts is clean more) there z _ p rule q e (after_skipped _ _ ys r _ _ also _ other) = skip_no_blank z b rest ys r is also e
+cut_or_fault at s _ _ (skipped _ _ xs rest ts is clean more) there z _ p rule q e (after_skipped _ _ ys r _ _ also _ other) =
     let same = one_skip s xs rest ys r is (subst (λ u. Skipped u ys r) (sym q) also) e in
     cut_or_fault (at + length xs) false rest ts more (there + length ys) false r p rule refl same.1 other
-cut_or_fault at s _ _ (token _ _ xs o rest _ g free clean more) there z _ p rule q e (behind_skipped _ _ ys r _ _ also _ other) = token_no_skip z xs o rest ys r g.token free also e
-cut_or_fault at s _ _ (done _ _) there z _ p rule q e (behind_token _ _ ys u r _ _ k _ _ other) = no_end ys u r k.token e
-cut_or_fault at s _ _ (blank _ _ b rest ts is clean more) there z _ p rule q e (behind_token _ _ ys u r _ _ k _ _ other) = no_blank b rest ys u r is k.token e
-cut_or_fault at s _ _ (skipped _ _ xs rest _ is clean more) there z _ p rule q e (behind_token _ _ ys u r _ _ k free _ other) = token_no_skip s ys u r xs rest k.token free is (sym e)
-cut_or_fault at s _ _ (token _ _ xs o rest ts g free clean more) there z _ p rule q e (behind_token _ _ ys u r _ _ k _ _ other) =
+cut_or_fault at s _ _ (token _ _ xs o rest _ g free clean more) there z _ p rule q e (after_skipped _ _ ys r _ _ also _ other) = token_no_skip z xs o rest ys r g.token free also e
+cut_or_fault at s _ _ (done _ _) there z _ p rule q e (after_token _ _ ys u r _ _ k _ _ other) = no_end ys u r k.token e
+cut_or_fault at s _ _ (blank _ _ b rest ts is clean more) there z _ p rule q e (after_token _ _ ys u r _ _ k _ _ other) = no_blank b rest ys u r is k.token e
+cut_or_fault at s _ _ (skipped _ _ xs rest _ is clean more) there z _ p rule q e (after_token _ _ ys u r _ _ k free _ other) = token_no_skip s ys u r xs rest k.token free is (sym e)
+cut_or_fault at s _ _ (token _ _ xs o rest ts g free clean more) there z _ p rule q e (after_token _ _ ys u r _ _ k _ _ other) =
     let same = one_longest xs o rest ys u r g k e in
     cut_or_fault (at + length xs) false rest ts more (there + length ys) false r p rule refl same.2 other
 
 pub one_fault : (at : ℕ) (s : Bool) (bytes : List ℕ) (p : ℕ) (r : Rule) → FaultAt at s bytes p r → (there : ℕ) (z : Bool) (others : List ℕ) (q : ℕ) (t : Rule) → at ≡ there → s ≡ z → bytes ≡ others
     → FaultAt there z others q t → (p ≡ q) × (r ≡ t)
 one_fault at s _ _ r (here _ _ bytes _ h) there z _ _ t l i e (here _ _ others _ k) = (l, one_rule s bytes r t h (moved s z bytes others t i e k))
-one_fault at s bytes p r (behind_blank _ _ b rest _ _ is clean more) there z others _ t l i e (here _ _ _ _ k) = absurd (clean t (moved s z bytes others t i e k))
-one_fault at s bytes p r (behind_skipped _ _ xs rest _ _ is clean more) there z others _ t l i e (here _ _ _ _ k) = absurd (clean t (moved s z bytes others t i e k))
-one_fault at s bytes p r (behind_token _ _ xs o rest _ _ g free clean more) there z others _ t l i e (here _ _ _ _ k) = absurd (clean t (moved s z bytes others t i e k))
-one_fault at s bytes _ r (here _ _ _ _ h) there z others q t l i e (behind_blank _ _ d o _ _ is clean other) = absurd (clean r (moved z s others bytes r (sym i) (sym e) h))
-one_fault at s _ p r (behind_blank _ _ b rest _ _ is clean more) there z _ q t l i e (behind_blank _ _ d o _ _ also _ other) =
+one_fault at s bytes p r (after_blank _ _ b rest _ _ is clean more) there z others _ t l i e (here _ _ _ _ k) = absurd (clean t (moved s z bytes others t i e k))
+one_fault at s bytes p r (after_skipped _ _ xs rest _ _ is clean more) there z others _ t l i e (here _ _ _ _ k) = absurd (clean t (moved s z bytes others t i e k))
+one_fault at s bytes p r (after_token _ _ xs o rest _ _ g free clean more) there z others _ t l i e (here _ _ _ _ k) = absurd (clean t (moved s z bytes others t i e k))
+one_fault at s bytes _ r (here _ _ _ _ h) there z others q t l i e (after_blank _ _ d o _ _ is clean other) = absurd (clean r (moved z s others bytes r (sym i) (sym e) h))
+one_fault at s _ p r (after_blank _ _ b rest _ _ is clean more) there z _ q t l i e (after_blank _ _ d o _ _ also _ other) =
     let same : b ≡ d = head_is b d rest o e in
     one_fault (at + 1) (nat_eq b 10 || s) rest p r more (there + 1) (nat_eq d 10 || z) o q t (ap (λ n. n + 1) l) (ap (λ u. nat_eq u 10 || s) same ∙ ap (λ u. nat_eq d 10 || u) i) (tail_is b d rest o e) other
-one_fault at s _ p r (behind_skipped _ _ xs rest _ _ is clean more) there z _ q t l i e (behind_blank _ _ d o _ _ also _ other) = absurd (skip_no_blank s d o xs rest also is (sym e))
-one_fault at s _ p r (behind_token _ _ xs u rest _ _ g free clean more) there z _ q t l i e (behind_blank _ _ d o _ _ also _ other) = absurd (no_blank d o xs u rest also g.token (sym e))
-one_fault at s bytes _ r (here _ _ _ _ h) there z others q t l i e (behind_skipped _ _ ys o _ _ is clean other) = absurd (clean r (moved z s others bytes r (sym i) (sym e) h))
-one_fault at s _ p r (behind_blank _ _ b rest _ _ is clean more) there z _ q t l i e (behind_skipped _ _ ys o _ _ also _ other) = absurd (skip_no_blank z b rest ys o is also e)
-one_fault at s _ p r (behind_skipped _ _ xs rest _ _ is clean more) there z _ q t l i e (behind_skipped _ _ ys o _ _ also _ other) =
+one_fault at s _ p r (after_skipped _ _ xs rest _ _ is clean more) there z _ q t l i e (after_blank _ _ d o _ _ also _ other) = absurd (skip_no_blank s d o xs rest also is (sym e))
+one_fault at s _ p r (after_token _ _ xs u rest _ _ g free clean more) there z _ q t l i e (after_blank _ _ d o _ _ also _ other) = absurd (no_blank d o xs u rest also g.token (sym e))
+one_fault at s bytes _ r (here _ _ _ _ h) there z others q t l i e (after_skipped _ _ ys o _ _ is clean other) = absurd (clean r (moved z s others bytes r (sym i) (sym e) h))
+one_fault at s _ p r (after_blank _ _ b rest _ _ is clean more) there z _ q t l i e (after_skipped _ _ ys o _ _ also _ other) = absurd (skip_no_blank z b rest ys o is also e)
+one_fault at s _ p r (after_skipped _ _ xs rest _ _ is clean more) there z _ q t l i e (after_skipped _ _ ys o _ _ also _ other) =
     let same = one_skip s xs rest ys o is (subst (λ u. Skipped u ys o) (sym i) also) e in
     one_fault (at + length xs) false rest p r more (there + length ys) false o q t (omega (arith, l, ap length same.0)) refl same.1 other
-one_fault at s _ p r (behind_token _ _ xs u rest _ _ g free clean more) there z _ q t l i e (behind_skipped _ _ ys o _ _ also _ other) = absurd (token_no_skip z xs u rest ys o g.token free also e)
-one_fault at s bytes _ r (here _ _ _ _ h) there z others q t l i e (behind_token _ _ ys o rest _ _ g free clean other) = absurd (clean r (moved z s others bytes r (sym i) (sym e) h))
-one_fault at s _ p r (behind_blank _ _ b rest _ _ is clean more) there z _ q t l i e (behind_token _ _ ys o tail _ _ g free _ other) = absurd (no_blank b rest ys o tail is g.token e)
-one_fault at s _ p r (behind_skipped _ _ xs rest _ _ is clean more) there z _ q t l i e (behind_token _ _ ys o tail _ _ g free _ other) = absurd (token_no_skip s ys o tail xs rest g.token free is (sym e))
-one_fault at s _ p r (behind_token _ _ xs o rest _ _ g free clean more) there z _ q t l i e (behind_token _ _ ys u tail _ _ k _ _ other) =
+one_fault at s _ p r (after_token _ _ xs u rest _ _ g free clean more) there z _ q t l i e (after_skipped _ _ ys o _ _ also _ other) = absurd (token_no_skip z xs u rest ys o g.token free also e)
+one_fault at s bytes _ r (here _ _ _ _ h) there z others q t l i e (after_token _ _ ys o rest _ _ g free clean other) = absurd (clean r (moved z s others bytes r (sym i) (sym e) h))
+one_fault at s _ p r (after_blank _ _ b rest _ _ is clean more) there z _ q t l i e (after_token _ _ ys o tail _ _ g free _ other) = absurd (no_blank b rest ys o tail is g.token e)
+one_fault at s _ p r (after_skipped _ _ xs rest _ _ is clean more) there z _ q t l i e (after_token _ _ ys o tail _ _ g free _ other) = absurd (token_no_skip s ys o tail xs rest g.token free is (sym e))
+one_fault at s _ p r (after_token _ _ xs o rest _ _ g free clean more) there z _ q t l i e (after_token _ _ ys u tail _ _ k _ _ other) =
     let same = one_longest xs o rest ys u tail g k e in
     one_fault (at + length xs) false rest p r more (there + length ys) false tail q t (omega (arith, l, ap length same.0)) refl same.2 other
 

@@ -111,7 +111,7 @@ no_integer : IsWrongInteger [] → ⊥
 no_integer ([], rest, e, (digit, all), ends, none) = cc
 no_integer (x ∷ xs, rest, e, like, ends, none) = cc
 
--- no rule is broken behind the last byte
+-- no rule is broken after the last byte
 pub none_at_end : (starts : Bool) (rule : Rule) → Breaks starts rule [] → ⊥
 none_at_end starts rules.BadByte h = let e = h.splits in cc
 none_at_end starts rules.OpenComment (rest, e, unclosed) = cc

@@ -63,7 +63,7 @@ pub one_sort : (xs : List ℕ) (s o : Sort) → IsToken xs s → IsToken xs o �
 one_sort [] s o h k = absurd (not_empty s h)
 one_sort (b ∷ bs) s o h k = by_first b bs s o h k (first_opens s b bs h) (first_opens o b bs k)
 
--- the longest token at a place, and what is behind it
+-- the longest token at a place, and what is after it
 pub one_longest : (xs : List ℕ) (s : Sort) (rest ys : List ℕ) (o : Sort) (r : List ℕ) → Longest xs s rest → Longest ys o r → xs ++ rest ≡ ys ++ r
     → (xs ≡ ys) × (s ≡ o) × (rest ≡ r)
 one_longest xs s rest ys o r h k c =

@@ -5,7 +5,7 @@ use Rattle.std.proofs.lemmas.Bool.{ne_eqb}
 use Rattle.arc_lex.specs.Texts.{Part, Plain, Escape, part_bytes, parts_bytes, part_value, parts_value, put_front, is_plain, escape_value}
 use Rattle.arc_lex.specs.private.Pieces.{scan}
 
--- the parts read so far, and a lone backslash behind them where escaped
+-- the parts read so far, and a lone backslash after them where escaped
 pub record ReadSoFar (quote : ℕ) (right escaped : Bool) (items : List ℕ) (at : ℕ) (rest all : List ℕ) : Type 0 where
   pub parts : List Part
   pub at_is : at ≡ length (parts_bytes parts) + cond escaped 1 0
@@ -16,7 +16,7 @@ pub parts_push : (ps : List Part) (p : Part) → parts_bytes (ps ++ p ∷ []) �
 parts_push [] p = append-nil (part_bytes p)
 parts_push (q ∷ qs) p = ap (λ bs. part_bytes q ++ bs) (parts_push qs p) ∙ sym (append_assoc (part_bytes q) (parts_bytes qs) (part_bytes p))
 
--- a byte behind bytes, if both are there
+-- a byte after bytes, if both are there
 abbrev put_back : Option (List ℕ) → Option ℕ → Option (List ℕ)
 put_back None b = None
 put_back (Some bs) None = None

@@ -43,5 +43,5 @@ run class [] = 0
 run class (b ∷ bs) = if has class b then run class bs + 1 else 0
 
 -- what is after the bytes at the front that are in the class
-abbrev pub behind : Class → List ℕ → List ℕ
-behind class bytes = drop (run class bytes) bytes
+abbrev pub after_run : Class → List ℕ → List ℕ
+after_run class bytes = drop (run class bytes) bytes

@@ -7,7 +7,7 @@ use Rattle.arc_lex.specs.declared.bytes.Class.TheVariants as c
 use Rattle.arc_lex.specs.declared.piece.Rule.{Rule}
 use Rattle.arc_lex.specs.declared.piece.Rule.TheVariants as rules
 use Rattle.arc_lex.specs.declared.lex.TheConstants.{MOST_BYTES}
-use Rattle.arc_lex.specs.Bytes.{has, all_in, begins, is_blank, behind}
+use Rattle.arc_lex.specs.Bytes.{has, all_in, begins, is_blank, after_run}
 use Rattle.arc_lex.specs.Spellings.{mark_bytes, word_bytes, at_bytes}
 use Rattle.arc_lex.specs.Texts.{Part, parts_bytes, parts_value, all_go_on, integer}
 use Rattle.arc_lex.specs.Tokens.{Sort, Name, Integer, Text, Key, At, Sign, Tok}
@@ -70,13 +70,13 @@ IsBlockComment xs rest = (body : List ℕ) × (xs ≡ 47 ∷ 42 ∷ body) × (to
 
 -- `mark`, after some spaces
 abbrev pub is_mark : List ℕ → Bool
-is_mark bytes = begins c.Space bytes && starts_with nat_eq (behind c.Space bytes) (codes "mark")
+is_mark bytes = begins c.Space bytes && starts_with nat_eq (after_run c.Space bytes) (codes "mark")
 
 -- after a `#` and spaces: `import`, `include` or `pragma mark`
 abbrev pub is_skipped : List ℕ → Bool
 is_skipped bytes =
-    starts_with nat_eq (behind c.Space bytes) (codes "import") || (starts_with nat_eq (behind c.Space bytes) (codes "include")
-    || (starts_with nat_eq (behind c.Space bytes) (codes "pragma") && is_mark (drop 6 (behind c.Space bytes))))
+    starts_with nat_eq (after_run c.Space bytes) (codes "import") || (starts_with nat_eq (after_run c.Space bytes) (codes "include")
+    || (starts_with nat_eq (after_run c.Space bytes) (codes "pragma") && is_mark (drop 6 (after_run c.Space bytes))))
 
 -- the line of such a `#`, with only blanks in front of it on its line (this project has no preprocessor)
 abbrev pub IsSkippedLine : Bool → List ℕ → List ℕ → Type 0
@@ -160,11 +160,11 @@ pub data Cuts : ℕ → Bool → List ℕ → List Tok → Type 0 where
 -- From a place on, p is the first place where a rule is broken, and this is the rule.
 pub data FaultAt : ℕ → Bool → List ℕ → ℕ → Rule → Type 0 where
   here : (at : ℕ) (starts : Bool) (bytes : List ℕ) (rule : Rule) → Breaks starts rule bytes → FaultAt at starts bytes at rule
-  behind_blank : (at : ℕ) (starts : Bool) (b : ℕ) (rest : List ℕ) (p : ℕ) (rule : Rule) → is_blank b ≡ true → Faultless starts (b ∷ rest)
+  after_blank : (at : ℕ) (starts : Bool) (b : ℕ) (rest : List ℕ) (p : ℕ) (rule : Rule) → is_blank b ≡ true → Faultless starts (b ∷ rest)
       → FaultAt (at + 1) (nat_eq b 10 || starts) rest p rule → FaultAt at starts (b ∷ rest) p rule
-  behind_skipped : (at : ℕ) (starts : Bool) (xs rest : List ℕ) (p : ℕ) (rule : Rule) → Skipped starts xs rest → Faultless starts (xs ++ rest)
+  after_skipped : (at : ℕ) (starts : Bool) (xs rest : List ℕ) (p : ℕ) (rule : Rule) → Skipped starts xs rest → Faultless starts (xs ++ rest)
       → FaultAt (at + length xs) false rest p rule → FaultAt at starts (xs ++ rest) p rule
-  behind_token : (at : ℕ) (starts : Bool) (xs : List ℕ) (s : Sort) (rest : List ℕ) (p : ℕ) (rule : Rule) → Longest xs s rest → (IsComment (xs ++ rest) → ⊥)
+  after_token : (at : ℕ) (starts : Bool) (xs : List ℕ) (s : Sort) (rest : List ℕ) (p : ℕ) (rule : Rule) → Longest xs s rest → (IsComment (xs ++ rest) → ⊥)
       → Faultless starts (xs ++ rest) → FaultAt (at + length xs) false rest p rule → FaultAt at starts (xs ++ rest) p rule
 
 -- the most bytes that a source has (the choice of this project)

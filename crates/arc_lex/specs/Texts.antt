@@ -5,7 +5,7 @@ use Rattle.arc_lex.specs.declared.bytes.Class.TheVariants as c
 use Rattle.arc_lex.specs.declared.number.Base.{Base}
 use Rattle.arc_lex.specs.declared.number.Base.TheVariants as bases
 use Rattle.arc_lex.specs.declared.number.TheConstants.{LARGEST}
-use Rattle.arc_lex.specs.Bytes.{begins, run, behind, is_digit}
+use Rattle.arc_lex.specs.Bytes.{begins, run, after_run, is_digit}
 
 -- ---- texts and characters
 
@@ -118,8 +118,8 @@ is_empty (b ∷ bs) = false
 -- the integer of a base that is written so, and whether it has a suffix: some digits, which are no more than the largest integer, and nothing or a suffix after them
 abbrev pub integer_of : Base → List ℕ → Option (ℤ × Bool)
 integer_of base bytes =
-    if (begins (digits_of base) bytes && nat_le (number base (take (run (digits_of base) bytes) bytes)) largest) && may_follow (behind (digits_of base) bytes)
-    then Some (pos (number base (take (run (digits_of base) bytes) bytes)), not (is_empty (behind (digits_of base) bytes)))
+    if (begins (digits_of base) bytes && nat_le (number base (take (run (digits_of base) bytes) bytes)) largest) && may_follow (after_run (digits_of base) bytes)
+    then Some (pos (number base (take (run (digits_of base) bytes) bytes)), not (is_empty (after_run (digits_of base) bytes)))
     else None
 
 -- the integer that is written so, and whether it has a suffix: 0x or 0X and hexadecimal digits, or decimal digits without a 0 in front (C99, section 6.4.4.1; the

@@ -39,7 +39,7 @@ abbrev pub toks : List Token → List Tok
 toks [] = []
 toks (t ∷ ts) = tok t ∷ toks ts
 
--- the number of a mark, by which two of them are told apart
+-- the number of a mark, by which two of them are kept apart
 abbrev pub number_of_mark : Mark → ℕ
 number_of_mark m.OpenBrace = 0
 number_of_mark m.CloseBrace = 1

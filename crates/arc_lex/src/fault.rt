@@ -22,7 +22,7 @@ pub enum LexFault {
     #[error("the integer, character or text at {0} is wrong")]
     Literal(usize),
     /// No known word stands after an `@`, or a `#` begins no line that is skipped.
-    #[error("no known word stands behind the @ or # at {0}")]
+    #[error("no known word stands after the @ or # at {0}")]
     Directive(usize),
     /// The source has over 1,048,576 bytes.
     #[error("the source has over 1048576 bytes")]

@@ -1,6 +1,6 @@
 //! Comments and skipped lines.
 ghost use Rattle.std.specs.Prelude.{◌≡◌, ◌≤◌, IfSome, length, false};
-ghost use Rattle.arc_lex.specs.Bytes.{behind};
+ghost use Rattle.arc_lex.specs.Bytes.{after_run};
 ghost use Rattle.arc_lex.specs.Source.{to_close, is_mark, is_skipped};
 
 use crate::bytes::{Class, begins, run};
@@ -21,8 +21,8 @@ pub fn to_close(bytes: &[u8]) -> Option<usize>
 }
 
 /// What is after the bytes at the front that are in the class.
-fn behind(class: Class, bytes: &[u8]) -> &[u8]
-    ensures { result.now ≡ behind class bytes.now }
+fn after_run(class: Class, bytes: &[u8]) -> &[u8]
+    ensures { result.now ≡ after_run class bytes.now }
 {
     bytes.split_at(run(class, bytes)).1
 }
@@ -31,14 +31,14 @@ fn behind(class: Class, bytes: &[u8]) -> &[u8]
 fn is_mark(bytes: &[u8]) -> bool
     ensures { result ≡ is_mark bytes.now }
 {
-    begins(Class::Space, bytes) && behind(Class::Space, bytes).starts_with(b"mark")
+    begins(Class::Space, bytes) && after_run(Class::Space, bytes).starts_with(b"mark")
 }
 
 /// Whether `import`, `include` or `pragma mark` stands after spaces.
 pub fn is_skipped(bytes: &[u8]) -> bool
     ensures { result ≡ is_skipped bytes.now }
 {
-    let word = behind(Class::Space, bytes);
+    let word = after_run(Class::Space, bytes);
     if word.starts_with(b"import") || word.starts_with(b"include") {
         return true;
     }

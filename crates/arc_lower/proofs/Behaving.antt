@@ -11,7 +11,7 @@ pub record Shows (seen : ℕ → Sight) (bound : ℕ) (meant : Sight) : Type 0 w
   pub enough : meant.stop ≡ None → bound ≤ steps
 
 module _ (meant seen : List ℕ → ℕ → Sight) (steady : Steady seen) (shows : (input : List ℕ) (n : ℕ) → Shows (seen input) n (meant input n)) where
-  -- behind the steps that show it nothing changes
+  -- after the steps that show it nothing changes
   over_at : (input : List ℕ) (k : ℕ) (x : Option Stop) → (meant input k).stop ≡ x → (shows input k).steps < k → meant input k ≡ seen input k
   over_at input k None e lt = let s = shows input k in absurd (omega (arith, s.enough e))
   over_at input k (Some stop) e lt =

@@ -31,7 +31,7 @@ use Rattle.arc_lower.proofs.Stacking.{onto}
 use Rattle.arc_lower.proofs.Shaping.{then_twice}
 use Rattle.arc_lower.proofs.Fitting.{first_length, passing_leads}
 use Rattle.arc_lower.proofs.Releasing.{Kept, kept_trans, Ends, laid, dying_in, object_runs, there_runs, place_runs, same_test, field_count}
-use Rattle.arc_lower.proofs.Running.{behind_call, Returns, answered, Deep, past_end, same_put}
+use Rattle.arc_lower.proofs.Running.{after_call, Returns, answered, Deep, past_end, same_put}
 use Rattle.arc_lower.proofs.Leaving.{leaving, Left, function_runs}
 use Rattle.arc_lower.proofs.Linking.{Begins, call_enters, function_gives}
 use Rattle.arc_lower.proofs.Finding.{Stub, Meets, Same, Linked, lookup_meets, descent_same, fields_same, strong_fields_same, order_same, found_same}
@@ -156,13 +156,13 @@ module _ (p : Program) (R : resolved.Program) (bound : ℕ) (begins : (wanted : 
       subst (λ g. Runs (moves p) bound (begun_at rs wanted f self frames given stack w) (Left p frames bound R F self w stack rs D deep place g) (called D bound F self given w)) (function_gives R wanted f)
       (function_runs p frames bound R F self w stack rs D deep place (entry wanted f) given (first_length F.slots given.numbers) (has_front p place leave body (begins wanted f).code) (has_back p place leave body (begins wanted f).code))
 
-  -- behind a call its object is the last temporary
+  -- after a call its object is the last temporary
   abbrev given_at : List Frame → (rs : List ℕ) → (pc : ℕ) → List ℤ → (object : ℕ) → World → world.Frame → List ℕ → Reached State
   given_at frames rs pc stack object w f waiting = placed_at frames (object ∷ rs) pc stack f.self w (record { self = f.self; locals = f.locals; strong = f.strong; temporaries = object ∷ f.temporaries }) waiting
 
-  -- a method or a function comes back behind its call
+  -- a method or a function comes back after its call
   comes_home : (rs : List ℕ) (levels : ℕ) (wanted : Gives) (f pc self : ℕ) (frames : List Frame) (stack : List ℤ) (w : World) (deep : Deep p (Calling (pc + 1) (waits_of w) ∷ frames) bound R (level R bound levels)) (a : world.Answer) (w2 : World) → Kept w w2
-      → leaving p (Calling (pc + 1) (waits_of w) ∷ frames) bound R (function_at R wanted f) self w stack rs (level R bound levels) deep (begins wanted f).place wanted a w2 ≡ behind_call wanted frames rs pc stack a w2
+      → leaving p (Calling (pc + 1) (waits_of w) ∷ frames) bound R (function_at R wanted f) self w stack rs (level R bound levels) deep (begins wanted f).place wanted a w2 ≡ after_call wanted frames rs pc stack a w2
   comes_home rs levels gives.Number f pc self frames stack w deep a w2 k =
       let v = a.number in
       ap (λ t. Running (at frames (pc + 1) (v ∷ stack) (recounted (resumed (waits_of w) (ended_now rs self w w2)))) w2.input t) (append-nil w2.trace)
@@ -185,17 +185,17 @@ module _ (p : Program) (R : resolved.Program) (bound : ℕ) (begins : (wanted : 
   enters_at rs frames pc to self stack w b = follow (recount (enters (at frames pc stack (held_of rs w)) to self b)) w.input w.trace
 
   -- a message, by what it finds
-  abbrev Tells : (rs : List ℕ) (levels : ℕ) (frames : List Frame) (meant stands : Option ℕ) (wanted : Gives) (values objects self : ℕ) (given : Given) (stack : List ℤ) (w : World) (pc : ℕ) → Type 0
-  Tells rs levels frames meant stands wanted values objects self given stack w pc = Meets p R wanted values objects meant stands → Runs (moves p) bound (follow (recount (answers (at frames pc (onto given.numbers stack) (held_of (onto given.objects rs) w)) self stands)) w.input w.trace) (Returns wanted frames rs pc stack w) (answered (level R bound levels) wanted meant self given w)
+  abbrev SendsMessage : (rs : List ℕ) (levels : ℕ) (frames : List Frame) (meant stands : Option ℕ) (wanted : Gives) (values objects self : ℕ) (given : Given) (stack : List ℤ) (w : World) (pc : ℕ) → Type 0
+  SendsMessage rs levels frames meant stands wanted values objects self given stack w pc = Meets p R wanted values objects meant stands → Runs (moves p) bound (follow (recount (answers (at frames pc (onto given.numbers stack) (held_of (onto given.objects rs) w)) self stands)) w.input w.trace) (Returns wanted frames rs pc stack w) (answered (level R bound levels) wanted meant self given w)
 
-  last_tells : (rs : List ℕ) (frames : List Frame) → length frames + 0 ≡ most_levels → (meant stands : Option ℕ) (wanted : Gives) (values objects self : ℕ) (given : Given) (stack : List ℤ) (w : World) (pc : ℕ) → Tells rs zero frames meant stands wanted values objects self given stack w pc
-  last_tells rs frames full None None wanted values objects self given stack w pc meets = inr (leads_same (moves p) _ _ refl)
-  last_tells rs frames full (Some f) (Some to) wanted values objects self given stack w pc meets = inr (leads_same (moves p) _ _ (ap (enters_at (onto given.objects rs) frames pc to self (onto given.numbers stack) w) (le-ltb (length frames) most_levels (omega (arith, full)))))
-  last_tells rs frames full _ _ wanted values objects self given stack w pc meets = absurd meets
+  last_finds : (rs : List ℕ) (frames : List Frame) → length frames + 0 ≡ most_levels → (meant stands : Option ℕ) (wanted : Gives) (values objects self : ℕ) (given : Given) (stack : List ℤ) (w : World) (pc : ℕ) → SendsMessage rs zero frames meant stands wanted values objects self given stack w pc
+  last_finds rs frames full None None wanted values objects self given stack w pc meets = inr (leads_same (moves p) _ _ refl)
+  last_finds rs frames full (Some f) (Some to) wanted values objects self given stack w pc meets = inr (leads_same (moves p) _ _ (ap (enters_at (onto given.objects rs) frames pc to self (onto given.numbers stack) w) (le-ltb (length frames) most_levels (omega (arith, full)))))
+  last_finds rs frames full _ _ wanted values objects self given stack w pc meets = absurd meets
 
-  level_tells : (rs : List ℕ) (levels : ℕ) (frames : List Frame) → length frames + suc levels ≡ most_levels → (meant stands : Option ℕ) (wanted : Gives) (values objects self : ℕ) (given : Given) (stack : List ℤ) (w : World) (pc : ℕ) → Deep p (Calling (pc + 1) (waits_of w) ∷ frames) bound R (level R bound levels) → length given.numbers ≡ values → length given.objects ≡ objects → Tells rs (suc levels) frames meant stands wanted values objects self given stack w pc
-  level_tells rs levels frames full None None wanted values objects self given stack w pc deep size few meets = inr (leads_same (moves p) _ _ refl)
-  level_tells rs levels frames full (Some f) (Some to) wanted values objects self given stack w pc deep size few meets =
+  level_finds : (rs : List ℕ) (levels : ℕ) (frames : List Frame) → length frames + suc levels ≡ most_levels → (meant stands : Option ℕ) (wanted : Gives) (values objects self : ℕ) (given : Given) (stack : List ℤ) (w : World) (pc : ℕ) → Deep p (Calling (pc + 1) (waits_of w) ∷ frames) bound R (level R bound levels) → length given.numbers ≡ values → length given.objects ≡ objects → SendsMessage rs (suc levels) frames meant stands wanted values objects self given stack w pc
+  level_finds rs levels frames full None None wanted values objects self given stack w pc deep size few meets = inr (leads_same (moves p) _ _ refl)
+  level_finds rs levels frames full (Some f) (Some to) wanted values objects self given stack w pc deep size few meets =
       let inner = Calling (pc + 1) (waits_of w) ∷ frames in
       let all = onto given.numbers stack in
       let names1 = onto given.objects rs in
@@ -204,7 +204,7 @@ module _ (p : Program) (R : resolved.Program) (bound : ℕ) (begins : (wanted : 
       let into = leads_trans (moves p) (from true) (running inner names1 to all w1) (begun_at rs wanted f self inner given stack w) (quiet p inner bound names1 to all w1) (stub_leads rs inner wanted values objects f to given stack w1 size few meets) in
       subst (λ b. Runs (moves p) bound (from b) (Returns wanted frames rs pc stack w) ((level R bound (suc levels)).call wanted f self given w)) (sym (lt-ltb (length frames) most_levels (omega (arith, full))))
       (leads_runs (moves p) bound (from true) (begun_at rs wanted f self inner given stack w) (Returns wanted frames rs pc stack w) ((level R bound (suc levels)).call wanted f self given w) into (method_runs rs levels wanted f pc self frames given stack w deep))
-  level_tells rs levels frames full _ _ wanted values objects self given stack w pc deep size few meets = absurd meets
+  level_finds rs levels frames full _ _ wanted values objects self given stack w pc deep size few meets = absurd meets
 
   -- ---- the end of an object
 
@@ -233,7 +233,7 @@ module _ (p : Program) (R : resolved.Program) (bound : ℕ) (begins : (wanted : 
     back_from : (w w1 : World) (from : Reached State) (o1 : Outcome Finished) → Kept w w1 → Runs (moves p) bound from (Back w1) o1 → Runs (moves p) bound from (Back w) o1
     back_from w w1 from o1 k runs = better_runs (moves p) bound from (Back w1) (Back w) o1 runs (λ done w2 to m. (m.0, kept_trans w w1 w2 k m.1))
 
-    -- behind the end
+    -- after the end
     abbrev goes_back : World → Next State
     goes_back w = Goes (at frames back stack (resumed waits (with_things (ended_held rs o w) (gone_in w.objects o)))) []
 
@@ -503,8 +503,8 @@ module _ (p : Program) (R : resolved.Program) (bound : ℕ) (begins : (wanted : 
           let s = onto (first_locals (slots_of R wanted f) given.numbers) stack in
           let names1 = onto (first_names (parameters_of R wanted f) given.objects) rs in
           inr (leads_step (moves p) (at frames pc s (held_of names1 w)) w.input w.trace (enters (at frames pc s (held_of names1 w)) (entry wanted f) 0 false) (call_steps wanted f pc frames s (held_of names1 w) false has (le-ltb (length frames) most_levels (omega (arith, full)))));
-      tells = λ sign from selector arguments objects wanted self given stack rs w pc size few.
-          last_tells rs frames full (lookup R.classes from sign selector arguments objects wanted) (lookup p.classes from sign selector arguments objects wanted) wanted (passes sign arguments) objects self given stack w pc (lookup_meets p R links sign from selector arguments objects wanted);
+      says = λ sign from selector arguments objects wanted self given stack rs w pc size few.
+          last_finds rs frames full (lookup R.classes from sign selector arguments objects wanted) (lookup p.classes from sign selector arguments objects wanted) wanted (passes sign arguments) objects self given stack w pc (lookup_meets p R links sign from selector arguments objects wanted);
       ends = last_ends frames full;
       same_found = found_same p R links;
       same_classes = refl;
@@ -522,8 +522,8 @@ module _ (p : Program) (R : resolved.Program) (bound : ℕ) (begins : (wanted : 
           let begun1 = begun_at rs wanted f 0 inner1 given stack w in
           let into = leads_trans (moves p) (running frames names1 pc s w) (follow next w.input w.trace) begun1 (leads_step (moves p) (at frames pc s (held_of names1 w)) w.input w.trace next (call_steps wanted f pc frames s (held_of names1 w) true has (lt-ltb (length frames) most_levels (omega (arith, full))))) (quiet p inner1 bound names1 (entry wanted f) s w1) in
           leads_runs (moves p) bound (running frames names1 pc s w) begun1 (Returns wanted frames rs pc stack w) ((level R bound (suc levels)).call wanted f 0 given w) into (method_runs rs levels wanted f pc 0 frames given stack w (calls_run levels inner1 (omega (arith, full))));
-      tells = λ sign from selector arguments objects wanted self given stack rs w pc size few.
-          level_tells rs levels frames full (lookup R.classes from sign selector arguments objects wanted) (lookup p.classes from sign selector arguments objects wanted) wanted (passes sign arguments) objects self given stack w pc (calls_run levels (Calling (pc + 1) (waits_of w) ∷ frames) (omega (arith, full))) size few (lookup_meets p R links sign from selector arguments objects wanted);
+      says = λ sign from selector arguments objects wanted self given stack rs w pc size few.
+          level_finds rs levels frames full (lookup R.classes from sign selector arguments objects wanted) (lookup p.classes from sign selector arguments objects wanted) wanted (passes sign arguments) objects self given stack w pc (calls_run levels (Calling (pc + 1) (waits_of w) ∷ frames) (omega (arith, full))) size few (lookup_meets p R links sign from selector arguments objects wanted);
       ends = level_ends levels frames full (λ frame. calls_run levels (frame ∷ frames) (omega (arith, full)));
       same_found = found_same p R links;
       same_classes = refl;

@@ -35,9 +35,9 @@ has_back p pc [] b h = let e : pc ≡ pc + 0 = omega arith in subst (λ n. HasAt
 has_back p pc (x ∷ a) b h =
     subst (λ n. HasAt p n b) (omega arith) (has_back p (pc + 1) a b h.1)
 
-get_seam : (before behind : List Action) (x : Action) → slice_get (before ++ x ∷ behind) (length before) ≡ Some x
-get_seam [] behind x = refl
-get_seam (b ∷ before) behind x = get_seam before behind x
+get_seam : (before later : List Action) (x : Action) → slice_get (before ++ x ∷ later) (length before) ≡ Some x
+get_seam [] later x = refl
+get_seam (b ∷ before) later x = get_seam before later x
 
 has_from : (p : Program) (is before : List Action) → p.actions ≡ before ++ is → HasAt p (length before) (orders is)
 has_from p [] before e = tt

@@ -21,14 +21,14 @@ use Rattle.arc_code.specs.Instructions.{one_if}
 use Rattle.arc_code.specs.declared.instr.Op.TheVariants.{Narrow, SetField, Hold, Finds}
 use Rattle.arc_lower.specs.Known.{is_within, combined_kind, known_kind}
 use Rattle.arc_lower.proofs.Converting.{IsOf, within_keeps, combined_good, known_good, any_holds}
-use Rattle.arc_lower.specs.Lowered.{Message, ToClass, ToSuperClass, ToObject, ToSuper, Block, Idle, One, Store, Format, Calls, Tells, Making, Then, Fork, number_count, object_count, given_block, below_new, narrow_block, update_block, message_to, below_arguments, value_block, reference_block, receiver_block, arguments_block}
-use Rattle.arc_lower.proofs.Shaping.{Operands, push, name, pushed, Way, On, Lost, left_by, and_then, pushes, passes_by, answers_left, told, block, after, chosen_by, same_depth, on_pushed, Holds, after_known, then_twice}
+use Rattle.arc_lower.specs.Lowered.{Message, ToClass, ToSuperClass, ToObject, ToSuper, Block, Idle, One, Store, Format, Calls, SendsMessage, Making, Then, Fork, number_count, object_count, given_block, below_new, narrow_block, update_block, message_to, below_arguments, value_block, reference_block, receiver_block, arguments_block}
+use Rattle.arc_lower.proofs.Shaping.{Operands, push, name, pushed, Way, On, Lost, left_by, and_then, pushes, passes_by, answers_left, message_sent, block, after, chosen_by, same_depth, on_pushed, Holds, after_known, then_twice}
 
 module _ (D : Deeper) (bound place : ℕ) where
   abbrev run : Block → Operands → World → Outcome Way
   run = block D bound place false
 
-  -- behind an expression its operand lies on the others
+  -- after an expression its operand lies on the others
   abbrev pub above : Operands → ℤ → Way
   above s v = On (push v s)
 
@@ -68,13 +68,13 @@ module _ (D : Deeper) (bound place : ℕ) where
   held r s _ = refl
 
   -- arguments, and what they are passed to
-  passed : {B : Type 0} (all : Arguments) (behind : Block) (end : B → Way) (s : Operands) (w : World) (go : Given → World → Outcome B) → run (arguments_block (length s.numbers) all) s w ≡ left_by (all_above s) (all_evaluated D all w) → ((given : Given) (w1 : World) → Counted all given → run behind (pushed given s) w1 ≡ left_by end (go given w1))
-      → run (Then (arguments_block (length s.numbers) all) behind) s w ≡ left_by end (then_do (all_evaluated D all w) go)
-  passed all behind end s w go arguments next = after_known (Counted all) (λ given. pushed given s) end _ (all_evaluated D all w) _ _ (given_counted all w) arguments next
+  passed : {B : Type 0} (all : Arguments) (later : Block) (end : B → Way) (s : Operands) (w : World) (go : Given → World → Outcome B) → run (arguments_block (length s.numbers) all) s w ≡ left_by (all_above s) (all_evaluated D all w) → ((given : Given) (w1 : World) → Counted all given → run later (pushed given s) w1 ≡ left_by end (go given w1))
+      → run (Then (arguments_block (length s.numbers) all) later) s w ≡ left_by end (then_do (all_evaluated D all w) go)
+  passed all later end s w go arguments next = after_known (Counted all) (λ given. pushed given s) end _ (all_evaluated D all w) _ _ (given_counted all w) arguments next
 
-  tells : {B : Type 0} (wanted : Gives) (end : B → Way) (message : Message) (all : Arguments) (s : Operands) (w : World) (go : Given → World → Outcome B) → run (arguments_block (length s.numbers) all) s w ≡ left_by (all_above s) (all_evaluated D all w) → ((given : Given) (w1 : World) → told D wanted message given s w1 ≡ left_by end (go given w1))
-      → run (Then (arguments_block (length s.numbers) all) (Tells wanted message (number_count all) (object_count all))) s w ≡ left_by end (then_do (all_evaluated D all w) go)
-  tells wanted end message all s w go arguments answer = passed all (Tells wanted message (number_count all) (object_count all)) end s w go arguments (λ given w1 e. on_pushed (number_count all) (object_count all) given s w1 (λ values below. told D wanted message values below w1) e.0 e.1 ∙ answer given w1)
+  says : {B : Type 0} (wanted : Gives) (end : B → Way) (message : Message) (all : Arguments) (s : Operands) (w : World) (go : Given → World → Outcome B) → run (arguments_block (length s.numbers) all) s w ≡ left_by (all_above s) (all_evaluated D all w) → ((given : Given) (w1 : World) → message_sent D wanted message given s w1 ≡ left_by end (go given w1))
+      → run (Then (arguments_block (length s.numbers) all) (SendsMessage wanted message (number_count all) (object_count all))) s w ≡ left_by end (then_do (all_evaluated D all w) go)
+  says wanted end message all s w go arguments answer = passed all (SendsMessage wanted message (number_count all) (object_count all)) end s w go arguments (λ given w1 e. on_pushed (number_count all) (object_count all) given s w1 (λ values below. message_sent D wanted message values below w1) e.0 e.1 ∙ answer given w1)
 
   -- ---- what calls and messages give
 
@@ -92,41 +92,41 @@ module _ (D : Deeper) (bound place : ℕ) where
     call_is f all s w arguments = passed all (Calls wanted f (number_count all) (object_count all)) (end s) s w _ arguments (λ given w1 e.
         on_pushed (number_count all) (object_count all) given s w1 (λ values rest. answers_left wanted rest (D.call wanted f 0 values w1)) e.0 e.1 ∙ leaves s (D.call wanted f 0 given w1))
 
-    -- a message with its arguments, behind what gets it
+    -- a message with its arguments, after what gets it
     abbrev Sends : Receiver → (selector : ℕ) → Arguments → Operands → World → Type 0
     Sends receiver selector all s w =
-        run (Then (receiver_block (length s.numbers) receiver) (Then (arguments_block (below_arguments receiver (length s.numbers)) all) (Tells wanted (message_to receiver selector) (number_count all) (object_count all)))) s w
+        run (Then (receiver_block (length s.numbers) receiver) (Then (arguments_block (below_arguments receiver (length s.numbers)) all) (SendsMessage wanted (message_to receiver selector) (number_count all) (object_count all)))) s w
         ≡ left_by (end s) (then_do (received D receiver w) (λ target w1. then_do (all_evaluated D all w1) (λ given w2. give (sent D wanted target selector given w2))))
 
     module _ (selector : ℕ) (all : Arguments) (arguments : (s : Operands) (w : World) → run (arguments_block (length s.numbers) all) s w ≡ left_by (all_above s) (all_evaluated D all w)) where
       to_class : (a : Value) (s : Operands) (w : World) → run (value_block (length s.numbers) a) s w ≡ left_by (above s) (evaluated D a w) → Sends (ClassValue a) selector all s w
       to_class a s w value = after (λ v. push v s) (end s) _ (evaluated D a w) _ _ value (λ self w1.
-          tells wanted (end s) (ToClass selector) all (push self s) w1 (λ given w2. give (sent D wanted (meaning.ToClass (class_at self) self) selector given w2)) (arguments (push self s) w1) (λ given w2. leaves s (sent D wanted (meaning.ToClass (class_at self) self) selector given w2)))
+          says wanted (end s) (ToClass selector) all (push self s) w1 (λ given w2. give (sent D wanted (meaning.ToClass (class_at self) self) selector given w2)) (arguments (push self s) w1) (λ given w2. leaves s (sent D wanted (meaning.ToClass (class_at self) self) selector given w2)))
           ∙ ap (left_by (end s)) (then_twice (evaluated D a w) (λ self w1. Done (meaning.ToClass (class_at self) self) w1)
           (λ target w1. then_do (all_evaluated D all w1) (λ given w2. give (sent D wanted target selector given w2))))
 
       to_super_class : (from : ℕ) (s : Operands) (w : World) → Sends (ClassSuper from) selector all s w
       to_super_class from s w =
           let self = local_at w.frame.locals 0 in
-          ap (λ x. and_then x (run (Then (arguments_block (suc (length s.numbers)) all) (Tells wanted (ToSuperClass from selector) (number_count all) (object_count all))))) (same_depth (length s.numbers) (Done (On (push self s)) w) (Done Lost w))
-          ∙ tells wanted (end s) (ToSuperClass from selector) all (push self s) w (λ given w2. give (sent D wanted (meaning.ToClass (Some from) self) selector given w2)) (arguments (push self s) w) (λ given w2. leaves s (sent D wanted (meaning.ToClass (Some from) self) selector given w2))
+          ap (λ x. and_then x (run (Then (arguments_block (suc (length s.numbers)) all) (SendsMessage wanted (ToSuperClass from selector) (number_count all) (object_count all))))) (same_depth (length s.numbers) (Done (On (push self s)) w) (Done Lost w))
+          ∙ says wanted (end s) (ToSuperClass from selector) all (push self s) w (λ given w2. give (sent D wanted (meaning.ToClass (Some from) self) selector given w2)) (arguments (push self s) w) (λ given w2. leaves s (sent D wanted (meaning.ToClass (Some from) self) selector given w2))
 
       to_object : (a : Reference) (s : Operands) (w : World) → run (reference_block (length s.numbers) a) s w ≡ left_by (beside s) (referred D a w) → Sends (ObjectValue a) selector all s w
       to_object a s w value = after (λ r. name r s) (end s) _ (referred D a w) _ _ value (λ self w1.
-          tells wanted (end s) (ToObject selector) all (name self s) w1 (λ given w2. give (sent D wanted (meaning.ToObject self) selector given w2)) (arguments (name self s) w1) (λ given w2. leaves s (sent D wanted (meaning.ToObject self) selector given w2)))
+          says wanted (end s) (ToObject selector) all (name self s) w1 (λ given w2. give (sent D wanted (meaning.ToObject self) selector given w2)) (arguments (name self s) w1) (λ given w2. leaves s (sent D wanted (meaning.ToObject self) selector given w2)))
           ∙ ap (left_by (end s)) (then_twice (referred D a w) (λ self w1. Done (meaning.ToObject self) w1)
           (λ target w1. then_do (all_evaluated D all w1) (λ given w2. give (sent D wanted target selector given w2))))
 
       to_super : (a : Reference) (from : ℕ) (s : Operands) (w : World) → run (reference_block (length s.numbers) a) s w ≡ left_by (beside s) (referred D a w) → Sends (ObjectSuper a from) selector all s w
       to_super a from s w value = after (λ r. name r s) (end s) _ (referred D a w) _ _ value (λ self w1.
-          tells wanted (end s) (ToSuper from selector) all (name self s) w1 (λ given w2. give (sent D wanted (meaning.ToSuper from self) selector given w2)) (arguments (name self s) w1) (λ given w2. leaves s (sent D wanted (meaning.ToSuper from self) selector given w2)))
+          says wanted (end s) (ToSuper from selector) all (name self s) w1 (λ given w2. give (sent D wanted (meaning.ToSuper from self) selector given w2)) (arguments (name self s) w1) (λ given w2. leaves s (sent D wanted (meaning.ToSuper from self) selector given w2)))
           ∙ ap (left_by (end s)) (then_twice (referred D a w) (λ self w1. Done (meaning.ToSuper from self) w1)
           (λ target w1. then_do (all_evaluated D all w1) (λ given w2. give (sent D wanted target selector given w2))))
 
-  -- ---- `new`, behind the class that gets it
+  -- ---- `new`, after the class that gets it
 
-  new_by : (found : Option ℕ) (message : Message) (class : ℤ) (s : Operands) (w : World) → told D gives.Object message nothing_given (push class s) w ≡ answers_left gives.Object s (meaning.dispatched D gives.Object found class nothing_given w)
-      → (if is_some found then told D gives.Object message nothing_given (push class s) w else run Making (push class s) w) ≡ left_by (beside s) (new_found D found class w)
+  new_by : (found : Option ℕ) (message : Message) (class : ℤ) (s : Operands) (w : World) → message_sent D gives.Object message nothing_given (push class s) w ≡ answers_left gives.Object s (meaning.dispatched D gives.Object found class nothing_given w)
+      → (if is_some found then message_sent D gives.Object message nothing_given (push class s) w else run Making (push class s) w) ≡ left_by (beside s) (new_found D found class w)
   new_by None message class s w e = refl
   new_by (Some f) message class s w e = e ∙ object_left s (D.call gives.Object f 0 (and_number class nothing_given) w)
 
@@ -138,9 +138,9 @@ module _ (D : Deeper) (bound place : ℕ) where
   chosen_by_test true x y = refl
   chosen_by_test false x y = refl
 
-  new_tested : (class : ℤ) (s : Operands) (w : World) → run (Then (One (Finds new_selector)) (Fork (Tells gives.Object (ToClass new_selector) 0 0) Making)) (push class s) w ≡ left_by (beside s) (new_sent D None class w)
+  new_tested : (class : ℤ) (s : Operands) (w : World) → run (Then (One (Finds new_selector)) (Fork (SendsMessage gives.Object (ToClass new_selector) 0 0) Making)) (push class s) w ≡ left_by (beside s) (new_sent D None class w)
   new_tested class s w =
-      chosen_by_test (is_some (found_from (class_at class))) (run (Tells gives.Object (ToClass new_selector) 0 0) (push class s) w) (run Making (push class s) w)
+      chosen_by_test (is_some (found_from (class_at class))) (run (SendsMessage gives.Object (ToClass new_selector) 0 0) (push class s) w) (run Making (push class s) w)
       ∙ new_by (found_from (class_at class)) (ToClass new_selector) class s w refl
 
   -- ---- conversions
@@ -248,7 +248,7 @@ module _ (D : Deeper) (bound place : ℕ) where
     reference_is (Made a) s w = after (λ v. push v s) (beside s) _ (evaluated D a w) _ _ (value_is a s w) (λ class w1. refl)
     reference_is (New (Some from) a) s w = after (λ v. push v s) (beside s) _ (evaluated D a w) _ _ (value_is a s w) (λ class w1. new_by (found_from (Some from)) (ToSuperClass from new_selector) class s w1 refl)
     reference_is (New None (Number (pos c))) s w = new_by (found_from (Some c)) (ToClass new_selector) (pos c) s w refl
-    reference_is (New None a) s w = after (λ v. push v s) (beside s) (run (value_block (length s.numbers) a) s w) (evaluated D a w) (run (Then (One (Finds new_selector)) (Fork (Tells gives.Object (ToClass new_selector) 0 0) Making))) (λ class w1. new_sent D None class w1) (value_is a s w) (λ class w1. new_tested class s w1)
+    reference_is (New None a) s w = after (λ v. push v s) (beside s) (run (value_block (length s.numbers) a) s w) (evaluated D a w) (run (Then (One (Finds new_selector)) (Fork (SendsMessage gives.Object (ToClass new_selector) 0 0) Making))) (λ class w1. new_sent D None class w1) (value_is a s w) (λ class w1. new_tested class s w1)
     reference_is (ObjectInvoked f all) s w = call_is gives.Object beside object_given object_left f all s w (arguments_is all s w)
     reference_is (ObjectSent (ClassValue a) selector all) s w = to_class gives.Object beside object_given object_left selector all (λ s1 w1. arguments_is all s1 w1) a s w (value_is a s w)
     reference_is (ObjectSent (ClassSuper from) selector all) s w = to_super_class gives.Object beside object_given object_left selector all (λ s1 w1. arguments_is all s1 w1) from s w

@@ -18,7 +18,7 @@ calm names = record { numbers = []; names = names }
 
 -- ---- what is left by one end or another
 
--- one part behind another
+-- one part after another
 onward : {A B : Type 0} (exit : A → Operands) (end : B → World → Outcome Way) (x : Outcome Way) (o : Outcome A) (k : Operands → World → Outcome Way) (go : A → World → Outcome B) → x ≡ left_by (λ a. On (exit a)) o → ((a : A) (w : World) → k (exit a) w ≡ then_do (go a w) end) → and_then x k ≡ then_do (then_do o go) end
 onward exit end x (Done a w) k go e h = ap (λ y. and_then y k) e ∙ h a w
 onward exit end x _ k go e h = ap (λ y. and_then y k) e
@@ -79,7 +79,7 @@ module _ (D : Deeper) (bound : ℕ) where
     abbrev s : Operands
     s = calm names
 
-    -- behind what goes on elsewhere nothing follows
+    -- after what goes on elsewhere nothing follows
     abbrev Stops : Block → Type 0
     Stops b = (w : World) (k : Operands → World → Outcome Way) → and_then (run b s w) k ≡ run b s w
 
@@ -122,7 +122,7 @@ module _ (D : Deeper) (bound : ℕ) where
         ∙ cleared_then breaks continues continues Continued (λ w1. refl) (variables_dropped D first count w)
     scope_is first count breaks continues quits turns (Returned v) w = refl
 
-    -- one statement behind another
+    -- one statement after another
     after_flow : (breaks continues : Block) → Stops breaks → Stops continues → (x : Outcome Way) (o : Outcome Flow) (k : Operands → World → Outcome Way) (go : World → Outcome Flow) → x ≡ then_do o (ends breaks continues) → ((w : World) → k s w ≡ then_do (go w) (ends breaks continues)) → and_then x k ≡ then_do (then_do o (λ flow w. if_normal flow go w)) (ends breaks continues)
     after_flow breaks continues quits turns x o k go e h = parts (ends breaks continues) (ends breaks continues) x o (on_way k) _ e by
       where

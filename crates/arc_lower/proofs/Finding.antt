@@ -85,8 +85,8 @@ module _ (p : Program) (R : resolved.Program) where
   found_meets place (m ∷ others) has sign selector takes objects wanted =
       let xs = stub_orders R (entries_of R) m.gives (passes m.sign m.takes) m.objects m.runs in
       let ys = methods_orders R (entries_of R) others in
-      let behind = place + length xs in
-      first_meets sign selector takes objects wanted place m (found sign selector takes objects wanted others) (found sign selector takes objects wanted (linked_methods R (entries_of R) behind others)) (answers sign selector takes objects wanted m) refl (has_front p place xs ys has) (found_meets behind others (has_back p place xs ys has) sign selector takes objects wanted)
+      let later = place + length xs in
+      first_meets sign selector takes objects wanted place m (found sign selector takes objects wanted others) (found sign selector takes objects wanted (linked_methods R (entries_of R) later others)) (answers sign selector takes objects wanted m) refl (has_front p place xs ys has) (found_meets later others (has_back p place xs ys has) sign selector takes objects wanted)
 
   dealloc_meets : (place : ℕ) (dealloc : Option ℕ) → HasAt p place (dealloc_orders R (entries_of R) dealloc) → Meets p R gives.Number 0 0 dealloc (linked_dealloc place dealloc)
   dealloc_meets place None has = tt

@@ -19,7 +19,7 @@ use Rattle.arc_code.specs.Effects.{on_numbers, as_number, as_object, giving, ope
 use Rattle.arc_lower.specs.Known.{is_within, combined_kind, known_kind}
 use Rattle.arc_lower.specs.declared.frame.Turn.{Turn}
 use Rattle.arc_lower.specs.declared.frame.Scope.{Scope}
-use Rattle.arc_lower.specs.Lowered.{number_count, object_count, forget_orders, print_orders, order_takes, Inside, Block, Idle, One, Clear, Calls, Tells, Making, IfNew, Answer, ToClass, ToSuperClass, message_to, below_arguments, new_block, receiver_block, answer_block, has_new, Then, Fork, Quit, Advance, Full, Assign, flat, old_block, given_block, below_new, narrow_block, update_block, value_block, reference_block, arguments_block, whole_block, whole_reference_block, begin_block, unused, nothing_given, does_nothing, loop_block, command_block, commands_block, Surroundings, within_scopes, leaving, breaking, continuing}
+use Rattle.arc_lower.specs.Lowered.{number_count, object_count, forget_orders, print_orders, order_takes, Inside, Block, Idle, One, Clear, Calls, SendsMessage, Making, IfNew, Answer, ToClass, ToSuperClass, message_to, below_arguments, new_block, receiver_block, answer_block, has_new, Then, Fork, Quit, Advance, Full, Assign, flat, old_block, given_block, below_new, narrow_block, update_block, value_block, reference_block, arguments_block, whole_block, whole_reference_block, begin_block, unused, nothing_given, does_nothing, loop_block, command_block, commands_block, Surroundings, within_scopes, leaving, breaking, continuing}
 use Rattle.arc_lower.specs.Heights.{height, between, after_effect, walk, last_walk}
 use Rattle.arc_lower.specs.Lowered.{whole_orders, whole_reference_orders}
 use Rattle.arc_lower.proofs.Typing.{heights_same, Reaches, types_then, forgets_type, print_types, get_types, set_types, call_types, store_types, read_types, all_empty_type, drop_types, tested, Forks, ByTest, BlockTypes}
@@ -73,10 +73,10 @@ module _ (P : Program) (r s slots names exit d : ℕ) (room : names ≤ d + s) w
   receiver_lies (ObjectSuper v from) depth a h = h
   receiver_lies _ depth a h = omega (arith, h)
 
-  told : (g : Gives) (receiver : Receiver) (selector n m a b c : ℕ) → Comes (n + below_arguments receiver a) (m + with_object receiver b) c (Tells g (message_to receiver selector) n m) (as_number g + a) (as_object g + b)
-  told g (ObjectValue v) selector n m a b c = record { more = c + as_object g; most = omega arith; types = ((omega arith, omega arith), object_left g n m a b c) }
-  told g (ObjectSuper v from) selector n m a b c = record { more = c + as_object g; most = omega arith; types = ((omega arith, omega arith), object_left g n m a b c) }
-  told g _ selector n m a b c = record {
+  message_sent : (g : Gives) (receiver : Receiver) (selector n m a b c : ℕ) → Comes (n + below_arguments receiver a) (m + with_object receiver b) c (SendsMessage g (message_to receiver selector) n m) (as_number g + a) (as_object g + b)
+  message_sent g (ObjectValue v) selector n m a b c = record { more = c + as_object g; most = omega arith; types = ((omega arith, omega arith), object_left g n m a b c) }
+  message_sent g (ObjectSuper v from) selector n m a b c = record { more = c + as_object g; most = omega arith; types = ((omega arith, omega arith), object_left g n m a b c) }
+  message_sent g _ selector n m a b c = record {
     more = c + as_object g;
     most = omega arith;
     types =
@@ -90,11 +90,11 @@ module _ (P : Program) (r s slots names exit d : ℕ) (room : names ≤ d + s) w
   made_types : (a b c : ℕ) → Comes (suc a) b c Making a (suc b)
   made_types a b c = record { more = c + 1; most = omega arith; types = (omega arith, heights_same _ _ _ _ a (suc b) (c + 1) d (omega arith) (omega arith) (omega arith) (omega arith)) }
 
-  told_types : (a b c : ℕ) → Comes (suc a) b c (Tells gives.Object (ToClass new_selector) 0 0) a (suc b)
-  told_types a b c = record { more = c + 1; most = omega arith; types = ((omega arith, omega arith), heights_same _ _ _ _ a (suc b) (c + 1) d (omega arith) (omega arith) (omega arith) (omega arith)) }
+  reported_types : (a b c : ℕ) → Comes (suc a) b c (SendsMessage gives.Object (ToClass new_selector) 0 0) a (suc b)
+  reported_types a b c = record { more = c + 1; most = omega arith; types = ((omega arith, omega arith), heights_same _ _ _ _ a (suc b) (c + 1) d (omega arith) (omega arith) (omega arith) (omega arith)) }
 
-  told_super_types : (from a b c : ℕ) → Comes (suc a) b c (Tells gives.Object (ToSuperClass from new_selector) 0 0) a (suc b)
-  told_super_types from a b c = record { more = c + 1; most = omega arith; types = ((omega arith, omega arith), heights_same _ _ _ _ a (suc b) (c + 1) d (omega arith) (omega arith) (omega arith) (omega arith)) }
+  reported_super_types : (from a b c : ℕ) → Comes (suc a) b c (SendsMessage gives.Object (ToSuperClass from new_selector) 0 0) a (suc b)
+  reported_super_types from a b c = record { more = c + 1; most = omega arith; types = ((omega arith, omega arith), heights_same _ _ _ _ a (suc b) (c + 1) d (omega arith) (omega arith) (omega arith) (omega arith)) }
 
   if_new : (class : ℕ) (x y : Block) (a b c n m : ℕ) → Comes a b c x n m → Comes a b c y n m → Comes a b c (IfNew class x y) n m
   if_new class x y a b c n m first other = either (has_new P class) refl
@@ -103,12 +103,12 @@ module _ (P : Program) (r s slots names exit d : ℕ) (room : names ≤ d + s) w
       either true e = record { more = first.more; most = first.most; types = subst (λ t. ByTest t (Within (height a b c d) x (height n m first.more d)) (Within (height a b c d) y (height n m first.more d))) (sym e) first.types }
       either false e = record { more = other.more; most = other.most; types = subst (λ t. ByTest t (Within (height a b c d) x (height n m other.more d)) (Within (height a b c d) y (height n m other.more d))) (sym e) other.types }
 
-  either_new : (a b c : ℕ) → Comes (suc a) b c (Then (One (Finds new_selector)) (Fork (Tells gives.Object (ToClass new_selector) 0 0) Making)) a (suc b)
-  either_new a b c = next {n = suc (suc a)} {m = b} (op (Finds new_selector) (omega arith) (omega arith) (omega arith) refl) (λ t. choice (told_types a b t) (λ q. made_types a b q))
+  either_new : (a b c : ℕ) → Comes (suc a) b c (Then (One (Finds new_selector)) (Fork (SendsMessage gives.Object (ToClass new_selector) 0 0) Making)) a (suc b)
+  either_new a b c = next {n = suc (suc a)} {m = b} (op (Finds new_selector) (omega arith) (omega arith) (omega arith) refl) (λ t. choice (reported_types a b t) (λ q. made_types a b q))
 
   new_types : (from : Option ℕ) (e : Value) (a b c : ℕ) → Comes (suc a) b c (new_block from e) a (suc b)
-  new_types (Some from) e a b c = if_new from _ Making (suc a) b c a (suc b) (told_super_types from a b c) (made_types a b c)
-  new_types None (Number (pos n)) a b c = if_new n _ Making (suc a) b c a (suc b) (told_types a b c) (made_types a b c)
+  new_types (Some from) e a b c = if_new from _ Making (suc a) b c a (suc b) (reported_super_types from a b c) (made_types a b c)
+  new_types None (Number (pos n)) a b c = if_new n _ Making (suc a) b c a (suc b) (reported_types a b c) (made_types a b c)
   new_types None _ a b c = either_new a b c
 
   ends_with : {a b c n m u v : ℕ} {x : Block} → n ≡ u → m ≡ v → Comes a b c x n m → Comes a b c x u v
@@ -166,7 +166,7 @@ module _ (P : Program) (r s slots names exit d : ℕ) (room : names ≤ d + s) w
         let n = below_arguments receiver a in
         let m = with_object receiver b in
         ends_with {n = as_number gives.Number + a} {m = as_object gives.Number + b} (omega arith) (omega arith)
-        (next {n = n} {m = m} (receiver_types receiver depth a b c h) (λ t. next (arguments_type arguments (below_arguments receiver depth) n m t (receiver_lies receiver depth a h)) (λ q. told gives.Number receiver selector (number_count arguments) (object_count arguments) a b q)))
+        (next {n = n} {m = m} (receiver_types receiver depth a b c h) (λ t. next (arguments_type arguments (below_arguments receiver depth) n m t (receiver_lies receiver depth a h)) (λ q. message_sent gives.Number receiver selector (number_count arguments) (object_count arguments) a b q)))
     value_types (Field v class index) depth a b c h = next (reference_types v depth a b c h) (λ t. op (GetField class index) (omega arith) (omega arith) (omega arith) refl)
     value_types (FieldAssigned v class index u) depth a b c h = next (reference_types v depth a b c h) (λ t. next (value_types u depth a (suc b) t h) (λ q. op (SetField class index) (omega arith, omega arith) (omega arith) (omega arith) refl))
     value_types (FieldUpdated moment v class index operator computed kept u) depth a b c h =
@@ -194,7 +194,7 @@ module _ (P : Program) (r s slots names exit d : ℕ) (room : names ≤ d + s) w
         let n = below_arguments receiver a in
         let m = with_object receiver b in
         ends_with {n = as_number gives.Object + a} {m = as_object gives.Object + b} (omega arith) (omega arith)
-        (next {n = n} {m = m} (receiver_types receiver depth a b c h) (λ t. next (arguments_type arguments (below_arguments receiver depth) n m t (receiver_lies receiver depth a h)) (λ q. told gives.Object receiver selector (number_count arguments) (object_count arguments) a b q)))
+        (next {n = n} {m = m} (receiver_types receiver depth a b c h) (λ t. next (arguments_type arguments (below_arguments receiver depth) n m t (receiver_lies receiver depth a h)) (λ q. message_sent gives.Object receiver selector (number_count arguments) (object_count arguments) a b q)))
 
     -- what gets a message is one operand more, or one reference more
     receiver_types : (e : Receiver) (depth a b c : ℕ) → depth + slots ≤ a + r → Comes a b c (receiver_block depth e) (below_arguments e a) (with_object e b)

@@ -72,7 +72,7 @@ module _ (P : Program) (r s slots names exit : ℕ) where
 
     -- ---- blocks
 
-    -- the parts behind the jump by which a loop is entered
+    -- the parts after the jump by which a loop is entered
     abbrev pub entered : Entry → List Height → List Height
     entered AtStep pending = pending
     entered _ pending = drop 1 pending

@@ -74,8 +74,8 @@ module _ (R : resolved.Program) where
   functions_firsts : (fs : List Function) (place : ℕ) → firsts (functions_marks R place fs) ≡ functions_heights R place fs
   functions_firsts [] place = refl
   functions_firsts (f ∷ fs) place =
-      let behind = place + length (function_orders R place f) in
-      both_firsts (in_function f.gives (function_heights R place f)) (functions_marks R behind fs) _ _ (firsts_in f.gives (function_heights R place f)) (functions_firsts fs behind)
+      let later = place + length (function_orders R place f) in
+      both_firsts (in_function f.gives (function_heights R place f)) (functions_marks R later fs) _ _ (firsts_in f.gives (function_heights R place f)) (functions_firsts fs later)
 
   methods_firsts : (ms : List Method) → firsts (methods_marks R (entries_of R) ms) ≡ methods_heights R (entries_of R) ms
   methods_firsts [] = refl
@@ -118,7 +118,7 @@ module _ (p : Program) (R : resolved.Program) where
   own : (h : Height) (e : Effect) → FitsBetween h (height (h.numbers - e.numbers_taken + e.numbers_given) (h.names - e.names_taken + e.names_given) (h.temporaries + e.temporaries) (h.variables + e.variables)) e
   own h e = fits h _ e (omega arith) (omega arith) (omega arith) (omega arith)
 
-  -- a number or a reference is behind what gives one
+  -- a number or a reference is after what gives one
   given_there : (given wanted : Gives) (pc : ℕ) (g : Height) → slice_get (table R) pc ≡ Some (g, given) → as_number wanted ≤ g.numbers → as_object wanted ≤ g.names → (as_number wanted ≤ (height_at R pc).numbers) × (as_object wanted ≤ (height_at R pc).names)
   given_there given wanted pc g next number object =
       let numbers = ap (λ (x : Height). x.numbers) (there pc g given next) in

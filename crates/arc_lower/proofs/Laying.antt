@@ -1,4 +1,4 @@
--- Functions are laid one behind the other.
+-- Functions are laid one after the other.
 use Rattle.std.proofs.Common.{◌≡◌, ℕ, ◌+◌, List, [], ◌∷◌, ◌++◌, length, refl, sym, ap, ◌∙◌, append_assoc, length-append}
 use Rattle.arc_spec.specs.Resolved.{Function, Program}
 use Rattle.arc_lower.specs.Order.{Order}

@@ -87,7 +87,7 @@ module _ {S : Type 0} (step : S → Next S) where
   then_runs bound r middle end o go (inl p) next = inl p
   then_runs bound r middle end o go (inr p) next = then_comes bound r middle end o go p next
 
-  -- the same behind one place
+  -- the same after one place
   pub then_at : {A B : Type 0} (bound : ℕ) (r : Reached S) (good : A → World → Type 0) (exit : A → World → Reached S) (end : B → World → Reached S → Type 0) (o : Outcome A) (go : A → World → Outcome B) → Runs bound r (At good exit) o → ((a : A) (w : World) → good a w → Runs bound (exit a w) end (go a w)) → Runs bound r end (then_do o go)
   then_at bound r good exit end o go p next = then_runs bound r (At good exit) end o go p (λ a w to m. subst (λ q. Runs bound q end (go a w)) (sym m.0) (next a w m.1))
 

@@ -75,7 +75,7 @@ onto_last : (first rest : List ℕ) (r : ℕ) → onto (first ++ r ∷ []) rest 
 onto_last [] rest r = refl
 onto_last (q ∷ first) rest r = onto_last first (q ∷ rest) r
 
--- no statement has a temporary behind it
+-- no statement has a temporary after it
 loop_quiet : (R : resolved.Program) (without_step : Bool) (step body : Block) (test : Value) → takes_none R step ≡ true → takes_none R body ≡ true → takes_none R (loop_block without_step step (whole_block test) body) ≡ true
 loop_quiet R true step body test e f = f
 loop_quiet R false step body test e f = both_true (takes_none R step) (takes_none R body) e f
@@ -235,7 +235,7 @@ module _ (p : Program) (frames : List Frame) (bound : ℕ) (R : resolved.Program
       subst (λ k. Passes p frames bound names1 (declare_orders (suc n)) stack w stack (begun_with given_to (nils k))) (omega arith)
       (then_passes p frames bound names1 (Plain Declare ∷ []) (declare_orders n) stack w stack w1 stack (begun_with given_to (nils (n + suc m))) (one_passes p frames bound names1 (Plain Declare) stack w stack w1 (λ pc. quiet p frames bound names1 (pc + 1) stack w1)) (declares_pass n (suc m) given_to names1 stack))
 
-  -- behind these variables the next ones take what the function was given, the last one first
+  -- after these variables the next ones take what the function was given, the last one first
   takes_run : {A : Type 0} (head : List ℕ) (n : ℕ) (objects tail : List ℕ) (given_to : Given) (stack : List ℤ) (pc : ℕ) (end : A → World → Reached State → Type 0) (o : Outcome A) → length objects ≡ n → HasAt p pc (take_orders (length head) n)
       → Runs (moves p) bound (running frames rs (pc + length (take_orders (length head) n)) stack (begun_with given_to (head ++ (objects ++ tail)))) end o
       → Runs (moves p) bound (running frames (onto objects rs) pc stack (begun_with given_to (head ++ (nils n ++ tail)))) end o
@@ -390,11 +390,11 @@ module _ (p : Program) (frames : List Frame) (bound : ℕ) (R : resolved.Program
       let there : q + 1 + 1 + 1 + 1 ≡ entry + length (declares ++ (takes1 ++ owned)) = omega (arith, length-append declares (takes1 ++ owned), length-append takes1 owned, four) in
       let tail = objects ++ nils (m - few) in
       let same : tail ≡ first_names m (take F.parameters arguments.objects) = first_are few m F.parameters arguments.objects is in
-      let has_behind = has_back p entry declares (takes1 ++ owned) has in
+      let has_after = has_back p entry declares (takes1 ++ owned) has in
       leads_runs (moves p) bound (running frames all_names entry stack (begun_with arguments [])) (running frames all_names middle stack (begun_with arguments (0 ∷ (nils few ++ nils (m - few))))) end o
       (declared_leads (0 ∷ []) (suc m) few (m - few) arguments all_names stack entry (ap (λ l. 0 ∷ l) (nils_split few (m - few) m le refl)) (has_front p entry declares (takes1 ++ owned) has))
-      (takes_run (0 ∷ []) few objects (nils (m - few)) arguments stack middle end o (names_length few arguments.objects) (has_front p middle takes1 owned has_behind)
-      (owns_run tail arguments stack q end o (has_back p middle takes1 owned has_behind)
+      (takes_run (0 ∷ []) few objects (nils (m - few)) arguments stack middle end o (names_length few arguments.objects) (has_front p middle takes1 owned has_after)
+      (owns_run tail arguments stack q end o (has_back p middle takes1 owned has_after)
       (subst (λ n. Runs (moves p) bound (running frames rs n stack (begun_with arguments (self ∷ tail))) end o) (sym there)
       (subst (λ l. Runs (moves p) bound (running frames rs (entry + length (opens true (suc m) few)) stack (begun_with arguments (self ∷ l))) end o) (sym same) go))))
 

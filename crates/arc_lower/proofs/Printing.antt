@@ -24,7 +24,7 @@ module _ (p : Program) (frames : List Frame) (bound : ℕ) (rs : List ℕ) where
   abbrev Prints : List Order → List ℤ → ℕ → List ℕ → World → Type 0
   Prints xs stack n a w = Passes p frames bound rs xs (kept n ∷ stack) w (kept (n + length a) ∷ stack) (prints a w)
 
-  -- a print of some bytes, and of those behind them
+  -- a print of some bytes, and of those after them
   print_both : (xs ys : List Order) (stack : List ℤ) (n : ℕ) (a b : List ℕ) (w : World) → Prints xs stack n a w → Prints ys stack (n + length a) b (prints a w) → Prints (xs ++ ys) stack n (a ++ b) w
   print_both xs ys stack n a b w first next =
       let e : n + length a + length b ≡ n + length (a ++ b) = omega (arith, length-append a b) in

@@ -215,10 +215,10 @@ module _ (R : resolved.Program) where
       leave_steps : Step_all place leave
       leave_steps =
           let q = place + length (emptied kept) in
-          let behind = subst (λ w. Row R all table given base q w (keep ++ last_order ∷ [])) (emptied_ends kept) (row_back R all table given base place (walk leaving []) (emptied kept) (keep ++ last_order ∷ []) leave_row) in
-          let one = subst (λ w. Row R all table given base (q + length keep) w (last_order ∷ [])) (types_last R 0 0 base leaving [] keep (height 1 0 0 names) keep_typed) (row_back R all table given base q (walk leaving []) keep (last_order ∷ []) behind) in
+          let later = subst (λ w. Row R all table given base q w (keep ++ last_order ∷ [])) (emptied_ends kept) (row_back R all table given base place (walk leaving []) (emptied kept) (keep ++ last_order ∷ []) leave_row) in
+          let one = subst (λ w. Row R all table given base (q + length keep) w (last_order ∷ [])) (types_last R 0 0 base leaving [] keep (height 1 0 0 names) keep_typed) (row_back R all table given base q (walk leaving []) keep (last_order ∷ []) later) in
           step_then R all table place (emptied kept) (keep ++ last_order ∷ []) exit.0
-          (step_then R all table q keep (last_order ∷ []) (takes_step R all table given base q leaving [] keep (height 1 0 0 names) last_order (leaving_is given) (keep_takes slots) keep_typed behind) (((height 1 0 0 names, given), one.0, last_step (q + length keep) given refl), tt))
+          (step_then R all table q keep (last_order ∷ []) (takes_step R all table given base q leaving [] keep (height 1 0 0 names) last_order (leaving_is given) (keep_takes slots) keep_typed later) (((height 1 0 0 names, given), one.0, last_step (q + length keep) given refl), tt))
 
       pub function_steps : Step_all place (leave ++ body)
       function_steps =
@@ -424,7 +424,7 @@ module _ (R : resolved.Program) where
   class_length : (c : Class) → length (class_marks R (entries_of R) c) ≡ length (class_orders R (entries_of R) c)
   class_length c = omega (arith, length-append (dealloc_marks c.dealloc) (methods_marks R (entries_of R) c.methods), length-append (dealloc_orders R (entries_of R) c.dealloc) (methods_orders R (entries_of R) c.methods), dealloc_length c.dealloc, methods_length c.methods)
 
-  -- the stubs of a class, and those of the classes behind it
+  -- the stubs of a class, and those of the classes after it
   abbrev Methods : ℕ → List Method → Type 0
   Methods place ms = Both place (methods_marks R (entries_of R) ms) (methods_orders R (entries_of R) ms)
 

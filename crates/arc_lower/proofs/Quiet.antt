@@ -12,14 +12,14 @@ use Rattle.arc_code.specs.declared.instr.Instr.TheVariants.{Plain, Call, Jump, J
 use Rattle.arc_code.specs.Effects.{operation_effect}
 use Rattle.arc_ir.specs.declared.action.Target.TheVariants.{Skip, Back}
 use Rattle.arc_lower.specs.Order.{Order}
-use Rattle.arc_lower.specs.Lowered.{Entry, AtStep, enter_orders, Inside, Block, One, Read, Calls, Tells, Making, IfNew, Then, Fork, Loop, Full, ToClass, ToSuperClass, ToObject, ToSuper, has_new, flat, number_of, passing_orders, order_takes, drop_orders}
+use Rattle.arc_lower.specs.Lowered.{Entry, AtStep, enter_orders, Inside, Block, One, Read, Calls, SendsMessage, Making, IfNew, Then, Fork, Loop, Full, ToClass, ToSuperClass, ToObject, ToSuper, has_new, flat, number_of, passing_orders, order_takes, drop_orders}
 
--- whether no temporary of a block is there behind it
+-- whether no temporary of a block is there after it
 abbrev pub takes_none : Program → Block → Bool
 takes_none P (One o) = not (nat_lt 0 (operation_effect o).temporaries)
 takes_none P (Read i) = false
 takes_none P (Calls wanted f n m) = same_gives wanted gives.Number
-takes_none P (Tells wanted message n m) = same_gives wanted gives.Number
+takes_none P (SendsMessage wanted message n m) = same_gives wanted gives.Number
 takes_none P Making = false
 takes_none P (IfNew class a b) = if has_new P class then takes_none P a else takes_none P b
 takes_none P (Then a b) = takes_none P a && takes_none P b
@@ -54,9 +54,9 @@ module _ (P : Program) (slots names : ℕ) where
   read_takes true i e = sym e
   read_takes false i e = sym e
 
-  behind_enter : (entry : Entry) (n m : ℕ) (xs : List Order) → none (enter_orders entry n m ++ xs) → none xs
-  behind_enter AtStep n m xs e = e
-  behind_enter _ n m xs e = e
+  after_enter : (entry : Entry) (n m : ℕ) (xs : List Order) → none (enter_orders entry n m ++ xs) → none xs
+  after_enter AtStep n m xs e = e
+  after_enter _ n m xs e = e
 
   one_quiet : (t : Bool) (xs ys : List Order) (m n : Bool) → none (if t then xs else ys) → (none xs → m ≡ true) → (none ys → n ≡ true) → (if t then m else n) ≡ true
   one_quiet true xs ys m n e h k = h e
@@ -68,11 +68,11 @@ module _ (P : Program) (slots names : ℕ) where
   quiet_flat (Read (Local i)) e = read_takes (nat_lt i names) i e
   quiet_flat (Calls gives.Number f n m) e = refl
   quiet_flat (Calls gives.Object f n m) e = sym (none_back (passing_orders P gives.Object f n m) (Call (number_of P gives.Object f) gives.Object ∷ []) e)
-  quiet_flat (Tells gives.Number message n m) e = refl
-  quiet_flat (Tells gives.Object (ToClass selector) n m) e = sym e
-  quiet_flat (Tells gives.Object (ToSuperClass from selector) n m) e = sym e
-  quiet_flat (Tells gives.Object (ToObject selector) n m) e = sym e
-  quiet_flat (Tells gives.Object (ToSuper from selector) n m) e = sym e
+  quiet_flat (SendsMessage gives.Number message n m) e = refl
+  quiet_flat (SendsMessage gives.Object (ToClass selector) n m) e = sym e
+  quiet_flat (SendsMessage gives.Object (ToSuperClass from selector) n m) e = sym e
+  quiet_flat (SendsMessage gives.Object (ToObject selector) n m) e = sym e
+  quiet_flat (SendsMessage gives.Object (ToSuper from selector) n m) e = sym e
   quiet_flat Making e = sym e
   quiet_flat (IfNew class a b) e = one_quiet (has_new P class) (flat P slots names Inside a) (flat P slots names Inside b) (takes_none P a) (takes_none P b) e (quiet_flat a) (quiet_flat b)
   quiet_flat (Then a b) e =
@@ -89,7 +89,7 @@ module _ (P : Program) (slots names : ℕ) where
       let zs = flat P slots names Inside c in
       let last : List Order = Jump (Back (suc (length xs + length ys + length zs))) ∷ [] in
       let test : Order = JumpZero (Skip (suc (length zs))) in
-      let turn = behind_enter entry (length xs) (length ys) (xs ++ (ys ++ (test ∷ (zs ++ last)))) e in
+      let turn = after_enter entry (length xs) (length ys) (xs ++ (ys ++ (test ∷ (zs ++ last)))) e in
       let rest = none_back xs (ys ++ (test ∷ (zs ++ last))) turn in
       both_true (takes_none P a) (takes_none P b && takes_none P c) (quiet_flat a (none_front xs (ys ++ (test ∷ (zs ++ last))) turn)) (both_true (takes_none P b) (takes_none P c) (quiet_flat b (none_front ys (test ∷ (zs ++ last)) rest)) (quiet_flat c (none_front zs last (none_back ys (test ∷ (zs ++ last)) rest))))
   quiet_flat (Full a b) e =

@@ -1,4 +1,4 @@
--- Steps behind which each count is the number of places that name the object.
+-- Steps after which each count is the number of places that name the object.
 use Rattle.std.proofs.Common.{◌≡◌, ℕ, ℤ, List, ◌++◌, length, append_assoc}
 use Rattle.std.proofs.Math.Seq.{take-append_seam, drop-append_seam}
 use Rattle.arc_spec.specs.Stepping.{Next, Goes, Asks, Ends, Faults, Stuck}

@@ -38,7 +38,7 @@ kept_trans w w1 w2 a b = record { frame = b.frame ∙ a.frame; waiting = b.waiti
 abbrev pub dying_in : List ℕ → World → (k : ℕ) → Object → (ℕ → ℕ) → Held
 dying_in rs w k ob c = with_things (counting rs w c) (with_object w.objects (suc k) (in_phase Dying ob))
 
--- behind orders that leave the stack as it is
+-- after orders that leave the stack as it is
 abbrev pub Stays : List Frame → (rs : List ℕ) → List ℤ → (pc : ℕ) → (before : World) → Finished → World → Reached State → Type 0
 Stays frames rs stack pc before done w to = (to ≡ running frames rs pc stack w) × Kept before w
 

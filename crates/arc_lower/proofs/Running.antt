@@ -31,7 +31,7 @@ use Rattle.arc_code.specs.declared.instr.Instr.TheVariants.{Plain, Jump, JumpZer
 use Rattle.arc_code.specs.Effects.{passes}
 use Rattle.arc_lower.specs.Order.{Order}
 use Rattle.arc_lower.specs.declared.frame.Turn.{Turn}
-use Rattle.arc_lower.specs.Lowered.{Message, ToClass, ToSuperClass, ToObject, ToSuper, message_order, Block, Idle, One, Load, Store, Read, Assign, AssignField, Clear, Format, Calls, Tells, Making, IfNew, Answer, Then, Fork, Loop, Quit, Advance, Full, Leave, making_orders, has_new, Entry, AtStep, AtTest, AtBody, enter_orders, enter_size, no_turn, Spot, Inside, Between, past, turn_at, body_spot, flat, print_orders, get_orders, set_orders, read_orders, store_orders, all_empty_orders, order_takes, forget_orders, passing_orders, number_of, slots_of, parameters_of, call_orders}
+use Rattle.arc_lower.specs.Lowered.{Message, ToClass, ToSuperClass, ToObject, ToSuper, message_order, Block, Idle, One, Load, Store, Read, Assign, AssignField, Clear, Format, Calls, SendsMessage, Making, IfNew, Answer, Then, Fork, Loop, Quit, Advance, Full, Leave, making_orders, has_new, Entry, AtStep, AtTest, AtBody, enter_orders, enter_size, no_turn, Spot, Inside, Between, past, turn_at, body_spot, flat, print_orders, get_orders, set_orders, read_orders, store_orders, all_empty_orders, order_takes, forget_orders, passing_orders, number_of, slots_of, parameters_of, call_orders}
 use Rattle.std.specs.List.{list_any}
 use Rattle.std.proofs.lemmas.Option.{get_or_from_slice_get, none-some, slice_get-get_or}
 use Rattle.arc_lower.proofs.Leading.{Leads, leads_same, leads_trans, leads_step, Runs, leads_runs, later_runs, fewer_runs, ends_here, then_runs}
@@ -42,16 +42,16 @@ use Rattle.arc_lower.proofs.Stacking.{onto, Peels, peels_onto, drop_onto, withou
 use Rattle.arc_lower.proofs.Printing.{print_passes}
 use Rattle.arc_lower.proofs.Fitting.{forgets_shift, passing_leads}
 use Rattle.arc_lower.proofs.Releasing.{Kept, kept_same, Ends, Stays, object_runs, there_runs, place_runs, named_runs, global_runs, strong_field_runs, emptied, empties, dropped_runs, settled_runs, no_variable, changes_runs, empties_run}
-use Rattle.arc_lower.proofs.Shaping.{Operands, push, name, Way, On, Out, Quits, Turns, Lost, left_by, on_way, and_then, only_on, after_turn, on_test, top_of, taken_of, on_given, pushes, answers_left, passes_by, operation, told, block_turns, loop_entered, block}
+use Rattle.arc_lower.proofs.Shaping.{Operands, push, name, Way, On, Out, Quits, Turns, Lost, left_by, on_way, and_then, only_on, after_turn, on_test, top_of, taken_of, on_given, pushes, answers_left, passes_by, operation, message_sent, block_turns, loop_entered, block}
 use Rattle.arc_lower.proofs.Quiet.{takes_none, quiet_flat}
 
--- behind a call, with its number on top, or with its object, which the last reference names and the last temporary
-abbrev pub behind_call : (wanted : Gives) (frames : List Frame) (rs : List ℕ) (pc : ℕ) (stack : List ℤ) → world.Answer → World → Reached State
-behind_call gives.Number frames rs pc stack a w = running frames rs (pc + 1) (a.number ∷ stack) w
-behind_call gives.Object frames rs pc stack a w = running frames (a.object ∷ rs) (pc + 1) stack (takes a.object w)
+-- after a call, with its number on top, or with its object, which the last reference names and the last temporary
+abbrev pub after_call : (wanted : Gives) (frames : List Frame) (rs : List ℕ) (pc : ℕ) (stack : List ℤ) → world.Answer → World → Reached State
+after_call gives.Number frames rs pc stack a w = running frames rs (pc + 1) (a.number ∷ stack) w
+after_call gives.Object frames rs pc stack a w = running frames (a.object ∷ rs) (pc + 1) stack (takes a.object w)
 
 abbrev pub Returns : (wanted : Gives) (frames : List Frame) (rs : List ℕ) (pc : ℕ) (stack : List ℤ) → World → world.Answer → World → Reached State → Type 0
-Returns wanted frames rs pc stack before a w to = (to ≡ behind_call wanted frames rs pc stack a w) × Kept before w
+Returns wanted frames rs pc stack before a w to = (to ≡ after_call wanted frames rs pc stack a w) × Kept before w
 
 -- what a message does by what it has found
 abbrev pub answered : Deeper → (wanted : Gives) → Option ℕ → (self : ℕ) → Given → World → Outcome world.Answer
@@ -76,7 +76,7 @@ onto_none (v ∷ values) rest e = absurd (omega (arith, e))
 pub record Deep (p : Program) (frames : List Frame) (bound : ℕ) (R : resolved.Program) (D : Deeper) : Type 0 where
   pub invokes : (wanted : Gives) (f : ℕ) (given : Given) (stack : List ℤ) (rs : List ℕ) (w : World) (pc : ℕ) → HasAt p pc (Call (number_of R wanted f) wanted ∷ [])
       → Runs (moves p) bound (running frames (onto (first_names (parameters_of R wanted f) given.objects) rs) pc (onto (first_locals (slots_of R wanted f) given.numbers) stack) w) (Returns wanted frames rs pc stack w) (D.call wanted f 0 given w)
-  pub tells : (sign : Sign) (from : Option ℕ) (selector arguments objects : ℕ) (wanted : Gives) (self : ℕ) (given : Given) (stack : List ℤ) (rs : List ℕ) (w : World) (pc : ℕ) → length given.numbers ≡ passes sign arguments → length given.objects ≡ objects
+  pub says : (sign : Sign) (from : Option ℕ) (selector arguments objects : ℕ) (wanted : Gives) (self : ℕ) (given : Given) (stack : List ℤ) (rs : List ℕ) (w : World) (pc : ℕ) → length given.numbers ≡ passes sign arguments → length given.objects ≡ objects
       → Runs (moves p) bound (follow (recount (answers (at frames pc (onto given.numbers stack) (held_of (onto given.objects rs) w)) self (lookup p.classes from sign selector arguments objects wanted))) w.input w.trace) (Returns wanted frames rs pc stack w) (answered D wanted (lookup D.classes from sign selector arguments objects wanted) self given w)
   pub ends : Ends p frames bound D
   pub same_found : (from : Option ℕ) (sign : Sign) (selector arguments objects : ℕ) (wanted : Gives) → is_some (lookup p.classes from sign selector arguments objects wanted) ≡ is_some (lookup D.classes from sign selector arguments objects wanted)
@@ -397,7 +397,7 @@ module _ (p : Program) (frames : List Frame) (bound : ℕ) (R : resolved.Program
 
   -- ---- messages
 
-  -- what gets a message, and its arguments, are taken, and it comes back behind it
+  -- what gets a message, and its arguments, are taken, and it comes back after it
   abbrev Comes_back : (wanted : Gives) (pc : ℕ) (stack : List ℤ) (rs : List ℕ) (w : World) → Next State → Outcome world.Answer → Type 0
   Comes_back wanted pc stack rs w next o = Runs (moves p) bound (next_of next w) (Returns wanted frames rs pc stack w) o
 
@@ -409,7 +409,7 @@ module _ (p : Program) (frames : List Frame) (bound : ℕ) (R : resolved.Program
       let stands = lookup p.classes from signs.Class selector (length given.numbers) (length given.objects) wanted in
       subst (λ n. Comes_back wanted pc stack rs w n (dispatched D wanted found class given w)) (sym e)
       (subst (λ o. Comes_back wanted pc stack rs w (answers (at frames pc (onto given.numbers (class ∷ stack)) (held_of (onto given.objects rs) w)) 0 stands) o) (dispatched_answers D wanted found class given w)
-      (deep.tells signs.Class from selector (length given.numbers) (length given.objects) wanted 0 (and_number class given) stack rs w pc refl refl))
+      (deep.says signs.Class from selector (length given.numbers) (length given.objects) wanted 0 (and_number class given) stack rs w pc refl refl))
 
   -- what is wanted is given without a call
   at_once_runs : (wanted : Gives) (object pc : ℕ) (all : List ℤ) (before : List ℕ) (stack : List ℤ) (rs : List ℕ) (w : World)
@@ -470,7 +470,7 @@ module _ (p : Program) (frames : List Frame) (bound : ℕ) (R : resolved.Program
       object_runs p bound w.input w.trace (Returns wanted frames rs pc stack w) (meant from) (object_at w.objects (suc k)) next (λ o there.
       subst (λ f. Comes_back wanted pc stack rs w (next o) (meant f)) (sym (same k o refl there))
       (found_runs wanted selector (suc k) pc given stack rs w (stands o) (found (Some (class_of o))) (deep.same_found (Some (class_of o)) signs.Instance selector n m wanted)
-      (deep.tells signs.Instance (Some (class_of o)) selector n m wanted (suc k) given stack rs w pc refl refl)))
+      (deep.says signs.Instance (Some (class_of o)) selector n m wanted (suc k) given stack rs w pc refl refl)))
 
   -- what gets a message lies below its arguments
   receiver_goes : (objects rest : List ℕ) (r : ℕ) (go : ℕ → List ℕ → Next State) → instructions.on_receiver (length objects) (onto objects (r ∷ rest)) go ≡ go r (onto objects rest)
@@ -490,22 +490,22 @@ module _ (p : Program) (frames : List Frame) (bound : ℕ) (R : resolved.Program
   class_found : (w : World) (r k : ℕ) (o : Object) → r ≡ suc k → object_at w.objects (suc k) ≡ Some o → class_in (object_at w.objects r) ≡ Some o.class
   class_found w r k o e found = ap (λ i. class_in (object_at w.objects i)) e ∙ ap class_in found
 
-  tells_run : (turn : Turn) (calm : Bool) (wanted : Gives) (message : Message) (pc : ℕ) (given : Given) (numbers : List ℤ) (rs : List ℕ) (w : World) → (calm ≡ true → same_gives wanted gives.Number ≡ true) → Good calm w
-      → Goes_on turn calm (next_of (does p (message_order wanted message (length given.numbers) (length given.objects)) (at frames pc (onto given.numbers (numbers ++ vars w)) (held_of (onto given.objects rs) w))) w) (pc + 1) (told D wanted message given (record { numbers = numbers; names = rs }) w)
-  tells_run turn calm wanted (ToClass selector) pc given (class ∷ numbers) rs w free g =
+  finds_run : (turn : Turn) (calm : Bool) (wanted : Gives) (message : Message) (pc : ℕ) (given : Given) (numbers : List ℤ) (rs : List ℕ) (w : World) → (calm ≡ true → same_gives wanted gives.Number ≡ true) → Good calm w
+      → Goes_on turn calm (next_of (does p (message_order wanted message (length given.numbers) (length given.objects)) (at frames pc (onto given.numbers (numbers ++ vars w)) (held_of (onto given.objects rs) w))) w) (pc + 1) (message_sent D wanted message given (record { numbers = numbers; names = rs }) w)
+  finds_run turn calm wanted (ToClass selector) pc given (class ∷ numbers) rs w free g =
       let st = at frames pc (onto given.numbers (class ∷ (numbers ++ vars w))) (held_of (onto given.objects rs) w) in
       returned turn calm wanted pc (record { numbers = numbers; names = rs }) w _ (dispatched D wanted (finds D wanted (class_at class) signs.Class selector given) class given w) free g
       (to_class wanted (class_at class) class selector pc given (numbers ++ vars w) rs w _ (ap (λ o. on_found o (λ v. answers st 0 (lookup p.classes (class_at v) signs.Class selector (length given.numbers) (length given.objects) wanted))) (get_onto given.numbers (numbers ++ vars w) class)))
-  tells_run turn calm wanted (ToSuperClass from selector) pc given (class ∷ numbers) rs w free g =
+  finds_run turn calm wanted (ToSuperClass from selector) pc given (class ∷ numbers) rs w free g =
       returned turn calm wanted pc (record { numbers = numbers; names = rs }) w _ (dispatched D wanted (finds D wanted (Some from) signs.Class selector given) class given w) free g
       (to_class wanted (Some from) class selector pc given (numbers ++ vars w) rs w _ refl)
-  tells_run turn calm wanted (ToObject selector) pc given numbers (r ∷ rs) w free g =
+  finds_run turn calm wanted (ToObject selector) pc given numbers (r ∷ rs) w free g =
       returned turn calm wanted pc (record { numbers = numbers; names = rs }) w _ (sent_from D wanted (class_in (object_at w.objects r)) r selector given w) free g
       (to_object wanted (λ o. o.class) (class_in (object_at w.objects r)) selector r pc given (numbers ++ vars w) rs w (class_found w r))
-  tells_run turn calm wanted (ToSuper from selector) pc given numbers (r ∷ rs) w free g =
+  finds_run turn calm wanted (ToSuper from selector) pc given numbers (r ∷ rs) w free g =
       returned turn calm wanted pc (record { numbers = numbers; names = rs }) w _ (sent_from D wanted (Some from) r selector given w) free g
       (to_object wanted (λ o. from) (Some from) selector r pc given (numbers ++ vars w) rs w (λ k o e found. refl))
-  tells_run turn calm wanted _ pc given _ _ w free g = lost turn calm _ (pc + 1) w
+  finds_run turn calm wanted _ pc given _ _ w free g = lost turn calm _ (pc + 1) w
 
   -- ---- what the root's `new` does
 
@@ -513,11 +513,11 @@ module _ (p : Program) (frames : List Frame) (bound : ℕ) (R : resolved.Program
   abbrev with_new : (class : ℕ) → World → World
   with_new class w = takes (next_object w) (with_objects w (w.objects ++ new_object class (field_count (slice_get D.classes class)) (strong_count (slice_get D.classes class)) ∷ []))
 
-  -- behind it the object is given, and its temporary is the last one
+  -- after it the object is given, and its temporary is the last one
   abbrev Made_at : (turn : Turn) (calm : Bool) → ℕ → Operands → ℕ → World → Reached State → Type 0
   Made_at turn calm q s r w to = Leaves turn calm q (On (name r s)) w to
 
-  -- the temporary of what was made is dropped behind what `init` gives
+  -- the temporary of what was made is dropped after what `init` gives
   settling : (turn : Turn) (calm : Bool) (pc r : ℕ) (s : Operands) (w w2 : World) (a : world.Answer) (ts : List ℕ) → (calm ≡ true → false ≡ true) → Good calm w → w2.frame.locals ≡ w.frame.locals → IsFramed slots names self waiting w2 → w2.frame.temporaries ≡ r ∷ ts → HasAt p pc (Settle ∷ [])
       → Runs (moves p) bound (running frames (a.object ∷ s.names) pc (s.numbers ++ vars w) (takes a.object w2)) (Made_at turn calm (pc + 1) s) (then_do (second_dropped D (takes a.object w2).frame.temporaries (takes a.object w2)) (λ _ w4. Done a.object w4))
   settling turn calm pc r s w w2 a ts free g same framed these has =
@@ -724,7 +724,7 @@ module _ (p : Program) (frames : List Frame) (bound : ℕ) (R : resolved.Program
   by_zero turn calm n false one two q s w x y h k = leads_runs (moves p) n _ (standing one s w) (Leaves turn calm q) x (quiet p frames bound s.names one (s.numbers ++ vars w) w) h
   by_zero turn calm n true one two q s w x y h k = leads_runs (moves p) n _ (standing two s w) (Leaves turn calm q) y (quiet p frames bound s.names two (s.numbers ++ vars w) w) k
 
-  -- by the number on top a run goes on behind the test, one step later, or elsewhere
+  -- by the number on top a run goes on after the test, one step later, or elsewhere
   testing : (turn : Turn) (calm : Bool) (n pc to q : ℕ) (t : Target) (numbers : List ℤ) (rs : List ℕ) (w : World) (x y : ℤ → Operands → Outcome Way) → to ≡ lands pc t → HasAt p pc (JumpZero t ∷ []) → ((v : ℤ) (s : Operands) → Runs (moves p) n (standing (pc + 1) s w) (Leaves turn calm q) (x v s)) → ((v : ℤ) (s : Operands) → Runs (moves p) n (standing to s w) (Leaves turn calm q) (y v s)) → Runs (moves p) (suc n) (running frames rs pc (numbers ++ vars w) w) (Leaves turn calm q) (top_of numbers rs w (λ v s. chosen (is_zero v) (x v s) (y v s)))
   testing turn calm n pc to q t [] rs w x y e has h k = ends_here (moves p) (suc n) _ (Leaves turn calm q) Lost w tt
   testing turn calm n pc to q t (v ∷ numbers) rs w x y e has h k =
@@ -742,7 +742,7 @@ module _ (p : Program) (frames : List Frame) (bound : ℕ) (R : resolved.Program
       (top_of numbers rs w (λ v s. chosen (is_zero v) (x v s) (y v s))) (omega arith)
       (testing turn calm n pc to q t numbers rs w x y e has h k)
 
-  -- one part behind another
+  -- one part after another
   then_way : (turn : Turn) (calm : Bool) (n pc q : ℕ) (from : Reached State) (x : Outcome Way) (k : Operands → World → Outcome Way) → Runs (moves p) n from (Leaves turn calm pc) x → ((s : Operands) (w : World) → Good calm w → Runs (moves p) n (standing pc s w) (Leaves turn calm q) (k s w)) → Runs (moves p) n from (Leaves turn calm q) (and_then x k)
   then_way turn calm n pc q from x k h next = then_runs (moves p) n from (Leaves turn calm pc) (Leaves turn calm q) x (on_way k) h by
     where
@@ -753,7 +753,7 @@ module _ (p : Program) (frames : List Frame) (bound : ℕ) (R : resolved.Program
       by (Turns s) w to m = ends_here (moves p) n to (Leaves turn calm q) (Turns s) w m
       by Lost w to m = ends_here (moves p) n to (Leaves turn calm q) Lost w tt
 
-  -- a full-expression, of which nothing is said where its parts leave another way but behind them
+  -- a full-expression, of which nothing is said where its parts leave another way but after them
   full_way : (inner turn : Turn) (calm : Bool) (from : Reached State) (pc q : ℕ) (x : Outcome Way) (k : Operands → World → Outcome Way) → Goes_on inner calm from pc x → ((s : Operands) (w : World) → Good calm w → Goes_on turn true (standing pc s w) q (k s w)) → Goes_on turn true from q (then_do x (only_on k))
   full_way inner turn calm from pc q x k h next = then_runs (moves p) bound from (Leaves inner calm pc) (Leaves turn true q) x (only_on k) h by
     where
@@ -765,7 +765,7 @@ module _ (p : Program) (frames : List Frame) (bound : ℕ) (R : resolved.Program
   ends_at : (turn : Turn) (calm : Bool) (pc q : ℕ) (from : Reached State) (o : Outcome Way) → pc ≡ q → Goes_on turn calm from pc o → Goes_on turn calm from q o
   ends_at turn calm pc q from o e h = subst (λ n. Goes_on turn calm from n o) e h
 
-  -- a jump behind a block
+  -- a jump after a block
   jumps_on : (turn : Turn) (calm : Bool) (pc q : ℕ) (t : Target) (from : Reached State) (o : Outcome Way) → HasAt p pc (Jump t ∷ []) → lands pc t ≡ q → Goes_on turn calm from pc o → Goes_on turn calm from q o
   jumps_on turn calm pc q t from o has e h = subst (λ x. Goes_on turn calm from q x) (on_again o)
       (then_way turn calm bound pc q from o (λ s w. Done (On s) w) h (λ s w g.
@@ -906,7 +906,7 @@ module _ (p : Program) (frames : List Frame) (bound : ℕ) (R : resolved.Program
   second_none : (calm a b : Bool) → (calm ≡ true → (a && b) ≡ true) → calm ≡ true → b ≡ true
   second_none calm a b h e = (and_parts a b (h e)).1
 
-  -- where the orders of the first part take none, there is none behind it
+  -- where the orders of the first part take none, there is none after it
   not_some : (some : Bool) → not some ≡ true → some ≡ false
   not_some true e = absurd (false≢true e)
   not_some false e = refl
@@ -950,12 +950,12 @@ module _ (p : Program) (frames : List Frame) (bound : ℕ) (R : resolved.Program
   block_runs place e turn calm m h placed (AssignField class index) free pc stands s w g has = assign_field_runs turn calm class index pc s.numbers s.names w g has
   block_runs place e turn calm m h placed (Format pieces n k) free pc stands s w g has = on_given_runs turn calm pc (pc + length (forget_orders k ++ print_orders pieces n)) n k s w (λ given rest. Done (On (push (byte_count (formatted pieces given.numbers)) rest)) (prints (formatted pieces given.numbers) w)) (λ given rest size few. format_runs turn calm pieces pc n k given rest w size few g has)
   block_runs place e turn calm m h placed (Calls wanted f n k) free pc stands s w g has = on_given_runs turn calm pc (pc + length (call_orders R wanted f n k)) n k s w (λ given rest. answers_left wanted rest (D.call wanted f 0 given w)) (λ given rest size few. calls_run turn calm wanted f pc n k given rest w size few free g has)
-  block_runs place e turn calm m h placed (Tells wanted message n k) free pc stands s w g has = on_given_runs turn calm pc (pc + 1) n k s w (λ given rest. told D wanted message given rest w) (λ given rest size few.
+  block_runs place e turn calm m h placed (SendsMessage wanted message n k) free pc stands s w g has = on_given_runs turn calm pc (pc + 1) n k s w (λ given rest. message_sent D wanted message given rest w) (λ given rest size few.
       let names1 = onto given.objects rest.names in
       let stack = onto given.numbers (rest.numbers ++ vars w) in
-      one_runs p frames bound names1 (message_order wanted message n k) pc stack w (Leaves turn calm (pc + 1)) (told D wanted message given rest w) has
-      (subst (λ q. Goes_on turn calm (next_of (does p (message_order wanted message q k) (at frames pc stack (held_of names1 w))) w) (pc + 1) (told D wanted message given rest w)) size
-      (subst (λ q. Goes_on turn calm (next_of (does p (message_order wanted message (length given.numbers) q) (at frames pc stack (held_of names1 w))) w) (pc + 1) (told D wanted message given rest w)) few (tells_run turn calm wanted message pc given rest.numbers rest.names w free g))))
+      one_runs p frames bound names1 (message_order wanted message n k) pc stack w (Leaves turn calm (pc + 1)) (message_sent D wanted message given rest w) has
+      (subst (λ q. Goes_on turn calm (next_of (does p (message_order wanted message q k) (at frames pc stack (held_of names1 w))) w) (pc + 1) (message_sent D wanted message given rest w)) size
+      (subst (λ q. Goes_on turn calm (next_of (does p (message_order wanted message (length given.numbers) q) (at frames pc stack (held_of names1 w))) w) (pc + 1) (message_sent D wanted message given rest w)) few (finds_run turn calm wanted message pc given rest.numbers rest.names w free g))))
   block_runs place e turn calm m h placed Making free pc stands s w g has = making_runs turn calm pc s.numbers s.names w free g has
   block_runs place e turn calm m h placed (IfNew class a b) free pc stands s w g has =
       let xs = actions e a in
@@ -985,14 +985,14 @@ module _ (p : Program) (frames : List Frame) (bound : ℕ) (R : resolved.Program
       let at1 = past_stands m 1 pc turn e stands in
       let two = one + length xs + 1 in
       let end = two + length ys in
-      let behind_one = has_back p one xs (Jump (Skip (length ys)) ∷ ys) has.1 in
+      let after_one = has_back p one xs (Jump (Skip (length ys)) ∷ ys) has.1 in
       let there : two ≡ lands pc (Skip (suc (length xs))) = omega arith in
       let over : lands (one + length xs) (Skip (length ys)) ≡ end = omega arith in
       let size : end ≡ pc + length (JumpZero (Skip (suc (length xs))) ∷ (xs ++ Jump (Skip (length ys)) ∷ ys)) = omega (arith, length-append xs (Jump (Skip (length ys)) ∷ ys)) in
       ends_at turn calm end (pc + length (actions e (Fork a b))) (standing pc s w) (block D bound place m (Fork a b) s w) size
       (branching turn calm bound pc two end (Skip (suc (length xs))) s.numbers s.names w (λ v rest. block D bound place m a rest w) (λ v rest. block D bound place m b rest w) there (has.0, tt)
-      (λ v rest. jumps_on turn calm (one + length xs) end (Skip (length ys)) (standing one rest w) (block D bound place m a rest w) (behind_one.0, tt) over (block_runs place e1 turn calm m h placed a (first_none calm (takes_none R a) (takes_none R b) free) one at1 rest w g (has_front p one xs (Jump (Skip (length ys)) ∷ ys) has.1)))
-      (λ v rest. block_runs place e2 turn calm m h placed b (second_none calm (takes_none R a) (takes_none R b) free) two (past_stands m 1 (one + length xs) turn (past (length xs) e1) (past_stands m (length xs) one turn e1 at1)) rest w g behind_one.1))
+      (λ v rest. jumps_on turn calm (one + length xs) end (Skip (length ys)) (standing one rest w) (block D bound place m a rest w) (after_one.0, tt) over (block_runs place e1 turn calm m h placed a (first_none calm (takes_none R a) (takes_none R b) free) one at1 rest w g (has_front p one xs (Jump (Skip (length ys)) ∷ ys) has.1)))
+      (λ v rest. block_runs place e2 turn calm m h placed b (second_none calm (takes_none R a) (takes_none R b) free) two (past_stands m 1 (one + length xs) turn (past (length xs) e1) (past_stands m (length xs) one turn e1 at1)) rest w g after_one.1))
   block_runs place e turn calm false h placed (Loop entry step test body) free pc stands s w g has = lost turn calm (standing pc s w) (pc + length (actions e (Loop entry step test body))) w
   block_runs place e turn calm true h placed (Loop entry step test body) free pc stands s w g has =
       let k = enter_size entry in
@@ -1044,12 +1044,12 @@ module _ (p : Program) (frames : List Frame) (bound : ℕ) (R : resolved.Program
       let q = pc + length xs in
       let r = q + length ys in
       let size : r + length zs ≡ pc + length (xs ++ (ys ++ zs)) = omega (arith, length-append xs (ys ++ zs), length-append ys zs) in
-      let behind_first = has_back p pc xs (ys ++ zs) has in
+      let after_first = has_back p pc xs (ys ++ zs) has in
       let calm = not some in
       let inside = result_place w in
       ends_at turn true (r + length zs) (pc + length (xs ++ (ys ++ zs))) (standing pc s w) (block D bound place true (Full a b) s w) size
       (full_way no_turn turn calm (standing pc s w) r (r + length zs) (and_then (block D bound inside false a s w) (block D bound inside false b)) (λ s1 w1. passes_by s1 (all_dropped D w1))
       (then_way no_turn calm bound q r (standing pc s w) (block D bound inside false a s w) (block D bound inside false b) (block_runs inside Inside no_turn calm false (λ x. absurd (false≢true x)) (λ x. ap (λ n. n - 1) g.0.strong) a (λ x. quiet_flat R slots names a (not_some some x)) pc refl s w (g.0, λ x. g.1 refl) (has_front p pc xs (ys ++ zs) has)) (λ s1 w1 g1.
-      block_runs inside Inside no_turn calm false (λ x. absurd (false≢true x)) (λ x. ap (λ n. n - 1) g.0.strong) b (λ x. free refl) q refl s1 w1 g1 (has_front p q ys zs behind_first)))
-      (λ s1 w1 g1. drops_by turn some r s1 w1 g1 (has_back p q ys zs behind_first)))
+      block_runs inside Inside no_turn calm false (λ x. absurd (false≢true x)) (λ x. ap (λ n. n - 1) g.0.strong) b (λ x. free refl) q refl s1 w1 g1 (has_front p q ys zs after_first)))
+      (λ s1 w1 g1. drops_by turn some r s1 w1 g1 (has_back p q ys zs after_first)))
   block_runs place e turn calm m h placed (Leave exit) free pc stands s w g has = leads_runs (moves p) bound (standing pc s w) (standing exit s w) (Leaves turn calm (pc + 1)) (Done (Out exit s) w) (moving pc (At exit) s w has) (ends_here (moves p) bound (standing exit s w) (Leaves turn calm (pc + 1)) (Out exit s) w (refl, (g.0, λ x. absurd (false≢true x))))

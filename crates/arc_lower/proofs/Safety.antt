@@ -36,7 +36,7 @@ use Rattle.arc_lower.proofs.Recounting.{at, resumed_as}
 use Rattle.arc_lower.proofs.Doing.{bare, does, acts_does}
 use Rattle.arc_lower.proofs.Standing.{no_nil, ending, AllDying, IsDying, NilBut, Alive, nil_alive, ends_there, ending_alive, IsHeld, last_held, held_there, held_within, made_dying, changed_dying, IsApart, live_apart, apart_dying, stored_far, fields_far, one_nil, no_field, nil_named, all_in_order}
 use Rattle.arc_lower.proofs.Typing.{Reaches, IsCalled}
-use Rattle.arc_lower.proofs.Stacking.{behind_one}
+use Rattle.arc_lower.proofs.Stacking.{after_one}
 use Rattle.arc_lower.proofs.Stepping.{some_same, seam, Clears, opens_clears, Stands, Quiet, Free, free_at, Onward, Steps}
 use Rattle.arc_lower.proofs.Stepping as stepping
 use Rattle.arc_lower.proofs.Programs.{all, table, methods_go, dealloc_goes, start_goes, end_is, steps_at}
@@ -48,7 +48,7 @@ abbrev AllNil : List ℕ → Type 0
 AllNil [] = Unit {0}
 AllNil (r ∷ rest) = (r ≡ 0) × AllNil rest
 
--- none behind the first n names an object
+-- none after the first n names an object
 abbrev NilFrom : ℕ → List ℕ → Type 0
 NilFrom zero variables = AllNil variables
 NilFrom (suc n) [] = Unit {0}
@@ -66,7 +66,7 @@ nil_from_set zero (r ∷ rest) h = (refl, h)
 nil_from_set (suc n) [] h = tt
 nil_from_set (suc n) (r ∷ rest) h = nil_from_set n rest h
 
--- none behind the first n names an object, but for the last one
+-- none after the first n names an object, but for the last one
 abbrev NilLess : ℕ → List ℕ → Type 0
 NilLess n [] = Unit {0}
 NilLess n (r ∷ []) = Unit {0}
@@ -86,7 +86,7 @@ nil_less_set (suc zero) (r ∷ q ∷ rest) h = nil_less_set zero (q ∷ rest) h
 nil_less_set (suc (suc n)) (r ∷ q ∷ rest) h = nil_less_set (suc n) (q ∷ rest) h
 nil_less_set _ _ h = tt
 
--- none behind the first n names an object, but for the place of an object that is given
+-- none after the first n names an object, but for the place of an object that is given
 abbrev Shut : Gives → ℕ → List ℕ → Type 0
 Shut gives.Number n variables = NilFrom n variables
 Shut gives.Object n variables = NilLess n variables
@@ -361,7 +361,7 @@ module _ (p : Program) (R : resolved.Program) where
   named_leads r held next there h = subst Leads (sym (named_goes r held next there)) h
 
   receiver_goes : (objects : ℕ) (given rest : List ℕ) (r : ℕ) (go : ℕ → List ℕ → Next State) → length given ≡ objects → instructions.on_receiver objects (given ++ r ∷ rest) go ≡ go r (given ++ rest)
-  receiver_goes objects given rest r go some = rw (← some) (simp (seam, take-append_seam, behind_one))
+  receiver_goes objects given rest r go some = rw (← some) (simp (seam, take-append_seam, after_one))
 
   taken_leads : (takes : ℕ) (stack : List ℤ) (go : List ℤ → Next State) → takes ≤ length stack → ((rest : List ℤ) → length stack ≡ takes + length rest → Leads (go rest)) → Leads (taken takes stack go)
   taken_leads zero stack go le h = h stack (omega arith)
@@ -519,7 +519,7 @@ module _ (p : Program) (R : resolved.Program) where
         (λ sane. run_on (pc + 1) stack (lowered r held) own (record { is = is; places = places; itself = same; keeps = keeps; dying = dying; sane = sane }) (subst (λ l. Resumes mine (pc + 1) self frames (length stack) below l deeper held.temporaries held.variables waiting) is home))
         (λ k ob e found live. begins_leads (has_level (at frames pc stack before)) k (pc + 1) pc ob stack before held same places found live dying (subst (λ q. Drops p.classes q held) e drops) home)
 
-    -- where the running function goes on behind a call that takes so many numbers and the references before these
+    -- where the running function goes on after a call that takes so many numbers and the references before these
     abbrev Home : (wanted : Gives) → ℕ → (numbers : ℕ) → List ℕ → Held → Type 0
     Home wanted pc numbers rest held = Comes_back wanted mine (pc + 1) self frames numbers below rest deeper held.temporaries held.variables waiting
 
@@ -585,7 +585,7 @@ module _ (p : Program) (R : resolved.Program) where
       keeps_of : (r : ℕ) (rest : List ℕ) → own ≡ r ∷ rest → IsHeld r (held.temporaries ++ waiting) × AllHeld rest (held.temporaries ++ waiting)
       keeps_of r rest e = subst (λ l. AllHeld l (held.temporaries ++ waiting)) e o.keeps
 
-      -- behind an operation that leaves the variables as they are
+      -- after an operation that leaves the variables as they are
       next : (nil : (k : ℕ) → Clear k pc → Shut mine k held.variables) (g : Height) → Onward R (all R) (table R) mine pc (pc + 1) g → (stack1 : List ℤ) (held1 : Held) (own1 : List ℕ) → Ready (pc + 1) own1 held1.temporaries waiting → held1.variables ≡ held.variables → length stack1 ≡ g.numbers + below → length own1 ≡ g.names → length held1.temporaries ≤ g.temporaries → h.variables ≡ g.variables → Owns own1 held1 → Good (at frames (pc + 1) stack1 held1)
       next nil g on stack1 held1 own1 ready1 same count1 size1 few1 many1 o1 =
           let every = ap length same in
@@ -601,17 +601,17 @@ module _ (p : Program) (R : resolved.Program) where
             let e : to.temporaries ≡ h.temporaries + 1 = ap (λ y. (next_height R (Plain y) h).temporaries) q.0 in
             absurd (omega (arith, e, same))) free
 
-        -- behind an operation on numbers
+        -- after an operation on numbers
         counts : (stack1 : List ℤ) → length stack1 ≡ to.numbers + below → to.names ≡ h.names → to.temporaries ≡ h.temporaries → to.variables ≡ h.variables → Good (at frames (pc + 1) stack1 held)
         counts stack1 count1 a b c = next nil to g stack1 held own (no_object b own held.temporaries) refl count1 (omega (arith, size, a)) (omega (arith, few, b)) (omega (arith, c)) o
 
-        -- behind one that takes references
+        -- after one that takes references
         refers : (stack1 : List ℤ) (held1 : Held) (own1 : List ℕ) → held1.names ≡ own1 ++ deeper → held1.places ≡ held.places → held1.self ≡ held.self → held1.temporaries ≡ held.temporaries → held1.variables ≡ held.variables → AllHeld own1 (held.temporaries ++ waiting) → AllDying held1.objects (ending frames) → Sane p.classes held1 → length stack1 ≡ to.numbers + below → length own1 ≡ to.names → to.temporaries ≡ h.temporaries → to.variables ≡ h.variables → Good (at frames (pc + 1) stack1 held1)
         refers stack1 held1 own1 is places itself temporaries variables keeps dying sane count1 size1 b c =
             let long = ap length temporaries in
             next nil to g stack1 held1 own1 (no_object b own1 held1.temporaries) variables count1 size1 (omega (arith, few, b, long)) (omega (arith, c)) (record { is = is; places = places ∙ o.places; itself = itself ∙ o.itself; keeps = subst (λ l. AllHeld own1 (l ++ waiting)) (sym temporaries) keeps; dying = dying; sane = sane })
 
-        -- behind one by which a temporary takes an object, and with these references
+        -- after one by which a temporary takes an object, and with these references
         takes : (not_made : x ≡ Alloc → ⊥) (r : ℕ) (names own1 : List ℕ) → names ≡ own1 ++ deeper → IsThere held.objects r → AllHeld own1 (r ∷ (held.temporaries ++ waiting)) → to.numbers ≡ h.numbers → length own1 ≡ to.names → to.temporaries ≡ h.temporaries + 1 → to.variables ≡ h.variables → Good (at frames (pc + 1) stack (taken_by r (with_names held names)))
         takes not_made r names own1 is there keeps a size1 b c = next nil to g stack (taken_by r (with_names held names)) own1 (⊎_elim (λ f. inl f) (λ q. absurd (not_made q.0)) free) refl (omega (arith, count, a)) size1 (omega (arith, few, b)) (omega (arith, c)) (record { is = is; places = o.places; itself = o.itself; keeps = keeps; dying = o.dying; sane = sane_take (with_names held names) r there (sane_names held names o.sane) })
 
@@ -713,21 +713,21 @@ module _ (p : Program) (R : resolved.Program) where
           reference_leads f.0 held.names (f.1 ++ deeper) _ (top_is f.0 f.1 f.2) (named_leads f.0 held _ (is_held f.0 first.0)
           (refers nil IsObject g free (difference f.0 0 ∷ stack) (with_names held (f.1 ++ deeper)) f.1 refl refl refl refl refl first.1 o.dying (sane_names held (f.1 ++ deeper) o.sane) (omega (arith, count)) (omega (arith, size, shorter)) (omega arith) (omega arith)))
 
-      -- where a run stands behind a call
-      abbrev Behind_call : Height → Type 0
-      Behind_call x = Stands R (all R) (table R) mine (pc + 1) x × ((k : ℕ) → Clear k (pc + 1) → x.variables ≤ k + as_object mine)
+      -- where a run stands after a call
+      abbrev After_call : Height → Type 0
+      After_call x = Stands R (all R) (table R) mine (pc + 1) x × ((k : ℕ) → Clear k (pc + 1) → x.variables ≤ k + as_object mine)
 
-      -- what is there behind a call that takes the references before these
-      abbrev Ready_behind : (wanted : Gives) → (rest : List ℕ) → Type 0
-      Ready_behind gives.Number rest = Ready (pc + 1) rest held.temporaries waiting
-      Ready_behind gives.Object rest = (r : ℕ) → Ready (pc + 1) (r ∷ rest) (r ∷ held.temporaries) waiting
+      -- what is there after a call that takes the references before these
+      abbrev Ready_after : (wanted : Gives) → (rest : List ℕ) → Type 0
+      Ready_after gives.Number rest = Ready (pc + 1) rest held.temporaries waiting
+      Ready_after gives.Object rest = (r : ℕ) → Ready (pc + 1) (r ∷ rest) (r ∷ held.temporaries) waiting
 
-      always_ready : (wanted : Gives) (rest : List ℕ) → Is_free (pc + 1) → Ready_behind wanted rest
+      always_ready : (wanted : Gives) (rest : List ℕ) → Is_free (pc + 1) → Ready_after wanted rest
       always_ready gives.Number rest f = inl f
       always_ready gives.Object rest f = λ r. inl f
 
       -- where a call comes back, with these references
-      home : (wanted : Gives) (x : Height) (n : ℕ) (rest : List ℕ) → Behind_call x → Ready_behind wanted rest → AllHeld rest (held.temporaries ++ waiting) → n + as_number wanted ≡ x.numbers + below → length rest + as_object wanted ≡ x.names → x.temporaries ≡ h.temporaries + as_object wanted → x.variables ≡ h.variables → Home wanted pc n (rest ++ deeper) held
+      home : (wanted : Gives) (x : Height) (n : ℕ) (rest : List ℕ) → After_call x → Ready_after wanted rest → AllHeld rest (held.temporaries ++ waiting) → n + as_number wanted ≡ x.numbers + below → length rest + as_object wanted ≡ x.names → x.temporaries ≡ h.temporaries + as_object wanted → x.variables ≡ h.variables → Home wanted pc n (rest ++ deeper) held
       home gives.Number x n rest g ready keeps count1 size1 b c = back (pc + 1) x g.0 (n + 1) rest held (goes_nil (pc + 1) x g.1 held.variables (omega (arith, many, c))) ready count1 (omega (arith, size1)) (omega (arith, few, b)) (omega (arith, many, c)) keeps
       home gives.Object x n rest g ready keeps count1 size1 b c = λ r. record {
         high = x;
@@ -784,9 +784,9 @@ module _ (p : Program) (R : resolved.Program) where
           enters_lead (has_level (at frames pc stack held1)) wanted to object takes pc given (rest ++ deeper) stack held1 (begins to refl) le refl kept_first (held_alive object kept) o.itself o.places o.dying (sane_names held (given ++ (rest ++ deeper)) o.sane) home1
 
       -- a message to the object of the reference below its arguments
-      told : (wanted : Gives) (from : Object → ℕ) (r : ℕ) (given rest : List ℕ) (selector takes objects : ℕ) (x : Height) → own ≡ given ++ r ∷ rest → length given ≡ objects → takes ≤ h.numbers → Behind_call x → Ready_behind wanted rest → x.numbers ≡ h.numbers - takes + as_number wanted → x.names + suc objects ≡ h.names + as_object wanted → x.temporaries ≡ h.temporaries + as_object wanted → x.variables ≡ h.variables
+      message_sent : (wanted : Gives) (from : Object → ℕ) (r : ℕ) (given rest : List ℕ) (selector takes objects : ℕ) (x : Height) → own ≡ given ++ r ∷ rest → length given ≡ objects → takes ≤ h.numbers → After_call x → Ready_after wanted rest → x.numbers ≡ h.numbers - takes + as_number wanted → x.names + suc objects ≡ h.names + as_object wanted → x.temporaries ≡ h.temporaries + as_object wanted → x.variables ≡ h.variables
           → Leads (sends p s wanted from r selector takes objects (given ++ (rest ++ deeper)))
-      told wanted from zero given rest selector takes objects x e some le g ready a b c d =
+      message_sent wanted from zero given rest selector takes objects x e some le g ready a b c d =
           let shorter = ap length e in
           let both = length-append given (zero ∷ rest) in
           let kept = held_rest given (zero ∷ rest) (held.temporaries ++ waiting) (subst (λ l. AllHeld l (held.temporaries ++ waiting)) e o.keeps) in
@@ -794,7 +794,7 @@ module _ (p : Program) (R : resolved.Program) where
           taken_leads takes stack _ (omega (arith, count, le)) (λ numbers m.
           subst (λ l. Leads (instructions.gives_at_once (bare p) s wanted 0 numbers l)) (sym names_is)
           (at_once_leads wanted 0 stack numbers held.names rest (home wanted x (length numbers) rest g ready kept.1 (omega (arith, count, le, m, a)) (omega (arith, size, shorter, both, some, b)) c d) tt kept.1))
-      told wanted from (suc j) given rest selector takes objects x e some le g ready a b c d =
+      message_sent wanted from (suc j) given rest selector takes objects x e some le g ready a b c d =
           let shorter = ap length e in
           let both = length-append given (suc j ∷ rest) in
           let all_kept = subst (λ l. AllHeld l (held.temporaries ++ waiting)) e o.keeps in
@@ -809,7 +809,7 @@ module _ (p : Program) (R : resolved.Program) where
           (home wanted x (length stack - takes) rest g ready kept.1 (omega (arith, count, le, a)) (omega (arith, size, shorter, both, some, b)) c d))
 
       -- a message to an object, with what gets it below its arguments
-      message_leads : (wanted : Gives) (from : Object → ℕ) (selector takes objects : ℕ) (x : Height) → (takes ≤ h.numbers) × (suc objects ≤ h.names) → Behind_call x → ((given rest : List ℕ) (r : ℕ) → own ≡ given ++ r ∷ rest → length given ≡ objects → Ready_behind wanted rest) → x.numbers ≡ h.numbers - takes + as_number wanted → x.names ≡ h.names - suc objects + as_object wanted → x.temporaries ≡ h.temporaries + as_object wanted → x.variables ≡ h.variables
+      message_leads : (wanted : Gives) (from : Object → ℕ) (selector takes objects : ℕ) (x : Height) → (takes ≤ h.numbers) × (suc objects ≤ h.names) → After_call x → ((given rest : List ℕ) (r : ℕ) → own ≡ given ++ r ∷ rest → length given ≡ objects → Ready_after wanted rest) → x.numbers ≡ h.numbers - takes + as_number wanted → x.names ≡ h.names - suc objects + as_object wanted → x.temporaries ≡ h.temporaries + as_object wanted → x.variables ≡ h.variables
           → Leads (instructions.on_receiver objects held.names (λ r rest. sends p s wanted from r selector takes objects rest))
       message_leads wanted from selector takes objects x needs g ready a b c d =
           let part = parted objects own (omega (arith, needs.1, size)) in
@@ -818,15 +818,15 @@ module _ (p : Program) (R : resolved.Program) where
           let names_is : held.names ≡ part.first ++ f.0 ∷ (f.1 ++ deeper) = o.is ∙ ap (λ l. l ++ deeper) is ∙ append_assoc part.first (f.0 ∷ f.1) deeper in
           subst (λ l. Leads (instructions.on_receiver objects l (λ r rest. sends p s wanted from r selector takes objects rest))) (sym names_is)
           (subst Leads (sym (receiver_goes objects part.first (f.1 ++ deeper) f.0 (λ r rest. sends p s wanted from r selector takes objects rest) part.many))
-          (told wanted from f.0 part.first f.1 selector takes objects x is part.many needs.0 g (ready part.first f.1 f.0 is part.many) a (omega (arith, b, needs.1)) c d))
+          (message_sent wanted from f.0 part.first f.1 selector takes objects x is part.many needs.0 g (ready part.first f.1 f.0 is part.many) a (omega (arith, b, needs.1)) c d))
 
       -- a call that takes no reference below what it passes
       own_home : (wanted : Gives) (x : Height) (n : ℕ) (given rest : List ℕ) → own ≡ given ++ rest → Goes_to mine (pc + 1) x → n + as_number wanted ≡ x.numbers + below → length rest + as_object wanted ≡ x.names → x.temporaries ≡ h.temporaries + as_object wanted → x.variables ≡ h.variables → Home wanted pc n (rest ++ deeper) held
       own_home wanted x n given rest is g a b c d = home wanted x n rest (g.0, g.1) (always_ready wanted rest g.2) (held_rest given rest (held.temporaries ++ waiting) (subst (λ l. AllHeld l (held.temporaries ++ waiting)) is o.keeps)) a b c d
 
-      class_told : (wanted : Gives) (from : Option ℕ) (selector takes objects : ℕ) (x : Height) → (suc takes ≤ h.numbers) × (objects ≤ h.names) → Goes_to mine (pc + 1) x → x.numbers ≡ h.numbers - suc takes + as_number wanted → x.names ≡ h.names - objects + as_object wanted → x.temporaries ≡ h.temporaries + as_object wanted → x.variables ≡ h.variables
+      class_reported : (wanted : Gives) (from : Option ℕ) (selector takes objects : ℕ) (x : Height) → (suc takes ≤ h.numbers) × (objects ≤ h.names) → Goes_to mine (pc + 1) x → x.numbers ≡ h.numbers - suc takes + as_number wanted → x.names ≡ h.names - objects + as_object wanted → x.temporaries ≡ h.temporaries + as_object wanted → x.variables ≡ h.variables
           → Leads (answers s 0 (lookup p.classes from signs.Class selector takes objects wanted))
-      class_told wanted from selector takes objects x needs g a b c d =
+      class_reported wanted from selector takes objects x needs g a b c d =
           let part = parted objects own (omega (arith, needs.1, size)) in
           let names_is : held.names ≡ part.first ++ (part.rest ++ deeper) = o.is ∙ ap (λ l. l ++ deeper) part.is ∙ append_assoc part.first part.rest deeper in
           answers_lead (lookup p.classes from signs.Class selector takes objects wanted) wanted 0 (suc takes) pc part.first (part.rest ++ deeper) stack held
@@ -834,13 +834,13 @@ module _ (p : Program) (R : resolved.Program) where
           (omega (arith, count, needs.0)) names_is (held_first part.first part.rest (held.temporaries ++ waiting) (subst (λ l. AllHeld l (held.temporaries ++ waiting)) part.is o.keeps)) (nil_alive frames (stacked held)) o.itself o.places o.dying o.sane
           (own_home wanted x (length stack - suc takes) part.first part.rest part.is g (omega (arith, count, needs.0, a)) (omega (arith, size, part.left, needs.1, b)) c d)
 
-      -- behind a message to a made object what `init` gives is there, and elsewhere nothing matters
+      -- after a message to a made object what `init` gives is there, and elsewhere nothing matters
       init_ready : (wanted : Gives) (selector takes objects : ℕ) → slice_get (all R) pc ≡ Some (SendTo selector takes objects wanted) → Ready pc own held.temporaries waiting
           → Is_free (pc + 1) ⊎ ((takes ≡ 0) × (objects ≡ 0) × (wanted ≡ gives.Object) × (slice_get (all R) (pc + 1) ≡ Some Settle))
-          → (given rest : List ℕ) (r : ℕ) → own ≡ given ++ r ∷ rest → length given ≡ objects → Ready_behind wanted rest
+          → (given rest : List ℕ) (r : ℕ) → own ≡ given ++ r ∷ rest → length given ≡ objects → Ready_after wanted rest
       init_ready wanted selector takes objects is ready (inl f) given rest r e some = always_ready wanted rest f
       init_ready wanted selector takes objects is ready (inr q) given rest r e some =
-          subst (λ g. Ready_behind g rest) (sym q.2) (⊎_elim
+          subst (λ g. Ready_after g rest) (sym q.2) (⊎_elim
           (λ (f : Is_free pc). absurd (f.1 (SendTo selector takes objects wanted) is tt Settle q.3 tt))
           (λ more. ⊎_elim
           (λ made.
@@ -889,8 +889,8 @@ module _ (p : Program) (R : resolved.Program) where
           (subst (λ m. Goes_to wanted (entry p f) (height (slots_of R wanted f) m 0 0)) (sym part.many) (calls wanted f st.0.1))
           (omega (arith, count, st.0.0)) names_is (held_first part.first part.rest (held.temporaries ++ waiting) (subst (λ l. AllHeld l (held.temporaries ++ waiting)) part.is o.keeps)) (nil_alive frames (stacked held)) o.itself o.places o.dying o.sane
           (own_home wanted x (length stack - slots_of R wanted f) part.first part.rest part.is st.1 (omega (arith, count, st.0.0)) (omega (arith, size, part.left)) (omega arith) (omega arith))
-      order_leads (Send selector takes objects wanted) is stands no_end nil ready st = found_leads stack takes _ (omega (arith, count, st.0.0)) (λ class _. class_told wanted (class_at class) selector takes objects (next_height R (Send selector takes objects wanted) h) st.0 st.1 (omega arith) (omega arith) (omega arith) (omega arith))
-      order_leads (SendSuper from selector takes objects wanted) is stands no_end nil ready st = class_told wanted (Some from) selector takes objects (next_height R (SendSuper from selector takes objects wanted) h) st.0 st.1 (omega arith) (omega arith) (omega arith) (omega arith)
+      order_leads (Send selector takes objects wanted) is stands no_end nil ready st = found_leads stack takes _ (omega (arith, count, st.0.0)) (λ class _. class_reported wanted (class_at class) selector takes objects (next_height R (Send selector takes objects wanted) h) st.0 st.1 (omega arith) (omega arith) (omega arith) (omega arith))
+      order_leads (SendSuper from selector takes objects wanted) is stands no_end nil ready st = class_reported wanted (Some from) selector takes objects (next_height R (SendSuper from selector takes objects wanted) h) st.0 st.1 (omega arith) (omega arith) (omega arith) (omega arith)
       order_leads (SendTo selector takes objects wanted) is stands no_end nil ready st =
           message_leads wanted (λ ob. ob.class) selector takes objects (next_height R (SendTo selector takes objects wanted) h) st.0 st.1 (init_ready wanted selector takes objects is ready st.2) (omega arith) (omega arith) (omega arith) (omega arith)
       order_leads (SendToSuper from selector takes objects wanted) is stands no_end nil ready st =
@@ -984,24 +984,24 @@ module _ (p : Program) (R : resolved.Program) where
     no_variables = subst AllNil (sym empty) tt
 
     -- what waits for the end of this object
-    abbrev Behind : (back : ℕ) → Waiter → ℕ → List Frame → Type 0
-    Behind back w o others = IsApart o (ending others) × (s : Splits w held.places)
+    abbrev Later : (back : ℕ) → Waiter → ℕ → List Frame → Type 0
+    Later back w o others = IsApart o (ending others) × (s : Splits w held.places)
         × (((mine : Gives) × (below : ℕ) × (deeper : List ℕ) × Resumes mine back w.self others (length stack) below held.names deeper s.temporaries s.variables s.waiting × Waits mine others below deeper s.waiting)
         ⊎ (EndsAgain back w.self others s.temporaries s.variables s.waiting × Waits gives.Number others (length stack) held.names s.waiting))
 
     -- an object is gone, whose fields name nothing
-    ends_lead : (b : Bool) (back : ℕ) (w : Waiter) (o : ℕ) (others frames : List Frame) (ob : Object) → object_at held.objects o ≡ Some ob → ((k : ℕ) → holders (suc k) (fields_of ob) ≡ 0) → AllDying held.objects (ending others) → nat_eq (held.counts o) 0 ≡ b → Behind back w o others
+    ends_lead : (b : Bool) (back : ℕ) (w : Waiter) (o : ℕ) (others frames : List Frame) (ob : Object) → object_at held.objects o ≡ Some ob → ((k : ℕ) → holders (suc k) (fields_of ob) ≡ 0) → AllDying held.objects (ending others) → nat_eq (held.counts o) 0 ≡ b → Later back w o others
         → Leads (if b then on_left held.temporaries held (λ h. Goes (record { at = back; stack = stack; frames = others; held = resumed w (with_things h (gone_in h.objects o)) }) []) else Faults Resurrected)
-    ends_lead false back w o others frames ob found none_named dying e behind = tt
-    ends_lead true back w zero others frames ob found none_named dying e behind = cc
-    ends_lead true back w (suc k) others frames ob found none_named dying e behind =
+    ends_lead false back w o others frames ob found none_named dying e later = tt
+    ends_lead true back w zero others frames ob found none_named dying e later = cc
+    ends_lead true back w (suc k) others frames ob found none_named dying e later =
         let x = in_phase Gone ob in
         let objects = slice_set held.objects k x in
         let gone_is : gone_in held.objects (suc k) ≡ objects = rw found refl in
-        let still : AllDying objects (ending others) = apart_dying held.objects k x (ending others) behind.0 dying in
+        let still : AllDying objects (ending others) = apart_dying held.objects k x (ending others) later.0 dying in
         let h1 = with_things held objects in
         let h = with_variables h1 [] in
-        let split = behind.1 in
+        let split = later.1 in
         let sane1 = again_sane w h split none tt (left_sane h1 none no_variables (sane_gone held k ob found none_named e sane)) in
         left_leads held.temporaries held _ none no_variables
         (subst (λ l. Good (at others back stack (resumed w (with_things (with_variables held []) l)))) (sym gone_is)
@@ -1009,37 +1009,37 @@ module _ (p : Program) (R : resolved.Program) where
         (⊎_elim
         (λ f. (inl (record { mine = f.0; below = f.1; deeper = f.2; resumes = f.3; waits = f.4 }), still, sane1))
         (λ f. (inr (record { at_end = f.0.at_end; is_ending = f.0.is_ending; none = f.0.none; empty = f.0.empty; alive = f.0.alive; waits = f.1 }), still, sane1))
-        behind.2)))
+        later.2)))
 
     -- the deallocs of an object are done: its fields are destroyed, and then it is gone
-    clears_lead : (back : ℕ) (w : Waiter) (o : ℕ) (others frames : List Frame) (order : List ℕ) (ob : Object) → object_at held.objects o ≡ Some ob → ob.phase ≡ Dying → NilBut order ob.strong → AllDying held.objects (ending others) → Alive (Ending back w o None 0 ∷ others) held.places held.self → Behind back w o others
+    clears_lead : (back : ℕ) (w : Waiter) (o : ℕ) (others frames : List Frame) (order : List ℕ) (ob : Object) → object_at held.objects o ≡ Some ob → ob.phase ≡ Dying → NilBut order ob.strong → AllDying held.objects (ending others) → Alive (Ending back w o None 0 ∷ others) held.places held.self → Later back w o others
         → Leads (clears p (at frames p.end_step stack held) back w o order others)
-    clears_lead back w o others frames [] ob found phase but dying alive behind =
-        ends_lead (nat_eq (held.counts o) 0) back w o others frames ob found (λ k. ap (holders (suc k)) (there_fields ob (ap is_there phase)) ∙ nil_named ob.strong but k) dying refl behind
-    clears_lead back w zero others frames (index ∷ order) ob found phase but dying alive behind = cc
-    clears_lead back w (suc k) others frames (index ∷ order) ob found phase but dying alive behind =
+    clears_lead back w o others frames [] ob found phase but dying alive later =
+        ends_lead (nat_eq (held.counts o) 0) back w o others frames ob found (λ k. ap (holders (suc k)) (there_fields ob (ap is_there phase)) ∙ nil_named ob.strong but k) dying refl later
+    clears_lead back w zero others frames (index ∷ order) ob found phase but dying alive later = cc
+    clears_lead back w (suc k) others frames (index ∷ order) ob found phase but dying alive later =
         let x = in_phase Emptying ob in
         let objects = slice_set held.objects k x in
         let turned_is : turned_in Emptying held.objects (suc k) ≡ objects = rw found refl in
-        let still : AllDying objects (ending others) = apart_dying held.objects k x (ending others) behind.0 dying in
+        let still : AllDying objects (ending others) = apart_dying held.objects k x (ending others) later.0 dying in
         subst (λ l. Good (at (Clearing back w (suc k) (index ∷ order) ∷ others) p.end_step stack (with_things held l))) (sym turned_is) (
-          inr (record { at_end = refl; is_ending = tt; none = none; empty = empty; alive = alive; waits = behind }),
+          inr (record { at_end = refl; is_ending = tt; none = none; empty = empty; alive = alive; waits = later }),
           ((x, set_here held.objects k x ob found, (refl, but)), still),
           sane_empty held k ob found (ap is_there phase) sane,
         )
 
-    after_lead : (back : ℕ) (w : Waiter) (o : ℕ) (others frames : List Frame) → IsDying held.objects o None → AllDying held.objects (ending others) → Alive (Ending back w o None 0 ∷ others) held.places held.self → Behind back w o others → Leads (after_deallocs p (at frames p.end_step stack held) back w o others)
-    after_lead back w zero others frames dies dying alive behind = absurd (no_nil held.objects None dies)
-    after_lead back w (suc k) others frames dies dying alive behind =
+    after_lead : (back : ℕ) (w : Waiter) (o : ℕ) (others frames : List Frame) → IsDying held.objects o None → AllDying held.objects (ending others) → Alive (Ending back w o None 0 ∷ others) held.places held.self → Later back w o others → Leads (after_deallocs p (at frames p.end_step stack held) back w o others)
+    after_lead back w zero others frames dies dying alive later = absurd (no_nil held.objects None dies)
+    after_lead back w (suc k) others frames dies dying alive later =
         let ob = dies.0 in
         subst Leads (sym (object_goes (object_at held.objects (suc k)) ob (λ x. clears p (at frames p.end_step stack held) back w (suc k) (field_order p.classes x.class) others) dies.1 (ap is_there dies.2)))
-        (clears_lead back w (suc k) others frames (field_order p.classes ob.class) ob dies.1 dies.2 (all_in_order p.classes ob (sane.sized k ob dies.1)) dying alive behind)
+        (clears_lead back w (suc k) others frames (field_order p.classes ob.class) ob dies.1 dies.2 (all_in_order p.classes ob (sane.sized k ob dies.1)) dying alive later)
 
     -- the next field lets go of what it names
-    next_lead : (back : ℕ) (w : Waiter) (o index : ℕ) (fields : List ℕ) (others : List Frame) → IsDying held.objects o (Some (index ∷ fields)) → AllDying held.objects (ending others) → Alive (Clearing back w o (index ∷ fields) ∷ others) held.places held.self → Behind back w o others
+    next_lead : (back : ℕ) (w : Waiter) (o index : ℕ) (fields : List ℕ) (others : List Frame) → IsDying held.objects o (Some (index ∷ fields)) → AllDying held.objects (ending others) → Alive (Clearing back w o (index ∷ fields) ∷ others) held.places held.self → Later back w o others
         → Leads (clears_next p (at (Clearing back w o fields ∷ others) p.end_step stack held) o index)
-    next_lead back w zero index fields others dies dying alive behind = absurd (no_nil held.objects (Some (index ∷ fields)) dies)
-    next_lead back w (suc k) index fields others dies dying alive behind =
+    next_lead back w zero index fields others dies dying alive later = absurd (no_nil held.objects (Some (index ∷ fields)) dies)
+    next_lead back w (suc k) index fields others dies dying alive later =
         let ob = dies.0 in
         let frames : List Frame = Clearing back w (suc k) fields ∷ others in
         let s = at frames p.end_step stack held in
@@ -1049,24 +1049,24 @@ module _ (p : Program) (R : resolved.Program) where
         let go : Object → Next State = λ x. on_place (slice_get x.strong index) (stays held) (λ old. lets_go old (raised 0 (with_strong_field held (suc k) x index 0)) stays ends) in
         subst Leads (sym (object_goes (object_at held.objects (suc k)) ob go dies.1 there_now))
         (place_leads (slice_get ob.strong index) _ _
-        (λ absent. (inr (record { at_end = refl; is_ending = tt; none = none; empty = empty; alive = alive; waits = behind }), ((ob, dies.1, (dies.2.0, no_field index fields ob.strong absent dies.2.1)), dying), sane))
+        (λ absent. (inr (record { at_end = refl; is_ending = tt; none = none; empty = empty; alive = alive; waits = later }), ((ob, dies.1, (dies.2.0, no_field index fields ob.strong absent dies.2.1)), dying), sane))
         (λ old named.
         let x = with_strong_fields ob (slice_set ob.strong index 0) in
         let objects = slice_set held.objects k x in
         let held1 = raised 0 (with_strong_field held (suc k) ob index 0) in
-        let still : AllDying objects (ending frames) = ((x, set_here held.objects k x ob dies.1, (dies.2.0, one_nil index fields ob.strong dies.2.1)), apart_dying held.objects k x (ending others) behind.0 dying) in
+        let still : AllDying objects (ending frames) = ((x, set_here held.objects k x ob dies.1, (dies.2.0, one_nil index fields ob.strong dies.2.1)), apart_dying held.objects k x (ending others) later.0 dying) in
         lets_go_leads old held1 stays ends (sane_store_field held k ob index old 0 dies.1 there_now named tt sane)
-        (λ sane1. (inr (record { at_end = refl; is_ending = tt; none = none; empty = empty; alive = alive; waits = behind }), still, sane1))
+        (λ sane1. (inr (record { at_end = refl; is_ending = tt; none = none; empty = empty; alive = alive; waits = later }), still, sane1))
         (λ j other e found live.
         begins_lead frames (has_level s) j p.end_step p.end_step other stack held held1 found live still (subst (λ q. Drops p.classes q held1) e (sane_store_field held k ob index old 0 dies.1 there_now named tt sane))
-        (λ apart. (apart, splits_as held1, inr (record { at_end = refl; is_ending = tt; none = none; empty = empty; alive = alive }, behind))))))
+        (λ apart. (apart, splits_as held1, inr (record { at_end = refl; is_ending = tt; none = none; empty = empty; alive = alive }, later))))))
 
-    module _ (back : ℕ) (w : Waiter) (o : ℕ) (others : List Frame) (alive : (next : Option ℕ) (left : ℕ) → Alive (Ending back w o next left ∷ others) held.places held.self) (behind : Behind back w o others) (dying : (next : Option ℕ) (left : ℕ) → AllDying held.objects (ending (Ending back w o next left ∷ others))) (frames : List Frame) where
+    module _ (back : ℕ) (w : Waiter) (o : ℕ) (others : List Frame) (alive : (next : Option ℕ) (left : ℕ) → Alive (Ending back w o next left ∷ others) held.places held.self) (later : Later back w o others) (dying : (next : Option ℕ) (left : ℕ) → AllDying held.objects (ending (Ending back w o next left ∷ others))) (frames : List Frame) where
       abbrev here : State
       here = at frames p.end_step stack held
 
       dealloc_leads : (d : Option ℕ) (next : Option ℕ) (left : ℕ) → ((to : ℕ) → d ≡ Some to → Goes_to gives.Number to (height 0 0 0 0)) → Leads (runs_dealloc d here (Ending back w o next left ∷ others))
-      dealloc_leads None next left goes = (inr (record { at_end = refl; is_ending = tt; none = none; empty = empty; alive = alive next left; waits = behind }), dying next left, sane)
+      dealloc_leads None next left goes = (inr (record { at_end = refl; is_ending = tt; none = none; empty = empty; alive = alive next left; waits = later }), dying next left, sane)
       dealloc_leads (Some to) next left goes =
           let g = goes to refl in
           let few = ap length none in
@@ -1076,14 +1076,14 @@ module _ (p : Program) (R : resolved.Program) where
               below = length stack;
               deeper = held.names;
               resumes = record { high = height 0 0 0 0; stands = g.0; count = omega arith; own = []; is = refl; size = refl; few = omega (arith, few); many = many; held = tt; nil = λ k c. nil_from_end held.variables k (omega (arith, many)); ready = inl g.2; alive = alive next left; running = tt };
-              waits = behind;
+              waits = later;
             }),
             dying next left,
             sane,
           )
 
       class_leads : (i : ℕ) (c : Option Class) (left : ℕ) → slice_get p.classes i ≡ c → Leads (ends_class p here back w o c left others)
-      class_leads i None left e = after_lead back w o others frames (dying None left).0 (dying None left).1 (alive None 0) behind
+      class_leads i None left e = after_lead back w o others frames (dying None left).0 (dying None left).1 (alive None 0) later
       class_leads i (Some d) left e = dealloc_leads d.dealloc d.superclass left (λ to f. dealloc_goes R i d to (ap (λ cs. slice_get cs i) (sym classes) ∙ e) f)
 
     goes_on_leads : (frames : List Frame) → IsEnding frames → Alive frames held.places held.self → Waits gives.Number frames (length stack) held.names held.places → AllDying held.objects (ending frames) → Leads (end_goes_on p (at frames p.end_step stack held) frames)

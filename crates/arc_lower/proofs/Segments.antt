@@ -1,4 +1,4 @@
--- What a run does at orders that stand one behind the other.
+-- What a run does at orders that stand one after the other.
 use Rattle.std.proofs.Common.{◌≡◌, ℕ, ◌+◌, ℤ, List, [], ◌∷◌, ◌++◌, length, ap, ◌∙◌, subst, arith, length-append}
 use Rattle.std.proofs.lemmas.List.{append-nil}
 use Rattle.arc_spec.specs.World.{World, Outcome}
@@ -26,7 +26,7 @@ module _ (p : Program) (frames : List Frame) (bound : ℕ) (rs : List ℕ) where
   pub quiet_runs : {A : Type 0} (pc : ℕ) (stack : List ℤ) (w : World) (end : A → World → Reached State → Type 0) (o : Outcome A) → Runs (moves p) bound (running frames rs pc stack w) end o → Runs (moves p) bound (follow (Goes (at frames pc stack (held_of rs w)) []) w.input w.trace) end o
   quiet_runs pc stack w end o h = leads_runs (moves p) bound (follow (Goes (at frames pc stack (held_of rs w)) []) w.input w.trace) (running frames rs pc stack w) end o (quiet pc stack w) h
 
-  -- a run comes from the first of these orders to the place behind them
+  -- a run comes from the first of these orders to the place after them
   abbrev pub Passes : List Order → List ℤ → World → List ℤ → World → Type 0
   Passes xs stack w stack' w' = (pc : ℕ) → HasAt p pc xs → Leads (moves p) (running frames rs pc stack w) (running frames rs (pc + length xs) stack' w')
 

@@ -15,7 +15,7 @@ use Rattle.arc_code.specs.Instructions.{one_if}
 use Rattle.arc_code.specs.declared.instr.Op.{Op}
 use Rattle.arc_code.specs.declared.instr.Op.TheVariants as ops
 use Rattle.arc_code.specs.declared.instr.Op.TheVariants.{Num, Bin, Un, Narrow, Pop, Get, GetChar, Nil, ReadSelf, ReadField, Hold, Forget, Alloc, Finds, GetField, SetField, Differ, IsObject}
-use Rattle.arc_lower.specs.Lowered.{Message, ToClass, ToSuperClass, ToObject, ToSuper, Entry, AtStep, AtTest, AtBody, Block, Idle, One, Load, Store, Read, Assign, AssignField, Clear, Format, Calls, Tells, Making, IfNew, Answer, Then, Fork, Loop, Quit, Advance, Full, Leave}
+use Rattle.arc_lower.specs.Lowered.{Message, ToClass, ToSuperClass, ToObject, ToSuper, Entry, AtStep, AtTest, AtBody, Block, Idle, One, Load, Store, Read, Assign, AssignField, Clear, Format, Calls, SendsMessage, Making, IfNew, Answer, Then, Fork, Loop, Quit, Advance, Full, Leave}
 use Rattle.arc_lower.proofs.Stacking.{onto}
 
 -- operands: numbers and references, the last one first
@@ -33,7 +33,7 @@ name r s = record { numbers = s.numbers; names = r ∷ s.names }
 abbrev pub pushed : Given → Operands → Operands
 pushed given s = record { numbers = onto given.numbers s.numbers; names = onto given.objects s.names }
 
--- how a block is left: behind it, by an exit of the function, or by what leaves the loop in whose body it stands, or goes on with its next turn; nothing is said
+-- how a block is left: after it, by an exit of the function, or by what leaves the loop in whose body it stands, or goes on with its next turn; nothing is said
 -- where it lacks operands
 pub data Way : Type 0 where
   On : Operands → Way
@@ -119,11 +119,11 @@ operation D IsObject s w = on_name s w (λ x rest. Done (On (push (difference x 
 operation D _ s w = Done Lost w
 
 -- a message, with what it passes; what gets it is a number or a reference
-abbrev pub told : Deeper → (wanted : Gives) → Message → Given → Operands → World → Outcome Way
-told D wanted (ToClass selector) given s w = on_number s w (λ self rest. answers_left wanted rest (sent D wanted (meaning.ToClass (class_at self) self) selector given w))
-told D wanted (ToSuperClass from selector) given s w = on_number s w (λ self rest. answers_left wanted rest (sent D wanted (meaning.ToClass (Some from) self) selector given w))
-told D wanted (ToObject selector) given s w = on_name s w (λ self rest. answers_left wanted rest (sent D wanted (meaning.ToObject self) selector given w))
-told D wanted (ToSuper from selector) given s w = on_name s w (λ self rest. answers_left wanted rest (sent D wanted (meaning.ToSuper from self) selector given w))
+abbrev pub message_sent : Deeper → (wanted : Gives) → Message → Given → Operands → World → Outcome Way
+message_sent D wanted (ToClass selector) given s w = on_number s w (λ self rest. answers_left wanted rest (sent D wanted (meaning.ToClass (class_at self) self) selector given w))
+message_sent D wanted (ToSuperClass from selector) given s w = on_number s w (λ self rest. answers_left wanted rest (sent D wanted (meaning.ToClass (Some from) self) selector given w))
+message_sent D wanted (ToObject selector) given s w = on_name s w (λ self rest. answers_left wanted rest (sent D wanted (meaning.ToObject self) selector given w))
+message_sent D wanted (ToSuper from selector) given s w = on_name s w (λ self rest. answers_left wanted rest (sent D wanted (meaning.ToSuper from self) selector given w))
 
 -- what follows a loop's body
 abbrev pub after_turn : (Operands → World → Outcome Way) → Way → World → Outcome Way
@@ -151,7 +151,7 @@ loop_entered AtBody n step test body s w = block_turns n step test body s w
 abbrev pub passes_by : Operands → Outcome Finished → Outcome Way
 passes_by s o = left_by (λ _. On s) o
 
--- a full-expression is left behind it, or nothing is said of it
+-- a full-expression is left after it, or nothing is said of it
 abbrev pub only_on : (Operands → World → Outcome Way) → Way → World → Outcome Way
 only_on go (On s) w = go s w
 only_on go way w = Done Lost w
@@ -168,7 +168,7 @@ block D bound place m (AssignField class index) s w = on_name s w (λ r above. o
 block D bound place m (Clear first count) s w = passes_by s (variables_dropped D first count w)
 block D bound place m (Format pieces n k) s w = on_given n k s w (λ given rest. Done (On (push (byte_count (formatted pieces given.numbers)) rest)) (prints (formatted pieces given.numbers) w))
 block D bound place m (Calls wanted f n k) s w = on_given n k s w (λ given rest. answers_left wanted rest (D.call wanted f 0 given w))
-block D bound place m (Tells wanted message n k) s w = on_given n k s w (λ given rest. told D wanted message given rest w)
+block D bound place m (SendsMessage wanted message n k) s w = on_given n k s w (λ given rest. message_sent D wanted message given rest w)
 block D bound place m Making s w = on_number s w (λ class rest. left_by (λ r. On (name r rest)) (made_new D (class_at class) w))
 block D bound place m (IfNew class a b) s w = if knows_new D (Some class) then block D bound place m a s w else block D bound place m b s w
 block D bound place false Answer s w = on_name s w (λ r rest. passes_by s (assigned D (Local place) r w))
@@ -189,7 +189,7 @@ pub then_twice : {A B C : Type 0} (o : Outcome A) (f : A → World → Outcome B
 then_twice (Done a w) f g = refl
 then_twice _ f g = refl
 
--- ---- one block behind another
+-- ---- one block after another
 
 pub after : {A B : Type 0} (exit : A → Operands) (end : B → Way) (x : Outcome Way) (o : Outcome A) (k : Operands → World → Outcome Way) (go : A → World → Outcome B) → x ≡ left_by (λ a. On (exit a)) o → ((a : A) (w : World) → k (exit a) w ≡ left_by end (go a w)) → and_then x k ≡ left_by end (then_do o go)
 after exit end x (Done a w) k go e h = ap (λ y. and_then y k) e ∙ h a w

@@ -108,12 +108,12 @@ drop_onto values rest =
     let f = front_of values in
     rw (f.is rest, ← f.size) (drop-append_seam f.front rest)
 
-pub behind_one : {A : Type 0} (xs ys : List A) (x : A) → drop (suc (length xs)) (xs ++ x ∷ ys) ≡ ys
-behind_one [] ys x = refl
-behind_one (y ∷ xs) ys x = behind_one xs ys x
+pub after_one : {A : Type 0} (xs ys : List A) (x : A) → drop (suc (length xs)) (xs ++ x ∷ ys) ≡ ys
+after_one [] ys x = refl
+after_one (y ∷ xs) ys x = after_one xs ys x
 
 -- all but the one below these
 pub without_below : {A : Type 0} (values rest : List A) (r : A) → take (length values) (onto values (r ∷ rest)) ++ drop (suc (length values)) (onto values (r ∷ rest)) ≡ onto values rest
 without_below values rest r =
     let f = front_of values in
-    rw (f.is (r ∷ rest), f.is rest, ← f.size) (simp (take-append_seam, behind_one))
+    rw (f.is (r ∷ rest), f.is rest, ← f.size) (simp (take-append_seam, after_one))

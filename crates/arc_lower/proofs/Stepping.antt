@@ -37,9 +37,9 @@ module _ {A : Type 0} (all : List A) where
   part_back pc (x ∷ a) b f =
       subst (λ n. HasPart all n b) (omega arith) (part_back (pc + 1) a b f.1)
 
-  pub seam : (before behind : List A) (x : A) → slice_get (before ++ x ∷ behind) (length before) ≡ Some x
-  seam [] behind x = refl
-  seam (b ∷ before) behind x = seam before behind x
+  pub seam : (before later : List A) (x : A) → slice_get (before ++ x ∷ later) (length before) ≡ Some x
+  seam [] later x = refl
+  seam (b ∷ before) later x = seam before later x
 
   part_from : (before part : List A) → all ≡ before ++ part → HasPart all (length before) part
   part_from before [] e = tt
@@ -272,7 +272,7 @@ module _ (R : resolved.Program) (all : List Order) (table : List (Height × Give
       row_of pc w [] hs os = tt
       row_of pc w (x ∷ xs) hs os = (hs.0, os.0, row_of (pc + 1) (next_walk R base x w) xs hs.1 os.1)
 
-      -- and behind them a run may go on
+      -- and after them a run may go on
       abbrev pub Follows : ℕ → Walk → List Order → Type 0
       Follows pc w [] = Goes given pc w.height
       Follows pc w (x ∷ xs) = (slice_get table pc ≡ Some (w.height, given)) × (slice_get all pc ≡ Some x) × Follows (pc + 1) (next_walk R base x w) xs
@@ -294,7 +294,7 @@ module _ (R : resolved.Program) (all : List Order) (table : List (Height × Give
       taken_same (Plain (Set depth)) w takes = omega arith
       taken_same _ w takes = absurd takes
 
-      -- no order behind ordinary ones drops the temporary before the last one
+      -- no order after ordinary ones drops the temporary before the last one
       first_quiet : (pc : ℕ) (w : Walk) (xs : List Order) → AllOrdinary xs → Follows pc w xs → Quiet pc
       first_quiet pc w _ no_order f = f.2.0
       first_quiet pc w _ (and_one {x = x} o others) f = λ y e settles. not_settle Ordinary (λ o. o) x o
@@ -439,7 +439,7 @@ module _ (R : resolved.Program) (all : List Order) (table : List (Height × Give
       enter_length AtStep n m = refl
       enter_length _ n m = refl
 
-      -- what stands behind the jump by which a loop is entered
+      -- what stands after the jump by which a loop is entered
       enter_follows : (entry : Entry) (n m pc : ℕ) (pending : List Height) (xs : List Order) → AllBase R 0 0 slots names exit pending → Follows base pc (walk base pending) (enter_orders entry n m ++ xs) → Follows base (pc + enter_size entry) (walk base (entered R 0 0 slots names exit base entry pending)) xs
       enter_follows entry n m pc pending xs all f =
           subst (λ k. Follows base (pc + k) (walk base (entered R 0 0 slots names exit base entry pending)) xs) (enter_length entry n m)
@@ -456,8 +456,8 @@ module _ (R : resolved.Program) (all : List Order) (table : List (Height × Give
         Keeps_on = Keeps R 0 0 slots names exit base
 
         -- what stands after a block
-        behind : (e : Spot) (looping statement : Bool) (x : Block) (h g : Height) (pc : ℕ) (pending : List Height) (ys : List Order) → Keeps_on statement pending pending → Block_types looping statement h x g → Follows base pc (walk h pending) (orders e x ++ ys) → (after : List Height) × Keeps_on statement pending after × Follows base (pc + length (orders e x)) (walk g after) ys
-        behind e looping statement x h g pc pending ys keeps t f =
+        later : (e : Spot) (looping statement : Bool) (x : Block) (h g : Height) (pc : ℕ) (pending : List Height) (ys : List Order) → Keeps_on statement pending pending → Block_types looping statement h x g → Follows base pc (walk h pending) (orders e x ++ ys) → (after : List Height) × Keeps_on statement pending after × Follows base (pc + length (orders e x)) (walk g after) ys
+        later e looping statement x h g pc pending ys keeps t f =
             let ends = block_ends R 0 0 slots names exit base e looping statement x h g pending keeps t in
             (ends.0, ends.2, subst (λ w. Follows base (pc + length (orders e x)) w ys) ends.1 (back base pc (walk h pending) (orders e x) ys f))
 
@@ -485,7 +485,7 @@ module _ (R : resolved.Program) (all : List Order) (table : List (Height × Give
             let xs = orders e x in
             let next = past (length xs) e in
             let ys = orders next y in
-            let after = behind e l statement x h t.0 pc pending ys keeps t.1 f in
+            let after = later e l statement x h t.0 pc pending ys keeps t.1 f in
             step_then pc xs ys (block_steps e turn l statement x h t.0 pc pending here ways keeps t.1 (front base pc (walk h pending) xs ys (block_ordinary next l statement y t.0 g t.2) f))
             (block_steps next turn l statement y t.0 g (pc + length xs) after.0 (λ s. ap (past (length xs)) (here s)) ways (keeps_on R 0 0 slots names exit base statement pending after.0 after.1) t.2 after.2)
         block_steps e turn l statement (Fork x y) h g pc pending here ways keeps t f =
@@ -504,7 +504,7 @@ module _ (R : resolved.Program) (all : List Order) (table : List (Height × Give
             let o : AllOrdinary rest = and_one tt (block_ordinary other l statement y j g t.5) in
             let more = keeps_test R 0 0 slots names exit base statement i pending t.3 keeps in
             let inside = subst (λ n. Follows base one (walk n (n ∷ pending)) (xs ++ rest)) t.2.left f.2 in
-            let after = behind inner l statement x i m one (i ∷ pending) rest more t.4 inside in
+            let after = later inner l statement x i m one (i ∷ pending) rest more t.4 inside in
             let others = drop 1 after.0 in
             let kept = keeps_on R 0 0 slots names exit base statement pending others (keeps_rest R 0 0 slots names exit base statement i pending after.0 keeps after.1) in
             let part = subst (λ n. Follows base two (walk n others) ys) (part_same R 0 0 slots names exit base statement i m pending after.0 t.3 after.1) after.2.2 in
@@ -543,13 +543,13 @@ module _ (R : resolved.Program) (all : List Order) (table : List (Height × Give
             let others = entered R 0 0 slots names exit base entry pending in
             let kept = enter_keeps R 0 0 slots names exit base entry pending refl keeps.1 in
             let turned = enter_follows entry (length zs) (length ts) pc pending (zs ++ (ts ++ rest)) keeps.1 start in
-            let stepped = behind begin l true z base base first others (ts ++ rest) kept t.2 turned in
+            let stepped = later begin l true z base base first others (ts ++ rest) kept t.2 turned in
             let more = keeps_on R 0 0 slots names exit base true others stepped.0 stepped.1 in
-            let chosen = behind at_test l true x base test q0 stepped.0 rest more t.3 stepped.2 in
+            let chosen = later at_test l true x base test q0 stepped.0 rest more t.3 stepped.2 in
             let less = chosen_same R 0 0 slots names exit to in
             let most = keeps_test R 0 0 slots names exit base true base chosen.0 refl (keeps_on R 0 0 slots names exit base true stepped.0 chosen.0 chosen.1) in
             let inside = subst (λ n. Follows base one (walk n (n ∷ chosen.0)) (xs ++ again)) less chosen.2.2 in
-            let after = behind at_body true true y base base one (base ∷ chosen.0) again most t.4 inside in
+            let after = later at_body true true y base base one (base ∷ chosen.0) again most t.4 inside in
             let last = subst (λ n. Goes given end n) (part_same R 0 0 slots names exit base true base base chosen.0 after.0 refl after.1) after.2.2 in
             let goes_first = goes_here base first (walk base others) (zs ++ (ts ++ rest)) (ordinary_then zs (ts ++ rest) (block_ordinary begin l true z base base t.2) o1) turned in
             let goes_test = goes_here base q0 (walk base stepped.0) (ts ++ rest) o1 stepped.2 in
@@ -581,8 +581,8 @@ module _ (R : resolved.Program) (all : List Order) (table : List (Height × Give
             let ys = orders Inside y in
             let ds = drop_orders xs in
             let o = types_ordinary R t.1 ds g t.4 in
-            let one = behind Inside false false x h t.0 pc pending (ys ++ ds) refl t.2 f in
-            let two = behind Inside false false y t.0 t.1 (pc + length xs) one.0 ds refl t.3 one.2 in
+            let one = later Inside false false x h t.0 pc pending (ys ++ ds) refl t.2 f in
+            let two = later Inside false false y t.0 t.1 (pc + length xs) one.0 ds refl t.3 one.2 in
             step_then pc xs (ys ++ ds) (block_steps Inside turn false false x h t.0 pc pending (λ s. absurd (true≢false (sym s))) (λ s. absurd (true≢false (sym s))) refl t.2 (front base pc (walk h pending) xs (ys ++ ds) (ordinary_then ys ds (block_ordinary Inside false false y t.0 t.1 t.3) o) f))
             (step_then (pc + length xs) ys ds (block_steps Inside turn false false y t.0 t.1 (pc + length xs) one.0 (λ s. absurd (true≢false (sym s))) (λ s. absurd (true≢false (sym s))) refl t.3 (front base (pc + length xs) (walk t.0 one.0) ys ds o one.2)) (typed_steps base (pc + length xs + length ys) t.1 two.0 ds g t.4 two.2))
         block_steps e turn l statement x h g pc pending here ways keeps t f = typed_steps base pc h pending (orders e x) g t f

@@ -117,10 +117,10 @@ module _ (P : Program) (b : Body) (scopes : List Scope) where
     size = ap length e2 ∙ length-append o1 (tests test ++ JumpZero (Skip 0) ∷ []) ∙ (let more = length-append (tests test) (JumpZero (Skip 0) ∷ []) in omega (arith, more))
 
     -- after a step, or none
-    behind_step : (zs : List Order) (begin' : ℕ) → begin ≡ begin' → length o1 ≡ begin' + length zs
+    after_step : (zs : List Order) (begin' : ℕ) → begin ≡ begin' → length o1 ≡ begin' + length zs
         → let out' = begin' + length zs + length (tests test) in
         written ≡ o1 ++ (tests test ++ (JumpZero (Skip (suc (length (in_turn P b.slots b.names (out' + 1) begin' out' (body_of body))))) ∷ (in_turn P b.slots b.names (out' + 1) begin' out' (body_of body) ++ Jump (Back (suc (length zs + length (tests test) + length (in_turn P b.slots b.names (out' + 1) begin' out' (body_of body))))) ∷ [])))
-    behind_step zs begin' eb e1 =
+    after_step zs begin' eb e1 =
         let ts = tests test in
         let out' = begin' + length zs + length ts in
         let same = turn_same P b.slots b.names (body_of body) (length o2) (out' + 1) begin begin' out out' (omega (arith, size, e1)) eb (omega (arith, eo, e1)) in
@@ -135,7 +135,7 @@ module _ (P : Program) (b : Body) (scopes : List Scope) where
         let bare = e1 ∙ append-nil old in
         let none : length old ≡ length old + 0 = omega arith in
         let rest = turn_orders [] (tests test) (in_turn P b.slots b.names (length old + 0 + 0 + length (tests test) + 1) (length old + 0) (length old + 0 + 0 + length (tests test)) (body_of body)) in
-        behind_step [] (length old + 0) (eb ∙ none) (let same = ap length bare in omega (arith, same))
+        after_step [] (length old + 0) (eb ∙ none) (let same = ap length bare in omega (arith, same))
         ∙ ap (λ l. l ++ rest) bare
         ∙ ap (λ l. old ++ l) (sym (loop_flat P b.slots b.names AtStep (length old) b.turn Idle test (body_of body)))
     repeat_by step false e1 eb =
@@ -145,7 +145,7 @@ module _ (P : Program) (b : Body) (scopes : List Scope) where
         let out' = here + 1 + length zs + length (tests test) in
         let xs = in_turn P b.slots b.names (out' + 1) (here + 1) out' (body_of body) in
         let rest = tests test ++ (JumpZero (Skip (suc (length xs))) ∷ (xs ++ Jump (Back (suc (length zs + length (tests test) + length xs))) ∷ [])) in
-        behind_step zs (here + 1) eb (let same = ap length e1 ∙ length-append old (enter ∷ zs) in omega (arith, same))
+        after_step zs (here + 1) eb (let same = ap length e1 ∙ length-append old (enter ∷ zs) in omega (arith, same))
         ∙ ap (λ l. l ++ rest) e1
         ∙ append_assoc old (enter ∷ zs) rest
         ∙ ap (λ l. old ++ l) (sym (loop_flat P b.slots b.names AtTest here b.turn (step_of step) test (body_of body)))
@@ -162,7 +162,7 @@ module _ (P : Program) (b : Body) (scopes : List Scope) where
         let out' = here + 1 + 0 + length ts in
         let xs = in_turn P b.slots b.names (out' + 1) (here + 1) out' (body_of body) in
         let rest = ts ++ (JumpZero (Skip (suc (length xs))) ∷ (xs ++ Jump (Back (suc (0 + length ts + length xs))) ∷ [])) in
-        let whole : o3 ≡ old ++ open_jump ∷ rest = e3 ∙ behind_step [] (here + 1) (eb ∙ one) (omega (arith, one)) ∙ ap (λ l. l ++ rest) e1 ∙ append_assoc old (open_jump ∷ []) rest in
+        let whole : o3 ≡ old ++ open_jump ∷ rest = e3 ∙ after_step [] (here + 1) (eb ∙ one) (omega (arith, one)) ∙ ap (λ l. l ++ rest) e1 ∙ append_assoc old (open_jump ∷ []) rest in
         let far : over ≡ 0 + length ts + 1 = omega (arith, ev, ee, eo, one) in
         patched old o3 rest enter open_jump (Jump (Skip over)) whole ee
         ∙ ap (λ n. old ++ Jump (Skip n) ∷ rest) far
@@ -175,9 +175,9 @@ module _ (P : Program) (b : Body) (scopes : List Scope) where
       let open_jump : Order = Jump (Skip 0) in
       let one : length o1 ≡ here + 1 = ap length e1 ∙ length-append old (open_jump ∷ []) in
       let zs = of_command (here + 1) step in
-      let behind : o2 ≡ o1 ++ zs = e2 ∙ ap (λ n. o1 ++ of_command n step) one in
-      let size = ap length behind ∙ length-append o1 zs in
-      let whole : o2 ≡ old ++ open_jump ∷ zs = behind ∙ ap (λ l. l ++ zs) e1 ∙ append_assoc old (open_jump ∷ []) zs in
+      let later : o2 ≡ o1 ++ zs = e2 ∙ ap (λ n. o1 ++ of_command n step) one in
+      let size = ap length later ∙ length-append o1 zs in
+      let whole : o2 ≡ old ++ open_jump ∷ zs = later ∙ ap (λ l. l ++ zs) e1 ∙ append_assoc old (open_jump ∷ []) zs in
       let far : end - begin ≡ length zs = omega (arith, en, eb, size) in
       patched old o2 zs enter open_jump (Jump (Skip (end - begin))) whole ee
       ∙ ap (λ n. old ++ Jump (Skip n) ∷ zs) far

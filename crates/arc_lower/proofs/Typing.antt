@@ -1,4 +1,4 @@
--- Orders that go on with the next one each: how many numbers, references, temporaries and variables there are behind them, where each of them has as many as it needs.
+-- Orders that go on with the next one each: how many numbers, references, temporaries and variables there are after them, where each of them has as many as it needs.
 use Rattle.std.proofs.Common.{◌≡◌, ℕ, zero, suc, pred, ◌+◌, ◌-◌, ◌/◌, ◌<◌, ◌≤◌, Bool, true, false, if◌then◌else◌, nat_lt, List, [], ◌∷◌, ◌++◌, length, take, drop, refl, sym, ap, ◌∙◌, subst, arith, pos}
 use Rattle.std.proofs.lemmas.Bool.{ltb-true}
 use Rattle.arc_ast.specs.declared.tree.Kind.TheVariants as k
@@ -19,7 +19,7 @@ use Rattle.arc_code.specs.declared.effect.Height.{Height}
 use Rattle.arc_code.specs.Effects.{on_numbers, as_number, as_object, operation_effect, passes}
 use Rattle.arc_ir.specs.declared.action.Target.TheVariants.{Skip}
 use Rattle.arc_lower.specs.Order.{Order}
-use Rattle.arc_lower.specs.Lowered.{conversion_orders, part_orders, piece_orders, left_behind, format_orders, pop_orders, keep_orders, print_orders, get_orders, set_orders, zero_orders, fit_orders, declare_orders, read_orders, store_orders, drop_orders, empty_orders, all_empty_orders, number_of_nothing, gives_at, number_of, slots_of, parameters_of, object_parameters, forget_orders, nil_orders, fit_object_orders, passing_orders, take_orders, own_orders, call_orders, Inside, Block, Making, IfNew, has_new, Then, Fork, Loop, Quit, Advance, Full, Leave, flat}
+use Rattle.arc_lower.specs.Lowered.{conversion_orders, part_orders, piece_orders, left_after, format_orders, pop_orders, keep_orders, print_orders, get_orders, set_orders, zero_orders, fit_orders, declare_orders, read_orders, store_orders, drop_orders, empty_orders, all_empty_orders, number_of_nothing, gives_at, number_of, slots_of, parameters_of, object_parameters, forget_orders, nil_orders, fit_object_orders, passing_orders, take_orders, own_orders, call_orders, Inside, Block, Making, IfNew, has_new, Then, Fork, Loop, Quit, Advance, Full, Leave, flat}
 use Rattle.arc_lower.specs.Heights.{height, between, after_effect, next_height, Walk, walk, next_walk, last_walk}
 use Rattle.arc_lower.proofs.Callees.{with_functions}
 use Rattle.arc_lower.proofs.Linking.{out_of_list}
@@ -212,9 +212,9 @@ module _ (P : Program) (r s : ℕ) where
     format_types [] rest a le = refl
     format_types (Bytes bytes ∷ others) rest a le = counts_then (suc a) (piece_orders (Bytes bytes) rest) (suc a) (format_orders others rest) (suc a) (parts_type ((length bytes - 1) / 16) bytes a) (format_types others rest a le)
     format_types (Decimal ∷ others) rest a le =
-        counts_then (suc a) (piece_orders Decimal rest) (suc a) (format_orders others (left_behind Decimal rest)) (suc a) (conversion_types PrintNum rest a le refl (omega arith)) (format_types others (left_behind Decimal rest) a (omega (arith, le, pred_less rest)))
+        counts_then (suc a) (piece_orders Decimal rest) (suc a) (format_orders others (left_after Decimal rest)) (suc a) (conversion_types PrintNum rest a le refl (omega arith)) (format_types others (left_after Decimal rest) a (omega (arith, le, pred_less rest)))
     format_types (Character ∷ others) rest a le =
-        counts_then (suc a) (piece_orders Character rest) (suc a) (format_orders others (left_behind Character rest)) (suc a) (conversion_types PrintByte rest a le refl (omega arith)) (format_types others (left_behind Character rest) a (omega (arith, le, pred_less rest)))
+        counts_then (suc a) (piece_orders Character rest) (suc a) (format_orders others (left_after Character rest)) (suc a) (conversion_types PrintByte rest a le refl (omega arith)) (format_types others (left_after Character rest) a (omega (arith, le, pred_less rest)))
 
     pub print_types : (pieces : List Piece) (n a : ℕ) → Counts (n + a) (print_orders pieces n) (suc a)
     print_types pieces n a =

@@ -34,7 +34,7 @@ module _ (D : Deeper) where
   unused_ends (FieldUpdated moment a class index operator computed kept b) w = field_updated_ends After a class index operator computed kept b w ∙ sym (field_updated_ends moment a class index operator computed kept b w)
   unused_ends _ w = refl
 
-  -- the temporaries are dropped behind either
+  -- the temporaries are dropped after either
   dropped : (o : Outcome ℤ) → then_do (then_do o (λ v w1. then_do (all_dropped D w1) (λ _ w2. Done v w2))) (λ _ w1. Done Normal w1) ≡ then_do (ended o) (λ _ w1. then_do (all_dropped D w1) (λ _ w2. Done Normal w2))
   dropped (Done v w) = by (all_dropped D w)
     where

@@ -58,9 +58,9 @@ module _ (p : Program) (R : resolved.Program) (is : orders p.actions ≡ lowered
       let q = 0 + length fits in
       let has = has_start p R is entries in
       let has_call = has_front p 0 (fits ++ call) last_orders has in
-      let behind = has_back p 0 (fits ++ call) last_orders has in
+      let later = has_back p 0 (fits ++ call) last_orders has in
       let size : 0 + length (fits ++ call) ≡ q + 1 = omega (arith, length-append fits call) in
-      let last = subst (λ n. HasAt p n last_orders) size behind in
+      let last = subst (λ n. HasAt p n last_orders) size later in
       let s = onto (first_locals (slots_of R gives.Number R.main) []) [] in
       let names = onto (first_names (parameters_of R gives.Number R.main) []) [] in
       let o = (level R bound most_levels).call gives.Number R.main 0 nothing_given w in

@@ -136,7 +136,7 @@ names_of P = room_for (greatest_height P).names
 abbrev pub places_of : Program → ℕ
 places_of P = room_for (places_in (greatest_height P))
 
--- the heights of a program as a table; there is none behind its actions
+-- the heights of a program as a table; there is none after its actions
 abbrev pub height_at : Program → ℕ → Height
 height_at P pc = get_or (lowered_heights P) pc no_height
 

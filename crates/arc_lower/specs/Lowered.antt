@@ -61,15 +61,15 @@ piece_orders (Bytes bytes) left = text_orders bytes
 piece_orders Decimal left = conversion_orders (Plain PrintNum) left
 piece_orders Character left = conversion_orders (Plain PrintByte) left
 
--- how many values aren't printed yet behind a piece
-abbrev pub left_behind : Piece → (left : ℕ) → ℕ
-left_behind (Bytes bytes) left = left
-left_behind Decimal left = pred left
-left_behind Character left = pred left
+-- how many values aren't printed yet after a piece
+abbrev pub left_after : Piece → (left : ℕ) → ℕ
+left_after (Bytes bytes) left = left
+left_after Decimal left = pred left
+left_after Character left = pred left
 
 abbrev pub format_orders : List Piece → (left : ℕ) → List Order
 format_orders [] left = []
-format_orders (piece ∷ others) left = piece_orders piece left ++ format_orders others (left_behind piece left)
+format_orders (piece ∷ others) left = piece_orders piece left ++ format_orders others (left_after piece left)
 
 -- takes so many numbers
 abbrev pub pop_orders : ℕ → List Order
@@ -81,7 +81,7 @@ abbrev pub keep_orders : ℕ → List Order
 keep_orders zero = []
 keep_orders (suc n) = Plain (Set n) ∷ pop_orders n
 
--- prints a format behind its values, and leaves the count of bytes alone, as an int
+-- prints a format after its values, and leaves the count of bytes alone, as an int
 abbrev pub print_orders : List Piece → (values : ℕ) → List Order
 print_orders pieces n = Plain (Num (pos 0)) ∷ [] ++ (format_orders pieces n ++ (Plain (Narrow k.Int) ∷ [] ++ keep_orders n))
 
@@ -147,7 +147,7 @@ store_orders names (Local i) = if nat_lt i names then StoreStrong i ∷ [] else 
 abbrev pub order_takes : Order → Bool
 order_takes x = nat_lt 0 (effect x).temporaries
 
--- drops the temporaries behind orders that take some
+-- drops the temporaries after orders that take some
 abbrev pub drop_orders : List Order → List Order
 drop_orders xs = if list_any order_takes xs then DropAll ∷ [] else []
 
@@ -160,7 +160,7 @@ abbrev pub all_empty_orders : (names first count : ℕ) → List Order
 all_empty_orders names first zero = []
 all_empty_orders names first (suc n) = empty_orders names (first + n) ++ all_empty_orders names first n
 
--- A function that gives 0 stands behind the others, and one that gives nil: one that there isn't, or that gives something else than is wanted, is called as one of these.
+-- A function that gives 0 stands after the others, and one that gives nil: one that there isn't, or that gives something else than is wanted, is called as one of these.
 abbrev pub all_functions : Program → List Function
 all_functions P = P.functions ++ nothing_giving gives.Number ∷ nothing_giving gives.Object ∷ []
 
@@ -236,7 +236,7 @@ pub data Block : Type 0 where
   -- a format, a call and a message, with so many numbers and so many objects; a call and a message want a number or an object
   Format : List Piece → (values objects : ℕ) → Block
   Calls : (wanted : Gives) → (f values objects : ℕ) → Block
-  Tells : (wanted : Gives) → Message → (values objects : ℕ) → Block
+  SendsMessage : (wanted : Gives) → Message → (values objects : ℕ) → Block
   -- what the root's `new` does with the class on top
   Making : Block
   -- the first where a class, or one above it, has a `new` of its own, else the second
@@ -321,7 +321,7 @@ flat P slots names e (Clear first count) = all_empty_orders names first count
 flat P slots names e (AssignField class index) = StoreField class index ∷ []
 flat P slots names e (Format pieces n m) = forget_orders m ++ print_orders pieces n
 flat P slots names e (Calls wanted f n m) = call_orders P wanted f n m
-flat P slots names e (Tells wanted message n m) = message_order wanted message n m ∷ []
+flat P slots names e (SendsMessage wanted message n m) = message_order wanted message n m ∷ []
 flat P slots names e Making = making_orders
 flat P slots names e (IfNew class a b) = if has_new P class then flat P slots names e a else flat P slots names e b
 flat P slots names e Answer = store_orders names (Local (names - 1))
@@ -381,12 +381,12 @@ message_to (ClassSuper from) selector = ToSuperClass from selector
 message_to (ObjectValue a) selector = ToObject selector
 message_to (ObjectSuper a from) selector = ToSuper from selector
 
--- What `new` does, behind the number of the class that gets it, where its method is looked up from a class, or from that of the number: the class's own method is found
+-- What `new` does, after the number of the class that gets it, where its method is looked up from a class, or from that of the number: the class's own method is found
 -- when the program is lowered, where it is known.
 abbrev pub new_block : (from : Option ℕ) → (class : Value) → Block
-new_block (Some from) class = IfNew from (Tells gives.Object (ToSuperClass from new_selector) 0 0) Making
-new_block None (Number (pos c)) = IfNew c (Tells gives.Object (ToClass new_selector) 0 0) Making
-new_block None class = Then (One (Finds new_selector)) (Fork (Tells gives.Object (ToClass new_selector) 0 0) Making)
+new_block (Some from) class = IfNew from (SendsMessage gives.Object (ToSuperClass from new_selector) 0 0) Making
+new_block None (Number (pos c)) = IfNew c (SendsMessage gives.Object (ToClass new_selector) 0 0) Making
+new_block None class = Then (One (Finds new_selector)) (Fork (SendsMessage gives.Object (ToClass new_selector) 0 0) Making)
 
 -- An expression leaves one operand more. What gets a message lies below its arguments; one to `super` goes to `self`, in a class method the first variable.
 abbrev mutual
@@ -406,7 +406,7 @@ abbrev mutual
   value_block depth (Invoked f arguments) = Then (arguments_block depth arguments) (Calls gives.Number f (number_count arguments) (object_count arguments))
   value_block depth (Sent receiver selector arguments) =
       Then (receiver_block depth receiver) (Then (arguments_block (below_arguments receiver depth) arguments)
-      (Tells gives.Number (message_to receiver selector) (number_count arguments) (object_count arguments)))
+      (SendsMessage gives.Number (message_to receiver selector) (number_count arguments) (object_count arguments)))
   value_block depth (Field a class index) = Then (reference_block depth a) (One (GetField class index))
   value_block depth (FieldAssigned a class index b) = Then (reference_block depth a) (Then (value_block depth b) (One (SetField class index)))
   value_block depth (FieldUpdated moment a class index operator computed kept b) =
@@ -430,7 +430,7 @@ abbrev mutual
   reference_block depth (ObjectInvoked f arguments) = Then (arguments_block depth arguments) (Calls gives.Object f (number_count arguments) (object_count arguments))
   reference_block depth (ObjectSent receiver selector arguments) =
       Then (receiver_block depth receiver) (Then (arguments_block (below_arguments receiver depth) arguments)
-      (Tells gives.Object (message_to receiver selector) (number_count arguments) (object_count arguments)))
+      (SendsMessage gives.Object (message_to receiver selector) (number_count arguments) (object_count arguments)))
 
   -- leaves the class that gets a message as one operand more, or a reference to the object
   pub receiver_block : (depth : ℕ) → Receiver → Block
@@ -542,7 +542,7 @@ invoked_orders P slots names depth wanted f arguments =
 abbrev pub sent_orders : Program → (slots names depth : ℕ) → (wanted : Gives) → Receiver → (selector : ℕ) → Arguments → List Order
 sent_orders P slots names depth wanted receiver selector arguments =
     flat P slots names Inside (Then (receiver_block depth receiver) (Then (arguments_block (below_arguments receiver depth) arguments)
-    (Tells wanted (message_to receiver selector) (number_count arguments) (object_count arguments))))
+    (SendsMessage wanted (message_to receiver selector) (number_count arguments) (object_count arguments))))
 
 abbrev pub new_found_orders : List Order
 new_found_orders =
@@ -624,7 +624,7 @@ entry_of place f = place + length (leave_orders f)
 abbrev pub function_orders : Program → (place : ℕ) → Function → List Order
 function_orders P place f = leave_orders f ++ body_orders P place (entry_of place f) f
 
--- functions, one behind the other
+-- functions, one after the other
 abbrev pub functions_orders : Program → (place : ℕ) → List Function → List Order
 functions_orders P place [] = []
 functions_orders P place (f ∷ others) =
@@ -636,7 +636,7 @@ abbrev pub entries_from : Program → (place : ℕ) → List Function → List �
 entries_from P place [] = []
 entries_from P place (f ∷ others) = entry_of place f ∷ entries_from P (place + length (function_orders P place f)) others
 
--- where a program begins: a call of main without arguments, and the end; and behind it where the ends of objects go on
+-- where a program begins: a call of main without arguments, and the end; and after it where the ends of objects go on
 abbrev pub start_orders : Program → List Order
 start_orders P = call_orders P gives.Number P.main 0 0 ++ (Return ∷ [] ++ EndStep ∷ [])
 
@@ -651,7 +651,7 @@ entries_of P = entries_from P (length (start_orders P)) (all_functions P)
 abbrev pub stub_orders : Program → (entries : List ℕ) → (wanted : Gives) → (values objects f : ℕ) → List Order
 stub_orders P entries wanted values objects f = passing_orders P wanted f values objects ++ Jump (At (slice_index_or entries (number_of P wanted f) 0)) ∷ []
 
--- the stubs of methods, one behind the other
+-- the stubs of methods, one after the other
 abbrev pub methods_orders : Program → (entries : List ℕ) → List Method → List Order
 methods_orders P entries [] = []
 methods_orders P entries (m ∷ others) = stub_orders P entries m.gives (passes m.sign m.takes) m.objects m.runs ++ methods_orders P entries others

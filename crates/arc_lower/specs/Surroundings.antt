@@ -13,7 +13,7 @@ use Rattle.arc_lower.specs.Lowered.{Surroundings, does_nothing, command_orders}
 abbrev pub surroundings : Body → (scopes : List Scope) → Surroundings
 surroundings b scopes = record { exit = b.exit; turn = b.turn; scopes = reverse scopes }
 
--- where a loop's turn begins whose first actions stand here: behind the jump over its step, where it has one
+-- where a loop's turn begins whose first actions stand here: after the jump over its step, where it has one
 abbrev pub step_begin : (here : ℕ) → Command → ℕ
 step_begin here step = if does_nothing step then here else here + 1
 

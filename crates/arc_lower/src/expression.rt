@@ -193,7 +193,7 @@ fn append_printed(
     append_print(alloc, actions, pieces, count_numbers(arguments))
 }
 
-/// Appends the actions of an expression that gives a number, and this action behind them.
+/// Appends the actions of an expression that gives a number, and this action after them.
 #[cycle(expression)]
 fn append_value_then(
     alloc: Global,
@@ -225,7 +225,7 @@ fn append_converted(
     append_narrow(actions, known_kind(operand), kind)
 }
 
-/// Appends the actions of an expression that gives an object or nil, and this action behind them.
+/// Appends the actions of an expression that gives an object or nil, and this action after them.
 #[cycle(expression)]
 fn append_reference_then(
     alloc: Global,
@@ -242,7 +242,7 @@ fn append_reference_then(
 }
 
 /// Appends the actions of two expressions that give numbers, the left one's first, and this action
-/// behind them.
+/// after them.
 #[cycle(expression)]
 fn append_both(
     alloc: Global,
@@ -372,7 +372,7 @@ fn append_field_updated(
     append_given(actions, update.moment)
 }
 
-/// Appends the actions behind the old number that make the new one, below which lie so many operands.
+/// Appends the actions after the old number that make the new one, below which lie so many operands.
 #[cycle(expression)]
 fn append_update(
     alloc: Global,

@@ -3,7 +3,7 @@ ghost use Rattle.std.specs.Prelude.{◌≡◌, ◌≤◌, [], ◌∷◌, ◌++�
 ghost use Rattle.arc_check.specs.Checked as checked;
 ghost use Rattle.arc_code.specs.declared.instr.Instr.TheVariants.{PrintText};
 ghost use Rattle.arc_lower.specs.Order.{order, orders};
-ghost use Rattle.arc_lower.specs.Lowered.{conversion_orders, text_orders, piece_orders, left_behind, format_orders, pop_orders, keep_orders, print_orders};
+ghost use Rattle.arc_lower.specs.Lowered.{conversion_orders, text_orders, piece_orders, left_after, format_orders, pop_orders, keep_orders, print_orders};
 
 use crate::expression::append;
 use arc_ast::tree::Kind;
@@ -54,7 +54,7 @@ fn append_piece(
     left: usize,
 ) -> Result<usize, NoMemory>
     ensures appended { OnOk result (orders actions.new.items ≡ orders actions.old.items ++ piece_orders (checked.piece piece.now) left) }
-    ensures behind { IfOk result (λ now. now ≡ left_behind (checked.piece piece.now) left) }
+    ensures later { IfOk result (λ now. now ≡ left_after (checked.piece piece.now) left) }
 {
     match piece {
         Piece::Bytes(bytes) => {
@@ -99,7 +99,7 @@ fn append_conversion(
     left: usize,
 ) -> Result<usize, NoMemory>
     ensures appended { OnOk result (orders actions.new.items ≡ orders actions.old.items ++ conversion_orders (order print) left) }
-    ensures behind { IfOk result (λ now. now ≡ pred left) }
+    ensures later { IfOk result (λ now. now ≡ pred left) }
 {
     if left == 0 {
         return Ok(0);

@@ -13,7 +13,7 @@ pub mod Runs
 pub mod Standing
 pub mod Steps
 pub mod Storing
-pub mod Told
+pub mod FaultNames
 pub mod Turns
 pub mod Views
 pub mod Words

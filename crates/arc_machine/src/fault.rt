@@ -1,6 +1,6 @@
 //! The numbers and the names of faults.
 ghost use Rattle.std.specs.Prelude.{◌≡◌};
-ghost use Rattle.arc_machine.specs.Told.{number_of, name_of};
+ghost use Rattle.arc_machine.specs.FaultNames.{number_of, name_of};
 
 use arc_spec::event::Fault;
 

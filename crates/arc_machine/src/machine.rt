@@ -100,7 +100,7 @@ impl<S: Store + Drop> Machine<S> {
         let mut turns = 0;
         while turns < steps && self.engine.is_going() && self.engine.steps() < u64::MAX {
             let most = (steps - turns).min(u64::MAX - self.engine.steps());
-            // The last step tells its events, and so is made singly.
+            // The last step reports its events, and so is made singly.
             turns += self.engine.slide(most - 1);
             let _ = self.engine.advance(reader, writer);
             turns += 1;

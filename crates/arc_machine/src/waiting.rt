@@ -9,7 +9,7 @@ pub struct Waiter {
     pub variables: usize,
 }
 
-/// A call, or the end of an object, behind which the function that waits goes on at the instruction
+/// A call, or the end of an object, after which the function that waits goes on at the instruction
 /// `back`.
 #[derive(Clone, Copy)]
 pub enum Waiting {

@@ -1,4 +1,4 @@
--- What is read of all tokens: where they are refused, and that a limit which is passed is told.
+-- What is read of all tokens: where they are refused, and that a limit which is passed is reported.
 use Rattle.std.proofs.Common.{◌≡◌, List, ◌++◌, Ok, Err, refl, sym, ap, ◌∙◌, arith}
 use Rattle.arc_lex.specs.Tokens.{Tok}
 use Rattle.arc_form.specs.Reader.{Read, misfit, too_deep}

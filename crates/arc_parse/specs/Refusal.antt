@@ -47,5 +47,5 @@ abbrev pub PassesNowhere : List Tok → Type 0
 PassesNowhere all = (before rest : List Tok) → all ≡ before ++ rest → Passes body these unit before rest → ⊥
 
 -- Where a limit is passed, the refusal is of that place, or for want of memory.
-abbrev pub TellsLimit : List Tok → ParseFault → Type 0
-TellsLimit all f = (before rest : List Tok) → all ≡ before ++ rest → Passes body these unit before rest → (f ≡ faults.TooDeep (place_of all rest)) ⊎ (f ≡ faults.Memory)
+abbrev pub ReportsLimit : List Tok → ParseFault → Type 0
+ReportsLimit all f = (before rest : List Tok) → all ≡ before ++ rest → Passes body these unit before rest → (f ≡ faults.TooDeep (place_of all rest)) ⊎ (f ≡ faults.Memory)

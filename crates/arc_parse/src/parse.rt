@@ -4,7 +4,7 @@ ghost use Rattle.arc_lex.specs.Tokens.{toks};
 ghost use Rattle.arc_ast.specs.Tree.{UnitTree, unit_tree};
 ghost use Rattle.arc_form.specs.Form.{unlimited};
 ghost use Rattle.arc_grammar.specs.Grammar.{these};
-ghost use Rattle.arc_parse.specs.Refusal.{SpellsUnit, IsRefused, PassesNowhere, TellsLimit, place_of, end_of};
+ghost use Rattle.arc_parse.specs.Refusal.{SpellsUnit, IsRefused, PassesNowhere, ReportsLimit, place_of, end_of};
 ghost use Rattle.arc_fault.specs.declared.parse.ParseFault.TheVariants.{Memory};
 
 use crate::source::unit;
@@ -47,7 +47,7 @@ pub fn parse(alloc: Global, tokens: &[Token]) -> Result<TranslationUnit, ParseFa
     ensures kept { IfOk result (λ u. PassesNowhere (toks tokens.now)) }
     ensures refused { IfErr result (λ f. IsRefused (toks tokens.now) f) }
     ensures accepted { IfErr result (λ f. (u : UnitTree) → SpellsUnit these u (toks tokens.now) → f ≡ Memory) }
-    ensures told { IfErr result (λ f. TellsLimit (toks tokens.now) f) }
+    ensures reported { IfErr result (λ f. ReportsLimit (toks tokens.now) f) }
 {
     match unit(alloc, tokens) {
         Ok((unit, _rest)) => Ok(unit),

@@ -18,9 +18,9 @@ use Rattle.arc_spec.specs.Meaning.{Deeper, Flow, given, gives_object, answer, fu
 use Rattle.arc_plain.specs.declared.context.Context.{Context}
 use Rattle.arc_plain.specs.declared.given.Answered.{Answered}
 use Rattle.arc_plain.specs.declared.halt.Halt.{Halt}
-use Rattle.arc_plain.specs.Views.{answer_of, Tells, left_at, function_of, named_in, cleared}
+use Rattle.arc_plain.specs.Views.{answer_of, Reports, left_at, function_of, named_in, cleared}
 use Rattle.arc_plain.proofs.Keeping.{Waits, Same, Steady, after_done, commands_wait, variables_wait, released_same}
-use Rattle.arc_plain.proofs.Turns.{tells_through, nothing_below, giving_same, giving_other, function_found, function_missing}
+use Rattle.arc_plain.proofs.Turns.{finds_through, nothing_below, giving_same, giving_other, function_found, function_missing}
 
 -- ---- calls
 
@@ -32,42 +32,42 @@ same_below old begun now count w1 w3 first last same below =
 
 module _ (D : Deeper) (steady : Steady D) (bound : ℕ) (f : Function) (self : ℕ) (passed : Given) (w0 w1 : World) (begins : w1 ≡ entered f.slots (function_places f) f.parameters f.owns self passed w0) where
   -- what follows the body
-  abbrev behind_call : Flow → World → Outcome Answer
-  behind_call flow v = then_do (variables_dropped D 0 f.names v) (λ _ v1. Done (answer f flow v1) (left w0 v1))
+  abbrev after_call : Flow → World → Outcome Answer
+  after_call flow v = then_do (variables_dropped D 0 f.names v) (λ _ v1. Done (answer f flow v1) (left w0 v1))
 
-  meant_call : called D bound f self passed w0 ≡ then_do (all_executed D bound f.body w1) behind_call
-  meant_call = ap (λ w. then_do (all_executed D bound f.body w) behind_call) (sym begins)
+  meant_call : called D bound f self passed w0 ≡ then_do (all_executed D bound f.body w1) after_call
+  meant_call = ap (λ w. then_do (all_executed D bound f.body w) after_call) (sym begins)
 
   -- a call whose body and whose variables were done
-  pub call_told : (w2 w3 w4 : World) (flow : Flow) (n : ℤ) (r count : ℕ) (old begun now : List ℕ)
+  pub call_reported : (w2 w3 w4 : World) (flow : Flow) (n : ℤ) (r count : ℕ) (old begun now : List ℕ)
       → all_executed D bound f.body w1 ≡ Done flow w2 → variables_dropped D 0 f.names w2 ≡ Done finished w3
       → w0.waiting ≡ reverse old → w1.waiting ≡ reverse begun → w3.waiting ≡ reverse now → take count begun ≡ old
       → w4 ≡ left_at w0.frame (take count now) w3 → n ≡ given flow → r ≡ name_at w3.frame.strong f.names → called D bound f self passed w0 ≡ Done (record { number = n; object = r }) w4
-  call_told w2 w3 w4 flow n r count old begun now body dropped waits first last below leaves gives names =
+  call_reported w2 w3 w4 flow n r count old begun now body dropped waits first last below leaves gives names =
       let between : w2.waiting ≡ w1.waiting = after_done (Waits w1) (all_executed D bound f.body w1) flow w2 (commands_wait D steady bound f.body w1) body in
-      let behind : w3.waiting ≡ w2.waiting = after_done (Waits w2) (variables_dropped D 0 f.names w2) finished w3 (variables_wait D steady 0 f.names w2) dropped in
-      let back : reverse (take count now) ≡ w0.waiting = ap reverse (same_below old begun now count w1 w3 first last (behind ∙ between) below) ∙ sym waits in
+      let later : w3.waiting ≡ w2.waiting = after_done (Waits w2) (variables_dropped D 0 f.names w2) finished w3 (variables_wait D steady 0 f.names w2) dropped in
+      let back : reverse (take count now) ≡ w0.waiting = ap reverse (same_below old begun now count w1 w3 first last (later ∙ between) below) ∙ sym waits in
       let there : w4 ≡ left w0 w3 = leaves ∙ ap (λ (l : List ℕ). record w3 { frame = w0.frame; waiting = l }) back in
-      meant_call ∙ ap (λ o. then_do o behind_call) body
+      meant_call ∙ ap (λ o. then_do o after_call) body
       ∙ ap (λ o. then_do o (λ _ v1. Done (answer f flow v1) (left w0 v1))) dropped
       ∙ ap (λ w. Done (answer f flow w3) w) (sym there)
       ∙ ap (λ m. Done (record { number = m; object = name_at w3.frame.strong f.names }) w4) (sym gives)
       ∙ ap (λ m. Done (record { number = n; object = m }) w4) (sym names)
 
   -- one whose body fails
-  pub body_failed : {A : Type 0} (view : A → Flow) (e : Halt) (r : Result Answered Halt) (after : World) → r ≡ Err e → Tells view (Err e) (all_executed D bound f.body w1) after
-      → Tells answer_of r (called D bound f self passed w0) after
+  pub body_failed : {A : Type 0} (view : A → Flow) (e : Halt) (r : Result Answered Halt) (after : World) → r ≡ Err e → Reports view (Err e) (all_executed D bound f.body w1) after
+      → Reports answer_of r (called D bound f self passed w0) after
   body_failed view e r after failed h =
-      subst (λ x. Tells answer_of x (called D bound f self passed w0) after) (sym failed)
-      (tells_through e view answer_of after behind_call (all_executed D bound f.body w1) (called D bound f self passed w0) meant_call h)
+      subst (λ x. Reports answer_of x (called D bound f self passed w0) after) (sym failed)
+      (finds_through e view answer_of after after_call (all_executed D bound f.body w1) (called D bound f self passed w0) meant_call h)
 
   -- one whose variables fail to be dropped
   pub drop_failed : {A : Type 0} (view : A → Finished) (flow : Flow) (w2 : World) (e : Halt) (r : Result Answered Halt) (after : World) → all_executed D bound f.body w1 ≡ Done flow w2 → r ≡ Err e
-      → Tells view (Err e) (variables_dropped D 0 f.names w2) after → Tells answer_of r (called D bound f self passed w0) after
+      → Reports view (Err e) (variables_dropped D 0 f.names w2) after → Reports answer_of r (called D bound f self passed w0) after
   drop_failed view flow w2 e r after body failed h =
-      subst (λ x. Tells answer_of x (called D bound f self passed w0) after) (sym failed)
-      (tells_through e view answer_of after (λ _ v1. Done (answer f flow v1) (left w0 v1)) (variables_dropped D 0 f.names w2) (called D bound f self passed w0)
-      (meant_call ∙ ap (λ o. then_do o behind_call) body) h)
+      subst (λ x. Reports answer_of x (called D bound f self passed w0) after) (sym failed)
+      (finds_through e view answer_of after (λ _ v1. Done (answer f flow v1) (left w0 v1)) (variables_dropped D 0 f.names w2) (called D bound f self passed w0)
+      (meant_call ∙ ap (λ o. then_do o after_call) body) h)
 
 -- the function of a number, where it was found, where it gives something else, and where there is none
 module _ (context : Context) (all : List CheckedFunction) (wanted : Gives) (f : ℕ) (same : all ≡ context.program.now.functions.items) where
@@ -97,8 +97,8 @@ pub nothing_called : (D : Deeper) (bound self : ℕ) (wanted : Gives) (passed : 
 nothing_called D bound self gives.Number passed w = refl
 nothing_called D bound self gives.Object passed w = refl
 
-pub nothing_told : (D : Deeper) (bound self : ℕ) (wanted : Gives) (passed : Given) (w : World) (f : Function) (a : Answer) → f ≡ nothing_giving wanted → a ≡ gives_object 0 → called D bound f self passed w ≡ Done a w
-nothing_told D bound self wanted passed w f a is same =
+pub nothing_reported : (D : Deeper) (bound self : ℕ) (wanted : Gives) (passed : Given) (w : World) (f : Function) (a : Answer) → f ≡ nothing_giving wanted → a ≡ gives_object 0 → called D bound f self passed w ≡ Done a w
+nothing_reported D bound self wanted passed w f a is same =
     ap (λ g. called D bound g self passed w) is ∙ nothing_called D bound self wanted passed w ∙ ap (λ x. Done x w) (sym same)
 
 -- ---- places that are dropped
@@ -115,12 +115,12 @@ temporary_step D steady whole r w between after old last rest done =
     ∙ ap (λ o. then_do o (λ _ w1. temporaries_dropped D others w1)) done
     ∙ ap (λ l. temporaries_dropped D l after) (sym (ap (λ (x : Frame). x.temporaries) same.frame))
 
--- the temporaries are fewer behind it
+-- the temporaries are fewer after it
 pub temporaries_fewer : (D : Deeper) → Steady D → (r : ℕ) (w between after : World) (before now : List ℕ) → w.frame.temporaries ≡ r ∷ between.frame.temporaries → released D r between ≡ Done finished after
     → w.frame.temporaries ≡ reverse before → after.frame.temporaries ≡ reverse now → length now < length before
-temporaries_fewer D steady r w between after before now last done first behind =
+temporaries_fewer D steady r w between after before now last done first later =
     let same : Same between after = after_done (Same between) (released D r between) finished after (released_same D steady r between) done in
-    let kept : reverse now ≡ between.frame.temporaries = sym behind ∙ ap (λ (x : Frame). x.temporaries) same.frame in
+    let kept : reverse now ≡ between.frame.temporaries = sym later ∙ ap (λ (x : Frame). x.temporaries) same.frame in
     let one : length (reverse before) ≡ suc (length (reverse now)) = ap length (sym first ∙ last) ∙ ap (λ l. suc (length l)) (sym kept) in
     omega (arith, one, length-reverse before, length-reverse now)
 
@@ -137,25 +137,25 @@ variable_step D whole first n offset r w between after one old named stored done
 -- a variable whose object fails to end
 pub variable_failed : {A : Type 0} (D : Deeper) (whole : Outcome Finished) (first n offset r : ℕ) (w between after : World) (view other : A → Finished) (e : Halt) (result : Result A Halt) → n ≡ suc offset
     → whole ≡ variables_dropped D first n w → r ≡ named_at (Local (first + offset)) w → between ≡ stores (Local (first + offset)) 0 w
-    → result ≡ Err e → Tells view (Err e) (released D r between) after → Tells other result whole after
+    → result ≡ Err e → Reports view (Err e) (released D r between) after → Reports other result whole after
 variable_failed D whole first n offset r w between after view other e result one old named stored failed h =
     let go = λ (u : Finished) (w1 : World). variables_dropped D first offset w1 in
     let meant : whole ≡ then_do (released D r between) go =
     old ∙ ap (λ m. variables_dropped D first m w) one
     ∙ ap (λ q. then_do (released D q (stores (Local (first + offset)) 0 w)) go) (sym named)
     ∙ ap (λ v. then_do (released D r v) go) (sym stored) in
-    subst (λ x. Tells other x whole after) (sym failed) (tells_through e view other after go (released D r between) whole meant h)
+    subst (λ x. Reports other x whole after) (sym failed) (finds_through e view other after go (released D r between) whole meant h)
 
 -- a temporary whose object fails to end
 pub temporary_failed : {A : Type 0} (D : Deeper) (whole : Outcome Finished) (r : ℕ) (w between after : World) (view other : A → Finished) (e : Halt) (result : Result A Halt)
     → whole ≡ all_dropped D w → w.frame.temporaries ≡ r ∷ between.frame.temporaries → between ≡ with_temporaries w between.frame.temporaries
-    → result ≡ Err e → Tells view (Err e) (released D r between) after → Tells other result whole after
+    → result ≡ Err e → Reports view (Err e) (released D r between) after → Reports other result whole after
 temporary_failed D whole r w between after view other e result old last rest failed h =
     let others = between.frame.temporaries in
     let go = λ (u : Finished) (w1 : World). temporaries_dropped D others w1 in
     let meant : whole ≡ then_do (released D r between) go =
     old ∙ ap (λ l. temporaries_dropped D l w) last ∙ ap (λ v. then_do (released D r v) go) (sym rest) in
-    subst (λ x. Tells other x whole after) (sym failed) (tells_through e view other after go (released D r between) whole meant h)
+    subst (λ x. Reports other x whole after) (sym failed) (finds_through e view other after go (released D r between) whole meant h)
 
 -- with none left
 pub no_temporary : (D : Deeper) (whole : Outcome Finished) (w after : World) → whole ≡ all_dropped D w → w.frame.temporaries ≡ [] → after ≡ with_temporaries w after.frame.temporaries → after.frame.temporaries ≡ w.frame.temporaries → whole ≡ Done finished after
@@ -211,11 +211,11 @@ layer_done P D bound whole count i o class dealloc above w after below old layer
 pub layer_failed : {A : Type 0} (P : Program) (D : Deeper) (bound : ℕ) (whole : Outcome Finished) (count i o : ℕ) (class dealloc above : Option ℕ) (w after : World) (view other : A → Finished) (e : Halt) (result : Result A Halt) → i < count
     → whole ≡ deallocs_run P D bound (ancestry_within (count - i) (superclasses P.classes) class) o w
     → ((n : ℕ) → deallocs_run P D bound (ancestry_within (suc n) (superclasses P.classes) class) o w ≡ then_do (dealloc_run P D bound dealloc o w) (λ _ w1. deallocs_run P D bound (ancestry_within n (superclasses P.classes) above) o w1))
-    → result ≡ Err e → Tells view (Err e) (dealloc_run P D bound dealloc o w) after → Tells other result whole after
+    → result ≡ Err e → Reports view (Err e) (dealloc_run P D bound dealloc o w) after → Reports other result whole after
 layer_failed P D bound whole count i o class dealloc above w after view other e result below old layer failed h =
     let go = λ (u : Finished) (w1 : World). deallocs_run P D bound (ancestry_within (count - (i + 1)) (superclasses P.classes) above) o w1 in
-    subst (λ x. Tells other x whole after) (sym failed)
-    (tells_through e view other after go (dealloc_run P D bound dealloc o w) whole (layer_run P D bound whole count i o class dealloc above w below old layer) h)
+    subst (λ x. Reports other x whole after) (sym failed)
+    (finds_through e view other after go (dealloc_run P D bound dealloc o w) whole (layer_run P D bound whole count i o class dealloc above w below old layer) h)
 
 -- ---- fields that are dropped
 
@@ -235,13 +235,13 @@ field_step D whole order i index o r w between after below is old named there do
 -- a field whose object fails to end
 pub field_failed : {A : Type 0} (D : Deeper) (whole : Outcome Finished) (order : List ℕ) (i index o r : ℕ) (w between after : World) (view other : A → Finished) (e : Halt) (result : Result A Halt)
     → i < length order → index ≡ get_or order i index → whole ≡ fields_dropped D (drop i order) o w → r ≡ named_in (object_at w.objects o) index → between ≡ cleared o index (object_at w.objects o) w
-    → result ≡ Err e → Tells view (Err e) (released D r between) after → Tells other result whole after
+    → result ≡ Err e → Reports view (Err e) (released D r between) after → Reports other result whole after
 field_failed D whole order i index o r w between after view other e result below is old named there failed h =
     let go = λ (u : Finished) (w1 : World). fields_dropped D (drop (i + 1) order) o w1 in
     let meant : whole ≡ then_do (released D r between) go =
     old ∙ ap (λ l. fields_dropped D l o w) (drop_more order i index below ∙ ap (λ x. x ∷ drop (i + 1) order) (sym is))
     ∙ ap (λ x. then_do x go) (field_let_go D o index r (object_at w.objects o) w between named there) in
-    subst (λ x. Tells other x whole after) (sym failed) (tells_through e view other after go (released D r between) whole meant h)
+    subst (λ x. Reports other x whole after) (sym failed) (finds_through e view other after go (released D r between) whole meant h)
 
 -- the fields of an object of a known class
 abbrev known_class : Option ℕ → ℕ

@@ -15,7 +15,7 @@ use Rattle.arc_spec.specs.Resolved.{Value, Number, ReadByte, Print, Applied, Com
 use Rattle.arc_spec.specs.World.{World, Outcome, Done, Faulted, Cut, then_do, Finished, finished, places, prints, Given, nothing_given, Answer, entered, left, takes, named_at, stores, with_temporaries, with_objects, name_at}
 use Rattle.arc_spec.specs.Meaning.{Deeper, held_at, holds, formatted, byte_count, or_fault, updated, given_by, released, temporaries_dropped, all_dropped, assigned, variables_dropped, and_number, and_object, dispatched, finds, gives_object, runs_found, class_in, sent_from, Target, ToClass, ToObject, ToSuper, sent, number_given, object_given, made, second_dropped, made_new, new_found, new_sent, in_object, field_read, field_set, object_field_read, field_stores, field_assigned, object_field_set, difference, evaluated, referred, received, all_evaluated, whole, whole_reference, begun, result_place, Flow, Normal, Broken, Continued, Returned, if_normal, in_turn, after_body, chosen, turns, turns_after, scope_left, normally, executed, all_executed, answer, function_places, function_at, called, dealloc_run, deallocs_run, turned, gone, dying, field_dropped, fields_dropped, emptied, ended, level}
 
--- what holds of the world behind a part that was done
+-- what holds of the world after a part that was done
 abbrev pub After : {A : Type 0} → (World → Type 0) → Outcome A → Type 0
 After P (Done a w) = P w
 After P (Faulted f w) = Unit {0}

@@ -15,7 +15,7 @@ use Rattle.arc_spec.specs.World.{Frame, World, Outcome, Done, Faulted, takes, wi
 use Rattle.arc_spec.specs.Meaning.{Deeper, class_in, field_count, next_object, made, in_object, field_read, field_set, field_stores}
 use Rattle.arc_plain.specs.declared.halt.Halt.{Halt}
 use Rattle.arc_plain.specs.declared.object.Object.{Object}
-use Rattle.arc_plain.specs.Views.{Tells, object_of, changed, changed_to, named_in, field_replaced, object_field_replaced}
+use Rattle.arc_plain.specs.Views.{Reports, object_of, changed, changed_to, named_in, field_replaced, object_field_replaced}
 use Rattle.arc_plain.proofs.Turns.{nothing_below}
 
 pub nils_are : (n : ℕ) → replicate n 0 ≡ nils n
@@ -27,9 +27,9 @@ zeros_are zero = refl
 zeros_are (suc n) = ap (λ l. pos 0 ∷ l) (zeros_are n)
 
 -- an object as it is made
-pub new_told : (class count strong_count : ℕ) (fields : List ℤ) (strong : List ℕ) → fields ≡ replicate count (pos 0) → strong ≡ replicate strong_count 0
+pub new_reported : (class count strong_count : ℕ) (fields : List ℤ) (strong : List ℕ) → fields ≡ replicate count (pos 0) → strong ≡ replicate strong_count 0
     → with_strong_fields (with_fields (new_object class 0 0) fields) strong ≡ new_object class count strong_count
-new_told class count strong_count fields strong is names = ap (λ l. with_strong_fields (with_fields (new_object class 0 0) l) strong) (is ∙ zeros_are count) ∙ ap (with_strong_fields (with_fields (new_object class 0 0) (zeros count))) (names ∙ nils_are strong_count)
+new_reported class count strong_count fields strong is names = ap (λ l. with_strong_fields (with_fields (new_object class 0 0) l) strong) (is ∙ zeros_are count) ∙ ap (with_strong_fields (with_fields (new_object class 0 0) (zeros count))) (names ∙ nils_are strong_count)
 
 -- ---- places
 
@@ -141,9 +141,9 @@ read_other D classes r class index o w same is other =
     ap (λ ob. in_object D class ob go w) is
     ∙ ap (λ b. if b then go o else Faulted FieldClass w) (ap (λ l. descends l (Some o.class) class) same ∙ other)
 
-pub read_told : (D : Deeper) (classes : List Class) (r class index : ℕ) (v : ℤ) (o : objects.Object) (w : World) → D.classes ≡ classes → object_at w.objects r ≡ Some o
+pub read_reported : (D : Deeper) (classes : List Class) (r class index : ℕ) (v : ℤ) (o : objects.Object) (w : World) → D.classes ≡ classes → object_at w.objects r ≡ Some o
     → descends classes (Some o.class) class ≡ true → slice_index_or o.fields index (pos 0) ≡ v → field_read D r class index w ≡ Done v w
-read_told D classes r class index v o w same is holds gives =
+read_reported D classes r class index v o w same is holds gives =
     let go = λ (o : objects.Object). Done (slice_index_or o.fields index (pos 0)) w in
     ap (λ ob. in_object D class ob go w) is
     ∙ ap (λ b. if b then go o else Faulted FieldClass w) (ap (λ l. descends l (Some o.class) class) same ∙ holds) ∙ ap (λ n. Done n w) gives
@@ -161,10 +161,10 @@ set_other D classes r class index own v w same is other =
         ap (λ b. if b then go o else Faulted FieldClass w) test
 
 -- of an object that has it
-pub set_told : (D : Deeper) (classes : List Class) (r class index own : ℕ) (v given : ℤ) (w : World) (all new : List objects.Object) → D.classes ≡ classes → Some own ≡ class_in (object_at w.objects r)
+pub set_reported : (D : Deeper) (classes : List Class) (r class index own : ℕ) (v given : ℤ) (w : World) (all new : List objects.Object) → D.classes ≡ classes → Some own ≡ class_in (object_at w.objects r)
     → descends classes (Some own) class ≡ true → given ≡ v → all ≡ w.objects → new ≡ changed all r (λ o. with_fields o (slice_set o.fields index given))
     → field_set D r class index v w ≡ Done given (with_objects w new)
-set_told D classes r class index own v given w all new same is holds gives there changes =
+set_reported D classes r class index own v given w all new same is holds gives there changes =
     let written : new ≡ changed w.objects r (λ o. with_fields o (slice_set o.fields index v)) =
     changes ∙ ap (λ l. changed l r (λ o. with_fields o (slice_set o.fields index given))) there ∙ ap (λ n. changed w.objects r (λ o. with_fields o (slice_set o.fields index n))) gives in
     in_same (object_at w.objects r) is ∙ ap (λ l. Done v (with_objects w l)) (sym written) ∙ ap (λ n. Done n (with_objects w new)) (sym gives)
@@ -178,11 +178,11 @@ set_told D classes r class index own v given w all new same is holds gives there
 
 -- ---- objects that are made
 
-pub make_told : (D : Deeper) (classes : List Class) (known : Option ℕ) (c count strong number : ℕ) (w : World) (old new : List Object) (o : Object) (result : Result ℕ Halt) (after : World)
+pub make_reported : (D : Deeper) (classes : List Class) (known : Option ℕ) (c count strong number : ℕ) (w : World) (old new : List Object) (o : Object) (result : Result ℕ Halt) (after : World)
     → D.classes ≡ classes → known ≡ Some c → w.objects ≡ map object_of old → count ≡ field_count (slice_get classes c) → strong ≡ strong_count (slice_get classes c) → object_of o ≡ new_object c count strong
     → new ≡ old ++ o ∷ [] → number ≡ length new
-    → Tells (λ n. n) result (Done number (takes number (with_objects w (map object_of new)))) after → Tells (λ n. n) result (made D known w) after
-make_told D classes known c count strong number w old new o result after same is there counts strongs makes grown last told =
+    → Reports (λ n. n) result (Done number (takes number (with_objects w (map object_of new)))) after → Reports (λ n. n) result (made D known w) after
+make_reported D classes known c count strong number w old new o result after same is there counts strongs makes grown last reported =
     let fields : count ≡ field_count (slice_get D.classes c) = counts ∙ ap (λ l. field_count (slice_get l c)) (sym same) in
     let names : strong ≡ strong_count (slice_get D.classes c) = strongs ∙ ap (λ l. strong_count (slice_get l c)) (sym same) in
     let objects : map object_of new ≡ w.objects ++ new_object c (field_count (slice_get D.classes c)) (strong_count (slice_get D.classes c)) ∷ [] =
@@ -193,7 +193,7 @@ make_told D classes known c count strong number w old new o result after same is
     let meant : Done number (takes number (with_objects w (map object_of new))) ≡ made D known w =
     ap (λ n. Done n (takes n (with_objects w (map object_of new)))) one
     ∙ ap (λ l. Done (next_object w) (takes (next_object w) (with_objects w l))) objects ∙ ap (λ k. made D k w) (sym is) in
-    subst (λ x. Tells (λ n. n) result x after) meant told
+    subst (λ x. Reports (λ n. n) result x after) meant reported
 
 -- ---- fields that name objects
 
@@ -210,10 +210,10 @@ in_own_class D classes r class o w go same is holds =
     ap (λ ob. in_object D class ob go w) is ∙ ap (λ b. if b then go o else Faulted FieldClass w) (ap (λ l. descends l (Some o.class) class) same ∙ holds)
 
 -- what a field names that takes a new value
-pub replaced_told : (D : Deeper) (classes : List Class) (r class index value : ℕ) (o : objects.Object) (w : World) (all new : List objects.Object) (before : ℕ) → D.classes ≡ classes → object_at w.objects r ≡ Some o
+pub replaced_reported : (D : Deeper) (classes : List Class) (r class index value : ℕ) (o : objects.Object) (w : World) (all new : List objects.Object) (before : ℕ) → D.classes ≡ classes → object_at w.objects r ≡ Some o
     → descends classes (Some o.class) class ≡ true → is_emptying o.phase ≡ false → all ≡ w.objects → before ≡ named_in (object_at all r) index
     → new ≡ changed all r (λ x. with_strong_fields x (slice_set x.strong index value)) → object_field_replaced D r class index value w ≡ Done before (with_objects w new)
-replaced_told D classes r class index value o w all new before same is holds phase there gives changes =
+replaced_reported D classes r class index value o w all new before same is holds phase there gives changes =
     let change = λ (x : objects.Object). with_strong_fields x (slice_set x.strong index value) in
     let found : object_at all r ≡ Some o = ap (λ l. object_at l r) there ∙ is in
     let named : before ≡ name_at o.strong index = gives ∙ ap (λ ob. named_in ob index) found in

@@ -9,8 +9,8 @@ use Rattle.arc_spec.specs.World.{World, Outcome, Done, Faulted, Cut, then_do, An
 use Rattle.arc_spec.specs.Meaning.{Deeper, Target, evaluated, referred, received, all_evaluated, sent, number_given, object_given}
 use Rattle.arc_plain.specs.declared.given.Answered.{Answered}
 use Rattle.arc_plain.specs.declared.halt.Halt.{Halt}
-use Rattle.arc_plain.specs.Views.{Tells, answer_of, invoked, sent_to}
-use Rattle.arc_plain.proofs.Turns.{tells_through}
+use Rattle.arc_plain.specs.Views.{Reports, answer_of, invoked, sent_to}
+use Rattle.arc_plain.proofs.Turns.{finds_through}
 
 -- what is read of an answer is the last of what is done
 number_last : {A : Type 0} (o : Outcome A) (go : A → World → Outcome Answer) → then_do o (λ a w. number_given (go a w)) ≡ number_given (then_do o go)
@@ -52,20 +52,20 @@ object_sent D v receiver selector all w is = ap (λ x. referred D x w) is ∙ of
     of (Cut w1) = refl
 
 -- the number of what was given, and a failure
-pub number_told : (meant : Outcome ℤ) (part : Outcome Answer) (a : Answered) (n : ℤ) (after : World) → meant ≡ number_given part → part ≡ Done (answer_of a) after → n ≡ a.number → meant ≡ Done n after
-number_told meant part a n after is done same = is ∙ ap number_given done ∙ ap (λ m. Done m after) (sym same)
+pub number_reported : (meant : Outcome ℤ) (part : Outcome Answer) (a : Answered) (n : ℤ) (after : World) → meant ≡ number_given part → part ≡ Done (answer_of a) after → n ≡ a.number → meant ≡ Done n after
+number_reported meant part a n after is done same = is ∙ ap number_given done ∙ ap (λ m. Done m after) (sym same)
 
-pub number_failed : (meant : Outcome ℤ) (part : Outcome Answer) (e : Halt) (result : Result ℤ Halt) (after : World) → meant ≡ number_given part → result ≡ Err e → Tells answer_of (Err e) part after
-    → Tells (λ n. n) result meant after
+pub number_failed : (meant : Outcome ℤ) (part : Outcome Answer) (e : Halt) (result : Result ℤ Halt) (after : World) → meant ≡ number_given part → result ≡ Err e → Reports answer_of (Err e) part after
+    → Reports (λ n. n) result meant after
 number_failed meant part e result after is failed h =
-    subst (λ x. Tells (λ n. n) x meant after) (sym failed) (tells_through e answer_of (λ n. n) after (λ a w. Done a.number w) part meant is h)
+    subst (λ x. Reports (λ n. n) x meant after) (sym failed) (finds_through e answer_of (λ n. n) after (λ a w. Done a.number w) part meant is h)
 
 -- the object, which a temporary takes, and a failure
-pub object_told : (meant : Outcome ℕ) (part : Outcome Answer) (a : Answered) (result : Result ℕ Halt) (between after : World) → meant ≡ object_given part → part ≡ Done (answer_of a) between
-    → Tells (λ n. n) result (Done a.object (takes a.object between)) after → Tells (λ n. n) result meant after
-object_told meant part a result between after is done taken = subst (λ x. Tells (λ n. n) result x after) (sym (is ∙ ap object_given done)) taken
+pub object_reported : (meant : Outcome ℕ) (part : Outcome Answer) (a : Answered) (result : Result ℕ Halt) (between after : World) → meant ≡ object_given part → part ≡ Done (answer_of a) between
+    → Reports (λ n. n) result (Done a.object (takes a.object between)) after → Reports (λ n. n) result meant after
+object_reported meant part a result between after is done taken = subst (λ x. Reports (λ n. n) result x after) (sym (is ∙ ap object_given done)) taken
 
-pub object_failed : (meant : Outcome ℕ) (part : Outcome Answer) (e : Halt) (result : Result ℕ Halt) (after : World) → meant ≡ object_given part → result ≡ Err e → Tells answer_of (Err e) part after
-    → Tells (λ n. n) result meant after
+pub object_failed : (meant : Outcome ℕ) (part : Outcome Answer) (e : Halt) (result : Result ℕ Halt) (after : World) → meant ≡ object_given part → result ≡ Err e → Reports answer_of (Err e) part after
+    → Reports (λ n. n) result meant after
 object_failed meant part e result after is failed h =
-    subst (λ x. Tells (λ n. n) x meant after) (sym failed) (tells_through e answer_of (λ n. n) after (λ a w. Done a.object (takes a.object w)) part meant is h)
+    subst (λ x. Reports (λ n. n) x meant after) (sym failed) (finds_through e answer_of (λ n. n) after (λ a w. Done a.object (takes a.object w)) part meant is h)

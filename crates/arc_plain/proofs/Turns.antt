@@ -20,7 +20,7 @@ use Rattle.arc_plain.specs.declared.halt.Halt.TheVariants.{Stopped, Cut, Memory}
 use Rattle.arc_spec.specs.Meaning as meaning
 use Rattle.arc_spec.specs.Meaning.{Deeper, Normal, Broken, Continued, Returned, level, called, and_number, and_object, turns, turns_after, chosen, if_normal, in_turn, after_body, nothing_giving, function_at, ended, evaluated, referred, all_evaluated, executed}
 use Rattle.arc_plain.specs.declared.statement.Flow.{Flow}
-use Rattle.arc_plain.specs.Views.{Tells, flow_of, function_of, leaving, step_of, test_of, behind_body, turn_of}
+use Rattle.arc_plain.specs.Views.{Reports, flow_of, function_of, leaving, step_of, test_of, past_body, turn_of}
 
 -- arguments, and those after them
 abbrev pub joined : Given → Given → Given
@@ -40,21 +40,21 @@ pub nothing_below : {A : Type 0} {n : ℕ} → n < 0 → A
 nothing_below {A} {n} h = search (rules, h)
 
 -- a failure of a part is one of the whole
-pub tells_through : {A B C D : Type 0} → (e : Halt) (f : A → B) (g : C → D) (w : World) (go : B → World → Outcome D) (part : Outcome B) (whole : Outcome D)
-    → whole ≡ then_do part go → Tells f (Err e) part w → Tells g (Err e) whole w
-tells_through (Stopped fault) f g w go part whole is h = is ∙ ap (λ o. then_do o go) h
-tells_through Cut f g w go part whole is h = is ∙ ap (λ o. then_do o go) h
-tells_through Memory f g w go part whole is h = tt
+pub finds_through : {A B C D : Type 0} → (e : Halt) (f : A → B) (g : C → D) (w : World) (go : B → World → Outcome D) (part : Outcome B) (whole : Outcome D)
+    → whole ≡ then_do part go → Reports f (Err e) part w → Reports g (Err e) whole w
+finds_through (Stopped fault) f g w go part whole is h = is ∙ ap (λ o. then_do o go) h
+finds_through Cut f g w go part whole is h = is ∙ ap (λ o. then_do o go) h
+finds_through Memory f g w go part whole is h = tt
 
--- what is told of the expression that a value stands for
-pub value_told : (D : Deeper) (v : Value) (meant : resolved.Value) (r : Result ℤ Halt) (w after : World)
-    → value v ≡ meant → Tells (λ n. n) r (evaluated D meant w) after → Tells (λ n. n) r (evaluated D (value v) w) after
-value_told D v meant r w after is h = subst (λ x. Tells (λ n. n) r (evaluated D x w) after) (sym is) h
+-- what is reported of the expression that a value stands for
+pub value_reported : (D : Deeper) (v : Value) (meant : resolved.Value) (r : Result ℤ Halt) (w after : World)
+    → value v ≡ meant → Reports (λ n. n) r (evaluated D meant w) after → Reports (λ n. n) r (evaluated D (value v) w) after
+value_reported D v meant r w after is h = subst (λ x. Reports (λ n. n) r (evaluated D x w) after) (sym is) h
 
--- what is told of the statement that a command stands for
-pub command_told : (D : Deeper) (bound : ℕ) (c : Command) (meant : resolved.Command) (r : Result Flow Halt) (w after : World)
-    → command c ≡ meant → Tells flow_of r (executed D bound meant w) after → Tells flow_of r (executed D bound (command c) w) after
-command_told D bound c meant r w after is h = subst (λ x. Tells flow_of r (executed D bound x w) after) (sym is) h
+-- what is reported of the statement that a command stands for
+pub command_reported : (D : Deeper) (bound : ℕ) (c : Command) (meant : resolved.Command) (r : Result Flow Halt) (w after : World)
+    → command c ≡ meant → Reports flow_of r (executed D bound meant w) after → Reports flow_of r (executed D bound (command c) w) after
+command_reported D bound c meant r w after is h = subst (λ x. Reports flow_of r (executed D bound x w) after) (sym is) h
 
 number_front : (found : Given) (n : ℤ) (o : Outcome Given) → front found (then_do o (λ passed w. Done (and_number n passed) w)) ≡ front (record found { numbers = found.numbers ++ n ∷ [] }) o
 number_front found n (Done passed w) = ap (λ l. Done (record { numbers = l; objects = found.objects ++ passed.objects }) w) (sym (append_assoc found.numbers (n ∷ []) passed.numbers))
@@ -104,7 +104,7 @@ goes_on (Some flow) next w = Done flow w
 
 -- what follows a body that was left so
 rest_is : (flow : meaning.Flow) (rest : World → Outcome (Option meaning.Flow)) (go next : World → Outcome meaning.Flow) (w : World) → ((w1 : World) → go w1 ≡ then_do (rest w1) (λ o w2. goes_on o next w2))
-    → after_body flow go w ≡ then_do (behind_body flow rest w) (λ o w1. goes_on o next w1)
+    → after_body flow go w ≡ then_do (past_body flow rest w) (λ o w1. goes_on o next w1)
 rest_is Normal rest go next w h = h w
 rest_is Continued rest go next w h = h w
 rest_is Broken rest go next w h = refl
@@ -115,7 +115,7 @@ turn_is : (rest : World → Outcome (Option meaning.Flow)) (body go next : World
     → then_do (body w) (λ flow w1. after_body flow go w1) ≡ then_do (turn_of rest body w) (λ o w1. goes_on o next w1)
 turn_is rest body go next w h = of (body w)
   where
-    of : (o : Outcome meaning.Flow) → then_do o (λ flow w1. after_body flow go w1) ≡ then_do (then_do o (λ flow w1. behind_body flow rest w1)) (λ o w1. goes_on o next w1)
+    of : (o : Outcome meaning.Flow) → then_do o (λ flow w1. after_body flow go w1) ≡ then_do (then_do o (λ flow w1. past_body flow rest w1)) (λ o w1. goes_on o next w1)
     of (Done flow w1) = rest_is flow rest go next w1 h
     of (Faulted f w1) = refl
     of (Cut w1) = refl
@@ -159,12 +159,12 @@ turns_on bound i test step body whole n w between below old tested holds =
 
 -- a test that fails
 pub test_failed : {A : Type 0} (view : A → ℤ) (left : ℕ) (test : World → Outcome ℤ) (step body : World → Outcome meaning.Flow) (whole : Outcome meaning.Flow) (e : Halt) (r : Result Flow Halt) (w after : World)
-    → whole ≡ turns left test step body w → r ≡ Err e → Tells view (Err e) (test w) after → Tells flow_of r whole after
+    → whole ≡ turns left test step body w → r ≡ Err e → Reports view (Err e) (test w) after → Reports flow_of r whole after
 test_failed view zero test step body whole e r w after old failed h =
-    subst (λ x. Tells flow_of x whole after) (sym failed) (tells_through e view flow_of after (λ v w1. chosen (is_zero v) (Cut w1) (Done Normal w1)) (test w) whole old h)
+    subst (λ x. Reports flow_of x whole after) (sym failed) (finds_through e view flow_of after (λ v w1. chosen (is_zero v) (Cut w1) (Done Normal w1)) (test w) whole old h)
 test_failed view (suc n) test step body whole e r w after old failed h =
-    subst (λ x. Tells flow_of x whole after) (sym failed)
-    (tells_through e view flow_of after (λ v w1. chosen (is_zero v) (then_do (body w1) (λ flow w2. after_body flow (in_turn step (turns n test step body)) w2)) (Done Normal w1)) (test w) whole old h)
+    subst (λ x. Reports flow_of x whole after) (sym failed)
+    (finds_through e view flow_of after (λ v w1. chosen (is_zero v) (then_do (body w1) (λ flow w2. after_body flow (in_turn step (turns n test step body)) w2)) (Done Normal w1)) (test w) whole old h)
 
 -- one turn more
 pub turns_step : (bound i : ℕ) (test : World → Outcome ℤ) (step body : World → Outcome meaning.Flow) (whole : Outcome meaning.Flow) (n : ℤ) (w between after : World)
@@ -181,11 +181,11 @@ turns_left bound i test step body whole n flow w between after below old tested 
 
 -- a turn that fails
 pub turn_failed : {A : Type 0} (view : A → Option meaning.Flow) (bound i : ℕ) (test : World → Outcome ℤ) (step body : World → Outcome meaning.Flow) (whole : Outcome meaning.Flow) (n : ℤ) (e : Halt) (r : Result Flow Halt) (w between after : World)
-    → i < bound → whole ≡ turns (bound - i) test step body w → test w ≡ Done n between → is_zero n ≡ false → r ≡ Err e → Tells view (Err e) (turn_of (step_of step) body between) after
-    → Tells flow_of r whole after
+    → i < bound → whole ≡ turns (bound - i) test step body w → test w ≡ Done n between → is_zero n ≡ false → r ≡ Err e → Reports view (Err e) (turn_of (step_of step) body between) after
+    → Reports flow_of r whole after
 turn_failed view bound i test step body whole n e r w between after below old tested holds failed h =
-    subst (λ x. Tells flow_of x whole after) (sym failed)
-    (tells_through e view flow_of after (λ o w1. goes_on o (turns (bound - (i + 1)) test step body) w1) (turn_of (step_of step) body between) whole (turns_on bound i test step body whole n w between below old tested holds) h)
+    subst (λ x. Reports flow_of x whole after) (sym failed)
+    (finds_through e view flow_of after (λ o w1. goes_on o (turns (bound - (i + 1)) test step body) w1) (turn_of (step_of step) body between) whole (turns_on bound i test step body whole n w between below old tested holds) h)
 
 -- the same of a loop that begins with its body
 turns_after_on : (bound i : ℕ) (test : World → Outcome ℤ) (body : World → Outcome meaning.Flow) (whole : Outcome meaning.Flow) (w : World)
@@ -208,10 +208,10 @@ turns_after_left bound i test body whole flow w after below old done =
     turns_after_on bound i test body whole w below old ∙ ap (λ o. then_do o (λ l w1. goes_on l (turns_after (bound - (i + 1)) test body) w1)) done
 
 pub turn_after_failed : {A : Type 0} (view : A → Option meaning.Flow) (bound i : ℕ) (test : World → Outcome ℤ) (body : World → Outcome meaning.Flow) (whole : Outcome meaning.Flow) (e : Halt) (r : Result Flow Halt) (w after : World)
-    → i < bound → whole ≡ turns_after (bound - i) test body w → r ≡ Err e → Tells view (Err e) (turn_of (test_of test) body w) after → Tells flow_of r whole after
+    → i < bound → whole ≡ turns_after (bound - i) test body w → r ≡ Err e → Reports view (Err e) (turn_of (test_of test) body w) after → Reports flow_of r whole after
 turn_after_failed view bound i test body whole e r w after below old failed h =
-    subst (λ x. Tells flow_of x whole after) (sym failed)
-    (tells_through e view flow_of after (λ o w1. goes_on o (turns_after (bound - (i + 1)) test body) w1) (turn_of (test_of test) body w) whole (turns_after_on bound i test body whole w below old) h)
+    subst (λ x. Reports flow_of x whole after) (sym failed)
+    (finds_through e view flow_of after (λ o w1. goes_on o (turns_after (bound - (i + 1)) test body) w1) (turn_of (test_of test) body w) whole (turns_after_on bound i test body whole w below old) h)
 
 -- a call and an end, one level deeper
 pub call_is : (P : resolved.Program) (bound levels n : ℕ) (wanted : Gives) (f self : ℕ) (passed : Given) (w : World) → levels ≡ suc n

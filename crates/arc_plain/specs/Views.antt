@@ -147,26 +147,26 @@ abbrev pub test_of : (World → Outcome ℤ) → World → Outcome (Option meani
 test_of test w = then_do (test w) (λ v w1. Done (chosen (is_zero v) None (Some meaning.Normal)) w1)
 
 -- what follows its body
-abbrev pub behind_body : meaning.Flow → (World → Outcome (Option meaning.Flow)) → World → Outcome (Option meaning.Flow)
-behind_body meaning.Normal rest w = rest w
-behind_body meaning.Continued rest w = rest w
-behind_body meaning.Broken rest w = Done (Some meaning.Normal) w
-behind_body (meaning.Returned n) rest w = Done (Some (meaning.Returned n)) w
+abbrev pub past_body : meaning.Flow → (World → Outcome (Option meaning.Flow)) → World → Outcome (Option meaning.Flow)
+past_body meaning.Normal rest w = rest w
+past_body meaning.Continued rest w = rest w
+past_body meaning.Broken rest w = Done (Some meaning.Normal) w
+past_body (meaning.Returned n) rest w = Done (Some (meaning.Returned n)) w
 
 -- a turn, with what follows the body
 abbrev pub turn_of : (rest : World → Outcome (Option meaning.Flow)) → (body : World → Outcome meaning.Flow) → World → Outcome (Option meaning.Flow)
-turn_of rest body w = then_do (body w) (λ flow w1. behind_body flow rest w1)
+turn_of rest body w = then_do (body w) (λ flow w1. past_body flow rest w1)
 
 -- what ends without a value
 abbrev pub nothing_of : Unit {0} → Finished
 nothing_of u = finished
 
 -- what an answer says of a meaning, and of the world after it; a want of memory says nothing
-abbrev pub Tells : {A B : Type 0} → (A → B) → Result A Halt → Outcome B → World → Type 0
-Tells view (Ok a) outcome w = outcome ≡ Done (view a) w
-Tells view (Err (Stopped fault)) outcome w = outcome ≡ Faulted fault w
-Tells view (Err halt.Cut) outcome w = outcome ≡ Cut w
-Tells view (Err Memory) outcome w = Unit {0}
+abbrev pub Reports : {A B : Type 0} → (A → B) → Result A Halt → Outcome B → World → Type 0
+Reports view (Ok a) outcome w = outcome ≡ Done (view a) w
+Reports view (Err (Stopped fault)) outcome w = outcome ≡ Faulted fault w
+Reports view (Err halt.Cut) outcome w = outcome ≡ Cut w
+Reports view (Err Memory) outcome w = Unit {0}
 
 -- what one piece of a format writes after a text, and the values that it leaves
 abbrev pub WritesPiece : Piece → List ℤ → (old new : List ℕ) → (rest : List ℤ) → Type 0
@@ -192,4 +192,4 @@ as_int outcome = then_do outcome (λ a w. Done (converted k.Int a.number) w)
 
 -- how a program stops, whatever it means, of whose main this is the answer
 abbrev pub Stops : Result Answered Halt → PlainStop → Type 0
-Stops left stop = (outcome : Outcome worlds.Answer) (w : World) → Tells answer_of left outcome w → meaning_seen (as_int outcome) ≡ record { trace = w.trace; stop = stop_of stop }
+Stops left stop = (outcome : Outcome worlds.Answer) (w : World) → Reports answer_of left outcome w → meaning_seen (as_int outcome) ≡ record { trace = w.trace; stop = stop_of stop }

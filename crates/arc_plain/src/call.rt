@@ -4,7 +4,7 @@ ghost use Rattle.arc_spec.specs.Classes.{superclasses, ancestry, same_gives};
 ghost use Rattle.arc_check.specs.Checked.{program_of};
 ghost use Rattle.arc_spec.specs.Objects.{object_at};
 ghost use Rattle.arc_spec.specs.Meaning.{emptied, fields_dropped, called, given, released, all_dropped, second_dropped, variables_dropped, function_at, dealloc_run, deallocs_run};
-ghost use Rattle.arc_plain.specs.Views.{world, given_of, answer_of, Tells, flow_of, nothing_of, deeper};
+ghost use Rattle.arc_plain.specs.Views.{world, given_of, answer_of, Reports, flow_of, nothing_of, deeper};
 
 use crate::context::Context;
 use crate::format::count;
@@ -33,7 +33,7 @@ pub fn call(
     itself: usize,
     given: &Given,
 ) -> Result<Answered, Halt>
-    ensures { Tells answer_of result ((deeper context.now).call wanted function itself (given_of given.now) (world progress.old)) (world progress.new) }
+    ensures { Reports answer_of result ((deeper context.now).call wanted function itself (given_of given.now) (world progress.old)) (world progress.new) }
 {
     if context.levels == 0 {
         return Err(Halt::Stopped(Fault::Depth));
@@ -57,7 +57,7 @@ fn enter(
     itself: usize,
     given: &Given,
 ) -> Result<Answered, Halt>
-    ensures { Tells answer_of result (called (deeper context.now) context.now.bound (function_at (program_of context.now.program.now) wanted function) itself (given_of given.now) (world progress.old)) (world progress.new) }
+    ensures { Reports answer_of result (called (deeper context.now) context.now.bound (function_at (program_of context.now.program.now) wanted function) itself (given_of given.now) (world progress.old)) (world progress.new) }
 {
     let Some(entered) = context.program.functions.get(function) else {
         return Ok(object_given(0));
@@ -97,7 +97,7 @@ fn number_of(flow: Flow) -> i64
 /// The end of an object, one level deeper: the deallocs of its class and of those above run, and it is gone.
 #[cycle(running)]
 fn end(alloc: Global, context: &Context, progress: &mut Progress, object: usize) -> Result<(), Halt>
-    ensures { Tells nothing_of result ((deeper context.now).end_of object (world progress.old)) (world progress.new) }
+    ensures { Reports nothing_of result ((deeper context.now).end_of object (world progress.old)) (world progress.new) }
 {
     if context.levels == 0 {
         return Err(Halt::Stopped(Fault::Depth));
@@ -121,7 +121,7 @@ fn empty(
     progress: &mut Progress,
     object: usize,
 ) -> Result<(), Halt>
-    ensures { Tells nothing_of result (emptied (deeper context.now) object (object_at (world progress.old).objects object) (world progress.old)) (world progress.new) }
+    ensures { Reports nothing_of result (emptied (deeper context.now) object (object_at (world progress.old).objects object) (world progress.old)) (world progress.new) }
 {
     let Some(class) = class_of(&progress.objects, object) else {
         return Ok(());
@@ -140,7 +140,7 @@ fn drop_fields(
     object: usize,
     order: &[usize],
 ) -> Result<(), Halt>
-    ensures { Tells nothing_of result (fields_dropped (deeper context.now) order.now object (world progress.old)) (world progress.new) }
+    ensures { Reports nothing_of result (fields_dropped (deeper context.now) order.now object (world progress.old)) (world progress.new) }
 {
     for index in order {
         let before = clear_field(progress, object, *index);
@@ -158,7 +158,7 @@ fn run_deallocs(
     class: Option<usize>,
     object: usize,
 ) -> Result<(), Halt>
-    ensures { let program = program_of context.now.program.now in Tells nothing_of result (deallocs_run program (deeper context.now) context.now.bound (ancestry (superclasses program.classes) class) object (world progress.old)) (world progress.new) }
+    ensures { let program = program_of context.now.program.now in Reports nothing_of result (deallocs_run program (deeper context.now) context.now.bound (ancestry (superclasses program.classes) class) object (world progress.old)) (world progress.new) }
 {
     let classes = &context.program.classes;
     let mut next = class;
@@ -182,7 +182,7 @@ fn run_dealloc(
     dealloc: Option<usize>,
     object: usize,
 ) -> Result<(), Halt>
-    ensures { Tells nothing_of result (dealloc_run (program_of context.now.program.now) (deeper context.now) context.now.bound dealloc object (world progress.old)) (world progress.new) }
+    ensures { Reports nothing_of result (dealloc_run (program_of context.now.program.now) (deeper context.now) context.now.bound dealloc object (world progress.old)) (world progress.new) }
 {
     match dealloc {
         Some(function) => {
@@ -210,7 +210,7 @@ pub fn release(
     progress: &mut Progress,
     object: usize,
 ) -> Result<(), Halt>
-    ensures { Tells nothing_of result (released (deeper context.now) object (world progress.old)) (world progress.new) }
+    ensures { Reports nothing_of result (released (deeper context.now) object (world progress.old)) (world progress.new) }
 {
     if !is_live(&progress.objects, object) {
         return Ok(());
@@ -228,7 +228,7 @@ pub fn drop_temporaries(
     context: &Context,
     progress: &mut Progress,
 ) -> Result<(), Halt>
-    ensures { Tells nothing_of result (all_dropped (deeper context.now) (world progress.old)) (world progress.new) }
+    ensures { Reports nothing_of result (all_dropped (deeper context.now) (world progress.old)) (world progress.new) }
 {
     while let Some(object) = drop_last(progress) {
         release(alloc, context, progress, object)?;
@@ -239,7 +239,7 @@ pub fn drop_temporaries(
 /// The temporary before the last one is dropped.
 #[cycle(running)]
 pub fn drop_made(alloc: Global, context: &Context, progress: &mut Progress) -> Result<(), Halt>
-    ensures { Tells nothing_of result (second_dropped (deeper context.now) (world progress.old).frame.temporaries (world progress.old)) (world progress.new) }
+    ensures { Reports nothing_of result (second_dropped (deeper context.now) (world progress.old).frame.temporaries (world progress.old)) (world progress.new) }
 {
     match drop_second(progress) {
         Some(object) => release(alloc, context, progress, object),
@@ -256,7 +256,7 @@ pub fn drop_variables(
     first: usize,
     count: usize,
 ) -> Result<(), Halt>
-    ensures { Tells nothing_of result (variables_dropped (deeper context.now) first count (world progress.old)) (world progress.new) }
+    ensures { Reports nothing_of result (variables_dropped (deeper context.now) first count (world progress.old)) (world progress.new) }
 {
     for offset in (0..count).rev() {
         let before = clear(progress, first, offset);

@@ -2,7 +2,7 @@
 ghost use Rattle.arc_check.specs.Checked as checked;
 ghost use Rattle.arc_spec.specs.Resolved as resolved;
 ghost use Rattle.arc_spec.specs.Meaning.{evaluated, referred, all_evaluated, whole};
-ghost use Rattle.arc_plain.specs.Views.{world, given_of, answer_of, invoked, Tells, printed, deeper};
+ghost use Rattle.arc_plain.specs.Views.{world, given_of, answer_of, invoked, Reports, printed, deeper};
 
 use crate::call::{call, drop_temporaries, release};
 use crate::context::Context;
@@ -31,7 +31,7 @@ pub fn evaluate(
     progress: &mut Progress,
     value: &Value,
 ) -> Result<i64, Halt>
-    ensures { Tells (λ n. n) result (evaluated (deeper context.now) (checked.value value.now) (world progress.old)) (world progress.new) }
+    ensures { Reports (λ n. n) result (evaluated (deeper context.now) (checked.value value.now) (world progress.old)) (world progress.new) }
 {
     match value {
         Value::Number(number) => Ok(*number),
@@ -118,7 +118,7 @@ pub fn evaluate_whole(
     progress: &mut Progress,
     value: &Value,
 ) -> Result<i64, Halt>
-    ensures { Tells (λ n. n) result (whole (deeper context.now) (checked.value value.now) (world progress.old)) (world progress.new) }
+    ensures { Reports (λ n. n) result (whole (deeper context.now) (checked.value value.now) (world progress.old)) (world progress.new) }
 {
     let number = evaluate(alloc, context, progress, value)?;
     drop_temporaries(alloc, context, progress)?;
@@ -134,7 +134,7 @@ fn evaluate_print(
     pieces: &[Piece],
     arguments: &[Argument],
 ) -> Result<i64, Halt>
-    ensures { Tells (λ n. n) result (evaluated (deeper context.now) (resolved.Print (checked.pieces pieces.now) (checked.arguments arguments.now)) (world progress.old)) (world progress.new) }
+    ensures { Reports (λ n. n) result (evaluated (deeper context.now) (resolved.Print (checked.pieces pieces.now) (checked.arguments arguments.now)) (world progress.old)) (world progress.new) }
 {
     let given = evaluate_all(alloc, context, progress, arguments)?;
     print_format(alloc, progress, pieces, &given.numbers)
@@ -147,7 +147,7 @@ fn print_format(
     pieces: &[Piece],
     values: &[i64],
 ) -> Result<i64, Halt>
-    ensures { Tells (λ n. n) result (printed (checked.pieces pieces.now) values.now (world progress.old)) (world progress.new) }
+    ensures { Reports (λ n. n) result (printed (checked.pieces pieces.now) values.now (world progress.old)) (world progress.new) }
 {
     let text = format(alloc, pieces, values)?;
     print(progress, &text)?;
@@ -165,7 +165,7 @@ fn evaluate_both(
     left: &Value,
     right: &Value,
 ) -> Result<i64, Halt>
-    ensures { Tells (λ n. n) result (evaluated (deeper context.now) (resolved.Combined operator kind (checked.value left.now) (checked.value right.now)) (world progress.old)) (world progress.new) }
+    ensures { Reports (λ n. n) result (evaluated (deeper context.now) (resolved.Combined operator kind (checked.value left.now) (checked.value right.now)) (world progress.old)) (world progress.new) }
 {
     let first = evaluate(alloc, context, progress, left)?;
     let second = evaluate(alloc, context, progress, right)?;
@@ -185,7 +185,7 @@ fn update_variable(
     update: Update,
     operand: &Value,
 ) -> Result<i64, Halt>
-    ensures { Tells (λ n. n) result (evaluated (deeper context.now) (resolved.Updated update.moment location update.operator update.computed update.kept (checked.value operand.now)) (world progress.old)) (world progress.new) }
+    ensures { Reports (λ n. n) result (evaluated (deeper context.now) (resolved.Updated update.moment location update.operator update.computed update.kept (checked.value operand.now)) (world progress.old)) (world progress.new) }
 {
     let old = held(progress, location);
     let right = evaluate(alloc, context, progress, operand)?;
@@ -204,7 +204,7 @@ fn invoke(
     function: usize,
     arguments: &[Argument],
 ) -> Result<Answered, Halt>
-    ensures { Tells answer_of result (invoked (deeper context.now) wanted function (checked.arguments arguments.now) (world progress.old)) (world progress.new) }
+    ensures { Reports answer_of result (invoked (deeper context.now) wanted function (checked.arguments arguments.now) (world progress.old)) (world progress.new) }
 {
     let given = evaluate_all(alloc, context, progress, arguments)?;
     call(alloc, context, progress, wanted, function, 0, &given)
@@ -221,7 +221,7 @@ fn assign_field(
     index: usize,
     operand: &Value,
 ) -> Result<i64, Halt>
-    ensures { Tells (λ n. n) result (evaluated (deeper context.now) (resolved.FieldAssigned (checked.reference object.now) class index (checked.value operand.now)) (world progress.old)) (world progress.new) }
+    ensures { Reports (λ n. n) result (evaluated (deeper context.now) (resolved.FieldAssigned (checked.reference object.now) class index (checked.value operand.now)) (world progress.old)) (world progress.new) }
 {
     let number = refer(alloc, context, progress, object)?;
     let assigned = evaluate(alloc, context, progress, operand)?;
@@ -241,7 +241,7 @@ fn update_field(
     update: Update,
     operand: &Value,
 ) -> Result<i64, Halt>
-    ensures { Tells (λ n. n) result (evaluated (deeper context.now) (resolved.FieldUpdated update.moment (checked.reference object.now) class index update.operator update.computed update.kept (checked.value operand.now)) (world progress.old)) (world progress.new) }
+    ensures { Reports (λ n. n) result (evaluated (deeper context.now) (resolved.FieldUpdated update.moment (checked.reference object.now) class index update.operator update.computed update.kept (checked.value operand.now)) (world progress.old)) (world progress.new) }
 {
     let number = refer(alloc, context, progress, object)?;
     let old = read_field(context, progress, number, class, index)?;
@@ -260,7 +260,7 @@ fn compare(
     left: &Reference,
     right: &Reference,
 ) -> Result<i64, Halt>
-    ensures { Tells (λ n. n) result (evaluated (deeper context.now) (resolved.Differ (checked.reference left.now) (checked.reference right.now)) (world progress.old)) (world progress.new) }
+    ensures { Reports (λ n. n) result (evaluated (deeper context.now) (resolved.Differ (checked.reference left.now) (checked.reference right.now)) (world progress.old)) (world progress.new) }
 {
     let first = refer(alloc, context, progress, left)?;
     let second = refer(alloc, context, progress, right)?;
@@ -275,7 +275,7 @@ pub fn refer(
     progress: &mut Progress,
     reference: &Reference,
 ) -> Result<usize, Halt>
-    ensures { Tells (λ n. n) result (referred (deeper context.now) (checked.reference reference.now) (world progress.old)) (world progress.new) }
+    ensures { Reports (λ n. n) result (referred (deeper context.now) (checked.reference reference.now) (world progress.old)) (world progress.new) }
 {
     match reference {
         Reference::Nil => Ok(0),
@@ -342,7 +342,7 @@ fn store_field(
     index: usize,
     operand: &Reference,
 ) -> Result<usize, Halt>
-    ensures { Tells (λ n. n) result (referred (deeper context.now) (resolved.ObjectFieldStored (checked.reference object.now) class index (checked.reference operand.now)) (world progress.old)) (world progress.new) }
+    ensures { Reports (λ n. n) result (referred (deeper context.now) (resolved.ObjectFieldStored (checked.reference object.now) class index (checked.reference operand.now)) (world progress.old)) (world progress.new) }
 {
     let number = refer(alloc, context, progress, object)?;
     let named = refer(alloc, context, progress, operand)?;
@@ -359,7 +359,7 @@ pub fn evaluate_all(
     progress: &mut Progress,
     arguments: &[Argument],
 ) -> Result<Given, Halt>
-    ensures { Tells given_of result (all_evaluated (deeper context.now) (checked.arguments arguments.now) (world progress.old)) (world progress.new) }
+    ensures { Reports given_of result (all_evaluated (deeper context.now) (checked.arguments arguments.now) (world progress.old)) (world progress.new) }
 {
     let mut given = nothing(alloc);
     for argument in arguments {

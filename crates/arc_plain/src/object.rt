@@ -5,7 +5,7 @@ ghost use Rattle.arc_check.specs.Checked.{program_of};
 ghost use Rattle.arc_spec.specs.Meaning.{Deeper, turned, made, field_read, field_set, object_field_read, field_count, dying, gone, class_in, dealloc_run, deallocs_run};
 ghost use Rattle.arc_spec.specs.Objects.{Emptying, object_at, is_live, is_emptying, new_object, in_phase, with_fields, with_strong_fields};
 ghost use Rattle.arc_spec.specs.World.{World, Done, then_do, finished};
-ghost use Rattle.arc_plain.specs.Views.{world, deeper, Tells, nothing_of, object_of, phase_of, changed, object_field_replaced, named_in, cleared};
+ghost use Rattle.arc_plain.specs.Views.{world, deeper, Reports, nothing_of, object_of, phase_of, changed, object_field_replaced, named_in, cleared};
 
 use crate::context::Context;
 use crate::halt::Halt;
@@ -86,7 +86,7 @@ pub fn make(
     progress: &mut Progress,
     class: Option<usize>,
 ) -> Result<usize, Halt>
-    ensures { Tells (λ n. n) result (made (deeper context.now) class (world progress.old)) (world progress.new) }
+    ensures { Reports (λ n. n) result (made (deeper context.now) class (world progress.old)) (world progress.new) }
 {
     let Some(class) = class else {
         return Err(Halt::Stopped(Fault::Unrecognized));
@@ -134,7 +134,7 @@ pub fn read_field(
     class: usize,
     index: usize,
 ) -> Result<i64, Halt>
-    ensures { Tells (λ n. n) result (field_read (deeper context.now) number class index (world progress.now)) (world progress.now) }
+    ensures { Reports (λ n. n) result (field_read (deeper context.now) number class index (world progress.now)) (world progress.now) }
 {
     let Some(object) = object_at(&progress.objects, number) else {
         return Err(Halt::Stopped(Fault::NilField));
@@ -157,7 +157,7 @@ pub fn set_field(
     index: usize,
     value: i64,
 ) -> Result<i64, Halt>
-    ensures { Tells (λ n. n) result (field_set (deeper context.now) number class index value (world progress.old)) (world progress.new) }
+    ensures { Reports (λ n. n) result (field_set (deeper context.now) number class index value (world progress.old)) (world progress.new) }
 {
     let Some(own) = class_of(&progress.objects, number) else {
         return Err(Halt::Stopped(Fault::NilField));
@@ -177,7 +177,7 @@ pub fn read_object_field(
     class: usize,
     index: usize,
 ) -> Result<usize, Halt>
-    ensures { Tells (λ n. n) result (object_field_read (deeper context.now) number class index (world progress.old)) (world progress.new) }
+    ensures { Reports (λ n. n) result (object_field_read (deeper context.now) number class index (world progress.old)) (world progress.new) }
 {
     let Some(object) = object_at(&progress.objects, number) else {
         return Err(Halt::Stopped(Fault::NilField));
@@ -199,7 +199,7 @@ pub fn replace_object_field(
     index: usize,
     named: usize,
 ) -> Result<usize, Halt>
-    ensures { Tells (λ n. n) result (object_field_replaced (deeper context.now) number class index named (world progress.old)) (world progress.new) }
+    ensures { Reports (λ n. n) result (object_field_replaced (deeper context.now) number class index named (world progress.old)) (world progress.new) }
 {
     let Some(object) = object_at(&progress.objects, number) else {
         return Err(Halt::Stopped(Fault::NilField));
@@ -316,7 +316,7 @@ pub fn dealloc_from(
 
 /// The dealloc of an object is done; that a strong place names it again is a fault.
 pub fn finish_end(progress: &mut Progress, number: usize) -> Result<(), Halt>
-    ensures { Tells nothing_of result (gone number (world progress.old)) (world progress.new) }
+    ensures { Reports nothing_of result (gone number (world progress.old)) (world progress.new) }
 {
     if is_named(progress, number) {
         return Err(Halt::Stopped(Fault::Resurrected));

@@ -6,7 +6,7 @@ ghost use Rattle.arc_spec.specs.Objects.{names};
 ghost use Rattle.arc_spec.specs.Objects.{fields_of, field_places};
 ghost use Rattle.arc_spec.specs.declared.location.Location.TheVariants.{Local};
 ghost use Rattle.arc_spec.specs.World.{Done, places, takes, name_at, named_at, stores, with_temporaries, entered};
-ghost use Rattle.arc_plain.specs.Views.{FollowsLast, function_of, world, frame_of, given_of, object_of, Tells, left_at};
+ghost use Rattle.arc_plain.specs.Views.{FollowsLast, function_of, world, frame_of, given_of, object_of, Reports, left_at};
 
 use crate::frame::{Frame, begin};
 use crate::given::Given;
@@ -21,7 +21,7 @@ use std::mem;
 
 /// A temporary of the running function takes this object, or nil, and it is given.
 pub fn take(progress: &mut Progress, object: usize) -> Result<usize, Halt>
-    ensures { Tells (λ n. n) result (Done object (takes object (world progress.old))) (world progress.new) }
+    ensures { Reports (λ n. n) result (Done object (takes object (world progress.old))) (world progress.new) }
 {
     progress.frame.temporaries.push(object)?;
     Ok(object)

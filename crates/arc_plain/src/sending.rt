@@ -3,7 +3,7 @@ ghost use Rattle.arc_check.specs.Checked as checked;
 ghost use Rattle.arc_ast.specs.declared.tree.Sign.TheVariants.{Class};
 ghost use Rattle.arc_spec.specs.Meaning.{received, sent, given, dispatched, finds, sent_from, answered_by_root, new_sent, made_new};
 ghost use Rattle.arc_spec.specs.World.{World};
-ghost use Rattle.arc_plain.specs.Views.{world, given_of, answer_of, target_of, sent_to, Tells, deeper};
+ghost use Rattle.arc_plain.specs.Views.{world, given_of, answer_of, target_of, sent_to, Reports, deeper};
 
 use crate::call::{call, drop_made};
 use crate::context::Context;
@@ -32,11 +32,11 @@ pub fn send(
     selector: usize,
     arguments: &[Argument],
 ) -> Result<Answered, Halt>
-    ensures { Tells answer_of result (sent_to (deeper context.now) wanted (checked.receiver receiver.now) selector (checked.arguments arguments.now) (world progress.old)) (world progress.new) }
+    ensures { Reports answer_of result (sent_to (deeper context.now) wanted (checked.receiver receiver.now) selector (checked.arguments arguments.now) (world progress.old)) (world progress.new) }
 {
     let target = receive(alloc, context, progress, receiver)?;
     let given = evaluate_all(alloc, context, progress, arguments)?;
-    tell(alloc, context, progress, wanted, target, selector, given)
+    send_to(alloc, context, progress, wanted, target, selector, given)
 }
 
 /// Who gets a message. One to `super` goes to `self`, in a method of a class the first variable.
@@ -47,7 +47,7 @@ fn receive(
     progress: &mut Progress,
     receiver: &Receiver,
 ) -> Result<Target, Halt>
-    ensures { Tells target_of result (received (deeper context.now) (checked.receiver receiver.now) (world progress.old)) (world progress.new) }
+    ensures { Reports target_of result (received (deeper context.now) (checked.receiver receiver.now) (world progress.old)) (world progress.new) }
 {
     match receiver {
         Receiver::ClassValue(value) => {
@@ -68,7 +68,7 @@ fn receive(
 
 /// Sends a message with its arguments.
 #[cycle(running)]
-fn tell(
+fn send_to(
     alloc: Global,
     context: &Context,
     progress: &mut Progress,
@@ -77,7 +77,7 @@ fn tell(
     selector: usize,
     given: Given,
 ) -> Result<Answered, Halt>
-    ensures { Tells answer_of result (sent (deeper context.now) wanted (target_of target) selector (given_of given) (world progress.old)) (world progress.new) }
+    ensures { Reports answer_of result (sent (deeper context.now) wanted (target_of target) selector (given_of given) (world progress.old)) (world progress.new) }
 {
     match target {
         Target::Class(from, itself) => {
@@ -113,7 +113,7 @@ fn dispatch(
     itself: i64,
     given: Given,
 ) -> Result<Answered, Halt>
-    ensures { Tells answer_of result (dispatched (deeper context.now) wanted (finds (deeper context.now) wanted from Class selector (given_of given)) itself (given_of given) (world progress.old)) (world progress.new) }
+    ensures { Reports answer_of result (dispatched (deeper context.now) wanted (finds (deeper context.now) wanted from Class selector (given_of given)) itself (given_of given) (world progress.old)) (world progress.new) }
 {
     let Some(method) = find_method(context, wanted, from, Sign::Class, selector, &given) else {
         return Err(Halt::Stopped(Fault::Unrecognized));
@@ -135,7 +135,7 @@ fn dispatch_to(
     itself: usize,
     given: &Given,
 ) -> Result<Answered, Halt>
-    ensures { Tells answer_of result (sent_from (deeper context.now) wanted from itself selector (given_of given.now) (world progress.old)) (world progress.new) }
+    ensures { Reports answer_of result (sent_from (deeper context.now) wanted from itself selector (given_of given.now) (world progress.old)) (world progress.new) }
 {
     if itself == 0 {
         return Ok(object_given(0));
@@ -153,7 +153,7 @@ fn answer_by_root(
     itself: usize,
     given: &Given,
 ) -> Result<Answered, Halt>
-    ensures { (w : World) → Tells answer_of result (answered_by_root wanted itself selector (given_of given.now) w) w }
+    ensures { (w : World) → Reports answer_of result (answered_by_root wanted itself selector (given_of given.now) w) w }
 {
     if is_root_init(wanted, selector, given) {
         Ok(object_given(itself))
@@ -171,7 +171,7 @@ pub fn send_new(
     from: Option<usize>,
     class: i64,
 ) -> Result<usize, Halt>
-    ensures { Tells (λ n. n) result (new_sent (deeper context.now) from class (world progress.old)) (world progress.new) }
+    ensures { Reports (λ n. n) result (new_sent (deeper context.now) from class (world progress.old)) (world progress.new) }
 {
     let none = nothing(alloc);
     let first = match from {
@@ -203,12 +203,12 @@ fn make_new(
     progress: &mut Progress,
     class: Option<usize>,
 ) -> Result<usize, Halt>
-    ensures { Tells (λ n. n) result (made_new (deeper context.now) class (world progress.old)) (world progress.new) }
+    ensures { Reports (λ n. n) result (made_new (deeper context.now) class (world progress.old)) (world progress.new) }
 {
     let object = make(alloc, context, progress, class)?;
     let none = nothing(alloc);
     let target = Target::Object(object);
-    let answered = tell(
+    let answered = send_to(
         alloc,
         context,
         progress,

@@ -3,7 +3,7 @@ ghost use Rattle.std.specs.Prelude.{option_map};
 ghost use Rattle.arc_check.specs.Checked as checked;
 ghost use Rattle.arc_spec.specs.Resolved as resolved;
 ghost use Rattle.arc_spec.specs.Meaning.{whole, begun, executed, all_executed, turns, turns_after};
-ghost use Rattle.arc_plain.specs.Views.{world, nothing_of, Tells, flow_of, step_of, test_of, turn_of, deeper};
+ghost use Rattle.arc_plain.specs.Views.{world, nothing_of, Reports, flow_of, step_of, test_of, turn_of, deeper};
 
 use crate::call::{drop_temporaries, drop_variables, release};
 use crate::context::Context;
@@ -33,7 +33,7 @@ fn execute(
     progress: &mut Progress,
     command: &Command,
 ) -> Result<Flow, Halt>
-    ensures { Tells flow_of result (executed (deeper context.now) context.now.bound (checked.command command.now) (world progress.old)) (world progress.new) }
+    ensures { Reports flow_of result (executed (deeper context.now) context.now.bound (checked.command command.now) (world progress.old)) (world progress.new) }
 {
     match command {
         Command::Sequence(first, names, commands) => {
@@ -83,7 +83,7 @@ fn begin(
     slot: usize,
     value: &Reference,
 ) -> Result<(), Halt>
-    ensures { Tells nothing_of result (begun (deeper context.now) slot (checked.reference value.now) (world progress.old)) (world progress.new) }
+    ensures { Reports nothing_of result (begun (deeper context.now) slot (checked.reference value.now) (world progress.old)) (world progress.new) }
 {
     let object = refer(alloc, context, progress, value)?;
     let before = store(progress, Location::Local(slot), object);
@@ -102,7 +102,7 @@ fn execute_block(
     names: usize,
     commands: &[Command],
 ) -> Result<Flow, Halt>
-    ensures { Tells flow_of result (executed (deeper context.now) context.now.bound (resolved.Sequence first names (checked.commands commands.now)) (world progress.old)) (world progress.new) }
+    ensures { Reports flow_of result (executed (deeper context.now) context.now.bound (resolved.Sequence first names (checked.commands commands.now)) (world progress.old)) (world progress.new) }
 {
     match execute_all(alloc, context, progress, commands)? {
         Flow::Returned(number) => Ok(Flow::Returned(number)),
@@ -121,7 +121,7 @@ pub fn execute_all(
     progress: &mut Progress,
     commands: &[Command],
 ) -> Result<Flow, Halt>
-    ensures { Tells flow_of result (all_executed (deeper context.now) context.now.bound (checked.commands commands.now) (world progress.old)) (world progress.new) }
+    ensures { Reports flow_of result (all_executed (deeper context.now) context.now.bound (checked.commands commands.now) (world progress.old)) (world progress.new) }
 {
     for command in commands {
         match execute(alloc, context, progress, command)? {
@@ -140,7 +140,7 @@ fn run_step(
     progress: &mut Progress,
     step: &Command,
 ) -> Result<Option<Flow>, Halt>
-    ensures { Tells (option_map flow_of) result (step_of (executed (deeper context.now) context.now.bound (checked.command step.now)) (world progress.old)) (world progress.new) }
+    ensures { Reports (option_map flow_of) result (step_of (executed (deeper context.now) context.now.bound (checked.command step.now)) (world progress.old)) (world progress.new) }
 {
     match execute(alloc, context, progress, step)? {
         Flow::Normal => Ok(None),
@@ -158,7 +158,7 @@ fn turn(
     body: &Command,
 ) -> Result<Option<Flow>, Halt>
     ensures { let run = λ (c : resolved.Command). executed (deeper context.now) context.now.bound c in
-        Tells (option_map flow_of) result (turn_of (step_of (run (checked.command step.now))) (run (checked.command body.now)) (world progress.old)) (world progress.new) }
+        Reports (option_map flow_of) result (turn_of (step_of (run (checked.command step.now))) (run (checked.command body.now)) (world progress.old)) (world progress.new) }
 {
     match execute(alloc, context, progress, body)? {
         Flow::Normal => run_step(alloc, context, progress, step),
@@ -176,7 +176,7 @@ fn run_test(
     progress: &mut Progress,
     test: &Value,
 ) -> Result<Option<Flow>, Halt>
-    ensures { Tells (option_map flow_of) result (test_of (whole (deeper context.now) (checked.value test.now)) (world progress.old)) (world progress.new) }
+    ensures { Reports (option_map flow_of) result (test_of (whole (deeper context.now) (checked.value test.now)) (world progress.old)) (world progress.new) }
 {
     let number = evaluate_whole(alloc, context, progress, test)?;
     if is_zero(number) {
@@ -195,7 +195,7 @@ fn turn_after(
     body: &Command,
     test: &Value,
 ) -> Result<Option<Flow>, Halt>
-    ensures { Tells (option_map flow_of) result (turn_of (test_of (whole (deeper context.now) (checked.value test.now))) (executed (deeper context.now) context.now.bound (checked.command body.now)) (world progress.old)) (world progress.new) }
+    ensures { Reports (option_map flow_of) result (turn_of (test_of (whole (deeper context.now) (checked.value test.now))) (executed (deeper context.now) context.now.bound (checked.command body.now)) (world progress.old)) (world progress.new) }
 {
     match execute(alloc, context, progress, body)? {
         Flow::Normal => run_test(alloc, context, progress, test),
@@ -214,7 +214,7 @@ fn repeat_after(
     body: &Command,
     test: &Value,
 ) -> Result<Flow, Halt>
-    ensures { Tells flow_of result (turns_after context.now.bound (whole (deeper context.now) (checked.value test.now)) (executed (deeper context.now) context.now.bound (checked.command body.now)) (world progress.old)) (world progress.new) }
+    ensures { Reports flow_of result (turns_after context.now.bound (whole (deeper context.now) (checked.value test.now)) (executed (deeper context.now) context.now.bound (checked.command body.now)) (world progress.old)) (world progress.new) }
 {
     for _ in 0..context.bound {
         if let Some(flow) = turn_after(alloc, context, progress, body, test)? {
@@ -235,7 +235,7 @@ fn repeat(
     body: &Command,
 ) -> Result<Flow, Halt>
     ensures { let run = λ (c : resolved.Command). executed (deeper context.now) context.now.bound c in
-        Tells flow_of result (turns context.now.bound (whole (deeper context.now) (checked.value test.now)) (run (checked.command step.now)) (run (checked.command body.now)) (world progress.old)) (world progress.new) }
+        Reports flow_of result (turns context.now.bound (whole (deeper context.now) (checked.value test.now)) (run (checked.command step.now)) (run (checked.command body.now)) (world progress.old)) (world progress.new) }
 {
     for _ in 0..context.bound {
         let number = evaluate_whole(alloc, context, progress, test)?;

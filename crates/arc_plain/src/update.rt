@@ -2,7 +2,7 @@
 ghost use Rattle.std.specs.Prelude.{◌≡◌};
 ghost use Rattle.arc_spec.specs.Meaning.{updated, given_by};
 ghost use Rattle.arc_spec.specs.World.{World};
-ghost use Rattle.arc_plain.specs.Views.{Tells};
+ghost use Rattle.arc_plain.specs.Views.{Reports};
 
 use crate::halt::Halt;
 use arc_ast::tree::{BinaryOperator, Kind, Moment};
@@ -20,7 +20,7 @@ pub struct Update {
 
 /// The new number of a place that held the old one.
 pub fn renew(update: Update, old: i64, right: i64) -> Result<i64, Halt>
-    ensures { (w : World) → Tells (λ n. n) result (updated update.operator update.computed update.kept old right w) w }
+    ensures { (w : World) → Reports (λ n. n) result (updated update.operator update.computed update.kept old right w) w }
 {
     match combine(update.operator, update.computed, old, right) {
         Some(number) => Ok(convert(update.kept, number)),

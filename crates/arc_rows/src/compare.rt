@@ -1,4 +1,4 @@
-//! Compares the trace of a compiled program with what the plain interpreter tells.
+//! Compares the trace of a compiled program with what the plain interpreter reports.
 
 use crate::lines::trace_lines;
 use arc_ast::tree::TranslationUnit;
@@ -51,8 +51,8 @@ pub fn compare(
     let Some(text) = ended_trace(alloc, words, source, input) else {
         return Ok(Verdict::Uncompared);
     };
-    let told = plain_trace(alloc, source, input)?;
-    if told.as_slice() == text.as_slice() {
+    let reported = plain_trace(alloc, source, input)?;
+    if reported.as_slice() == text.as_slice() {
         Ok(Verdict::Agrees)
     } else {
         Ok(Verdict::Differs)
@@ -80,7 +80,7 @@ fn ended_trace(alloc: Global, words: &Words, source: &[u8], input: &[u8]) -> Opt
     }
 }
 
-/// The text of a source's trace, as the plain interpreter tells it.
+/// The text of a source's trace, as the plain interpreter reports it.
 fn plain_trace(alloc: Global, source: &[u8], input: &[u8]) -> anyhow::Result<Vec<u8>> {
     let tokens = lex(alloc, source)?;
     let unit = parse(alloc, &tokens)?;

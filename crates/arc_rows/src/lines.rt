@@ -1,4 +1,4 @@
-//! Writes what the plain interpreter tells in the lines of a trace.
+//! Writes what the plain interpreter reports in the lines of a trace.
 
 use arc_ast::tree::TranslationUnit;
 use arc_machine::fault::{fault_name, fault_number};
@@ -8,7 +8,7 @@ use std::alloc::Global;
 use std::io;
 use std::io::Write;
 
-/// The text of the trace of a program with this tree, of which this is told.
+/// The text of the trace of a program with this tree, of which this is reported.
 pub fn trace_lines(alloc: Global, answer: &Answer, unit: &TranslationUnit) -> io::Result<Vec<u8>> {
     let mut text = Vec::new(alloc);
     for event in &answer.trace {

@@ -1,9 +1,9 @@
 //! The program `arc_rows`: does what each line of the file `rows` asks `arcc` for, and prints what that gives,
-//! whether the plain interpreter tells the same, of a program that ends within a million steps, and whether a machine
+//! whether the plain interpreter reports the same, of a program that ends within a million steps, and whether a machine
 //! shows the same however its steps are made, of a program of more than 1,000.
 //!
-//! A line that begins with `#` is a heading. Any other is `WORDS`, the words behind `arcc`; `WORDS < INPUT`, with the
-//! file of the standard input; or either one with `: SOURCE` behind, where the source stands in the line and not in
+//! A line that begins with `#` is a heading. Any other is `WORDS`, the words after `arcc`; `WORDS < INPUT`, with the
+//! file of the standard input; or either one with `: SOURCE` after, where the source stands in the line and not in
 //! the file that the words name. Where what was written leaves a line open, a backslash ends it.
 #![tactic(auto)]
 

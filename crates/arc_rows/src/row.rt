@@ -3,7 +3,7 @@
 /// What a line asks for.
 #[derive(Clone, Copy)]
 pub struct Row<'a> {
-    /// The words behind `arcc`.
+    /// The words after `arcc`.
     pub words: &'a str,
     /// The file of the standard input, which is empty where none is named.
     pub input: Option<&'a str>,
@@ -23,10 +23,10 @@ impl<'a> From<&'a str> for Row<'a> {
     }
 }
 
-/// What stands before the mark, or the whole line, and what stands behind it.
+/// What stands before the mark, or the whole line, and what stands after it.
 fn parted<'a>(line: &'a str, mark: &str) -> (&'a str, Option<&'a str>) {
     match line.split_once(mark) {
-        Some((before, behind)) => (before, Some(behind)),
+        Some((before, after)) => (before, Some(after)),
         None => (line, None),
     }
 }

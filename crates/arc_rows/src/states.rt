@@ -2,7 +2,7 @@
 //! by one.
 //!
 //! A machine makes its steps in turns of several, and a run may end anywhere in one. So 300 numbers of steps are chosen at
-//! random, one in each of 299 parts of the program's steps and one at their end or behind it. A machine that makes single
+//! random, one in each of 299 parts of the program's steps and one at their end or after it. A machine that makes single
 //! steps comes to each of these numbers in turn. There it is compared with a machine that has come from the number before
 //! in one run, and with one that has come from the start in one run. Of a program of 100,000 steps or more the second is
 //! done at some of the numbers alone, and of one of more than 2,000,000 steps these are followed and no more.

@@ -4,7 +4,7 @@ use Rattle.std.specs.List.{prefix_len, starts_with}
 use Rattle.std.proofs.lemmas.List.{take_rest}
 use Rattle.arc_spec.specs.Families.{without_underscores, first_component, ends_before, begins_with_word}
 
--- what is left behind the underscores
+-- what is left after the underscores
 pub rest_is : (xs : List ℕ) → drop (prefix_len (λ c. c == 95) xs) xs ≡ without_underscores xs
 unfolding without_underscores
 rest_is [] = refl

@@ -43,7 +43,7 @@ fn refuses(rt: HostRuntime) {
 }
 
 #[test]
-fn tells_want_of_memory(rt: HostRuntime) {
+fn reports_want_of_memory(rt: HostRuntime) {
     let fault = CheckFault::Memory;
     assert_eq!(rt;
         (fault.number(), fault.name(), fault.at()),

@@ -4,7 +4,7 @@ use arc_ast::tree::Sign;
 use arc_class::table::{ClassId, ClassTable, MethodId, Sel};
 
 #[test]
-fn tells(rt: HostRuntime) {
+fn reports(rt: HostRuntime) {
     let alloc = rt.alloc();
     let unit = tree(alloc, b"int f(void); int f(int a) { } int main(void) { }").expect(
         &rt, "no tree",

@@ -163,7 +163,7 @@ fn a_failing_writer_ends_a_listing(rt: HostRuntime) -> Result<(), Fail> {
 }
 
 #[test]
-fn faults_are_told(rt: HostRuntime) {
+fn faults_are_reported(rt: HostRuntime) {
     for (fault, number, name) in [(IoFault::Read, 91, "Read"), (IoFault::Write, 92, "Write")] {
         assert_eq!(rt; (fault.number(), fault.name()), (number, name));
     }

@@ -52,7 +52,7 @@ fn refuses(rt: HostRuntime) {
 }
 
 #[test]
-fn tells(rt: HostRuntime) {
+fn reports(rt: HostRuntime) {
     let fault = OwnFault::SelfConst(7);
     assert_eq!(rt;
         (fault.number(), fault.name(), fault.at()),

@@ -3,7 +3,7 @@ use arc_heap::plain::PlainStore;
 use arc_heap::store::Store;
 use std::test::Fail;
 
-/// The places are numbers of rows, so that they tell how far apart blocks lie.
+/// The places are numbers of rows, so that they report how far apart blocks lie.
 #[test]
 fn blocks_have_the_least_size(rt: HostRuntime) -> Result<(), Fail> {
     let mut store = PlainStore::new(rt.alloc());

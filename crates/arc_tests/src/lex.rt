@@ -9,8 +9,8 @@ fn cuts_a_main_function(rt: HostRuntime) -> Result<(), Fail> {
     let tokens = lex(rt.alloc(), b"int main(void) { printf(\"42\"); return 7; }")?;
     assert_eq!(rt; tokens.len(), 15);
     let at = [0, 4, 8, 9, 13, 15, 17, 23, 24, 28, 29, 31, 38, 39, 41];
-    let behind = [3, 8, 9, 13, 14, 16, 23, 24, 28, 29, 30, 37, 39, 40, 42];
-    for (token, (from, to)) in tokens.iter().zip(at.iter().zip(behind.iter())) {
+    let after = [3, 8, 9, 13, 14, 16, 23, 24, 28, 29, 30, 37, 39, 40, 42];
+    for (token, (from, to)) in tokens.iter().zip(at.iter().zip(after.iter())) {
         assert_eq!(rt;
             token.span,
             Span {

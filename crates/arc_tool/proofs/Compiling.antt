@@ -29,7 +29,7 @@ use Rattle.arc_tool.specs.declared.refusal.Refusal.{Refusal}
 use Rattle.arc_source.specs.Accepted.{Spelled, Accepted, program_meant, meant}
 use Rattle.arc_tool.specs.Compiled.{Compiles, CompilesNamed, class_names}
 use Rattle.arc_tool.specs.Refused.{IsTooLarge, IsRefusal, too_large, no_memory}
-use Rattle.arc_tool.specs.Told.{Tells}
+use Rattle.arc_tool.specs.Reports.{Reports}
 
 -- the tokens of the source, as they were passed on
 pub passed : (source : List ℕ) (items these_tokens : List Token) → these_tokens ≡ items → Tokens source (toks items) → Tokens source (toks these_tokens)
@@ -69,6 +69,6 @@ module _ (source : List ℕ) (unit : TranslationUnit) (program : Checked)
     pub compiled_named : (code : Program) → IsSound code → Refines (acting.seen actions) (seen code) → Steady (seen code) → CompilesNamed source code (class_names (unit_tree unit))
     compiled_named code sound refines steady = record { compiled = compiled code sound refines steady; named = refl }
 
-    pub not_emitted : (e : EmitFault) (r : Refusal) → (e ≡ f.TooLarge → IsLarge actions) → Tells (emitting.fault_number e) (emitting.fault_name e) 0 r → IsRefusal source r
-    not_emitted f.TooLarge r large tells = too_large accepted (too_many (program_meant accepted) actions lowers.actions (large refl)) tells
-    not_emitted f.Memory r large tells = no_memory accepted tells
+    pub not_emitted : (e : EmitFault) (r : Refusal) → (e ≡ f.TooLarge → IsLarge actions) → Reports (emitting.fault_number e) (emitting.fault_name e) 0 r → IsRefusal source r
+    not_emitted f.TooLarge r large reports = too_large accepted (too_many (program_meant accepted) actions lowers.actions (large refl)) reports
+    not_emitted f.Memory r large reports = no_memory accepted reports

@@ -9,7 +9,7 @@ use Rattle.arc_code.proofs.Parts.{wider, then_ok, then_failed}
 use Rattle.arc_tool.specs.declared.lines.Left.{Left}
 use Rattle.arc_tool.specs.Lines.{Line, Printed, Ended, with_byte, lines, two_digits, digits, lines_text, left_text, trace_text, closing, event_text, leaves_open, events_text, open_after, end_text}
 
--- the text of lines behind a line of printed bytes that is open
+-- the text of lines after a line of printed bytes that is open
 abbrev continued : List (List ℕ) → List Line → List ℕ
 continued names [] = codes "\n"
 continued names (Printed bytes ∷ others) = digits bytes ++ (codes "\n" ++ lines_text names others)

@@ -76,7 +76,7 @@ module _ (source : List ℕ) (p : Program) (names : List (List ℕ)) (compiled :
         means_so source p compiled.compiled (suc run.made) (run.follows.taken ++ rest) (run.earlier ++ run.last) run.left (run.follows.shown rest l) in
         inl (broken_off (subst Meaning compiled.named (run, means)))
 
-    -- a writer's failure is told as its own
+    -- a writer's failure is reported as its own
     pub interrupted_blamed : (f : IoFault) (r0 r1 : ℕ) (R : Type 0) → Interrupted p names steps f i0 i1 o0 o1 w0 w1 W → Blames (Err (Io f)) r0 r1 w0 w1 R W
     interrupted_blamed Read r0 r1 R run = absurd (let no = run.part.0 in cc)
     interrupted_blamed Write r0 r1 R run = (run.part.2 ∙ ap (λ w. w + 1) run.whole.1, run.part.3)

@@ -1,4 +1,4 @@
-pub mod Told
+pub mod Reports
 pub mod Compiled
 pub mod Refused
 pub mod Progress

@@ -7,7 +7,7 @@ use Rattle.arc_spec.specs.declared.event.Event.TheVariants.{Byte, Dealloc}
 use Rattle.arc_code.specs.declared.code.IoFault.TheVariants.{Read}
 use Rattle.arc_code.specs.Faulty as faulty
 use Rattle.arc_machine.specs.declared.stop.Stop.TheVariants as stop
-use Rattle.arc_machine.specs.Told as stopped
+use Rattle.arc_machine.specs.FaultNames as stopped
 use Rattle.arc_tool.specs.declared.lines.Left.{Left}
 use Rattle.arc_tool.specs.declared.lines.Left.TheVariants.{Stopped, Unread}
 use Rattle.arc_tool.specs.Status.{named}

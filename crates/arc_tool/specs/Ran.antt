@@ -16,7 +16,7 @@ use Rattle.arc_source.specs.Accepted.{meant}
 use Rattle.arc_tool.specs.Compiled.{Compiles}
 use Rattle.arc_tool.specs.Progress.{run_of, Takes, MakesObject, ReadsByte}
 use Rattle.arc_tool.specs.Refused.{IsRefusal}
-use Rattle.arc_tool.specs.Told.{Names}
+use Rattle.arc_tool.specs.Reports.{Names}
 
 -- a is the first part of b
 abbrev pub Starts : (a b : List ℕ) → Type 0

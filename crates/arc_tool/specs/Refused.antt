@@ -25,7 +25,7 @@ use Rattle.arc_lower.specs.Lowered.{lowered}
 use Rattle.arc_emit.specs.Emitted.{most_instrs}
 use Rattle.arc_tool.specs.declared.refusal.Refusal.{Refusal}
 use Rattle.arc_source.specs.Accepted.{Spelled, Accepted, program_meant}
-use Rattle.arc_tool.specs.Told.{Tells}
+use Rattle.arc_tool.specs.Reports.{Reports}
 
 -- the program becomes more actions than code may have instructions
 abbrev pub IsTooLarge : resolved.Program → Type 0
@@ -34,14 +34,14 @@ IsTooLarge P = most_instrs < length (lowered P)
 -- The refusal reports the fault of a stage, all stages before which have nothing to refuse. A stage to which memory is refused has a fault of its own for that,
 -- which says no more of the source.
 pub data IsRefusal (source : List ℕ) (r : Refusal) : Type 0 where
-  in_lexing : (f : LexFault) → lexing.IsLexFault source f → Tells (lexing.fault_number f) (lexing.fault_name f) (lexing.fault_at f) r → IsRefusal source r
+  in_lexing : (f : LexFault) → lexing.IsLexFault source f → Reports (lexing.fault_number f) (lexing.fault_name f) (lexing.fault_at f) r → IsRefusal source r
   in_parsing : (f : ParseFault) (tokens : List Tok) → Tokens source tokens → parsing.IsRefused tokens f
-      → Tells (parse_fault.report f).number (parse_fault.report f).name (parse_fault.report f).at r → IsRefusal source r
+      → Reports (parse_fault.report f).number (parse_fault.report f).name (parse_fault.report f).at r → IsRefusal source r
   in_building : (f : ClassFault) (tree : UnitTree) → Spelled source tree → building.Refuses (broken tree) f
-      → Tells (class_fault.report f).number (class_fault.report f).name (class_fault.report f).at r → IsRefusal source r
+      → Reports (class_fault.report f).number (class_fault.report f).name (class_fault.report f).at r → IsRefusal source r
   in_checking : (f : CheckFault) (tree : UnitTree) → Spelled source tree → broken tree ≡ [] → checking.Refuses (broken_unit tree) f
-      → Tells (check_fault.report f).number (check_fault.report f).name (check_fault.report f).at r → IsRefusal source r
+      → Reports (check_fault.report f).number (check_fault.report f).name (check_fault.report f).at r → IsRefusal source r
   in_owning : (f : OwnFault) (tree : UnitTree) → Spelled source tree → broken tree ≡ [] → broken_unit tree ≡ [] → owning.Refuses (ownership.broken tree) f
-      → Tells (own_fault.report f).number (own_fault.report f).name (own_fault.report f).at r → IsRefusal source r
-  too_large : (program : Accepted source) → IsTooLarge (program_meant program) → Tells 71 (codes "TooLarge") 0 r → IsRefusal source r
-  no_memory : (program : Accepted source) → Tells 72 (codes "Memory") 0 r → IsRefusal source r
+      → Reports (own_fault.report f).number (own_fault.report f).name (own_fault.report f).at r → IsRefusal source r
+  too_large : (program : Accepted source) → IsTooLarge (program_meant program) → Reports 71 (codes "TooLarge") 0 r → IsRefusal source r
+  no_memory : (program : Accepted source) → Reports 72 (codes "Memory") 0 r → IsRefusal source r

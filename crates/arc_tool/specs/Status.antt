@@ -1,11 +1,11 @@
 -- The status with which the program ends, and the line that it writes on standard error, which are this project's own choice.
 use Rattle.std.specs.Prelude.{◌≡◌, ◌⊎◌, ℕ, List, ◌++◌, codes, decimal}
 use Rattle.arc_code.specs.Faulty as faulty
-use Rattle.arc_machine.specs.Told as stopped
+use Rattle.arc_machine.specs.FaultNames as stopped
 use Rattle.arc_tool.specs.declared.refusal.Refusal.{Refusal}
 use Rattle.arc_tool.specs.declared.run.ToolFault.{ToolFault}
 use Rattle.arc_tool.specs.declared.run.ToolFault.TheVariants as tool_fault
-use Rattle.arc_tool.specs.Told.{Names}
+use Rattle.arc_tool.specs.Reports.{Names}
 use Rattle.arc_tool.specs.declared.report.Trouble.{Trouble}
 use Rattle.arc_tool.specs.declared.report.Trouble.TheVariants.{Usage, Refused, Memory, Fault, NoHeap, StepsUsed, Io, File}
 

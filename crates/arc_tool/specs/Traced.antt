@@ -23,7 +23,7 @@ use Rattle.arc_tool.specs.Compiled.{Compiles, class_names}
 use Rattle.arc_tool.specs.Lines.{trace_text, events_text, end_text, open_after}
 use Rattle.arc_tool.specs.Progress.{run_of, Takes, MakesObject, ReadsByte}
 use Rattle.arc_tool.specs.Refused.{IsRefusal}
-use Rattle.arc_tool.specs.Told.{Names}
+use Rattle.arc_tool.specs.Reports.{Names}
 
 -- the events that a machine has of a step, where it has made one since it had made so many
 abbrev pub new_events : {S : Type 0} → Seen S → (before : ℕ) → List Event
@@ -117,15 +117,15 @@ pub record BrokenOff (source : List ℕ) (steps : ℕ) (in0 in1 out0 out1 : Opti
   pub means : (rest : List ℕ) → Leaves in1 rest → Means run.left (run.earlier ++ run.last) (meant compiled.program (run.follows.taken ++ rest) (suc (suc run.made)))
 
 -- a text was written, or where the writer failed some first bytes of it
-abbrev pub Tells : List ℕ → (out0 out1 : Option (List ℕ)) → (writes0 writes1 : ℕ) → (writer_failed : Type 0) → Type 0
-Tells text o0 o1 w0 w1 failed = (answer : Result (Unit {0}) IoFault) × Written answer text o0 o1 w0 w1 failed
+abbrev pub Reports : List ℕ → (out0 out1 : Option (List ℕ)) → (writes0 writes1 : ℕ) → (writer_failed : Type 0) → Type 0
+Reports text o0 o1 w0 w1 failed = (answer : Result (Unit {0}) IoFault) × Written answer text o0 o1 w0 w1 failed
 
 -- The end of a text was written and passed on, and the answer is the run's; or the writer failed, and some first bytes of it were written. Where the reader
 -- failed before, that is the answer, whatever the writer does.
 abbrev pub EndsTrace : Left → (begun : Bool) → Result Stop ToolFault → (out0 out1 : Option (List ℕ)) → (writes0 writes1 : ℕ) → (writer_failed : Type 0) → Type 0
 EndsTrace (Stopped stop) begun (Ok answer) o0 o1 w0 w1 failed = (answer ≡ stop) × Written (Ok tt) (end_text begun (Stopped stop)) o0 o1 w0 w1 failed
 EndsTrace (Stopped stop) begun (Err (Io f)) o0 o1 w0 w1 failed = Written (Err f) (end_text begun (Stopped stop)) o0 o1 w0 w1 failed
-EndsTrace Unread begun (Err (Io Read)) o0 o1 w0 w1 failed = Tells (end_text begun Unread) o0 o1 w0 w1 failed
+EndsTrace Unread begun (Err (Io Read)) o0 o1 w0 w1 failed = Reports (end_text begun Unread) o0 o1 w0 w1 failed
 EndsTrace _ begun _ o0 o1 w0 w1 failed = ⊥
 
 -- What each answer says. The writer failed within the lines of the last step's events; or after the last step, with the text of a run that had stopped, or had
@@ -134,7 +134,7 @@ abbrev pub AnsweredTrace : List ℕ → (steps : ℕ) → Result Stop ToolFault 
 AnsweredTrace source steps (Err (Refused r)) i0 i1 o0 o1 w0 w1 failed = IsRefusal source r × (Names (codes "Memory") r → ⊥)
 AnsweredTrace source steps (Err Memory) i0 i1 o0 o1 w0 w1 failed = Unit {0}
 AnsweredTrace source steps (Err (Io Read)) i0 i1 o0 o1 w0 w1 failed =
-    (made : ℕ) × (text : List ℕ) × Within Unread made steps × Traced source made Unread i0 i1 text × Tells text o0 o1 w0 w1 failed
+    (made : ℕ) × (text : List ℕ) × Within Unread made steps × Traced source made Unread i0 i1 text × Reports text o0 o1 w0 w1 failed
 AnsweredTrace source steps (Err (Io Write)) i0 i1 o0 o1 w0 w1 failed =
     BrokenOff source steps i0 i1 o0 o1 w0 w1 failed
     ⊎ ((made : ℕ) × (stop : Stop) × (text : List ℕ) × Within (Stopped stop) made steps × Traced source made (Stopped stop) i0 i1 text × AppendsPart o0 o1 text)

@@ -5,7 +5,7 @@ ghost use Rattle.arc_code.specs.Attempts.{HasFailedToWrite};
 ghost use Rattle.arc_code.specs.Counting.{failures_of, inner_of, held_by};
 ghost use Rattle.arc_code.specs.Written.{Written};
 ghost use Rattle.arc_code.specs.Faulty as faulty;
-ghost use Rattle.arc_machine.specs.Told as stopped;
+ghost use Rattle.arc_machine.specs.FaultNames as stopped;
 ghost use Rattle.arc_tool.specs.Status.{status_of, line_of, message_of, named};
 ghost use Rattle.arc_code.specs.declared.code.IoFault.TheVariants as fault;
 
@@ -94,7 +94,7 @@ pub fn status(trouble: &Trouble) -> u8
 }
 
 /// Writes the trouble in one line. The error is a failure of the writer; then some of the first bytes are written.
-pub fn tell<E: Output>(trouble: &Trouble, errors: &mut Counted<E>) -> Result<(), IoFault>
+pub fn print_trouble<E: Output>(trouble: &Trouble, errors: &mut Counted<E>) -> Result<(), IoFault>
     requires { failures_of errors.old < 2 ^ 64 - 1 }
     ensures { Written result (line_of trouble.now)
         (held_by E.contents errors.old) (held_by E.contents errors.new)

@@ -6,7 +6,7 @@ ghost use Rattle.arc_tool.specs.declared.report.Trouble.{Trouble};
 ghost use Rattle.arc_tool.specs.Served.{Attempted, Blamed, Obeyed, Prints, Reported, Checks, Lists, WriterBlamed, source_or, ended_with};
 
 use crate::compile::compile;
-use crate::report::{Trouble, flush, put, status, tell};
+use crate::report::{Trouble, flush, print_trouble, put, status};
 use crate::request::{Command, Words, WordsFault};
 use crate::run::run_text;
 use crate::trace::trace_text;
@@ -37,7 +37,7 @@ pub fn serve<R: Input, W: Output, E: Output>(
 ) -> u8
     requires reads { failures_of input.old < 2 ^ 64 - 1 }
     requires writes { failures_of output.old < 2 ^ 64 - 1 }
-    requires tells { failures_of errors.old < 2 ^ 64 - 1 }
+    requires reports { failures_of errors.old < 2 ^ 64 - 1 }
     ensures { (answer : Result ℕ Trouble)
         × Attempted R.remaining W.contents (HasFailedToWrite W.writes W.flushes (inner_of output.new))
         words file.entry answer input.old input.new output.old output.new
@@ -58,7 +58,7 @@ fn report<E: Output>(trouble: &Trouble, errors: &mut Counted<E>) -> u8
     ensures { Reported E.contents (HasFailedToWrite E.writes E.flushes (inner_of errors.new))
         (Err trouble.now) result errors.old errors.new }
 {
-    match tell(trouble, errors) {
+    match print_trouble(trouble, errors) {
         Ok(()) => {
             let _ = flush(errors);
             status(trouble)

@@ -1,4 +1,4 @@
--- Variables of the whole program: the loop that reads them, and what tells them from a function.
+-- Variables of the whole program: the loop that reads them, and what reports them from a function.
 use Rattle.std.proofs.Common.{◌≡◌, List, [], ◌∷◌, ◌++◌, map as list_map, append_assoc, append-nil, Bool, true, false, ◌&&◌, ◌||◌, cond, Ok, Err, refl, sym, ◌∙◌}
 use Rattle.arc_lex.specs.Tokens.{Tok}
 use Rattle.arc_lex.specs.declared.token.Mark.TheVariants as m

@@ -5,7 +5,7 @@ mod source;
 
 use crate::source::read_source;
 use arc_code::counted::Counted;
-use arc_tool::report::{Trouble, status, tell};
+use arc_tool::report::{Trouble, print_trouble, status};
 use arc_tool::request::{Words, WordsFault};
 use arc_tool::serve::{FileFault, serve};
 use arc_tool::words::words;
@@ -34,7 +34,7 @@ fn main(rt: HostRuntime) -> ExitCode {
         BufReader::new(alloc, rt.stdin()),
         BufWriter::new(alloc, rt.stdout()),
     ) else {
-        let _ = tell(&Trouble::Memory, &mut errors);
+        let _ = print_trouble(&Trouble::Memory, &mut errors);
         return ExitCode::from(status(&Trouble::Memory));
     };
     let mut input = Counted::new(input);

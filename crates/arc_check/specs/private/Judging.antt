@@ -10,7 +10,7 @@ use Rattle.arc_check.specs.declared.format.Part.{Part}
 use Rattle.arc_check.specs.declared.judge.Judged.{Judged}
 use Rattle.arc_check.specs.declared.judge.Arguments.{Arguments}
 use Rattle.arc_check.specs.declared.taken.Taken.{Taken}
-use Rattle.arc_check.specs.Fault.{told}
+use Rattle.arc_check.specs.Fault.{reported}
 use Rattle.arc_check.specs.Formats.{fits}
 use Rattle.arc_check.specs.Passing.{wanted_by}
 use Rattle.arc_check.specs.Rules.{at_if, is_object, call_rule, kind_if, kind_of, kinds, is_assignable, broken_at, broken, broken_whole, broken_arguments, taken, unread, all_taken, unless_so}
@@ -50,26 +50,26 @@ other_rule Unknown arguments = Some 41
 pub record Judges (s : Scope) (before : Taken) (a : ExprTree) (judged : Judged) : Type 0 where
   pub kind : judged.kind ≡ kind_of s a
   pub class : option_map number_of_class judged.class ≡ class_of s a
-  pub fault : option_map told judged.fault ≡ first (broken s a)
+  pub fault : option_map reported judged.fault ≡ first (broken s a)
   pub taken : judged.taken ≡ counted before (taken s a)
   pub unread : is_assignable a ≡ true → judged.unread ≡ counted before (unread s a)
 
 -- the kind of a full-expression, and the first rule that is broken in it
 pub record JudgesWhole (s : Scope) (a : ExprTree) (judged : Judged) : Type 0 where
   pub kind : judged.kind ≡ kind_of s a
-  pub fault : option_map told judged.fault ≡ first (broken_whole s a)
+  pub fault : option_map reported judged.fault ≡ first (broken_whole s a)
 
 -- whether arguments suit these conversions, the first rule that is broken in them, where none may be a text, and how many objects are taken after them
 pub record JudgesAll (s : Scope) (before : Taken) (passed : Option (List Kind)) (wanted : List Part) (all : ExprTrees) (judged : Arguments) : Type 0 where
   pub fit : judged.fit ≡ fits wanted (kinds s all)
-  pub fault : option_map told judged.fault ≡ first (broken_arguments s passed false all)
+  pub fault : option_map reported judged.fault ≡ first (broken_arguments s passed false all)
   pub taken : judged.taken ≡ counted before (all_taken s all)
 
 -- the same of a call
 pub record JudgesCall (s : Scope) (before : Taken) (at : ℕ) (callee : Callee) (given : Option ℕ) (parameters : List Kind) (arguments : ExprTrees) (judged : Judged) : Type 0 where
   pub kind : judged.kind ≡ kind_if (is_none (call_rule callee arguments (kinds s arguments))) (result_kind callee)
   pub class : option_map number_of_class judged.class ≡ given
-  pub fault : option_map told judged.fault
+  pub fault : option_map reported judged.fault
       ≡ first (broken_at at (call_rule callee arguments (kinds s arguments)) ++ broken_arguments s (wanted_by callee parameters) (is_printf callee) arguments)
   pub taken : judged.taken
       ≡ counted before (at_if (is_object (kind_if (is_none (call_rule callee arguments (kinds s arguments))) (result_kind callee))) at ++ all_taken s arguments)

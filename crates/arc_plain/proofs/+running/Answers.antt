@@ -12,12 +12,12 @@ use Rattle.arc_spec.specs.Meaning.{referred, released, updated, given_by, field_
 use Rattle.arc_spec.specs.Resolved.{Updated, FieldUpdated, ObjectFieldStored, Function, no_arguments}
 use Rattle.arc_spec.specs.Objects.{object_at}
 use Rattle.arc_spec.specs.World.{World, Outcome, Done, then_do, Finished, name_at, takes}
-use Rattle.arc_plain.specs.Views.{world, given_of, answer_of, invoked, sent_to, Tells, deeper, flow_of, nothing_of, object_of, function_of, left_at, object_field_replaced}
-use Rattle.arc_plain.proofs.Calls.{call_told, body_failed, drop_failed, nothing_told, function_there, function_unwanted, function_absent, temporary_step, temporaries_fewer, no_temporary, variable_step, variable_failed, layer_done, layer_failed, emptied_is}
+use Rattle.arc_plain.specs.Views.{world, given_of, answer_of, invoked, sent_to, Reports, deeper, flow_of, nothing_of, object_of, function_of, left_at, object_field_replaced}
+use Rattle.arc_plain.proofs.Calls.{call_reported, body_failed, drop_failed, nothing_reported, function_there, function_unwanted, function_absent, temporary_step, temporaries_fewer, no_temporary, variable_step, variable_failed, layer_done, layer_failed, emptied_is}
 use Rattle.arc_plain.proofs.Keeping.{level_steady}
 use Rattle.arc_check.proofs.Trees.{is_print, is_invoked, is_sent, is_object_invoked, is_object_sent, is_sequence}
-use Rattle.arc_plain.proofs.Turns.{value_told, command_told, with_numbers, with_named, is_number, is_object, number_step, object_step, test_failed, turns_step, turns_left, turn_failed, turns_after_step, turns_after_left, turn_after_failed, call_is, end_is, level_classes, tells_through}
-use Rattle.arc_plain.proofs.Results.{number_invoked, number_sent, object_invoked, object_sent, number_told, number_failed, object_told, object_failed}
+use Rattle.arc_plain.proofs.Turns.{value_reported, command_reported, with_numbers, with_named, is_number, is_object, number_step, object_step, test_failed, turns_step, turns_left, turn_failed, turns_after_step, turns_after_left, turn_after_failed, call_is, end_is, level_classes, finds_through}
+use Rattle.arc_plain.proofs.Results.{number_invoked, number_sent, object_invoked, object_sent, number_reported, number_failed, object_reported, object_failed}
 use Rattle.arc_plain.proofs.Updates.{variable_stored, field_stored, variable_updated, field_updated, field_named}
 use Rattle.arc_plain.proofs.Weights.{print_lighter, call_lighter, sent_lighter, object_call_lighter, object_sent_lighter, sequence_lighter, number_lighter, object_lighter, receiver_counts, command_in, commands_weight, level_lighter, body_lighter}
 use Rattle.arc_plain.specs.declared.progress.Progress.{Progress}
@@ -26,7 +26,7 @@ use Rattle.arc_plain.proofs.+running.Goals as goal
 
 pub expression::evaluate-returns-in-Print : goal.expression::evaluate-returns-in-Print
 expression::evaluate-returns-in-Print t c =
-    value_told (deeper c.args.context.now) c.args.value.now _ c.evaluate_print.result (world c.args.progress.now) (world c.evaluate_print.new.progress)
+    value_reported (deeper c.args.context.now) c.args.value.now _ c.evaluate_print.result (world c.args.progress.now) (world c.evaluate_print.new.progress)
     (is_print c.args.value.now c.in-Print.pieces c.in-Print.arguments c.deref.result.now c.deref-in-Print.result.now c.in-Print.is c.deref.ensures.value c.deref-in-Print.ensures.value) c.evaluate_print.ensures
 
 pub expression::evaluate-returns-in_ok-answered-in-Invoked : goal.expression::evaluate-returns-in_ok-answered-in-Invoked
@@ -37,7 +37,7 @@ expression::evaluate-returns-in_ok-answered-in-Invoked t c =
     let a = c.in_ok-answered-in-Invoked.answered in
     let n = to_z w64 (of_z w64 a.number) in
     let same : n ≡ a.number = grind (arith, to_z-of_z) in
-    number_told (evaluated D (checked.value c.args.value.now) w) (invoked D gives.Number c.in-Invoked.function all w) a n (world c.invoke.new.progress)
+    number_reported (evaluated D (checked.value c.args.value.now) w) (invoked D gives.Number c.in-Invoked.function all w) a n (world c.invoke.new.progress)
     (number_invoked D c.args.value.now c.in-Invoked.function all w (is_invoked c.args.value.now c.in-Invoked.function c.in-Invoked.arguments c.deref-in-Invoked.result.now c.in-Invoked.is c.deref-in-Invoked.ensures.value))
     c.in_ok-answered-in-Invoked.ensures same
 
@@ -60,7 +60,7 @@ expression::evaluate-returns-in_ok-answered-in-Sent t c =
     let a = c.in_ok-answered-in-Sent.answered in
     let n = to_z w64 (of_z w64 a.number) in
     let same : n ≡ a.number = grind (arith, to_z-of_z) in
-    number_told (evaluated D (checked.value c.args.value.now) w) (sent_to D gives.Number receiver c.in-Sent.selector all w) a n (world c.send.new.progress)
+    number_reported (evaluated D (checked.value c.args.value.now) w) (sent_to D gives.Number receiver c.in-Sent.selector all w) a n (world c.send.new.progress)
     (number_sent D c.args.value.now receiver c.in-Sent.selector all w (is_sent c.args.value.now c.in-Sent.receiver c.in-Sent.selector c.in-Sent.arguments c.deref-in-Sent.result.now c.deref-in-Sent-2.result.now c.in-Sent.is c.deref-in-Sent.ensures c.deref-in-Sent-2.ensures.value))
     c.in_ok-answered-in-Sent.ensures same
 
@@ -88,7 +88,7 @@ expression::refer-returns-in_ok-answered-in-ObjectInvoked t c =
     let D = deeper c.args.context.now in
     let all = checked.arguments c.deref-in-ObjectInvoked.result.now in
     let w = world c.args.progress.now in
-    object_told (referred D (checked.reference c.args.reference.now) w) (invoked D gives.Object c.in-ObjectInvoked.function all w) c.in_ok-answered-in-ObjectInvoked.answered c.take-in-ObjectInvoked.result (world c.invoke.new.progress) (world c.take-in-ObjectInvoked.new.progress)
+    object_reported (referred D (checked.reference c.args.reference.now) w) (invoked D gives.Object c.in-ObjectInvoked.function all w) c.in_ok-answered-in-ObjectInvoked.answered c.take-in-ObjectInvoked.result (world c.invoke.new.progress) (world c.take-in-ObjectInvoked.new.progress)
     (object_invoked D c.args.reference.now c.in-ObjectInvoked.function all w (is_object_invoked c.args.reference.now c.in-ObjectInvoked.function c.in-ObjectInvoked.arguments c.deref-in-ObjectInvoked.result.now c.in-ObjectInvoked.is c.deref-in-ObjectInvoked.ensures.value))
     c.in_ok-answered-in-ObjectInvoked.ensures c.take-in-ObjectInvoked.ensures
 
@@ -108,7 +108,7 @@ expression::refer-returns-in_ok-answered-in-ObjectSent t c =
     let receiver = checked.receiver c.deref-in-ObjectSent.result.now in
     let all = checked.arguments c.deref-in-ObjectSent-2.result.now in
     let w = world c.args.progress.now in
-    object_told (referred D (checked.reference c.args.reference.now) w) (sent_to D gives.Object receiver c.in-ObjectSent.selector all w) c.in_ok-answered-in-ObjectSent.answered c.take-in-ObjectSent.result (world c.send.new.progress) (world c.take-in-ObjectSent.new.progress)
+    object_reported (referred D (checked.reference c.args.reference.now) w) (sent_to D gives.Object receiver c.in-ObjectSent.selector all w) c.in_ok-answered-in-ObjectSent.answered c.take-in-ObjectSent.result (world c.send.new.progress) (world c.take-in-ObjectSent.new.progress)
     (object_sent D c.args.reference.now receiver c.in-ObjectSent.selector all w (is_object_sent c.args.reference.now c.in-ObjectSent.receiver c.in-ObjectSent.selector c.in-ObjectSent.arguments c.deref-in-ObjectSent.result.now c.deref-in-ObjectSent-2.result.now c.in-ObjectSent.is c.deref-in-ObjectSent.ensures c.deref-in-ObjectSent-2.ensures.value))
     c.in_ok-answered-in-ObjectSent.ensures c.take-in-ObjectSent.ensures
 
@@ -135,8 +135,8 @@ expression::update_variable-returns-in_err-new t c =
     let rights : right ≡ c.in_ok-right.right = grind (arith, to_z-of_z) in
     let meant = variable_updated D u.moment u.operator u.computed u.kept c.args.location (checked.value c.args.operand.now) c.held-old.result c.in_ok-right.right old right w between olds rights c.held-old.ensures c.in_ok-right.ensures in
     let p = err_from_is_err_and c.from_residual-in_err-new.result c.from_residual-in_err-new.ensures.1 in
-    subst (λ r. Tells (λ n. n) r (evaluated D (Updated u.moment c.args.location u.operator u.computed u.kept (checked.value c.args.operand.now)) w) between) (sym (p.1 ∙ ap Err p.2))
-    (tells_through c.in_err-new.field-0.0 (λ n. n) (λ n. n) between (variable_stored D u.moment u.operator u.computed u.kept c.args.location old) (updated u.operator u.computed u.kept old right between) _ meant (c.in_err-new.ensures between))
+    subst (λ r. Reports (λ n. n) r (evaluated D (Updated u.moment c.args.location u.operator u.computed u.kept (checked.value c.args.operand.now)) w) between) (sym (p.1 ∙ ap Err p.2))
+    (finds_through c.in_err-new.field-0.0 (λ n. n) (λ n. n) between (variable_stored D u.moment u.operator u.computed u.kept c.args.location old) (updated u.operator u.computed u.kept old right between) _ meant (c.in_err-new.ensures between))
 
 pub expression::update_variable-returns : goal.expression::update_variable-returns
 expression::update_variable-returns t c =
@@ -174,8 +174,8 @@ expression::update_field-returns-in_err-new t c =
     let rights : right ≡ c.in_ok-right.right = grind (arith, to_z-of_z) in
     let meant = field_updated D u.moment u.operator u.computed u.kept c.args.class c.args.index (checked.reference c.args.object.now) (checked.value c.args.operand.now) r c.in_ok-old.old c.in_ok-right.right old right w found between olds rights c.in_ok-number.ensures c.in_ok-old.ensures c.in_ok-right.ensures in
     let p = err_from_is_err_and c.from_residual-in_err-new.result c.from_residual-in_err-new.ensures.1 in
-    subst (λ x. Tells (λ n. n) x (evaluated D (FieldUpdated u.moment (checked.reference c.args.object.now) c.args.class c.args.index u.operator u.computed u.kept (checked.value c.args.operand.now)) w) between) (sym (p.1 ∙ ap Err p.2))
-    (tells_through c.in_err-new.field-0.0 (λ n. n) (λ n. n) between (field_stored D u.moment u.operator u.computed u.kept r c.args.class c.args.index old) (updated u.operator u.computed u.kept old right between) _ meant (c.in_err-new.ensures between))
+    subst (λ x. Reports (λ n. n) x (evaluated D (FieldUpdated u.moment (checked.reference c.args.object.now) c.args.class c.args.index u.operator u.computed u.kept (checked.value c.args.operand.now)) w) between) (sym (p.1 ∙ ap Err p.2))
+    (finds_through c.in_err-new.field-0.0 (λ n. n) (λ n. n) between (field_stored D u.moment u.operator u.computed u.kept r c.args.class c.args.index old) (updated u.operator u.computed u.kept old right between) _ meant (c.in_err-new.ensures between))
 
 pub expression::update_field-returns-in_err-set_field : goal.expression::update_field-returns-in_err-set_field
 expression::update_field-returns-in_err-set_field t c =
@@ -195,8 +195,8 @@ expression::update_field-returns-in_err-set_field t c =
     let stored = field_stored D u.moment u.operator u.computed u.kept r c.args.class c.args.index old in
     let p = err_from_is_err_and c.from_residual-in_err-set_field.result c.from_residual-in_err-set_field.ensures.1 in
     let after = world c.set_field.new.progress in
-    subst (λ x. Tells (λ n. n) x (evaluated D (FieldUpdated u.moment (checked.reference c.args.object.now) c.args.class c.args.index u.operator u.computed u.kept (checked.value c.args.operand.now)) w) after) (sym (p.1 ∙ ap Err p.2))
-    (tells_through c.in_err-set_field.field-0.0 (λ n. n) (λ n. n) after (λ _ w1. Done (given_by u.moment old new) w1) (field_set D r c.args.class c.args.index new between) _
+    subst (λ x. Reports (λ n. n) x (evaluated D (FieldUpdated u.moment (checked.reference c.args.object.now) c.args.class c.args.index u.operator u.computed u.kept (checked.value c.args.operand.now)) w) after) (sym (p.1 ∙ ap Err p.2))
+    (finds_through c.in_err-set_field.field-0.0 (λ n. n) (λ n. n) after (λ _ w1. Done (given_by u.moment old new) w1) (field_set D r c.args.class c.args.index new between) _
     (meant ∙ ap (λ o. then_do o stored) (c.in_ok-new.ensures between) ∙ ap (λ n. stored n between) (sym news)) c.in_err-set_field.ensures)
 
 pub expression::update_field-returns : goal.expression::update_field-returns
@@ -225,7 +225,7 @@ expression::update_field-returns t c =
 
 pub statement::execute-returns-in-Sequence : goal.statement::execute-returns-in-Sequence
 statement::execute-returns-in-Sequence t c =
-    command_told (deeper c.args.context.now) c.args.context.now.bound c.args.command.now _ c.execute_block.result (world c.args.progress.now) (world c.execute_block.new.progress)
+    command_reported (deeper c.args.context.now) c.args.context.now.bound c.args.command.now _ c.execute_block.result (world c.args.progress.now) (world c.execute_block.new.progress)
     (is_sequence c.args.command.now c.in-Sequence.first c.in-Sequence.names c.in-Sequence.commands c.deref.result.now c.in-Sequence.is c.deref.ensures.value) c.execute_block.ensures
 
 pub statement::execute-execute_block-requires : goal.statement::execute-execute_block-requires
@@ -324,7 +324,7 @@ pub call::call-returns : goal.call::call-returns
 call::call-returns t c =
     let context = c.args.context.now in
     let one : context.levels ≡ suc (context.levels - 1) = omega (arith, c.if-context-eq0.false) in
-    subst (λ o. Tells answer_of c.enter.result o (world c.enter.new.progress))
+    subst (λ o. Reports answer_of c.enter.result o (world c.enter.new.progress))
     (sym (call_is (program_of context.program.now) context.bound context.levels (context.levels - 1) c.args.wanted c.args.function c.args.itself (given_of c.args.given.now) (world c.args.progress.now) one)) c.enter.ensures
 
 pub call::call-enter-requires : goal.call::call-enter-requires
@@ -381,7 +381,7 @@ call::enter-returns-in_default t c =
     let context = c.args.context.now in
     let all = c.deref.result.now in
     let past : length all ≤ c.args.function = ltb-false c.args.function (length all) (sym c.in_default.ensures.lookup.0) in
-    nothing_told (deeper context) context.bound c.args.itself c.args.wanted (given_of c.args.given.now) (world c.args.progress.now) (function_at (program_of context.program.now) c.args.wanted c.args.function) (answer_of c.object_given.result)
+    nothing_reported (deeper context) context.bound c.args.itself c.args.wanted (given_of c.args.given.now) (world c.args.progress.now) (function_at (program_of context.program.now) c.args.wanted c.args.function) (answer_of c.object_given.result)
     (function_absent context all c.args.wanted c.args.function c.deref.ensures.value past) c.object_given.ensures
 
 pub call::enter-returns-then-not-is_giving : goal.call::enter-returns-then-not-is_giving
@@ -390,7 +390,7 @@ call::enter-returns-then-not-is_giving t c =
     let all = c.deref.result.now in
     let below : c.args.function < length all = ltb-true c.args.function (length all) (sym c.in-Some.ensures.lookup.0) in
     let other : same_gives c.in-Some.entered.now.gives c.args.wanted ≡ false = sym c.is_giving.ensures ∙ c.if-not-is_giving.true in
-    nothing_told (deeper context) context.bound c.args.itself c.args.wanted (given_of c.args.given.now) (world c.args.progress.now) (function_at (program_of context.program.now) c.args.wanted c.args.function) (answer_of c.object_given-then-not-is_giving.result)
+    nothing_reported (deeper context) context.bound c.args.itself c.args.wanted (given_of c.args.given.now) (world c.args.progress.now) (function_at (program_of context.program.now) c.args.wanted c.args.function) (answer_of c.object_given-then-not-is_giving.result)
     (function_unwanted context all c.args.wanted c.args.function c.deref.ensures.value c.in-Some.entered.now below c.in-Some.ensures.lookup.1 other) c.object_given-then-not-is_giving.ensures
 
 pub call::enter-execute_all-requires : goal.call::enter-execute_all-requires
@@ -415,9 +415,9 @@ call::enter-returns-in_err-flow t c =
     let found : function_at P c.args.wanted c.args.function ≡ function_of f =
     function_there context all c.args.wanted c.args.function c.deref.ensures.value f below c.in-Some.ensures.lookup.1 (sym c.is_giving.ensures ∙ c.if-not-is_giving.false) in
     let p = err_from_is_err_and c.from_residual-in_err-flow.result c.from_residual-in_err-flow.ensures.1 in
-    let body : Tells flow_of (Err c.in_err-flow.field-0.0) (all_executed D context.bound (checked.commands f.body.items) w1) after =
-    subst (λ l. Tells flow_of (Err c.in_err-flow.field-0.0) (all_executed D context.bound (checked.commands l) w1) after) c.deref-2.ensures.value c.in_err-flow.ensures in
-    subst (λ (g : Function). Tells answer_of c.from_residual-in_err-flow.result (called D context.bound g c.args.itself (given_of c.args.given.now) w0) after) (sym found)
+    let body : Reports flow_of (Err c.in_err-flow.field-0.0) (all_executed D context.bound (checked.commands f.body.items) w1) after =
+    subst (λ l. Reports flow_of (Err c.in_err-flow.field-0.0) (all_executed D context.bound (checked.commands l) w1) after) c.deref-2.ensures.value c.in_err-flow.ensures in
+    subst (λ (g : Function). Reports answer_of c.from_residual-in_err-flow.result (called D context.bound g c.args.itself (given_of c.args.given.now) w0) after) (sym found)
     (body_failed D (level_steady P context.bound context.levels) context.bound (function_of f) c.args.itself (given_of c.args.given.now) w0 w1 c.in_ok-kept.ensures.world
     flow_of c.in_err-flow.field-0.0 c.from_residual-in_err-flow.result after (p.1 ∙ ap Err p.2) body)
 
@@ -438,7 +438,7 @@ call::enter-returns-in_err-drop_variables t c =
     let p = err_from_is_err_and c.from_residual-in_err-drop_variables.result c.from_residual-in_err-drop_variables.ensures.1 in
     let body : all_executed D context.bound (checked.commands f.body.items) w1 ≡ Done (flow_of c.in_ok-flow.flow) w2 =
     ap (λ l. all_executed D context.bound (checked.commands l) w1) (sym c.deref-2.ensures.value) ∙ c.in_ok-flow.ensures in
-    subst (λ (g : Function). Tells answer_of c.from_residual-in_err-drop_variables.result (called D context.bound g c.args.itself (given_of c.args.given.now) w0) after) (sym found)
+    subst (λ (g : Function). Reports answer_of c.from_residual-in_err-drop_variables.result (called D context.bound g c.args.itself (given_of c.args.given.now) w0) after) (sym found)
     (drop_failed D (level_steady P context.bound context.levels) context.bound (function_of f) c.args.itself (given_of c.args.given.now) w0 w1 c.in_ok-kept.ensures.world
     nothing_of (flow_of c.in_ok-flow.flow) w2 c.in_err-drop_variables.field-0.0 c.from_residual-in_err-drop_variables.result after body (p.1 ∙ ap Err p.2) c.in_err-drop_variables.ensures)
 
@@ -470,7 +470,7 @@ call::enter-returns t c =
     let object = c.name_at-object.result in
     let names : object ≡ name_at w3.frame.strong f.names = c.name_at-object.ensures ∙ ap (λ l. name_at l f.names) c.deref-3.ensures.value in
     subst (λ (g : Function). called D context.bound g c.args.itself (given_of c.args.given.now) w0 ≡ Done (record { number = number; object = object }) w4) (sym found)
-    (call_told D (level_steady P context.bound context.levels) context.bound (function_of f) c.args.itself (given_of c.args.given.now) w0 w1 c.in_ok-kept.ensures.world
+    (call_reported D (level_steady P context.bound context.levels) context.bound (function_of f) c.args.itself (given_of c.args.given.now) w0 w1 c.in_ok-kept.ensures.world
     w2 w3 w4 (flow_of c.in_ok-flow.flow) number object c.len-waiting.result old.items begun last body c.in_ok-drop_variables.ensures refl refl refl kept leaves (same ∙ c.number_of.ensures) names)
 
 pub call::end-returns-in_err-run_deallocs : goal.call::end-returns-in_err-run_deallocs
@@ -492,8 +492,8 @@ call::end-returns-in_err-run_deallocs t c =
     end_is P context.bound context.levels n o w one
     ∙ ap (λ x. then_do (deallocs_run P (level P context.bound n) context.bound (ancestry (superclasses P.classes) x) o (dying o (object_at w.objects o) w)) rest) (sym known)
     ∙ ap (λ v. then_do (deallocs_run P (level P context.bound n) context.bound (ancestry (superclasses P.classes) class) o v) rest) (sym c.in_ok-begin_end.ensures) in
-    subst (λ r. Tells nothing_of r whole after) (sym (p.1 ∙ ap Err p.2))
-    (tells_through c.in_err-run_deallocs.field-0.0 nothing_of nothing_of after rest (deallocs_run P (level P context.bound n) context.bound (ancestry (superclasses P.classes) class) o w1) whole meant c.in_err-run_deallocs.ensures)
+    subst (λ r. Reports nothing_of r whole after) (sym (p.1 ∙ ap Err p.2))
+    (finds_through c.in_err-run_deallocs.field-0.0 nothing_of nothing_of after rest (deallocs_run P (level P context.bound n) context.bound (ancestry (superclasses P.classes) class) o w1) whole meant c.in_err-run_deallocs.ensures)
 
 pub call::run_deallocs-loop-passed-init : goal.call::run_deallocs-loop-passed-init
 call::run_deallocs-loop-passed-init t c =
@@ -544,7 +544,7 @@ call::empty-returns t c =
     let known : Some class ≡ class_in (object_at w.objects o) = sym c.in-Some.is ∙ (c.class_of.ensures ∙ ap (λ l. class_in (object_at (map object_of l) o)) c.deref.ensures.value) in
     let meant = emptied_is (deeper context) (classes_of context.program.now.classes.items) o class (object_at w.objects o) c.deref-3.result.now w (world c.begin_emptying.new.progress)
     (level_classes P context.bound context.levels) known (c.deref-3.ensures.value ∙ c.in_ok-order.ensures ∙ ap (λ l. field_order (classes_of l) class) c.deref-2.ensures.value) c.begin_emptying.ensures in
-    subst (λ x. Tells nothing_of c.drop_fields.result x (world c.drop_fields.new.progress)) (sym meant) c.drop_fields.ensures
+    subst (λ x. Reports nothing_of c.drop_fields.result x (world c.drop_fields.new.progress)) (sym meant) c.drop_fields.ensures
 
 pub expression::evaluate_all-evaluate-requires : goal.expression::evaluate_all-evaluate-requires
 expression::evaluate_all-evaluate-requires t c =
@@ -598,9 +598,9 @@ expression::store_field-returns-in_err-replaced t c =
     let drop : Outcome Finished = then_do replaced (λ old w1. released D old w1) in
     let meant = field_named D c.args.class c.args.index a b r named w (world c.refer.new.progress) between c.in_ok-number.ensures c.in_ok-named.ensures in
     let p = err_from_is_err_and c.from_residual-in_err-replaced.result c.from_residual-in_err-replaced.ensures.1 in
-    let part : Tells nothing_of (Err e) drop after = tells_through e (λ n. n) nothing_of after (λ old w1. released D old w1) replaced drop refl c.in_err-replaced.ensures in
-    subst (λ x. Tells (λ n. n) x (referred D (ObjectFieldStored a c.args.class c.args.index b) w) after) (sym (p.1 ∙ ap Err p.2))
-    (tells_through e nothing_of (λ n. n) after (λ _ w1. Done named (takes named w1)) drop _ meant part)
+    let part : Reports nothing_of (Err e) drop after = finds_through e (λ n. n) nothing_of after (λ old w1. released D old w1) replaced drop refl c.in_err-replaced.ensures in
+    subst (λ x. Reports (λ n. n) x (referred D (ObjectFieldStored a c.args.class c.args.index b) w) after) (sym (p.1 ∙ ap Err p.2))
+    (finds_through e nothing_of (λ n. n) after (λ _ w1. Done named (takes named w1)) drop _ meant part)
 
 pub expression::store_field-returns-in_err-release : goal.expression::store_field-returns-in_err-release
 expression::store_field-returns-in_err-release t c =
@@ -619,8 +619,8 @@ expression::store_field-returns-in_err-release t c =
     field_named D c.args.class c.args.index a b r named w (world c.refer.new.progress) between c.in_ok-number.ensures c.in_ok-named.ensures
     ∙ ap (λ o. then_do (then_do o (λ old w1. released D old w1)) taken) c.in_ok-replaced.ensures in
     let p = err_from_is_err_and c.from_residual-in_err-release.result c.from_residual-in_err-release.ensures.1 in
-    subst (λ x. Tells (λ n. n) x (referred D (ObjectFieldStored a c.args.class c.args.index b) w) after) (sym (p.1 ∙ ap Err p.2))
-    (tells_through e nothing_of (λ n. n) after taken (released D c.in_ok-replaced.replaced stored) _ meant c.in_err-release.ensures)
+    subst (λ x. Reports (λ n. n) x (referred D (ObjectFieldStored a c.args.class c.args.index b) w) after) (sym (p.1 ∙ ap Err p.2))
+    (finds_through e nothing_of (λ n. n) after taken (released D c.in_ok-replaced.replaced stored) _ meant c.in_err-release.ensures)
 
 pub expression::store_field-returns : goal.expression::store_field-returns
 expression::store_field-returns t c =
@@ -636,7 +636,7 @@ expression::store_field-returns t c =
     field_named D c.args.class c.args.index a b r named w (world c.refer.new.progress) between c.in_ok-number.ensures c.in_ok-named.ensures
     ∙ ap (λ o. then_do (then_do o (λ old w1. released D old w1)) taken) c.in_ok-replaced.ensures
     ∙ ap (λ o. then_do o taken) c.in_ok-release.ensures in
-    subst (λ x. Tells (λ n. n) c.take.result x (world c.take.new.progress)) (sym meant) c.take.ensures
+    subst (λ x. Reports (λ n. n) c.take.result x (world c.take.new.progress)) (sym meant) c.take.ensures
 
-pub sending::send-tell-requires : goal.sending::send-tell-requires
-sending::send-tell-requires t c = (omega (arith, receiver_counts (checked.receiver c.args.receiver.now), c.decreases), tt)
+pub sending::send-send_to-requires : goal.sending::send-send_to-requires
+sending::send-send_to-requires t c = (omega (arith, receiver_counts (checked.receiver c.args.receiver.now), c.decreases), tt)

@@ -80,8 +80,8 @@ decreases-sending::send l = levels_left l.context.now + (2 + receiver_weight (ch
 abbrev pub decreases-sending::receive : goal.decreases-sending::receive
 decreases-sending::receive l = levels_left l.context.now + receiver_weight (checked.receiver l.receiver.now)
 
-abbrev pub decreases-sending::tell : goal.decreases-sending::tell
-decreases-sending::tell l = levels_left l.context.now + 2
+abbrev pub decreases-sending::send_to : goal.decreases-sending::send_to
+decreases-sending::send_to l = levels_left l.context.now + 2
 
 abbrev pub decreases-expression::store_field : goal.decreases-expression::store_field
 decreases-expression::store_field l = levels_left l.context.now + (3 + reference_weight (checked.reference l.object.now) + reference_weight (checked.reference l.operand.now))

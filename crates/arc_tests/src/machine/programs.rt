@@ -163,7 +163,7 @@ fn objects(rt: HostRuntime) -> Result<(), Fail> {
 }
 
 #[test]
-fn faults_are_told(rt: HostRuntime) {
+fn faults_are_reported(rt: HostRuntime) {
     let rows = [
         (Fault::Arithmetic, 81, "Arithmetic"),
         (Fault::Unrecognized, 82, "Unrecognized"),

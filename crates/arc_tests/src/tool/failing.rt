@@ -70,7 +70,7 @@ fn traced(alloc: Global, source: &[u8], writer: Narrow) -> Result<Left, AllocErr
     })
 }
 
-/// A writer that holds what it had room for of the text is told as the fault, once; one with room for it all isn't.
+/// A writer that holds what it had room for of the text is reported as the fault, once; one with room for it all isn't.
 /// Nothing is read after it failed.
 #[test]
 fn a_writer_that_fails(rt: HostRuntime) -> Result<(), Fail> {

@@ -74,7 +74,7 @@ fn long_sources(rt: HostRuntime) -> Result<(), Fail> {
 
 /// No test makes a code that is too large, which takes more than 16,777,216 actions.
 #[test]
-fn too_large_a_code_is_told(rt: HostRuntime) {
+fn too_large_a_code_is_reported(rt: HostRuntime) {
     let fault = EmitFault::TooLarge;
     assert_eq!(rt; (fault.number(), fault.name()), (71, "TooLarge"));
 }

@@ -2,9 +2,9 @@ use Rattle.std.proofs.Common.{◌≡◌, ◌+◌, ◌*◌, max, option_map, drop
 use Rattle.arc_ast.specs.declared.tree.Stmt.{size-Stmt}
 use Rattle.arc_ast.specs.Tree.{stmt_trees}
 use Rattle.arc_class.specs.Broken.{first, earlier_of}
-use Rattle.arc_check.specs.Fault.{told}
+use Rattle.arc_check.specs.Fault.{reported}
 use Rattle.arc_check.specs.Rules.{broken_stmts}
-use Rattle.arc_check.specs.Scopes.{behind_all}
+use Rattle.arc_check.specs.Scopes.{scope_after_all}
 use Rattle.arc_check.specs.private.Views.{seen}
 use Rattle.arc_check.proofs.body.+statements.Given as goal
 
@@ -24,10 +24,10 @@ decreases-block l = 4 * goal.size-block l + 2
 abbrev pub decreases-stepped : goal.decreases-stepped
 decreases-stepped l = 4 * max (size-Stmt l.beginning.now) (size-Stmt l.body.now) + 2
 
--- what is told so far and what is told of the rest is told of all, and the outer variables are there still
+-- what is reported so far and what is reported of the rest is reported of all, and the outer variables are there still
 abbrev pub invariant-statements-loop-one : goal.invariant-statements-loop-one
 invariant-statements-loop-one l = record {
-  fault : first (broken_stmts l.gives_nothing l.in_loop (seen l.table l.initial.visible) (stmt_trees l.all)) ≡ earlier_of (option_map told l.fault) (first (broken_stmts l.gives_nothing l.in_loop (seen l.table l.visible) (stmt_trees (drop l.one-index l.all))));
-  scope : behind_all (seen l.table l.initial.visible) (stmt_trees l.all) ≡ behind_all (seen l.table l.visible) (stmt_trees (drop l.one-index l.all));
+  fault : first (broken_stmts l.gives_nothing l.in_loop (seen l.table l.initial.visible) (stmt_trees l.all)) ≡ earlier_of (option_map reported l.fault) (first (broken_stmts l.gives_nothing l.in_loop (seen l.table l.visible) (stmt_trees (drop l.one-index l.all))));
+  scope : scope_after_all (seen l.table l.initial.visible) (stmt_trees l.all) ≡ scope_after_all (seen l.table l.visible) (stmt_trees (drop l.one-index l.all));
   keeps : take (length l.initial.visible.bound.items) l.visible.bound.items ≡ l.initial.visible.bound.items;
 }

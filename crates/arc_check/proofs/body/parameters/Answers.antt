@@ -1,10 +1,10 @@
 use Rattle.std.proofs.Common.{◌≡◌, ap, ◌∙◌, option_map}
 use Rattle.arc_ast.specs.Tree.{type_tree}
-use Rattle.arc_check.specs.Fault.{told}
+use Rattle.arc_check.specs.Fault.{reported}
 use Rattle.arc_check.specs.Scopes.{declare}
 use Rattle.arc_check.specs.private.Views.{seen}
 use Rattle.arc_check.proofs.Scoping.{parameters_turn}
-use Rattle.arc_check.proofs.Walks.{told_turn}
+use Rattle.arc_check.proofs.Walks.{reported_turn}
 use Rattle.arc_check.proofs.body.parameters.Goals as goal
 
 pub loop-parameter-preserved : goal.loop-parameter-preserved
@@ -18,6 +18,6 @@ loop-parameter-preserved c =
     let type = type_tree x.type_name in
     let after : new ≡ declare x.name.items type s = c.in_ok-declare.ensures.scope ∙ ap (λ n. declare n type s) c.deref.ensures.value in
     record {
-      fault = told_turn s new xs i x (option_map told c.loop-parameter.fault) (option_map told c.place_fault.result) (option_map told c.earlier-fault.result) _ c.loop-parameter-test.true c.parameter-item.is (c.place_fault.ensures table) after c.earlier-fault.ensures c.loop-parameter.invariant.fault;
+      fault = reported_turn s new xs i x (option_map reported c.loop-parameter.fault) (option_map reported c.place_fault.result) (option_map reported c.earlier-fault.result) _ c.loop-parameter-test.true c.parameter-item.is (c.place_fault.ensures table) after c.earlier-fault.ensures c.loop-parameter.invariant.fault;
       scope = parameters_turn xs i x s new _ c.loop-parameter-test.true c.parameter-item.is after c.loop-parameter.invariant.scope;
     }

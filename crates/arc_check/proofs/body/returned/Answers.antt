@@ -2,7 +2,7 @@ use Rattle.std.proofs.Common.{ℕ, [], ◌∷◌, Some, ap, option_map}
 use Rattle.arc_ast.specs.Tree.{expr_tree, place}
 use Rattle.arc_class.specs.Broken.{Broken}
 use Rattle.arc_class.proofs.Firsts.{first_both}
-use Rattle.arc_check.specs.Fault.{told}
+use Rattle.arc_check.specs.Fault.{reported}
 use Rattle.arc_check.specs.Rules.{broken_whole}
 use Rattle.arc_check.specs.private.Views.{seen}
 use Rattle.arc_check.proofs.body.returned.Goals as goal
@@ -14,4 +14,4 @@ pub returns-then-gives_nothing : goal.returns-then-gives_nothing
 returns-then-gives_nothing c =
     let s = seen c.args.table.now c.args.visible.now in
     let a = expr_tree c.in-Some.expr in
-    rw (c.if-gives_nothing.true, c.in-Some.is) (first_both (broken_whole s a) (mismatch (place a) ∷ []) (option_map told c.judge_whole-judged.result.fault) (Some (mismatch c.place.result)) (option_map told c.earlier.result) c.judge_whole-judged.ensures.fault (ap (λ at. Some (mismatch at)) c.place.ensures) c.earlier.ensures)
+    rw (c.if-gives_nothing.true, c.in-Some.is) (first_both (broken_whole s a) (mismatch (place a) ∷ []) (option_map reported c.judge_whole-judged.result.fault) (Some (mismatch c.place.result)) (option_map reported c.earlier.result) c.judge_whole-judged.ensures.fault (ap (λ at. Some (mismatch at)) c.place.ensures) c.earlier.ensures)

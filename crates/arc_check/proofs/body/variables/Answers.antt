@@ -1,6 +1,6 @@
 use Rattle.std.proofs.Common.{◌≡◌, ap, ◌∙◌, option_map}
 use Rattle.arc_ast.specs.Tree.{type_tree}
-use Rattle.arc_check.specs.Fault.{told}
+use Rattle.arc_check.specs.Fault.{reported}
 use Rattle.arc_check.specs.Scopes.{declare}
 use Rattle.arc_check.specs.private.Views.{seen}
 use Rattle.arc_check.proofs.Scoping.{keeps_turn}
@@ -18,7 +18,7 @@ loop-variable-preserved c =
     let new = seen table c.declare.new.self in
     let after : new ≡ declare x.name.items type s = c.in_ok-declare.ensures.scope ∙ ap (λ n. declare n type s) c.deref.ensures.value in
     record {
-      fault = variables_turn type s new xs i x (option_map told c.loop-variable.fault) (option_map told c.place_fault.result) (option_map told c.earlier-fault.result) (option_map told c.initial.result) (option_map told c.earlier-fault-in-loop-variable.result) _
+      fault = variables_turn type s new xs i x (option_map reported c.loop-variable.fault) (option_map reported c.place_fault.result) (option_map reported c.earlier-fault.result) (option_map reported c.initial.result) (option_map reported c.earlier-fault-in-loop-variable.result) _
           c.loop-variable-test.true c.variable-item.is (c.place_fault.ensures table) after c.earlier-fault.ensures c.initial.ensures c.earlier-fault-in-loop-variable.ensures c.loop-variable.invariant.fault;
       scope = with_turn type s new _ xs i x c.loop-variable-test.true c.variable-item.is after c.loop-variable.invariant.scope;
       keeps = keeps_turn c.args.visible.now.bound.items c.loop-variable.visible.bound.items c.declare.new.self.bound.items c.loop-variable.invariant.keeps c.in_ok-declare.ensures.keeps;

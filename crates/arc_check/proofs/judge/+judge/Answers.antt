@@ -3,7 +3,7 @@ use Rattle.arc_ast.specs.Tree.{expr_tree, expr_trees, type_tree, place}
 use Rattle.arc_ast.specs.Types.{type_kind}
 use Rattle.arc_class.specs.Broken.{first, earlier_of}
 use Rattle.arc_class.specs.Table.{number_of_class}
-use Rattle.arc_check.specs.Fault.{told}
+use Rattle.arc_check.specs.Fault.{reported}
 use Rattle.arc_check.specs.Formats.{wanted}
 use Rattle.arc_check.specs.declared.callee.Callee.TheVariants.{Printf}
 use Rattle.arc_check.specs.private.Judging.{Judges, JudgesCall, counted}
@@ -13,7 +13,7 @@ use Rattle.arc_check.specs.Scopes.{either_class, is_nil}
 use Rattle.arc_check.specs.private.Views.{kinds_wanted, seen}
 use Rattle.arc_check.proofs.Judgements.{judges_call, judges_send, judges_super, judges_unary, judges_cast, judges_arrow, judges_message, judges_super_message, judges_binary, judges_choice, judges_assign, judges_update, judges_other, fit_turn, fault_turn, taken_turn}
 use Rattle.arc_check.proofs.judge.+judge.Goals as goal
-use Rattle.arc_check.proofs.judge.+judge.Goals.{judge_arguments-then-told, judge_arguments-else-told}
+use Rattle.arc_check.proofs.judge.+judge.Goals.{judge_arguments-then-reported, judge_arguments-else-reported}
 
 pub judge-returns-in-Itself : goal.judge-returns-in-Itself
 judge-returns-in-Itself t c = rw c.in-Itself.is (c.judge_itself.ensures c.args.table.now)
@@ -82,7 +82,7 @@ judge_choice-returns t c = λ at.
 pub judge_unary-returns : goal.judge_unary-returns
 judge_unary-returns t c = λ at.
     judges_unary (seen c.args.table.now c.args.visible.now) c.args.before at c.args.operator (expr_tree c.args.operand.now) c.judge-judged.result c.number.result c.place.result c.judge-judged.ensures c.place.ensures (ap (λ j. j.kind) c.number.ensures ∙ c.unary_kind.ensures) (ap (λ j. j.class) c.number.ensures)
-    (ap (λ j. option_map told j.fault) c.number.ensures ∙ c.earlier.ensures ∙ ap (earlier_of (option_map told c.judge-judged.result.fault)) c.no_operand.ensures) (ap (λ j. j.taken) c.number.ensures)
+    (ap (λ j. option_map reported j.fault) c.number.ensures ∙ c.earlier.ensures ∙ ap (earlier_of (option_map reported c.judge-judged.result.fault)) c.no_operand.ensures) (ap (λ j. j.taken) c.number.ensures)
 
 pub judge_cast-returns : goal.judge_cast-returns
 judge_cast-returns t c = λ at.
@@ -90,7 +90,7 @@ judge_cast-returns t c = λ at.
     let same : Some c.kind.result ≡ Some (type_kind type) = ap Some c.kind.ensures in
     judges_cast (seen c.args.table.now c.args.visible.now) c.args.before at type (expr_tree c.args.operand.now) c.judge-judged.result
     (record { kind = Some c.kind.result; class = c.static_class.result; fault = c.earlier.result; taken = c.judge-judged.result.taken; unread = c.judge-judged.result.taken }) c.place.result c.judge-judged.ensures c.place.ensures same c.static_class.ensures
-    (c.earlier.ensures ∙ ap (earlier_of (option_map told c.judge-judged.result.fault)) (c.no_such.ensures ∙ ap (λ k. first (no_such k c.judge-judged.result.kind c.place.result)) same)) refl
+    (c.earlier.ensures ∙ ap (earlier_of (option_map reported c.judge-judged.result.fault)) (c.no_such.ensures ∙ ap (λ k. first (no_such k c.judge-judged.result.kind c.place.result)) same)) refl
 
 pub judge_arrow-returns : goal.judge_arrow-returns
 judge_arrow-returns t c = λ at.
@@ -113,22 +113,22 @@ judge_send-returns t c = λ at.
     let s = seen c.args.table.now visible in
     let args = expr_trees c.args.arguments.now in
     let passed = c.judge_arguments-passed.result in
-    let fault : option_map told passed.fault ≡ first (broken_arguments s (Some (s.known.passed (receiver_sign (option_map number_of_class c.class_receiver-class.result)) c.args.selector.now)) false args) =
+    let fault : option_map reported passed.fault ≡ first (broken_arguments s (Some (s.known.passed (receiver_sign (option_map number_of_class c.class_receiver-class.result)) c.args.selector.now)) false args) =
     c.judge_arguments-passed.ensures.fault ∙ ap (λ ks. first (broken_arguments s (Some ks) false args)) (c.parameters_passed.ensures ∙ ap (λ g. s.known.passed g c.args.selector.now) c.receiver_sign.ensures) in
     judges_message s c.args.before c.one_if-between.result at c.args.part (expr_tree c.args.receiver.now) c.args.selector.now args (option_map number_of_class c.class_receiver-class.result) c.judge-judged.result
-    (record { kind = c.message_kind-kind.result; class = c.sent_class.result; fault = c.earlier-2.result; taken = passed.taken; unread = passed.taken }) passed c.place.result (option_map told c.receiver_fault-own.result) (option_map told c.method_fault-unknown.result)
+    (record { kind = c.message_kind-kind.result; class = c.sent_class.result; fault = c.earlier-2.result; taken = passed.taken; unread = passed.taken }) passed c.place.result (option_map reported c.receiver_fault-own.result) (option_map reported c.method_fault-unknown.result)
     c.class_receiver-class.ensures c.judge-judged.ensures c.place.ensures (c.message_kind-kind.ensures visible) (c.receiver_fault-own.ensures) (c.method_fault-unknown.ensures c.args.table.now visible c.args.selector.now (c.message_kind-kind.ensures visible))
-    (c.one_if-between.ensures ∙ ap (λ b. counted c.judge-judged.result.taken (at_if b c.args.part)) c.is_object.ensures) fault c.judge_arguments-passed.ensures.taken c.sent_class.ensures (c.earlier-2.ensures ∙ ap (λ o. earlier_of o (option_map told passed.fault)) c.earlier.ensures) refl
+    (c.one_if-between.ensures ∙ ap (λ b. counted c.judge-judged.result.taken (at_if b c.args.part)) c.is_object.ensures) fault c.judge_arguments-passed.ensures.taken c.sent_class.ensures (c.earlier-2.ensures ∙ ap (λ o. earlier_of o (option_map reported passed.fault)) c.earlier.ensures) refl
 
 pub judge_super-returns : goal.judge_super-returns
 judge_super-returns t c = λ at.
     let s = seen c.args.table.now c.args.visible.now in
     let args = expr_trees c.args.arguments.now in
     let passed = c.judge_arguments-passed.result in
-    let fault : option_map told passed.fault ≡ first (broken_arguments s (Some (s.known.passed s.sign c.args.selector.now)) false args) =
+    let fault : option_map reported passed.fault ≡ first (broken_arguments s (Some (s.known.passed s.sign c.args.selector.now)) false args) =
     c.judge_arguments-passed.ensures.fault ∙ ap (λ ks. first (broken_arguments s (Some ks) false args)) c.parameters_passed.ensures in
     judges_super_message s c.args.before c.taken_by_super-between.result at c.args.part c.args.super_at c.args.selector.now args
-    (record { kind = c.super_kind-kind.result; class = c.super_class.result; fault = c.earlier.result; taken = passed.taken; unread = passed.taken }) passed (option_map told c.unknown_method.result) c.super_kind-kind.ensures c.super_class.ensures
+    (record { kind = c.super_kind-kind.result; class = c.super_class.result; fault = c.earlier.result; taken = passed.taken; unread = passed.taken }) passed (option_map reported c.unknown_method.result) c.super_kind-kind.ensures c.super_class.ensures
     c.unknown_method.ensures (c.taken_by_super-between.ensures c.args.table.now) fault c.judge_arguments-passed.ensures.taken c.earlier.ensures refl
 
 pub judge_call-returns-in-Printf : goal.judge_call-returns-in-Printf
@@ -142,7 +142,7 @@ pub judge_call-returns-in_default : goal.judge_call-returns-in_default
 judge_call-returns-in_default t c =
     let s = seen c.args.table.now c.args.visible.now in
     let all = expr_trees c.args.arguments.now in
-    let fault : option_map told c.judge_arguments-inside.result.fault ≡ first (broken_arguments s (Some (s.known.parameters c.args.name.now)) false all) =
+    let fault : option_map reported c.judge_arguments-inside.result.fault ≡ first (broken_arguments s (Some (s.known.parameters c.args.name.now)) false all) =
     c.judge_arguments-inside.ensures.fault ∙ ap (λ ks. first (broken_arguments s (Some ks) false all)) c.parameters.ensures in
     rw (sym c.callee_of-callee.ensures) (judges_other s c.args.before c.one_if-between.result c.args.at c.callee_of-callee.result (s.known.function_class c.args.name.now) (s.known.parameters c.args.name.now) c.args.arguments.now c.call_fault-own.result c.judge_arguments-inside.result c.called.result
     c.in_default.not-Printf c.call_fault-own.ensures (c.called.ensures.kind ∙ c.call_kind-kind.ensures ∙ ap (kind_if (is_none c.call_fault-own.result)) c.result_kind.ensures) (ap (option_map number_of_class) (c.called.ensures.class ∙ c.function_class.ensures)) c.called.ensures.fault
@@ -155,10 +155,10 @@ judge_arguments-loop-argument-preserved t c =
     let i = c.loop-argument.argument-index in
     let x = c.argument-item.result in
     let l : i < length xs = c.loop-argument-test.true in
-    let now : c.if-told.told ≡ (c.loop-argument.told.fit && c.take_conversion-fit.result.0) = elim c.if-told.branch [ judge_arguments-then-told w ↦ rw (w.told-is, w.if-told.true) refl | judge_arguments-else-told w ↦ rw (w.told-is, w.if-told.false) refl ] in
+    let now : c.if-reported.reported ≡ (c.loop-argument.reported.fit && c.take_conversion-fit.result.0) = elim c.if-reported.branch [ judge_arguments-then-reported w ↦ rw (w.reported-is, w.if-reported.true) refl | judge_arguments-else-reported w ↦ rw (w.reported-is, w.if-reported.false) refl ] in
     record {
-      fit = fit_turn s xs i x c.judge_argument-judged.result.kind (wanted c.loop-argument.rest.now) (wanted c.take_conversion-fit.result.1.now) c.loop-argument.told.fit c.take_conversion-fit.result.0 c.if-told.told _ l c.argument-item.is c.judge_argument-judged.ensures.kind
+      fit = fit_turn s xs i x c.judge_argument-judged.result.kind (wanted c.loop-argument.rest.now) (wanted c.take_conversion-fit.result.1.now) c.loop-argument.reported.fit c.take_conversion-fit.result.0 c.if-reported.reported _ l c.argument-item.is c.judge_argument-judged.ensures.kind
           c.take_conversion-fit.ensures c.loop-argument.invariant.fit now;
-      taken = taken_turn s xs i x c.loop-argument.told.taken c.judge_argument-judged.result.taken _ l c.argument-item.is c.judge_argument-judged.ensures.taken c.loop-argument.invariant.taken;
-      fault = fault_turn s (kinds_wanted c.loop-argument.parameters) c.first_wanted-wanted.result (kinds_wanted c.after_first-parameters.result) xs i x (option_map told c.loop-argument.told.fault) (option_map told c.judge_argument-judged.result.fault) (option_map told c.earlier.result) _ l c.argument-item.is c.first_wanted-wanted.ensures c.after_first-parameters.ensures c.judge_argument-judged.ensures.fault c.earlier.ensures c.loop-argument.invariant.fault;
+      taken = taken_turn s xs i x c.loop-argument.reported.taken c.judge_argument-judged.result.taken _ l c.argument-item.is c.judge_argument-judged.ensures.taken c.loop-argument.invariant.taken;
+      fault = fault_turn s (kinds_wanted c.loop-argument.parameters) c.first_wanted-wanted.result (kinds_wanted c.after_first-parameters.result) xs i x (option_map reported c.loop-argument.reported.fault) (option_map reported c.judge_argument-judged.result.fault) (option_map reported c.earlier.result) _ l c.argument-item.is c.first_wanted-wanted.ensures c.after_first-parameters.ensures c.judge_argument-judged.ensures.fault c.earlier.ensures c.loop-argument.invariant.fault;
     }

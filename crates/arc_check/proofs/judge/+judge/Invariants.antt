@@ -3,7 +3,7 @@ use denote.Param.Weighed.{most}
 use Rattle.arc_ast.specs.declared.tree.Expr.{size-Expr}
 use Rattle.arc_ast.specs.Tree.{expr_trees}
 use Rattle.arc_class.specs.Broken.{first, earlier_of}
-use Rattle.arc_check.specs.Fault.{told}
+use Rattle.arc_check.specs.Fault.{reported}
 use Rattle.arc_check.specs.Formats.{fits, wanted}
 use Rattle.arc_check.specs.private.Judging.{counted}
 use Rattle.arc_check.specs.Rules.{kinds, all_taken, broken_arguments}
@@ -50,12 +50,12 @@ decreases-judge_choice l = 8 * max (size-Expr l.test.now) (max (size-Expr l.firs
 abbrev pub decreases-judge_send : goal.decreases-judge_send
 decreases-judge_send l = 8 * max (size-Expr l.receiver.now) (most size-Expr l.arguments.now) + 3
 
--- what is told so far and what is told of the rest is told of all
+-- what is reported so far and what is reported of the rest is reported of all
 abbrev pub invariant-judge_arguments-loop-argument : goal.invariant-judge_arguments-loop-argument
 invariant-judge_arguments-loop-argument l =
     let s = seen l.table l.visible in
     record {
-      fit : fits (wanted l.format) (kinds s (expr_trees l.arguments)) ≡ (l.told.fit && fits (wanted l.rest) (kinds s (expr_trees (drop l.argument-index l.arguments))));
-      fault : first (broken_arguments s (kinds_wanted l.fn.passed) false (expr_trees l.arguments)) ≡ earlier_of (option_map told l.told.fault) (first (broken_arguments s (kinds_wanted l.parameters) false (expr_trees (drop l.argument-index l.arguments))));
-      taken : counted l.fn.before (all_taken s (expr_trees l.arguments)) ≡ counted l.told.taken (all_taken s (expr_trees (drop l.argument-index l.arguments)));
+      fit : fits (wanted l.format) (kinds s (expr_trees l.arguments)) ≡ (l.reported.fit && fits (wanted l.rest) (kinds s (expr_trees (drop l.argument-index l.arguments))));
+      fault : first (broken_arguments s (kinds_wanted l.fn.passed) false (expr_trees l.arguments)) ≡ earlier_of (option_map reported l.reported.fault) (first (broken_arguments s (kinds_wanted l.parameters) false (expr_trees (drop l.argument-index l.arguments))));
+      taken : counted l.fn.before (all_taken s (expr_trees l.arguments)) ≡ counted l.reported.taken (all_taken s (expr_trees (drop l.argument-index l.arguments)));
     }

@@ -4,10 +4,10 @@ use Rattle.arc_ast.specs.Tree.{expr_tree, stmt_tree, stmt_trees}
 use Rattle.arc_spec.specs.Resolved as spec
 use Rattle.arc_check.specs.Checked as checked
 use Rattle.arc_check.specs.Resolving.{nothing, number_in, resolved, resolved_stmt, resolved_stmts, stepped, tested}
-use Rattle.arc_check.specs.Scopes.{Scope, leave, behind, behind_all}
+use Rattle.arc_check.specs.Scopes.{Scope, leave, scope_after, scope_after_all}
 use Rattle.arc_check.specs.private.Views.{seen}
-use Rattle.arc_check.proofs.Commands.{commands_turn, commands_end, behind_turn, block_command, block_scope, choose_is, loop_command, repeat_is}
-use Rattle.arc_check.proofs.Leaving.{behind_same, behind_all_same, inner_same, leave_is}
+use Rattle.arc_check.proofs.Commands.{commands_turn, commands_end, after_turn, block_command, block_scope, choose_is, loop_command, repeat_is}
+use Rattle.arc_check.proofs.Leaving.{after_same, after_all_same, inner_same, leave_is}
 use Rattle.arc_check.proofs.Scoping.{keeps_turn, keeps_same}
 use Rattle.arc_check.proofs.Trees.{sequence_command}
 use Rattle.arc_check.proofs.program.+commands.Goals as goal
@@ -16,23 +16,23 @@ pub block-returns-clause-scope : goal.block-returns-clause-scope
 block-returns-clause-scope t c =
     let table = c.args.table.now in
     let old = c.args.visible.now in
-    leave_is table old c.commands.new.visible c.leave.new.self _ (behind_all_same (seen table old) (stmt_trees c.args.statements.now)) c.in_ok-all.ensures.scope
+    leave_is table old c.commands.new.visible c.leave.new.self _ (after_all_same (seen table old) (stmt_trees c.args.statements.now)) c.in_ok-all.ensures.scope
     (c.leave.ensures.bound ∙ ap (λ n. take n c.commands.new.visible.bound.items) (c.len-count.ensures ∙ old.bound.ok.0) ∙ c.in_ok-all.ensures.keeps) (record { next = c.leave.ensures.next; names = c.leave.ensures.names; class = c.leave.ensures.class; sign = c.leave.ensures.sign; gives = c.leave.ensures.gives; owns = c.leave.ensures.owns; hidden = c.leave.ensures.hidden })
 
 pub scoped-returns-clause-scope : goal.scoped-returns-clause-scope
 scoped-returns-clause-scope t c =
     let table = c.args.table.now in
     let old = c.args.visible.now in
-    leave_is table old c.command.new.visible c.leave.new.self _ (behind_same (seen table old) (stmt_tree c.args.inner.now)) c.in_ok-new.ensures.scope
+    leave_is table old c.command.new.visible c.leave.new.self _ (after_same (seen table old) (stmt_tree c.args.inner.now)) c.in_ok-new.ensures.scope
     (c.leave.ensures.bound ∙ ap (λ n. take n c.command.new.visible.bound.items) (c.len-count.ensures ∙ old.bound.ok.0) ∙ c.in_ok-new.ensures.keeps) (record { next = c.leave.ensures.next; names = c.leave.ensures.names; class = c.leave.ensures.class; sign = c.leave.ensures.sign; gives = c.leave.ensures.gives; owns = c.leave.ensures.owns; hidden = c.leave.ensures.hidden })
 
 pub block-returns-clause-command : goal.block-returns-clause-command
 block-returns-clause-command t c =
     let s = seen c.args.table.now c.args.visible.now in
     let all = stmt_trees c.args.statements.now in
-    let own : c.saturating_sub-own.result ≡ ((behind_all s all).names - s.names) = c.saturating_sub-own.ensures ∙ ap (λ n. n - c.from-first.result) (c.from.ensures ∙ c.leave.ensures.names ∙ ap (λ q. q.names) c.in_ok-all.ensures.scope) ∙ ap (λ n. (behind_all s all).names - n) c.from-first.ensures in
+    let own : c.saturating_sub-own.result ≡ ((scope_after_all s all).names - s.names) = c.saturating_sub-own.ensures ∙ ap (λ n. n - c.from-first.result) (c.from.ensures ∙ c.leave.ensures.names ∙ ap (λ q. q.names) c.in_ok-all.ensures.scope) ∙ ap (λ n. (scope_after_all s all).names - n) c.from-first.ensures in
     sequence_command c.from-first.result c.saturating_sub-own.result c.in_ok-all.all ∙ ap (λ n. spec.Sequence n c.saturating_sub-own.result (checked.commands c.in_ok-all.all.items)) c.from-first.ensures
-    ∙ ap (λ n. spec.Sequence s.names n (checked.commands c.in_ok-all.all.items)) own ∙ ap (spec.Sequence s.names ((behind_all s all).names - s.names)) c.in_ok-all.ensures.commands
+    ∙ ap (λ n. spec.Sequence s.names n (checked.commands c.in_ok-all.all.items)) own ∙ ap (spec.Sequence s.names ((scope_after_all s all).names - s.names)) c.in_ok-all.ensures.commands
 
 pub command-returns-in-Block-clause-command : goal.command-returns-in-Block-clause-command
 command-returns-in-Block-clause-command t c =
@@ -58,11 +58,11 @@ chosen-returns-clause-command t c =
     let then = stmt_tree c.args.then.now in
     let other = stmt_tree c.args.other.now in
     choose_is (checked.value c.into_inner.result) (number_in (resolved s (expr_tree c.args.condition.now))) (checked.command c.in_ok-then.then.value) (resolved_stmt s then) (checked.command c.in_ok-other.other.value)
-    (resolved_stmt (leave s (behind s then)) other) (ap checked.value c.into_inner.ensures ∙ c.in_ok-test.ensures) c.in_ok-then.ensures.command
+    (resolved_stmt (leave s (scope_after s then)) other) (ap checked.value c.into_inner.ensures ∙ c.in_ok-test.ensures) c.in_ok-then.ensures.command
     (c.in_ok-other.ensures.command ∙ ap (λ p. resolved_stmt p other) c.in_ok-then.ensures.scope)
 
 pub chosen-returns-clause-scope : goal.chosen-returns-clause-scope
-chosen-returns-clause-scope t c = c.in_ok-other.ensures.scope ∙ ap (λ p. leave p (behind p (stmt_tree c.args.other.now))) c.in_ok-then.ensures.scope
+chosen-returns-clause-scope t c = c.in_ok-other.ensures.scope ∙ ap (λ p. leave p (scope_after p (stmt_tree c.args.other.now))) c.in_ok-then.ensures.scope
 
 pub chosen-returns-clause-keeps : goal.chosen-returns-clause-keeps
 chosen-returns-clause-keeps t c = c.in_ok-other.ensures.keeps ∙ c.in_ok-then.ensures.keeps
@@ -102,7 +102,7 @@ stepped-returns-clause-command t c =
     let s = seen c.args.table.now c.args.visible.now in
     let a = stmt_tree c.args.beginning.now in
     let b = stmt_tree c.args.body.now in
-    let own = behind s a in
+    let own = scope_after s a in
     let test = option_map expr_tree c.args.test.now in
     let step = option_map expr_tree c.args.step.now in
     let count : c.saturating_sub-own.result ≡ (own.names - s.names) = c.saturating_sub-own.ensures ∙ ap (λ n. n - c.from-first.result) (c.from.ensures ∙ ap (λ q. q.names) c.in_ok-command.ensures.scope) ∙ ap (λ n. own.names - n) c.from-first.ensures in
@@ -117,9 +117,9 @@ stepped-returns-clause-scope t c =
     let s = seen table old in
     let a = stmt_tree c.args.beginning.now in
     let b = stmt_tree c.args.body.now in
-    let own = behind s a in
-    leave_is table old c.turns.new.visible c.leave.new.self (leave own (behind own b)) (inner_same s own (behind own b) (behind_same s a))
-    (c.in_ok-turns.ensures.scope ∙ ap (λ p. leave p (behind p b)) c.in_ok-command.ensures.scope)
+    let own = scope_after s a in
+    leave_is table old c.turns.new.visible c.leave.new.self (leave own (scope_after own b)) (inner_same s own (scope_after own b) (after_same s a))
+    (c.in_ok-turns.ensures.scope ∙ ap (λ p. leave p (scope_after p b)) c.in_ok-command.ensures.scope)
     (c.leave.ensures.bound ∙ ap (λ n. take n c.turns.new.visible.bound.items) (c.len-count.ensures ∙ old.bound.ok.0) ∙ ap (take (length old.bound.items)) c.in_ok-turns.ensures.keeps ∙ c.in_ok-command.ensures.keeps)
     (record { next = c.leave.ensures.next; names = c.leave.ensures.names; class = c.leave.ensures.class; sign = c.leave.ensures.sign; gives = c.leave.ensures.gives; owns = c.leave.ensures.owns; hidden = c.leave.ensures.hidden })
 
@@ -138,7 +138,7 @@ commands-loop-statement-preserved t c =
     let new = seen table c.command.new.visible in
     record {
       commands = commands_turn s new xs i x c.loop-statement.all.items c.push.new.self.items c.in_ok-command.field-0 _ c.loop-statement-test.true c.statement-item.is c.in_ok-command.ensures.scope c.in_ok-command.ensures.command c.in_ok-push.ensures.items c.loop-statement.invariant.commands;
-      scope = behind_turn s new _ xs i x c.loop-statement-test.true c.statement-item.is c.in_ok-command.ensures.scope c.loop-statement.invariant.scope;
+      scope = after_turn s new _ xs i x c.loop-statement-test.true c.statement-item.is c.in_ok-command.ensures.scope c.loop-statement.invariant.scope;
       keeps = keeps_turn c.args.visible.now.bound.items c.loop-statement.visible.bound.items c.command.new.visible.bound.items c.loop-statement.invariant.keeps c.in_ok-command.ensures.keeps;
     }
 

@@ -3,7 +3,7 @@ use Rattle.arc_ast.specs.declared.tree.Stmt.{size-Stmt}
 use Rattle.arc_ast.specs.Tree.{stmt_trees}
 use Rattle.arc_check.specs.private.Building.{ahead_of}
 use Rattle.arc_check.specs.Resolving.{resolved_stmts}
-use Rattle.arc_check.specs.Scopes.{behind_all}
+use Rattle.arc_check.specs.Scopes.{scope_after_all}
 use Rattle.arc_check.specs.private.Views.{seen}
 use Rattle.arc_check.proofs.program.+commands.Given as goal
 
@@ -42,6 +42,6 @@ decreases-stepped l = 4 * max (size-Stmt l.beginning.now) (size-Stmt l.body.now)
 abbrev pub invariant-commands-loop-statement : goal.invariant-commands-loop-statement
 invariant-commands-loop-statement l = record {
   commands : resolved_stmts (seen l.table l.initial.visible) (stmt_trees l.statements) ≡ ahead_of l.all.items (resolved_stmts (seen l.table l.visible) (stmt_trees (drop l.statement-index l.statements)));
-  scope : behind_all (seen l.table l.initial.visible) (stmt_trees l.statements) ≡ behind_all (seen l.table l.visible) (stmt_trees (drop l.statement-index l.statements));
+  scope : scope_after_all (seen l.table l.initial.visible) (stmt_trees l.statements) ≡ scope_after_all (seen l.table l.visible) (stmt_trees (drop l.statement-index l.statements));
   keeps : take (length l.initial.visible.bound.items) l.visible.bound.items ≡ l.initial.visible.bound.items;
 }

@@ -3,7 +3,7 @@ use Rattle.std.proofs.lemmas.List.{length-map}
 use Rattle.std.proofs.lemmas.Option.{slice_get_read}
 use Rattle.arc_class.specs.Lookups.{superclass_of_fields, own_field_in}
 use Rattle.arc_class.specs.Owners.{views, owner_by}
-use Rattle.arc_class.proofs.Chains.{tells_all}
+use Rattle.arc_class.proofs.Chains.{finds_all}
 use Rattle.arc_class.proofs.Nearests.{follows_none, one_more_class, field_turn}
 use Rattle.arc_class.proofs.nearest.field_owners.Goals as goal
 
@@ -31,8 +31,8 @@ loop-known-preserved c =
       follows = field_turn all old new known here c.loop-known.invariant.follows c.in_ok-add_class.ensures.added;
     }
 
-pub returns-clause-tells : goal.returns-clause-tells
-returns-clause-tells c =
+pub returns-clause-finds : goal.returns-clause-finds
+returns-clause-finds c =
     let all = c.args.classes.now in
     let few : length (views c.loop-known.owners) ≤ length (map superclass_of_fields all) = omega (arith, length-map all superclass_of_fields, c.loop-known.invariant.counted, c.loop-known.auto.known-index-end) in
-    tells_all (map superclass_of_fields all) (owner_by (λ class name. own_field_in (slice_get all class) name)) (views c.loop-known.owners) few c.loop-known.invariant.follows
+    finds_all (map superclass_of_fields all) (owner_by (λ class name. own_field_in (slice_get all class) name)) (views c.loop-known.owners) few c.loop-known.invariant.follows

@@ -3,7 +3,7 @@ use Rattle.std.proofs.lemmas.List.{length-map}
 use Rattle.std.proofs.lemmas.Option.{slice_get_read}
 use Rattle.arc_class.specs.Lookups.{superclass_of_entry, own_result_in}
 use Rattle.arc_class.specs.Owners.{views, owner_by}
-use Rattle.arc_class.proofs.Chains.{tells_all}
+use Rattle.arc_class.proofs.Chains.{finds_all}
 use Rattle.arc_class.proofs.Nearests.{follows_none, one_more_class, entry_turn}
 use Rattle.arc_class.proofs.nearest.method_owners.Goals as goal
 
@@ -30,8 +30,8 @@ loop-class-preserved c =
       follows = entry_turn all c.args.sign i old new entry c.loop-class.invariant.counted there c.requires c.loop-class.invariant.follows c.in_ok-add_entry.ensures.added;
     }
 
-pub returns-clause-tells : goal.returns-clause-tells
-returns-clause-tells c =
+pub returns-clause-finds : goal.returns-clause-finds
+returns-clause-finds c =
     let all = c.args.entries.now in
     let few : length (views c.loop-class.owners) ≤ length (map superclass_of_entry all) = omega (arith, length-map all superclass_of_entry, c.loop-class.invariant.counted, c.loop-class.auto.class-end) in
-    tells_all (map superclass_of_entry all) (owner_by (λ class selector. own_result_in class (slice_get all class) c.args.sign selector)) (views c.loop-class.owners) few c.loop-class.invariant.follows
+    finds_all (map superclass_of_entry all) (owner_by (λ class selector. own_result_in class (slice_get all class) c.args.sign selector)) (views c.loop-class.owners) few c.loop-class.invariant.follows

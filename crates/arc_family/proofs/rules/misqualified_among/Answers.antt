@@ -6,7 +6,7 @@ use Rattle.arc_ast.specs.Tree.{type_tree, parameter_trees}
 use Rattle.arc_ast.specs.Types.{type_kind}
 use Rattle.arc_fault.specs.declared.own.OwnFault.{OwnFault}
 use Rattle.arc_sites.specs.Violations.{first, at_if, violates}
-use Rattle.arc_family.specs.Fault.{told}
+use Rattle.arc_family.specs.Fault.{reported}
 use Rattle.arc_family.specs.Rules as rules
 use Rattle.arc_family.proofs.rules.misqualified_among.Goals as goal
 
@@ -21,14 +21,14 @@ from_here all i p l e =
     ap (λ us. rules.misqualified_among (parameter_trees us)) turn
 
 -- a fault is found of this one
-here : (fault : Option OwnFault) (broken : Bool) (at : ℕ) (rest : Option ℕ) → option_map told fault ≡ first (violates 67 (at_if broken at)) → is_some fault ≡ true
-    → option_map told fault ≡ first (violates 67 (if broken then Some at else rest))
+here : (fault : Option OwnFault) (broken : Bool) (at : ℕ) (rest : Option ℕ) → option_map reported fault ≡ first (violates 67 (at_if broken at)) → is_some fault ≡ true
+    → option_map reported fault ≡ first (violates 67 (if broken then Some at else rest))
 here fault true at rest e s = e
 here None false at rest e s = absurd (true≢false (sym s))
-here (Some f) false at rest e s = absurd (none-some (told f) (sym e))
+here (Some f) false at rest e s = absurd (none-some (reported f) (sym e))
 
 -- none is found
-not_here : (fault : Option OwnFault) (broken : Bool) (at : ℕ) (rest : Option ℕ) → option_map told fault ≡ first (violates 67 (at_if broken at)) → is_some fault ≡ false
+not_here : (fault : Option OwnFault) (broken : Bool) (at : ℕ) (rest : Option ℕ) → option_map reported fault ≡ first (violates 67 (at_if broken at)) → is_some fault ≡ false
     → (if broken then Some at else rest) ≡ rest
 not_here None true at rest e s = absurd (none-some _ e)
 not_here fault false at rest e s = refl

@@ -68,7 +68,7 @@ decreases-append_update l = suc (value_weight (value l.operand.now))
 abbrev pub decreases-append_differ : goal.decreases-append_differ
 decreases-append_differ l = suc (reference_weight (reference l.left.now) + reference_weight (reference l.right.now))
 
--- the actions of the arguments that are left come behind those so far
+-- the actions of the arguments that are left come after those so far
 abbrev pub invariant-append_arguments-loop-argument : goal.invariant-append_arguments-loop-argument
 invariant-append_arguments-loop-argument l = orders l.actions.items ++ argument_orders (program_of l.program) l.frame.slots l.frame.names l.operands (arguments (drop l.argument-index l.all))
     ≡ orders l.initial.actions.items ++ argument_orders (program_of l.program) l.frame.slots l.frame.names l.frame.operands (arguments l.all)

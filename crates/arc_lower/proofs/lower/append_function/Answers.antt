@@ -6,7 +6,7 @@ use Rattle.arc_check.specs.Checked.{commands, program_of}
 use Rattle.arc_lower.specs.Order.{order, orders}
 use Rattle.arc_lower.specs.Lowered.{leave_orders, body_orders, entry_of, object_parameters}
 use Rattle.arc_lower.specs.Heights.{height, between, heights, greatest}
-use Rattle.arc_lower.proofs.Appended.{slice_behind}
+use Rattle.arc_lower.proofs.Appended.{slice_after}
 use Rattle.arc_lower.proofs.Laying.{greatest_append}
 use Rattle.arc_lower.proofs.lower.append_function.Goals as goal
 
@@ -32,13 +32,13 @@ returns-clause-most c =
     let first : c.in_ok-most.field-0 ≡ greatest (heights P base left leave) most =
     c.in_ok-most.ensures
     ∙ ap (λ l. greatest (heights P c.between-base.result c.between-left.result l) most)
-    (slice_behind old.items middle.items c.deref.result.now c.len-exit.result leave (c.len-exit.ensures ∙ old.ok.0) c.deref.ensures.value leaves)
+    (slice_after old.items middle.items c.deref.result.now c.len-exit.result leave (c.len-exit.ensures ∙ old.ok.0) c.deref.ensures.value leaves)
     ∙ ap (λ b. greatest (heights P b c.between-left.result leave) most) base_is
     ∙ ap (λ h. greatest (heights P base h leave) most) (c.between-left.ensures ∙ ap (between c.in_ok-one_more.field-0) c.in_ok-names.ensures ∙ ap (λ n. between n count) c.in_ok-one_more.ensures) in
     let second : c.in_ok-most-2.field-0 ≡ greatest (heights P base entered body) c.in_ok-most.field-0 =
     c.in_ok-most-2.ensures
     ∙ ap (λ l. greatest (heights P c.between-base.result c.passed-entered.result l) c.in_ok-most.field-0)
-    (slice_behind middle.items c.append_body.new.actions.items c.deref-2.result.now c.len-entry.result body (c.len-entry.ensures ∙ middle.ok.0) c.deref-2.ensures.value (c.in_ok-append_body.ensures ∙ ap (λ l. orders middle.items ++ l) body_is))
+    (slice_after middle.items c.append_body.new.actions.items c.deref-2.result.now c.len-entry.result body (c.len-entry.ensures ∙ middle.ok.0) c.deref-2.ensures.value (c.in_ok-append_body.ensures ∙ ap (λ l. orders middle.items ++ l) body_is))
     ∙ ap (λ b. greatest (heights P b c.passed-entered.result body) c.in_ok-most.field-0) base_is
     ∙ ap (λ h. greatest (heights P base h body) c.in_ok-most.field-0) (c.passed-entered.ensures ∙ ap (λ n. height f.slots n 0 0) c.object_parameters-given.ensures) in
     second ∙ ap (greatest (heights P base entered body)) first ∙ sym (greatest_append (heights P base left leave) (heights P base entered body) most)

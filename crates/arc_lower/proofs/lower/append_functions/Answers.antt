@@ -36,7 +36,7 @@ loop-function-preserved c =
     let most = c.in_ok-append_function.ensures.most ∙ ap (λ l. greatest (function_heights P (length o) (record { slots = item.slots; names = item.names; parameters = item.parameters; gives = item.gives; owns = item.owns; body = l })) c.loop-function.most) body in
     laid_more P start c.args.entries.now.items c.args.most.now whole o c.loop-function.entries.items c.loop-function.most f left (orders c.append_function.new.actions.items) c.append_function.new.entries.items c.append_function.new.most before laid entries most
 
--- behind the last function
+-- after the last function
 finished : (c : goal.In_ok-append_function-3) → Laid (program_of c.args.program.now) (orders c.args.actions.now.items) c.args.entries.now.items c.args.most.now (functions c.deref-function-items.result.now ++ last_two) (orders c.append_function-3.new.actions.items) c.append_function-3.new.entries.items c.append_function-3.new.most []
 finished c =
     let P = program_of c.args.program.now in

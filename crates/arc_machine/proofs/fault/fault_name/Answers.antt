@@ -1,5 +1,5 @@
 use Rattle.std.proofs.Common.{ap, sym}
-use Rattle.arc_machine.specs.Told.{name_of}
+use Rattle.arc_machine.specs.FaultNames.{name_of}
 use Rattle.arc_machine.proofs.fault.fault_name.Goals as goal
 
 pub returns-in-Depth : goal.returns-in-Depth

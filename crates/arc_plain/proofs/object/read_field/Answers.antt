@@ -8,7 +8,7 @@ use Rattle.arc_check.specs.Checked.{program_of}
 use Rattle.arc_spec.specs.Classes.{classes_of, descends}
 use Rattle.arc_spec.specs.Objects.{object_at}
 use Rattle.arc_plain.specs.Views.{world, deeper, object_of}
-use Rattle.arc_plain.proofs.Objects.{read_other, read_told}
+use Rattle.arc_plain.proofs.Objects.{read_other, read_reported}
 use Rattle.arc_plain.proofs.Turns.{level_classes}
 use Rattle.arc_plain.proofs.object.read_field.Goals as goal
 
@@ -30,7 +30,7 @@ returns-in-Some-get c =
     let same : to_z w64 (of_z w64 field) ≡ field = grind (arith, to_z-of_z) in
     let there : slice_get all c.args.index ≡ Some field =
     slice_get_read all (length all) c.args.index field refl (ltb-true _ _ (sym c.in-Some-get.ensures.lookup.0)) c.in-Some-get.ensures.lookup.1 in
-    read_told (deeper context) (classes_of context.program.now.classes.items) c.args.number c.args.class c.args.index (to_z w64 (of_z w64 field)) (object_of o) (world c.args.progress.now)
+    read_reported (deeper context) (classes_of context.program.now.classes.items) c.args.number c.args.class c.args.index (to_z w64 (of_z w64 field)) (object_of o) (world c.args.progress.now)
     (level_classes (program_of context.program.now) context.bound context.levels)
     (ap (λ l. object_at (map object_of l) c.args.number) (sym c.deref.ensures.value) ∙ c.in-Some.ensures)
     (ap (λ l. descends (classes_of l) (Some o.class) c.args.class) (sym c.deref-2.ensures.value) ∙ sym c.descends_from.ensures ∙ c.if-not-descends_from.false)
@@ -41,7 +41,7 @@ returns-in-None c =
     let context = c.args.context.now in
     let o = c.in-Some.object.now in
     let all = c.deref-3.result.now in
-    read_told (deeper context) (classes_of context.program.now.classes.items) c.args.number c.args.class c.args.index (pos 0) (object_of o) (world c.args.progress.now)
+    read_reported (deeper context) (classes_of context.program.now.classes.items) c.args.number c.args.class c.args.index (pos 0) (object_of o) (world c.args.progress.now)
     (level_classes (program_of context.program.now) context.bound context.levels)
     (ap (λ l. object_at (map object_of l) c.args.number) (sym c.deref.ensures.value) ∙ c.in-Some.ensures)
     (ap (λ l. descends (classes_of l) (Some o.class) c.args.class) (sym c.deref-2.ensures.value) ∙ sym c.descends_from.ensures ∙ c.if-not-descends_from.false)

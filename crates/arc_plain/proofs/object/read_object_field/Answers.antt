@@ -5,7 +5,7 @@ use Rattle.arc_spec.specs.Meaning.{object_field_read}
 use Rattle.arc_spec.specs.Objects as objects
 use Rattle.arc_spec.specs.Objects.{object_at}
 use Rattle.arc_spec.specs.World.{Done, takes, name_at}
-use Rattle.arc_plain.specs.Views.{world, deeper, object_of, Tells}
+use Rattle.arc_plain.specs.Views.{world, deeper, object_of, Reports}
 use Rattle.arc_plain.proofs.Objects.{in_other_class, in_own_class}
 use Rattle.arc_plain.proofs.Turns.{level_classes}
 use Rattle.arc_plain.proofs.object.read_object_field.Goals as goal
@@ -35,4 +35,4 @@ returns c =
     (ap (λ l. object_at (map object_of l) c.args.number) (sym c.deref.ensures.value) ∙ c.in-Some.ensures)
     (ap (λ l. descends (classes_of l) (Some o.class) c.args.class) (sym c.deref-2.ensures.value) ∙ sym c.descends_from.ensures ∙ c.if-not-descends_from.false)
     ∙ ap (λ n. Done n (takes n w)) (sym named) in
-    subst (λ x. Tells (λ n. n) c.take.result x after) (sym meant) c.take.ensures
+    subst (λ x. Reports (λ n. n) c.take.result x after) (sym meant) c.take.ensures

@@ -9,7 +9,7 @@ use Rattle.arc_spec.specs.Objects.{object_at}
 use Rattle.arc_spec.specs.World.{Done, Faulted, name_at}
 use Rattle.arc_spec.specs.declared.event.Fault.TheVariants.{Resurrected}
 use Rattle.arc_plain.specs.Views.{world, deeper, object_of, field_replaced}
-use Rattle.arc_plain.proofs.Objects.{in_other_class, in_own_class, replaced_told}
+use Rattle.arc_plain.proofs.Objects.{in_other_class, in_own_class, replaced_reported}
 use Rattle.arc_plain.proofs.Turns.{level_classes}
 use Rattle.arc_plain.proofs.object.replace_object_field.Goals as goal
 
@@ -39,7 +39,7 @@ pub returns : goal.returns
 returns c =
     let context = c.args.context.now in
     let o = c.in-Some.object.now in
-    replaced_told (deeper context) (classes_of context.program.now.classes.items) c.args.number c.args.class c.args.index c.args.named (object_of o) (world c.args.progress.now)
+    replaced_reported (deeper context) (classes_of context.program.now.classes.items) c.args.number c.args.class c.args.index c.args.named (object_of o) (world c.args.progress.now)
     (map object_of c.deref_mut.result.now) (map object_of (with_items c.args.progress.now.objects c.replace_field.new.objects).items) c.replace_field.result
     (level_classes (program_of context.program.now) context.bound context.levels)
     (ap (λ l. object_at (map object_of l) c.args.number) (sym c.deref.ensures.value) ∙ c.in-Some.ensures)

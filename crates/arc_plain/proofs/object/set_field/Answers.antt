@@ -7,7 +7,7 @@ use Rattle.arc_spec.specs.Classes.{classes_of, descends}
 use Rattle.arc_spec.specs.Meaning.{class_in}
 use Rattle.arc_spec.specs.Objects.{object_at}
 use Rattle.arc_plain.specs.Views.{world, deeper, object_of}
-use Rattle.arc_plain.proofs.Objects.{set_other, set_told}
+use Rattle.arc_plain.proofs.Objects.{set_other, set_reported}
 use Rattle.arc_plain.proofs.Turns.{level_classes}
 use Rattle.arc_plain.proofs.object.set_field.Goals as goal
 
@@ -23,7 +23,7 @@ pub returns : goal.returns
 returns c =
     let context = c.args.context.now in
     let same : to_z w64 (of_z w64 c.args.value) ≡ c.args.value = grind (arith, to_z-of_z) in
-    set_told (deeper context) (classes_of context.program.now.classes.items) c.args.number c.args.class c.args.index c.in-Some.own c.args.value (to_z w64 (of_z w64 c.args.value)) (world c.args.progress.now)
+    set_reported (deeper context) (classes_of context.program.now.classes.items) c.args.number c.args.class c.args.index c.in-Some.own c.args.value (to_z w64 (of_z w64 c.args.value)) (world c.args.progress.now)
     (map object_of c.deref_mut.result.now) (map object_of (with_items c.args.progress.now.objects c.write_field.new.objects).items)
     (level_classes (program_of context.program.now) context.bound context.levels)
     (sym c.in-Some.is ∙ (c.class_of.ensures ∙ ap (λ l. class_in (object_at (map object_of l) c.args.number)) c.deref.ensures.value))

@@ -8,6 +8,6 @@ pub returns-in-Ok : goal.returns-in-Ok
 returns-in-Ok g c =
     let held = held_by g.E.Output.contents in
     let failed = HasFailedToWrite g.E.Output.writes g.E.Output.flushes (inner_of c.flush.new.writer) in
-    let all = and_flushed c.flush.result (line_of c.args.trouble.now) (held c.args.errors.now) (held c.tell.new.errors) (held c.flush.new.writer)
-    (failures_of c.args.errors.now) (failures_of c.tell.new.errors) (failures_of c.flush.new.writer) failed c.in-Ok.ensures c.flush.ensures.kept c.flush.ensures.fine c.flush.ensures.cause c.flush.ensures.failed in
+    let all = and_flushed c.flush.result (line_of c.args.trouble.now) (held c.args.errors.now) (held c.print_trouble.new.errors) (held c.flush.new.writer)
+    (failures_of c.args.errors.now) (failures_of c.print_trouble.new.errors) (failures_of c.flush.new.writer) failed c.in-Ok.ensures c.flush.ensures.kept c.flush.ensures.fine c.flush.ensures.cause c.flush.ensures.failed in
     (c.status.ensures, all)

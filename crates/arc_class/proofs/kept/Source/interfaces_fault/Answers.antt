@@ -3,7 +3,7 @@ use Rattle.arc_ast.specs.Tree.{unit_tree, interface_tree, interface_trees}
 use Rattle.arc_class.specs.Walk.{and_name, holds}
 use Rattle.arc_class.specs.Broken.{first}
 use Rattle.arc_class.specs.ClassRules.{broken_names, broken_members, broken_interface}
-use Rattle.arc_class.specs.Fault.{told}
+use Rattle.arc_class.specs.Fault.{reported}
 use Rattle.arc_class.proofs.Firsts.{first_both}
 use Rattle.arc_class.proofs.Rules.{interfaces_turn, interfaces_held, interfaces_before, interfaces_count}
 use Rattle.arc_class.proofs.Scopes.{holds-more}
@@ -30,7 +30,7 @@ loop-interface-preserved c =
     let more : holds c.insert.new.self ≡ and_name x.name.items old =
     holds-more c.deref.result.now c.loop-interface.before c.insert.new.self c.in_ok-insert.ensures.updates ∙ ap (λ n. and_name n old) c.deref.ensures.value in
     let number : c.loop-interface.class + 1 ≡ suc (length before) = omega (arith, c.loop-interface.invariant.counted, interfaces_before xs k within) in
-    let one : option_map told c.earlier-own.result ≡ first (broken_interface u before i) =
+    let one : option_map reported c.earlier-own.result ≡ first (broken_interface u before i) =
     first_both (broken_names u before i) (broken_members u (suc (length before)) i) _ _ _
     (c.names_fault.ensures before c.loop-interface.invariant.held) (c.in_ok-members.ensures ∙ ap (λ n. first (broken_members u n i)) number) c.earlier-own.ensures in
     record {

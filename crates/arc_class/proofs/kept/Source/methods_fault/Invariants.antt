@@ -4,14 +4,14 @@ use Rattle.arc_ast.specs.Tree.{unit_tree, method_trees}
 use Rattle.arc_class.specs.Broken.{first, earlier_of}
 use Rattle.arc_class.specs.ClassRules.{broken_methods}
 use Rattle.arc_class.specs.Classes.{heads, first_head}
-use Rattle.arc_class.specs.Fault.{told}
+use Rattle.arc_class.specs.Fault.{reported}
 use Rattle.arc_class.specs.Kept.{head_in}
 use Rattle.arc_class.proofs.kept.Source.methods_fault.Given as goal
 
--- what is told so far and what is told of the rest is told of all
+-- what is reported so far and what is reported of the rest is reported of all
 abbrev pub invariant-loop-method : goal.invariant-loop-method
 invariant-loop-method l = record {
   fault : first (broken_methods (unit_tree l.self.unit.now) [] (method_trees l.methods))
-      ≡ earlier_of (option_map told l.fault) (first (broken_methods (unit_tree l.self.unit.now) (heads (method_trees (take l.method-index l.methods))) (method_trees (drop l.method-index l.methods))));
+      ≡ earlier_of (option_map reported l.fault) (first (broken_methods (unit_tree l.self.unit.now) (heads (method_trees (take l.method-index l.methods))) (method_trees (drop l.method-index l.methods))));
   held : (sign : Sign) (selector : List ℕ) → head_in l.before sign selector ≡ first_head sign selector (heads (method_trees (take l.method-index l.methods)));
 }

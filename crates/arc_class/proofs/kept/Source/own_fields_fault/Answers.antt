@@ -20,6 +20,6 @@ returns c =
     let above : c.class_number-above.result ≡ class_number u.interfaces i.superclass.items =
     c.class_number-above.ensures ∙ ap (class_number_in source.names) c.deref.ensures.value ∙ class_number_kept source.names u.interfaces i.superclass.items (c.requires.knows.class_places i.superclass.items) in
     first_both (broken_fields u c.class_number-above.result all xs) (broken_fields u c.class_number-above.result all ys) _ _ _
-    (c.fields_fault-before.ensures u all c.requires.fields c.in_ok-places.ensures) (c.fields_fault-behind.ensures u all c.requires.fields c.in_ok-places.ensures) c.earlier.ensures
+    (c.fields_fault-before.ensures u all c.requires.fields c.in_ok-places.ensures) (c.fields_fault-later_on.ensures u all c.requires.fields c.in_ok-places.ensures) c.earlier.ensures
     ∙ ap first (sym (broken_fields-append u c.class_number-above.result all xs ys)) ∙ ap (λ s. first (broken_fields u s all all)) above
     ∙ ap (λ fs. first (broken_fields u (class_number u.interfaces i.superclass.items) fs fs)) c.own_fields-own.ensures

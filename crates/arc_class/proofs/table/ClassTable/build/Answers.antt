@@ -4,12 +4,12 @@ use Rattle.arc_ast.specs.Tree.{unit_tree, function_trees}
 use Rattle.arc_class.specs.declared.fields.ClassFields.{ClassFields}
 use Rattle.arc_class.specs.Broken.{first}
 use Rattle.arc_class.specs.ClassRules.{broken}
-use Rattle.arc_class.specs.Fault.{told}
+use Rattle.arc_class.specs.Fault.{reported}
 use Rattle.arc_class.specs.Look.{Sums}
 use Rattle.arc_class.specs.Names.{number_of, is_main}
-use Rattle.arc_class.specs.Owners.{TellsFields}
+use Rattle.arc_class.specs.Owners.{FindsFields}
 use Rattle.arc_class.specs.Table.{IsTableOf}
-use Rattle.arc_class.proofs.Answering.{in_classes, refuses, whole_known, nothing, walked_kept, own_known, main_told}
+use Rattle.arc_class.proofs.Answering.{in_classes, refuses, whole_known, nothing, walked_kept, own_known, main_reported}
 use Rattle.arc_class.proofs.table.ClassTable.build.Goals as goal
 
 pub class_fields-requires : goal.class_fields-requires
@@ -26,13 +26,13 @@ of-requires-clause-main c = ap (λ t. number_of is_main (unit_tree t).functions)
 
 pub classes_fault-requires-clause-owners : goal.classes_fault-requires-clause-owners
 classes_fault-requires-clause-owners c =
-    let Told : List ClassFields → Type 0 = λ fields. TellsFields fields c.in_ok-owners.owners in
-    subst Told (c.deref-2.ensures.value ∙ sym c.deref-3.ensures.value) c.in_ok-owners.ensures.tells
+    let Found : List ClassFields → Type 0 = λ fields. FindsFields fields c.in_ok-owners.owners in
+    subst Found (c.deref-2.ensures.value ∙ sym c.deref-3.ensures.value) c.in_ok-owners.ensures.finds
 
 pub of-requires-clause-owners : goal.of-requires-clause-owners
 of-requires-clause-owners c =
-    let Told : List ClassFields → Type 0 = λ fields. TellsFields fields c.in_ok-owners.owners in
-    subst Told c.deref-2.ensures.value c.in_ok-owners.ensures.tells
+    let Found : List ClassFields → Type 0 = λ fields. FindsFields fields c.in_ok-owners.owners in
+    subst Found c.deref-2.ensures.value c.in_ok-owners.ensures.finds
 
 pub returns-in-Some-default-clause-refused : goal.returns-in-Some-default-clause-refused
 returns-in-Some-default-clause-refused c =
@@ -40,12 +40,12 @@ returns-in-Some-default-clause-refused c =
     let seen = c.in_ok-seen.seen in
     let source = c.in_ok-source.source in
     let sums : Sums u.functions seen = rw c.deref.ensures.value at c.in_ok-seen.ensures in
-    let inside = walked_kept u source (option_map told c.in_ok-walk.field-0) c.in_ok-source.ensures.knows c.in_ok-walk.ensures in
-    let classes : option_map told c.in_ok-classes.classes ≡ first (in_classes u) = c.in_ok-classes.ensures ∙ ap (λ t. first (in_classes (unit_tree t))) c.in_ok-source.ensures.unit in
-    let whole : option_map told c.earlier.result ≡ first (broken u) =
-    whole_known u seen (option_map told c.earlier-own.result) (option_map told c.in_ok-walk.field-0) (option_map told c.missing_main.result) (option_map told c.earlier-functions.result) (option_map told c.in_ok-classes.classes) (option_map told c.earlier.result)
+    let inside = walked_kept u source (option_map reported c.in_ok-walk.field-0) c.in_ok-source.ensures.knows c.in_ok-walk.ensures in
+    let classes : option_map reported c.in_ok-classes.classes ≡ first (in_classes u) = c.in_ok-classes.ensures ∙ ap (λ t. first (in_classes (unit_tree t))) c.in_ok-source.ensures.unit in
+    let whole : option_map reported c.earlier.result ≡ first (broken u) =
+    whole_known u seen (option_map reported c.earlier-own.result) (option_map reported c.in_ok-walk.field-0) (option_map reported c.missing_main.result) (option_map reported c.earlier-functions.result) (option_map reported c.in_ok-classes.classes) (option_map reported c.earlier.result)
     sums c.missing_main.ensures c.earlier-own.ensures inside c.earlier-functions.ensures classes c.earlier.ensures in
-    refuses (broken u) c.in-Some-default.fault (sym whole ∙ ap (option_map told) c.in-Some-default.is-0)
+    refuses (broken u) c.in-Some-default.fault (sym whole ∙ ap (option_map reported) c.in-Some-default.is-0)
 
 pub returns-in-None-Some-clause-unbroken : goal.returns-in-None-Some-clause-unbroken
 returns-in-None-Some-clause-unbroken c =
@@ -53,12 +53,12 @@ returns-in-None-Some-clause-unbroken c =
     let seen = c.in_ok-seen.seen in
     let source = c.in_ok-source.source in
     let sums : Sums u.functions seen = rw c.deref.ensures.value at c.in_ok-seen.ensures in
-    let inside = walked_kept u source (option_map told c.in_ok-walk.field-0) c.in_ok-source.ensures.knows c.in_ok-walk.ensures in
-    let classes : option_map told c.in_ok-classes.classes ≡ first (in_classes u) = c.in_ok-classes.ensures ∙ ap (λ t. first (in_classes (unit_tree t))) c.in_ok-source.ensures.unit in
-    let whole : option_map told c.earlier.result ≡ first (broken u) =
-    whole_known u seen (option_map told c.earlier-own.result) (option_map told c.in_ok-walk.field-0) (option_map told c.missing_main.result) (option_map told c.earlier-functions.result) (option_map told c.in_ok-classes.classes) (option_map told c.earlier.result)
+    let inside = walked_kept u source (option_map reported c.in_ok-walk.field-0) c.in_ok-source.ensures.knows c.in_ok-walk.ensures in
+    let classes : option_map reported c.in_ok-classes.classes ≡ first (in_classes u) = c.in_ok-classes.ensures ∙ ap (λ t. first (in_classes (unit_tree t))) c.in_ok-source.ensures.unit in
+    let whole : option_map reported c.earlier.result ≡ first (broken u) =
+    whole_known u seen (option_map reported c.earlier-own.result) (option_map reported c.in_ok-walk.field-0) (option_map reported c.missing_main.result) (option_map reported c.earlier-functions.result) (option_map reported c.in_ok-classes.classes) (option_map reported c.earlier.result)
     sums c.missing_main.ensures c.earlier-own.ensures inside c.earlier-functions.ensures classes c.earlier.ensures in
-    IfOk-weaker c.of.result _ _ (λ table h. nothing (broken u) (sym (ap (option_map told) c.in-None-Some.is-0) ∙ whole)) c.of.ensures.table
+    IfOk-weaker c.of.result _ _ (λ table h. nothing (broken u) (sym (ap (option_map reported) c.in-None-Some.is-0) ∙ whole)) c.of.ensures.table
 
 pub returns-in-None-Some-clause-table : goal.returns-in-None-Some-clause-table
 returns-in-None-Some-clause-table c =
@@ -67,6 +67,6 @@ returns-in-None-Some-clause-table c =
 pub returns-clause-refused : goal.returns-clause-refused
 returns-clause-refused c =
     let seen = c.in_ok-seen.seen in
-    absurd (main_told seen.main (option_map told seen.fault) (option_map told c.earlier-own.result) (option_map told c.in_ok-walk.field-0) (option_map told c.missing_main.result)
-    (option_map told c.earlier-functions.result) (option_map told c.in_ok-classes.classes) (option_map told c.earlier.result)
-    c.in-None-None.is-1 c.missing_main.ensures c.earlier-own.ensures c.earlier-functions.ensures c.earlier.ensures (ap (option_map told) c.in-None-None.is-0))
+    absurd (main_reported seen.main (option_map reported seen.fault) (option_map reported c.earlier-own.result) (option_map reported c.in_ok-walk.field-0) (option_map reported c.missing_main.result)
+    (option_map reported c.earlier-functions.result) (option_map reported c.in_ok-classes.classes) (option_map reported c.earlier.result)
+    c.in-None-None.is-1 c.missing_main.ensures c.earlier-own.ensures c.earlier-functions.ensures c.earlier.ensures (ap (option_map reported) c.in-None-None.is-0))

@@ -1,6 +1,6 @@
 use Rattle.std.proofs.Common.{◌∙◌, Some, None, slice_get, sym, ap}
 use Rattle.arc_class.specs.Lookups.{own_given_in}
-use Rattle.arc_class.proofs.Asking.{result_told}
+use Rattle.arc_class.proofs.Asking.{result_reported}
 use Rattle.arc_class.proofs.table.ClassTable.nearest_result.Goals as goal
 
 pub returns-in-None : goal.returns-in-None
@@ -8,7 +8,7 @@ returns-in-None c =
     let table = c.args.self.now in
     let sign = c.args.sign in
     let name = c.args.selector.now in
-    result_told table sign name c.owners-owners.result.now c.owners-owners.ensures c.args.class (sym c.knows.ensures ∙ c.if-not-knows.false) None (sym c.in-None.is ∙ c.owner.ensures)
+    result_reported table sign name c.owners-owners.result.now c.owners-owners.ensures c.args.class (sym c.knows.ensures ∙ c.if-not-knows.false) None (sym c.in-None.is ∙ c.owner.ensures)
 
 pub returns-in-Some : goal.returns-in-Some
 returns-in-Some c =
@@ -16,4 +16,4 @@ returns-in-Some c =
     let sign = c.args.sign in
     let name = c.args.selector.now in
     c.own_result.ensures ∙ ap (λ es. own_given_in table.names c.in-Some.owner (slice_get es c.in-Some.owner) sign name) c.deref-in-Some.ensures.value
-    ∙ result_told table sign name c.owners-owners.result.now c.owners-owners.ensures c.args.class (sym c.knows.ensures ∙ c.if-not-knows.false) (Some c.in-Some.owner) (sym c.in-Some.is ∙ c.owner.ensures)
+    ∙ result_reported table sign name c.owners-owners.result.now c.owners-owners.ensures c.args.class (sym c.knows.ensures ∙ c.if-not-knows.false) (Some c.in-Some.owner) (sym c.in-Some.is ∙ c.owner.ensures)

@@ -5,7 +5,7 @@ use Rattle.arc_ast.specs.declared.tree.Sign.TheVariants as signs
 use Rattle.arc_class.specs.declared.table.ClassTable.{ClassTable}
 use Rattle.arc_class.specs.declared.table.Entry.{Entry}
 use Rattle.arc_class.specs.Lookups.{superclass_among}
-use Rattle.arc_class.specs.Owners.{TellsMethods}
+use Rattle.arc_class.specs.Owners.{FindsMethods}
 use Rattle.arc_class.proofs.Asking.{root_is_top}
 use Rattle.arc_class.specs.Classes.{number_among, or_else}
 use Rattle.arc_class.specs.Names.{parameter_kinds, listed_kinds}
@@ -27,20 +27,20 @@ method_owners-requires-2 c = ap (λ es. superclass_among es 0) c.deref-3.ensures
 
 pub invariant_of-result : goal.invariant_of-result
 invariant_of-result c =
-    let Class : List Entry → Type 0 = λ es. TellsMethods es signs.Class c.in_ok-class_methods.class_methods in
-    let Instance : List Entry → Type 0 = λ es. TellsMethods es signs.Instance c.in_ok-instance_methods.instance_methods in
+    let Class : List Entry → Type 0 = λ es. FindsMethods es signs.Class c.in_ok-class_methods.class_methods in
+    let Instance : List Entry → Type 0 = λ es. FindsMethods es signs.Instance c.in_ok-instance_methods.instance_methods in
     record {
-      class_methods_told = subst Class c.deref-2.ensures.value c.in_ok-class_methods.ensures.tells;
-      instance_methods_told = subst Instance c.deref-3.ensures.value c.in_ok-instance_methods.ensures.tells;
-      fields_told = c.requires.owners;
+      class_methods_reported = subst Class c.deref-2.ensures.value c.in_ok-class_methods.ensures.finds;
+      instance_methods_reported = subst Instance c.deref-3.ensures.value c.in_ok-instance_methods.ensures.finds;
+      fields_reported = c.requires.owners;
     }
 
 pub returns-clause-table : goal.returns-clause-table
 returns-clause-table c =
     let u = unit_tree c.args.source.unit.now in
     let parts = c.in_ok-parts.parts in
-    let Class : List Entry → Type 0 = λ es. TellsMethods es signs.Class c.in_ok-class_methods.class_methods in
-    let Instance : List Entry → Type 0 = λ es. TellsMethods es signs.Instance c.in_ok-instance_methods.instance_methods in
+    let Class : List Entry → Type 0 = λ es. FindsMethods es signs.Class c.in_ok-class_methods.class_methods in
+    let Instance : List Entry → Type 0 = λ es. FindsMethods es signs.Instance c.in_ok-instance_methods.instance_methods in
     let table : ClassTable = record {
       functions = c.args.source.known;
       first_functions = c.args.source.functions;
@@ -58,9 +58,9 @@ returns-clause-table c =
       selectors = parts.selectors;
       classes = parts.classes;
       built_in = parts.built_in;
-      class_methods_told = subst Class c.deref-2.ensures.value c.in_ok-class_methods.ensures.tells;
-      instance_methods_told = subst Instance c.deref-3.ensures.value c.in_ok-instance_methods.ensures.tells;
-      fields_told = c.requires.owners;
+      class_methods_reported = subst Class c.deref-2.ensures.value c.in_ok-class_methods.ensures.finds;
+      instance_methods_reported = subst Instance c.deref-3.ensures.value c.in_ok-instance_methods.ensures.finds;
+      fields_reported = c.requires.owners;
     } in
     record {
       knows = c.requires.knows.knows;

@@ -8,7 +8,7 @@ use Rattle.arc_machine.specs.Clearing.{LastField}
 use Rattle.arc_machine.specs.Places.{Ready, spot}
 use Rattle.arc_machine.specs.Storing.{ClearsNext}
 use Rattle.arc_machine.specs.Words.{Pile}
-use Rattle.arc_machine.proofs.LastFields.{last_field, next_some, retold, last_short, last_left, last_block, last_level, executed}
+use Rattle.arc_machine.proofs.LastFields.{last_field, next_some, reported_again, last_short, last_left, last_block, last_level, executed}
 use Rattle.arc_machine.proofs.Nexts.{ready_clearing}
 use Rattle.arc_machine.proofs.NextField.{last_faults, last_begins}
 use Rattle.arc_machine.proofs.place.Place.end_step.Goals as goal
@@ -142,7 +142,7 @@ begin_end-requires-clause-some g c =
     let l = last_field out p.classes m c.in_default.ensures.last e.back e.waiter e.object e.left frame in
     let slot = c.in-Some-next_slot.slot in
     let means : ClearsNext out p.classes m e.object e.left (Some slot) = λ x is. sym c.in-Some-next_slot.is ∙ c.next_slot.ensures x is in
-    (retold out p.classes m e.object e.left l slot c.field_name-before.result means c.field_name-before.ensures).1.0
+    (reported_again out p.classes m e.object e.left l slot c.field_name-before.result means c.field_name-before.ensures).1.0
 
 pub begin_end-requires-clause-object : goal.begin_end-requires-clause-object
 begin_end-requires-clause-object g c =
@@ -156,8 +156,8 @@ begin_end-requires-clause-object g c =
     let ready : Ready out p EndStep now = subst (λ x. Ready out p EndStep x) (sym c.in_default.ensures.went.1) c.requires.ready in
     let slot = c.in-Some-next_slot.slot in
     let means : ClearsNext out p.classes m e.object e.left (Some slot) = λ x is. sym c.in-Some-next_slot.is ∙ c.next_slot.ensures x is in
-    let told = retold out p.classes m e.object e.left l slot c.field_name-before.result means c.field_name-before.ensures in
-    let last : LastField out p.classes m e.object e.left = record { slot = slot; next = means; name = c.field_name-before.result; named = told.0; last = told.1 } in
+    let all_decoded = reported_again out p.classes m e.object e.left l slot c.field_name-before.result means c.field_name-before.ensures in
+    let last : LastField out p.classes m e.object e.left = record { slot = slot; next = means; name = c.field_name-before.result; named = all_decoded.0; last = all_decoded.1 } in
     last_block out p now e.back e.waiter e.object e.left frame ready last c.clear.new.objects c.clear.ensures
 
 pub returns-clause-went : goal.returns-clause-went
@@ -172,8 +172,8 @@ returns-clause-went g c =
     let ready : Ready out p EndStep now = subst (λ x. Ready out p EndStep x) (sym c.in_default.ensures.went.1) c.requires.ready in
     let slot = c.in-Some-next_slot.slot in
     let means : ClearsNext out p.classes m e.object e.left (Some slot) = λ x is. sym c.in-Some-next_slot.is ∙ c.next_slot.ensures x is in
-    let told = retold out p.classes m e.object e.left l slot c.field_name-before.result means c.field_name-before.ensures in
-    let last : LastField out p.classes m e.object e.left = record { slot = slot; next = means; name = c.field_name-before.result; named = told.0; last = told.1 } in
+    let all_decoded = reported_again out p.classes m e.object e.left l slot c.field_name-before.result means c.field_name-before.ensures in
+    let last : LastField out p.classes m e.object e.left = record { slot = slot; next = means; name = c.field_name-before.result; named = all_decoded.0; last = all_decoded.1 } in
     let mid = c.clear.new.objects in
     let new = spot c.begin_end.new.self c.begin_end.new.objects in
     let turn = c.begin_end in

@@ -12,9 +12,9 @@ use Rattle.arc_machine.proofs.Finding.{finds_went}
 use Rattle.arc_machine.proofs.Needs.{Needs, ready_needs}
 use Rattle.arc_machine.proofs.place.Place.find_method.Goals as goal
 
-told : (b : Bool) → pos (bool_byte b) ≡ one_if b
-told true = refl
-told false = refl
+byte_is : (b : Bool) → pos (bool_byte b) ≡ one_if b
+byte_is true = refl
+byte_is false = refl
 
 pub top-requires : goal.top-requires
 top-requires g c =
@@ -32,4 +32,4 @@ returns-clause-went g c =
     let number : c.from.result ≡ to_z w64 (of_z w64 c.from.result) = search rules in
     let found : c.look_up-found.result ≡ lookup (classes_of c.args.code.now.classes.items) (class_at c.top.result) signs.Class c.args.selector 0 0 gives.Object = cc in
     finds_went g.S.Store.out (program_of c.args.code.now) (spot c.args.self.now c.args._objects.now) c.args.selector c.top.result c.top.ensures.0 c.look_up-found.result c.from.result _ c.top.ensures.1 found
-    (c.from.ensures ∙ told c.is_some.result ∙ ap one_if c.is_some.ensures) refl (ap (λ x. x.items) c.push.ensures.value ∙ ap (λ n. n ∷ c.args.self.now.stack.items) (sym number)) refl
+    (c.from.ensures ∙ byte_is c.is_some.result ∙ ap one_if c.is_some.ensures) refl (ap (λ x. x.items) c.push.ensures.value ∙ ap (λ n. n ∷ c.args.self.now.stack.items) (sym number)) refl

@@ -27,7 +27,7 @@ abbrev Good : {A : Type 0} → Spelling A → (List Tok → Type 0) → List Tok
 Good M B xs (Ok x) = M x.0 x.1 xs
 Good M B xs (Err e) = B xs
 
-pub record Told {A : Type 0} (M : Spelling A) (B : List Tok → Type 0) (D : Place) (h : Reader A) (ts : List Tok) (x : Read A) : Type 0 where
+pub record Reported {A : Type 0} (M : Spelling A) (B : List Tok → Type 0) (D : Place) (h : Reader A) (ts : List Tok) (x : Read A) : Type 0 where
   pub taken : List Tok
   pub cut : ts ≡ taken ++ rest_of x
   pub good : Good M B taken x
@@ -39,9 +39,9 @@ first_after [] m r e = e
 first_after (t ∷ b) m r e = refl
 
 -- the same answer, of which more is said
-told_as : {A : Type 0} {M O : Spelling A} {B E : List Tok → Type 0} {D F : Place} {h : Reader A} {ts : List Tok} {x : Read A} → ((a : A) (r xs : List Tok) → x ≡ Ok (a, r) → ts ≡ xs ++ r → M a r xs → O a r xs)
-    → ((xs r : List Tok) → ts ≡ xs ++ r → B xs → E xs) → ((xs r : List Tok) → ts ≡ xs ++ r → D xs r → F xs r) → Told M B D h ts x → Told O E F h ts x
-told_as {M = M} {O = O} {B = B} {E = E} {ts = ts} {x = x} of_value of_begun of_deep t = record {
+reported_as : {A : Type 0} {M O : Spelling A} {B E : List Tok → Type 0} {D F : Place} {h : Reader A} {ts : List Tok} {x : Read A} → ((a : A) (r xs : List Tok) → x ≡ Ok (a, r) → ts ≡ xs ++ r → M a r xs → O a r xs)
+    → ((xs r : List Tok) → ts ≡ xs ++ r → B xs → E xs) → ((xs r : List Tok) → ts ≡ xs ++ r → D xs r → F xs r) → Reported M B D h ts x → Reported O E F h ts x
+reported_as {M = M} {O = O} {B = B} {E = E} {ts = ts} {x = x} of_value of_begun of_deep t = record {
   taken = t.taken;
   cut = t.cut;
   good = (elim x as (λ y. x ≡ y → ts ≡ t.taken ++ rest_of y → Good M B t.taken y → Good O E t.taken y)
@@ -54,45 +54,45 @@ told_as {M = M} {O = O} {B = B} {E = E} {ts = ts} {x = x} of_value of_begun of_d
 abbrev Keeps : {A : Type 0} → (List Tok → Bool) → Reader A → List Tok → Type 0
 Keeps test h ts = (xs r more : List Tok) → ts ≡ xs ++ r → rest_of (h ts) ≡ r → first more ≡ first r → test (xs ++ more) ≡ test ts
 
-told_with : {A : Type 0} {M : Spelling A} {B : List Tok → Type 0} {D : Place} {h h' : Reader A} {ts : List Tok} {x : Read A}
-    → ((xs r more : List Tok) → ts ≡ xs ++ r → rest_of (h ts) ≡ r → first more ≡ first r → h' (xs ++ more) ≡ h (xs ++ more)) → Told M B D h ts x → Told M B D h' ts x
-told_with {A} {h = h} {ts = ts} {x = x} alike t =
+reported_with : {A : Type 0} {M : Spelling A} {B : List Tok → Type 0} {D : Place} {h h' : Reader A} {ts : List Tok} {x : Read A}
+    → ((xs r more : List Tok) → ts ≡ xs ++ r → rest_of (h ts) ≡ r → first more ≡ first r → h' (xs ++ more) ≡ h (xs ++ more)) → Reported M B D h ts x → Reported M B D h' ts x
+reported_with {A} {h = h} {ts = ts} {x = x} alike t =
     let rest : rest_of (put x (rest_of x)) ≡ rest_of x = elim x as (λ y. rest_of (put y (rest_of y)) ≡ rest_of y) [ Ok y ↦ refl | Err y ↦ refl ] in
     let left : fault_of x ≡ misfit → rest_of (h ts) ≡ rest_of x = λ q. ap (λ us. rest_of (h us)) t.cut ∙ ap (λ (z : Read A). rest_of z) (t.same q (rest_of x) refl) ∙ rest in
     record { taken = t.taken; cut = t.cut; good = t.good; same = λ q more f. alike t.taken (rest_of x) more t.cut (left q) f ∙ t.same q more f; deep = t.deep }
 
-told_if : {A : Type 0} {M : Spelling A} {B : List Tok → Type 0} {D : Place} {f g : Reader A} {ts : List Tok} {x y : Read A} (test : List Tok → Bool) → Keeps test f ts → Keeps test g ts
-    → (test ts ≡ true → Told M B D f ts x) → (test ts ≡ false → Told M B D g ts y) → Told M B D (λ us. cond (test us) (f us) (g us)) ts (cond (test ts) x y)
-told_if {M = M} {B = B} {D = D} {f = f} {g = g} {ts = ts} {x = x} {y = y} test of_f of_g t u =
-    (elim (test ts) as (λ b. test ts ≡ b → Told M B D (λ us. cond (test us) (f us) (g us)) ts (cond b x y)) [
-      | true ↦ λ q. told_with (λ xs r more c k e. ap (λ b. cond b (f (xs ++ more)) (g (xs ++ more))) (of_f xs r more c k e ∙ q)) (t q)
-      | false ↦ λ q. told_with (λ xs r more c k e. ap (λ b. cond b (f (xs ++ more)) (g (xs ++ more))) (of_g xs r more c k e ∙ q)) (u q)
+reported_if : {A : Type 0} {M : Spelling A} {B : List Tok → Type 0} {D : Place} {f g : Reader A} {ts : List Tok} {x y : Read A} (test : List Tok → Bool) → Keeps test f ts → Keeps test g ts
+    → (test ts ≡ true → Reported M B D f ts x) → (test ts ≡ false → Reported M B D g ts y) → Reported M B D (λ us. cond (test us) (f us) (g us)) ts (cond (test ts) x y)
+reported_if {M = M} {B = B} {D = D} {f = f} {g = g} {ts = ts} {x = x} {y = y} test of_f of_g t u =
+    (elim (test ts) as (λ b. test ts ≡ b → Reported M B D (λ us. cond (test us) (f us) (g us)) ts (cond b x y)) [
+      | true ↦ λ q. reported_with (λ xs r more c k e. ap (λ b. cond b (f (xs ++ more)) (g (xs ++ more))) (of_f xs r more c k e ∙ q)) (t q)
+      | false ↦ λ q. reported_with (λ xs r more c k e. ap (λ b. cond b (f (xs ++ more)) (g (xs ++ more))) (of_g xs r more c k e ∙ q)) (u q)
     ]) refl
 
-told_first : {A : Type 0} {M : Spelling A} {B : List Tok → Type 0} {D : Place} {f g : Reader A} {ts : List Tok} {x y : Read A} (T : Kinds)
-    → (sees T ts ≡ true → Told M B D f ts x) → (sees T ts ≡ false → Told M B D g ts y) → Told M B D (if_sees T f g) ts (cond (sees T ts) x y)
-told_first {A} {f = f} {g = g} {ts = ts} T = told_if (sees T) (keeps f) (keeps g)
+reported_first : {A : Type 0} {M : Spelling A} {B : List Tok → Type 0} {D : Place} {f g : Reader A} {ts : List Tok} {x y : Read A} (T : Kinds)
+    → (sees T ts ≡ true → Reported M B D f ts x) → (sees T ts ≡ false → Reported M B D g ts y) → Reported M B D (if_sees T f g) ts (cond (sees T ts) x y)
+reported_first {A} {f = f} {g = g} {ts = ts} T = reported_if (sees T) (keeps f) (keeps g)
   where
     keeps : (h : Reader A) → Keeps (sees T) h ts
     keeps h xs r more c k e = sees_alike T (xs ++ more) ts (first_after xs more r e ∙ ap first (sym c))
 
 -- of the first two, where each reader takes the first
-told_two : {A : Type 0} {M : Spelling A} {B : List Tok → Type 0} {D : Place} {f g : Reader A} {ts : List Tok} {x y : Read A} (T U : Kinds)
+reported_two : {A : Type 0} {M : Spelling A} {B : List Tok → Type 0} {D : Place} {f g : Reader A} {ts : List Tok} {x y : Read A} (T U : Kinds)
     → (sees T ts ≡ true → length (rest_of (f ts)) < length ts) → (sees T ts ≡ true → length (rest_of (g ts)) < length ts)
-    → (sees_two T U ts ≡ true → Told M B D f ts x) → (sees_two T U ts ≡ false → Told M B D g ts y) → Told M B D (if_sees_two T U f g) ts (cond (sees_two T U ts) x y)
-told_two {A} {f = f} {g = g} {ts = ts} T U p q = told_if (sees_two T U) (keeps f p) (keeps g q)
+    → (sees_two T U ts ≡ true → Reported M B D f ts x) → (sees_two T U ts ≡ false → Reported M B D g ts y) → Reported M B D (if_sees_two T U f g) ts (cond (sees_two T U ts) x y)
+reported_two {A} {f = f} {g = g} {ts = ts} T U p q = reported_if (sees_two T U) (keeps f p) (keeps g q)
   where
     keeps : (h : Reader A) → (sees T ts ≡ true → length (rest_of (h ts)) < length ts) → Keeps (sees_two T U) h ts
     keeps h takes xs r more c k e =
         two_alike T U xs more r e (λ q. let few = takes (ap (sees T) c ∙ q) in omega (arith, few, ap length k, ap length c, length-append xs r)) ∙ ap (sees_two T U) (sym c)
 
-told_then : {A B C : Type 0} {M : Spelling A} {O : Spelling B} {Q : Spelling C} {K L E : List Tok → Type 0} {D F G : Place} {h : Reader A} {h' g : Reader B} {ts : List Tok} {x : Read A} (make : A → B → C)
+reported_then : {A B C : Type 0} {M : Spelling A} {O : Spelling B} {Q : Spelling C} {K L E : List Tok → Type 0} {D F G : Place} {h : Reader A} {h' g : Reader B} {ts : List Tok} {x : Read A} (make : A → B → C)
     → ((a : A) (b : B) (r xs ys : List Tok) → M a (ys ++ r) xs → O b r ys → Q (make a b) r (xs ++ ys)) → ((xs : List Tok) → K xs → E xs) → ((a : A) (r xs ys : List Tok) → M a (ys ++ r) xs → L ys → E (xs ++ ys))
     → ((xs r : List Tok) → D xs r → G xs r) → ((a : A) (r xs ys : List Tok) → M a (ys ++ r) xs → F ys r → G (xs ++ ys) r)
-    → Told M K D h ts x → ((a : A) (s : List Tok) → x ≡ Ok (a, s) → Told O L F h' s (g s)) → Told Q E G (λ us. both_of make (h us) h') ts (both_of make x g)
-told_then {A} {B} {C} {M = M} {O = O} {Q = Q} {K = K} {L = L} {E = E} {D = D} {F = F} {G = G} {h = h} {h' = h'} {g = g} {ts = ts} {x = x} make joins begun begun_later deep deep_later t u = go x refl t
+    → Reported M K D h ts x → ((a : A) (s : List Tok) → x ≡ Ok (a, s) → Reported O L F h' s (g s)) → Reported Q E G (λ us. both_of make (h us) h') ts (both_of make x g)
+reported_then {A} {B} {C} {M = M} {O = O} {Q = Q} {K = K} {L = L} {E = E} {D = D} {F = F} {G = G} {h = h} {h' = h'} {g = g} {ts = ts} {x = x} make joins begun begun_later deep deep_later t u = go x refl t
   where
-    later : (a : A) (s : List Tok) → Told M K D h ts (Ok (a, s)) → (y : Read B) → Told O L F h' s y → Told Q E G (λ us. both_of make (h us) h') ts (bind y (λ b. ret (make a b)))
+    later : (a : A) (s : List Tok) → Reported M K D h ts (Ok (a, s)) → (y : Read B) → Reported O L F h' s y → Reported Q E G (λ us. both_of make (h us) h') ts (bind y (λ b. ret (make a b)))
     later a s t y u = go y u.taken u.cut u.good u.same u.deep
       where
         line : (ys r : List Tok) → s ≡ ys ++ r → ts ≡ (t.taken ++ ys) ++ r
@@ -104,17 +104,17 @@ told_then {A} {B} {C} {M = M} {O = O} {Q = Q} {K = K} {L = L} {E = E} {D = D} {F
         same : (y : Read B) (ys : List Tok) → s ≡ ys ++ rest_of y → Same h' ys y → (more : List Tok) → first more ≡ first (rest_of y) → both_of make (h ((t.taken ++ ys) ++ more)) h' ≡ bind (put y more) (λ b. ret (make a b))
         same y ys e n more f = rw (append_assoc t.taken ys more, t.same refl (ys ++ more) (first_after ys more (rest_of y) f ∙ ap first (sym e)), n more f) refl
 
-        go : (y : Read B) (ys : List Tok) → s ≡ ys ++ rest_of y → Good O L ys y → (fault_of y ≡ misfit → Same h' ys y) → (fault_of y ≡ too_deep → F ys (rest_of y)) → Told Q E G (λ us. both_of make (h us) h') ts (bind y (λ b. ret (make a b)))
+        go : (y : Read B) (ys : List Tok) → s ≡ ys ++ rest_of y → Good O L ys y → (fault_of y ≡ misfit → Same h' ys y) → (fault_of y ≡ too_deep → F ys (rest_of y)) → Reported Q E G (λ us. both_of make (h us) h') ts (bind y (λ b. ret (make a b)))
         go (Ok y) ys e o n d = record { taken = t.taken ++ ys; cut = line ys y.1 e; good = joins a y.0 y.1 t.taken ys (value ys y.1 e) o; same = λ q. same (Ok y) ys e (n q); deep = λ q. cc }
         go (Err y) ys e b n d = record { taken = t.taken ++ ys; cut = line ys y.1 e; good = begun_later a y.1 t.taken ys (value ys y.1 e) b; same = λ q. same (Err y) ys e (n q); deep = λ q. deep_later a y.1 t.taken ys (value ys y.1 e) (d q) }
 
-    go : (y : Read A) → x ≡ y → Told M K D h ts y → Told Q E G (λ us. both_of make (h us) h') ts (both_of make y g)
+    go : (y : Read A) → x ≡ y → Reported M K D h ts y → Reported Q E G (λ us. both_of make (h us) h') ts (both_of make y g)
     go (Ok y) q t = later y.0 y.1 t (g y.1) (u y.0 y.1 q)
     go (Err y) q t = record { taken = t.taken; cut = t.cut; good = begun t.taken t.good; same = λ q more f. ap (λ z. both_of make z h') (t.same q more f); deep = λ q. deep t.taken y.1 (t.deep q) }
 
 -- where nothing is taken and nothing is too deep
-told_none : {A : Type 0} {M : Spelling A} {B : List Tok → Type 0} {D : Place} {h : Reader A} {ts : List Tok} (x : Read A) → rest_of x ≡ ts → fault_of x ≡ misfit → Good M B [] x → Same h [] x → Told M B D h ts x
-told_none x r q good same = record { taken = []; cut = sym r; good = good; same = λ q. same; deep = λ p. let no : misfit ≡ too_deep = sym q ∙ p in cc }
+reported_none : {A : Type 0} {M : Spelling A} {B : List Tok → Type 0} {D : Place} {h : Reader A} {ts : List Tok} (x : Read A) → rest_of x ≡ ts → fault_of x ≡ misfit → Good M B [] x → Same h [] x → Reported M B D h ts x
+reported_none x r q good same = record { taken = []; cut = sym r; good = good; same = λ q. same; deep = λ p. let no : misfit ≡ too_deep = sym q ∙ p in cc }
 
 -- what goes over a limit takes as many tokens at least, and there are more
 pub over_takes : {A : Type 0} (n : ℕ) (ts : List Tok) (x : Read A) → goes_over n ts x ≡ true → (n < length ts) × (length (rest_of x) + n ≤ length ts)
@@ -157,12 +157,12 @@ module _ {N : Type 0} {Node : N → Type 0} (facts : N → Facts) (body : Bodies
   begun_as : {A : Type 0} (f : Form N Node A) (xs ys zs : List Tok) → xs ≡ ys ++ zs → Begun body f xs → Begun body f ys
   begun_as f xs ys zs e (a, others, x) = (a, zs ++ others, subst (SpellsBy (Spells body) unlimited f a []) (ap (λ v. v ++ others) e ∙ append_assoc ys zs others) x)
 
-  pub told_begun : (o : Option Limits) {A : Type 0} (f : Form N Node A) → Decided facts f → (x : Read A) (xs : List Tok) → Good (SpellsBy (Spells body) (under o) f) (Begun body f) xs x → Begun body f xs
-  told_begun o f d (Ok (a, r)) xs m = (a, [], subst (SpellsBy (Spells body) unlimited f a []) (sym (append-nil xs)) (form_alone facts body sure unlimited f d a r xs (form_free body (under o) f a r xs m)))
-  told_begun o f d (Err x) xs b = b
+  pub reported_begun : (o : Option Limits) {A : Type 0} (f : Form N Node A) → Decided facts f → (x : Read A) (xs : List Tok) → Good (SpellsBy (Spells body) (under o) f) (Begun body f) xs x → Begun body f xs
+  reported_begun o f d (Ok (a, r)) xs m = (a, [], subst (SpellsBy (Spells body) unlimited f a []) (sym (append-nil xs)) (form_alone facts body sure unlimited f d a r xs (form_free body (under o) f a r xs m)))
+  reported_begun o f d (Err x) xs b = b
 
   abbrev pub ToldAs : Option Limits → {A : Type 0} → Form N Node A → List Tok → Read A → Type 0
-  ToldAs o f ts x = Told (SpellsBy (Spells body) (under o) f) (Begun body f) (Deep o f) (plain f) ts x
+  ToldAs o f ts x = Reported (SpellsBy (Spells body) (under o) f) (Begun body f) (Deep o f) (plain f) ts x
 
   abbrev pub ToldAt : Property N Node
   ToldAt o A f ts = ToldAs o f ts (reading body o f ts)
@@ -186,11 +186,11 @@ module _ {N : Type 0} {Node : N → Type 0} (facts : N → Facts) (body : Bodies
   begun_first : {A B : Type 0} (f : Form N Node A) (g : Form N Node B) → Decided facts f → Decided facts g → (nullable facts g || apart (bars facts f) (begins facts g)) ≡ true → (xs : List Tok) → Begun body f xs → Begun body (f ⨾ g) xs
   begun_first f g d d' p xs (a, others, x) = let e = some_example facts body sure _ g d' in ((a, e.0), others ++ e.1, subst (SpellsBy (Spells body) unlimited (f ⨾ g) (a, e.0) []) (append_assoc xs others e.1) (join facts body sure f g d a e.0 [] (xs ++ others) e.1 x (not_barred facts body sure f g d' p [] e) e.3))
 
-  told_pair : {A B C : Type 0} (make : A → B → C) (Q : Spelling C) (o : Option Limits) (f : Form N Node A) (g : Form N Node B) → Decided facts f → Decided facts g → (nullable facts g || apart (bars facts f) (begins facts g)) ≡ true → (ts : List Tok)
+  reported_pair : {A B C : Type 0} (make : A → B → C) (Q : Spelling C) (o : Option Limits) (f : Form N Node A) (g : Form N Node B) → Decided facts f → Decided facts g → (nullable facts g || apart (bars facts f) (begins facts g)) ≡ true → (ts : List Tok)
       → ((a : A) (b : B) (r xs : List Tok) → SpellsBy (Spells body) (under o) (f ⨾ g) (a, b) r xs → Q (make a b) r xs)
-      → ToldAt o A f ts → ((a : A) (s : List Tok) → reading body o f ts ≡ Ok (a, s) → ToldAt o B g s) → Told Q (Begun body (f ⨾ g)) (Deep o (f ⨾ g)) (λ us. both_of make (plain f us) (plain g)) ts (both_of make (reading body o f ts) (reading body o g))
-  told_pair make Q o f g d d' p ts made t u =
-      told_then make (λ a b r xs ys x y. made a b r (xs ++ ys) (xs, ys, refl, x, y)) (begun_first f g d d' p) (begun_second o f g d d' p) (λ xs r q. deep_as o f (f ⨾ g) xs xs r r (λ of x. inl x) q)
+      → ToldAt o A f ts → ((a : A) (s : List Tok) → reading body o f ts ≡ Ok (a, s) → ToldAt o B g s) → Reported Q (Begun body (f ⨾ g)) (Deep o (f ⨾ g)) (λ us. both_of make (plain f us) (plain g)) ts (both_of make (reading body o f ts) (reading body o g))
+  reported_pair make Q o f g d d' p ts made t u =
+      reported_then make (λ a b r xs ys x y. made a b r (xs ++ ys) (xs, ys, refl, x, y)) (begun_first f g d d' p) (begun_second o f g d d' p) (λ xs r q. deep_as o f (f ⨾ g) xs xs r r (λ of x. inl x) q)
       (λ a r xs ys x q. deep_as o g (f ⨾ g) ys (xs ++ ys) r r (λ of y. inr (a, xs, ys, refl, x, y)) q) t u
 
   -- a turn of a loop passes limits where the loop does
@@ -199,14 +199,14 @@ module _ {N : Type 0} {Node : N → Type 0} (facts : N → Facts) (body : Bodies
   turn_passes of limits T f before r (inr (a, xs, us, e, m, (all, ys, zs, c, n, p))) =
       (a ∷ all, xs ++ ys, zs, e ∙ ap (λ v. xs ++ v) c ∙ sym (append_assoc xs ys zs), (xs, ys, refl, subst (λ v. SpellsBy (Spells body) limits f a v xs) (ap (λ v. v ++ r) c ∙ append_assoc ys zs r) m, n), p)
 
-  told_many : (o : Option Limits) (T : Kinds) {A : Type 0} (f : Form N Node A) → Decided facts (many T f) → (ts : List Tok) → ToldAt o A f ts → ((a : A) (s : List Tok) → reading body o f ts ≡ Ok (a, s) → ToldAt o (List A) (many T f) s) → ToldAt o (List A) (many T f) ts
-  told_many o T {A} f (d, (h, p)) ts t u =
+  reported_many : (o : Option Limits) (T : Kinds) {A : Type 0} (f : Form N Node A) → Decided facts (many T f) → (ts : List Tok) → ToldAt o A f ts → ((a : A) (s : List Tok) → reading body o f ts ≡ Ok (a, s) → ToldAt o (List A) (many T f) s) → ToldAt o (List A) (many T f) ts
+  reported_many o T {A} f (d, (h, p)) ts t u =
       rw (loop_turn T (some_front facts body sure (under o) f d h.0) ts)
-      (told_with (λ xs r more c k e. loop_turn T (some_front facts body sure unlimited f d h.0) (xs ++ more))
-      (told_first T
-      (λ q. told_as (λ a r xs q c m. m) (λ xs r c b. (b.0.0 ∷ b.0.1, b.1, b.2)) (λ xs r c q. deep_as o (f ⨾ many T f) (many T f) xs xs r r (λ of x. turn_passes of (under o) T f xs r x) q)
-      (told_pair (λ a others. a ∷ others) (SpellsBy (Spells body) (under o) (many T f)) o f (many T f) d (d, (h, p)) refl ts (λ a others r xs x. x) t u))
-      (λ q. told_none (ret [] ts) refl refl refl (λ more f. refl))))
+      (reported_with (λ xs r more c k e. loop_turn T (some_front facts body sure unlimited f d h.0) (xs ++ more))
+      (reported_first T
+      (λ q. reported_as (λ a r xs q c m. m) (λ xs r c b. (b.0.0 ∷ b.0.1, b.1, b.2)) (λ xs r c q. deep_as o (f ⨾ many T f) (many T f) xs xs r r (λ of x. turn_passes of (under o) T f xs r x) q)
+      (reported_pair (λ a others. a ∷ others) (SpellsBy (Spells body) (under o) (many T f)) o f (many T f) d (d, (h, p)) refl ts (λ a others r xs x. x) t u))
+      (λ q. reported_none (ret [] ts) refl refl refl (λ more f. refl))))
 
   -- ---- the first tokens of more
 
@@ -228,7 +228,7 @@ module _ {N : Type 0} {Node : N → Type 0} (facts : N → Facts) (body : Bodies
       let back : drop n ts ≡ drop n xs ++ r = ap (drop n) t.cut ∙ drop-append-le n xs r l in
       let all : take n xs ++ drop n xs ≡ xs = take-append-drop n xs in
       let line : ts ≡ take n xs ++ (drop n xs ++ r) = t.cut ∙ ap (λ v. v ++ r) (sym all) ∙ append_assoc (take n xs) (drop n xs) r in
-      rw (front, back) (one_more f n (take n xs) (drop n xs) r (length-take-le n xs l) (omega (arith, p.0, ap length line)) (subst (Begun body f) (sym all) (told_begun None f d (plain f ts) xs t.good))
+      rw (front, back) (one_more f n (take n xs) (drop n xs) r (length-take-le n xs l) (omega (arith, p.0, ap length line)) (subst (Begun body f) (sym all) (reported_begun None f d (plain f ts) xs t.good))
       (λ z a x. stopped (plain f ts) refl a (take n xs) (length-take-le n xs l) (line ∙ ap (λ v. take n xs ++ (v ++ r)) z) (form_firm facts body sure None A f d a [] (take n xs) r x)))
     where
       stopped : (x : Read A) → plain f ts ≡ x → (a : A) (ys : List Tok) → length ys ≡ n → ts ≡ ys ++ rest_of x → Firm None (plain f (ys ++ rest_of x)) a (Ends facts body sure f [] (rest_of x)) (rest_of x) → ⊥
@@ -238,24 +238,24 @@ module _ {N : Type 0} {Node : N → Type 0} (facts : N → Facts) (body : Bodies
 
   tokens_over : (o : Option Limits) (A : Type 0) (f : Form N Node A) → Decided facts f → (ts : List Tok) → ToldAt None A f ts → ToldAt o A (bounded f) ts
   unfolding up_to
-  tokens_over None A f d ts t = told_as (λ a r xs q c m. (tt, m)) (λ xs r c b. (b.0, b.1, (tt, b.2))) (λ xs r c p. p) t
+  tokens_over None A f d ts t = reported_as (λ a r xs q c m. (tt, m)) (λ xs r c b. (b.0, b.1, (tt, b.2))) (λ xs r c p. p) t
   tokens_over (Some limits) A f d ts t = go limits.tokens (λ xs r p. (0, p))
     where
-      go : (most : Option ℕ) → ((xs r : List Tok) → OneTooMany body most f xs r → Deep (Some limits) (bounded f) xs r) → Told (λ a r xs. AtMost most (length xs) × Has facts body sure f a r xs) (Begun body (bounded f)) (Deep (Some limits) (bounded f)) (plain f) ts (cut most ts (plain f ts))
-      go None k = told_as (λ a r xs q c m. (tt, m)) (λ xs r c b. (b.0, b.1, (tt, b.2))) (λ xs r c p. absurd p) t
+      go : (most : Option ℕ) → ((xs r : List Tok) → OneTooMany body most f xs r → Deep (Some limits) (bounded f) xs r) → Reported (λ a r xs. AtMost most (length xs) × Has facts body sure f a r xs) (Begun body (bounded f)) (Deep (Some limits) (bounded f)) (plain f) ts (cut most ts (plain f ts))
+      go None k = reported_as (λ a r xs q c m. (tt, m)) (λ xs r c b. (b.0, b.1, (tt, b.2))) (λ xs r c p. absurd p) t
       go (Some n) k =
           let few : (a : A) (r xs : List Tok) → goes_over n ts (plain f ts) ≡ false → plain f ts ≡ Ok (a, r) → ts ≡ xs ++ r → length xs ≤ n =
           λ a r xs e q c. let p = ltb-false (length r + n) (length ts) (ap (goes_over n ts) (sym q) ∙ e) in omega (arith, length-append xs r, ap length c, p)
           in
           (elim (goes_over n ts (plain f ts)) as (λ b. goes_over n ts (plain f ts) ≡ b
-          → Told (λ a r xs. (length xs ≤ n) × Has facts body sure f a r xs) (Begun body (bounded f)) (Deep (Some limits) (bounded f)) (plain f) ts (cond b (Err (too_deep, drop n ts)) (plain f ts))) [
+          → Reported (λ a r xs. (length xs ≤ n) × Has facts body sure f a r xs) (Begun body (bounded f)) (Deep (Some limits) (bounded f)) (plain f) ts (cond b (Err (too_deep, drop n ts)) (plain f ts))) [
             | true ↦ λ e. let p = too_many n A f d ts t e in record { taken = take n ts; cut = sym (take-append-drop n ts); good = (p.0.0, p.0.1, (tt, p.0.2)); same = λ q. cc; deep = λ q. k (take n ts) (drop n ts) p.1 }
-            | false ↦ λ e. told_as (λ a r xs q c m. (few a r xs e q c, m)) (λ xs r c b. (b.0, b.1, (tt, b.2))) (λ xs r c p. absurd p) t
+            | false ↦ λ e. reported_as (λ a r xs q c m. (few a r xs e q c, m)) (λ xs r c b. (b.0, b.1, (tt, b.2))) (λ xs r c p. absurd p) t
           ]) refl
 
-  told_nest : (o : Option Limits) (m : ℕ) (T : Kinds) (A : Type 0) (f : Form N Node A) → Decided facts (nest m T f) → (ts : List Tok) → ToldAt o A f ts → ToldAt o A (nest m T f) ts
-  told_nest o m T A f (d, h) ts x =
-      rw (nested_is (under o).depth m T (reading body o f) ts) (told_with (λ xs r more c k e. nested_is None m T (plain f) (xs ++ more)) (go (is_above (under o).depth m) refl (sees T ts) refl))
+  reported_nest : (o : Option Limits) (m : ℕ) (T : Kinds) (A : Type 0) (f : Form N Node A) → Decided facts (nest m T f) → (ts : List Tok) → ToldAt o A f ts → ToldAt o A (nest m T f) ts
+  reported_nest o m T A f (d, h) ts x =
+      rw (nested_is (under o).depth m T (reading body o f) ts) (reported_with (λ xs r more c k e. nested_is None m T (plain f) (xs ++ more)) (go (is_above (under o).depth m) refl (sees T ts) refl))
     where
       deep : (o : Option Limits) → is_above (under o).depth m ≡ true → sees T ts ≡ true → Deep o (nest m T f) [] ts
       deep None q s = cc
@@ -265,10 +265,10 @@ module _ {N : Type 0} {Node : N → Type 0} (facts : N → Facts) (body : Bodies
       begun = let b = begun_none f d in (b.0, b.1, (tt, b.2))
 
       go : (b : Bool) → is_above (under o).depth m ≡ b → (c : Bool) → sees T ts ≡ c
-          → Told (SpellsBy (Spells body) (under o) (nest m T f)) (Begun body (nest m T f)) (Deep o (nest m T f)) (plain f) ts (cond b (cond c (Err (too_deep, ts)) (Err (misfit, ts))) (reading body o f ts))
+          → Reported (SpellsBy (Spells body) (under o) (nest m T f)) (Begun body (nest m T f)) (Deep o (nest m T f)) (plain f) ts (cond b (cond c (Err (too_deep, ts)) (Err (misfit, ts))) (reading body o f ts))
       go true q true s = record { taken = []; cut = refl; good = begun; same = λ q. cc; deep = λ z. deep o q s }
-      go true q false s = told_none (Err (misfit, ts)) refl refl begun (λ more e. form_idle facts body sure f d h.0 more (sees_none (begins facts f) T more h.1.0 (sees_alike T more ts e ∙ s)))
-      go false q c s = told_as (λ a r xs z c x. (at_most (under o).depth m q, x)) (λ xs r c b. (b.0, b.1, (tt, b.2))) (λ xs r c p. deep_as o f (nest m T f) xs xs r r (λ of y. inl (at_most (under o).depth m q, y)) p) x
+      go true q false s = reported_none (Err (misfit, ts)) refl refl begun (λ more e. form_idle facts body sure f d h.0 more (sees_none (begins facts f) T more h.1.0 (sees_alike T more ts e ∙ s)))
+      go false q c s = reported_as (λ a r xs z c x. (at_most (under o).depth m q, x)) (λ xs r c b. (b.0, b.1, (tt, b.2))) (λ xs r c p. deep_as o f (nest m T f) xs xs r r (λ of y. inl (at_most (under o).depth m q, y)) p) x
 
   -- the first two tokens are not those that may not come
   begun_two : {A : Type 0} (T U : Kinds) (g K : Form N Node A) (ts : List Tok) → sees_two T U ts ≡ false → Begun body K [] → ((t : Tok) → is T t ≡ true → (a : A) × (others : List Tok) × Has facts body sure K a [] (t ∷ others))
@@ -278,7 +278,7 @@ module _ {N : Type 0} {Node : N → Type 0} (facts : N → Facts) (body : Bodies
       (elim (is T t) as (λ b. is T t ≡ b → Begun body K (t ∷ [])) [ true ↦ head t | false ↦ λ q. (a, others, joins a (t ∷ others) x (ap (λ b. b && sees U (others ++ [])) q)) ]) refl
   begun_two T U g K ts n empty head joins (t ∷ u ∷ xs) r c (a, others, x) = (a, others, joins a (t ∷ u ∷ (xs ++ others)) x (ap (sees_two T U) (sym c) ∙ n))
 
-  second_refused : (T U : Kinds) (A : Type 0) (f : Form N Node A) (M : Spelling A) (D : Place) → Decided facts (avoid T U f) → (ts : List Tok) → sees_two T U ts ≡ true → Told M (Begun body (avoid T U f)) D second_unexpected ts (second_unexpected ts)
+  second_refused : (T U : Kinds) (A : Type 0) (f : Form N Node A) (M : Spelling A) (D : Place) → Decided facts (avoid T U f) → (ts : List Tok) → sees_two T U ts ≡ true → Reported M (Begun body (avoid T U f)) D second_unexpected ts (second_unexpected ts)
   second_refused T U A f M D d [] seen = cc
   second_refused T U A f M D d (t ∷ ts) seen = record { taken = t ∷ []; cut = refl; good = goes_on_so facts body sure T U A f d t (both (is T t) (sees U ts) seen).0; same = λ q more e. refl; deep = λ q. cc }
 
@@ -286,46 +286,46 @@ module _ {N : Type 0} {Node : N → Type 0} (facts : N → Facts) (body : Bodies
   none_after o f a r xs [] z m = subst (SpellsBy (Spells body) (under o) f a r) (sym (append-nil xs)) m
   none_after o f a r xs (t ∷ ys) z m = cc
 
-  told : (o : Option Limits) (A : Type 0) (f : Form N Node A) → Decided facts f → (ts : List Tok) → PartsOf body ToldAt o A f ts → ToldAt o A f ts
-  told o A (token T g) d ts x = go ts (sees T ts) refl
+  reported : (o : Option Limits) (A : Type 0) (f : Form N Node A) → Decided facts f → (ts : List Tok) → PartsOf body ToldAt o A f ts → ToldAt o A f ts
+  reported o A (token T g) d ts x = go ts (sees T ts) refl
     where
       go : (ts : List Tok) (b : Bool) → sees T ts ≡ b → ToldAt o A (token T g) ts
-      go ts false q = rw (none_taken T g ts q) (told_none (Err (misfit, ts)) refl refl (begun_none (token T g) d) (λ more f. none_taken T g more (sees_alike T more ts f ∙ q)))
+      go ts false q = rw (none_taken T g ts q) (reported_none (Err (misfit, ts)) refl refl (begun_none (token T g) d) (λ more f. none_taken T g more (sees_alike T more ts f ∙ q)))
       go [] true q = cc
       go (t ∷ ts) true q = subst (λ b. ToldAs o (token T g) (t ∷ ts) (taken b g t ts)) (sym q) (record { taken = t ∷ []; cut = refl; good = (t, refl, q, refl); same = λ z more f. ap (λ b. taken b g t more) q; deep = λ z. cc })
-  told o A (give a) d ts x = told_none (ret a ts) refl refl (refl, refl) (λ more f. refl)
-  told o A (call n) d ts x =
-      rw (read_is facts body sure (under o) n ts) (told_with (λ xs r more c k e. read_is facts body sure unlimited n (xs ++ more))
-      (told_as (λ a r xs q c m. spells_body body (under o) n a r xs m) (λ xs r c b. (b.0, b.1, spells_body body unlimited n b.0 [] (xs ++ b.1) b.2)) (λ xs r c p. deep_body o n xs r p) x))
-  told o A (map {A = B} h f) d ts x =
-      told_then {O = λ (u : Unit {0}) r ys. ys ≡ []} {L = λ ys. ⊥} {F = λ ys r. ⊥} {h' = ret tt} {g = ret tt} (λ a u. h a) (λ a u r xs ys m z. (a, refl, none_after o f a r xs ys z m)) (λ xs b. (h b.0, b.1, (b.0, refl, b.2))) (λ a r xs ys m no. absurd no)
-      (λ xs r p. deep_as o f (map h f) xs xs r r (λ of y. y) p) (λ a r xs ys m no. absurd no) x (λ a s e. told_none (ret tt s) refl refl refl (λ more f. refl))
-  told o A (◌⨾◌ {A = B} {B = C} f g) (d, (d', (p, q))) ts (x, y) = told_pair (λ b c. (b, c)) (SpellsBy (Spells body) (under o) (f ⨾ g)) o f g d d' q ts (λ a b r xs m. m) x y
-  told o A (choose T f g) d ts (x, y) =
-      told_first T (λ q. told_as (λ a r xs q c m. inl m) (λ xs r c b. (b.0, b.1, inl b.2)) (λ xs r c p. deep_as o f (choose T f g) xs xs r r (λ of x. inl x) p) x)
-      (λ q. told_as (λ a r xs q c m. inr m) (λ xs r c b. (b.0, b.1, inr b.2)) (λ xs r c p. deep_as o g (choose T f g) xs xs r r (λ of x. inr x) p) y)
-  told o A (many {A = B} T f) d ts (x, y) = told_many o T f d ts (x ts (omega arith)) y
-  told o A (or_none T f a) d ts x =
-      told_first T (λ q. told_as (λ a r xs q c m. inl m) (λ xs r c b. (b.0, b.1, inl b.2)) (λ xs r c p. deep_as o f (or_none T f a) xs xs r r (λ of x. x) p) x)
-      (λ q. told_none (ret a ts) refl refl (inr (refl, refl, q)) (λ more f. refl))
-  told o A (nest m T f) d ts x = told_nest o m T A f d ts x
-  told o A (bounded f) (d, n) ts x = tokens_over o A f d ts x
-  told o A (two_ahead T U f g) (d, (d', (h, (p, (n, k))))) ts (x, y) =
-      told_two T U (λ s. form_takes facts body sure A f d ts (sees_among T (begins facts f) ts h.1.1 s)) (λ s. form_takes facts body sure A g d' ts (sees_among T (begins facts g) ts k s))
-      (λ q. told_as (λ a r xs z c m. inl m) (λ xs r c b. (b.0, b.1, inl b.2)) (λ xs r c p. deep_as o f (two_ahead T U f g) xs xs r r (λ of x. inl x) p) x)
-      (λ q. told_as (λ a r xs z c m. inr (m, ap (sees_two T U) (sym c) ∙ q))
+  reported o A (give a) d ts x = reported_none (ret a ts) refl refl (refl, refl) (λ more f. refl)
+  reported o A (call n) d ts x =
+      rw (read_is facts body sure (under o) n ts) (reported_with (λ xs r more c k e. read_is facts body sure unlimited n (xs ++ more))
+      (reported_as (λ a r xs q c m. spells_body body (under o) n a r xs m) (λ xs r c b. (b.0, b.1, spells_body body unlimited n b.0 [] (xs ++ b.1) b.2)) (λ xs r c p. deep_body o n xs r p) x))
+  reported o A (map {A = B} h f) d ts x =
+      reported_then {O = λ (u : Unit {0}) r ys. ys ≡ []} {L = λ ys. ⊥} {F = λ ys r. ⊥} {h' = ret tt} {g = ret tt} (λ a u. h a) (λ a u r xs ys m z. (a, refl, none_after o f a r xs ys z m)) (λ xs b. (h b.0, b.1, (b.0, refl, b.2))) (λ a r xs ys m no. absurd no)
+      (λ xs r p. deep_as o f (map h f) xs xs r r (λ of y. y) p) (λ a r xs ys m no. absurd no) x (λ a s e. reported_none (ret tt s) refl refl refl (λ more f. refl))
+  reported o A (◌⨾◌ {A = B} {B = C} f g) (d, (d', (p, q))) ts (x, y) = reported_pair (λ b c. (b, c)) (SpellsBy (Spells body) (under o) (f ⨾ g)) o f g d d' q ts (λ a b r xs m. m) x y
+  reported o A (choose T f g) d ts (x, y) =
+      reported_first T (λ q. reported_as (λ a r xs q c m. inl m) (λ xs r c b. (b.0, b.1, inl b.2)) (λ xs r c p. deep_as o f (choose T f g) xs xs r r (λ of x. inl x) p) x)
+      (λ q. reported_as (λ a r xs q c m. inr m) (λ xs r c b. (b.0, b.1, inr b.2)) (λ xs r c p. deep_as o g (choose T f g) xs xs r r (λ of x. inr x) p) y)
+  reported o A (many {A = B} T f) d ts (x, y) = reported_many o T f d ts (x ts (omega arith)) y
+  reported o A (or_none T f a) d ts x =
+      reported_first T (λ q. reported_as (λ a r xs q c m. inl m) (λ xs r c b. (b.0, b.1, inl b.2)) (λ xs r c p. deep_as o f (or_none T f a) xs xs r r (λ of x. x) p) x)
+      (λ q. reported_none (ret a ts) refl refl (inr (refl, refl, q)) (λ more f. refl))
+  reported o A (nest m T f) d ts x = reported_nest o m T A f d ts x
+  reported o A (bounded f) (d, n) ts x = tokens_over o A f d ts x
+  reported o A (two_ahead T U f g) (d, (d', (h, (p, (n, k))))) ts (x, y) =
+      reported_two T U (λ s. form_takes facts body sure A f d ts (sees_among T (begins facts f) ts h.1.1 s)) (λ s. form_takes facts body sure A g d' ts (sees_among T (begins facts g) ts k s))
+      (λ q. reported_as (λ a r xs z c m. inl m) (λ xs r c b. (b.0, b.1, inl b.2)) (λ xs r c p. deep_as o f (two_ahead T U f g) xs xs r r (λ of x. inl x) p) x)
+      (λ q. reported_as (λ a r xs z c m. inr (m, ap (sees_two T U) (sym c) ∙ q))
       (begun_two T U g (two_ahead T U f g) ts q (let b = begun_none f d in (b.0, b.1, inl b.2)) (λ t i. let w = with_head facts body sure U A f d p t (sees_among T (begins facts f) (t ∷ []) h.1.1 i) in (w.0, w.1, inl w.2)) (λ a xs m z. inr (m, z)))
       (λ xs r c p. deep_as o g (two_ahead T U f g) xs xs r r (λ of y. inr (y, ap (sees_two T U) (sym c) ∙ q)) p) y)
-  told o A (avoid T U f) (d, (i, (n, (k, l)))) ts x =
-      told_two T U (λ s. second_taken T ts s) (λ s. form_takes facts body sure A f d ts (sees_among T (begins facts f) ts k s))
+  reported o A (avoid T U f) (d, (i, (n, (k, l)))) ts x =
+      reported_two T U (λ s. second_taken T ts s) (λ s. form_takes facts body sure A f d ts (sees_among T (begins facts f) ts k s))
       (λ q. second_refused T U A f (SpellsBy (Spells body) (under o) (avoid T U f)) (Deep o (avoid T U f)) (d, (i, (n, (k, l)))) ts q)
-      (λ q. told_as (λ a r xs z c m. (m, two_less T U xs r (ap (sees_two T U) (sym c) ∙ q)))
+      (λ q. reported_as (λ a r xs z c m. (m, two_less T U xs r (ap (sees_two T U) (sym c) ∙ q)))
       (begun_two T U f (avoid T U f) ts q (let e = avoided_example facts body sure T U A f (d, (i, (n, (k, l)))) in (e.0, e.1, e.3)) (goes_on_so facts body sure T U A f (d, (i, (n, (k, l))))) (λ a xs m z. (m, two_less T U xs [] z)))
       (λ xs r c p. deep_as o f (avoid T U f) xs xs r r (λ of y. (y, ap (sees_two T U) (sym c) ∙ q)) p) x)
 
-  pub form_told : (o : Option Limits) (A : Type 0) (f : Form N Node A) → Decided facts f → (ts : List Tok) → ToldAt o A f ts
-  form_told o A f d ts = by_reading facts body sure ToldAt told o A f d ts
+  pub form_reported : (o : Option Limits) (A : Type 0) (f : Form N Node A) → Decided facts f → (ts : List Tok) → ToldAt o A f ts
+  form_reported o A f d ts = by_reading facts body sure ToldAt reported o A f d ts
 
   -- without limits no token is too deep
   pub stays : (A : Type 0) (f : Form N Node A) → Decided facts f → (ts : List Tok) → fault_of (run (read body) unlimited f ts) ≡ misfit
-  stays A f d ts = (elim (fault_of (plain f ts)) as (λ y. (y ≡ too_deep → ⊥) → y ≡ misfit) [ misfit ↦ λ k. refl | too_deep ↦ λ k. absurd (k refl) ]) (form_told None A f d ts).deep
+  stays A f d ts = (elim (fault_of (plain f ts)) as (λ y. (y ≡ too_deep → ⊥) → y ≡ misfit) [ misfit ↦ λ k. refl | too_deep ↦ λ k. absurd (k refl) ]) (form_reported None A f d ts).deep

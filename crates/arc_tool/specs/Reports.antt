@@ -6,7 +6,7 @@ abbrev pub Names : List ℕ → Refusal → Type 0
 Names name r = r.name.now ≡ name
 
 -- the refusal has this number, this name and this place
-pub record Tells (number : ℕ) (name : List ℕ) (at : ℕ) (r : Refusal) : Type 0 where
+pub record Reports (number : ℕ) (name : List ℕ) (at : ℕ) (r : Refusal) : Type 0 where
   pub number_is : r.number ≡ number
   pub name_is : Names name r
   pub at_is : r.at ≡ at

@@ -2,7 +2,7 @@ use Rattle.std.proofs.Common.{[], ◌∷◌, ◌++◌, codes}
 use Rattle.std.proofs.lemmas.Result.{err_from_is_err_and}
 use Rattle.arc_code.proofs.Parts.{wider, then_ok, then_failed, then_written}
 use Rattle.arc_tool.specs.Status.{message_of}
-use Rattle.arc_tool.proofs.report.tell.Goals as goal
+use Rattle.arc_tool.proofs.report.print_trouble.Goals as goal
 
 pub returns-in_err-put : goal.returns-in_err-put
 returns-in_err-put g c =
