@@ -483,7 +483,7 @@ fn given<'a>(alloc: Global, tokens: &'a [Token]) -> Read<'a, Vec<Expr>>
 
 /// These arguments and the further ones, each after a comma.
 #[cycle(exprs)]
-#[tactic(auto, using(crate::proofs::Fix::read_more_arguments, arc_form::proofs::Rows::all_push))]
+#[tactic(auto, using(crate::proofs::Fix::read_more_arguments, arc_form::proofs::Joining::all_push))]
 fn more_arguments<'a>(alloc: Global, before: Vec<Expr>, tokens: &'a [Token]) -> Read<'a, Vec<Expr>>
     ensures gives { Gives (λ x. (all expr_tree x.0.items, toks x.1.now)) result (reads_on grammar.more_arguments (all expr_tree before.items) (toks tokens.now)) }
     ensures shorter { IfOk result (λ x. length x.1.now ≤ length tokens.now) }
@@ -574,7 +574,7 @@ fn parts<'a>(alloc: Global, first: Vec<u8>, tokens: &'a [Token]) -> Read<'a, (Ve
 
 /// This selector and these arguments, and further parts with theirs.
 #[cycle(exprs)]
-#[tactic(auto, using(crate::proofs::Fix::read_more_parts, arc_form::proofs::Rows::all_push), unfolding(arc_grammar::specs::Grammar::next_part, arc_grammar::specs::Grammar::argument_part))]
+#[tactic(auto, using(crate::proofs::Fix::read_more_parts, arc_form::proofs::Joining::all_push), unfolding(arc_grammar::specs::Grammar::next_part, arc_grammar::specs::Grammar::argument_part))]
 fn more_parts<'a>(
     alloc: Global,
     before: Vec<u8>,

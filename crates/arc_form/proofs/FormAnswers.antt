@@ -13,9 +13,8 @@ use Rattle.arc_form.proofs.Sets.{both, two_less, two_alike, apart, sees_among, s
 use Rattle.arc_form.proofs.Static.{Facts, nullable, begins, bars, Decided, Fits}
 use Rattle.arc_form.proofs.Local.{rest_of, fault_of, put, loop_turn, nested_is}
 use Rattle.arc_form.proofs.FormLocal.{read_is, some_front, Property, PartsOf, under, reading, by_reading}
-use Rattle.arc_form.proofs.FormStarts.{spells_body, form_free, form_alone}
 use Rattle.arc_form.proofs.FormBegins.{second_taken, form_idle, form_takes}
-use Rattle.arc_form.proofs.FormExamples.{Has, join, not_barred, some_example, avoided_example, goes_on_so, with_head}
+use Rattle.arc_form.proofs.FormStarts.{spells_body, form_free, form_alone, Has, join, not_barred, some_example, avoided_example, goes_on_so, with_head}
 use Rattle.arc_form.proofs.FormFirm.{both_of, Firm, Ends, form_firm}
 
 -- h gives this answer of all lists that are the same up to the token at which it stops
@@ -184,7 +183,9 @@ module _ {N : Type 0} {Node : N → Type 0} (facts : N → Facts) (body : Bodies
   )
 
   begun_first : {A B : Type 0} (f : Form N Node A) (g : Form N Node B) → Decided facts f → Decided facts g → (nullable facts g || apart (bars facts f) (begins facts g)) ≡ true → (xs : List Tok) → Begun body f xs → Begun body (f ⨾ g) xs
-  begun_first f g d d' p xs (a, others, x) = let e = some_example facts body sure _ g d' in ((a, e.0), others ++ e.1, subst (SpellsBy (Spells body) unlimited (f ⨾ g) (a, e.0) []) (append_assoc xs others e.1) (join facts body sure f g d a e.0 [] (xs ++ others) e.1 x (not_barred facts body sure f g d' p [] e) e.3))
+  begun_first f g d d' p xs (a, others, x) =
+      let e = some_example facts body sure _ g d' in
+      ((a, e.0), others ++ e.1, subst (SpellsBy (Spells body) unlimited (f ⨾ g) (a, e.0) []) (append_assoc xs others e.1) (join facts body sure f g d a e.0 [] (xs ++ others) e.1 x (not_barred facts body sure f g d' p [] e) e.3))
 
   reported_pair : {A B C : Type 0} (make : A → B → C) (Q : Spelling C) (o : Option Limits) (f : Form N Node A) (g : Form N Node B) → Decided facts f → Decided facts g → (nullable facts g || apart (bars facts f) (begins facts g)) ≡ true → (ts : List Tok)
       → ((a : A) (b : B) (r xs : List Tok) → SpellsBy (Spells body) (under o) (f ⨾ g) (a, b) r xs → Q (make a b) r xs)
@@ -241,7 +242,8 @@ module _ {N : Type 0} {Node : N → Type 0} (facts : N → Facts) (body : Bodies
   tokens_over None A f d ts t = reported_as (λ a r xs q c m. (tt, m)) (λ xs r c b. (b.0, b.1, (tt, b.2))) (λ xs r c p. p) t
   tokens_over (Some limits) A f d ts t = go limits.tokens (λ xs r p. (0, p))
     where
-      go : (most : Option ℕ) → ((xs r : List Tok) → OneTooMany body most f xs r → Deep (Some limits) (bounded f) xs r) → Reported (λ a r xs. AtMost most (length xs) × Has facts body sure f a r xs) (Begun body (bounded f)) (Deep (Some limits) (bounded f)) (plain f) ts (cut most ts (plain f ts))
+      go : (most : Option ℕ) → ((xs r : List Tok) → OneTooMany body most f xs r → Deep (Some limits) (bounded f) xs r)
+          → Reported (λ a r xs. AtMost most (length xs) × Has facts body sure f a r xs) (Begun body (bounded f)) (Deep (Some limits) (bounded f)) (plain f) ts (cut most ts (plain f ts))
       go None k = reported_as (λ a r xs q c m. (tt, m)) (λ xs r c b. (b.0, b.1, (tt, b.2))) (λ xs r c p. absurd p) t
       go (Some n) k =
           let few : (a : A) (r xs : List Tok) → goes_over n ts (plain f ts) ≡ false → plain f ts ≡ Ok (a, r) → ts ≡ xs ++ r → length xs ≤ n =

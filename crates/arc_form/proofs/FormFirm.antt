@@ -84,7 +84,8 @@ module _ {N : Type 0} {Node : N → Type 0} (facts : N → Facts) (body : Bodies
   more_turns : (o : Option Limits) (T : Kinds) {A : Type 0} (f : Form N Node A) → Decided facts (many T f) → (ts r : List Tok) → sees T ts ≡ true → More o (reading body o f ts) r → More o (reading body o (many T f) ts) r
   more_turns o T f d ts r s m = rw (loop_turn T (some_front facts body sure (under o) f d.0 d.1.0.0) ts, s) (more_turn facts body sure o T f d ts r m)
 
-  more_two : (o : Option Limits) (T U : Kinds) (A : Type 0) (f : Form N Node A) → Decided facts f → Holds (second facts U f) → Heads facts T f → (xs rest r : List Tok) → sees_two T U (xs ++ r) ≡ true → sees_two T U (xs ++ rest) ≡ false → 1 ≤ length xs → More o (reading body o f (xs ++ r)) r
+  more_two : (o : Option Limits) (T U : Kinds) (A : Type 0) (f : Form N Node A) → Decided facts f → Holds (second facts U f) → Heads facts T f → (xs rest r : List Tok)
+      → sees_two T U (xs ++ r) ≡ true → sees_two T U (xs ++ rest) ≡ false → 1 ≤ length xs → More o (reading body o f (xs ++ r)) r
   more_two (Some limits) T U A f d s h xs rest r p q z = tt
   more_two None T U A f d s h [] rest r p q z = absurd (omega arith)
   more_two None T U A f d s h (t ∷ []) rest r p q z =
@@ -133,17 +134,22 @@ module _ {N : Type 0} {Node : N → Type 0} (facts : N → Facts) (body : Bodies
         firm_then {D = B × C} (λ b c. (b, c)) o (nullable facts g) (goes_on facts f) (bars facts f) (begins facts g) (Ends (f ⨾ g) rest r) (Ends g rest r) (reading body o f) (reading body o g) a.0 a.1 xs ys zs rest r e
         (starts facts L s (under o) g d' a.1 rest zs y) p (λ e. (none_right (goes_on facts g) further r e.0, fair_right (bars facts g) barred rest r e.1))
         (λ e. (none_left (goes_on facts g) further r e.0, fair_left (bars facts g) barred rest r e.1)) (left facts body sure o g d') (firm o B f d a.0 (zs ++ rest) ys (zs ++ r) x) (firm o C g d' a.1 rest zs r y)
-    firm o A (choose T f g) (d, (d', (h, p))) a rest xs r (inl x) = rw (ahead o T f d h a rest xs r x) (firm_less o (reading body o f (xs ++ r)) a _ _ r (λ e. (both_ends f g rest r (none_left (goes_on facts f ∪ goes_on facts g) (if_so (nullable facts g) T) r e.0) e.1).0) (firm o A f d a rest xs r x))
-    firm o A (choose T f g) (d, (d', (h, p))) a rest xs r (inr x) = go (starts facts L s (under o) g d' a rest xs x) (firm_less o (reading body o g (xs ++ r)) a (Ends (choose T f g) rest r) (Ends g rest r) r (λ e. (both_ends f g rest r (none_left (goes_on facts f ∪ goes_on facts g) (if_so (nullable facts g) T) r e.0) e.1).1) (firm o A g d' a rest xs r x))
+    firm o A (choose T f g) (d, (d', (h, p))) a rest xs r (inl x) =
+        rw (ahead o T f d h a rest xs r x) (firm_less o (reading body o f (xs ++ r)) a _ _ r (λ e. (both_ends f g rest r (none_left (goes_on facts f ∪ goes_on facts g) (if_so (nullable facts g) T) r e.0) e.1).0) (firm o A f d a rest xs r x))
+    firm o A (choose T f g) (d, (d', (h, p))) a rest xs r (inr x) =
+        go (starts facts L s (under o) g d' a rest xs x)
+        (firm_less o (reading body o g (xs ++ r)) a (Ends (choose T f g) rest r) (Ends g rest r) r (λ e. (both_ends f g rest r (none_left (goes_on facts f ∪ goes_on facts g) (if_so (nullable facts g) T) r e.0) e.1).1) (firm o A g d' a rest xs r x))
       where
         go : Starts (nullable facts g) (begins facts g) xs → Firm o (reading body o g (xs ++ r)) a (Ends (choose T f g) rest r) r → Firm o (cond (sees T (xs ++ r)) (reading body o f (xs ++ r)) (reading body o g (xs ++ r))) a (Ends (choose T f g) rest r) r
         go (inl (n, e)) m = subst (λ v. Firm o (cond (sees T (v ++ r)) (reading body o f (v ++ r)) (reading body o g (v ++ r))) a (Ends (choose T f g) rest r) r) (sym e)
-            (passed o T A f d h (reading body o g r) a (Ends (choose T f g) rest r) r (λ e. none_so T (nullable facts g) r n (none_right (goes_on facts f ∪ goes_on facts g) (if_so (nullable facts g) T) r e.0)) (subst (λ v. Firm o (reading body o g (v ++ r)) a (Ends (choose T f g) rest r) r) e m))
+            (passed o T A f d h (reading body o g r) a (Ends (choose T f g) rest r) r (λ e. none_so T (nullable facts g) r n (none_right (goes_on facts f ∪ goes_on facts g) (if_so (nullable facts g) T) r e.0))
+            (subst (λ v. Firm o (reading body o g (v ++ r)) a (Ends (choose T f g) rest r) r) e m))
         go (inr q) m = rw (sees_apart (begins facts g) T (xs ++ r) p (sees_more (begins facts g) xs r q)) m
     firm o A (many {A = B} T f) (d, p) all rest xs r x = firm_all o T f (d, p) (firm o B f d) all rest xs r x
     firm o A (or_none T f b) (d, h) a rest xs r (inl x) = rw (ahead o T f d h a rest xs r x) (firm_less o (reading body o f (xs ++ r)) a _ _ r (λ e. (e.0, fair_right T (bars facts f) rest r e.1)) (firm o A f d a rest xs r x))
     firm o A (or_none T f b) (d, h) a rest xs r (inr (e, v, m)) =
-        subst (λ y. Firm o (cond (sees T (y ++ r)) (reading body o f (y ++ r)) (ret b (y ++ r))) a (Ends (or_none T f b) rest r) r) (sym e) (passed o T A f d h (ret b r) a (Ends (or_none T f b) rest r) r (λ e. fair_none T rest r m (fair_left T (bars facts f) rest r e.1)) (inl (ap (λ y. Ok (y, r)) (sym v))))
+        subst (λ y. Firm o (cond (sees T (y ++ r)) (reading body o f (y ++ r)) (ret b (y ++ r))) a (Ends (or_none T f b) rest r) r) (sym e)
+        (passed o T A f d h (ret b r) a (Ends (or_none T f b) rest r) r (λ e. fair_none T rest r m (fair_left T (bars facts f) rest r e.1)) (inl (ap (λ y. Ok (y, r)) (sym v))))
     firm o A (nest m T f) (d, h) a rest xs r (p, x) = rw (nested_fits (under o).depth m T (reading body o f) (xs ++ r) p) (firm o A f d a rest xs r x)
     firm o A (bounded f) (d, n) a rest xs r (p, x) = firm_up_to o (reading body None f) a (Ends f rest r) r xs p (firm None A f d a rest xs r x)
     firm o A (two_ahead T U f g) (d, (d', (h, (p, q)))) a rest xs r (inl x) =
@@ -159,7 +165,8 @@ module _ {N : Type 0} {Node : N → Type 0} (facts : N → Facts) (body : Bodies
           | true ↦ λ k. inr (λ ends. let no = kept (fair_left second others rest r ends.1) e in cc, more_two o T U A f d p h xs rest r k e some)
           | false ↦ λ k. firm_less o (reading body o g (xs ++ r)) a _ _ r (λ e. (both_ends f g rest r e.0 (fair_right second others rest r e.1)).1) of_g
         ]) refl
-    firm o A (avoid T U f) (d, (e, (n, (t, (l, p))))) a rest xs r (x, q) = rw (two_kept true T U xs [] r (λ z. longs facts L s (under o) _ f d l a rest xs x) (seen_some (begins facts f) xs (some_starts facts L s (under o) f d n a rest xs x)) (inl (none_seen r)) (ap (sees_two T U) (append-nil xs) ∙ q)) (firm o A f d a rest xs r x)
+    firm o A (avoid T U f) (d, (e, (n, (t, (l, p))))) a rest xs r (x, q) =
+        rw (two_kept true T U xs [] r (λ z. longs facts L s (under o) _ f d l a rest xs x) (seen_some (begins facts f) xs (some_starts facts L s (under o) f d n a rest xs x)) (inl (none_seen r)) (ap (sees_two T U) (append-nil xs) ∙ q)) (firm o A f d a rest xs r x)
 
   within_firm : (h : ℕ) (o : Option Limits) (n : N) (a : Node n) (rest xs : List Tok) → Within body h (under o) n a rest xs → (r : List Tok) → Firm o (read body (under o) n (xs ++ r)) a (Ends (call n) rest r) r
   unfolding Within

@@ -114,7 +114,8 @@ module _ {N : Type 0} {Node : N → Type 0} (facts : N → Facts) where
     alike o A (many T f) (d, (n, q)) ts (x, y) = turns_alike T (suc (length ts)) (suc (length ts)) ts (omega arith) (omega arith) (λ us p. some_need (nullable facts f) n.0 (x us p))
     alike o A (or_none T f a) d ts x = alike_if (sees T ts) (alike_less 0 (omega arith) x) (alike_ret ts a)
     alike o A (nest m T f) (d, n) ts x =
-        rw (nested_is (under o).depth m T (run g (under o) f) ts, nested_is (under o).depth m T (run h (under o) f) ts) (alike_if (is_above (under o).depth m) (alike_if (sees T ts) (alike_err 1 ts ts too_deep (omega arith)) (alike_err 1 ts ts misfit (omega arith))) (some_need (nullable facts f) n.0 x))
+        rw (nested_is (under o).depth m T (run g (under o) f) ts, nested_is (under o).depth m T (run h (under o) f) ts)
+        (alike_if (is_above (under o).depth m) (alike_if (sees T ts) (alike_err 1 ts ts too_deep (omega arith)) (alike_err 1 ts ts misfit (omega arith))) (some_need (nullable facts f) n.0 x))
     alike o A (bounded f) (d, n) ts x = alike_cut (under o).tokens (some_need (nullable facts f) n x)
     alike o A (two_ahead T U f f') (d, (d', (n, (s, (n', t))))) ts (x, y) = alike_if (sees_two T U ts) (some_need (nullable facts f) n.0 x) (some_need (nullable facts f') n' y)
     alike o A (avoid T U f) (d, (s, (n, t))) ts x = alike_if (sees_two T U ts) (alike_err 1 ts (drop 1 ts) misfit (omega (arith, length-drop 1 ts))) (some_need (nullable facts f) n x)

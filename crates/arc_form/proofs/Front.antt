@@ -2,7 +2,7 @@
 use Rattle.std.proofs.Common.{◌≡◌, ℕ, zero, suc, ◌<◌, ◌≤◌, ◌-◌, List, [], ◌∷◌, ◌++◌, length, length-append, take, drop, Ok, Err, true, false, Some, None, refl, sym, ap, ◌∙◌, arith}
 use Rattle.std.proofs.lemmas.Bool.{ltb-false, true_from_ne_false}
 use Rattle.std.proofs.lemmas.Bool.Decides.{nat_tests}
-use Rattle.std.proofs.lemmas.List.{length-take, take-take}
+use Rattle.std.proofs.lemmas.List.{length-map, length-take, take-take, take-map, drop-map}
 use Rattle.std.proofs.Math.Seq.{drop-append_seam}
 use Rattle.arc_lex.specs.declared.token.Token.{Token}
 use Rattle.arc_lex.specs.Tokens.{Tok, tok, toks}
@@ -59,19 +59,8 @@ stops_within n b (Err x) o = let l = length-append b x.1 in grind (arith, nat_te
 
 -- ---- of tokens in memory
 
-toks_take : (n : ℕ) (l : List Token) → toks (take n l) ≡ take n (toks l)
-toks_take zero l = refl
-toks_take (suc n) [] = refl
-toks_take (suc n) (t ∷ l) = ap (λ v. tok t ∷ v) (toks_take n l)
-
-toks_drop : (n : ℕ) (l : List Token) → toks (drop n l) ≡ drop n (toks l)
-toks_drop zero l = refl
-toks_drop (suc n) [] = refl
-toks_drop (suc n) (t ∷ l) = toks_drop n l
-
 pub length_toks : (l : List Token) → length (toks l) ≡ length l
-length_toks [] = refl
-length_toks (t ∷ l) = ap suc (length_toks l)
+length_toks l = length-map l tok
 
 pub take_short : (n : ℕ) (l : List Token) → length (take n l) ≤ length l
 take_short n l = omega (arith, length-take n l)
@@ -97,7 +86,7 @@ module _ {A : Type 0} (n : ℕ) (f : Reader A) (stops : (ts : List Tok) → Stop
     us = toks ahead
 
     alike_toks : take (suc n) ts ≡ take (suc n) us
-    alike_toks = sym (ap (take (suc n)) (ap toks front ∙ toks_take (suc n) tokens) ∙ take-take (suc n) (suc n) (toks tokens) (omega arith))
+    alike_toks = sym (ap (take (suc n)) (ap toks front ∙ sym (take-map tok (suc n) tokens)) ∙ take-take (suc n) (suc n) (toks tokens) (omega arith))
 
     pub fits_so : (x : Read A) → f (toks ahead) ≡ x → rest_of x ≡ toks rest → goes_over n (toks ahead) x ≡ false → r ≡ drop (length ahead - length rest) tokens → up_to (Some n) f (toks tokens) ≡ put x (toks r)
     unfolding up_to
@@ -106,7 +95,7 @@ module _ {A : Type 0} (n : ℕ) (f : Reader A) (stops : (ts : List Tok) → Stop
         let b = (stops us).before in
         let left : rest_of (f us) ≡ toks rest = ap (λ x. rest_of x) e ∙ l in
         let many : length ahead - length rest ≡ length b = omega (arith, length_toks ahead, length_toks rest, ap length left, ap length (stops us).cut, length-append b (rest_of (f us))) in
-        let rest_is : toks r ≡ a.0 = ap toks d ∙ toks_drop (length ahead - length rest) tokens ∙ ap (λ k. drop k ts) many ∙ ap (drop (length b)) a.1 ∙ drop-append_seam b a.0 in
+        let rest_is : toks r ≡ a.0 = ap toks d ∙ sym (drop-map tok (length ahead - length rest) tokens) ∙ ap (λ k. drop k ts) many ∙ ap (drop (length b)) a.1 ∙ drop-append_seam b a.0 in
         rw (a.3) (a.2 ∙ ap (λ x. put x a.0) e ∙ ap (put x) (sym rest_is))
 
     -- lists that are alike so far go over the limit both, or none
@@ -114,7 +103,7 @@ module _ {A : Type 0} (n : ℕ) (f : Reader A) (stops : (ts : List Tok) → Stop
     unfolding up_to
     over_so x e o d =
         let over : goes_over n ts (f ts) ≡ true = true_from_ne_false _ (λ q. let no : true ≡ false = sym (ap (goes_over n us) e ∙ o) ∙ (alike ts us (sym alike_toks) q).3 in cc) in
-        rw over (ap (λ u. Err (too_deep, u)) (sym (ap toks d ∙ toks_drop n tokens)))
+        rw over (ap (λ u. Err (too_deep, u)) (sym (ap toks d ∙ sym (drop-map tok n tokens))))
 
     -- no more are left than there were
     pub rest_short : (y : Fault) → f (toks ahead) ≡ Err (y, toks rest) → length rest ≤ length ahead

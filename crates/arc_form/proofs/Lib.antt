@@ -6,11 +6,9 @@ pub mod Local
 pub mod FormLocal
 pub mod FormStarts
 pub mod FormBegins
-pub mod FormExamples
 pub mod FormFirm
 pub mod FormAnswers
 pub mod FormWhole
 pub mod Front
 pub mod Joining
 pub mod Operators
-pub mod Rows

@@ -15,7 +15,7 @@ abbrev pub main_or_none : Bool → List ℕ
 main_or_none true = main_bytes
 main_or_none false = []
 
--- The kind of a token: what a grammar reports apart. A word and a mark go by how they are written, an integer, a text and a name but `main` by what they are alone.
+-- The kind of a token: what a grammar keeps apart. A word and a mark go by how they are written, an integer, a text and a name but `main` by what they are alone.
 abbrev pub Kind : Type 0
 Kind = ℕ × List ℕ
 

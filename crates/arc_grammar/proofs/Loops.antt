@@ -11,8 +11,7 @@ use Rattle.arc_form.specs.Form.{unlimited, map, many}
 use Rattle.arc_form.specs.Operators.{fold}
 use Rattle.arc_form.specs.Joining.{joining}
 use Rattle.arc_form.proofs.Static.{passes, decided, nullable}
-use Rattle.arc_form.proofs.Rows.{push}
-use Rattle.arc_form.proofs.Joining.{joining_is, joined_is}
+use Rattle.arc_form.proofs.Joining.{push, joining_is, joined_is}
 use Rattle.arc_grammar.specs.Grammar.{Part, reads, reads_free, reads_on, these}
 use Rattle.arc_grammar.specs.Grammar as grammar
 use Rattle.arc_grammar.proofs.Fits.{facts, front, lines}

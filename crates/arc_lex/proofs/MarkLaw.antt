@@ -1,6 +1,6 @@
 -- The piece where a mark, a word after `@` or a blank stands.
 use Rattle.std.proofs.Common.{◌≡◌, ◌≤◌, ◌<◌, inl, inr, ℕ, List, [], ◌∷◌, ◌++◌, length, true, false, Bool, nat_eq, Option, Some, None, refl, sym, ap, subst, ◌∙◌, arith}
-use Rattle.arc_lex.specs.declared.spelling.TheConstants.{MARKS, AT_WORDS}
+use Rattle.arc_lex.specs.declared.token.TheConstants.{MARKS, AT_WORDS}
 use Rattle.arc_lex.specs.declared.token.Mark.{Mark}
 use Rattle.arc_lex.specs.declared.token.AtWord.{AtWord}
 use Rattle.arc_lex.specs.Bytes.{is_letter, is_digit, is_blank}

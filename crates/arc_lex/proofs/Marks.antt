@@ -7,7 +7,7 @@ use Rattle.arc_lex.specs.declared.token.Word.TheVariants as w
 use Rattle.arc_lex.specs.declared.token.AtWord.{AtWord}
 use Rattle.arc_lex.specs.declared.token.AtWord.TheVariants as ats
 use Rattle.arc_lex.specs.declared.bytes.Class.TheVariants as c
-use Rattle.arc_lex.specs.declared.spelling.TheConstants.{MARKS, WORDS, AT_WORDS}
+use Rattle.arc_lex.specs.declared.token.TheConstants.{MARKS, WORDS, AT_WORDS}
 use Rattle.arc_lex.specs.Bytes.{all_in, begins, is_letter, is_digit, is_blank}
 use Rattle.arc_lex.specs.Spellings.{mark_bytes, word_bytes, at_bytes}
 use Rattle.arc_lex.specs.private.Pieces.{first_equal}

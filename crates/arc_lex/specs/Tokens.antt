@@ -1,5 +1,5 @@
 -- Tokens, without where they lie in memory.
-use Rattle.std.specs.Prelude.{ℕ, ℤ, List, [], ◌∷◌, Bool, nat_eq}
+use Rattle.std.specs.Prelude.{ℕ, ℤ, List, [], ◌∷◌, Bool, nat_eq, map}
 use Rattle.arc_lex.specs.declared.token.Mark.{Mark}
 use Rattle.arc_lex.specs.declared.token.Mark.TheVariants as m
 use Rattle.arc_lex.specs.declared.token.Word.{Word}
@@ -36,8 +36,7 @@ abbrev pub tok : Token → Tok
 tok t = record { sort = sort_of t.kind; from = t.span.from; to = t.span.to }
 
 abbrev pub toks : List Token → List Tok
-toks [] = []
-toks (t ∷ ts) = tok t ∷ toks ts
+toks = map tok
 
 -- the number of a mark, by which two of them are kept apart
 abbrev pub number_of_mark : Mark → ℕ

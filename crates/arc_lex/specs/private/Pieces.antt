@@ -10,7 +10,7 @@ use Rattle.arc_lex.specs.declared.piece.Rule.{Rule}
 use Rattle.arc_lex.specs.declared.piece.Rule.TheVariants as rules
 use Rattle.arc_lex.specs.declared.piece.Piece as lex
 use Rattle.arc_lex.specs.declared.piece.Piece.TheVariants as pieces
-use Rattle.arc_lex.specs.declared.spelling.TheConstants.{MARKS, WORDS, AT_WORDS}
+use Rattle.arc_lex.specs.declared.token.TheConstants.{MARKS, WORDS, AT_WORDS}
 use Rattle.arc_lex.specs.Bytes.{has, run, is_blank}
 use Rattle.arc_lex.specs.Spellings.{mark_bytes, word_bytes, at_bytes}
 use Rattle.arc_lex.specs.Texts.{Part, Plain, Escape, parts_bytes, parts_value, integer}

@@ -4,7 +4,6 @@ use Rattle.arc_grammar.specs.Grammar.{reads, qualifier, begins_qualifier}
 use Rattle.arc_grammar.proofs.Loops.{length, SoFar}
 use Rattle.arc_expr.proofs.qualifier.more_qualifiers.Given as goal
 
--- the qualifiers so far and those to come are all
 abbrev pub invariant-qualifiers : goal.invariant-qualifiers
 invariant-qualifiers l = SoFar l.tokens l.rest (joining begins_qualifier (reads qualifier) and_qualifier l.fn.before) (joining begins_qualifier (reads qualifier) and_qualifier l.all)
 

@@ -6,7 +6,6 @@ use Rattle.arc_grammar.specs.Grammar as grammar
 use Rattle.arc_parse.proofs.Tops.{tops_on}
 use Rattle.arc_parse.proofs.source.tops.Given as goal
 
--- what there is so far and what is to come are all
 abbrev pub invariant-tops : goal.invariant-tops
 invariant-tops l = reads grammar.unit (toks l.tokens) ≡ tops_on (unit_tree l.all) (toks l.rest)
 

@@ -43,7 +43,6 @@ decreases-items l = 16 * length l.tokens.now + 9
 abbrev pub decreases-item : goal.decreases-item
 decreases-item l = 16 * length l.tokens.now + 8
 
--- the items so far and those to come are all
 abbrev pub invariant-items-items : goal.invariant-items-items
 invariant-items-items l = SoFar l.tokens l.rest (reads (items l.fn.depth)) (row begins_item (item l.fn.depth) stmt_tree l.all.items)
 

@@ -4,7 +4,6 @@ use Rattle.arc_grammar.specs.Grammar.{reads, more_references, next_reference}
 use Rattle.arc_grammar.proofs.Loops.{length, SoFar, listed}
 use Rattle.arc_stmt.proofs.variable.more_references.Given as goal
 
--- the variables so far and those to come are all
 abbrev pub invariant-references : goal.invariant-references
 invariant-references l = SoFar l.tokens l.rest (λ ts. with_row variable_tree l.fn.before.items (reads more_references ts)) (listed next_reference variable_tree l.all.items)
 

@@ -4,7 +4,6 @@ use Rattle.arc_grammar.specs.Grammar.{reads, more_variables, next_variable}
 use Rattle.arc_grammar.proofs.Loops.{length, SoFar, listed}
 use Rattle.arc_stmt.proofs.variable.more_variables.Given as goal
 
--- the variables so far and those to come are all
 abbrev pub invariant-variables : goal.invariant-variables
 invariant-variables l = SoFar l.tokens l.rest (λ ts. with_row variable_tree l.fn.before.items (reads more_variables ts)) (listed next_variable variable_tree l.all.items)
 

@@ -5,7 +5,6 @@ use Rattle.arc_grammar.proofs.Loops.{length, SoFar}
 use Rattle.arc_top.proofs.Fields.{groups_on}
 use Rattle.arc_top.proofs.field.groups.Given as goal
 
--- the fields so far and those to come are all
 abbrev pub invariant-groups : goal.invariant-groups
 invariant-groups l = SoFar l.tokens l.rest (reads (map (fields_of l.fn.first) groups)) (groups_on (l.visibility, field_trees l.all.items))
 

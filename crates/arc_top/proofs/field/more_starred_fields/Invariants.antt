@@ -3,7 +3,6 @@ use Rattle.arc_grammar.proofs.Loops.{length, SoFar}
 use Rattle.arc_top.specs.Fields.{starred_names_on}
 use Rattle.arc_top.proofs.field.more_starred_fields.Given as goal
 
--- the fields so far and those to come are all
 abbrev pub invariant-fields : goal.invariant-fields
 invariant-fields l = SoFar l.tokens l.rest (starred_names_on l.visibility (l.qualifiers, type_tree l.type_name) (field_trees l.fn.before.items)) (starred_names_on l.visibility (l.qualifiers, type_tree l.type_name) (field_trees l.all.items))
 

@@ -3,7 +3,6 @@ use Rattle.arc_grammar.proofs.Loops.{length, SoFar}
 use Rattle.arc_top.specs.Globals.{global_references_on}
 use Rattle.arc_top.proofs.global.more_global_references.Given as goal
 
--- the variables so far and those to come are all
 abbrev pub invariant-references : goal.invariant-references
 invariant-references l = SoFar l.tokens l.rest (global_references_on (l.qualifiers, type_tree l.type_name) (global_trees l.fn.before.items)) (global_references_on (l.qualifiers, type_tree l.type_name) (global_trees l.all.items))
 

@@ -3,7 +3,6 @@ use Rattle.arc_grammar.proofs.Loops.{length, SoFar}
 use Rattle.arc_top.specs.Globals.{globals_on}
 use Rattle.arc_top.proofs.global.more_globals.Given as goal
 
--- the variables so far and those to come are all
 abbrev pub invariant-globals : goal.invariant-globals
 invariant-globals l = SoFar l.tokens l.rest (globals_on (l.qualifiers, type_tree l.type_name) (global_trees l.fn.before.items)) (globals_on (l.qualifiers, type_tree l.type_name) (global_trees l.all.items))
 

@@ -3,7 +3,6 @@ use Rattle.arc_grammar.specs.Grammar.{reads, method_heads, begins_method, next_h
 use Rattle.arc_grammar.proofs.Loops.{length, SoFar, row}
 use Rattle.arc_top.proofs.method.method_heads.Given as goal
 
--- the methods so far and those to come are all
 abbrev pub invariant-heads : goal.invariant-heads
 invariant-heads l = SoFar l.tokens l.rest (reads method_heads) (row begins_method next_head head_tree l.all.items)
 

@@ -3,7 +3,6 @@ use Rattle.arc_grammar.specs.Grammar.{reads, methods, begins_method, method}
 use Rattle.arc_grammar.proofs.Loops.{length, SoFar, row}
 use Rattle.arc_top.proofs.method.methods.Given as goal
 
--- the methods so far and those to come are all
 abbrev pub invariant-methods : goal.invariant-methods
 invariant-methods l = SoFar l.tokens l.rest (reads methods) (row begins_method method method_tree l.all.items)
 

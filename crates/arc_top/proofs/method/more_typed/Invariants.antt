@@ -5,7 +5,6 @@ use Rattle.arc_top.specs.Signatures.{reads_after, more_typed}
 use Rattle.arc_top.proofs.Signatures.{typed_on}
 use Rattle.arc_top.proofs.method.more_typed.Given as goal
 
--- the parts so far and those to come are all
 abbrev pub invariant-parts : goal.invariant-parts
 invariant-parts l = SoFar l.tokens l.rest (reads_after more_typed (l.fn.before.items, all parameter_tree l.fn.given.items)) (typed_on (l.selector.items, all parameter_tree l.all.items))
 

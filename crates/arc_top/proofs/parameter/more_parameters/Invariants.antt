@@ -4,7 +4,6 @@ use Rattle.arc_grammar.specs.Grammar.{reads, more_parameters, next_parameter}
 use Rattle.arc_grammar.proofs.Loops.{length, SoFar, listed}
 use Rattle.arc_top.proofs.parameter.more_parameters.Given as goal
 
--- the parameters so far and those to come are all
 abbrev pub invariant-parameters : goal.invariant-parameters
 invariant-parameters l = SoFar l.tokens l.rest (λ ts. with_row parameter_tree l.fn.before.items (reads more_parameters ts)) (listed next_parameter parameter_tree l.all.items)
 
