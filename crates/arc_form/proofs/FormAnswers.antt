@@ -163,8 +163,8 @@ module _ {N : Type 0} {Node : N → Type 0} (facts : N → Facts) (body : Bodies
   abbrev pub ToldAs : Option Limits → {A : Type 0} → Form N Node A → List Tok → Read A → Type 0
   ToldAs o f ts x = Reported (SpellsBy (Spells body) (under o) f) (Begun body f) (Deep o f) (plain f) ts x
 
-  abbrev pub ToldAt : Property N Node
-  ToldAt o A f ts = ToldAs o f ts (reading body o f ts)
+  abbrev pub ReportedAt : Property N Node
+  ReportedAt o A f ts = ToldAs o f ts (reading body o f ts)
 
   -- two parts, of which the second is refused: what the first spells goes on with what goes on from there
   begun_second : (o : Option Limits) {A B : Type 0} (f : Form N Node A) (g : Form N Node B) → Decided facts f → Decided facts g → (nullable facts g || apart (bars facts f) (begins facts g)) ≡ true → (a : A) (r xs ys : List Tok)
@@ -189,7 +189,7 @@ module _ {N : Type 0} {Node : N → Type 0} (facts : N → Facts) (body : Bodies
 
   reported_pair : {A B C : Type 0} (make : A → B → C) (Q : Spelling C) (o : Option Limits) (f : Form N Node A) (g : Form N Node B) → Decided facts f → Decided facts g → (nullable facts g || apart (bars facts f) (begins facts g)) ≡ true → (ts : List Tok)
       → ((a : A) (b : B) (r xs : List Tok) → SpellsBy (Spells body) (under o) (f ⨾ g) (a, b) r xs → Q (make a b) r xs)
-      → ToldAt o A f ts → ((a : A) (s : List Tok) → reading body o f ts ≡ Ok (a, s) → ToldAt o B g s) → Reported Q (Begun body (f ⨾ g)) (Deep o (f ⨾ g)) (λ us. both_of make (plain f us) (plain g)) ts (both_of make (reading body o f ts) (reading body o g))
+      → ReportedAt o A f ts → ((a : A) (s : List Tok) → reading body o f ts ≡ Ok (a, s) → ReportedAt o B g s) → Reported Q (Begun body (f ⨾ g)) (Deep o (f ⨾ g)) (λ us. both_of make (plain f us) (plain g)) ts (both_of make (reading body o f ts) (reading body o g))
   reported_pair make Q o f g d d' p ts made t u =
       reported_then make (λ a b r xs ys x y. made a b r (xs ++ ys) (xs, ys, refl, x, y)) (begun_first f g d d' p) (begun_second o f g d d' p) (λ xs r q. deep_as o f (f ⨾ g) xs xs r r (λ of x. inl x) q)
       (λ a r xs ys x q. deep_as o g (f ⨾ g) ys (xs ++ ys) r r (λ of y. inr (a, xs, ys, refl, x, y)) q) t u
@@ -200,7 +200,7 @@ module _ {N : Type 0} {Node : N → Type 0} (facts : N → Facts) (body : Bodies
   turn_passes of limits T f before r (inr (a, xs, us, e, m, (all, ys, zs, c, n, p))) =
       (a ∷ all, xs ++ ys, zs, e ∙ ap (λ v. xs ++ v) c ∙ sym (append_assoc xs ys zs), (xs, ys, refl, subst (λ v. SpellsBy (Spells body) limits f a v xs) (ap (λ v. v ++ r) c ∙ append_assoc ys zs r) m, n), p)
 
-  reported_many : (o : Option Limits) (T : Kinds) {A : Type 0} (f : Form N Node A) → Decided facts (many T f) → (ts : List Tok) → ToldAt o A f ts → ((a : A) (s : List Tok) → reading body o f ts ≡ Ok (a, s) → ToldAt o (List A) (many T f) s) → ToldAt o (List A) (many T f) ts
+  reported_many : (o : Option Limits) (T : Kinds) {A : Type 0} (f : Form N Node A) → Decided facts (many T f) → (ts : List Tok) → ReportedAt o A f ts → ((a : A) (s : List Tok) → reading body o f ts ≡ Ok (a, s) → ReportedAt o (List A) (many T f) s) → ReportedAt o (List A) (many T f) ts
   reported_many o T {A} f (d, (h, p)) ts t u =
       rw (loop_turn T (some_front facts body sure (under o) f d h.0) ts)
       (reported_with (λ xs r more c k e. loop_turn T (some_front facts body sure unlimited f d h.0) (xs ++ more))
@@ -219,7 +219,7 @@ module _ {N : Type 0} {Node : N → Type 0} (facts : N → Facts) (body : Bodies
   one_more f n before (u ∷ m) r l p b whole = let front = begun_as f (before ++ u ∷ m) before (u ∷ m) refl b in (front, (l, front, λ a x. begun_as f (before ++ u ∷ m) (before ++ u ∷ []) m (sym (append_assoc before (u ∷ []) m)) b))
 
   -- where so many tokens are taken, or one more is refused, the next one is too many
-  too_many : (n : ℕ) (A : Type 0) (f : Form N Node A) → Decided facts f → (ts : List Tok) → ToldAt None A f ts → goes_over n ts (plain f ts) ≡ true → Begun body f (take n ts) × OneTooMany body (Some n) f (take n ts) (drop n ts)
+  too_many : (n : ℕ) (A : Type 0) (f : Form N Node A) → Decided facts f → (ts : List Tok) → ReportedAt None A f ts → goes_over n ts (plain f ts) ≡ true → Begun body f (take n ts) × OneTooMany body (Some n) f (take n ts) (drop n ts)
   too_many n A f d ts t o =
       let xs = t.taken in
       let r = rest_of (plain f ts) in
@@ -237,7 +237,7 @@ module _ {N : Type 0} {Node : N → Type 0} (facts : N → Facts) (body : Bodies
       stopped (Err x) e a ys l c (inl k) = let no : ◌≡◌ {A = Read A} (Err x) (Ok (a, x.1)) = sym e ∙ ap (plain f) c ∙ k in cc
       stopped (Err x) e a ys l c (inr (_, k)) = omega (arith, k, ap (λ us. length (rest_of (plain f us))) (sym c), ap (λ z. length (rest_of z)) e)
 
-  tokens_over : (o : Option Limits) (A : Type 0) (f : Form N Node A) → Decided facts f → (ts : List Tok) → ToldAt None A f ts → ToldAt o A (bounded f) ts
+  tokens_over : (o : Option Limits) (A : Type 0) (f : Form N Node A) → Decided facts f → (ts : List Tok) → ReportedAt None A f ts → ReportedAt o A (bounded f) ts
   unfolding up_to
   tokens_over None A f d ts t = reported_as (λ a r xs q c m. (tt, m)) (λ xs r c b. (b.0, b.1, (tt, b.2))) (λ xs r c p. p) t
   tokens_over (Some limits) A f d ts t = go limits.tokens (λ xs r p. (0, p))
@@ -255,7 +255,7 @@ module _ {N : Type 0} {Node : N → Type 0} (facts : N → Facts) (body : Bodies
             | false ↦ λ e. reported_as (λ a r xs q c m. (few a r xs e q c, m)) (λ xs r c b. (b.0, b.1, (tt, b.2))) (λ xs r c p. absurd p) t
           ]) refl
 
-  reported_nest : (o : Option Limits) (m : ℕ) (T : Kinds) (A : Type 0) (f : Form N Node A) → Decided facts (nest m T f) → (ts : List Tok) → ToldAt o A f ts → ToldAt o A (nest m T f) ts
+  reported_nest : (o : Option Limits) (m : ℕ) (T : Kinds) (A : Type 0) (f : Form N Node A) → Decided facts (nest m T f) → (ts : List Tok) → ReportedAt o A f ts → ReportedAt o A (nest m T f) ts
   reported_nest o m T A f (d, h) ts x =
       rw (nested_is (under o).depth m T (reading body o f) ts) (reported_with (λ xs r more c k e. nested_is None m T (plain f) (xs ++ more)) (go (is_above (under o).depth m) refl (sees T ts) refl))
     where
@@ -288,10 +288,10 @@ module _ {N : Type 0} {Node : N → Type 0} (facts : N → Facts) (body : Bodies
   none_after o f a r xs [] z m = subst (SpellsBy (Spells body) (under o) f a r) (sym (append-nil xs)) m
   none_after o f a r xs (t ∷ ys) z m = cc
 
-  reported : (o : Option Limits) (A : Type 0) (f : Form N Node A) → Decided facts f → (ts : List Tok) → PartsOf body ToldAt o A f ts → ToldAt o A f ts
+  reported : (o : Option Limits) (A : Type 0) (f : Form N Node A) → Decided facts f → (ts : List Tok) → PartsOf body ReportedAt o A f ts → ReportedAt o A f ts
   reported o A (token T g) d ts x = go ts (sees T ts) refl
     where
-      go : (ts : List Tok) (b : Bool) → sees T ts ≡ b → ToldAt o A (token T g) ts
+      go : (ts : List Tok) (b : Bool) → sees T ts ≡ b → ReportedAt o A (token T g) ts
       go ts false q = rw (none_taken T g ts q) (reported_none (Err (misfit, ts)) refl refl (begun_none (token T g) d) (λ more f. none_taken T g more (sees_alike T more ts f ∙ q)))
       go [] true q = cc
       go (t ∷ ts) true q = subst (λ b. ToldAs o (token T g) (t ∷ ts) (taken b g t ts)) (sym q) (record { taken = t ∷ []; cut = refl; good = (t, refl, q, refl); same = λ z more f. ap (λ b. taken b g t more) q; deep = λ z. cc })
@@ -325,8 +325,8 @@ module _ {N : Type 0} {Node : N → Type 0} (facts : N → Facts) (body : Bodies
       (begun_two T U f (avoid T U f) ts q (let e = avoided_example facts body sure T U A f (d, (i, (n, (k, l)))) in (e.0, e.1, e.3)) (goes_on_so facts body sure T U A f (d, (i, (n, (k, l))))) (λ a xs m z. (m, two_less T U xs [] z)))
       (λ xs r c p. deep_as o f (avoid T U f) xs xs r r (λ of y. (y, ap (sees_two T U) (sym c) ∙ q)) p) x)
 
-  pub form_reported : (o : Option Limits) (A : Type 0) (f : Form N Node A) → Decided facts f → (ts : List Tok) → ToldAt o A f ts
-  form_reported o A f d ts = by_reading facts body sure ToldAt reported o A f d ts
+  pub form_reported : (o : Option Limits) (A : Type 0) (f : Form N Node A) → Decided facts f → (ts : List Tok) → ReportedAt o A f ts
+  form_reported o A f d ts = by_reading facts body sure ReportedAt reported o A f d ts
 
   -- without limits no token is too deep
   pub stays : (A : Type 0) (f : Form N Node A) → Decided facts f → (ts : List Tok) → fault_of (run (read body) unlimited f ts) ≡ misfit
