@@ -160,11 +160,11 @@ module _ {N : Type 0} {Node : N → Type 0} (facts : N → Facts) (body : Bodies
   reported_begun o f d (Ok (a, r)) xs m = (a, [], subst (SpellsBy (Spells body) unlimited f a []) (sym (append-nil xs)) (form_alone facts body sure unlimited f d a r xs (form_free body (under o) f a r xs m)))
   reported_begun o f d (Err x) xs b = b
 
-  abbrev pub ToldAs : Option Limits → {A : Type 0} → Form N Node A → List Tok → Read A → Type 0
-  ToldAs o f ts x = Reported (SpellsBy (Spells body) (under o) f) (Begun body f) (Deep o f) (plain f) ts x
+  abbrev pub ReportedAs : Option Limits → {A : Type 0} → Form N Node A → List Tok → Read A → Type 0
+  ReportedAs o f ts x = Reported (SpellsBy (Spells body) (under o) f) (Begun body f) (Deep o f) (plain f) ts x
 
   abbrev pub ReportedAt : Property N Node
-  ReportedAt o A f ts = ToldAs o f ts (reading body o f ts)
+  ReportedAt o A f ts = ReportedAs o f ts (reading body o f ts)
 
   -- two parts, of which the second is refused: what the first spells goes on with what goes on from there
   begun_second : (o : Option Limits) {A B : Type 0} (f : Form N Node A) (g : Form N Node B) → Decided facts f → Decided facts g → (nullable facts g || apart (bars facts f) (begins facts g)) ≡ true → (a : A) (r xs ys : List Tok)
@@ -294,7 +294,7 @@ module _ {N : Type 0} {Node : N → Type 0} (facts : N → Facts) (body : Bodies
       go : (ts : List Tok) (b : Bool) → sees T ts ≡ b → ReportedAt o A (token T g) ts
       go ts false q = rw (none_taken T g ts q) (reported_none (Err (misfit, ts)) refl refl (begun_none (token T g) d) (λ more f. none_taken T g more (sees_alike T more ts f ∙ q)))
       go [] true q = cc
-      go (t ∷ ts) true q = subst (λ b. ToldAs o (token T g) (t ∷ ts) (taken b g t ts)) (sym q) (record { taken = t ∷ []; cut = refl; good = (t, refl, q, refl); same = λ z more f. ap (λ b. taken b g t more) q; deep = λ z. cc })
+      go (t ∷ ts) true q = subst (λ b. ReportedAs o (token T g) (t ∷ ts) (taken b g t ts)) (sym q) (record { taken = t ∷ []; cut = refl; good = (t, refl, q, refl); same = λ z more f. ap (λ b. taken b g t more) q; deep = λ z. cc })
   reported o A (give a) d ts x = reported_none (ret a ts) refl refl (refl, refl) (λ more f. refl)
   reported o A (call n) d ts x =
       rw (read_is facts body sure (under o) n ts) (reported_with (λ xs r more c k e. read_is facts body sure unlimited n (xs ++ more))

@@ -50,8 +50,8 @@ module _ {N : Type 0} {Node : N → Type 0} (facts : N → Facts) (body : Bodies
     abbrev limited : Limits → Reader A
     limited limits = run (read body) limits f
 
-    abbrev ToldSo : Limits → List Tok → Read A → Type 0
-    ToldSo limits ts x = Reported (SpellsBy (Spells body) limits f) (Begun body f) (Passes body limits f) (limited unlimited) ts x
+    abbrev ReportedSo : Limits → List Tok → Read A → Type 0
+    ReportedSo limits ts x = Reported (SpellsBy (Spells body) limits f) (Begun body f) (Passes body limits f) (limited unlimited) ts x
 
     reads_whole : (limits : Limits) (a : A) (xs : List Tok) → SpellsWhole body limits f a xs → limited limits xs ≡ Ok (a, [])
     reads_whole limits a xs x = ap (limited limits) (sym (append-nil xs)) ∙ form_complete facts body sure limits f d a [] xs x refl
@@ -60,7 +60,7 @@ module _ {N : Type 0} {Node : N → Type 0} (facts : N → Facts) (body : Bodies
     pub whole_within : (limits : Limits) (ts : List Tok) (a : A) (r : List Tok) → read_whole body limits f ts ≡ Ok (a, r) → SpellsWhole body limits f a ts
     unfolding read_whole
     whole_within limits ts a r e =
-        let t = subst (ToldSo limits ts) (end_ok (limited limits ts) a r e) (form_reported facts body sure (Some limits) A f d ts) in
+        let t = subst (ReportedSo limits ts) (end_ok (limited limits ts) a r e) (form_reported facts body sure (Some limits) A f d ts) in
         subst (SpellsWhole body limits f a) (sym (t.cut ∙ append-nil t.taken)) t.good
 
     -- and without them
