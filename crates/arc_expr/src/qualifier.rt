@@ -30,7 +30,7 @@ fn qualifier(tokens: &[Token]) -> Read<'_, Qual>
 }
 
 /// These qualifiers and further ones.
-#[tactic(auto, using(arc_grammar::proofs::Loops::one_more, arc_grammar::proofs::Loops::taking))]
+#[tactic(auto, using(arc_grammar::proofs::Loops::one_more, arc_grammar::proofs::Fits::taking))]
 fn more_qualifiers(before: Qualifiers, tokens: &[Token]) -> Read<'_, Qualifiers>
     ensures gives { Gives (λ x. (x.0, toks x.1.now)) result (joining grammar.begins_qualifier (reads grammar.qualifier) and_qualifier before (toks tokens.now)) }
     ensures shorter { IfOk result (λ x. length x.1.now ≤ length tokens.now) }

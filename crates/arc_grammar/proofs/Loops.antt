@@ -10,11 +10,9 @@ use Rattle.arc_form.specs.Reader.{Reader, ◌>>=◌, ret, if_sees}
 use Rattle.arc_form.specs.Form.{unlimited, map, many}
 use Rattle.arc_form.specs.Operators.{fold}
 use Rattle.arc_form.specs.Joining.{joining}
-use Rattle.arc_form.proofs.Static.{passes, decided, nullable}
 use Rattle.arc_form.proofs.Joining.{push, joining_is, joined_is}
 use Rattle.arc_grammar.specs.Grammar.{Part, reads, reads_free, reads_on, these}
-use Rattle.arc_grammar.specs.Grammar as grammar
-use Rattle.arc_grammar.proofs.Fits.{facts, front, lines}
+use Rattle.arc_grammar.proofs.Fits.{TakesToken, front}
 
 -- These tokens are left of all; what reads all gives what now reads the rest.
 pub record SoFar {A : Type 0} (tokens rest : List Token) (whole now : Reader A) : Type 0 where
@@ -28,25 +26,11 @@ row K part tree made = joining K (reads part) push (all tree made)
 abbrev pub listed : {A T : Type 0} → Part T → (A → T) → List A → Reader (List T)
 listed = row (mark Comma)
 
--- a part that is some token at least
-pub record Takes {A : Type 0} (part : Part A) : Type 0 where
-  pub decided : passes (decided facts part) ≡ true
-  pub some : nullable facts part ≡ false
-
-pub takes : {A : Type 0} {part : Part A} → passes (decided facts part) ≡ true → nullable facts part ≡ false → Takes part
-takes d n = record { decided = d; some = n }
-
 -- one more is joined, or there is none
-pub one_more : {A B : Type 0} (T : Kinds) (part : Part A) (join : B → A → B) → Takes part → (b : B) (ts : List Tok) → joining T (reads part) join b ts ≡ if_sees T (reads part >>= (λ a. joining T (reads part) join (join b a))) (ret b) ts
+pub one_more : {A B : Type 0} (T : Kinds) (part : Part A) (join : B → A → B) → TakesToken part → (b : B) (ts : List Tok) → joining T (reads part) join b ts ≡ if_sees T (reads part >>= (λ a. joining T (reads part) join (join b a))) (ret b) ts
 one_more T part join t = joining_is T (reads part) join (front these part t.decided t.some)
 
 -- and the same where what is joined is given to what is there
-pub one_more_on : {A B : Type 0} (T : Kinds) (part : Part A) (join : B → A → B) → Takes part → (b : B) (ts : List Tok)
+pub one_more_on : {A B : Type 0} (T : Kinds) (part : Part A) (join : B → A → B) → TakesToken part → (b : B) (ts : List Tok)
     → reads_on (map (λ all left. fold join left all) (many T part)) b ts ≡ if_sees T (reads_free part >>= (λ a. reads_on (map (λ all left. fold join left all) (many T part)) (join b a))) (ret b) ts
 one_more_on T part join t = joined_is T (reads_free part) join (front unlimited part t.decided t.some)
-
--- the parts that loops read
-pub taking : Takes grammar.suffix × Takes grammar.next_argument × Takes grammar.next_part × Takes grammar.qualifier × ((d : ℕ) → Takes (grammar.item d)) × Takes grammar.next_variable × Takes grammar.next_reference × Takes grammar.next_parameter × Takes grammar.next_head × Takes grammar.method
-    × Takes grammar.next_typed × Takes grammar.next_qualified_name × Takes grammar.next_starred_name × Takes grammar.group × Takes grammar.next_name × Takes grammar.next_global × Takes grammar.next_global_reference × Takes grammar.top
-unfolding lines
-taking = (takes refl refl, takes refl refl, takes refl refl, takes refl refl, λ d. takes refl refl, takes refl refl, takes refl refl, takes refl refl, takes refl refl, takes refl refl, takes refl refl, takes refl refl, takes refl refl, takes refl refl, takes refl refl, takes refl refl, takes refl refl, takes refl refl)

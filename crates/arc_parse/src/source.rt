@@ -28,7 +28,7 @@ pub fn unit<'a>(alloc: Global, tokens: &'a [Token]) -> Read<'a, TranslationUnit>
 }
 
 /// As much as there is of what stands outside of all else.
-#[tactic(auto, using(crate::proofs::Tops::tops_start, arc_grammar::proofs::Loops::one_more, arc_grammar::proofs::Loops::taking, crate::proofs::Tops::nothing_yet))]
+#[tactic(auto, using(crate::proofs::Tops::tops_start, arc_grammar::proofs::Loops::one_more, arc_grammar::proofs::Fits::taking, crate::proofs::Tops::nothing_yet))]
 fn tops<'a>(alloc: Global, tokens: &'a [Token]) -> Read<'a, TranslationUnit>
     ensures gives { Gives (λ x. (unit_tree x.0, toks x.1.now)) result (reads grammar.unit (toks tokens.now)) }
 {

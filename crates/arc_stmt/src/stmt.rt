@@ -206,7 +206,7 @@ fn block<'a>(alloc: Global, depth: usize, tokens: &'a [Token]) -> Read<'a, Stmt>
 
 /// The items of a block, each a declaration or a statement.
 #[cycle(stmts)]
-#[tactic(auto, using(arc_grammar::proofs::Loops::one_more, arc_grammar::proofs::Loops::taking, arc_form::proofs::Joining::row_start, arc_form::proofs::Joining::all_push), unfolding(arc_grammar::specs::Grammar::items))]
+#[tactic(auto, using(arc_grammar::proofs::Loops::one_more, arc_grammar::proofs::Fits::taking, arc_form::proofs::Joining::row_start, arc_form::proofs::Joining::all_push), unfolding(arc_grammar::specs::Grammar::items))]
 pub fn items<'a>(alloc: Global, depth: usize, tokens: &'a [Token]) -> Read<'a, Vec<Stmt>>
     requires { depth ≤ 201 }
     ensures gives { Gives (λ x. (all stmt_tree x.0.items, toks x.1.now)) result (reads (grammar.items depth) (toks tokens.now)) }

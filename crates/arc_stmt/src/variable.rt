@@ -62,7 +62,7 @@ fn next_variable<'a>(alloc: Global, tokens: &'a [Token]) -> Read<'a, Variable>
 }
 
 /// These variables and the further ones, each after a comma.
-#[tactic(auto, using(arc_grammar::proofs::Loops::one_more, arc_grammar::proofs::Loops::taking, arc_form::proofs::Joining::row_is, arc_form::proofs::Joining::all_push), unfolding(arc_grammar::specs::Grammar::more_variables))]
+#[tactic(auto, using(arc_grammar::proofs::Loops::one_more, arc_grammar::proofs::Fits::taking, arc_form::proofs::Joining::row_is, arc_form::proofs::Joining::all_push), unfolding(arc_grammar::specs::Grammar::more_variables))]
 fn more_variables<'a>(
     alloc: Global,
     before: Vec<Variable>,
@@ -102,7 +102,7 @@ fn next_reference<'a>(alloc: Global, tokens: &'a [Token]) -> Read<'a, Variable>
 }
 
 /// These variables and the further ones, each after a comma and with a `*`.
-#[tactic(auto, using(arc_grammar::proofs::Loops::one_more, arc_grammar::proofs::Loops::taking, arc_form::proofs::Joining::row_is, arc_form::proofs::Joining::all_push), unfolding(arc_grammar::specs::Grammar::more_references))]
+#[tactic(auto, using(arc_grammar::proofs::Loops::one_more, arc_grammar::proofs::Fits::taking, arc_form::proofs::Joining::row_is, arc_form::proofs::Joining::all_push), unfolding(arc_grammar::specs::Grammar::more_references))]
 fn more_references<'a>(
     alloc: Global,
     before: Vec<Variable>,

@@ -7,7 +7,8 @@ use Rattle.arc_form.specs.Form.{map}
 use Rattle.arc_form.specs.Operators.{fold}
 use Rattle.arc_form.specs.Reader.{Read, Reader, bind, ◌>>=◌, ret, if_sees, take_one}
 use Rattle.arc_grammar.specs.Grammar.{QualifiedType, QualifiedName, FieldGroup, OfWord, OfType, reads, qualifiers, begins_fields, more_qualified_names, more_starred_names, plain_fields, object_fields, typed_fields, qualified_fields, group, groups, field_of, fields_of, named_fields, visibility_of, begins_visibility}
-use Rattle.arc_grammar.proofs.Loops.{one_more, taking}
+use Rattle.arc_grammar.proofs.Fits.{taking}
+use Rattle.arc_grammar.proofs.Loops.{one_more}
 use Rattle.arc_form.specs.Joining.{joining}
 use Rattle.arc_form.proofs.Binding.{bind_twice, bind_if}
 use Rattle.arc_top.specs.Fields.{begins_group, add_field, add_group, typed_fields_on, group_on}

@@ -10,12 +10,13 @@ use Rattle.arc_form.specs.Reader.{Read, Reader, bind, ◌>>=◌, ret, sees, sees
 use Rattle.arc_form.specs.Joining.{joining}
 use Rattle.arc_form.proofs.Binding.{bind_twice, bind_if}
 use Rattle.arc_grammar.specs.Grammar.{Part, QualifiedType, OfFunction, OfGlobals, reads, some_qualifiers, plain_type, class_type, of_function, of_globals, main_function, other_function, function, global, more_globals, globals, more_global_references, global_references, typed_top, of_plain, of_objects, plain_globals, object_globals, of_qualified}
-use Rattle.arc_grammar.proofs.Loops.{Takes, one_more}
+use Rattle.arc_grammar.proofs.Fits.{TakesToken}
+use Rattle.arc_grammar.proofs.Loops.{one_more}
 use Rattle.arc_top.specs.Globals.{add_global, globals_on, global_references_on, typed_on}
 use Rattle.arc_top.specs.Signatures.{reads_after}
 
 -- further variables of a type, one by one
-pub further : (type : QualifiedType) (next : Part (QualifiedType → GlobalTree)) → Takes next → (made : List GlobalTree) (ts : List Tok)
+pub further : (type : QualifiedType) (next : Part (QualifiedType → GlobalTree)) → TakesToken next → (made : List GlobalTree) (ts : List Tok)
     → joining (mark m.Comma) (reads next) (add_global type) made ts ≡ if_sees (mark m.Comma) (reads_after next type >>= (λ g. joining (mark m.Comma) (reads next) (add_global type) (made ++ g ∷ []))) (ret made) ts
 further type next t made ts = one_more (mark m.Comma) next (add_global type) t made ts ∙ simp bind_twice
 

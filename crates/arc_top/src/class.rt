@@ -78,7 +78,7 @@ pub fn class_names(tokens: &[Token]) -> Read<'_, ()>
 }
 
 /// Further names, each after a comma.
-#[tactic(auto, using(arc_grammar::proofs::Loops::one_more, arc_grammar::proofs::Loops::taking))]
+#[tactic(auto, using(arc_grammar::proofs::Loops::one_more, arc_grammar::proofs::Fits::taking))]
 fn more_names(tokens: &[Token]) -> Read<'_, ()>
     ensures gives { Gives (λ x. (x.0, toks x.1.now)) result (names_skipped (toks tokens.now)) }
     ensures shorter { IfOk result (λ x. length x.1.now ≤ length tokens.now) }

@@ -183,7 +183,7 @@ fn plain_fields<'a>(
 }
 
 /// These fields and the further ones of this type, each of which is after a comma.
-#[tactic(auto, using(arc_grammar::proofs::Loops::one_more, arc_grammar::proofs::Loops::taking, arc_grammar::proofs::Lists::appends))]
+#[tactic(auto, using(arc_grammar::proofs::Loops::one_more, arc_grammar::proofs::Fits::taking, arc_grammar::proofs::Lists::appends))]
 fn more_fields<'a>(
     alloc: Global,
     visibility: Visibility,
@@ -206,7 +206,7 @@ fn more_fields<'a>(
 }
 
 /// These fields and the further ones of this class, each of which is after a comma and `*`.
-#[tactic(auto, using(arc_grammar::proofs::Loops::one_more, arc_grammar::proofs::Loops::taking, arc_grammar::proofs::Lists::appends))]
+#[tactic(auto, using(arc_grammar::proofs::Loops::one_more, arc_grammar::proofs::Fits::taking, arc_grammar::proofs::Lists::appends))]
 fn more_starred_fields<'a>(
     alloc: Global,
     visibility: Visibility,

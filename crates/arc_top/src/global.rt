@@ -77,7 +77,7 @@ fn next_global<'a>(
 }
 
 /// These variables and the further ones of this type, each after a comma.
-#[tactic(auto, using(crate::proofs::Globals::further, arc_grammar::proofs::Loops::taking, arc_grammar::proofs::Lists::appends))]
+#[tactic(auto, using(crate::proofs::Globals::further, arc_grammar::proofs::Fits::taking, arc_grammar::proofs::Lists::appends))]
 fn more_globals<'a>(
     alloc: Global,
     qualifiers: Qualifiers,
@@ -129,7 +129,7 @@ fn next_global_reference<'a>(
 }
 
 /// These variables and the further ones of this class, each after a comma and `*`.
-#[tactic(auto, using(crate::proofs::Globals::further, arc_grammar::proofs::Loops::taking, arc_grammar::proofs::Lists::appends))]
+#[tactic(auto, using(crate::proofs::Globals::further, arc_grammar::proofs::Fits::taking, arc_grammar::proofs::Lists::appends))]
 fn more_global_references<'a>(
     alloc: Global,
     qualifiers: Qualifiers,

@@ -28,7 +28,7 @@ fn begins_method(tokens: &[Token]) -> bool
 }
 
 /// The methods that an interface declares.
-#[tactic(auto, using(arc_grammar::proofs::Loops::one_more, arc_grammar::proofs::Loops::taking, arc_form::proofs::Joining::row_start, arc_form::proofs::Joining::all_push, arc_grammar::proofs::Lists::alls), unfolding(arc_grammar::specs::Grammar::method_heads))]
+#[tactic(auto, using(arc_grammar::proofs::Loops::one_more, arc_grammar::proofs::Fits::taking, arc_form::proofs::Joining::row_start, arc_form::proofs::Joining::all_push, arc_grammar::proofs::Lists::alls), unfolding(arc_grammar::specs::Grammar::method_heads))]
 pub fn method_heads<'a>(alloc: Global, tokens: &'a [Token]) -> Read<'a, Vec<MethodHead>>
     ensures gives { Gives (λ x. (head_trees x.0.items, toks x.1.now)) result (reads grammar.method_heads (toks tokens.now)) }
     ensures shorter { IfOk result (λ x. length x.1.now ≤ length tokens.now) }
@@ -55,7 +55,7 @@ fn next_head<'a>(alloc: Global, tokens: &'a [Token]) -> Read<'a, MethodHead>
 }
 
 /// The methods that an implementation defines.
-#[tactic(auto, using(arc_grammar::proofs::Loops::one_more, arc_grammar::proofs::Loops::taking, arc_form::proofs::Joining::row_start, arc_form::proofs::Joining::all_push, arc_grammar::proofs::Lists::alls), unfolding(arc_grammar::specs::Grammar::methods))]
+#[tactic(auto, using(arc_grammar::proofs::Loops::one_more, arc_grammar::proofs::Fits::taking, arc_form::proofs::Joining::row_start, arc_form::proofs::Joining::all_push, arc_grammar::proofs::Lists::alls), unfolding(arc_grammar::specs::Grammar::methods))]
 pub fn methods<'a>(alloc: Global, tokens: &'a [Token]) -> Read<'a, Vec<Method>>
     ensures gives { Gives (λ x. (method_trees x.0.items, toks x.1.now)) result (reads grammar.methods (toks tokens.now)) }
     ensures shorter { IfOk result (λ x. length x.1.now ≤ length tokens.now) }
@@ -195,7 +195,7 @@ fn typed_parts<'a>(alloc: Global, first: Vec<u8>, tokens: &'a [Token]) -> Read<'
 }
 
 /// This selector and these parameters, and further parts with theirs.
-#[tactic(auto, using(crate::proofs::Signatures::begin_typed, arc_grammar::proofs::Loops::one_more, arc_grammar::proofs::Loops::taking, arc_form::proofs::Joining::all_push))]
+#[tactic(auto, using(crate::proofs::Signatures::begin_typed, arc_grammar::proofs::Loops::one_more, arc_grammar::proofs::Fits::taking, arc_form::proofs::Joining::all_push))]
 fn more_typed<'a>(
     alloc: Global,
     before: Vec<u8>,

@@ -128,7 +128,7 @@ fn next_parameter<'a>(alloc: Global, tokens: &'a [Token]) -> Read<'a, Parameter>
 }
 
 /// These parameters and the further ones, each after a comma.
-#[tactic(auto, using(arc_grammar::proofs::Loops::one_more, arc_grammar::proofs::Loops::taking, arc_form::proofs::Joining::row_is, arc_form::proofs::Joining::all_push), unfolding(arc_grammar::specs::Grammar::more_parameters))]
+#[tactic(auto, using(arc_grammar::proofs::Loops::one_more, arc_grammar::proofs::Fits::taking, arc_form::proofs::Joining::row_is, arc_form::proofs::Joining::all_push), unfolding(arc_grammar::specs::Grammar::more_parameters))]
 fn more_parameters<'a>(
     alloc: Global,
     before: Vec<Parameter>,
