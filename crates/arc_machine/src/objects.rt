@@ -391,7 +391,7 @@ impl<S: Store + Drop> Objects<S> {
         ensures { self.new ≡ resuming (undeclaring self.old) waiter }
     {
         self.undeclare();
-        self.frames.forget(1);
+        let _ = self.frames.pop();
         self.temporaries = waiter.temporaries;
         self.variables = waiter.variables;
         self.receiver = waiter.receiver;
@@ -410,7 +410,7 @@ impl<S: Store + Drop> Objects<S> {
     {
         self.places.forget(self.variables - 1);
         let result = self.places.top();
-        self.frames.forget(1);
+        let _ = self.frames.pop();
         self.temporaries = waiter.temporaries + 1;
         self.variables = waiter.variables;
         self.receiver = waiter.receiver;

@@ -71,10 +71,7 @@ impl<T: Copy + Drop> Stack<T> {
         ensures len { length self.old.items ≡ length self.new.items + 1 }
         ensures room { self.new.room ≡ self.old.room }
     {
-        match self.items.pop() {
-            Some(item) => item,
-            None => unreachable!(),
-        }
+        self.items.take_last()
     }
 
     /// Takes what is on top, if there is anything.
