@@ -54,3 +54,4 @@ pub mod StoredGlobals
 pub mod Turning
 pub mod Unstuck
 pub mod Walking
+pub mod Passed

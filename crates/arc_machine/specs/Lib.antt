@@ -19,3 +19,4 @@ pub mod Views
 pub mod Words
 pub mod Giving
 pub mod Lent
+pub mod Passing
