@@ -1,4 +1,4 @@
--- Reserved words are reported apart by how they are written.
+-- Reserved words are kept apart by how they are written.
 use Rattle.std.proofs.Common.{◌≡◌, ℕ, List, Some, Bool, true, false, refl}
 use Rattle.std.specs.Str.{bytes_eq}
 use denote.Enum.Bare.{sameb}

@@ -1,4 +1,4 @@
--- A number is of the kind that the form of its expression reports.
+-- A number is of the kind that the form of its expression shows.
 use Rattle.std.proofs.Common.{◌%◌, ◌≡◌, ℕ, suc, ℤ, pos, negsuc, Bool, true, false, nat_eq, nat_lt, nat_le, if◌then◌else◌, length, Option, Some, None, ◌-◌, ◌<◌, refl, sym, ap, subst, arith}
 use Rattle.std.proofs.lemmas.Bool.{false≢true, eqb-true, ltb-false, leb-false}
 use Rattle.std.proofs.lemmas.Bool.Decides.{nat_tests}

@@ -48,7 +48,7 @@ combined_kind o.BitXor kind = kind
 combined_kind o.BitOr kind = kind
 combined_kind _ kind = k.Bool
 
--- The narrowest kind that the form reports. Of a variable, a field, a call and a message it reports none, nor of a byte that is read.
+-- The narrowest kind that the form shows. Of a variable, a field, a call and a message it shows none, nor of a byte that is read.
 abbrev pub known_kind : Value → Kind
 known_kind (Number n) = number_kind n
 known_kind (Print pieces given) = k.Int
