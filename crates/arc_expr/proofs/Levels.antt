@@ -1,7 +1,7 @@
 -- Operators read one after another, each at its own level, are those that are read level by level.
 use Rattle.std.proofs.Common.{◌≡◌, ◌≤◌, ◌<◌, ◌-◌, ◌⊎◌, inl, inr, ℕ, zero, suc, List, true, false, Ok, Err, refl, ◌∙◌, arith}
 use Rattle.std.proofs.lemmas.Bool.{cases_lt}
-use Rattle.arc_lex.specs.Tokens.{Tok, toks}
+use Rattle.arc_lex.specs.Tokens.{Tok}
 use Rattle.arc_ast.specs.declared.tree.BinaryOperator.{BinaryOperator}
 use Rattle.arc_ast.specs.declared.tree.BinaryOperator.TheVariants.{Add}
 use Rattle.arc_ast.specs.Tree.{ExprTree, Binary, begins}
@@ -42,7 +42,7 @@ module _ (g : ℕ) (left : ExprTree) (ts us : List Tok) (o : ℕ × BinaryOperat
           let before : g - 1 ≡ l = omega arith in
           rw (read_past l left ts (rw before at tight), ← own, read_more g left ts, there, taken, e) refl
 
-  pub no_operand : (l : ℕ) (e : Fail) → 1 ≤ g → g ≤ l → Fails e (rules unlimited (binary (g - 1)) us) → Fails e (reads_on (up_to l) left ts)
-  no_operand l Memory p q r = tt
-  no_operand l (Unexpected x) p q r = one_more l (Err (misfit, toks x.now)) p q r tt
-  no_operand l (TooDeep x) p q r = one_more l (Err (too_deep, toks x.now)) p q r tt
+  pub no_operand : (l : ℕ) (e : Fail) (rest : List Tok) → 1 ≤ g → g ≤ l → Fails e rest (rules unlimited (binary (g - 1)) us) → Fails e rest (reads_on (up_to l) left ts)
+  no_operand l Memory rest p q r = tt
+  no_operand l Unexpected rest p q r = one_more l (Err (misfit, rest)) p q r tt
+  no_operand l TooDeep rest p q r = one_more l (Err (too_deep, rest)) p q r tt

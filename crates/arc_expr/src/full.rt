@@ -10,42 +10,48 @@ ghost use Rattle.arc_grammar.specs.Grammar as grammar;
 use crate::expr::expr;
 use arc_ast::tree::Expr;
 use arc_form::fail::{Fail, Read};
+use arc_form::reader::Reader;
 use arc_form::slice::{after, front};
 use arc_grammar::limits::MOST_TOKENS;
 use arc_lex::token::Token;
 use std::alloc::Global;
 
-/// Why there is no full-expression within the limit, where none was read of the tokens up to the limit and one more, and this rest
-/// was left.
-fn refused<'a>(tokens: &'a [Token], ahead: &'a [Token], rest: &'a [Token]) -> Fail<'a>
-    requires first { ahead.now ≡ take 1001 tokens.now }
-    requires fails { (why : Fault) × (rules unlimited grammar.expr (toks ahead.now) ≡ Err (why, toks rest.now)) }
-    ensures { Fails result (reads grammar.full (toks tokens.now)) }
+/// Leaves the tokens from the refused one on, where no full-expression was read within the limit: of the tokens up to the limit and one
+/// more, which are ahead, these were left. Why the first that is left is refused.
+fn refuse(reader: &mut Reader, ahead: &[Token], left: &[Token]) -> Fail
+    requires first { ahead.now ≡ take 1001 reader.old.rest.now }
+    requires fails { (why : Fault) × (rules unlimited grammar.expr (toks ahead.now) ≡ Err (why, toks left.now)) }
+    ensures { Fails result (toks reader.new.rest.now) (reads grammar.full (toks reader.old.rest.now)) }
 {
-    let taken = ahead.len() - rest.len();
+    let taken = ahead.len() - left.len();
     if ahead.len() > MOST_TOKENS && taken >= MOST_TOKENS {
-        Fail::TooDeep(after(tokens, MOST_TOKENS))
+        reader.rest = after(reader.rest, MOST_TOKENS);
+        Fail::TooDeep
     } else {
-        Fail::Unexpected(after(tokens, taken))
+        reader.rest = after(reader.rest, taken);
+        Fail::Unexpected
     }
 }
 
 /// A full-expression. Only the tokens up to the limit and one more are looked at.
-pub fn full<'a>(alloc: Global, tokens: &'a [Token]) -> Read<'a, Expr>
-    ensures gives { Gives (λ x. (expr_tree x.0, toks x.1.now)) result (reads grammar.full (toks tokens.now)) }
-    ensures shorter { IfOk result (λ x. length x.1.now < length tokens.now) }
+pub fn full(alloc: Global, reader: &mut Reader) -> Read<Box<Expr>>
+    ensures gives { Gives (λ x. expr_tree x.value) result (toks reader.new.rest.now) (reads grammar.full (toks reader.old.rest.now)) }
+    ensures shorter { IfOk result (λ _. length reader.new.rest.now < length reader.old.rest.now) }
 {
-    let ahead = front(tokens, MOST_TOKENS + 1);
-    match expr(alloc, ahead) {
-        Ok((tree, rest)) => {
-            let taken = ahead.len() - rest.len();
+    let ahead = front(reader.rest, MOST_TOKENS + 1);
+    let mut within = Reader { rest: ahead };
+    match expr(alloc, &mut within) {
+        Ok(tree) => {
+            let taken = ahead.len() - within.rest.len();
             if taken > MOST_TOKENS {
-                return Err(Fail::TooDeep(after(tokens, MOST_TOKENS)));
+                reader.rest = after(reader.rest, MOST_TOKENS);
+                return Err(Fail::TooDeep);
             }
-            Ok((tree, after(tokens, taken)))
+            reader.rest = after(reader.rest, taken);
+            Ok(tree)
         }
         Err(Fail::Memory) => Err(Fail::Memory),
-        Err(Fail::Unexpected(rest)) => Err(refused(tokens, ahead, rest)),
-        Err(Fail::TooDeep(rest)) => Err(refused(tokens, ahead, rest)),
+        Err(Fail::Unexpected) => Err(refuse(reader, ahead, within.rest)),
+        Err(Fail::TooDeep) => Err(refuse(reader, ahead, within.rest)),
     }
 }

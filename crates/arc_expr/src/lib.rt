@@ -4,6 +4,7 @@
 mod expr;
 pub mod full;
 mod literal;
+mod node;
 mod operator;
 pub mod qualifier;
 pub mod sign;

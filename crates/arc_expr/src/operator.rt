@@ -9,6 +9,7 @@ ghost use Rattle.arc_ast.specs.declared.tree.BinaryOperator.TheVariants.{Add};
 
 use arc_ast::tree::BinaryOperator;
 use arc_form::fail::{Fail, Read};
+use arc_form::reader::Reader;
 use arc_lex::token::{Mark, Token, TokenKind};
 
 /// The loosest level of an operator that doesn't assign.
@@ -69,10 +70,10 @@ fn of_token(token: &Token) -> Option<(usize, BinaryOperator)>
 
 /// Whether the first token is an operator of this level.
 #[tactic(auto, using(crate::proofs::Table::sees_some, crate::proofs::Table::sees_no))]
-pub fn sees_operator(level: usize, tokens: &[Token]) -> bool
-    ensures { result ≡ sees (marks_at level table) (toks tokens.now) }
+pub fn sees_operator(level: usize, reader: &Reader) -> bool
+    ensures { result ≡ sees (marks_at level table) (toks reader.now.rest.now) }
 {
-    match tokens.first() {
+    match reader.rest.first() {
         Some(token) => match of_token(token) {
             Some((found, _)) => found == level,
             None => false,
@@ -83,13 +84,13 @@ pub fn sees_operator(level: usize, tokens: &[Token]) -> bool
 
 /// The level of the first token, where it is an operator of this level or of a tighter one.
 #[tactic(auto, using(crate::proofs::Table::sees_own, crate::proofs::Table::sees_none, crate::proofs::Table::sees_looser))]
-pub fn level_ahead(level: usize, tokens: &[Token]) -> Option<usize>
-    ensures none { result ≡ None → sees (marks_up_to level) (toks tokens.now) ≡ false }
+pub fn level_ahead(level: usize, reader: &Reader) -> Option<usize>
+    ensures none { result ≡ None → sees (marks_up_to level) (toks reader.now.rest.now) ≡ false }
     ensures within { IfSome result (λ found. 1 ≤ found × found ≤ level) }
-    ensures there { IfSome result (λ found. sees (marks_at found table) (toks tokens.now) ≡ true) }
-    ensures none_tighter { IfSome result (λ found. sees (marks_up_to (found - 1)) (toks tokens.now) ≡ false) }
+    ensures there { IfSome result (λ found. sees (marks_at found table) (toks reader.now.rest.now) ≡ true) }
+    ensures none_tighter { IfSome result (λ found. sees (marks_up_to (found - 1)) (toks reader.now.rest.now) ≡ false) }
 {
-    match tokens.first() {
+    match reader.rest.first() {
         Some(token) => match of_token(token) {
             Some((found, _)) if found <= level => Some(found),
             Some(_) => None,
@@ -101,17 +102,20 @@ pub fn level_ahead(level: usize, tokens: &[Token]) -> Option<usize>
 
 /// The first token, which is an operator of this level, with its place.
 ///
-/// `Unexpected` comes with all of the tokens where it is not.
+/// `Unexpected` comes where it is not, and nothing is taken.
 #[tactic(auto, using(crate::proofs::Table::takes_table))]
-pub fn operator(level: usize, tokens: &[Token]) -> Read<'_, (usize, BinaryOperator)>
-    ensures gives { Gives (λ x. (x.0, toks x.1.now)) result (take_one (marks_at level table) (placed_operator Add table) (toks tokens.now)) }
-    ensures shorter { IfOk result (λ x. length x.1.now < length tokens.now) }
+pub fn operator(level: usize, reader: &mut Reader) -> Read<(usize, BinaryOperator)>
+    ensures gives { Gives (λ x. x) result (toks reader.new.rest.now) (take_one (marks_at level table) (placed_operator Add table) (toks reader.old.rest.now)) }
+    ensures shorter { IfOk result (λ _. length reader.new.rest.now < length reader.old.rest.now) }
 {
-    match tokens.split_first() {
-        Some((token, rest)) => match of_token(token) {
-            Some((found, operator)) if found == level => Ok(((token.span.from, operator), rest)),
-            _ => Err(Fail::Unexpected(tokens)),
-        },
-        None => Err(Fail::Unexpected(tokens)),
+    let Some((token, rest)) = reader.rest.split_first() else {
+        return Err(Fail::Unexpected);
+    };
+    match of_token(token) {
+        Some((found, operator)) if found == level => {
+            reader.rest = rest;
+            Ok((token.span.from, operator))
+        }
+        _ => Err(Fail::Unexpected),
     }
 }

@@ -9,57 +9,55 @@ ghost use Rattle.arc_ast.specs.Types.{and_qualifier};
 
 use arc_ast::tree::{Qual, Qualifiers};
 use arc_form::fail::Read;
-use arc_form::step::{keyword, sees_word};
-use arc_lex::token::{Token, Word};
+use arc_form::reader::Reader;
+use arc_lex::token::Word;
 
 /// Whether the first token is a qualifier.
-pub fn sees_qualifier(tokens: &[Token]) -> bool
-    ensures { result ≡ sees grammar.begins_qualifier (toks tokens.now) }
+pub fn sees_qualifier(reader: &Reader) -> bool
+    ensures { result ≡ sees grammar.begins_qualifier (toks reader.now.rest.now) }
 {
-    sees_word(Word::Strong, tokens)
+    reader.sees_word(Word::Strong)
 }
 
 /// A qualifier.
 #[tactic(auto, unfolding(arc_grammar::specs::Grammar::qualifier))]
-fn qualifier(tokens: &[Token]) -> Read<'_, Qual>
-    ensures gives { Gives (λ x. (x.0, toks x.1.now)) result (reads grammar.qualifier (toks tokens.now)) }
-    ensures shorter { IfOk result (λ x. length x.1.now < length tokens.now) }
+fn qualifier(reader: &mut Reader) -> Read<Qual>
+    ensures gives { Gives (λ x. x) result (toks reader.new.rest.now) (reads grammar.qualifier (toks reader.old.rest.now)) }
+    ensures shorter { IfOk result (λ _. length reader.new.rest.now < length reader.old.rest.now) }
 {
-    let (_, rest) = keyword(Word::Strong, tokens)?;
-    Ok((Qual::Strong, rest))
+    reader.keyword(Word::Strong)?;
+    Ok(Qual::Strong)
 }
 
 /// These qualifiers and further ones.
 #[tactic(auto, using(arc_grammar::proofs::Loops::one_more, arc_grammar::proofs::Fits::taking))]
-fn more_qualifiers(before: Qualifiers, tokens: &[Token]) -> Read<'_, Qualifiers>
-    ensures gives { Gives (λ x. (x.0, toks x.1.now)) result (joining grammar.begins_qualifier (reads grammar.qualifier) and_qualifier before (toks tokens.now)) }
-    ensures shorter { IfOk result (λ x. length x.1.now ≤ length tokens.now) }
+fn more_qualifiers(before: Qualifiers, reader: &mut Reader) -> Read<Qualifiers>
+    ensures gives { Gives (λ x. x) result (toks reader.new.rest.now) (joining grammar.begins_qualifier (reads grammar.qualifier) and_qualifier before (toks reader.old.rest.now)) }
+    ensures shorter { IfOk result (λ _. length reader.new.rest.now ≤ length reader.old.rest.now) }
 {
     let mut all = before;
-    let mut rest = tokens;
-    'qualifiers: while sees_qualifier(rest) {
-        let (next, after) = qualifier(rest)?;
+    'qualifiers: while sees_qualifier(reader) {
+        let next = qualifier(reader)?;
         all = all.and(next);
-        rest = after;
     }
-    Ok((all, rest))
+    Ok(all)
 }
 
 /// Qualifiers, as many as there are.
 #[tactic(auto, using(arc_form::proofs::Binding::bind_twice), unfolding(arc_grammar::specs::Grammar::qualifiers, arc_grammar::specs::Grammar::more_qualifiers))]
-pub fn qualifiers(tokens: &[Token]) -> Read<'_, Qualifiers>
-    ensures gives { Gives (λ x. (x.0, toks x.1.now)) result (reads grammar.qualifiers (toks tokens.now)) }
-    ensures shorter { IfOk result (λ x. length x.1.now ≤ length tokens.now) }
+pub fn qualifiers(reader: &mut Reader) -> Read<Qualifiers>
+    ensures gives { Gives (λ x. x) result (toks reader.new.rest.now) (reads grammar.qualifiers (toks reader.old.rest.now)) }
+    ensures shorter { IfOk result (λ _. length reader.new.rest.now ≤ length reader.old.rest.now) }
 {
-    more_qualifiers(Qualifiers::Unqualified, tokens)
+    more_qualifiers(Qualifiers::Unqualified, reader)
 }
 
 /// One qualifier or more.
 #[tactic(auto, using(arc_form::proofs::Binding::bind_twice), unfolding(arc_grammar::specs::Grammar::some_qualifiers, arc_grammar::specs::Grammar::more_qualifiers))]
-pub fn some_qualifiers(tokens: &[Token]) -> Read<'_, Qualifiers>
-    ensures gives { Gives (λ x. (x.0, toks x.1.now)) result (reads grammar.some_qualifiers (toks tokens.now)) }
-    ensures shorter { IfOk result (λ x. length x.1.now < length tokens.now) }
+pub fn some_qualifiers(reader: &mut Reader) -> Read<Qualifiers>
+    ensures gives { Gives (λ x. x) result (toks reader.new.rest.now) (reads grammar.some_qualifiers (toks reader.old.rest.now)) }
+    ensures shorter { IfOk result (λ _. length reader.new.rest.now < length reader.old.rest.now) }
 {
-    let (first, rest) = qualifier(tokens)?;
-    more_qualifiers(Qualifiers::Qualified(first), rest)
+    let first = qualifier(reader)?;
+    more_qualifiers(Qualifiers::Qualified(first), reader)
 }

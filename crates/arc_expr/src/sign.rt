@@ -7,104 +7,66 @@ ghost use Rattle.arc_grammar.specs.Grammar as grammar;
 
 use arc_ast::tree::{BinaryOperator, UnaryOperator};
 use arc_form::fail::{Fail, Read};
-use arc_form::step::sees_mark;
+use arc_form::reader::Reader;
 use arc_lex::token::{Mark, Token, TokenKind};
 
 /// Whether the first token is an operator before an operand.
 #[tactic(auto, using(arc_form::proofs::Sets::sees_or))]
-pub fn sees_sign(tokens: &[Token]) -> bool
-    ensures { result ≡ sees begins_signed (toks tokens.now) }
+pub fn sees_sign(reader: &Reader) -> bool
+    ensures { result ≡ sees begins_signed (toks reader.now.rest.now) }
 {
-    sees_mark(Mark::Minus, tokens)
-        || sees_mark(Mark::Plus, tokens)
-        || sees_mark(Mark::Tilde, tokens)
-        || sees_mark(Mark::Not, tokens)
+    reader.sees_mark(Mark::Minus)
+        || reader.sees_mark(Mark::Plus)
+        || reader.sees_mark(Mark::Tilde)
+        || reader.sees_mark(Mark::Not)
 }
 
 /// The first token, which is an operator before an operand, with its place.
 ///
-/// `Unexpected` comes with all of the tokens where it is not.
+/// `Unexpected` comes where it is not, and nothing is taken.
 #[tactic(auto, unfolding(arc_grammar::specs::Grammar::operator_before))]
-pub fn sign(tokens: &[Token]) -> Read<'_, (usize, UnaryOperator)>
-    ensures gives { Gives (λ x. (x.0, toks x.1.now)) result (reads_free grammar.operator_before (toks tokens.now)) }
-    ensures shorter { IfOk result (λ x. length x.1.now < length tokens.now) }
+pub fn sign(reader: &mut Reader) -> Read<(usize, UnaryOperator)>
+    ensures gives { Gives (λ x. x) result (toks reader.new.rest.now) (reads_free grammar.operator_before (toks reader.old.rest.now)) }
+    ensures shorter { IfOk result (λ _. length reader.new.rest.now < length reader.old.rest.now) }
 {
-    match tokens.split_first() {
-        Some(
-            (
-                Token {
-                    kind: TokenKind::Mark(Mark::Minus),
-                    span,
-                },
-                rest,
-            ),
-        ) => Ok(((span.from, UnaryOperator::Negate), rest)),
-        Some(
-            (
-                Token {
-                    kind: TokenKind::Mark(Mark::Plus),
-                    span,
-                },
-                rest,
-            ),
-        ) => Ok(((span.from, UnaryOperator::Plus), rest)),
-        Some(
-            (
-                Token {
-                    kind: TokenKind::Mark(Mark::Tilde),
-                    span,
-                },
-                rest,
-            ),
-        ) => Ok(((span.from, UnaryOperator::Complement), rest)),
-        Some(
-            (
-                Token {
-                    kind: TokenKind::Mark(Mark::Not),
-                    span,
-                },
-                rest,
-            ),
-        ) => Ok(((span.from, UnaryOperator::Not), rest)),
-        _ => Err(Fail::Unexpected(tokens)),
-    }
+    let Some((token, rest)) = reader.rest.split_first() else {
+        return Err(Fail::Unexpected);
+    };
+    let operator = match token.kind {
+        TokenKind::Mark(Mark::Minus) => UnaryOperator::Negate,
+        TokenKind::Mark(Mark::Plus) => UnaryOperator::Plus,
+        TokenKind::Mark(Mark::Tilde) => UnaryOperator::Complement,
+        TokenKind::Mark(Mark::Not) => UnaryOperator::Not,
+        _ => return Err(Fail::Unexpected),
+    };
+    reader.rest = rest;
+    Ok((token.span.from, operator))
 }
 
 /// Whether the first token is `++` or `--`.
 #[tactic(auto, using(arc_form::proofs::Sets::sees_or))]
-pub fn sees_counting(tokens: &[Token]) -> bool
-    ensures { result ≡ sees begins_counting (toks tokens.now) }
+pub fn sees_counting(reader: &Reader) -> bool
+    ensures { result ≡ sees begins_counting (toks reader.now.rest.now) }
 {
-    sees_mark(Mark::Increment, tokens) || sees_mark(Mark::Decrement, tokens)
+    reader.sees_mark(Mark::Increment) || reader.sees_mark(Mark::Decrement)
 }
 
 /// The operator that `++` or `--`, which is the first token, applies with 1, and its place.
 ///
-/// `Unexpected` comes with all of the tokens where it is neither.
+/// `Unexpected` comes where it is neither, and nothing is taken.
 #[tactic(auto, unfolding(arc_grammar::specs::Grammar::counting))]
-pub fn counting(tokens: &[Token]) -> Read<'_, (usize, BinaryOperator)>
-    ensures gives { Gives (λ x. (x.0, toks x.1.now)) result (reads_free grammar.counting (toks tokens.now)) }
-    ensures shorter { IfOk result (λ x. length x.1.now < length tokens.now) }
+pub fn counting(reader: &mut Reader) -> Read<(usize, BinaryOperator)>
+    ensures gives { Gives (λ x. x) result (toks reader.new.rest.now) (reads_free grammar.counting (toks reader.old.rest.now)) }
+    ensures shorter { IfOk result (λ _. length reader.new.rest.now < length reader.old.rest.now) }
 {
-    match tokens.split_first() {
-        Some(
-            (
-                Token {
-                    kind: TokenKind::Mark(Mark::Increment),
-                    span,
-                },
-                rest,
-            ),
-        ) => Ok(((span.from, BinaryOperator::Add), rest)),
-        Some(
-            (
-                Token {
-                    kind: TokenKind::Mark(Mark::Decrement),
-                    span,
-                },
-                rest,
-            ),
-        ) => Ok(((span.from, BinaryOperator::Subtract), rest)),
-        _ => Err(Fail::Unexpected(tokens)),
-    }
+    let Some((token, rest)) = reader.rest.split_first() else {
+        return Err(Fail::Unexpected);
+    };
+    let operator = match token.kind {
+        TokenKind::Mark(Mark::Increment) => BinaryOperator::Add,
+        TokenKind::Mark(Mark::Decrement) => BinaryOperator::Subtract,
+        _ => return Err(Fail::Unexpected),
+    };
+    reader.rest = rest;
+    Ok((token.span.from, operator))
 }

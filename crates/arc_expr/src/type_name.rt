@@ -8,159 +8,159 @@ ghost use Rattle.arc_grammar.specs.Grammar as grammar;
 
 use arc_ast::tree::TypeName;
 use arc_form::fail::Read;
-use arc_form::step::{keyword, sees_word};
-use arc_lex::token::{Token, Word};
+use arc_form::reader::Reader;
+use arc_lex::token::Word;
 
 /// Whether a type of numbers can begin with the first token.
 #[tactic(auto, using(arc_form::proofs::Sets::sees_or))]
-pub fn begins_number_type(tokens: &[Token]) -> bool
-    ensures { result ≡ sees grammar.begins_number_type (toks tokens.now) }
+pub fn begins_number_type(reader: &Reader) -> bool
+    ensures { result ≡ sees grammar.begins_number_type (toks reader.now.rest.now) }
 {
-    sees_word(Word::Int, tokens) || begins_other_type(tokens)
+    reader.sees_word(Word::Int) || begins_other_type(reader)
 }
 
 /// Whether a type of numbers but `int` can begin with the first token.
 #[tactic(auto, using(arc_form::proofs::Sets::sees_or))]
-pub fn begins_other_type(tokens: &[Token]) -> bool
-    ensures { result ≡ sees grammar.begins_other_type (toks tokens.now) }
+pub fn begins_other_type(reader: &Reader) -> bool
+    ensures { result ≡ sees grammar.begins_other_type (toks reader.now.rest.now) }
 {
-    sees_word(Word::Long, tokens)
-        || (sees_word(Word::Bool, tokens) || sees_word(Word::NsInteger, tokens))
+    reader.sees_word(Word::Long)
+        || (reader.sees_word(Word::Bool) || reader.sees_word(Word::NsInteger))
 }
 
 /// Whether a type that names no class can begin with the first token.
 #[tactic(auto, using(arc_form::proofs::Sets::sees_or))]
-pub fn begins_plain_type(tokens: &[Token]) -> bool
-    ensures { result ≡ sees grammar.begins_plain_type (toks tokens.now) }
+pub fn begins_plain_type(reader: &Reader) -> bool
+    ensures { result ≡ sees grammar.begins_plain_type (toks reader.now.rest.now) }
 {
-    sees_word(Word::Id, tokens) || begins_number_type(tokens)
+    reader.sees_word(Word::Id) || begins_number_type(reader)
 }
 
 /// A type that names no class, with its place.
 #[tactic(auto, unfolding(arc_grammar::specs::Grammar::plain_type))]
-pub fn plain_type(tokens: &[Token]) -> Read<'_, (usize, TypeName)>
-    ensures gives { Gives (λ x. ((x.0.0, type_tree x.0.1), toks x.1.now)) result (reads_free grammar.plain_type (toks tokens.now)) }
-    ensures within { Gives (λ x. ((x.0.0, type_tree x.0.1), toks x.1.now)) result (reads grammar.plain_type (toks tokens.now)) }
-    ensures shorter { IfOk result (λ x. length x.1.now < length tokens.now) }
+pub fn plain_type(reader: &mut Reader) -> Read<(usize, TypeName)>
+    ensures gives { Gives (λ x. (x.0, type_tree x.1)) result (toks reader.new.rest.now) (reads_free grammar.plain_type (toks reader.old.rest.now)) }
+    ensures within { Gives (λ x. (x.0, type_tree x.1)) result (toks reader.new.rest.now) (reads grammar.plain_type (toks reader.old.rest.now)) }
+    ensures shorter { IfOk result (λ _. length reader.new.rest.now < length reader.old.rest.now) }
 {
-    if sees_word(Word::Id, tokens) {
-        id_type(tokens)
+    if reader.sees_word(Word::Id) {
+        id_type(reader)
     } else {
-        number_type(tokens)
+        number_type(reader)
     }
 }
 
 /// `id`, with its place.
 #[tactic(auto, unfolding(arc_grammar::specs::Grammar::id_type))]
-pub fn id_type(tokens: &[Token]) -> Read<'_, (usize, TypeName)>
-    ensures gives { Gives (λ x. ((x.0.0, type_tree x.0.1), toks x.1.now)) result (reads_free grammar.id_type (toks tokens.now)) }
-    ensures within { Gives (λ x. ((x.0.0, type_tree x.0.1), toks x.1.now)) result (reads grammar.id_type (toks tokens.now)) }
-    ensures shorter { IfOk result (λ x. length x.1.now < length tokens.now) }
+pub fn id_type(reader: &mut Reader) -> Read<(usize, TypeName)>
+    ensures gives { Gives (λ x. (x.0, type_tree x.1)) result (toks reader.new.rest.now) (reads_free grammar.id_type (toks reader.old.rest.now)) }
+    ensures within { Gives (λ x. (x.0, type_tree x.1)) result (toks reader.new.rest.now) (reads grammar.id_type (toks reader.old.rest.now)) }
+    ensures shorter { IfOk result (λ _. length reader.new.rest.now < length reader.old.rest.now) }
 {
-    let (at, rest) = keyword(Word::Id, tokens)?;
-    Ok(((at, TypeName::Id), rest))
+    let at = reader.keyword(Word::Id)?;
+    Ok((at, TypeName::Id))
 }
 
 /// A type of numbers, with its place.
 #[tactic(auto, unfolding(arc_grammar::specs::Grammar::number_type))]
-pub fn number_type(tokens: &[Token]) -> Read<'_, (usize, TypeName)>
-    ensures gives { Gives (λ x. ((x.0.0, type_tree x.0.1), toks x.1.now)) result (reads_free grammar.number_type (toks tokens.now)) }
-    ensures within { Gives (λ x. ((x.0.0, type_tree x.0.1), toks x.1.now)) result (reads grammar.number_type (toks tokens.now)) }
-    ensures shorter { IfOk result (λ x. length x.1.now < length tokens.now) }
+pub fn number_type(reader: &mut Reader) -> Read<(usize, TypeName)>
+    ensures gives { Gives (λ x. (x.0, type_tree x.1)) result (toks reader.new.rest.now) (reads_free grammar.number_type (toks reader.old.rest.now)) }
+    ensures within { Gives (λ x. (x.0, type_tree x.1)) result (toks reader.new.rest.now) (reads grammar.number_type (toks reader.old.rest.now)) }
+    ensures shorter { IfOk result (λ _. length reader.new.rest.now < length reader.old.rest.now) }
 {
-    if sees_word(Word::Int, tokens) {
-        int_type(tokens)
+    if reader.sees_word(Word::Int) {
+        int_type(reader)
     } else {
-        other_type(tokens)
+        other_type(reader)
     }
 }
 
 /// A type of numbers but `int`, with its place.
 #[tactic(auto, unfolding(arc_grammar::specs::Grammar::other_type))]
-pub fn other_type(tokens: &[Token]) -> Read<'_, (usize, TypeName)>
-    ensures gives { Gives (λ x. ((x.0.0, type_tree x.0.1), toks x.1.now)) result (reads_free grammar.other_type (toks tokens.now)) }
-    ensures within { Gives (λ x. ((x.0.0, type_tree x.0.1), toks x.1.now)) result (reads grammar.other_type (toks tokens.now)) }
-    ensures shorter { IfOk result (λ x. length x.1.now < length tokens.now) }
+pub fn other_type(reader: &mut Reader) -> Read<(usize, TypeName)>
+    ensures gives { Gives (λ x. (x.0, type_tree x.1)) result (toks reader.new.rest.now) (reads_free grammar.other_type (toks reader.old.rest.now)) }
+    ensures within { Gives (λ x. (x.0, type_tree x.1)) result (toks reader.new.rest.now) (reads grammar.other_type (toks reader.old.rest.now)) }
+    ensures shorter { IfOk result (λ _. length reader.new.rest.now < length reader.old.rest.now) }
 {
-    if sees_word(Word::Long, tokens) {
-        long_type(tokens)
-    } else if sees_word(Word::Bool, tokens) {
-        bool_type(tokens)
+    if reader.sees_word(Word::Long) {
+        long_type(reader)
+    } else if reader.sees_word(Word::Bool) {
+        bool_type(reader)
     } else {
-        integer_type(tokens)
+        integer_type(reader)
     }
 }
 
 /// `int`, with its place.
 #[tactic(auto, unfolding(arc_grammar::specs::Grammar::int_type))]
-fn int_type(tokens: &[Token]) -> Read<'_, (usize, TypeName)>
-    ensures gives { Gives (λ x. ((x.0.0, type_tree x.0.1), toks x.1.now)) result (reads_free grammar.int_type (toks tokens.now)) }
-    ensures within { Gives (λ x. ((x.0.0, type_tree x.0.1), toks x.1.now)) result (reads grammar.int_type (toks tokens.now)) }
-    ensures shorter { IfOk result (λ x. length x.1.now < length tokens.now) }
+fn int_type(reader: &mut Reader) -> Read<(usize, TypeName)>
+    ensures gives { Gives (λ x. (x.0, type_tree x.1)) result (toks reader.new.rest.now) (reads_free grammar.int_type (toks reader.old.rest.now)) }
+    ensures within { Gives (λ x. (x.0, type_tree x.1)) result (toks reader.new.rest.now) (reads grammar.int_type (toks reader.old.rest.now)) }
+    ensures shorter { IfOk result (λ _. length reader.new.rest.now < length reader.old.rest.now) }
 {
-    let (at, rest) = keyword(Word::Int, tokens)?;
-    Ok(((at, TypeName::Int), rest))
+    let at = reader.keyword(Word::Int)?;
+    Ok((at, TypeName::Int))
 }
 
 /// `BOOL`, with its place.
 #[tactic(auto, unfolding(arc_grammar::specs::Grammar::bool_type))]
-fn bool_type(tokens: &[Token]) -> Read<'_, (usize, TypeName)>
-    ensures gives { Gives (λ x. ((x.0.0, type_tree x.0.1), toks x.1.now)) result (reads_free grammar.bool_type (toks tokens.now)) }
-    ensures within { Gives (λ x. ((x.0.0, type_tree x.0.1), toks x.1.now)) result (reads grammar.bool_type (toks tokens.now)) }
-    ensures shorter { IfOk result (λ x. length x.1.now < length tokens.now) }
+fn bool_type(reader: &mut Reader) -> Read<(usize, TypeName)>
+    ensures gives { Gives (λ x. (x.0, type_tree x.1)) result (toks reader.new.rest.now) (reads_free grammar.bool_type (toks reader.old.rest.now)) }
+    ensures within { Gives (λ x. (x.0, type_tree x.1)) result (toks reader.new.rest.now) (reads grammar.bool_type (toks reader.old.rest.now)) }
+    ensures shorter { IfOk result (λ _. length reader.new.rest.now < length reader.old.rest.now) }
 {
-    let (at, rest) = keyword(Word::Bool, tokens)?;
-    Ok(((at, TypeName::Bool), rest))
+    let at = reader.keyword(Word::Bool)?;
+    Ok((at, TypeName::Bool))
 }
 
 /// `NSInteger`, with its place.
 #[tactic(auto, unfolding(arc_grammar::specs::Grammar::integer_type))]
-fn integer_type(tokens: &[Token]) -> Read<'_, (usize, TypeName)>
-    ensures gives { Gives (λ x. ((x.0.0, type_tree x.0.1), toks x.1.now)) result (reads_free grammar.integer_type (toks tokens.now)) }
-    ensures within { Gives (λ x. ((x.0.0, type_tree x.0.1), toks x.1.now)) result (reads grammar.integer_type (toks tokens.now)) }
-    ensures shorter { IfOk result (λ x. length x.1.now < length tokens.now) }
+fn integer_type(reader: &mut Reader) -> Read<(usize, TypeName)>
+    ensures gives { Gives (λ x. (x.0, type_tree x.1)) result (toks reader.new.rest.now) (reads_free grammar.integer_type (toks reader.old.rest.now)) }
+    ensures within { Gives (λ x. (x.0, type_tree x.1)) result (toks reader.new.rest.now) (reads grammar.integer_type (toks reader.old.rest.now)) }
+    ensures shorter { IfOk result (λ _. length reader.new.rest.now < length reader.old.rest.now) }
 {
-    let (at, rest) = keyword(Word::NsInteger, tokens)?;
-    Ok(((at, TypeName::Long), rest))
+    let at = reader.keyword(Word::NsInteger)?;
+    Ok((at, TypeName::Long))
 }
 
 /// `long`, perhaps another `long`, and perhaps `int`.
 #[tactic(auto, unfolding(arc_grammar::specs::Grammar::long_type))]
-fn long_type(tokens: &[Token]) -> Read<'_, (usize, TypeName)>
-    ensures gives { Gives (λ x. ((x.0.0, type_tree x.0.1), toks x.1.now)) result (reads_free grammar.long_type (toks tokens.now)) }
-    ensures within { Gives (λ x. ((x.0.0, type_tree x.0.1), toks x.1.now)) result (reads grammar.long_type (toks tokens.now)) }
-    ensures shorter { IfOk result (λ x. length x.1.now < length tokens.now) }
+fn long_type(reader: &mut Reader) -> Read<(usize, TypeName)>
+    ensures gives { Gives (λ x. (x.0, type_tree x.1)) result (toks reader.new.rest.now) (reads_free grammar.long_type (toks reader.old.rest.now)) }
+    ensures within { Gives (λ x. (x.0, type_tree x.1)) result (toks reader.new.rest.now) (reads grammar.long_type (toks reader.old.rest.now)) }
+    ensures shorter { IfOk result (λ _. length reader.new.rest.now < length reader.old.rest.now) }
 {
-    let (at, rest) = keyword(Word::Long, tokens)?;
-    let (_, rest) = perhaps_long(rest)?;
-    let (_, rest) = perhaps_int(rest)?;
-    Ok(((at, TypeName::Long), rest))
+    let at = reader.keyword(Word::Long)?;
+    perhaps_long(reader)?;
+    perhaps_int(reader)?;
+    Ok((at, TypeName::Long))
 }
 
 /// Perhaps `long`.
 #[tactic(auto, unfolding(arc_grammar::specs::Grammar::perhaps_long))]
-fn perhaps_long(tokens: &[Token]) -> Read<'_, ()>
-    ensures gives { Gives (λ x. (x.0, toks x.1.now)) result (reads_free grammar.perhaps_long (toks tokens.now)) }
-    ensures within { Gives (λ x. (x.0, toks x.1.now)) result (reads grammar.perhaps_long (toks tokens.now)) }
-    ensures shorter { IfOk result (λ x. length x.1.now ≤ length tokens.now) }
+fn perhaps_long(reader: &mut Reader) -> Read<()>
+    ensures gives { Gives (λ x. x) result (toks reader.new.rest.now) (reads_free grammar.perhaps_long (toks reader.old.rest.now)) }
+    ensures within { Gives (λ x. x) result (toks reader.new.rest.now) (reads grammar.perhaps_long (toks reader.old.rest.now)) }
+    ensures shorter { IfOk result (λ _. length reader.new.rest.now ≤ length reader.old.rest.now) }
 {
-    if !sees_word(Word::Long, tokens) {
-        return Ok(((), tokens));
+    if !reader.sees_word(Word::Long) {
+        return Ok(());
     }
-    let (_, rest) = keyword(Word::Long, tokens)?;
-    Ok(((), rest))
+    reader.keyword(Word::Long)?;
+    Ok(())
 }
 
 /// Perhaps `int`.
 #[tactic(auto, unfolding(arc_grammar::specs::Grammar::perhaps_int))]
-fn perhaps_int(tokens: &[Token]) -> Read<'_, ()>
-    ensures gives { Gives (λ x. (x.0, toks x.1.now)) result (reads_free grammar.perhaps_int (toks tokens.now)) }
-    ensures within { Gives (λ x. (x.0, toks x.1.now)) result (reads grammar.perhaps_int (toks tokens.now)) }
-    ensures shorter { IfOk result (λ x. length x.1.now ≤ length tokens.now) }
+fn perhaps_int(reader: &mut Reader) -> Read<()>
+    ensures gives { Gives (λ x. x) result (toks reader.new.rest.now) (reads_free grammar.perhaps_int (toks reader.old.rest.now)) }
+    ensures within { Gives (λ x. x) result (toks reader.new.rest.now) (reads grammar.perhaps_int (toks reader.old.rest.now)) }
+    ensures shorter { IfOk result (λ _. length reader.new.rest.now ≤ length reader.old.rest.now) }
 {
-    if !sees_word(Word::Int, tokens) {
-        return Ok(((), tokens));
+    if !reader.sees_word(Word::Int) {
+        return Ok(());
     }
-    let (_, rest) = keyword(Word::Int, tokens)?;
-    Ok(((), rest))
+    reader.keyword(Word::Int)?;
+    Ok(())
 }

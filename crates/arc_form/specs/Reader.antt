@@ -1,6 +1,6 @@
 -- Readers of tokens: each goes from left to right and stops at the first token that it refuses.
 use Rattle.std.specs.Prelude.{◌≡◌, ◌+◌, ℕ, zero, suc, List, [], ◌∷◌, length, drop, Result, Ok, Err, Bool, true, false, ◌&&◌, Option, Some, None, nat_lt, if◌then◌else◌}
-use Rattle.arc_lex.specs.Tokens.{Tok, Sort, Name, toks}
+use Rattle.arc_lex.specs.Tokens.{Tok, Sort, Name}
 use Rattle.arc_form.specs.Kinds.{Kinds, is}
 use Rattle.arc_form.specs.declared.fail.Fail.{Fail}
 use Rattle.arc_form.specs.declared.fail.Fail.TheVariants.{Memory, Unexpected, TooDeep}
@@ -36,16 +36,16 @@ unexpected = λ ts. Err (misfit, ts)
 abbrev pub too_deep_here : {A : Type 0} → Reader A
 too_deep_here = λ ts. Err (too_deep, ts)
 
--- Reading gave this failure of a function, or memory ran out.
-abbrev pub Fails : {A : Type 0} → Fail → Read A → Type 0
-Fails Memory read = Unit {0}
-Fails (Unexpected rest) read = read ≡ Err (misfit, toks rest.now)
-Fails (TooDeep rest) read = read ≡ Err (too_deep, toks rest.now)
+-- Reading gave this failure of a function, which left these tokens, or memory ran out.
+abbrev pub Fails : {A : Type 0} → Fail → List Tok → Read A → Type 0
+Fails Memory rest read = Unit {0}
+Fails Unexpected rest read = read ≡ Err (misfit, rest)
+Fails TooDeep rest read = read ≡ Err (too_deep, rest)
 
--- Reading gave what a function returned, seen through view, or memory ran out.
-abbrev pub Gives : {X A : Type 0} → (X → A × List Tok) → Result X Fail → Read A → Type 0
-Gives view (Ok x) read = read ≡ Ok (view x)
-Gives view (Err e) read = Fails e read
+-- Reading gave what a function returned, seen through view, and the tokens that it left, or memory ran out.
+abbrev pub Gives : {X A : Type 0} → (X → A) → Result X Fail → List Tok → Read A → Type 0
+Gives view (Ok x) rest read = read ≡ Ok (view x, rest)
+Gives view (Err e) rest read = Fails e rest read
 
 -- the first token, if there is one
 abbrev pub first : List Tok → Option Tok

@@ -1,33 +1,32 @@
-//! Why tokens were not read, with the tokens that are left.
+//! Why tokens were not read.
 ghost use Rattle.std.specs.Prelude.{◌≡◌};
 ghost use Rattle.arc_form.specs.declared.fail.Fail.TheVariants.{Memory};
 
-use arc_lex::token::Token;
 use std::alloc::{AllocError, AllocFailed};
 
-/// Want of memory, or the tokens from the one on that does not fit, or that passes a limit.
+/// Want of memory, or the first of the tokens that are left does not fit, or passes a limit.
 #[derive(Drop)]
-pub enum Fail<'a> {
+pub enum Fail {
     Memory,
-    Unexpected(&'a [Token]),
-    TooDeep(&'a [Token]),
+    Unexpected,
+    TooDeep,
 }
 
-/// What a reader returns: a value and the tokens after it, or why there is none.
-pub type Read<'a, T> = Result<(T, &'a [Token]), Fail<'a>>;
+/// What a part of the parser returns: what it read, or why it read nothing.
+pub type Read<T> = Result<T, Fail>;
 
-impl<'a> From<AllocError> for Fail<'a> {
+impl From<AllocError> for Fail {
     ghost from_gives = { λ _ e. e ≡ Memory };
 
-    fn from(_e: AllocError) -> Fail<'a> {
+    fn from(_e: AllocError) -> Fail {
         Fail::Memory
     }
 }
 
-impl<'a, T: Drop> From<AllocFailed<T>> for Fail<'a> {
+impl<T: Drop> From<AllocFailed<T>> for Fail {
     ghost from_gives = { λ _ e. e ≡ Memory };
 
-    fn from(_e: AllocFailed<T>) -> Fail<'a> {
+    fn from(_e: AllocFailed<T>) -> Fail {
         Fail::Memory
     }
 }

@@ -2,5 +2,5 @@
 #![tactic(auto)]
 
 pub mod fail;
+pub mod reader;
 pub mod slice;
-pub mod step;

@@ -11,6 +11,7 @@ use crate::source::unit;
 use arc_ast::tree::TranslationUnit;
 use arc_fault::parse::ParseFault;
 use arc_form::fail::Fail;
+use arc_form::reader::Reader;
 use arc_lex::token::Token;
 use std::alloc::Global;
 
@@ -49,10 +50,11 @@ pub fn parse(alloc: Global, tokens: &[Token]) -> Result<TranslationUnit, ParseFa
     ensures accepted { IfErr result (λ f. (u : UnitTree) → SpellsUnit these u (toks tokens.now) → f ≡ Memory) }
     ensures reported { IfErr result (λ f. ReportsLimit (toks tokens.now) f) }
 {
-    match unit(alloc, tokens) {
-        Ok((unit, _rest)) => Ok(unit),
+    let mut reader = Reader { rest: tokens };
+    match unit(alloc, &mut reader) {
+        Ok(unit) => Ok(unit),
         Err(Fail::Memory) => Err(ParseFault::Memory),
-        Err(Fail::Unexpected(rest)) => Err(ParseFault::Unexpected(place_of(tokens, rest))),
-        Err(Fail::TooDeep(rest)) => Err(ParseFault::TooDeep(place_of(tokens, rest))),
+        Err(Fail::Unexpected) => Err(ParseFault::Unexpected(place_of(tokens, reader.rest))),
+        Err(Fail::TooDeep) => Err(ParseFault::TooDeep(place_of(tokens, reader.rest))),
     }
 }

@@ -11,26 +11,26 @@ ghost use Rattle.arc_parse.specs.private.Views.{and_top};
 
 use arc_ast::tree::TranslationUnit;
 use arc_form::fail::{Fail, Read};
-use arc_lex::token::Token;
+use arc_form::reader::Reader;
 use arc_top::top::{Top, any_top, begins_top};
 use std::alloc::{AllocError, Global};
 
 /// What stands outside of all else, and the end of the tokens.
 #[tactic(auto, unfolding(arc_form::specs::Whole::read_whole))]
-pub fn unit<'a>(alloc: Global, tokens: &'a [Token]) -> Read<'a, TranslationUnit>
-    ensures gives { Gives (λ x. (unit_tree x.0, toks x.1.now)) result (read_whole grammar.body these grammar.unit (toks tokens.now)) }
+pub fn unit(alloc: Global, reader: &mut Reader) -> Read<TranslationUnit>
+    ensures gives { Gives unit_tree result (toks reader.new.rest.now) (read_whole grammar.body these grammar.unit (toks reader.old.rest.now)) }
 {
-    let (all, rest) = tops(alloc, tokens)?;
-    match rest.split_first() {
-        None => Ok((all, rest)),
-        Some(_) => Err(Fail::Unexpected(rest)),
+    let all = tops(alloc, reader)?;
+    match reader.rest.split_first() {
+        None => Ok(all),
+        Some(_) => Err(Fail::Unexpected),
     }
 }
 
 /// As much as there is of what stands outside of all else.
 #[tactic(auto, using(crate::proofs::Tops::tops_start, arc_grammar::proofs::Loops::one_more, arc_grammar::proofs::Fits::taking, crate::proofs::Tops::nothing_yet))]
-fn tops<'a>(alloc: Global, tokens: &'a [Token]) -> Read<'a, TranslationUnit>
-    ensures gives { Gives (λ x. (unit_tree x.0, toks x.1.now)) result (reads grammar.unit (toks tokens.now)) }
+fn tops(alloc: Global, reader: &mut Reader) -> Read<TranslationUnit>
+    ensures gives { Gives unit_tree result (toks reader.new.rest.now) (reads grammar.unit (toks reader.old.rest.now)) }
 {
     let mut all = TranslationUnit {
         functions: Vec::new(alloc),
@@ -38,13 +38,11 @@ fn tops<'a>(alloc: Global, tokens: &'a [Token]) -> Read<'a, TranslationUnit>
         interfaces: Vec::new(alloc),
         implementations: Vec::new(alloc),
     };
-    let mut rest = tokens;
-    'tops: while begins_top(rest) {
-        let (one, after) = any_top(alloc, rest)?;
+    'tops: while begins_top(reader) {
+        let one = any_top(alloc, reader)?;
         keep(&mut all, one)?;
-        rest = after;
     }
-    Ok((all, rest))
+    Ok(all)
 }
 
 /// Puts this after what the unit has of its kind.

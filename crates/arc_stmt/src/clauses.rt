@@ -13,8 +13,8 @@ use arc_expr::full::full;
 use arc_expr::qualifier::sees_qualifier;
 use arc_expr::type_name::begins_plain_type;
 use arc_form::fail::Read;
-use arc_form::step::{expect, keyword, sees_mark, sees_reference};
-use arc_lex::token::{Mark, Token, Word};
+use arc_form::reader::Reader;
+use arc_lex::token::{Mark, Word};
 use std::alloc::Global;
 
 /// What is in the parentheses of a `for`.
@@ -26,82 +26,78 @@ pub struct ForClauses {
     pub step: Option<Expr>,
 }
 
-/// A controlling expression in parentheses, boxed, so that a branch that is refused after it drops no more than a box.
+/// A controlling expression in parentheses.
 #[tactic(auto, unfolding(arc_grammar::specs::Grammar::controlling))]
-pub fn controlling<'a>(alloc: Global, tokens: &'a [Token]) -> Read<'a, Box<Expr>>
-    ensures gives { Gives (λ x. (expr_tree x.0.value, toks x.1.now)) result (reads grammar.controlling (toks tokens.now)) }
-    ensures shorter { IfOk result (λ x. length x.1.now < length tokens.now) }
+pub fn controlling(alloc: Global, reader: &mut Reader) -> Read<Box<Expr>>
+    ensures gives { Gives (λ x. expr_tree x.value) result (toks reader.new.rest.now) (reads grammar.controlling (toks reader.old.rest.now)) }
+    ensures shorter { IfOk result (λ _. length reader.new.rest.now < length reader.old.rest.now) }
 {
-    let (_, rest) = expect(Mark::OpenParen, tokens)?;
-    let (condition, rest) = full(alloc, rest)?;
-    let condition = Box::new(alloc, condition)?;
-    let (_, rest) = expect(Mark::CloseParen, rest)?;
-    Ok((condition, rest))
+    reader.expect(Mark::OpenParen)?;
+    let condition = full(alloc, reader)?;
+    reader.expect(Mark::CloseParen)?;
+    Ok(condition)
 }
 
 /// `while`, a controlling expression and `;`, after the body of a `do`
 #[tactic(auto, unfolding(arc_grammar::specs::Grammar::test_after))]
-pub fn test_after<'a>(alloc: Global, tokens: &'a [Token]) -> Read<'a, Box<Expr>>
-    ensures gives { Gives (λ x. (expr_tree x.0.value, toks x.1.now)) result (reads grammar.test_after (toks tokens.now)) }
-    ensures shorter { IfOk result (λ x. length x.1.now < length tokens.now) }
+pub fn test_after(alloc: Global, reader: &mut Reader) -> Read<Box<Expr>>
+    ensures gives { Gives (λ x. expr_tree x.value) result (toks reader.new.rest.now) (reads grammar.test_after (toks reader.old.rest.now)) }
+    ensures shorter { IfOk result (λ _. length reader.new.rest.now < length reader.old.rest.now) }
 {
-    let (_, rest) = keyword(Word::While, tokens)?;
-    let (condition, rest) = controlling(alloc, rest)?;
-    let (_, rest) = expect(Mark::Semicolon, rest)?;
-    Ok((condition, rest))
+    reader.keyword(Word::While)?;
+    let condition = controlling(alloc, reader)?;
+    reader.expect(Mark::Semicolon)?;
+    Ok(condition)
 }
 
 /// What comes before a `for`: a declaration, an expression or nothing, and `;`.
 #[tactic(auto, unfolding(arc_grammar::specs::Grammar::beginning))]
-fn beginning<'a>(alloc: Global, tokens: &'a [Token]) -> Read<'a, Stmt>
-    ensures gives { Gives (λ x. (stmt_tree x.0, toks x.1.now)) result (reads grammar.beginning (toks tokens.now)) }
-    ensures shorter { IfOk result (λ x. length x.1.now < length tokens.now) }
+fn beginning(alloc: Global, reader: &mut Reader) -> Read<Stmt>
+    ensures gives { Gives stmt_tree result (toks reader.new.rest.now) (reads grammar.beginning (toks reader.old.rest.now)) }
+    ensures shorter { IfOk result (λ _. length reader.new.rest.now < length reader.old.rest.now) }
 {
-    if sees_qualifier(tokens) {
-        qualified_declaration(alloc, tokens)
-    } else if begins_plain_type(tokens) {
-        declaration(alloc, Qualifiers::Unqualified, tokens)
-    } else if sees_reference(tokens) {
-        objects(alloc, Qualifiers::Unqualified, tokens)
-    } else if sees_mark(Mark::Semicolon, tokens) {
-        empty(tokens)
+    if sees_qualifier(reader) {
+        qualified_declaration(alloc, reader)
+    } else if begins_plain_type(reader) {
+        declaration(alloc, Qualifiers::Unqualified, reader)
+    } else if reader.sees_reference() {
+        objects(alloc, Qualifiers::Unqualified, reader)
+    } else if reader.sees_mark(Mark::Semicolon) {
+        empty(reader)
     } else {
-        simple(alloc, tokens)
+        simple(alloc, reader)
     }
 }
 
 /// The step of a `for`, if there is one, and `)`.
 #[tactic(auto, unfolding(arc_grammar::specs::Grammar::step))]
-fn step<'a>(alloc: Global, tokens: &'a [Token]) -> Read<'a, Option<Expr>>
-    ensures gives { Gives (λ x. (option_map expr_tree x.0, toks x.1.now)) result (reads grammar.step (toks tokens.now)) }
-    ensures shorter { IfOk result (λ x. length x.1.now < length tokens.now) }
+fn step(alloc: Global, reader: &mut Reader) -> Read<Option<Expr>>
+    ensures gives { Gives (λ x. option_map expr_tree x) result (toks reader.new.rest.now) (reads grammar.step (toks reader.old.rest.now)) }
+    ensures shorter { IfOk result (λ _. length reader.new.rest.now < length reader.old.rest.now) }
 {
-    if sees_mark(Mark::CloseParen, tokens) {
-        let (_, rest) = expect(Mark::CloseParen, tokens)?;
-        return Ok((None, rest));
+    if reader.sees_mark(Mark::CloseParen) {
+        reader.expect(Mark::CloseParen)?;
+        return Ok(None);
     }
-    let (step, rest) = full(alloc, tokens)?;
-    let (_, rest) = expect(Mark::CloseParen, rest)?;
-    Ok((Some(step), rest))
+    let step = full(alloc, reader)?;
+    reader.expect(Mark::CloseParen)?;
+    Ok(Some(Box::into_inner(step)))
 }
 
 /// What is in the parentheses of a `for`.
 #[tactic(auto, unfolding(arc_grammar::specs::Grammar::clauses))]
-pub fn clauses<'a>(alloc: Global, tokens: &'a [Token]) -> Read<'a, ForClauses>
-    ensures gives { Gives (λ x. ((stmt_tree x.0.beginning.value, (option_map expr_tree x.0.test, option_map expr_tree x.0.step)), toks x.1.now)) result (reads grammar.clauses (toks tokens.now)) }
-    ensures shorter { IfOk result (λ x. length x.1.now < length tokens.now) }
+pub fn clauses(alloc: Global, reader: &mut Reader) -> Read<ForClauses>
+    ensures gives { Gives (λ x. (stmt_tree x.beginning.value, (option_map expr_tree x.test, option_map expr_tree x.step))) result (toks reader.new.rest.now) (reads grammar.clauses (toks reader.old.rest.now)) }
+    ensures shorter { IfOk result (λ _. length reader.new.rest.now < length reader.old.rest.now) }
 {
-    let (_, rest) = expect(Mark::OpenParen, tokens)?;
-    let (beginning, rest) = beginning(alloc, rest)?;
+    reader.expect(Mark::OpenParen)?;
+    let beginning = beginning(alloc, reader)?;
     let beginning = Box::new(alloc, beginning)?;
-    let (test, rest) = value(alloc, rest)?;
-    let (step, rest) = step(alloc, rest)?;
-    Ok((
-        ForClauses {
-            beginning,
-            test,
-            step,
-        },
-        rest,
-    ))
+    let test = value(alloc, reader)?;
+    let step = step(alloc, reader)?;
+    Ok(ForClauses {
+        beginning,
+        test,
+        step,
+    })
 }

@@ -7,64 +7,64 @@ ghost use Rattle.arc_grammar.specs.Grammar as grammar;
 use arc_expr::qualifier::sees_qualifier;
 use arc_expr::sign::{sees_counting, sees_sign};
 use arc_expr::type_name::begins_plain_type;
-use arc_form::step::{sees_integer, sees_mark, sees_name, sees_text, sees_word};
-use arc_lex::token::{Mark, Token, Word};
+use arc_form::reader::Reader;
+use arc_lex::token::{Mark, Word};
 
 /// Whether the first token is a literal, `nil`, `self`, `YES` or `NO`.
 #[tactic(auto, using(arc_form::proofs::Sets::sees_or))]
-fn begins_literal(tokens: &[Token]) -> bool
-    ensures { result ≡ sees grammar.begins_literal (toks tokens.now) }
+fn begins_literal(reader: &Reader) -> bool
+    ensures { result ≡ sees grammar.begins_literal (toks reader.now.rest.now) }
 {
-    sees_integer(tokens)
-        || sees_text(tokens)
-        || sees_word(Word::Nil, tokens)
-        || sees_word(Word::SelfWord, tokens)
-        || sees_word(Word::Yes, tokens)
-        || sees_word(Word::No, tokens)
+    reader.sees_integer()
+        || reader.sees_text()
+        || reader.sees_word(Word::Nil)
+        || reader.sees_word(Word::SelfWord)
+        || reader.sees_word(Word::Yes)
+        || reader.sees_word(Word::No)
 }
 
 /// Whether an expression can begin with the first token.
 #[tactic(auto, using(arc_form::proofs::Sets::sees_or))]
-fn begins_expr(tokens: &[Token]) -> bool
-    ensures { result ≡ sees grammar.begins_expr (toks tokens.now) }
+fn begins_expr(reader: &Reader) -> bool
+    ensures { result ≡ sees grammar.begins_expr (toks reader.now.rest.now) }
 {
-    sees_name(tokens)
-        || begins_literal(tokens)
-        || sees_mark(Mark::OpenParen, tokens)
-        || sees_mark(Mark::OpenSquare, tokens)
-        || sees_sign(tokens)
-        || sees_counting(tokens)
+    reader.sees_name()
+        || begins_literal(reader)
+        || reader.sees_mark(Mark::OpenParen)
+        || reader.sees_mark(Mark::OpenSquare)
+        || sees_sign(reader)
+        || sees_counting(reader)
 }
 
 /// Whether a statement can begin with the first token, which is a word.
 #[tactic(auto, using(arc_form::proofs::Sets::sees_or))]
-fn begins_worded(tokens: &[Token]) -> bool
-    ensures { result ≡ sees grammar.begins_worded (toks tokens.now) }
+fn begins_worded(reader: &Reader) -> bool
+    ensures { result ≡ sees grammar.begins_worded (toks reader.now.rest.now) }
 {
-    sees_word(Word::Return, tokens)
-        || sees_word(Word::If, tokens)
-        || sees_word(Word::While, tokens)
-        || sees_word(Word::Do, tokens)
-        || sees_word(Word::For, tokens)
-        || sees_word(Word::Break, tokens)
-        || sees_word(Word::Continue, tokens)
+    reader.sees_word(Word::Return)
+        || reader.sees_word(Word::If)
+        || reader.sees_word(Word::While)
+        || reader.sees_word(Word::Do)
+        || reader.sees_word(Word::For)
+        || reader.sees_word(Word::Break)
+        || reader.sees_word(Word::Continue)
 }
 
 /// Whether a statement can begin with the first token.
 #[tactic(auto, using(arc_form::proofs::Sets::sees_or))]
-pub fn begins_stmt(tokens: &[Token]) -> bool
-    ensures { result ≡ sees grammar.begins_stmt (toks tokens.now) }
+pub fn begins_stmt(reader: &Reader) -> bool
+    ensures { result ≡ sees grammar.begins_stmt (toks reader.now.rest.now) }
 {
-    sees_mark(Mark::OpenBrace, tokens)
-        || sees_mark(Mark::Semicolon, tokens)
-        || begins_worded(tokens)
-        || begins_expr(tokens)
+    reader.sees_mark(Mark::OpenBrace)
+        || reader.sees_mark(Mark::Semicolon)
+        || begins_worded(reader)
+        || begins_expr(reader)
 }
 
 /// Whether a declaration or a statement can begin with the first token.
 #[tactic(auto, using(arc_form::proofs::Sets::sees_or))]
-pub fn begins_item(tokens: &[Token]) -> bool
-    ensures { result ≡ sees grammar.begins_item (toks tokens.now) }
+pub fn begins_item(reader: &Reader) -> bool
+    ensures { result ≡ sees grammar.begins_item (toks reader.now.rest.now) }
 {
-    sees_qualifier(tokens) || (begins_plain_type(tokens) || begins_stmt(tokens))
+    sees_qualifier(reader) || (begins_plain_type(reader) || begins_stmt(reader))
 }

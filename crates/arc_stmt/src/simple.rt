@@ -9,79 +9,80 @@ ghost use Rattle.arc_grammar.specs.Grammar as grammar;
 use arc_ast::tree::{Expr, Stmt};
 use arc_expr::full::full;
 use arc_form::fail::{Fail, Read};
+use arc_form::reader::Reader;
 use arc_form::slice::after_first;
-use arc_form::step::{expect, keyword, sees_mark, sees_reference};
-use arc_lex::token::{Mark, Token, Word};
+use arc_lex::token::{Mark, Word};
 use std::alloc::Global;
 
 /// `;` alone
 #[tactic(auto, unfolding(arc_grammar::specs::Grammar::empty))]
-pub fn empty<'a>(tokens: &'a [Token]) -> Read<'a, Stmt>
-    ensures gives { Gives (λ x. (stmt_tree x.0, toks x.1.now)) result (reads grammar.empty (toks tokens.now)) }
-    ensures shorter { IfOk result (λ x. length x.1.now < length tokens.now) }
+pub fn empty(reader: &mut Reader) -> Read<Stmt>
+    ensures gives { Gives stmt_tree result (toks reader.new.rest.now) (reads grammar.empty (toks reader.old.rest.now)) }
+    ensures shorter { IfOk result (λ _. length reader.new.rest.now < length reader.old.rest.now) }
 {
-    let (at, rest) = expect(Mark::Semicolon, tokens)?;
-    Ok((Stmt::Empty(at), rest))
+    let at = reader.expect(Mark::Semicolon)?;
+    Ok(Stmt::Empty(at))
 }
 
 /// An expression and `;`. What begins with a name and `*` is refused at the `*`: it would be a declaration.
 #[tactic(auto, unfolding(arc_grammar::specs::Grammar::simple))]
-pub fn simple<'a>(alloc: Global, tokens: &'a [Token]) -> Read<'a, Stmt>
-    ensures gives { Gives (λ x. (stmt_tree x.0, toks x.1.now)) result (reads grammar.simple (toks tokens.now)) }
-    ensures shorter { IfOk result (λ x. length x.1.now < length tokens.now) }
+pub fn simple(alloc: Global, reader: &mut Reader) -> Read<Stmt>
+    ensures gives { Gives stmt_tree result (toks reader.new.rest.now) (reads grammar.simple (toks reader.old.rest.now)) }
+    ensures shorter { IfOk result (λ _. length reader.new.rest.now < length reader.old.rest.now) }
 {
-    if sees_reference(tokens) {
-        return Err(Fail::Unexpected(after_first(tokens)));
+    if reader.sees_reference() {
+        reader.rest = after_first(reader.rest);
+        return Err(Fail::Unexpected);
     }
-    let (value, rest) = full(alloc, tokens)?;
-    let (_, rest) = expect(Mark::Semicolon, rest)?;
-    Ok((Stmt::Expr(value), rest))
+    let value = full(alloc, reader)?;
+    reader.expect(Mark::Semicolon)?;
+    Ok(Stmt::Expr(Box::into_inner(value)))
 }
 
 /// `return` with a value or without
 #[tactic(auto, unfolding(arc_grammar::specs::Grammar::returned))]
-pub fn returned<'a>(alloc: Global, tokens: &'a [Token]) -> Read<'a, Stmt>
-    ensures gives { Gives (λ x. (stmt_tree x.0, toks x.1.now)) result (reads grammar.returned (toks tokens.now)) }
-    ensures shorter { IfOk result (λ x. length x.1.now < length tokens.now) }
+pub fn returned(alloc: Global, reader: &mut Reader) -> Read<Stmt>
+    ensures gives { Gives stmt_tree result (toks reader.new.rest.now) (reads grammar.returned (toks reader.old.rest.now)) }
+    ensures shorter { IfOk result (λ _. length reader.new.rest.now < length reader.old.rest.now) }
 {
-    let (at, rest) = keyword(Word::Return, tokens)?;
-    let (value, rest) = value(alloc, rest)?;
-    Ok((Stmt::Return(at, value), rest))
+    let at = reader.keyword(Word::Return)?;
+    let value = value(alloc, reader)?;
+    Ok(Stmt::Return(at, value))
 }
 
 /// What `return` gives, or what a `for` tests, if there is something, and `;`.
 #[tactic(auto, unfolding(arc_grammar::specs::Grammar::value))]
-pub fn value<'a>(alloc: Global, tokens: &'a [Token]) -> Read<'a, Option<Expr>>
-    ensures gives { Gives (λ x. (option_map expr_tree x.0, toks x.1.now)) result (reads grammar.value (toks tokens.now)) }
-    ensures shorter { IfOk result (λ x. length x.1.now < length tokens.now) }
+pub fn value(alloc: Global, reader: &mut Reader) -> Read<Option<Expr>>
+    ensures gives { Gives (λ x. option_map expr_tree x) result (toks reader.new.rest.now) (reads grammar.value (toks reader.old.rest.now)) }
+    ensures shorter { IfOk result (λ _. length reader.new.rest.now < length reader.old.rest.now) }
 {
-    if sees_mark(Mark::Semicolon, tokens) {
-        let (_, rest) = expect(Mark::Semicolon, tokens)?;
-        return Ok((None, rest));
+    if reader.sees_mark(Mark::Semicolon) {
+        reader.expect(Mark::Semicolon)?;
+        return Ok(None);
     }
-    let (value, rest) = full(alloc, tokens)?;
-    let (_, rest) = expect(Mark::Semicolon, rest)?;
-    Ok((Some(value), rest))
+    let value = full(alloc, reader)?;
+    reader.expect(Mark::Semicolon)?;
+    Ok(Some(Box::into_inner(value)))
 }
 
 /// `break`
 #[tactic(auto, unfolding(arc_grammar::specs::Grammar::breaking))]
-pub fn breaking<'a>(tokens: &'a [Token]) -> Read<'a, Stmt>
-    ensures gives { Gives (λ x. (stmt_tree x.0, toks x.1.now)) result (reads grammar.breaking (toks tokens.now)) }
-    ensures shorter { IfOk result (λ x. length x.1.now < length tokens.now) }
+pub fn breaking(reader: &mut Reader) -> Read<Stmt>
+    ensures gives { Gives stmt_tree result (toks reader.new.rest.now) (reads grammar.breaking (toks reader.old.rest.now)) }
+    ensures shorter { IfOk result (λ _. length reader.new.rest.now < length reader.old.rest.now) }
 {
-    let (at, rest) = keyword(Word::Break, tokens)?;
-    let (_, rest) = expect(Mark::Semicolon, rest)?;
-    Ok((Stmt::Break(at), rest))
+    let at = reader.keyword(Word::Break)?;
+    reader.expect(Mark::Semicolon)?;
+    Ok(Stmt::Break(at))
 }
 
 /// `continue`
 #[tactic(auto, unfolding(arc_grammar::specs::Grammar::continuing))]
-pub fn continuing<'a>(tokens: &'a [Token]) -> Read<'a, Stmt>
-    ensures gives { Gives (λ x. (stmt_tree x.0, toks x.1.now)) result (reads grammar.continuing (toks tokens.now)) }
-    ensures shorter { IfOk result (λ x. length x.1.now < length tokens.now) }
+pub fn continuing(reader: &mut Reader) -> Read<Stmt>
+    ensures gives { Gives stmt_tree result (toks reader.new.rest.now) (reads grammar.continuing (toks reader.old.rest.now)) }
+    ensures shorter { IfOk result (λ _. length reader.new.rest.now < length reader.old.rest.now) }
 {
-    let (at, rest) = keyword(Word::Continue, tokens)?;
-    let (_, rest) = expect(Mark::Semicolon, rest)?;
-    Ok((Stmt::Continue(at), rest))
+    let at = reader.keyword(Word::Continue)?;
+    reader.expect(Mark::Semicolon)?;
+    Ok(Stmt::Continue(at))
 }

@@ -16,96 +16,96 @@ use arc_ast::tree::{Expr, Qualifiers, Stmt};
 use arc_expr::qualifier::sees_qualifier;
 use arc_expr::type_name::begins_plain_type;
 use arc_form::fail::{Fail, Read};
-use arc_form::step::{expect, keyword, sees_mark, sees_reference, sees_word};
+use arc_form::reader::Reader;
 use arc_grammar::limits::DEEPEST;
-use arc_lex::token::{Mark, Token, Word};
+use arc_lex::token::{Mark, Word};
 use std::alloc::Global;
 
 /// A statement that is nested so deep.
 #[cycle(stmts)]
 #[tactic(auto, using(arc_grammar::proofs::Fits::read_rule), unfolding(arc_grammar::specs::Grammar::body, arc_form::specs::Reader::nested))]
-fn stmt<'a>(alloc: Global, depth: usize, tokens: &'a [Token]) -> Read<'a, Stmt>
-    ensures gives { Gives (λ x. (stmt_tree x.0, toks x.1.now)) result (rules these (grammar.stmt depth) (toks tokens.now)) }
-    ensures shorter { IfOk result (λ x. length x.1.now < length tokens.now) }
+fn stmt(alloc: Global, depth: usize, reader: &mut Reader) -> Read<Stmt>
+    ensures gives { Gives stmt_tree result (toks reader.new.rest.now) (rules these (grammar.stmt depth) (toks reader.old.rest.now)) }
+    ensures shorter { IfOk result (λ _. length reader.new.rest.now < length reader.old.rest.now) }
 {
     if depth <= DEEPEST {
-        statement(alloc, depth, tokens)
-    } else if begins_stmt(tokens) {
-        Err(Fail::TooDeep(tokens))
+        statement(alloc, depth, reader)
+    } else if begins_stmt(reader) {
+        Err(Fail::TooDeep)
     } else {
-        Err(Fail::Unexpected(tokens))
+        Err(Fail::Unexpected)
     }
 }
 
 #[cycle(stmts)]
 #[tactic(auto, unfolding(arc_grammar::specs::Grammar::statement))]
-fn statement<'a>(alloc: Global, depth: usize, tokens: &'a [Token]) -> Read<'a, Stmt>
+fn statement(alloc: Global, depth: usize, reader: &mut Reader) -> Read<Stmt>
     requires { depth ≤ DEEPEST }
-    ensures gives { Gives (λ x. (stmt_tree x.0, toks x.1.now)) result (reads (grammar.statement depth) (toks tokens.now)) }
-    ensures shorter { IfOk result (λ x. length x.1.now < length tokens.now) }
+    ensures gives { Gives stmt_tree result (toks reader.new.rest.now) (reads (grammar.statement depth) (toks reader.old.rest.now)) }
+    ensures shorter { IfOk result (λ _. length reader.new.rest.now < length reader.old.rest.now) }
 {
-    if sees_mark(Mark::OpenBrace, tokens) {
-        block(alloc, depth, tokens)
-    } else if sees_mark(Mark::Semicolon, tokens) {
-        empty(tokens)
+    if reader.sees_mark(Mark::OpenBrace) {
+        block(alloc, depth, reader)
+    } else if reader.sees_mark(Mark::Semicolon) {
+        empty(reader)
     } else {
-        worded(alloc, depth, tokens)
+        worded(alloc, depth, reader)
     }
 }
 
 /// A statement that begins with a word, or an expression.
 #[cycle(stmts)]
 #[tactic(auto, unfolding(arc_grammar::specs::Grammar::worded))]
-fn worded<'a>(alloc: Global, depth: usize, tokens: &'a [Token]) -> Read<'a, Stmt>
+fn worded(alloc: Global, depth: usize, reader: &mut Reader) -> Read<Stmt>
     requires { depth ≤ DEEPEST }
-    ensures gives { Gives (λ x. (stmt_tree x.0, toks x.1.now)) result (reads (grammar.worded depth) (toks tokens.now)) }
-    ensures shorter { IfOk result (λ x. length x.1.now < length tokens.now) }
+    ensures gives { Gives stmt_tree result (toks reader.new.rest.now) (reads (grammar.worded depth) (toks reader.old.rest.now)) }
+    ensures shorter { IfOk result (λ _. length reader.new.rest.now < length reader.old.rest.now) }
 {
-    if sees_word(Word::Return, tokens) {
-        returned(alloc, tokens)
-    } else if sees_word(Word::If, tokens) {
-        conditional(alloc, depth, tokens)
-    } else if sees_word(Word::Break, tokens) {
-        breaking(tokens)
-    } else if sees_word(Word::Continue, tokens) {
-        continuing(tokens)
+    if reader.sees_word(Word::Return) {
+        returned(alloc, reader)
+    } else if reader.sees_word(Word::If) {
+        conditional(alloc, depth, reader)
+    } else if reader.sees_word(Word::Break) {
+        breaking(reader)
+    } else if reader.sees_word(Word::Continue) {
+        continuing(reader)
     } else {
-        looped(alloc, depth, tokens)
+        looped(alloc, depth, reader)
     }
 }
 
 /// A loop, or an expression.
 #[cycle(stmts)]
 #[tactic(auto, unfolding(arc_grammar::specs::Grammar::looped))]
-fn looped<'a>(alloc: Global, depth: usize, tokens: &'a [Token]) -> Read<'a, Stmt>
+fn looped(alloc: Global, depth: usize, reader: &mut Reader) -> Read<Stmt>
     requires { depth ≤ DEEPEST }
-    ensures gives { Gives (λ x. (stmt_tree x.0, toks x.1.now)) result (reads (grammar.looped depth) (toks tokens.now)) }
-    ensures shorter { IfOk result (λ x. length x.1.now < length tokens.now) }
+    ensures gives { Gives stmt_tree result (toks reader.new.rest.now) (reads (grammar.looped depth) (toks reader.old.rest.now)) }
+    ensures shorter { IfOk result (λ _. length reader.new.rest.now < length reader.old.rest.now) }
 {
-    if sees_word(Word::While, tokens) {
-        repeated(alloc, depth, tokens)
-    } else if sees_word(Word::Do, tokens) {
-        repeated_after(alloc, depth, tokens)
-    } else if sees_word(Word::For, tokens) {
-        stepped(alloc, depth, tokens)
+    if reader.sees_word(Word::While) {
+        repeated(alloc, depth, reader)
+    } else if reader.sees_word(Word::Do) {
+        repeated_after(alloc, depth, reader)
+    } else if reader.sees_word(Word::For) {
+        stepped(alloc, depth, reader)
     } else {
-        simple(alloc, tokens)
+        simple(alloc, reader)
     }
 }
 
 /// `if`, a controlling expression, a branch, and perhaps `else` and another
 #[cycle(stmts)]
 #[tactic(auto, unfolding(arc_grammar::specs::Grammar::if_else))]
-fn conditional<'a>(alloc: Global, depth: usize, tokens: &'a [Token]) -> Read<'a, Stmt>
+fn conditional(alloc: Global, depth: usize, reader: &mut Reader) -> Read<Stmt>
     requires { depth ≤ DEEPEST }
-    ensures gives { Gives (λ x. (stmt_tree x.0, toks x.1.now)) result (reads (grammar.if_else depth) (toks tokens.now)) }
-    ensures shorter { IfOk result (λ x. length x.1.now < length tokens.now) }
+    ensures gives { Gives stmt_tree result (toks reader.new.rest.now) (reads (grammar.if_else depth) (toks reader.old.rest.now)) }
+    ensures shorter { IfOk result (λ _. length reader.new.rest.now < length reader.old.rest.now) }
 {
-    let (at, rest) = keyword(Word::If, tokens)?;
-    let (condition, rest) = controlling(alloc, rest)?;
-    let (first, rest) = branch(alloc, depth + 1, rest)?;
-    let (second, rest) = otherwise(alloc, depth, rest)?;
-    Ok((chosen(at, condition, first, second), rest))
+    let at = reader.keyword(Word::If)?;
+    let condition = controlling(alloc, reader)?;
+    let first = branch(alloc, depth + 1, reader)?;
+    let second = otherwise(alloc, depth, reader)?;
+    Ok(chosen(at, condition, first, second))
 }
 
 /// An `if` with this test and these branches.
@@ -122,121 +122,116 @@ fn chosen(at: usize, condition: Box<Expr>, first: Box<Stmt>, second: Option<Box<
 /// Perhaps `else` and a branch.
 #[cycle(stmts)]
 #[tactic(auto, unfolding(arc_grammar::specs::Grammar::otherwise))]
-fn otherwise<'a>(alloc: Global, depth: usize, tokens: &'a [Token]) -> Read<'a, Option<Box<Stmt>>>
+fn otherwise(alloc: Global, depth: usize, reader: &mut Reader) -> Read<Option<Box<Stmt>>>
     requires { depth ≤ DEEPEST }
-    ensures gives { Gives (λ x. (option_map (λ b. stmt_tree b.value) x.0, toks x.1.now)) result (reads (grammar.otherwise depth) (toks tokens.now)) }
-    ensures shorter { IfOk result (λ x. length x.1.now ≤ length tokens.now) }
+    ensures gives { Gives (λ x. option_map (λ b. stmt_tree b.value) x) result (toks reader.new.rest.now) (reads (grammar.otherwise depth) (toks reader.old.rest.now)) }
+    ensures shorter { IfOk result (λ _. length reader.new.rest.now ≤ length reader.old.rest.now) }
 {
-    if !sees_word(Word::Else, tokens) {
-        return Ok((None, tokens));
+    if !reader.sees_word(Word::Else) {
+        return Ok(None);
     }
-    let (_, rest) = keyword(Word::Else, tokens)?;
-    let (second, rest) = branch(alloc, depth + 1, rest)?;
-    Ok((Some(second), rest))
+    reader.keyword(Word::Else)?;
+    let second = branch(alloc, depth + 1, reader)?;
+    Ok(Some(second))
 }
 
 /// `while`, a controlling expression and a body
 #[cycle(stmts)]
 #[tactic(auto, unfolding(arc_grammar::specs::Grammar::while_do))]
-fn repeated<'a>(alloc: Global, depth: usize, tokens: &'a [Token]) -> Read<'a, Stmt>
+fn repeated(alloc: Global, depth: usize, reader: &mut Reader) -> Read<Stmt>
     requires { depth ≤ DEEPEST }
-    ensures gives { Gives (λ x. (stmt_tree x.0, toks x.1.now)) result (reads (grammar.while_do depth) (toks tokens.now)) }
-    ensures shorter { IfOk result (λ x. length x.1.now < length tokens.now) }
+    ensures gives { Gives stmt_tree result (toks reader.new.rest.now) (reads (grammar.while_do depth) (toks reader.old.rest.now)) }
+    ensures shorter { IfOk result (λ _. length reader.new.rest.now < length reader.old.rest.now) }
 {
-    let (at, rest) = keyword(Word::While, tokens)?;
-    let (condition, rest) = controlling(alloc, rest)?;
-    let (body, rest) = branch(alloc, depth + 1, rest)?;
-    Ok((Stmt::While(at, Box::into_inner(condition), body), rest))
+    let at = reader.keyword(Word::While)?;
+    let condition = controlling(alloc, reader)?;
+    let body = branch(alloc, depth + 1, reader)?;
+    Ok(Stmt::While(at, Box::into_inner(condition), body))
 }
 
 /// `do`, a body, and the test after it
 #[cycle(stmts)]
 #[tactic(auto, unfolding(arc_grammar::specs::Grammar::do_while))]
-fn repeated_after<'a>(alloc: Global, depth: usize, tokens: &'a [Token]) -> Read<'a, Stmt>
+fn repeated_after(alloc: Global, depth: usize, reader: &mut Reader) -> Read<Stmt>
     requires { depth ≤ DEEPEST }
-    ensures gives { Gives (λ x. (stmt_tree x.0, toks x.1.now)) result (reads (grammar.do_while depth) (toks tokens.now)) }
-    ensures shorter { IfOk result (λ x. length x.1.now < length tokens.now) }
+    ensures gives { Gives stmt_tree result (toks reader.new.rest.now) (reads (grammar.do_while depth) (toks reader.old.rest.now)) }
+    ensures shorter { IfOk result (λ _. length reader.new.rest.now < length reader.old.rest.now) }
 {
-    let (at, rest) = keyword(Word::Do, tokens)?;
-    let (body, rest) = branch(alloc, depth + 1, rest)?;
-    let (condition, rest) = test_after(alloc, rest)?;
-    Ok((Stmt::Do(at, body, Box::into_inner(condition)), rest))
+    let at = reader.keyword(Word::Do)?;
+    let body = branch(alloc, depth + 1, reader)?;
+    let condition = test_after(alloc, reader)?;
+    Ok(Stmt::Do(at, body, Box::into_inner(condition)))
 }
 
 /// `for`, its clauses and a body
 #[cycle(stmts)]
 #[tactic(auto, unfolding(arc_grammar::specs::Grammar::for_do))]
-fn stepped<'a>(alloc: Global, depth: usize, tokens: &'a [Token]) -> Read<'a, Stmt>
+fn stepped(alloc: Global, depth: usize, reader: &mut Reader) -> Read<Stmt>
     requires { depth ≤ DEEPEST }
-    ensures gives { Gives (λ x. (stmt_tree x.0, toks x.1.now)) result (reads (grammar.for_do depth) (toks tokens.now)) }
-    ensures shorter { IfOk result (λ x. length x.1.now < length tokens.now) }
+    ensures gives { Gives stmt_tree result (toks reader.new.rest.now) (reads (grammar.for_do depth) (toks reader.old.rest.now)) }
+    ensures shorter { IfOk result (λ _. length reader.new.rest.now < length reader.old.rest.now) }
 {
-    let (at, rest) = keyword(Word::For, tokens)?;
-    let (clauses, rest) = clauses(alloc, rest)?;
-    let (body, rest) = branch(alloc, depth + 1, rest)?;
-    Ok((
-        Stmt::For(at, clauses.beginning, clauses.test, clauses.step, body),
-        rest,
-    ))
+    let at = reader.keyword(Word::For)?;
+    let clauses = clauses(alloc, reader)?;
+    let body = branch(alloc, depth + 1, reader)?;
+    Ok(Stmt::For(at, clauses.beginning, clauses.test, clauses.step, body))
 }
 
 /// A statement in a box.
 #[cycle(stmts)]
-fn branch<'a>(alloc: Global, depth: usize, tokens: &'a [Token]) -> Read<'a, Box<Stmt>>
-    ensures gives { Gives (λ x. (stmt_tree x.0.value, toks x.1.now)) result (rules these (grammar.stmt depth) (toks tokens.now)) }
-    ensures shorter { IfOk result (λ x. length x.1.now < length tokens.now) }
+fn branch(alloc: Global, depth: usize, reader: &mut Reader) -> Read<Box<Stmt>>
+    ensures gives { Gives (λ x. stmt_tree x.value) result (toks reader.new.rest.now) (rules these (grammar.stmt depth) (toks reader.old.rest.now)) }
+    ensures shorter { IfOk result (λ _. length reader.new.rest.now < length reader.old.rest.now) }
 {
-    let (read, rest) = stmt(alloc, depth, tokens)?;
-    Ok((Box::new(alloc, read)?, rest))
+    let read = stmt(alloc, depth, reader)?;
+    Ok(Box::new(alloc, read)?)
 }
 
 /// Items in braces.
 #[cycle(stmts)]
 #[tactic(auto, unfolding(arc_grammar::specs::Grammar::block))]
-fn block<'a>(alloc: Global, depth: usize, tokens: &'a [Token]) -> Read<'a, Stmt>
+fn block(alloc: Global, depth: usize, reader: &mut Reader) -> Read<Stmt>
     requires { depth ≤ DEEPEST }
-    ensures gives { Gives (λ x. (stmt_tree x.0, toks x.1.now)) result (reads (grammar.block depth) (toks tokens.now)) }
-    ensures shorter { IfOk result (λ x. length x.1.now < length tokens.now) }
+    ensures gives { Gives stmt_tree result (toks reader.new.rest.now) (reads (grammar.block depth) (toks reader.old.rest.now)) }
+    ensures shorter { IfOk result (λ _. length reader.new.rest.now < length reader.old.rest.now) }
 {
-    let (at, rest) = expect(Mark::OpenBrace, tokens)?;
-    let (all, rest) = items(alloc, depth + 1, rest)?;
-    let (_, rest) = expect(Mark::CloseBrace, rest)?;
-    Ok((Stmt::Block(at, all), rest))
+    let at = reader.expect(Mark::OpenBrace)?;
+    let all = items(alloc, depth + 1, reader)?;
+    reader.expect(Mark::CloseBrace)?;
+    Ok(Stmt::Block(at, all))
 }
 
 /// The items of a block, each a declaration or a statement.
 #[cycle(stmts)]
 #[tactic(auto, using(arc_grammar::proofs::Loops::one_more, arc_grammar::proofs::Fits::taking, arc_form::proofs::Joining::row_start, arc_form::proofs::Joining::all_push), unfolding(arc_grammar::specs::Grammar::items))]
-pub fn items<'a>(alloc: Global, depth: usize, tokens: &'a [Token]) -> Read<'a, Vec<Stmt>>
+pub fn items(alloc: Global, depth: usize, reader: &mut Reader) -> Read<Vec<Stmt>>
     requires { depth ≤ 201 }
-    ensures gives { Gives (λ x. (all stmt_tree x.0.items, toks x.1.now)) result (reads (grammar.items depth) (toks tokens.now)) }
-    ensures shorter { IfOk result (λ x. length x.1.now ≤ length tokens.now) }
+    ensures gives { Gives (λ x. all stmt_tree x.items) result (toks reader.new.rest.now) (reads (grammar.items depth) (toks reader.old.rest.now)) }
+    ensures shorter { IfOk result (λ _. length reader.new.rest.now ≤ length reader.old.rest.now) }
 {
     let mut all = Vec::new(alloc);
-    let mut rest = tokens;
-    'items: while begins_item(rest) {
-        let (item, after) = item(alloc, depth, rest)?;
+    'items: while begins_item(reader) {
+        let item = item(alloc, depth, reader)?;
         all.push(item)?;
-        rest = after;
     }
-    Ok((all, rest))
+    Ok(all)
 }
 
 /// A declaration or a statement.
 #[cycle(stmts)]
 #[tactic(auto, unfolding(arc_grammar::specs::Grammar::item, arc_grammar::specs::Grammar::by_name))]
-fn item<'a>(alloc: Global, depth: usize, tokens: &'a [Token]) -> Read<'a, Stmt>
+fn item(alloc: Global, depth: usize, reader: &mut Reader) -> Read<Stmt>
     requires { depth ≤ 201 }
-    ensures gives { Gives (λ x. (stmt_tree x.0, toks x.1.now)) result (reads (grammar.item depth) (toks tokens.now)) }
-    ensures shorter { IfOk result (λ x. length x.1.now < length tokens.now) }
+    ensures gives { Gives stmt_tree result (toks reader.new.rest.now) (reads (grammar.item depth) (toks reader.old.rest.now)) }
+    ensures shorter { IfOk result (λ _. length reader.new.rest.now < length reader.old.rest.now) }
 {
-    if sees_qualifier(tokens) {
-        qualified_declaration(alloc, tokens)
-    } else if begins_plain_type(tokens) {
-        declaration(alloc, Qualifiers::Unqualified, tokens)
-    } else if sees_reference(tokens) {
-        objects(alloc, Qualifiers::Unqualified, tokens)
+    if sees_qualifier(reader) {
+        qualified_declaration(alloc, reader)
+    } else if begins_plain_type(reader) {
+        declaration(alloc, Qualifiers::Unqualified, reader)
+    } else if reader.sees_reference() {
+        objects(alloc, Qualifiers::Unqualified, reader)
     } else {
-        stmt(alloc, depth, tokens)
+        stmt(alloc, depth, reader)
     }
 }

@@ -13,158 +13,139 @@ use arc_expr::full::full;
 use arc_expr::qualifier::{qualifiers, some_qualifiers};
 use arc_expr::type_name::plain_type;
 use arc_form::fail::Read;
-use arc_form::step::{expect, name, sees_mark, sees_name};
-use arc_lex::token::{Mark, Token};
+use arc_form::reader::Reader;
+use arc_lex::token::Mark;
 use std::alloc::Global;
 
 /// Perhaps `=` and what a variable begins with.
 #[tactic(auto, unfolding(arc_grammar::specs::Grammar::initial))]
-fn initial<'a>(alloc: Global, tokens: &'a [Token]) -> Read<'a, Option<Expr>>
-    ensures gives { Gives (λ x. (option_map expr_tree x.0, toks x.1.now)) result (reads grammar.initial (toks tokens.now)) }
-    ensures shorter { IfOk result (λ x. length x.1.now ≤ length tokens.now) }
+fn initial(alloc: Global, reader: &mut Reader) -> Read<Option<Expr>>
+    ensures gives { Gives (λ x. option_map expr_tree x) result (toks reader.new.rest.now) (reads grammar.initial (toks reader.old.rest.now)) }
+    ensures shorter { IfOk result (λ _. length reader.new.rest.now ≤ length reader.old.rest.now) }
 {
-    if !sees_mark(Mark::Assign, tokens) {
-        return Ok((None, tokens));
+    if !reader.sees_mark(Mark::Assign) {
+        return Ok(None);
     }
-    let (_, rest) = expect(Mark::Assign, tokens)?;
-    let (value, rest) = full(alloc, rest)?;
-    Ok((Some(value), rest))
+    reader.expect(Mark::Assign)?;
+    let value = full(alloc, reader)?;
+    Ok(Some(Box::into_inner(value)))
 }
 
 /// A variable's qualifiers, its name, and perhaps `=` and what it begins with.
 #[tactic(auto, unfolding(arc_grammar::specs::Grammar::variable))]
-fn variable<'a>(alloc: Global, tokens: &'a [Token]) -> Read<'a, Variable>
-    ensures gives { Gives (λ x. (variable_tree x.0, toks x.1.now)) result (reads grammar.variable (toks tokens.now)) }
-    ensures shorter { IfOk result (λ x. length x.1.now < length tokens.now) }
+fn variable(alloc: Global, reader: &mut Reader) -> Read<Variable>
+    ensures gives { Gives variable_tree result (toks reader.new.rest.now) (reads grammar.variable (toks reader.old.rest.now)) }
+    ensures shorter { IfOk result (λ _. length reader.new.rest.now < length reader.old.rest.now) }
 {
-    let (qualifiers, rest) = qualifiers(tokens)?;
-    let ((at, called), rest) = name(rest)?;
-    let (initial, rest) = initial(alloc, rest)?;
-    Ok((
-        Variable {
-            at,
-            qualifiers,
-            name: Vec::from_slice(alloc, called)?,
-            initial,
-        },
-        rest,
-    ))
+    let qualifiers = qualifiers(reader)?;
+    let (at, name) = reader.name(alloc)?;
+    let initial = initial(alloc, reader)?;
+    Ok(Variable {
+        at,
+        qualifiers,
+        name,
+        initial,
+    })
 }
 
 /// A comma and a variable.
 #[tactic(auto, unfolding(arc_grammar::specs::Grammar::next_variable))]
-fn next_variable<'a>(alloc: Global, tokens: &'a [Token]) -> Read<'a, Variable>
-    ensures gives { Gives (λ x. (variable_tree x.0, toks x.1.now)) result (reads grammar.next_variable (toks tokens.now)) }
-    ensures shorter { IfOk result (λ x. length x.1.now < length tokens.now) }
+fn next_variable(alloc: Global, reader: &mut Reader) -> Read<Variable>
+    ensures gives { Gives variable_tree result (toks reader.new.rest.now) (reads grammar.next_variable (toks reader.old.rest.now)) }
+    ensures shorter { IfOk result (λ _. length reader.new.rest.now < length reader.old.rest.now) }
 {
-    let (_, rest) = expect(Mark::Comma, tokens)?;
-    variable(alloc, rest)
+    reader.expect(Mark::Comma)?;
+    variable(alloc, reader)
 }
 
 /// These variables and the further ones, each after a comma.
 #[tactic(auto, using(arc_grammar::proofs::Loops::one_more, arc_grammar::proofs::Fits::taking, arc_form::proofs::Joining::row_is, arc_form::proofs::Joining::all_push), unfolding(arc_grammar::specs::Grammar::more_variables))]
-fn more_variables<'a>(
-    alloc: Global,
-    before: Vec<Variable>,
-    tokens: &'a [Token],
-) -> Read<'a, Vec<Variable>>
-    ensures gives { Gives (λ x. (all variable_tree x.0.items, toks x.1.now)) result (with_row variable_tree before.items (reads grammar.more_variables (toks tokens.now))) }
-    ensures shorter { IfOk result (λ x. length x.1.now ≤ length tokens.now) }
+fn more_variables(alloc: Global, before: Vec<Variable>, reader: &mut Reader) -> Read<Vec<Variable>>
+    ensures gives { Gives (λ x. all variable_tree x.items) result (toks reader.new.rest.now) (with_row variable_tree before.items (reads grammar.more_variables (toks reader.old.rest.now))) }
+    ensures shorter { IfOk result (λ _. length reader.new.rest.now ≤ length reader.old.rest.now) }
 {
     let mut all = before;
-    let mut rest = tokens;
-    'variables: while sees_mark(Mark::Comma, rest) {
-        let (next, after) = next_variable(alloc, rest)?;
+    'variables: while reader.sees_mark(Mark::Comma) {
+        let next = next_variable(alloc, reader)?;
         all.push(next)?;
-        rest = after;
     }
-    Ok((all, rest))
+    Ok(all)
 }
 
 /// `*` and a variable.
 #[tactic(auto, unfolding(arc_grammar::specs::Grammar::reference))]
-fn reference<'a>(alloc: Global, tokens: &'a [Token]) -> Read<'a, Variable>
-    ensures gives { Gives (λ x. (variable_tree x.0, toks x.1.now)) result (reads grammar.reference (toks tokens.now)) }
-    ensures shorter { IfOk result (λ x. length x.1.now < length tokens.now) }
+fn reference(alloc: Global, reader: &mut Reader) -> Read<Variable>
+    ensures gives { Gives variable_tree result (toks reader.new.rest.now) (reads grammar.reference (toks reader.old.rest.now)) }
+    ensures shorter { IfOk result (λ _. length reader.new.rest.now < length reader.old.rest.now) }
 {
-    let (_, rest) = expect(Mark::Star, tokens)?;
-    variable(alloc, rest)
+    reader.expect(Mark::Star)?;
+    variable(alloc, reader)
 }
 
 /// A comma, `*` and a variable.
 #[tactic(auto, unfolding(arc_grammar::specs::Grammar::next_reference))]
-fn next_reference<'a>(alloc: Global, tokens: &'a [Token]) -> Read<'a, Variable>
-    ensures gives { Gives (λ x. (variable_tree x.0, toks x.1.now)) result (reads grammar.next_reference (toks tokens.now)) }
-    ensures shorter { IfOk result (λ x. length x.1.now < length tokens.now) }
+fn next_reference(alloc: Global, reader: &mut Reader) -> Read<Variable>
+    ensures gives { Gives variable_tree result (toks reader.new.rest.now) (reads grammar.next_reference (toks reader.old.rest.now)) }
+    ensures shorter { IfOk result (λ _. length reader.new.rest.now < length reader.old.rest.now) }
 {
-    let (_, rest) = expect(Mark::Comma, tokens)?;
-    reference(alloc, rest)
+    reader.expect(Mark::Comma)?;
+    reference(alloc, reader)
 }
 
 /// These variables and the further ones, each after a comma and with a `*`.
 #[tactic(auto, using(arc_grammar::proofs::Loops::one_more, arc_grammar::proofs::Fits::taking, arc_form::proofs::Joining::row_is, arc_form::proofs::Joining::all_push), unfolding(arc_grammar::specs::Grammar::more_references))]
-fn more_references<'a>(
-    alloc: Global,
-    before: Vec<Variable>,
-    tokens: &'a [Token],
-) -> Read<'a, Vec<Variable>>
-    ensures gives { Gives (λ x. (all variable_tree x.0.items, toks x.1.now)) result (with_row variable_tree before.items (reads grammar.more_references (toks tokens.now))) }
-    ensures shorter { IfOk result (λ x. length x.1.now ≤ length tokens.now) }
+fn more_references(alloc: Global, before: Vec<Variable>, reader: &mut Reader) -> Read<Vec<Variable>>
+    ensures gives { Gives (λ x. all variable_tree x.items) result (toks reader.new.rest.now) (with_row variable_tree before.items (reads grammar.more_references (toks reader.old.rest.now))) }
+    ensures shorter { IfOk result (λ _. length reader.new.rest.now ≤ length reader.old.rest.now) }
 {
     let mut all = before;
-    let mut rest = tokens;
-    'references: while sees_mark(Mark::Comma, rest) {
-        let (next, after) = next_reference(alloc, rest)?;
+    'references: while reader.sees_mark(Mark::Comma) {
+        let next = next_reference(alloc, reader)?;
         all.push(next)?;
-        rest = after;
     }
-    Ok((all, rest))
+    Ok(all)
 }
 
 /// A type that names no class, one variable or more and `;`, after qualifiers.
 #[tactic(auto, using(arc_grammar::proofs::Lists::alls), unfolding(arc_grammar::specs::Grammar::declaration))]
-pub fn declaration<'a>(alloc: Global, qualifiers: Qualifiers, tokens: &'a [Token]) -> Read<'a, Stmt>
-    ensures gives { Gives (λ x. (stmt_tree x.0, toks x.1.now)) result (reads_after grammar.declaration qualifiers (toks tokens.now)) }
-    ensures shorter { IfOk result (λ x. length x.1.now < length tokens.now) }
+pub fn declaration(alloc: Global, qualifiers: Qualifiers, reader: &mut Reader) -> Read<Stmt>
+    ensures gives { Gives stmt_tree result (toks reader.new.rest.now) (reads_after grammar.declaration qualifiers (toks reader.old.rest.now)) }
+    ensures shorter { IfOk result (λ _. length reader.new.rest.now < length reader.old.rest.now) }
 {
-    let ((at, written), rest) = plain_type(tokens)?;
-    let (first, rest) = variable(alloc, rest)?;
+    let (at, written) = plain_type(reader)?;
+    let first = variable(alloc, reader)?;
     let mut all = Vec::new(alloc);
     all.push(first)?;
-    let (all, rest) = more_variables(alloc, all, rest)?;
-    let (_, rest) = expect(Mark::Semicolon, rest)?;
-    Ok((Stmt::Variables(at, qualifiers, written, all), rest))
+    let all = more_variables(alloc, all, reader)?;
+    reader.expect(Mark::Semicolon)?;
+    Ok(Stmt::Variables(at, qualifiers, written, all))
 }
 
 /// The name of a class, one variable or more, with a `*` each, and `;`, after qualifiers.
 #[tactic(auto, using(arc_grammar::proofs::Lists::alls), unfolding(arc_grammar::specs::Grammar::objects))]
-pub fn objects<'a>(alloc: Global, qualifiers: Qualifiers, tokens: &'a [Token]) -> Read<'a, Stmt>
-    ensures gives { Gives (λ x. (stmt_tree x.0, toks x.1.now)) result (reads_after grammar.objects qualifiers (toks tokens.now)) }
-    ensures shorter { IfOk result (λ x. length x.1.now < length tokens.now) }
+pub fn objects(alloc: Global, qualifiers: Qualifiers, reader: &mut Reader) -> Read<Stmt>
+    ensures gives { Gives stmt_tree result (toks reader.new.rest.now) (reads_after grammar.objects qualifiers (toks reader.old.rest.now)) }
+    ensures shorter { IfOk result (λ _. length reader.new.rest.now < length reader.old.rest.now) }
 {
-    let ((at, called), rest) = name(tokens)?;
-    let class = Vec::from_slice(alloc, called)?;
-    let (first, rest) = reference(alloc, rest)?;
+    let (at, class) = reader.name(alloc)?;
+    let first = reference(alloc, reader)?;
     let mut all = Vec::new(alloc);
     all.push(first)?;
-    let (all, rest) = more_references(alloc, all, rest)?;
-    let (_, rest) = expect(Mark::Semicolon, rest)?;
-    Ok((
-        Stmt::Variables(at, qualifiers, TypeName::Object(at, class), all),
-        rest,
-    ))
+    let all = more_references(alloc, all, reader)?;
+    reader.expect(Mark::Semicolon)?;
+    Ok(Stmt::Variables(at, qualifiers, TypeName::Object(at, class), all))
 }
 
 /// Qualifiers, a type, one variable or more and `;`.
 #[tactic(auto, unfolding(arc_grammar::specs::Grammar::qualified_declaration))]
-pub fn qualified_declaration<'a>(alloc: Global, tokens: &'a [Token]) -> Read<'a, Stmt>
-    ensures gives { Gives (λ x. (stmt_tree x.0, toks x.1.now)) result (reads grammar.qualified_declaration (toks tokens.now)) }
-    ensures shorter { IfOk result (λ x. length x.1.now < length tokens.now) }
+pub fn qualified_declaration(alloc: Global, reader: &mut Reader) -> Read<Stmt>
+    ensures gives { Gives stmt_tree result (toks reader.new.rest.now) (reads grammar.qualified_declaration (toks reader.old.rest.now)) }
+    ensures shorter { IfOk result (λ _. length reader.new.rest.now < length reader.old.rest.now) }
 {
-    let (qualifiers, rest) = some_qualifiers(tokens)?;
-    if sees_name(rest) {
-        objects(alloc, qualifiers, rest)
+    let qualifiers = some_qualifiers(reader)?;
+    if reader.sees_name() {
+        objects(alloc, qualifiers, reader)
     } else {
-        declaration(alloc, qualifiers, rest)
+        declaration(alloc, qualifiers, reader)
     }
 }

@@ -12,81 +12,73 @@ use crate::method::{method_heads, methods};
 use crate::name::next_name;
 use arc_ast::tree::{Implementation, Interface, Visibility};
 use arc_form::fail::Read;
-use arc_form::step::{directive, expect, name, sees_mark};
-use arc_lex::token::{AtWord, Mark, Token};
+use arc_form::reader::Reader;
+use arc_lex::token::{AtWord, Mark};
 use std::alloc::Global;
 
 /// `@interface`, the class's name, its superclass's, the fields, the methods and `@end`
 #[tactic(auto, unfolding(arc_grammar::specs::Grammar::interface))]
-pub fn interface<'a>(alloc: Global, tokens: &'a [Token]) -> Read<'a, Interface>
-    ensures gives { Gives (λ x. (interface_tree x.0, toks x.1.now)) result (reads grammar.interface (toks tokens.now)) }
-    ensures shorter { IfOk result (λ x. length x.1.now < length tokens.now) }
+pub fn interface(alloc: Global, reader: &mut Reader) -> Read<Interface>
+    ensures gives { Gives interface_tree result (toks reader.new.rest.now) (reads grammar.interface (toks reader.old.rest.now)) }
+    ensures shorter { IfOk result (λ _. length reader.new.rest.now < length reader.old.rest.now) }
 {
-    let (_, rest) = directive(AtWord::Interface, tokens)?;
-    let ((at, called), rest) = name(rest)?;
-    let (_, rest) = expect(Mark::Colon, rest)?;
-    let ((superclass_at, superclass), rest) = name(rest)?;
-    let (fields, rest) = fields(alloc, Visibility::Protected, rest)?;
-    let (methods, rest) = method_heads(alloc, rest)?;
-    let (_, rest) = directive(AtWord::End, rest)?;
-    Ok((
-        Interface {
-            at,
-            name: Vec::from_slice(alloc, called)?,
-            superclass_at,
-            superclass: Vec::from_slice(alloc, superclass)?,
-            fields,
-            methods,
-        },
-        rest,
-    ))
+    reader.directive(AtWord::Interface)?;
+    let (at, name) = reader.name(alloc)?;
+    reader.expect(Mark::Colon)?;
+    let (superclass_at, superclass) = reader.name(alloc)?;
+    let fields = fields(alloc, Visibility::Protected, reader)?;
+    let methods = method_heads(alloc, reader)?;
+    reader.directive(AtWord::End)?;
+    Ok(Interface {
+        at,
+        name,
+        superclass_at,
+        superclass: superclass,
+        fields,
+        methods,
+    })
 }
 
 /// `@implementation`, the class's name, further fields, the methods and `@end`
 #[tactic(auto, unfolding(arc_grammar::specs::Grammar::implementation))]
-pub fn implementation<'a>(alloc: Global, tokens: &'a [Token]) -> Read<'a, Implementation>
-    ensures gives { Gives (λ x. (implementation_tree x.0, toks x.1.now)) result (reads grammar.implementation (toks tokens.now)) }
-    ensures shorter { IfOk result (λ x. length x.1.now < length tokens.now) }
+pub fn implementation(alloc: Global, reader: &mut Reader) -> Read<Implementation>
+    ensures gives { Gives implementation_tree result (toks reader.new.rest.now) (reads grammar.implementation (toks reader.old.rest.now)) }
+    ensures shorter { IfOk result (λ _. length reader.new.rest.now < length reader.old.rest.now) }
 {
-    let (_, rest) = directive(AtWord::Implementation, tokens)?;
-    let ((at, called), rest) = name(rest)?;
-    let (fields, rest) = fields(alloc, Visibility::Private, rest)?;
-    let (methods, rest) = methods(alloc, rest)?;
-    let (_, rest) = directive(AtWord::End, rest)?;
-    Ok((
-        Implementation {
-            at,
-            name: Vec::from_slice(alloc, called)?,
-            fields,
-            methods,
-        },
-        rest,
-    ))
+    reader.directive(AtWord::Implementation)?;
+    let (at, name) = reader.name(alloc)?;
+    let fields = fields(alloc, Visibility::Private, reader)?;
+    let methods = methods(alloc, reader)?;
+    reader.directive(AtWord::End)?;
+    Ok(Implementation {
+        at,
+        name,
+        fields,
+        methods,
+    })
 }
 
 /// `@class`, names of classes and `;`
 #[tactic(auto, using(arc_form::proofs::Binding::bind_twice), unfolding(arc_grammar::specs::Grammar::class_names, arc_grammar::specs::Grammar::more_names))]
-pub fn class_names(tokens: &[Token]) -> Read<'_, ()>
-    ensures gives { Gives (λ x. (x.0, toks x.1.now)) result (reads grammar.class_names (toks tokens.now)) }
-    ensures shorter { IfOk result (λ x. length x.1.now < length tokens.now) }
+pub fn class_names(alloc: Global, reader: &mut Reader) -> Read<()>
+    ensures gives { Gives (λ x. x) result (toks reader.new.rest.now) (reads grammar.class_names (toks reader.old.rest.now)) }
+    ensures shorter { IfOk result (λ _. length reader.new.rest.now < length reader.old.rest.now) }
 {
-    let (_, rest) = directive(AtWord::Class, tokens)?;
-    let (_, rest) = name(rest)?;
-    let (_, rest) = more_names(rest)?;
-    let (_, rest) = expect(Mark::Semicolon, rest)?;
-    Ok(((), rest))
+    reader.directive(AtWord::Class)?;
+    reader.name(alloc)?;
+    more_names(alloc, reader)?;
+    reader.expect(Mark::Semicolon)?;
+    Ok(())
 }
 
 /// Further names, each after a comma.
 #[tactic(auto, using(arc_grammar::proofs::Loops::one_more, arc_grammar::proofs::Fits::taking))]
-fn more_names(tokens: &[Token]) -> Read<'_, ()>
-    ensures gives { Gives (λ x. (x.0, toks x.1.now)) result (names_skipped (toks tokens.now)) }
-    ensures shorter { IfOk result (λ x. length x.1.now ≤ length tokens.now) }
+fn more_names(alloc: Global, reader: &mut Reader) -> Read<()>
+    ensures gives { Gives (λ x. x) result (toks reader.new.rest.now) (names_skipped (toks reader.old.rest.now)) }
+    ensures shorter { IfOk result (λ _. length reader.new.rest.now ≤ length reader.old.rest.now) }
 {
-    let mut rest = tokens;
-    'names: while sees_mark(Mark::Comma, rest) {
-        let (_, after) = next_name(rest)?;
-        rest = after;
+    'names: while reader.sees_mark(Mark::Comma) {
+        next_name(alloc, reader)?;
     }
-    Ok(((), rest))
+    Ok(())
 }

@@ -12,54 +12,50 @@ ghost use Rattle.arc_top.specs.Signatures as signatures;
 use crate::parameter::{parameters, parameters_of_main};
 use arc_ast::tree::{Function, Parameters, ResultType, Stmt};
 use arc_form::fail::Read;
-use arc_form::step::{expect, name, sees_mark};
-use arc_lex::token::{Mark, Token};
+use arc_form::reader::Reader;
+use arc_lex::token::Mark;
 use arc_stmt::stmt::items;
 use std::alloc::Global;
 
 /// A declaration or a definition of a function, but for `static` and the type of its result, which is given.
 #[tactic(auto, using(crate::proofs::Signatures::read_function))]
-pub fn function<'a>(alloc: Global, written: ResultType, tokens: &'a [Token]) -> Read<'a, Function>
-    ensures gives { Gives (λ x. (function_tree x.0, toks x.1.now)) result (reads_after grammar.function (result_tree written) (toks tokens.now)) }
-    ensures shorter { IfOk result (λ x. length x.1.now < length tokens.now) }
+pub fn function(alloc: Global, written: ResultType, reader: &mut Reader) -> Read<Function>
+    ensures gives { Gives function_tree result (toks reader.new.rest.now) (reads_after grammar.function (result_tree written) (toks reader.old.rest.now)) }
+    ensures shorter { IfOk result (λ _. length reader.new.rest.now < length reader.old.rest.now) }
 {
-    let ((at, called), rest) = name(tokens)?;
-    let (parameters, rest) = enclosed(alloc, called, rest)?;
-    let name = Vec::from_slice(alloc, called)?;
-    let (body, rest) = function_body(alloc, rest)?;
-    Ok((
-        Function {
-            at,
-            name,
-            result: written,
-            parameters,
-            body,
-        },
-        rest,
-    ))
+    let (at, name) = reader.name(alloc)?;
+    let parameters = enclosed(alloc, &name, reader)?;
+    let body = function_body(alloc, reader)?;
+    Ok(Function {
+        at,
+        name,
+        result: written,
+        parameters,
+        body,
+    })
 }
 
 /// In parentheses what a function of this name takes.
 #[tactic(auto, unfolding(crate::specs::Signatures::enclosed_to, arc_grammar::specs::Grammar::enclosed))]
-fn enclosed<'a>(alloc: Global, called: &[u8], tokens: &'a [Token]) -> Read<'a, Parameters>
-    ensures gives { Gives (λ x. (parameters_tree x.0, toks x.1.now)) result (reads (signatures.enclosed_to called.now) (toks tokens.now)) }
-    ensures shorter { IfOk result (λ x. length x.1.now < length tokens.now) }
+fn enclosed(alloc: Global, called: &[u8], reader: &mut Reader) -> Read<Parameters>
+    ensures gives { Gives parameters_tree result (toks reader.new.rest.now) (reads (signatures.enclosed_to called.now) (toks reader.old.rest.now)) }
+    ensures shorter { IfOk result (λ _. length reader.new.rest.now < length reader.old.rest.now) }
 {
-    let (_, rest) = expect(Mark::OpenParen, tokens)?;
-    let (parameters, rest) = parameters_to(alloc, called, rest)?;
-    let (_, rest) = expect(Mark::CloseParen, rest)?;
-    Ok((parameters, rest))
+    reader.expect(Mark::OpenParen)?;
+    let parameters = parameters_to(alloc, called, reader)?;
+    reader.expect(Mark::CloseParen)?;
+    Ok(parameters)
 }
 
 /// What a function of this name takes.
-fn parameters_to<'a>(alloc: Global, called: &[u8], tokens: &'a [Token]) -> Read<'a, Parameters>
-    ensures gives { Gives (λ x. (parameters_tree x.0, toks x.1.now)) result (reads (signatures.parameters_to called.now) (toks tokens.now)) }
-    ensures shorter { IfOk result (λ x. length x.1.now ≤ length tokens.now) }
+fn parameters_to(alloc: Global, called: &[u8], reader: &mut Reader) -> Read<Parameters>
+    ensures gives { Gives parameters_tree result (toks reader.new.rest.now) (reads (signatures.parameters_to called.now) (toks reader.old.rest.now)) }
+    ensures shorter { IfOk result (λ _. length reader.new.rest.now ≤ length reader.old.rest.now) }
 {
     if is_main(called) {
-        parameters_of_main(alloc, tokens)
+        parameters_of_main(alloc, reader)
     } else {
-        parameters(alloc, tokens)
+        parameters(alloc, reader)
     }
 }
 
@@ -72,26 +68,26 @@ fn is_main(name: &[u8]) -> bool
 
 /// `;`, or a block
 #[tactic(auto, unfolding(arc_grammar::specs::Grammar::function_body))]
-fn function_body<'a>(alloc: Global, tokens: &'a [Token]) -> Read<'a, Option<Vec<Stmt>>>
-    ensures gives { Gives (λ x. (option_map (λ b. stmt_trees b.items) x.0, toks x.1.now)) result (reads grammar.function_body (toks tokens.now)) }
-    ensures shorter { IfOk result (λ x. length x.1.now < length tokens.now) }
+fn function_body(alloc: Global, reader: &mut Reader) -> Read<Option<Vec<Stmt>>>
+    ensures gives { Gives (λ x. option_map (λ b. stmt_trees b.items) x) result (toks reader.new.rest.now) (reads grammar.function_body (toks reader.old.rest.now)) }
+    ensures shorter { IfOk result (λ _. length reader.new.rest.now < length reader.old.rest.now) }
 {
-    if sees_mark(Mark::Semicolon, tokens) {
-        let (_, rest) = expect(Mark::Semicolon, tokens)?;
-        return Ok((None, rest));
+    if reader.sees_mark(Mark::Semicolon) {
+        reader.expect(Mark::Semicolon)?;
+        return Ok(None);
     }
-    let (all, rest) = braces(alloc, tokens)?;
-    Ok((Some(all), rest))
+    let all = braces(alloc, reader)?;
+    Ok(Some(all))
 }
 
 /// The block of a function or a method.
 #[tactic(auto, using(arc_grammar::proofs::Lists::stmts_all), unfolding(arc_grammar::specs::Grammar::braces))]
-pub fn braces<'a>(alloc: Global, tokens: &'a [Token]) -> Read<'a, Vec<Stmt>>
-    ensures gives { Gives (λ x. (stmt_trees x.0.items, toks x.1.now)) result (reads grammar.braces (toks tokens.now)) }
-    ensures shorter { IfOk result (λ x. length x.1.now < length tokens.now) }
+pub fn braces(alloc: Global, reader: &mut Reader) -> Read<Vec<Stmt>>
+    ensures gives { Gives (λ x. stmt_trees x.items) result (toks reader.new.rest.now) (reads grammar.braces (toks reader.old.rest.now)) }
+    ensures shorter { IfOk result (λ _. length reader.new.rest.now < length reader.old.rest.now) }
 {
-    let (_, rest) = expect(Mark::OpenBrace, tokens)?;
-    let (all, rest) = items(alloc, 2, rest)?;
-    let (_, rest) = expect(Mark::CloseBrace, rest)?;
-    Ok((all, rest))
+    reader.expect(Mark::OpenBrace)?;
+    let all = items(alloc, 2, reader)?;
+    reader.expect(Mark::CloseBrace)?;
+    Ok(all)
 }

@@ -12,267 +12,232 @@ ghost use Rattle.arc_top.specs.Signatures.{reads_after};
 use arc_ast::tree;
 use arc_ast::tree::{Constant, Qualifiers, TypeName};
 use arc_form::fail::{Fail, Read};
-use arc_form::step::{expect, name, sees_mark};
+use arc_form::reader::Reader;
 use arc_lex::token::{Mark, Token, TokenKind, Word};
 use std::alloc::Global;
 
 /// The variables of a type, one or more, and `;`
 #[tactic(auto, using(crate::proofs::Globals::read_globals))]
-pub fn globals<'a>(
+pub fn globals(
     alloc: Global,
     qualifiers: Qualifiers,
     type_name: &TypeName,
-    tokens: &'a [Token],
-) -> Read<'a, Vec<tree::Global>>
-    ensures gives { Gives (λ x. (global_trees x.0.items, toks x.1.now)) result (reads_after grammar.globals (qualifiers, type_tree type_name.now) (toks tokens.now)) }
-    ensures shorter { IfOk result (λ x. length x.1.now < length tokens.now) }
+    reader: &mut Reader,
+) -> Read<Vec<tree::Global>>
+    ensures gives { Gives (λ x. global_trees x.items) result (toks reader.new.rest.now) (reads_after grammar.globals (qualifiers, type_tree type_name.now) (toks reader.old.rest.now)) }
+    ensures shorter { IfOk result (λ _. length reader.new.rest.now < length reader.old.rest.now) }
 {
-    let (first, rest) = global(alloc, qualifiers, type_name, tokens)?;
+    let first = global(alloc, qualifiers, type_name, reader)?;
     let mut all = Vec::new(alloc);
     all.push(first)?;
-    let (all, rest) = more_globals(alloc, qualifiers, type_name, all, rest)?;
-    let (_, rest) = expect(Mark::Semicolon, rest)?;
-    Ok((all, rest))
+    let all = more_globals(alloc, qualifiers, type_name, all, reader)?;
+    reader.expect(Mark::Semicolon)?;
+    Ok(all)
 }
 
 /// Qualifiers, a name, and perhaps what it begins with, of a variable of a type.
 #[tactic(auto, unfolding(arc_grammar::specs::Grammar::global))]
-fn global<'a>(
+fn global(
     alloc: Global,
     qualifiers: Qualifiers,
     type_name: &TypeName,
-    tokens: &'a [Token],
-) -> Read<'a, tree::Global>
-    ensures gives { Gives (λ x. (global_tree x.0, toks x.1.now)) result (reads_after grammar.global (qualifiers, type_tree type_name.now) (toks tokens.now)) }
-    ensures shorter { IfOk result (λ x. length x.1.now < length tokens.now) }
+    reader: &mut Reader,
+) -> Read<tree::Global>
+    ensures gives { Gives global_tree result (toks reader.new.rest.now) (reads_after grammar.global (qualifiers, type_tree type_name.now) (toks reader.old.rest.now)) }
+    ensures shorter { IfOk result (λ _. length reader.new.rest.now < length reader.old.rest.now) }
 {
-    let (own, rest) = arc_expr::qualifier::qualifiers(tokens)?;
-    let ((at, called), rest) = name(rest)?;
-    let (initial, rest) = first_constant(rest)?;
-    Ok((
-        tree::Global {
-            at,
-            type_name: type_name.copy(alloc)?,
-            qualifiers: qualifiers.both(own),
-            name: Vec::from_slice(alloc, called)?,
-            initial,
-        },
-        rest,
-    ))
+    let own = arc_expr::qualifier::qualifiers(reader)?;
+    let (at, name) = reader.name(alloc)?;
+    let initial = first_constant(reader)?;
+    Ok(tree::Global {
+        at,
+        type_name: type_name.copy(alloc)?,
+        qualifiers: qualifiers.both(own),
+        name,
+        initial,
+    })
 }
 
 /// A comma and a variable of a type.
 #[tactic(auto, unfolding(arc_grammar::specs::Grammar::next_global))]
-fn next_global<'a>(
+fn next_global(
     alloc: Global,
     qualifiers: Qualifiers,
     type_name: &TypeName,
-    tokens: &'a [Token],
-) -> Read<'a, tree::Global>
-    ensures gives { Gives (λ x. (global_tree x.0, toks x.1.now)) result (reads_after grammar.next_global (qualifiers, type_tree type_name.now) (toks tokens.now)) }
-    ensures shorter { IfOk result (λ x. length x.1.now < length tokens.now) }
+    reader: &mut Reader,
+) -> Read<tree::Global>
+    ensures gives { Gives global_tree result (toks reader.new.rest.now) (reads_after grammar.next_global (qualifiers, type_tree type_name.now) (toks reader.old.rest.now)) }
+    ensures shorter { IfOk result (λ _. length reader.new.rest.now < length reader.old.rest.now) }
 {
-    let (_, rest) = expect(Mark::Comma, tokens)?;
-    global(alloc, qualifiers, type_name, rest)
+    reader.expect(Mark::Comma)?;
+    global(alloc, qualifiers, type_name, reader)
 }
 
 /// These variables and the further ones of this type, each after a comma.
 #[tactic(auto, using(crate::proofs::Globals::further, arc_grammar::proofs::Fits::taking, arc_grammar::proofs::Lists::appends))]
-fn more_globals<'a>(
+fn more_globals(
     alloc: Global,
     qualifiers: Qualifiers,
     type_name: &TypeName,
     before: Vec<tree::Global>,
-    tokens: &'a [Token],
-) -> Read<'a, Vec<tree::Global>>
-    ensures gives { Gives (λ x. (global_trees x.0.items, toks x.1.now)) result (globals_on (qualifiers, type_tree type_name.now) (global_trees before.items) (toks tokens.now)) }
-    ensures shorter { IfOk result (λ x. length x.1.now ≤ length tokens.now) }
+    reader: &mut Reader,
+) -> Read<Vec<tree::Global>>
+    ensures gives { Gives (λ x. global_trees x.items) result (toks reader.new.rest.now) (globals_on (qualifiers, type_tree type_name.now) (global_trees before.items) (toks reader.old.rest.now)) }
+    ensures shorter { IfOk result (λ _. length reader.new.rest.now ≤ length reader.old.rest.now) }
 {
     let mut all = before;
-    let mut rest = tokens;
-    'globals: while sees_mark(Mark::Comma, rest) {
-        let (next, after) = next_global(alloc, qualifiers, type_name, rest)?;
+    'globals: while reader.sees_mark(Mark::Comma) {
+        let next = next_global(alloc, qualifiers, type_name, reader)?;
         all.push(next)?;
-        rest = after;
     }
-    Ok((all, rest))
+    Ok(all)
 }
 
 /// `*`, a name, and perhaps what it begins with, of a variable that names objects of a class.
 #[tactic(auto, unfolding(arc_grammar::specs::Grammar::global_reference))]
-fn global_reference<'a>(
+fn global_reference(
     alloc: Global,
     qualifiers: Qualifiers,
     type_name: &TypeName,
-    tokens: &'a [Token],
-) -> Read<'a, tree::Global>
-    ensures gives { Gives (λ x. (global_tree x.0, toks x.1.now)) result (reads_after grammar.global_reference (qualifiers, type_tree type_name.now) (toks tokens.now)) }
-    ensures shorter { IfOk result (λ x. length x.1.now < length tokens.now) }
+    reader: &mut Reader,
+) -> Read<tree::Global>
+    ensures gives { Gives global_tree result (toks reader.new.rest.now) (reads_after grammar.global_reference (qualifiers, type_tree type_name.now) (toks reader.old.rest.now)) }
+    ensures shorter { IfOk result (λ _. length reader.new.rest.now < length reader.old.rest.now) }
 {
-    let (_, rest) = expect(Mark::Star, tokens)?;
-    global(alloc, qualifiers, type_name, rest)
+    reader.expect(Mark::Star)?;
+    global(alloc, qualifiers, type_name, reader)
 }
 
 /// A comma and such a variable.
 #[tactic(auto, unfolding(arc_grammar::specs::Grammar::next_global_reference))]
-fn next_global_reference<'a>(
+fn next_global_reference(
     alloc: Global,
     qualifiers: Qualifiers,
     type_name: &TypeName,
-    tokens: &'a [Token],
-) -> Read<'a, tree::Global>
-    ensures gives { Gives (λ x. (global_tree x.0, toks x.1.now)) result (reads_after grammar.next_global_reference (qualifiers, type_tree type_name.now) (toks tokens.now)) }
-    ensures shorter { IfOk result (λ x. length x.1.now < length tokens.now) }
+    reader: &mut Reader,
+) -> Read<tree::Global>
+    ensures gives { Gives global_tree result (toks reader.new.rest.now) (reads_after grammar.next_global_reference (qualifiers, type_tree type_name.now) (toks reader.old.rest.now)) }
+    ensures shorter { IfOk result (λ _. length reader.new.rest.now < length reader.old.rest.now) }
 {
-    let (_, rest) = expect(Mark::Comma, tokens)?;
-    global_reference(alloc, qualifiers, type_name, rest)
+    reader.expect(Mark::Comma)?;
+    global_reference(alloc, qualifiers, type_name, reader)
 }
 
 /// These variables and the further ones of this class, each after a comma and `*`.
 #[tactic(auto, using(crate::proofs::Globals::further, arc_grammar::proofs::Fits::taking, arc_grammar::proofs::Lists::appends))]
-fn more_global_references<'a>(
+fn more_global_references(
     alloc: Global,
     qualifiers: Qualifiers,
     type_name: &TypeName,
     before: Vec<tree::Global>,
-    tokens: &'a [Token],
-) -> Read<'a, Vec<tree::Global>>
-    ensures gives { Gives (λ x. (global_trees x.0.items, toks x.1.now)) result (global_references_on (qualifiers, type_tree type_name.now) (global_trees before.items) (toks tokens.now)) }
-    ensures shorter { IfOk result (λ x. length x.1.now ≤ length tokens.now) }
+    reader: &mut Reader,
+) -> Read<Vec<tree::Global>>
+    ensures gives { Gives (λ x. global_trees x.items) result (toks reader.new.rest.now) (global_references_on (qualifiers, type_tree type_name.now) (global_trees before.items) (toks reader.old.rest.now)) }
+    ensures shorter { IfOk result (λ _. length reader.new.rest.now ≤ length reader.old.rest.now) }
 {
     let mut all = before;
-    let mut rest = tokens;
-    'references: while sees_mark(Mark::Comma, rest) {
-        let (next, after) = next_global_reference(alloc, qualifiers, type_name, rest)?;
+    'references: while reader.sees_mark(Mark::Comma) {
+        let next = next_global_reference(alloc, qualifiers, type_name, reader)?;
         all.push(next)?;
-        rest = after;
     }
-    Ok((all, rest))
+    Ok(all)
 }
 
 /// The variables that name objects of a class, the first one, further ones with a `*` each, and `;`
 #[tactic(auto, using(crate::proofs::Globals::read_global_references))]
-pub fn global_references<'a>(
+pub fn global_references(
     alloc: Global,
     qualifiers: Qualifiers,
     type_name: &TypeName,
-    tokens: &'a [Token],
-) -> Read<'a, Vec<tree::Global>>
-    ensures gives { Gives (λ x. (global_trees x.0.items, toks x.1.now)) result (reads_after grammar.global_references (qualifiers, type_tree type_name.now) (toks tokens.now)) }
-    ensures shorter { IfOk result (λ x. length x.1.now < length tokens.now) }
+    reader: &mut Reader,
+) -> Read<Vec<tree::Global>>
+    ensures gives { Gives (λ x. global_trees x.items) result (toks reader.new.rest.now) (reads_after grammar.global_references (qualifiers, type_tree type_name.now) (toks reader.old.rest.now)) }
+    ensures shorter { IfOk result (λ _. length reader.new.rest.now < length reader.old.rest.now) }
 {
-    let (first, rest) = global(alloc, qualifiers, type_name, tokens)?;
+    let first = global(alloc, qualifiers, type_name, reader)?;
     let mut all = Vec::new(alloc);
     all.push(first)?;
-    let (all, rest) = more_global_references(alloc, qualifiers, type_name, all, rest)?;
-    let (_, rest) = expect(Mark::Semicolon, rest)?;
-    Ok((all, rest))
+    let all = more_global_references(alloc, qualifiers, type_name, all, reader)?;
+    reader.expect(Mark::Semicolon)?;
+    Ok(all)
 }
 
 /// `=` and a constant, or nothing.
 #[tactic(auto, unfolding(arc_grammar::specs::Grammar::first_constant))]
-fn first_constant(tokens: &[Token]) -> Read<'_, Option<Constant>>
-    ensures gives { Gives (λ x. (x.0, toks x.1.now)) result (reads grammar.first_constant (toks tokens.now)) }
-    ensures shorter { IfOk result (λ x. length x.1.now ≤ length tokens.now) }
+fn first_constant(reader: &mut Reader) -> Read<Option<Constant>>
+    ensures gives { Gives (λ x. x) result (toks reader.new.rest.now) (reads grammar.first_constant (toks reader.old.rest.now)) }
+    ensures shorter { IfOk result (λ _. length reader.new.rest.now ≤ length reader.old.rest.now) }
 {
-    if !sees_mark(Mark::Assign, tokens) {
-        return Ok((None, tokens));
+    if !reader.sees_mark(Mark::Assign) {
+        return Ok(None);
     }
-    let (_, rest) = expect(Mark::Assign, tokens)?;
-    let (value, rest) = constant(rest)?;
-    Ok((Some(value), rest))
+    reader.expect(Mark::Assign)?;
+    let value = constant(reader)?;
+    Ok(Some(value))
 }
 
 /// What a variable of the whole program may begin with.
 #[tactic(auto, unfolding(arc_grammar::specs::Grammar::constant))]
-fn constant(tokens: &[Token]) -> Read<'_, Constant>
-    ensures gives { Gives (λ x. (x.0, toks x.1.now)) result (reads grammar.constant (toks tokens.now)) }
-    ensures shorter { IfOk result (λ x. length x.1.now < length tokens.now) }
+fn constant(reader: &mut Reader) -> Read<Constant>
+    ensures gives { Gives (λ x. x) result (toks reader.new.rest.now) (reads grammar.constant (toks reader.old.rest.now)) }
+    ensures shorter { IfOk result (λ _. length reader.new.rest.now < length reader.old.rest.now) }
 {
-    if sees_mark(Mark::Minus, tokens) {
-        negative_constant(tokens)
+    if reader.sees_mark(Mark::Minus) {
+        negative_constant(reader)
     } else {
-        plain_constant(tokens)
+        plain_constant(reader)
     }
 }
 
 /// `-`, and an integer or a character.
 #[tactic(auto, unfolding(arc_grammar::specs::Grammar::negative_constant))]
-fn negative_constant(tokens: &[Token]) -> Read<'_, Constant>
-    ensures gives { Gives (λ x. (x.0, toks x.1.now)) result (reads grammar.negative_constant (toks tokens.now)) }
-    ensures shorter { IfOk result (λ x. length x.1.now < length tokens.now) }
+fn negative_constant(reader: &mut Reader) -> Read<Constant>
+    ensures gives { Gives (λ x. x) result (toks reader.new.rest.now) (reads grammar.negative_constant (toks reader.old.rest.now)) }
+    ensures shorter { IfOk result (λ _. length reader.new.rest.now < length reader.old.rest.now) }
 {
-    let (at, rest) = expect(Mark::Minus, tokens)?;
-    let (value, rest) = integer(rest)?;
-    Ok((Constant::Number(at, value.wrapping_neg()), rest))
+    let at = reader.expect(Mark::Minus)?;
+    let value = integer(reader)?;
+    Ok(Constant::Number(at, value.wrapping_neg()))
 }
 
 /// The number of the first token, which is an integer or a character.
 ///
-/// `Unexpected` comes with all of the tokens where it is not.
-fn integer(tokens: &[Token]) -> Read<'_, i64>
-    ensures gives { Gives (λ x. (x.0, toks x.1.now)) result (take_one kinds.integer (λ t. grammar.number_of t.sort) (toks tokens.now)) }
-    ensures shorter { IfOk result (λ x. length x.1.now < length tokens.now) }
+/// `Unexpected` comes where it is not, and nothing is taken.
+fn integer(reader: &mut Reader) -> Read<i64>
+    ensures gives { Gives (λ x. x) result (toks reader.new.rest.now) (take_one kinds.integer (λ t. grammar.number_of t.sort) (toks reader.old.rest.now)) }
+    ensures shorter { IfOk result (λ _. length reader.new.rest.now < length reader.old.rest.now) }
 {
-    match tokens.split_first() {
-        Some(
-            (
-                Token {
-                    kind: TokenKind::Integer(value, _),
-                    ..
-                },
-                rest,
-            ),
-        ) => Ok((*value, rest)),
-        _ => Err(Fail::Unexpected(tokens)),
+    match reader.rest.split_first() {
+        Some((token, rest)) => match token.kind {
+            TokenKind::Integer(value, _) => {
+                reader.rest = rest;
+                Ok(value)
+            }
+            _ => Err(Fail::Unexpected),
+        },
+        None => Err(Fail::Unexpected),
     }
 }
 
 /// What the first token stands for, which is an integer, a character, `YES`, `NO` or `nil`.
 ///
-/// `Unexpected` comes with all of the tokens where it is not.
+/// `Unexpected` comes where it is not, and nothing is taken.
 #[tactic(auto, unfolding(arc_grammar::specs::Grammar::plain_constant))]
-fn plain_constant(tokens: &[Token]) -> Read<'_, Constant>
-    ensures gives { Gives (λ x. (x.0, toks x.1.now)) result (reads grammar.plain_constant (toks tokens.now)) }
-    ensures shorter { IfOk result (λ x. length x.1.now < length tokens.now) }
+fn plain_constant(reader: &mut Reader) -> Read<Constant>
+    ensures gives { Gives (λ x. x) result (toks reader.new.rest.now) (reads grammar.plain_constant (toks reader.old.rest.now)) }
+    ensures shorter { IfOk result (λ _. length reader.new.rest.now < length reader.old.rest.now) }
 {
-    match tokens.split_first() {
-        Some(
-            (
-                Token {
-                    kind: TokenKind::Integer(value, _),
-                    span,
-                },
-                rest,
-            ),
-        ) => Ok((Constant::Number(span.from, *value), rest)),
-        Some(
-            (
-                Token {
-                    kind: TokenKind::Word(Word::Yes),
-                    span,
-                },
-                rest,
-            ),
-        ) => Ok((Constant::Number(span.from, 1), rest)),
-        Some(
-            (
-                Token {
-                    kind: TokenKind::Word(Word::No),
-                    span,
-                },
-                rest,
-            ),
-        ) => Ok((Constant::Number(span.from, 0), rest)),
-        Some(
-            (
-                Token {
-                    kind: TokenKind::Word(Word::Nil),
-                    span,
-                },
-                rest,
-            ),
-        ) => Ok((Constant::Nil(span.from), rest)),
-        _ => Err(Fail::Unexpected(tokens)),
-    }
+    let Some((token, rest)) = reader.rest.split_first() else {
+        return Err(Fail::Unexpected);
+    };
+    let at = token.span.from;
+    let constant = match token.kind {
+        TokenKind::Integer(value, _) => Constant::Number(at, value),
+        TokenKind::Word(Word::Yes) => Constant::Number(at, 1),
+        TokenKind::Word(Word::No) => Constant::Number(at, 0),
+        TokenKind::Word(Word::Nil) => Constant::Nil(at),
+        _ => return Err(Fail::Unexpected),
+    };
+    reader.rest = rest;
+    Ok(constant)
 }

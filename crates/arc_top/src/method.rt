@@ -15,152 +15,145 @@ use crate::value_type::value_type;
 use arc_ast::tree::{Method, MethodHead, Parameter, Qualifiers, ResultType, Sign, TypeName};
 use arc_expr::qualifier::qualifiers;
 use arc_form::fail::Read;
-use arc_form::step::{expect, keyword, name, sees_mark, sees_name, sees_word};
-use arc_lex::token::{Mark, Token, Word};
+use arc_form::reader::Reader;
+use arc_lex::token::{Mark, Word};
 use std::alloc::Global;
 
 /// Whether a method can begin with the first token.
 #[tactic(auto, using(arc_form::proofs::Sets::sees_or))]
-fn begins_method(tokens: &[Token]) -> bool
-    ensures { result ≡ sees grammar.begins_method (toks tokens.now) }
+fn begins_method(reader: &Reader) -> bool
+    ensures { result ≡ sees grammar.begins_method (toks reader.now.rest.now) }
 {
-    sees_mark(Mark::Plus, tokens) || sees_mark(Mark::Minus, tokens)
+    reader.sees_mark(Mark::Plus) || reader.sees_mark(Mark::Minus)
 }
 
 /// The methods that an interface declares.
 #[tactic(auto, using(arc_grammar::proofs::Loops::one_more, arc_grammar::proofs::Fits::taking, arc_form::proofs::Joining::row_start, arc_form::proofs::Joining::all_push, arc_grammar::proofs::Lists::alls), unfolding(arc_grammar::specs::Grammar::method_heads))]
-pub fn method_heads<'a>(alloc: Global, tokens: &'a [Token]) -> Read<'a, Vec<MethodHead>>
-    ensures gives { Gives (λ x. (head_trees x.0.items, toks x.1.now)) result (reads grammar.method_heads (toks tokens.now)) }
-    ensures shorter { IfOk result (λ x. length x.1.now ≤ length tokens.now) }
+pub fn method_heads(alloc: Global, reader: &mut Reader) -> Read<Vec<MethodHead>>
+    ensures gives { Gives (λ x. head_trees x.items) result (toks reader.new.rest.now) (reads grammar.method_heads (toks reader.old.rest.now)) }
+    ensures shorter { IfOk result (λ _. length reader.new.rest.now ≤ length reader.old.rest.now) }
 {
     let mut all = Vec::new(alloc);
-    let mut rest = tokens;
-    'heads: while begins_method(rest) {
-        let (head, after) = next_head(alloc, rest)?;
+    'heads: while begins_method(reader) {
+        let head = next_head(alloc, reader)?;
         all.push(head)?;
-        rest = after;
     }
-    Ok((all, rest))
+    Ok(all)
 }
 
 /// A method's declaration.
 #[tactic(auto, unfolding(arc_grammar::specs::Grammar::next_head))]
-fn next_head<'a>(alloc: Global, tokens: &'a [Token]) -> Read<'a, MethodHead>
-    ensures gives { Gives (λ x. (head_tree x.0, toks x.1.now)) result (reads grammar.next_head (toks tokens.now)) }
-    ensures shorter { IfOk result (λ x. length x.1.now < length tokens.now) }
+fn next_head(alloc: Global, reader: &mut Reader) -> Read<MethodHead>
+    ensures gives { Gives head_tree result (toks reader.new.rest.now) (reads grammar.next_head (toks reader.old.rest.now)) }
+    ensures shorter { IfOk result (λ _. length reader.new.rest.now < length reader.old.rest.now) }
 {
-    let (head, rest) = method_head(alloc, tokens)?;
-    let (_, rest) = expect(Mark::Semicolon, rest)?;
-    Ok((head, rest))
+    let head = method_head(alloc, reader)?;
+    reader.expect(Mark::Semicolon)?;
+    Ok(head)
 }
 
 /// The methods that an implementation defines.
 #[tactic(auto, using(arc_grammar::proofs::Loops::one_more, arc_grammar::proofs::Fits::taking, arc_form::proofs::Joining::row_start, arc_form::proofs::Joining::all_push, arc_grammar::proofs::Lists::alls), unfolding(arc_grammar::specs::Grammar::methods))]
-pub fn methods<'a>(alloc: Global, tokens: &'a [Token]) -> Read<'a, Vec<Method>>
-    ensures gives { Gives (λ x. (method_trees x.0.items, toks x.1.now)) result (reads grammar.methods (toks tokens.now)) }
-    ensures shorter { IfOk result (λ x. length x.1.now ≤ length tokens.now) }
+pub fn methods(alloc: Global, reader: &mut Reader) -> Read<Vec<Method>>
+    ensures gives { Gives (λ x. method_trees x.items) result (toks reader.new.rest.now) (reads grammar.methods (toks reader.old.rest.now)) }
+    ensures shorter { IfOk result (λ _. length reader.new.rest.now ≤ length reader.old.rest.now) }
 {
     let mut all = Vec::new(alloc);
-    let mut rest = tokens;
-    'methods: while begins_method(rest) {
-        let (method, after) = method(alloc, rest)?;
+    'methods: while begins_method(reader) {
+        let method = method(alloc, reader)?;
         all.push(method)?;
-        rest = after;
     }
-    Ok((all, rest))
+    Ok(all)
 }
 
 /// A method's definition.
 #[tactic(auto, unfolding(arc_grammar::specs::Grammar::method))]
-fn method<'a>(alloc: Global, tokens: &'a [Token]) -> Read<'a, Method>
-    ensures gives { Gives (λ x. (method_tree x.0, toks x.1.now)) result (reads grammar.method (toks tokens.now)) }
-    ensures shorter { IfOk result (λ x. length x.1.now < length tokens.now) }
+fn method(alloc: Global, reader: &mut Reader) -> Read<Method>
+    ensures gives { Gives method_tree result (toks reader.new.rest.now) (reads grammar.method (toks reader.old.rest.now)) }
+    ensures shorter { IfOk result (λ _. length reader.new.rest.now < length reader.old.rest.now) }
 {
-    let (head, rest) = method_head(alloc, tokens)?;
-    let (_, rest) = perhaps_semicolon(rest)?;
-    let (body, rest) = braces(alloc, rest)?;
-    Ok((Method { head, body }, rest))
+    let head = method_head(alloc, reader)?;
+    perhaps_semicolon(reader)?;
+    let body = braces(alloc, reader)?;
+    Ok(Method { head, body })
 }
 
 /// Perhaps `;`.
 #[tactic(auto, unfolding(arc_grammar::specs::Grammar::perhaps_semicolon))]
-fn perhaps_semicolon(tokens: &[Token]) -> Read<'_, ()>
-    ensures gives { Gives (λ x. (x.0, toks x.1.now)) result (reads grammar.perhaps_semicolon (toks tokens.now)) }
-    ensures shorter { IfOk result (λ x. length x.1.now ≤ length tokens.now) }
+fn perhaps_semicolon(reader: &mut Reader) -> Read<()>
+    ensures gives { Gives (λ x. x) result (toks reader.new.rest.now) (reads grammar.perhaps_semicolon (toks reader.old.rest.now)) }
+    ensures shorter { IfOk result (λ _. length reader.new.rest.now ≤ length reader.old.rest.now) }
 {
-    if !sees_mark(Mark::Semicolon, tokens) {
-        return Ok(((), tokens));
+    if !reader.sees_mark(Mark::Semicolon) {
+        return Ok(());
     }
-    let (_, rest) = expect(Mark::Semicolon, tokens)?;
-    Ok(((), rest))
+    reader.expect(Mark::Semicolon)?;
+    Ok(())
 }
 
 /// `+` or `-`, perhaps the type of the result, and the selector with the parameters
 #[tactic(auto, using(arc_grammar::proofs::Lists::alls), unfolding(arc_grammar::specs::Grammar::method_head))]
-fn method_head<'a>(alloc: Global, tokens: &'a [Token]) -> Read<'a, MethodHead>
-    ensures gives { Gives (λ x. (head_tree x.0, toks x.1.now)) result (reads grammar.method_head (toks tokens.now)) }
-    ensures shorter { IfOk result (λ x. length x.1.now < length tokens.now) }
+fn method_head(alloc: Global, reader: &mut Reader) -> Read<MethodHead>
+    ensures gives { Gives head_tree result (toks reader.new.rest.now) (reads grammar.method_head (toks reader.old.rest.now)) }
+    ensures shorter { IfOk result (λ _. length reader.new.rest.now < length reader.old.rest.now) }
 {
-    let ((at, sign), rest) = sign(tokens)?;
-    let (result, rest) = method_result(alloc, rest)?;
-    let ((selector, parameters), rest) = selector(alloc, rest)?;
-    Ok((
-        MethodHead {
-            at,
-            sign,
-            selector,
-            result,
-            parameters,
-        },
-        rest,
-    ))
+    let (at, sign) = sign(reader)?;
+    let result = method_result(alloc, reader)?;
+    let (selector, parameters) = selector(alloc, reader)?;
+    Ok(MethodHead {
+        at,
+        sign,
+        selector,
+        result,
+        parameters,
+    })
 }
 
 /// In parentheses the type of what a method gives, or else `id`.
 #[tactic(auto, unfolding(arc_grammar::specs::Grammar::method_result, arc_grammar::specs::Grammar::enclosed_result))]
-fn method_result<'a>(alloc: Global, tokens: &'a [Token]) -> Read<'a, ResultType>
-    ensures gives { Gives (λ x. (result_tree x.0, toks x.1.now)) result (reads grammar.method_result (toks tokens.now)) }
-    ensures shorter { IfOk result (λ x. length x.1.now ≤ length tokens.now) }
+fn method_result(alloc: Global, reader: &mut Reader) -> Read<ResultType>
+    ensures gives { Gives result_tree result (toks reader.new.rest.now) (reads grammar.method_result (toks reader.old.rest.now)) }
+    ensures shorter { IfOk result (λ _. length reader.new.rest.now ≤ length reader.old.rest.now) }
 {
-    if !sees_mark(Mark::OpenParen, tokens) {
-        return Ok((ResultType::Value(TypeName::Id), tokens));
+    if !reader.sees_mark(Mark::OpenParen) {
+        return Ok(ResultType::Value(TypeName::Id));
     }
-    let (_, rest) = expect(Mark::OpenParen, tokens)?;
-    let (result, rest) = result_type(alloc, rest)?;
-    let (_, rest) = expect(Mark::CloseParen, rest)?;
-    Ok((result, rest))
+    reader.expect(Mark::OpenParen)?;
+    let result = result_type(alloc, reader)?;
+    reader.expect(Mark::CloseParen)?;
+    Ok(result)
 }
 
 /// `void`, `instancetype`, or the type of a value.
 #[tactic(auto, unfolding(arc_grammar::specs::Grammar::result_type))]
-fn result_type<'a>(alloc: Global, tokens: &'a [Token]) -> Read<'a, ResultType>
-    ensures gives { Gives (λ x. (result_tree x.0, toks x.1.now)) result (reads grammar.result_type (toks tokens.now)) }
-    ensures shorter { IfOk result (λ x. length x.1.now < length tokens.now) }
+fn result_type(alloc: Global, reader: &mut Reader) -> Read<ResultType>
+    ensures gives { Gives result_tree result (toks reader.new.rest.now) (reads grammar.result_type (toks reader.old.rest.now)) }
+    ensures shorter { IfOk result (λ _. length reader.new.rest.now < length reader.old.rest.now) }
 {
-    if sees_word(Word::Void, tokens) {
-        let (_, rest) = keyword(Word::Void, tokens)?;
-        return Ok((ResultType::Void, rest));
+    if reader.sees_word(Word::Void) {
+        reader.keyword(Word::Void)?;
+        return Ok(ResultType::Void);
     }
-    if sees_word(Word::InstanceType, tokens) {
-        let (_, rest) = keyword(Word::InstanceType, tokens)?;
-        return Ok((ResultType::Related, rest));
+    if reader.sees_word(Word::InstanceType) {
+        reader.keyword(Word::InstanceType)?;
+        return Ok(ResultType::Related);
     }
-    let ((_, written), rest) = value_type(alloc, tokens)?;
-    Ok((ResultType::Value(written), rest))
+    let (_, written) = value_type(alloc, reader)?;
+    Ok(ResultType::Value(written))
 }
 
 /// `+` or `-`, with its place
 #[tactic(auto, unfolding(arc_grammar::specs::Grammar::sign))]
-fn sign(tokens: &[Token]) -> Read<'_, (usize, Sign)>
-    ensures gives { Gives (λ x. (x.0, toks x.1.now)) result (reads grammar.sign (toks tokens.now)) }
-    ensures shorter { IfOk result (λ x. length x.1.now < length tokens.now) }
+fn sign(reader: &mut Reader) -> Read<(usize, Sign)>
+    ensures gives { Gives (λ x. x) result (toks reader.new.rest.now) (reads grammar.sign (toks reader.old.rest.now)) }
+    ensures shorter { IfOk result (λ _. length reader.new.rest.now < length reader.old.rest.now) }
 {
-    if sees_mark(Mark::Plus, tokens) {
-        let (at, rest) = expect(Mark::Plus, tokens)?;
-        return Ok(((at, Sign::Class), rest));
+    if reader.sees_mark(Mark::Plus) {
+        let at = reader.expect(Mark::Plus)?;
+        return Ok((at, Sign::Class));
     }
-    let (at, rest) = expect(Mark::Minus, tokens)?;
-    Ok(((at, Sign::Instance), rest))
+    let at = reader.expect(Mark::Minus)?;
+    Ok((at, Sign::Instance))
 }
 
 /// A selector with all of its colons, and the parameters.
@@ -168,65 +161,62 @@ type Typed = (Vec<u8>, Vec<Parameter>);
 
 /// A selector, and the parameters.
 #[tactic(auto, unfolding(arc_grammar::specs::Grammar::selector))]
-fn selector<'a>(alloc: Global, tokens: &'a [Token]) -> Read<'a, Typed>
-    ensures gives { Gives (λ x. ((x.0.0.items, all parameter_tree x.0.1.items), toks x.1.now)) result (reads grammar.selector (toks tokens.now)) }
-    ensures shorter { IfOk result (λ x. length x.1.now < length tokens.now) }
+fn selector(alloc: Global, reader: &mut Reader) -> Read<Typed>
+    ensures gives { Gives (λ x. (x.0.items, all parameter_tree x.1.items)) result (toks reader.new.rest.now) (reads grammar.selector (toks reader.old.rest.now)) }
+    ensures shorter { IfOk result (λ _. length reader.new.rest.now < length reader.old.rest.now) }
 {
-    let ((_, called), rest) = name(tokens)?;
-    let first = Vec::from_slice(alloc, called)?;
-    if sees_mark(Mark::Colon, rest) {
-        return typed_parts(alloc, first, rest);
+    let (_, first) = reader.name(alloc)?;
+    if reader.sees_mark(Mark::Colon) {
+        return typed_parts(alloc, first, reader);
     }
-    Ok(((first, Vec::new(alloc)), rest))
+    Ok((first, Vec::new(alloc)))
 }
 
 /// The selector whose first part has this name, and the parameters, one or more.
 #[tactic(auto, using(crate::proofs::Signatures::read_typed_parts))]
-fn typed_parts<'a>(alloc: Global, first: Vec<u8>, tokens: &'a [Token]) -> Read<'a, Typed>
-    ensures gives { Gives (λ x. ((x.0.0.items, all parameter_tree x.0.1.items), toks x.1.now)) result (reads_after grammar.typed_parts first.items (toks tokens.now)) }
-    ensures shorter { IfOk result (λ x. length x.1.now < length tokens.now) }
+fn typed_parts(alloc: Global, first: Vec<u8>, reader: &mut Reader) -> Read<Typed>
+    ensures gives { Gives (λ x. (x.0.items, all parameter_tree x.1.items)) result (toks reader.new.rest.now) (reads_after grammar.typed_parts first.items (toks reader.old.rest.now)) }
+    ensures shorter { IfOk result (λ _. length reader.new.rest.now < length reader.old.rest.now) }
 {
     let mut selector = first;
     let mut all = Vec::new(alloc);
-    let (parameter, rest) = typed(alloc, tokens)?;
+    let parameter = typed(alloc, reader)?;
     selector.push(b':')?;
     all.push(parameter)?;
-    more_typed(alloc, selector, all, rest)
+    more_typed(alloc, selector, all, reader)
 }
 
 /// This selector and these parameters, and further parts with theirs.
 #[tactic(auto, using(crate::proofs::Signatures::begin_typed, arc_grammar::proofs::Loops::one_more, arc_grammar::proofs::Fits::taking, arc_form::proofs::Joining::all_push))]
-fn more_typed<'a>(
+fn more_typed(
     alloc: Global,
     before: Vec<u8>,
     given: Vec<Parameter>,
-    tokens: &'a [Token],
-) -> Read<'a, Typed>
-    ensures gives { Gives (λ x. ((x.0.0.items, all parameter_tree x.0.1.items), toks x.1.now)) result (reads_after signatures.more_typed (before.items, all parameter_tree given.items) (toks tokens.now)) }
-    ensures shorter { IfOk result (λ x. length x.1.now ≤ length tokens.now) }
+    reader: &mut Reader,
+) -> Read<Typed>
+    ensures gives { Gives (λ x. (x.0.items, all parameter_tree x.1.items)) result (toks reader.new.rest.now) (reads_after signatures.more_typed (before.items, all parameter_tree given.items) (toks reader.old.rest.now)) }
+    ensures shorter { IfOk result (λ _. length reader.new.rest.now ≤ length reader.old.rest.now) }
 {
     let mut selector = before;
     let mut all = given;
-    let mut rest = tokens;
-    'parts: while sees_name(rest) {
-        let ((called, parameter), after) = next_typed(alloc, rest)?;
-        selector.extend_from_slice(called)?;
+    'parts: while reader.sees_name() {
+        let (called, parameter) = next_typed(alloc, reader)?;
+        selector.extend_from_slice(&called)?;
         selector.push(b':')?;
         all.push(parameter)?;
-        rest = after;
     }
-    Ok(((selector, all), rest))
+    Ok((selector, all))
 }
 
 /// A further part of a selector: its name, and its parameter.
 #[tactic(auto, unfolding(arc_grammar::specs::Grammar::next_typed))]
-fn next_typed<'a>(alloc: Global, tokens: &'a [Token]) -> Read<'a, (&'a [u8], Parameter)>
-    ensures gives { Gives (λ x. ((x.0.0.now, parameter_tree x.0.1), toks x.1.now)) result (reads grammar.next_typed (toks tokens.now)) }
-    ensures shorter { IfOk result (λ x. length x.1.now < length tokens.now) }
+fn next_typed(alloc: Global, reader: &mut Reader) -> Read<(Vec<u8>, Parameter)>
+    ensures gives { Gives (λ x. (x.items, parameter_tree x.1)) result (toks reader.new.rest.now) (reads grammar.next_typed (toks reader.old.rest.now)) }
+    ensures shorter { IfOk result (λ _. length reader.new.rest.now < length reader.old.rest.now) }
 {
-    let ((_, called), rest) = name(tokens)?;
-    let (parameter, rest) = typed(alloc, rest)?;
-    Ok(((called, parameter), rest))
+    let (_, called) = reader.name(alloc)?;
+    let parameter = typed(alloc, reader)?;
+    Ok((called, parameter))
 }
 
 /// A type and the qualifiers that stand before and after it.
@@ -234,41 +224,38 @@ type QualifiedType = (Qualifiers, TypeName);
 
 /// In parentheses a type, after and before qualifiers.
 #[tactic(auto, unfolding(arc_grammar::specs::Grammar::enclosed_type))]
-fn enclosed_type<'a>(alloc: Global, tokens: &'a [Token]) -> Read<'a, QualifiedType>
-    ensures gives { Gives (λ x. ((x.0.0, type_tree x.0.1), toks x.1.now)) result (reads grammar.enclosed_type (toks tokens.now)) }
-    ensures shorter { IfOk result (λ x. length x.1.now < length tokens.now) }
+fn enclosed_type(alloc: Global, reader: &mut Reader) -> Read<QualifiedType>
+    ensures gives { Gives (λ x. (x.0, type_tree x.1)) result (toks reader.new.rest.now) (reads grammar.enclosed_type (toks reader.old.rest.now)) }
+    ensures shorter { IfOk result (λ _. length reader.new.rest.now < length reader.old.rest.now) }
 {
-    let (_, rest) = expect(Mark::OpenParen, tokens)?;
-    let (before, rest) = qualifiers(rest)?;
-    let ((_, type_name), rest) = value_type(alloc, rest)?;
-    let (after, rest) = qualifiers(rest)?;
-    let (_, rest) = expect(Mark::CloseParen, rest)?;
-    Ok(((before.both(after), type_name), rest))
+    reader.expect(Mark::OpenParen)?;
+    let before = qualifiers(reader)?;
+    let (_, type_name) = value_type(alloc, reader)?;
+    let after = qualifiers(reader)?;
+    reader.expect(Mark::CloseParen)?;
+    Ok((before.both(after), type_name))
 }
 
 /// In parentheses the type of a parameter, or else `id`.
-fn parameter_type<'a>(alloc: Global, tokens: &'a [Token]) -> Read<'a, QualifiedType>
-    ensures gives { Gives (λ x. ((x.0.0, type_tree x.0.1), toks x.1.now)) result (signatures.parameter_type (toks tokens.now)) }
-    ensures shorter { IfOk result (λ x. length x.1.now ≤ length tokens.now) }
+fn parameter_type(alloc: Global, reader: &mut Reader) -> Read<QualifiedType>
+    ensures gives { Gives (λ x. (x.0, type_tree x.1)) result (toks reader.new.rest.now) (signatures.parameter_type (toks reader.old.rest.now)) }
+    ensures shorter { IfOk result (λ _. length reader.new.rest.now ≤ length reader.old.rest.now) }
 {
-    if sees_mark(Mark::OpenParen, tokens) {
-        enclosed_type(alloc, tokens)
+    if reader.sees_mark(Mark::OpenParen) {
+        enclosed_type(alloc, reader)
     } else {
-        Ok(((Qualifiers::Unqualified, TypeName::Id), tokens))
+        Ok((Qualifiers::Unqualified, TypeName::Id))
     }
 }
 
 /// A colon, perhaps a type in parentheses, and a name
 #[tactic(auto, unfolding(arc_grammar::specs::Grammar::typed))]
-fn typed<'a>(alloc: Global, tokens: &'a [Token]) -> Read<'a, Parameter>
-    ensures gives { Gives (λ x. (parameter_tree x.0, toks x.1.now)) result (reads grammar.typed (toks tokens.now)) }
-    ensures shorter { IfOk result (λ x. length x.1.now < length tokens.now) }
+fn typed(alloc: Global, reader: &mut Reader) -> Read<Parameter>
+    ensures gives { Gives parameter_tree result (toks reader.new.rest.now) (reads grammar.typed (toks reader.old.rest.now)) }
+    ensures shorter { IfOk result (λ _. length reader.new.rest.now < length reader.old.rest.now) }
 {
-    let (_, rest) = expect(Mark::Colon, tokens)?;
-    let ((qualifiers, type_name), rest) = parameter_type(alloc, rest)?;
-    let ((at, called), rest) = name(rest)?;
-    Ok((
-        parameter_of(alloc, qualifiers, type_name, at, called)?,
-        rest,
-    ))
+    reader.expect(Mark::Colon)?;
+    let (qualifiers, type_name) = parameter_type(alloc, reader)?;
+    let (at, name) = reader.name(alloc)?;
+    Ok(parameter_of(qualifiers, type_name, at, name))
 }

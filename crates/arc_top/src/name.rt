@@ -8,59 +8,60 @@ ghost use Rattle.arc_grammar.specs.Grammar as grammar;
 use arc_ast::tree::Qualifiers;
 use arc_expr::qualifier::qualifiers;
 use arc_form::fail::Read;
-use arc_form::step::{expect, name};
-use arc_lex::token::{Mark, Token};
+use arc_form::reader::Reader;
+use arc_lex::token::Mark;
+use std::alloc::Global;
 
 /// A comma and a name, with the name's place.
 #[tactic(auto, unfolding(arc_grammar::specs::Grammar::next_name))]
-pub fn next_name<'a>(tokens: &'a [Token]) -> Read<'a, (usize, &'a [u8])>
-    ensures gives { Gives (λ x. ((x.0.0, x.0.1.now), toks x.1.now)) result (reads grammar.next_name (toks tokens.now)) }
-    ensures shorter { IfOk result (λ x. length x.1.now < length tokens.now) }
+pub fn next_name(alloc: Global, reader: &mut Reader) -> Read<(usize, Vec<u8>)>
+    ensures gives { Gives (λ x. (x.0, x.1.items)) result (toks reader.new.rest.now) (reads grammar.next_name (toks reader.old.rest.now)) }
+    ensures shorter { IfOk result (λ _. length reader.new.rest.now < length reader.old.rest.now) }
 {
-    let (_, rest) = expect(Mark::Comma, tokens)?;
-    name(rest)
+    reader.expect(Mark::Comma)?;
+    reader.name(alloc)
 }
 
 /// A name with its place, and the qualifiers before it.
-pub type QualifiedName<'a> = (Qualifiers, (usize, &'a [u8]));
+pub type QualifiedName = (Qualifiers, (usize, Vec<u8>));
 
 /// Qualifiers and a name.
 #[tactic(auto, unfolding(arc_grammar::specs::Grammar::qualified_name))]
-pub fn qualified_name<'a>(tokens: &'a [Token]) -> Read<'a, QualifiedName<'a>>
-    ensures gives { Gives (λ x. ((x.0.0, (x.0.1.0, x.0.1.1.now)), toks x.1.now)) result (reads grammar.qualified_name (toks tokens.now)) }
-    ensures shorter { IfOk result (λ x. length x.1.now < length tokens.now) }
+pub fn qualified_name(alloc: Global, reader: &mut Reader) -> Read<QualifiedName>
+    ensures gives { Gives (λ x. (x.0, (x.1.0, x.1.1.items))) result (toks reader.new.rest.now) (reads grammar.qualified_name (toks reader.old.rest.now)) }
+    ensures shorter { IfOk result (λ _. length reader.new.rest.now < length reader.old.rest.now) }
 {
-    let (qualifiers, rest) = qualifiers(tokens)?;
-    let (named, rest) = name(rest)?;
-    Ok(((qualifiers, named), rest))
+    let qualifiers = qualifiers(reader)?;
+    let named = reader.name(alloc)?;
+    Ok((qualifiers, named))
 }
 
 /// A comma, qualifiers and a name.
 #[tactic(auto, unfolding(arc_grammar::specs::Grammar::next_qualified_name))]
-pub fn next_qualified_name<'a>(tokens: &'a [Token]) -> Read<'a, QualifiedName<'a>>
-    ensures gives { Gives (λ x. ((x.0.0, (x.0.1.0, x.0.1.1.now)), toks x.1.now)) result (reads grammar.next_qualified_name (toks tokens.now)) }
-    ensures shorter { IfOk result (λ x. length x.1.now < length tokens.now) }
+pub fn next_qualified_name(alloc: Global, reader: &mut Reader) -> Read<QualifiedName>
+    ensures gives { Gives (λ x. (x.0, (x.1.0, x.1.1.items))) result (toks reader.new.rest.now) (reads grammar.next_qualified_name (toks reader.old.rest.now)) }
+    ensures shorter { IfOk result (λ _. length reader.new.rest.now < length reader.old.rest.now) }
 {
-    let (_, rest) = expect(Mark::Comma, tokens)?;
-    qualified_name(rest)
+    reader.expect(Mark::Comma)?;
+    qualified_name(alloc, reader)
 }
 
 /// `*`, qualifiers and a name.
 #[tactic(auto, unfolding(arc_grammar::specs::Grammar::starred_name))]
-pub fn starred_name<'a>(tokens: &'a [Token]) -> Read<'a, QualifiedName<'a>>
-    ensures gives { Gives (λ x. ((x.0.0, (x.0.1.0, x.0.1.1.now)), toks x.1.now)) result (reads grammar.starred_name (toks tokens.now)) }
-    ensures shorter { IfOk result (λ x. length x.1.now < length tokens.now) }
+pub fn starred_name(alloc: Global, reader: &mut Reader) -> Read<QualifiedName>
+    ensures gives { Gives (λ x. (x.0, (x.1.0, x.1.1.items))) result (toks reader.new.rest.now) (reads grammar.starred_name (toks reader.old.rest.now)) }
+    ensures shorter { IfOk result (λ _. length reader.new.rest.now < length reader.old.rest.now) }
 {
-    let (_, rest) = expect(Mark::Star, tokens)?;
-    qualified_name(rest)
+    reader.expect(Mark::Star)?;
+    qualified_name(alloc, reader)
 }
 
 /// A comma, `*`, qualifiers and a name.
 #[tactic(auto, unfolding(arc_grammar::specs::Grammar::next_starred_name))]
-pub fn next_starred_name<'a>(tokens: &'a [Token]) -> Read<'a, QualifiedName<'a>>
-    ensures gives { Gives (λ x. ((x.0.0, (x.0.1.0, x.0.1.1.now)), toks x.1.now)) result (reads grammar.next_starred_name (toks tokens.now)) }
-    ensures shorter { IfOk result (λ x. length x.1.now < length tokens.now) }
+pub fn next_starred_name(alloc: Global, reader: &mut Reader) -> Read<QualifiedName>
+    ensures gives { Gives (λ x. (x.0, (x.1.0, x.1.1.items))) result (toks reader.new.rest.now) (reads grammar.next_starred_name (toks reader.old.rest.now)) }
+    ensures shorter { IfOk result (λ _. length reader.new.rest.now < length reader.old.rest.now) }
 {
-    let (_, rest) = expect(Mark::Comma, tokens)?;
-    starred_name(rest)
+    reader.expect(Mark::Comma)?;
+    starred_name(alloc, reader)
 }

@@ -18,310 +18,300 @@ use crate::value_type::{
 use arc_ast::tree::{Parameter, Parameters, Qualifiers, TypeName};
 use arc_expr::qualifier::{qualifiers, sees_qualifier, some_qualifiers};
 use arc_form::fail::Read;
-use arc_form::step::{expect, keyword, name, sees_mark, sees_word};
-use arc_lex::token::{Mark, Token, Word};
+use arc_form::reader::Reader;
+use arc_lex::token::{Mark, Word};
 use std::alloc::{AllocError, Global};
 
 /// What a function other than `main` takes.
 #[tactic(auto, unfolding(arc_grammar::specs::Grammar::parameters))]
-pub fn parameters<'a>(alloc: Global, tokens: &'a [Token]) -> Read<'a, Parameters>
-    ensures gives { Gives (λ x. (parameters_tree x.0, toks x.1.now)) result (reads grammar.parameters (toks tokens.now)) }
-    ensures shorter { IfOk result (λ x. length x.1.now ≤ length tokens.now) }
+pub fn parameters(alloc: Global, reader: &mut Reader) -> Read<Parameters>
+    ensures gives { Gives parameters_tree result (toks reader.new.rest.now) (reads grammar.parameters (toks reader.old.rest.now)) }
+    ensures shorter { IfOk result (λ _. length reader.new.rest.now ≤ length reader.old.rest.now) }
 {
-    if sees_word(Word::Void, tokens) {
-        void_parameters(alloc, tokens)
-    } else if begins_qualified_type(tokens) {
-        some_parameters(alloc, tokens)
+    if reader.sees_word(Word::Void) {
+        void_parameters(alloc, reader)
+    } else if begins_qualified_type(reader) {
+        some_parameters(alloc, reader)
     } else {
-        Ok((Parameters::Listed(Vec::new(alloc)), tokens))
+        Ok(Parameters::Listed(Vec::new(alloc)))
     }
 }
 
 /// What `main` takes.
 #[tactic(auto, unfolding(arc_grammar::specs::Grammar::parameters_of_main))]
-pub fn parameters_of_main<'a>(alloc: Global, tokens: &'a [Token]) -> Read<'a, Parameters>
-    ensures gives { Gives (λ x. (parameters_tree x.0, toks x.1.now)) result (reads grammar.parameters_of_main (toks tokens.now)) }
-    ensures shorter { IfOk result (λ x. length x.1.now ≤ length tokens.now) }
+pub fn parameters_of_main(alloc: Global, reader: &mut Reader) -> Read<Parameters>
+    ensures gives { Gives parameters_tree result (toks reader.new.rest.now) (reads grammar.parameters_of_main (toks reader.old.rest.now)) }
+    ensures shorter { IfOk result (λ _. length reader.new.rest.now ≤ length reader.old.rest.now) }
 {
-    if sees_word(Word::Void, tokens) {
-        void_parameters(alloc, tokens)
-    } else if begins_of_main(tokens) {
-        some_of_main(alloc, tokens)
+    if reader.sees_word(Word::Void) {
+        void_parameters(alloc, reader)
+    } else if begins_of_main(reader) {
+        some_of_main(alloc, reader)
     } else {
-        Ok((Parameters::Listed(Vec::new(alloc)), tokens))
+        Ok(Parameters::Listed(Vec::new(alloc)))
     }
 }
 
 /// Whether a parameter of `main` can begin with the first token.
 #[tactic(auto, using(arc_form::proofs::Sets::sees_or))]
-fn begins_of_main(tokens: &[Token]) -> bool
-    ensures { result ≡ sees grammar.begins_of_main (toks tokens.now) }
+fn begins_of_main(reader: &Reader) -> bool
+    ensures { result ≡ sees grammar.begins_of_main (toks reader.now.rest.now) }
 {
-    sees_qualifier(tokens) || (sees_word(Word::Int, tokens) || begins_other_value_type(tokens))
+    sees_qualifier(reader) || (reader.sees_word(Word::Int) || begins_other_value_type(reader))
 }
 
 /// `void` alone
 #[tactic(auto, unfolding(arc_grammar::specs::Grammar::void_parameters))]
-fn void_parameters<'a>(alloc: Global, tokens: &'a [Token]) -> Read<'a, Parameters>
-    ensures gives { Gives (λ x. (parameters_tree x.0, toks x.1.now)) result (reads grammar.void_parameters (toks tokens.now)) }
-    ensures shorter { IfOk result (λ x. length x.1.now < length tokens.now) }
+fn void_parameters(alloc: Global, reader: &mut Reader) -> Read<Parameters>
+    ensures gives { Gives parameters_tree result (toks reader.new.rest.now) (reads grammar.void_parameters (toks reader.old.rest.now)) }
+    ensures shorter { IfOk result (λ _. length reader.new.rest.now < length reader.old.rest.now) }
 {
-    let (_, rest) = keyword(Word::Void, tokens)?;
-    Ok((Parameters::Listed(Vec::new(alloc)), rest))
+    reader.keyword(Word::Void)?;
+    Ok(Parameters::Listed(Vec::new(alloc)))
 }
 
 /// One parameter or more.
 #[tactic(auto, using(arc_grammar::proofs::Lists::alls), unfolding(arc_grammar::specs::Grammar::some_parameters))]
-fn some_parameters<'a>(alloc: Global, tokens: &'a [Token]) -> Read<'a, Parameters>
-    ensures gives { Gives (λ x. (parameters_tree x.0, toks x.1.now)) result (reads grammar.some_parameters (toks tokens.now)) }
-    ensures shorter { IfOk result (λ x. length x.1.now < length tokens.now) }
+fn some_parameters(alloc: Global, reader: &mut Reader) -> Read<Parameters>
+    ensures gives { Gives parameters_tree result (toks reader.new.rest.now) (reads grammar.some_parameters (toks reader.old.rest.now)) }
+    ensures shorter { IfOk result (λ _. length reader.new.rest.now < length reader.old.rest.now) }
 {
-    let (first, rest) = parameter(alloc, tokens)?;
+    let first = parameter(alloc, reader)?;
     let mut all = Vec::new(alloc);
     all.push(first)?;
-    let (all, rest) = more_parameters(alloc, all, rest)?;
-    Ok((Parameters::Listed(all), rest))
+    let all = more_parameters(alloc, all, reader)?;
+    Ok(Parameters::Listed(all))
 }
 
 /// A parameter of this type with this name, which is at this place.
 pub fn parameter_of(
-    alloc: Global,
     qualifiers: Qualifiers,
     type_name: TypeName,
     at: usize,
-    called: &[u8],
-) -> Result<Parameter, AllocError>
-    ensures { IfOk result (λ p. parameter_tree p ≡ grammar.parameter_of qualifiers (type_tree type_name) (at, called.now)) }
+    name: Vec<u8>,
+) -> Parameter
+    ensures { parameter_tree result ≡ grammar.parameter_of qualifiers (type_tree type_name) (at, name.items) }
 {
-    Ok(Parameter {
+    Parameter {
         at,
         type_name,
         qualifiers,
-        name: Vec::from_slice(alloc, called)?,
-    })
+        name,
+    }
 }
 
 /// A type and a name, each after qualifiers.
 #[tactic(auto, unfolding(arc_grammar::specs::Grammar::parameter))]
-fn parameter<'a>(alloc: Global, tokens: &'a [Token]) -> Read<'a, Parameter>
-    ensures gives { Gives (λ x. (parameter_tree x.0, toks x.1.now)) result (reads grammar.parameter (toks tokens.now)) }
-    ensures shorter { IfOk result (λ x. length x.1.now < length tokens.now) }
+fn parameter(alloc: Global, reader: &mut Reader) -> Read<Parameter>
+    ensures gives { Gives parameter_tree result (toks reader.new.rest.now) (reads grammar.parameter (toks reader.old.rest.now)) }
+    ensures shorter { IfOk result (λ _. length reader.new.rest.now < length reader.old.rest.now) }
 {
-    let (before, rest) = qualifiers(tokens)?;
-    let ((_, type_name), rest) = value_type(alloc, rest)?;
-    let (after, rest) = qualifiers(rest)?;
-    let ((at, called), rest) = name(rest)?;
-    Ok((
-        parameter_of(alloc, before.both(after), type_name, at, called)?,
-        rest,
-    ))
+    let before = qualifiers(reader)?;
+    let (_, type_name) = value_type(alloc, reader)?;
+    let after = qualifiers(reader)?;
+    let (at, name) = reader.name(alloc)?;
+    Ok(parameter_of(before.both(after), type_name, at, name))
 }
 
 /// A comma and a parameter.
 #[tactic(auto, unfolding(arc_grammar::specs::Grammar::next_parameter))]
-fn next_parameter<'a>(alloc: Global, tokens: &'a [Token]) -> Read<'a, Parameter>
-    ensures gives { Gives (λ x. (parameter_tree x.0, toks x.1.now)) result (reads grammar.next_parameter (toks tokens.now)) }
-    ensures shorter { IfOk result (λ x. length x.1.now < length tokens.now) }
+fn next_parameter(alloc: Global, reader: &mut Reader) -> Read<Parameter>
+    ensures gives { Gives parameter_tree result (toks reader.new.rest.now) (reads grammar.next_parameter (toks reader.old.rest.now)) }
+    ensures shorter { IfOk result (λ _. length reader.new.rest.now < length reader.old.rest.now) }
 {
-    let (_, rest) = expect(Mark::Comma, tokens)?;
-    parameter(alloc, rest)
+    reader.expect(Mark::Comma)?;
+    parameter(alloc, reader)
 }
 
 /// These parameters and the further ones, each after a comma.
 #[tactic(auto, using(arc_grammar::proofs::Loops::one_more, arc_grammar::proofs::Fits::taking, arc_form::proofs::Joining::row_is, arc_form::proofs::Joining::all_push), unfolding(arc_grammar::specs::Grammar::more_parameters))]
-fn more_parameters<'a>(
+fn more_parameters(
     alloc: Global,
     before: Vec<Parameter>,
-    tokens: &'a [Token],
-) -> Read<'a, Vec<Parameter>>
-    ensures gives { Gives (λ x. (all parameter_tree x.0.items, toks x.1.now)) result (with_row parameter_tree before.items (reads grammar.more_parameters (toks tokens.now))) }
-    ensures shorter { IfOk result (λ x. length x.1.now ≤ length tokens.now) }
+    reader: &mut Reader,
+) -> Read<Vec<Parameter>>
+    ensures gives { Gives (λ x. all parameter_tree x.items) result (toks reader.new.rest.now) (with_row parameter_tree before.items (reads grammar.more_parameters (toks reader.old.rest.now))) }
+    ensures shorter { IfOk result (λ _. length reader.new.rest.now ≤ length reader.old.rest.now) }
 {
     let mut all = before;
-    let mut rest = tokens;
-    'parameters: while sees_mark(Mark::Comma, rest) {
-        let (next, after) = next_parameter(alloc, rest)?;
+    'parameters: while reader.sees_mark(Mark::Comma) {
+        let next = next_parameter(alloc, reader)?;
         all.push(next)?;
-        rest = after;
     }
-    Ok((all, rest))
+    Ok(all)
 }
 
 /// This parameter and further ones.
 #[tactic(auto, using(arc_grammar::proofs::Lists::alls))]
-fn listed_after<'a>(alloc: Global, first: Parameter, tokens: &'a [Token]) -> Read<'a, Parameters>
-    ensures gives { Gives (λ x. (parameters_tree x.0, toks x.1.now)) result (signatures.listed_after (parameter_tree first) (toks tokens.now)) }
-    ensures shorter { IfOk result (λ x. length x.1.now ≤ length tokens.now) }
+fn listed_after(alloc: Global, first: Parameter, reader: &mut Reader) -> Read<Parameters>
+    ensures gives { Gives parameters_tree result (toks reader.new.rest.now) (signatures.listed_after (parameter_tree first) (toks reader.old.rest.now)) }
+    ensures shorter { IfOk result (λ _. length reader.new.rest.now ≤ length reader.old.rest.now) }
 {
     let mut all = Vec::new(alloc);
     all.push(first)?;
-    let (all, rest) = more_parameters(alloc, all, tokens)?;
-    Ok((Parameters::Listed(all), rest))
+    let all = more_parameters(alloc, all, reader)?;
+    Ok(Parameters::Listed(all))
 }
 
 /// The name of a first parameter of `main` that is an `int`, and what may come after it.
 #[tactic(auto, unfolding(arc_grammar::specs::Grammar::counted_of_main))]
-fn counted_of_main<'a>(alloc: Global, tokens: &'a [Token]) -> Read<'a, Parameters>
-    ensures gives { Gives (λ x. (parameters_tree x.0, toks x.1.now)) result (reads grammar.counted_of_main (toks tokens.now)) }
-    ensures shorter { IfOk result (λ x. length x.1.now < length tokens.now) }
+fn counted_of_main(alloc: Global, reader: &mut Reader) -> Read<Parameters>
+    ensures gives { Gives parameters_tree result (toks reader.new.rest.now) (reads grammar.counted_of_main (toks reader.old.rest.now)) }
+    ensures shorter { IfOk result (λ _. length reader.new.rest.now < length reader.old.rest.now) }
 {
-    let ((at, called), rest) = name(tokens)?;
-    let first = parameter_of(alloc, Qualifiers::Unqualified, TypeName::Int, at, called)?;
-    if sees_mark(Mark::Comma, rest) {
-        return second(alloc, first, rest);
+    let (at, name) = reader.name(alloc)?;
+    let first = parameter_of(Qualifiers::Unqualified, TypeName::Int, at, name);
+    if reader.sees_mark(Mark::Comma) {
+        return second(alloc, first, reader);
     }
     let mut all = Vec::new(alloc);
     all.push(first)?;
-    Ok((Parameters::Listed(all), rest))
+    Ok(Parameters::Listed(all))
 }
 
 /// Qualifiers and the name of a first parameter of `main` that is an `int`, and further parameters.
 #[tactic(auto, unfolding(arc_grammar::specs::Grammar::qualified_of_main))]
-fn qualified_int_of_main<'a>(alloc: Global, tokens: &'a [Token]) -> Read<'a, Parameters>
-    ensures gives { Gives (λ x. (parameters_tree x.0, toks x.1.now)) result (reads_after grammar.qualified_of_main Int (toks tokens.now)) }
-    ensures shorter { IfOk result (λ x. length x.1.now < length tokens.now) }
+fn qualified_int_of_main(alloc: Global, reader: &mut Reader) -> Read<Parameters>
+    ensures gives { Gives parameters_tree result (toks reader.new.rest.now) (reads_after grammar.qualified_of_main Int (toks reader.old.rest.now)) }
+    ensures shorter { IfOk result (λ _. length reader.new.rest.now < length reader.old.rest.now) }
 {
-    let (qualifiers, rest) = some_qualifiers(tokens)?;
-    let ((at, called), rest) = name(rest)?;
-    let first = parameter_of(alloc, qualifiers, TypeName::Int, at, called)?;
-    listed_after(alloc, first, rest)
+    let qualifiers = some_qualifiers(reader)?;
+    let (at, name) = reader.name(alloc)?;
+    let first = parameter_of(qualifiers, TypeName::Int, at, name);
+    listed_after(alloc, first, reader)
 }
 
 /// Parameters of `main` of which the first begins with `int`.
 #[tactic(auto, unfolding(arc_grammar::specs::Grammar::int_of_main))]
-fn int_of_main<'a>(alloc: Global, tokens: &'a [Token]) -> Read<'a, Parameters>
-    ensures gives { Gives (λ x. (parameters_tree x.0, toks x.1.now)) result (reads grammar.int_of_main (toks tokens.now)) }
-    ensures shorter { IfOk result (λ x. length x.1.now < length tokens.now) }
+fn int_of_main(alloc: Global, reader: &mut Reader) -> Read<Parameters>
+    ensures gives { Gives parameters_tree result (toks reader.new.rest.now) (reads grammar.int_of_main (toks reader.old.rest.now)) }
+    ensures shorter { IfOk result (λ _. length reader.new.rest.now < length reader.old.rest.now) }
 {
-    let (_, rest) = keyword(Word::Int, tokens)?;
-    if sees_qualifier(rest) {
-        qualified_int_of_main(alloc, rest)
+    reader.keyword(Word::Int)?;
+    if sees_qualifier(reader) {
+        qualified_int_of_main(alloc, reader)
     } else {
-        counted_of_main(alloc, rest)
+        counted_of_main(alloc, reader)
     }
 }
 
 /// Parameters of `main` of which the first begins with qualifiers.
 #[tactic(auto, unfolding(arc_grammar::specs::Grammar::qualified_type_of_main))]
-fn qualified_type_of_main<'a>(alloc: Global, tokens: &'a [Token]) -> Read<'a, Parameters>
-    ensures gives { Gives (λ x. (parameters_tree x.0, toks x.1.now)) result (reads grammar.qualified_type_of_main (toks tokens.now)) }
-    ensures shorter { IfOk result (λ x. length x.1.now < length tokens.now) }
+fn qualified_type_of_main(alloc: Global, reader: &mut Reader) -> Read<Parameters>
+    ensures gives { Gives parameters_tree result (toks reader.new.rest.now) (reads grammar.qualified_type_of_main (toks reader.old.rest.now)) }
+    ensures shorter { IfOk result (λ _. length reader.new.rest.now < length reader.old.rest.now) }
 {
-    let (before, rest) = some_qualifiers(tokens)?;
-    let ((_, type_name), rest) = value_type(alloc, rest)?;
-    let (after, rest) = qualifiers(rest)?;
-    let ((at, called), rest) = name(rest)?;
-    let first = parameter_of(alloc, before.both(after), type_name, at, called)?;
-    listed_after(alloc, first, rest)
+    let before = some_qualifiers(reader)?;
+    let (_, type_name) = value_type(alloc, reader)?;
+    let after = qualifiers(reader)?;
+    let (at, name) = reader.name(alloc)?;
+    let first = parameter_of(before.both(after), type_name, at, name);
+    listed_after(alloc, first, reader)
 }
 
 /// Parameters of `main` of which the first begins with a type other than `int`.
 #[tactic(auto, unfolding(arc_grammar::specs::Grammar::others_of_main))]
-fn others_of_main<'a>(alloc: Global, tokens: &'a [Token]) -> Read<'a, Parameters>
-    ensures gives { Gives (λ x. (parameters_tree x.0, toks x.1.now)) result (reads grammar.others_of_main (toks tokens.now)) }
-    ensures shorter { IfOk result (λ x. length x.1.now < length tokens.now) }
+fn others_of_main(alloc: Global, reader: &mut Reader) -> Read<Parameters>
+    ensures gives { Gives parameters_tree result (toks reader.new.rest.now) (reads grammar.others_of_main (toks reader.old.rest.now)) }
+    ensures shorter { IfOk result (λ _. length reader.new.rest.now < length reader.old.rest.now) }
 {
-    let ((_, type_name), rest) = other_value_type(alloc, tokens)?;
-    let (qualifiers, rest) = qualifiers(rest)?;
-    let ((at, called), rest) = name(rest)?;
-    let first = parameter_of(alloc, qualifiers, type_name, at, called)?;
-    listed_after(alloc, first, rest)
+    let (_, type_name) = other_value_type(alloc, reader)?;
+    let qualifiers = qualifiers(reader)?;
+    let (at, name) = reader.name(alloc)?;
+    let first = parameter_of(qualifiers, type_name, at, name);
+    listed_after(alloc, first, reader)
 }
 
 /// One parameter of `main` or more.
 #[tactic(auto, unfolding(arc_grammar::specs::Grammar::some_of_main))]
-fn some_of_main<'a>(alloc: Global, tokens: &'a [Token]) -> Read<'a, Parameters>
-    ensures gives { Gives (λ x. (parameters_tree x.0, toks x.1.now)) result (reads grammar.some_of_main (toks tokens.now)) }
-    ensures shorter { IfOk result (λ x. length x.1.now < length tokens.now) }
+fn some_of_main(alloc: Global, reader: &mut Reader) -> Read<Parameters>
+    ensures gives { Gives parameters_tree result (toks reader.new.rest.now) (reads grammar.some_of_main (toks reader.old.rest.now)) }
+    ensures shorter { IfOk result (λ _. length reader.new.rest.now < length reader.old.rest.now) }
 {
-    if sees_qualifier(tokens) {
-        qualified_type_of_main(alloc, tokens)
-    } else if sees_word(Word::Int, tokens) {
-        int_of_main(alloc, tokens)
+    if sees_qualifier(reader) {
+        qualified_type_of_main(alloc, reader)
+    } else if reader.sees_word(Word::Int) {
+        int_of_main(alloc, reader)
     } else {
-        others_of_main(alloc, tokens)
+        others_of_main(alloc, reader)
     }
 }
 
 /// The first parameter of `main`, and what is after it: a comma, and texts or further parameters.
 #[tactic(auto, unfolding(arc_grammar::specs::Grammar::second))]
-fn second<'a>(alloc: Global, first: Parameter, tokens: &'a [Token]) -> Read<'a, Parameters>
-    ensures gives { Gives (λ x. (parameters_tree x.0, toks x.1.now)) result (reads_after grammar.second (parameter_tree first) (toks tokens.now)) }
-    ensures shorter { IfOk result (λ x. length x.1.now < length tokens.now) }
+fn second(alloc: Global, first: Parameter, reader: &mut Reader) -> Read<Parameters>
+    ensures gives { Gives parameters_tree result (toks reader.new.rest.now) (reads_after grammar.second (parameter_tree first) (toks reader.old.rest.now)) }
+    ensures shorter { IfOk result (λ _. length reader.new.rest.now < length reader.old.rest.now) }
 {
-    let (_, rest) = expect(Mark::Comma, tokens)?;
-    if begins_texts(rest) {
-        texts(&first, rest)
+    reader.expect(Mark::Comma)?;
+    if begins_texts(reader) {
+        texts(alloc, &first, reader)
     } else {
-        further_parameters(alloc, first, rest)
+        further_parameters(alloc, first, reader)
     }
 }
 
 /// Whether the type of the texts of `main` can begin with the first token.
 #[tactic(auto, using(arc_form::proofs::Sets::sees_or))]
-fn begins_texts(tokens: &[Token]) -> bool
-    ensures { result ≡ sees (kinds.word w.Const ∪ kinds.word w.Char) (toks tokens.now) }
+fn begins_texts(reader: &Reader) -> bool
+    ensures { result ≡ sees (kinds.word w.Const ∪ kinds.word w.Char) (toks reader.now.rest.now) }
 {
-    sees_word(Word::Const, tokens) || sees_word(Word::Char, tokens)
+    reader.sees_word(Word::Const) || reader.sees_word(Word::Char)
 }
 
 /// The first parameter and others, of which the next one comes.
 #[tactic(auto, using(arc_grammar::proofs::Lists::alls), unfolding(arc_grammar::specs::Grammar::further_parameters))]
-fn further_parameters<'a>(
-    alloc: Global,
-    first: Parameter,
-    tokens: &'a [Token],
-) -> Read<'a, Parameters>
-    ensures gives { Gives (λ x. (parameters_tree x.0, toks x.1.now)) result (reads_after grammar.further_parameters (parameter_tree first) (toks tokens.now)) }
-    ensures shorter { IfOk result (λ x. length x.1.now < length tokens.now) }
+fn further_parameters(alloc: Global, first: Parameter, reader: &mut Reader) -> Read<Parameters>
+    ensures gives { Gives parameters_tree result (toks reader.new.rest.now) (reads_after grammar.further_parameters (parameter_tree first) (toks reader.old.rest.now)) }
+    ensures shorter { IfOk result (λ _. length reader.new.rest.now < length reader.old.rest.now) }
 {
-    let (next, rest) = parameter(alloc, tokens)?;
+    let next = parameter(alloc, reader)?;
     let mut all = Vec::new(alloc);
     all.push(first)?;
     all.push(next)?;
-    let (all, rest) = more_parameters(alloc, all, rest)?;
-    Ok((Parameters::Listed(all), rest))
+    let all = more_parameters(alloc, all, reader)?;
+    Ok(Parameters::Listed(all))
 }
 
 /// The texts that `main` takes after this count of them.
 #[tactic(auto, unfolding(arc_grammar::specs::Grammar::texts))]
-fn texts<'a>(_count: &Parameter, tokens: &'a [Token]) -> Read<'a, Parameters>
-    ensures gives { Gives (λ x. (parameters_tree x.0, toks x.1.now)) result (reads_after grammar.texts (parameter_tree _count.now) (toks tokens.now)) }
-    ensures shorter { IfOk result (λ x. length x.1.now < length tokens.now) }
+fn texts(alloc: Global, _count: &Parameter, reader: &mut Reader) -> Read<Parameters>
+    ensures gives { Gives parameters_tree result (toks reader.new.rest.now) (reads_after grammar.texts (parameter_tree _count.now) (toks reader.old.rest.now)) }
+    ensures shorter { IfOk result (λ _. length reader.new.rest.now < length reader.old.rest.now) }
 {
-    let (_, rest) = perhaps_const(tokens)?;
-    let (_, rest) = keyword(Word::Char, rest)?;
-    let (_, rest) = expect(Mark::Star, rest)?;
-    let (_, rest) = texts_name(rest)?;
-    Ok((Parameters::CountAndTexts, rest))
+    perhaps_const(reader)?;
+    reader.keyword(Word::Char)?;
+    reader.expect(Mark::Star)?;
+    texts_name(alloc, reader)?;
+    Ok(Parameters::CountAndTexts)
 }
 
 /// Perhaps `const`.
 #[tactic(auto, unfolding(arc_grammar::specs::Grammar::perhaps_const))]
-fn perhaps_const(tokens: &[Token]) -> Read<'_, ()>
-    ensures gives { Gives (λ x. (x.0, toks x.1.now)) result (reads grammar.perhaps_const (toks tokens.now)) }
-    ensures shorter { IfOk result (λ x. length x.1.now ≤ length tokens.now) }
+fn perhaps_const(reader: &mut Reader) -> Read<()>
+    ensures gives { Gives (λ x. x) result (toks reader.new.rest.now) (reads grammar.perhaps_const (toks reader.old.rest.now)) }
+    ensures shorter { IfOk result (λ _. length reader.new.rest.now ≤ length reader.old.rest.now) }
 {
-    if !sees_word(Word::Const, tokens) {
-        return Ok(((), tokens));
+    if !reader.sees_word(Word::Const) {
+        return Ok(());
     }
-    let (_, rest) = keyword(Word::Const, tokens)?;
-    Ok(((), rest))
+    reader.keyword(Word::Const)?;
+    Ok(())
 }
 
 /// `name[]` or `*name`
 #[tactic(auto, unfolding(arc_grammar::specs::Grammar::texts_name))]
-fn texts_name(tokens: &[Token]) -> Read<'_, ()>
-    ensures gives { Gives (λ x. (x.0, toks x.1.now)) result (reads grammar.texts_name (toks tokens.now)) }
-    ensures shorter { IfOk result (λ x. length x.1.now < length tokens.now) }
+fn texts_name(alloc: Global, reader: &mut Reader) -> Read<()>
+    ensures gives { Gives (λ x. x) result (toks reader.new.rest.now) (reads grammar.texts_name (toks reader.old.rest.now)) }
+    ensures shorter { IfOk result (λ _. length reader.new.rest.now < length reader.old.rest.now) }
 {
-    if sees_mark(Mark::Star, tokens) {
-        let (_, rest) = expect(Mark::Star, tokens)?;
-        let (_, rest) = name(rest)?;
-        return Ok(((), rest));
+    if reader.sees_mark(Mark::Star) {
+        reader.expect(Mark::Star)?;
+        reader.name(alloc)?;
+        return Ok(());
     }
-    let (_, rest) = name(tokens)?;
-    let (_, rest) = expect(Mark::OpenSquare, rest)?;
-    let (_, rest) = expect(Mark::CloseSquare, rest)?;
-    Ok(((), rest))
+    reader.name(alloc)?;
+    reader.expect(Mark::OpenSquare)?;
+    reader.expect(Mark::CloseSquare)?;
+    Ok(())
 }

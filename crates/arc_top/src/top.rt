@@ -19,8 +19,8 @@ use arc_ast::tree::{Function, Implementation, Interface, Qualifiers, ResultType,
 use arc_expr::qualifier::{sees_qualifier, some_qualifiers};
 use arc_expr::type_name::plain_type;
 use arc_form::fail::Read;
-use arc_form::step::{keyword, sees_at, sees_mark, sees_name, sees_word};
-use arc_lex::token::{AtWord, Mark, Token, Word};
+use arc_form::reader::Reader;
+use arc_lex::token::{AtWord, Mark, Word};
 use std::alloc::Global;
 
 /// What stands outside of all else. The names that `@class` declares aren't kept.
@@ -35,140 +35,140 @@ pub enum Top {
 
 /// Whether what stands outside of all else can begin with the first token.
 #[tactic(auto, using(arc_form::proofs::Sets::sees_or))]
-pub fn begins_top(tokens: &[Token]) -> bool
-    ensures { result ≡ sees grammar.begins_top (toks tokens.now) }
+pub fn begins_top(reader: &Reader) -> bool
+    ensures { result ≡ sees grammar.begins_top (toks reader.now.rest.now) }
 {
-    sees_at(AtWord::Class, tokens)
-        || sees_at(AtWord::Interface, tokens)
-        || sees_at(AtWord::Implementation, tokens)
-        || sees_word(Word::Static, tokens)
-        || sees_word(Word::Void, tokens)
-        || begins_qualified_type(tokens)
+    reader.sees_at(AtWord::Class)
+        || reader.sees_at(AtWord::Interface)
+        || reader.sees_at(AtWord::Implementation)
+        || reader.sees_word(Word::Static)
+        || reader.sees_word(Word::Void)
+        || begins_qualified_type(reader)
 }
 
 /// Names of classes, an interface, an implementation, a function, or variables of the whole program.
 #[tactic(auto, unfolding(arc_grammar::specs::Grammar::top))]
-pub fn any_top<'a>(alloc: Global, tokens: &'a [Token]) -> Read<'a, Top>
-    ensures gives { Gives (λ x. (top_tree x.0, toks x.1.now)) result (reads grammar.top (toks tokens.now)) }
-    ensures shorter { IfOk result (λ x. length x.1.now < length tokens.now) }
+pub fn any_top(alloc: Global, reader: &mut Reader) -> Read<Top>
+    ensures gives { Gives top_tree result (toks reader.new.rest.now) (reads grammar.top (toks reader.old.rest.now)) }
+    ensures shorter { IfOk result (λ _. length reader.new.rest.now < length reader.old.rest.now) }
 {
-    if sees_at(AtWord::Class, tokens) {
-        let (_, rest) = class_names(tokens)?;
-        return Ok((Top::Names, rest));
+    if reader.sees_at(AtWord::Class) {
+        class_names(alloc, reader)?;
+        return Ok(Top::Names);
     }
-    if sees_at(AtWord::Interface, tokens) {
-        let (interface, rest) = interface(alloc, tokens)?;
-        return Ok((Top::Interface(interface), rest));
+    if reader.sees_at(AtWord::Interface) {
+        let interface = interface(alloc, reader)?;
+        return Ok(Top::Interface(interface));
     }
-    if sees_at(AtWord::Implementation, tokens) {
-        let (implementation, rest) = implementation(alloc, tokens)?;
-        return Ok((Top::Implementation(implementation), rest));
+    if reader.sees_at(AtWord::Implementation) {
+        let implementation = implementation(alloc, reader)?;
+        return Ok(Top::Implementation(implementation));
     }
-    external(alloc, tokens)
+    external(alloc, reader)
 }
 
 /// Perhaps `static`, and a function or variables.
 #[tactic(auto, unfolding(arc_grammar::specs::Grammar::external))]
-fn external<'a>(alloc: Global, tokens: &'a [Token]) -> Read<'a, Top>
-    ensures gives { Gives (λ x. (top_tree x.0, toks x.1.now)) result (reads grammar.external (toks tokens.now)) }
-    ensures shorter { IfOk result (λ x. length x.1.now < length tokens.now) }
+fn external(alloc: Global, reader: &mut Reader) -> Read<Top>
+    ensures gives { Gives top_tree result (toks reader.new.rest.now) (reads grammar.external (toks reader.old.rest.now)) }
+    ensures shorter { IfOk result (λ _. length reader.new.rest.now < length reader.old.rest.now) }
 {
-    let (_, rest) = perhaps_static(tokens)?;
-    if sees_word(Word::Void, rest) {
-        of_void(alloc, rest)
-    } else if sees_qualifier(rest) {
-        of_qualified(alloc, rest)
-    } else if sees_name(rest) {
-        of_objects(alloc, rest)
+    perhaps_static(reader)?;
+    if reader.sees_word(Word::Void) {
+        of_void(alloc, reader)
+    } else if sees_qualifier(reader) {
+        of_qualified(alloc, reader)
+    } else if reader.sees_name() {
+        of_objects(alloc, reader)
     } else {
-        of_plain(alloc, rest)
+        of_plain(alloc, reader)
     }
 }
 
 /// Perhaps `static`.
 #[tactic(auto, unfolding(arc_grammar::specs::Grammar::perhaps_static))]
-fn perhaps_static(tokens: &[Token]) -> Read<'_, ()>
-    ensures gives { Gives (λ x. (x.0, toks x.1.now)) result (reads grammar.perhaps_static (toks tokens.now)) }
-    ensures shorter { IfOk result (λ x. length x.1.now ≤ length tokens.now) }
+fn perhaps_static(reader: &mut Reader) -> Read<()>
+    ensures gives { Gives (λ x. x) result (toks reader.new.rest.now) (reads grammar.perhaps_static (toks reader.old.rest.now)) }
+    ensures shorter { IfOk result (λ _. length reader.new.rest.now ≤ length reader.old.rest.now) }
 {
-    if !sees_word(Word::Static, tokens) {
-        return Ok(((), tokens));
+    if !reader.sees_word(Word::Static) {
+        return Ok(());
     }
-    let (_, rest) = keyword(Word::Static, tokens)?;
-    Ok(((), rest))
+    reader.keyword(Word::Static)?;
+    Ok(())
 }
 
 /// `void` and a function.
 #[tactic(auto, unfolding(arc_grammar::specs::Grammar::of_void))]
-fn of_void<'a>(alloc: Global, tokens: &'a [Token]) -> Read<'a, Top>
-    ensures gives { Gives (λ x. (top_tree x.0, toks x.1.now)) result (reads grammar.of_void (toks tokens.now)) }
-    ensures shorter { IfOk result (λ x. length x.1.now < length tokens.now) }
+fn of_void(alloc: Global, reader: &mut Reader) -> Read<Top>
+    ensures gives { Gives top_tree result (toks reader.new.rest.now) (reads grammar.of_void (toks reader.old.rest.now)) }
+    ensures shorter { IfOk result (λ _. length reader.new.rest.now < length reader.old.rest.now) }
 {
-    let (_, rest) = keyword(Word::Void, tokens)?;
-    let (function, rest) = function(alloc, ResultType::Void, rest)?;
-    Ok((Top::Function(function), rest))
+    reader.keyword(Word::Void)?;
+    let function = function(alloc, ResultType::Void, reader)?;
+    Ok(Top::Function(function))
 }
 
 /// A class's name and `*`, and a function, or variables of which the others have a `*` each.
 #[tactic(auto, using(crate::proofs::Globals::read_of_objects))]
-fn of_objects<'a>(alloc: Global, tokens: &'a [Token]) -> Read<'a, Top>
-    ensures gives { Gives (λ x. (top_tree x.0, toks x.1.now)) result (reads grammar.of_objects (toks tokens.now)) }
-    ensures shorter { IfOk result (λ x. length x.1.now < length tokens.now) }
+fn of_objects(alloc: Global, reader: &mut Reader) -> Read<Top>
+    ensures gives { Gives top_tree result (toks reader.new.rest.now) (reads grammar.of_objects (toks reader.old.rest.now)) }
+    ensures shorter { IfOk result (λ _. length reader.new.rest.now < length reader.old.rest.now) }
 {
-    let ((_, written), rest) = class_type(alloc, tokens)?;
-    if sees_function(rest) {
-        return of_function(alloc, written, rest);
+    let (_, written) = class_type(alloc, reader)?;
+    if sees_function(reader) {
+        return of_function(alloc, written, reader);
     }
-    let (all, rest) = global_references(alloc, Qualifiers::Unqualified, &written, rest)?;
-    Ok((Top::Globals(all), rest))
+    let all = global_references(alloc, Qualifiers::Unqualified, &written, reader)?;
+    Ok(Top::Globals(all))
 }
 
 /// A type that names no class, and a function or variables.
 #[tactic(auto, using(crate::proofs::Globals::read_of_plain))]
-fn of_plain<'a>(alloc: Global, tokens: &'a [Token]) -> Read<'a, Top>
-    ensures gives { Gives (λ x. (top_tree x.0, toks x.1.now)) result (reads grammar.of_plain (toks tokens.now)) }
-    ensures shorter { IfOk result (λ x. length x.1.now < length tokens.now) }
+fn of_plain(alloc: Global, reader: &mut Reader) -> Read<Top>
+    ensures gives { Gives top_tree result (toks reader.new.rest.now) (reads grammar.of_plain (toks reader.old.rest.now)) }
+    ensures shorter { IfOk result (λ _. length reader.new.rest.now < length reader.old.rest.now) }
 {
-    let ((_, written), rest) = plain_type(tokens)?;
-    if sees_function(rest) {
-        return of_function(alloc, written, rest);
+    let (_, written) = plain_type(reader)?;
+    if sees_function(reader) {
+        return of_function(alloc, written, reader);
     }
-    let (all, rest) = globals(alloc, Qualifiers::Unqualified, &written, rest)?;
-    Ok((Top::Globals(all), rest))
+    let all = globals(alloc, Qualifiers::Unqualified, &written, reader)?;
+    Ok(Top::Globals(all))
 }
 
 /// A function whose result has this type.
-fn of_function<'a>(alloc: Global, written: TypeName, tokens: &'a [Token]) -> Read<'a, Top>
-    ensures gives { Gives (λ x. (top_tree x.0, toks x.1.now)) result (function_on (type_tree written) (toks tokens.now)) }
-    ensures shorter { IfOk result (λ x. length x.1.now < length tokens.now) }
+fn of_function(alloc: Global, written: TypeName, reader: &mut Reader) -> Read<Top>
+    ensures gives { Gives top_tree result (toks reader.new.rest.now) (function_on (type_tree written) (toks reader.old.rest.now)) }
+    ensures shorter { IfOk result (λ _. length reader.new.rest.now < length reader.old.rest.now) }
 {
-    let (function, rest) = function(alloc, ResultType::Value(written), tokens)?;
-    Ok((Top::Function(function), rest))
+    let function = function(alloc, ResultType::Value(written), reader)?;
+    Ok(Top::Function(function))
 }
 
 /// Qualifiers, a type and variables.
 #[tactic(auto, using(crate::proofs::Globals::read_of_qualified))]
-fn of_qualified<'a>(alloc: Global, tokens: &'a [Token]) -> Read<'a, Top>
-    ensures gives { Gives (λ x. (top_tree x.0, toks x.1.now)) result (reads grammar.of_qualified (toks tokens.now)) }
-    ensures shorter { IfOk result (λ x. length x.1.now < length tokens.now) }
+fn of_qualified(alloc: Global, reader: &mut Reader) -> Read<Top>
+    ensures gives { Gives top_tree result (toks reader.new.rest.now) (reads grammar.of_qualified (toks reader.old.rest.now)) }
+    ensures shorter { IfOk result (λ _. length reader.new.rest.now < length reader.old.rest.now) }
 {
-    let (qualifiers, rest) = some_qualifiers(tokens)?;
-    if sees_name(rest) {
-        let ((_, written), rest) = class_type(alloc, rest)?;
-        let (all, rest) = global_references(alloc, qualifiers, &written, rest)?;
-        return Ok((Top::Globals(all), rest));
+    let qualifiers = some_qualifiers(reader)?;
+    if reader.sees_name() {
+        let (_, written) = class_type(alloc, reader)?;
+        let all = global_references(alloc, qualifiers, &written, reader)?;
+        return Ok(Top::Globals(all));
     }
-    let ((_, written), rest) = plain_type(rest)?;
-    let (all, rest) = globals(alloc, qualifiers, &written, rest)?;
-    Ok((Top::Globals(all), rest))
+    let (_, written) = plain_type(reader)?;
+    let all = globals(alloc, qualifiers, &written, reader)?;
+    Ok(Top::Globals(all))
 }
 
 /// Whether the tokens begin with a name and `(`.
-fn sees_function(tokens: &[Token]) -> bool
-    ensures { result ≡ sees_two kinds.name (kinds.mark m.OpenParen) (toks tokens.now) }
+fn sees_function(reader: &Reader) -> bool
+    ensures { result ≡ sees_two kinds.name (kinds.mark m.OpenParen) (toks reader.now.rest.now) }
 {
-    match tokens.split_first() {
-        Some((_, rest)) => sees_name(tokens) && sees_mark(Mark::OpenParen, rest),
+    match reader.rest.split_first() {
+        Some((_, rest)) => reader.sees_name() && Reader { rest }.sees_mark(Mark::OpenParen),
         None => false,
     }
 }

@@ -11,70 +11,69 @@ use arc_ast::tree::TypeName;
 use arc_expr::qualifier::sees_qualifier;
 use arc_expr::type_name::{begins_other_type, begins_plain_type, id_type, other_type, plain_type};
 use arc_form::fail::Read;
-use arc_form::step::{expect, name, sees_name, sees_word};
-use arc_lex::token::{Mark, Token, Word};
+use arc_form::reader::Reader;
+use arc_lex::token::{Mark, Word};
 use std::alloc::Global;
 
 /// Whether the type of a value can begin with the first token.
 #[tactic(auto, using(arc_form::proofs::Sets::sees_or))]
-pub fn begins_value_type(tokens: &[Token]) -> bool
-    ensures { result ≡ sees grammar.begins_value_type (toks tokens.now) }
+pub fn begins_value_type(reader: &Reader) -> bool
+    ensures { result ≡ sees grammar.begins_value_type (toks reader.now.rest.now) }
 {
-    sees_name(tokens) || begins_plain_type(tokens)
+    reader.sees_name() || begins_plain_type(reader)
 }
 
 /// Whether qualifiers or the type of a value can begin with the first token.
 #[tactic(auto, using(arc_form::proofs::Sets::sees_or))]
-pub fn begins_qualified_type(tokens: &[Token]) -> bool
-    ensures { result ≡ sees (grammar.begins_qualifier ∪ grammar.begins_value_type) (toks tokens.now) }
+pub fn begins_qualified_type(reader: &Reader) -> bool
+    ensures { result ≡ sees (grammar.begins_qualifier ∪ grammar.begins_value_type) (toks reader.now.rest.now) }
 {
-    sees_qualifier(tokens) || begins_value_type(tokens)
+    sees_qualifier(reader) || begins_value_type(reader)
 }
 
 /// Whether the type of a value but `int` can begin with the first token.
 #[tactic(auto, using(arc_form::proofs::Sets::sees_or))]
-pub fn begins_other_value_type(tokens: &[Token]) -> bool
-    ensures { result ≡ sees grammar.begins_other_value_type (toks tokens.now) }
+pub fn begins_other_value_type(reader: &Reader) -> bool
+    ensures { result ≡ sees grammar.begins_other_value_type (toks reader.now.rest.now) }
 {
-    sees_name(tokens) || sees_word(Word::Id, tokens) || begins_other_type(tokens)
+    reader.sees_name() || reader.sees_word(Word::Id) || begins_other_type(reader)
 }
 
 /// A class's name and `*`, with the name's place.
 #[tactic(auto, unfolding(arc_grammar::specs::Grammar::class_type))]
-pub fn class_type<'a>(alloc: Global, tokens: &'a [Token]) -> Read<'a, (usize, TypeName)>
-    ensures gives { Gives (λ x. ((x.0.0, type_tree x.0.1), toks x.1.now)) result (reads grammar.class_type (toks tokens.now)) }
-    ensures shorter { IfOk result (λ x. length x.1.now < length tokens.now) }
+pub fn class_type(alloc: Global, reader: &mut Reader) -> Read<(usize, TypeName)>
+    ensures gives { Gives (λ x. (x.0, type_tree x.1)) result (toks reader.new.rest.now) (reads grammar.class_type (toks reader.old.rest.now)) }
+    ensures shorter { IfOk result (λ _. length reader.new.rest.now < length reader.old.rest.now) }
 {
-    let ((at, called), rest) = name(tokens)?;
-    let (_, rest) = expect(Mark::Star, rest)?;
-    let class = Vec::from_slice(alloc, called)?;
-    Ok(((at, TypeName::Object(at, class)), rest))
+    let (at, class) = reader.name(alloc)?;
+    reader.expect(Mark::Star)?;
+    Ok((at, TypeName::Object(at, class)))
 }
 
 /// The type of a value, with its place.
 #[tactic(auto, unfolding(arc_grammar::specs::Grammar::value_type))]
-pub fn value_type<'a>(alloc: Global, tokens: &'a [Token]) -> Read<'a, (usize, TypeName)>
-    ensures gives { Gives (λ x. ((x.0.0, type_tree x.0.1), toks x.1.now)) result (reads grammar.value_type (toks tokens.now)) }
-    ensures shorter { IfOk result (λ x. length x.1.now < length tokens.now) }
+pub fn value_type(alloc: Global, reader: &mut Reader) -> Read<(usize, TypeName)>
+    ensures gives { Gives (λ x. (x.0, type_tree x.1)) result (toks reader.new.rest.now) (reads grammar.value_type (toks reader.old.rest.now)) }
+    ensures shorter { IfOk result (λ _. length reader.new.rest.now < length reader.old.rest.now) }
 {
-    if sees_name(tokens) {
-        class_type(alloc, tokens)
+    if reader.sees_name() {
+        class_type(alloc, reader)
     } else {
-        plain_type(tokens)
+        plain_type(reader)
     }
 }
 
 /// The type of a value but `int`, with its place.
 #[tactic(auto, unfolding(arc_grammar::specs::Grammar::other_value_type))]
-pub fn other_value_type<'a>(alloc: Global, tokens: &'a [Token]) -> Read<'a, (usize, TypeName)>
-    ensures gives { Gives (λ x. ((x.0.0, type_tree x.0.1), toks x.1.now)) result (reads grammar.other_value_type (toks tokens.now)) }
-    ensures shorter { IfOk result (λ x. length x.1.now < length tokens.now) }
+pub fn other_value_type(alloc: Global, reader: &mut Reader) -> Read<(usize, TypeName)>
+    ensures gives { Gives (λ x. (x.0, type_tree x.1)) result (toks reader.new.rest.now) (reads grammar.other_value_type (toks reader.old.rest.now)) }
+    ensures shorter { IfOk result (λ _. length reader.new.rest.now < length reader.old.rest.now) }
 {
-    if sees_name(tokens) {
-        class_type(alloc, tokens)
-    } else if sees_word(Word::Id, tokens) {
-        id_type(tokens)
+    if reader.sees_name() {
+        class_type(alloc, reader)
+    } else if reader.sees_word(Word::Id) {
+        id_type(reader)
     } else {
-        other_type(tokens)
+        other_type(reader)
     }
 }

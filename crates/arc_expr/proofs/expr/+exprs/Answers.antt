@@ -11,22 +11,22 @@ use Rattle.arc_expr.proofs.expr.+exprs.Goals as goal
 
 pub call-returns-clause-gives : goal.call-returns-clause-gives
 unfolding grammar.arguments
-call-returns-clause-gives t c = rw (call_tree c.args.at c.in_ok-from_slice.field-0 c.in_ok-all.all, ← exprs_all c.in_ok-all.all.items, c.in_ok-from_slice.ensures.items) (search rules)
+call-returns-clause-gives t c = rw (c.in_ok-boxed.ensures, call_tree c.args.at c.args.called c.in_ok-all.all, ← exprs_all c.in_ok-all.all.items) (search rules)
 
 pub to_super-returns-clause-gives : goal.to_super-returns-clause-gives
 unfolding grammar.to_super
-to_super-returns-clause-gives t c = rw (send_super_tree c.args.at c.in_ok-part.part c.in_ok-super_at.super_at c.in_ok-part.selector c.in_ok-part.all, ← exprs_all c.in_ok-part.all.items) (search rules)
+to_super-returns-clause-gives t c = rw (c.in_ok-boxed.ensures, send_super_tree c.args.at c.in_ok-part.part c.in_ok-super_at.super_at c.in_ok-part.selector c.in_ok-part.all, ← exprs_all c.in_ok-part.all.items) (search rules)
 
 pub to_object-returns-clause-gives : goal.to_object-returns-clause-gives
 unfolding grammar.to_object
-to_object-returns-clause-gives t c = rw (send_tree c.args.at c.in_ok-part.part c.in_ok-object-2.object c.in_ok-part.selector c.in_ok-part.all, ← exprs_all c.in_ok-part.all.items) (search rules)
+to_object-returns-clause-gives t c = rw (c.in_ok-boxed.ensures, send_tree c.args.at c.in_ok-part.part c.in_ok-object.object c.in_ok-part.selector c.in_ok-part.all, ← exprs_all c.in_ok-part.all.items) (search rules)
 
 pub up_to-returns-in_err-right-clause-gives : goal.up_to-returns-in_err-right-clause-gives
 up_to-returns-in_err-right-clause-gives t c =
     let p = err_from_is_err_and c.from_residual-in_err-right.result c.from_residual-in_err-right.ensures.1 in
-    rw (p.1, p.2) (no_operand c.in-Some.found (expr_tree c.args.left) (toks c.args.tokens.now) (toks c.in_ok-operator.rest.now) (c.in_ok-operator.field-0-0-0, c.in_ok-operator.operator) c.in-Some.ensures.none_tighter c.in-Some.ensures.there c.in_ok-operator.ensures.gives c.args.level c.in_err-right.field-0.0 c.in-Some.ensures.within.0 c.in-Some.ensures.within.1 c.in_err-right.ensures.gives)
+    rw (p.1, p.2) (no_operand c.in-Some.found (expr_tree c.args.left.value) (toks c.args.reader.now.rest.now) (toks c.operator.new.reader.rest.now) (c.in_ok-operator.field-0-0, c.in_ok-operator.operator) c.in-Some.ensures.none_tighter c.in-Some.ensures.there c.in_ok-operator.ensures.gives c.args.level c.in_err-right.field-0.0 (toks c.binary.new.reader.rest.now) c.in-Some.ensures.within.0 c.in-Some.ensures.within.1 c.in_err-right.ensures.gives)
 
 pub up_to-returns-clause-gives : goal.up_to-returns-clause-gives
 up_to-returns-clause-gives t c =
-    let one = one_more c.in-Some.found (expr_tree c.args.left) (toks c.args.tokens.now) (toks c.in_ok-operator.rest.now) (c.in_ok-operator.field-0-0-0, c.in_ok-operator.operator) c.in-Some.ensures.none_tighter c.in-Some.ensures.there c.in_ok-operator.ensures.gives c.args.level (Ok (expr_tree c.in_ok-right.right, toks c.in_ok-right.rest.now)) c.in-Some.ensures.within.0 c.in-Some.ensures.within.1 c.in_ok-right.ensures.gives c.in_ok-right.ensures.past in
+    let one = one_more c.in-Some.found (expr_tree c.args.left.value) (toks c.args.reader.now.rest.now) (toks c.operator.new.reader.rest.now) (c.in_ok-operator.field-0-0, c.in_ok-operator.operator) c.in-Some.ensures.none_tighter c.in-Some.ensures.there c.in_ok-operator.ensures.gives c.args.level (Ok (expr_tree c.in_ok-right.right.value, toks c.binary.new.reader.rest.now)) c.in-Some.ensures.within.0 c.in-Some.ensures.within.1 c.in_ok-right.ensures.gives c.in_ok-right.ensures.past in
     rw one (search rules)

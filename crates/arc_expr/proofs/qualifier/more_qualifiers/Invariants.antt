@@ -5,7 +5,7 @@ use Rattle.arc_grammar.proofs.Loops.{length, SoFar}
 use Rattle.arc_expr.proofs.qualifier.more_qualifiers.Given as goal
 
 abbrev pub invariant-qualifiers : goal.invariant-qualifiers
-invariant-qualifiers l = SoFar l.tokens l.rest (joining begins_qualifier (reads qualifier) and_qualifier l.fn.before) (joining begins_qualifier (reads qualifier) and_qualifier l.all)
+invariant-qualifiers l = SoFar l.initial.reader.rest.now l.reader.rest.now (joining begins_qualifier (reads qualifier) and_qualifier l.fn.before) (joining begins_qualifier (reads qualifier) and_qualifier l.all)
 
 abbrev pub decreases-qualifiers : goal.decreases-qualifiers
-decreases-qualifiers l = length l.rest
+decreases-qualifiers l = length l.reader.rest.now

@@ -7,7 +7,7 @@ use Rattle.arc_parse.proofs.Tops.{tops_on}
 use Rattle.arc_parse.proofs.source.tops.Given as goal
 
 abbrev pub invariant-tops : goal.invariant-tops
-invariant-tops l = reads grammar.unit (toks l.tokens) ≡ tops_on (unit_tree l.all) (toks l.rest)
+invariant-tops l = reads grammar.unit (toks l.initial.reader.rest.now) ≡ tops_on (unit_tree l.all) (toks l.reader.rest.now)
 
 abbrev pub decreases-tops : goal.decreases-tops
-decreases-tops l = length l.rest
+decreases-tops l = length l.reader.rest.now

@@ -5,7 +5,7 @@ use Rattle.arc_grammar.proofs.Loops.{length, SoFar, listed}
 use Rattle.arc_stmt.proofs.variable.more_references.Given as goal
 
 abbrev pub invariant-references : goal.invariant-references
-invariant-references l = SoFar l.tokens l.rest (λ ts. with_row variable_tree l.fn.before.items (reads more_references ts)) (listed next_reference variable_tree l.all.items)
+invariant-references l = SoFar l.initial.reader.rest.now l.reader.rest.now (λ ts. with_row variable_tree l.fn.before.items (reads more_references ts)) (listed next_reference variable_tree l.all.items)
 
 abbrev pub decreases-references : goal.decreases-references
-decreases-references l = length l.rest
+decreases-references l = length l.reader.rest.now

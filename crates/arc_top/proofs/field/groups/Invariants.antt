@@ -6,7 +6,7 @@ use Rattle.arc_top.proofs.Fields.{groups_on}
 use Rattle.arc_top.proofs.field.groups.Given as goal
 
 abbrev pub invariant-groups : goal.invariant-groups
-invariant-groups l = SoFar l.tokens l.rest (reads (map (fields_of l.fn.first) groups)) (groups_on (l.visibility, field_trees l.all.items))
+invariant-groups l = SoFar l.initial.reader.rest.now l.reader.rest.now (reads (map (fields_of l.fn.first) groups)) (groups_on (l.visibility, field_trees l.all.items))
 
 abbrev pub decreases-groups : goal.decreases-groups
-decreases-groups l = length l.rest
+decreases-groups l = length l.reader.rest.now

@@ -4,7 +4,7 @@ use Rattle.arc_top.specs.Globals.{global_references_on}
 use Rattle.arc_top.proofs.global.more_global_references.Given as goal
 
 abbrev pub invariant-references : goal.invariant-references
-invariant-references l = SoFar l.tokens l.rest (global_references_on (l.qualifiers, type_tree l.type_name) (global_trees l.fn.before.items)) (global_references_on (l.qualifiers, type_tree l.type_name) (global_trees l.all.items))
+invariant-references l = SoFar l.initial.reader.rest.now l.reader.rest.now (global_references_on (l.qualifiers, type_tree l.type_name) (global_trees l.fn.before.items)) (global_references_on (l.qualifiers, type_tree l.type_name) (global_trees l.all.items))
 
 abbrev pub decreases-references : goal.decreases-references
-decreases-references l = length l.rest
+decreases-references l = length l.reader.rest.now

@@ -4,7 +4,7 @@ use Rattle.arc_grammar.proofs.Loops.{length, SoFar, row}
 use Rattle.arc_top.proofs.method.method_heads.Given as goal
 
 abbrev pub invariant-heads : goal.invariant-heads
-invariant-heads l = SoFar l.tokens l.rest (reads method_heads) (row begins_method next_head head_tree l.all.items)
+invariant-heads l = SoFar l.initial.reader.rest.now l.reader.rest.now (reads method_heads) (row begins_method next_head head_tree l.all.items)
 
 abbrev pub decreases-heads : goal.decreases-heads
-decreases-heads l = length l.rest
+decreases-heads l = length l.reader.rest.now

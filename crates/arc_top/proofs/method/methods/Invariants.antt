@@ -4,7 +4,7 @@ use Rattle.arc_grammar.proofs.Loops.{length, SoFar, row}
 use Rattle.arc_top.proofs.method.methods.Given as goal
 
 abbrev pub invariant-methods : goal.invariant-methods
-invariant-methods l = SoFar l.tokens l.rest (reads methods) (row begins_method method method_tree l.all.items)
+invariant-methods l = SoFar l.initial.reader.rest.now l.reader.rest.now (reads methods) (row begins_method method method_tree l.all.items)
 
 abbrev pub decreases-methods : goal.decreases-methods
-decreases-methods l = length l.rest
+decreases-methods l = length l.reader.rest.now

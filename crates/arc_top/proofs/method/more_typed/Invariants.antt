@@ -6,7 +6,7 @@ use Rattle.arc_top.proofs.Signatures.{typed_on}
 use Rattle.arc_top.proofs.method.more_typed.Given as goal
 
 abbrev pub invariant-parts : goal.invariant-parts
-invariant-parts l = SoFar l.tokens l.rest (reads_after more_typed (l.fn.before.items, all parameter_tree l.fn.given.items)) (typed_on (l.selector.items, all parameter_tree l.all.items))
+invariant-parts l = SoFar l.initial.reader.rest.now l.reader.rest.now (reads_after more_typed (l.fn.before.items, all parameter_tree l.fn.given.items)) (typed_on (l.selector.items, all parameter_tree l.all.items))
 
 abbrev pub decreases-parts : goal.decreases-parts
-decreases-parts l = length l.rest
+decreases-parts l = length l.reader.rest.now

@@ -5,7 +5,7 @@ use Rattle.arc_grammar.proofs.Loops.{length, SoFar, listed}
 use Rattle.arc_top.proofs.parameter.more_parameters.Given as goal
 
 abbrev pub invariant-parameters : goal.invariant-parameters
-invariant-parameters l = SoFar l.tokens l.rest (λ ts. with_row parameter_tree l.fn.before.items (reads more_parameters ts)) (listed next_parameter parameter_tree l.all.items)
+invariant-parameters l = SoFar l.initial.reader.rest.now l.reader.rest.now (λ ts. with_row parameter_tree l.fn.before.items (reads more_parameters ts)) (listed next_parameter parameter_tree l.all.items)
 
 abbrev pub decreases-parameters : goal.decreases-parameters
-decreases-parameters l = length l.rest
+decreases-parameters l = length l.reader.rest.now
