@@ -211,7 +211,7 @@ fn field(
     type_name: &TypeName,
     named: QualifiedName,
 ) -> Result<Field, AllocError>
-    ensures { IfOk result (λ f. field_tree f ≡ grammar.field_of visibility (qualifiers, type_tree type_name.now) (named.entry.0, (named.entry.1.0, named.entry.1.1.now))) }
+    ensures { IfOk result (λ f. field_tree f ≡ grammar.field_of visibility (qualifiers, type_tree type_name.now) (named.0, (named.1.0, named.1.1.items))) }
 {
     let (own, (at, name)) = named;
     Ok(Field {

@@ -211,7 +211,7 @@ fn more_typed(
 /// A further part of a selector: its name, and its parameter.
 #[tactic(auto, unfolding(arc_grammar::specs::Grammar::next_typed))]
 fn next_typed(alloc: Global, reader: &mut Reader) -> Read<(Vec<u8>, Parameter)>
-    ensures gives { Gives (λ x. (x.items, parameter_tree x.1)) result (toks reader.new.rest.now) (reads grammar.next_typed (toks reader.old.rest.now)) }
+    ensures gives { Gives (λ x. (x.0.items, parameter_tree x.1)) result (toks reader.new.rest.now) (reads grammar.next_typed (toks reader.old.rest.now)) }
     ensures shorter { IfOk result (λ _. length reader.new.rest.now < length reader.old.rest.now) }
 {
     let (_, called) = reader.name(alloc)?;
