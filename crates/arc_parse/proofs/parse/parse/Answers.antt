@@ -22,7 +22,7 @@ pub returns-in-Ok-clause-kept : goal.returns-in-Ok-clause-kept
 returns-in-Ok-clause-kept c = λ before rest e x. cc (passes _ before rest e x, c.in-Ok.ensures.gives)
 
 pub returns-in-Err-Unexpected-clause-refused : goal.returns-in-Err-Unexpected-clause-refused
-returns-in-Err-Unexpected-clause-refused c = subst (FitsNoneAt (toks c.args.tokens.now)) (sym c.place_of.ensures) (refused _ (toks c.in-Err-Unexpected.rest.now) (rw c.in-Err-Unexpected.field-0-is at c.in-Err-Unexpected.ensures.gives))
+returns-in-Err-Unexpected-clause-refused c = subst (FitsNoneAt (toks c.args.tokens.now)) (sym c.place_of.ensures) (refused _ (toks c.unit.new.reader.rest.now) (rw c.in-Err-Unexpected.field-0-is at c.in-Err-Unexpected.ensures.gives))
 
 pub returns-in-Err-Unexpected-clause-accepted : goal.returns-in-Err-Unexpected-clause-accepted
 returns-in-Err-Unexpected-clause-accepted c = λ u h. absurd (whole_accepted facts body sure UnitTree unit sure_unit these _ u _ (rw c.in-Err-Unexpected.field-0-is at c.in-Err-Unexpected.ensures.gives) h)
@@ -31,12 +31,12 @@ pub returns-in-Err-Unexpected-clause-reported : goal.returns-in-Err-Unexpected-c
 returns-in-Err-Unexpected-clause-reported c = λ before rest e x. absurd (not_misfit _ _ before rest (rw c.in-Err-Unexpected.field-0-is at c.in-Err-Unexpected.ensures.gives) e x)
 
 pub returns-in-Err-TooDeep-clause-refused : goal.returns-in-Err-TooDeep-clause-refused
-returns-in-Err-TooDeep-clause-refused c = subst (TooDeepAt (toks c.args.tokens.now)) (sym c.place_of-in-Err-TooDeep.ensures) (too_deep_at _ (toks c.in-Err-TooDeep.rest.now) (rw c.in-Err-TooDeep.field-0-is at c.in-Err-TooDeep.ensures.gives))
+returns-in-Err-TooDeep-clause-refused c = subst (TooDeepAt (toks c.args.tokens.now)) (sym c.place_of-in-Err-TooDeep.ensures) (too_deep_at _ (toks c.unit.new.reader.rest.now) (rw c.in-Err-TooDeep.field-0-is at c.in-Err-TooDeep.ensures.gives))
 
 pub returns-in-Err-TooDeep-clause-accepted : goal.returns-in-Err-TooDeep-clause-accepted
 returns-in-Err-TooDeep-clause-accepted c = λ u h. absurd (whole_accepted facts body sure UnitTree unit sure_unit these _ u _ (rw c.in-Err-TooDeep.field-0-is at c.in-Err-TooDeep.ensures.gives) h)
 
 pub returns-in-Err-TooDeep-clause-reported : goal.returns-in-Err-TooDeep-clause-reported
 returns-in-Err-TooDeep-clause-reported c = λ before rest e x.
-    let same : toks c.in-Err-TooDeep.rest.now ≡ rest = same_place (toks c.args.tokens.now) _ before rest (rw c.in-Err-TooDeep.field-0-is at c.in-Err-TooDeep.ensures.gives) e x in
+    let same : toks c.unit.new.reader.rest.now ≡ rest = same_place (toks c.args.tokens.now) _ before rest (rw c.in-Err-TooDeep.field-0-is at c.in-Err-TooDeep.ensures.gives) e x in
     inl (ap faults.TooDeep (c.place_of-in-Err-TooDeep.ensures ∙ ap (place_of (toks c.args.tokens.now)) same))
