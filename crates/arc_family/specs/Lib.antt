@@ -1,3 +1,4 @@
 pub mod Rules
 pub mod Fault
 pub mod Methods
+pub mod private

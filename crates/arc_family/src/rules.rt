@@ -1,7 +1,7 @@
 //! The rules of ownership, each by its number.
 ghost use Rattle.std.specs.Prelude.{◌≡◌, Some, None, option_map, if◌then◌else◌};
 ghost use Rattle.std.proofs.Props.{props};
-ghost use Rattle.arc_ast.specs.Tree.{UnitTree, type_tree, result_tree, head_tree, parameter_trees, parameters_tree, unit_tree};
+ghost use Rattle.arc_ast.specs.Tree.{UnitTree, expr_tree, type_tree, result_tree, head_tree, parameter_trees, parameters_tree, unit_tree};
 ghost use Rattle.arc_ast.specs.Types.{type_kind};
 ghost use Rattle.arc_class.specs.Table.{IsTableOf, number_of_class};
 ghost use Rattle.arc_sites.specs.Sites as sites;
@@ -9,6 +9,7 @@ ghost use Rattle.arc_sites.specs.Violations.{first, at_if, violates};
 ghost use Rattle.arc_sites.specs.Finding.{enclosing_of, node_of, around, message_of};
 ghost use Rattle.arc_family.specs.Rules as rules;
 ghost use Rattle.arc_family.specs.Fault.{reported};
+ghost use Rattle.arc_family.specs.private.Asked.{is_plain, is_unasked};
 
 use arc_ast::tree::{
     Expr, Kind, MethodHead, Parameter, Parameters, Qualifiers, ResultType, Sign, TranslationUnit,
@@ -39,7 +40,31 @@ impl<'a, 't> Visitor for Ownership<'a, 't> {
     ghost found = { λ ownership. option_map reported ownership.fault };
 
     fn visit(&mut self, enclosing: Enclosing, node: Node) {
+        if is_unasked(node) {
+            return;
+        }
         self.fault = earlier(self.fault, first_broken(self.table, enclosing, node));
+    }
+}
+
+/// Whether an expression neither assigns anything nor sends a message.
+fn is_plain(expr: &Expr) -> bool
+    ensures { result ≡ is_plain (expr_tree expr.now) }
+{
+    !matches!(
+        expr,
+        Expr::Assign(_, _, _, _) | Expr::Send(_, _, _, _, _) | Expr::SendSuper(_, _, _, _, _)
+    )
+}
+
+/// Whether no rule asks anything of the node, as of most.
+fn is_unasked(node: Node) -> bool
+    ensures { result ≡ is_unasked (node_of node.entry) }
+{
+    match node {
+        Node::Statement(_) | Node::Parameter(_) => true,
+        Node::Value(expr) => is_plain(expr),
+        _ => false,
     }
 }
 
@@ -264,9 +289,11 @@ fn may_be_given(table: &ClassTable, class: &[u8], written: &ResultType) -> bool
 fn wrong_init(table: &ClassTable, class: &[u8], head: &MethodHead) -> Option<OwnFault>
     ensures { (u : UnitTree) → IsTableOf u table.now → option_map reported result ≡ first (violates 66 (at_if (rules.is_wrong_init u class.now (head_tree head.now)) head.now.at)) }
 {
+    if may_be_given(table, class, &head.result) {
+        return None;
+    }
     let is_init = matches!(head_family(head), Family::Init);
-    let broken = is_init && !may_be_given(table, class, &head.result);
-    fault_if(broken, OwnFault::InitResult(head.at))
+    fault_if(is_init, OwnFault::InitResult(head.at))
 }
 
 /// 66 InitResult.
