@@ -6,7 +6,6 @@ use Rattle.arc_spec.specs.Classes.{and_above, ancestry, ancestry_within, first_t
 use Rattle.arc_class.specs.declared.owners.Map.{Map}
 use Rattle.arc_class.specs.declared.owners.Maps.{Maps}
 use Rattle.arc_class.specs.declared.owners.Owners.{Owners}
-use Rattle.arc_class.specs.declared.numbered.TheConstants.{LEVELS}
 use Rattle.arc_class.specs.Classes.{or_else, number_among}
 use Rattle.arc_class.specs.Numbered.{at_number, IsWithin}
 use Rattle.arc_class.specs.Owners.{names_in, at_number_of, in_map, IsMap, Keeps, Adds, view_of, views, IsOwners, joined, view_at, has_at, with_own, own_of, owner_by, Finds}
@@ -17,12 +16,12 @@ use Rattle.arc_class.proofs.Keeping.{or_none}
 
 nothing_at : (maps : Maps) (o : Option ℕ) → at_number_of maps None o ≡ None
 nothing_at maps None = refl
-nothing_at maps (Some number) = at_none LEVELS maps.nodes.items number
+nothing_at maps (Some number) = at_none maps.levels maps.nodes.items number
 
 pub empty_is_map : (maps : Maps) (map : Map) → map.first ≡ None → IsMap maps map
 empty_is_map maps map e = record {
-  within = let P : Option ℕ → Type 0 = λ first. IsWithin LEVELS maps.nodes.items first in subst P (sym e) (none_within LEVELS maps.nodes.items);
-  unnamed = λ number le lt. ap (λ first. at_number LEVELS maps.nodes.items first number) e ∙ at_none LEVELS maps.nodes.items number;
+  within = let P : Option ℕ → Type 0 = λ first. IsWithin maps.levels maps.nodes.items first in subst P (sym e) (none_within maps.levels maps.nodes.items);
+  unnamed = λ number le lt. ap (λ first. at_number maps.levels maps.nodes.items first number) e ∙ at_none maps.levels maps.nodes.items number;
 }
 
 pub empty_view : (maps : Maps) (otherwise : Option ℕ) → in_map maps (record { first = None; otherwise = otherwise }) ≡ (λ name. otherwise)

@@ -14,7 +14,6 @@ use Rattle.std.proofs.lemmas.Slice.Eq.{bytes_eq-Decides}
 use Rattle.arc_class.specs.declared.owners.Map.{Map}
 use Rattle.arc_class.specs.declared.owners.Maps.{Maps}
 use Rattle.arc_class.specs.declared.numbered.Node.{Node}
-use Rattle.arc_class.specs.declared.numbered.TheConstants.{LEVELS}
 use Rattle.arc_class.specs.Classes.{or_else, among, and_name, number_among}
 use Rattle.arc_class.specs.ByName.{Named, at_name}
 use Rattle.arc_class.specs.Numbered.{at_number, IsWithin, Puts}
@@ -87,14 +86,17 @@ longer names name = go (among names name)
 
 -- ---- one name more
 
-module _ (old new : Maps) (map : Map) (name : List ℕ) (number class at : ℕ)
-    (n : names_in new ≡ and_name (names_in old) name) (k : number_among (names_in new) name ≡ Some number) (fits : length (names_in new) ≤ 2 ^ LEVELS)
-    (p : Puts LEVELS old.nodes.items new.nodes.items map.first number class at) (m : IsMap old map) where
+module _ (old grown : Maps) (map : Map) (name : List ℕ) (number class at : ℕ)
+    (n : names_in grown ≡ and_name (names_in old) name) (k : number_among (names_in grown) name ≡ Some number) (fits : length (names_in grown) ≤ 2 ^ old.levels)
+    (p : Puts old.levels old.nodes.items grown.nodes.items map.first number class at) (m : IsMap old map) where
+  abbrev new : Maps
+  new = record grown { levels = old.levels }
+
   grows : length (names_in old) ≤ length (names_in new)
   grows = let e : length (names_in new) ≡ length (and_name (names_in old) name) = ap length n in omega (arith, longer (names_in old) name)
 
-  same_at : (other : Map) → IsMap old other → (sought : ℕ) → at_number LEVELS new.nodes.items other.first sought ≡ at_number LEVELS old.nodes.items other.first sought
-  same_at other h sought = ap (λ ns. at_number LEVELS ns other.first sought) p.extends.is ∙ at_number-append LEVELS old.nodes.items p.extends.more other.first sought h.within
+  same_at : (other : Map) → IsMap old other → (sought : ℕ) → at_number old.levels new.nodes.items other.first sought ≡ at_number old.levels old.nodes.items other.first sought
+  same_at other h sought = ap (λ ns. at_number old.levels ns other.first sought) p.extends.is ∙ at_number-append old.levels old.nodes.items p.extends.more other.first sought h.within
 
   same_of : (other : Map) → IsMap old other → (o : Option ℕ) → at_number_of new other.first o ≡ at_number_of old other.first o
   same_of other h None = refl
@@ -107,7 +109,7 @@ module _ (old new : Maps) (map : Map) (name : List ℕ) (number class at : ℕ)
   kept_new other h false e =
       let pushed : names_in new ≡ names_in old ++ name ∷ [] = n ∙ ap (λ b. if b then names_in old else names_in old ++ name ∷ []) e in
       let more : length (names_in new) ≡ length (names_in old ++ name ∷ []) = ap length pushed in
-      let lt : length (names_in old) < 2 ^ LEVELS = omega (arith, length-append (names_in old) (name ∷ [])) in
+      let lt : length (names_in old) < 2 ^ old.levels = omega (arith, length-append (names_in old) (name ∷ [])) in
       ap (λ ns. at_number_of new other.first (number_among ns name)) pushed ∙ ap (at_number_of new other.first) (push_same (names_in old) name e)
       ∙ same_at other h (length (names_in old)) ∙ h.unnamed (length (names_in old)) (omega arith) lt
       ∙ sym (ap (at_number_of old other.first) (none_among (names_in old) name e))
@@ -126,7 +128,7 @@ module _ (old new : Maps) (map : Map) (name : List ℕ) (number class at : ℕ)
   all_kept : Keeps old new
   all_kept = record {
     is_map = λ other h. record {
-      within = let P : List Node → Type 0 = λ ns. IsWithin LEVELS ns other.first in subst P (sym p.extends.is) (IsWithin-append LEVELS old.nodes.items p.extends.more other.first h.within);
+      within = let P : List Node → Type 0 = λ ns. IsWithin old.levels ns other.first in subst P (sym p.extends.is) (IsWithin-append old.levels old.nodes.items p.extends.more other.first h.within);
       unnamed = λ sought le lt. same_at other h sought ∙ h.unnamed sought (omega (arith, grows)) lt;
     };
     same = λ other h sought. ap (λ o. or_else o other.otherwise) (kept_at other h sought);
@@ -138,9 +140,9 @@ module _ (old new : Maps) (map : Map) (name : List ℕ) (number class at : ℕ)
   numbered_within : number < length (names_in new)
   numbered_within = number_within (names_in new) name number k
 
-  made_at : (sought : ℕ) → sought < 2 ^ LEVELS → (sought ≡ number → ⊥) → at_number LEVELS new.nodes.items (Some at) sought ≡ at_number LEVELS old.nodes.items map.first sought
+  made_at : (sought : ℕ) → sought < 2 ^ old.levels → (sought ≡ number → ⊥) → at_number old.levels new.nodes.items (Some at) sought ≡ at_number old.levels old.nodes.items map.first sought
   made_at sought lt ne =
-      p.found sought lt ∙ ap (λ b. if b then Some class else at_number LEVELS old.nodes.items map.first sought) (false_from_ne_true (nat_eq sought number) (λ t. ne ((Decides-eqb sought number).0 t)))
+      p.found sought lt ∙ ap (λ b. if b then Some class else at_number old.levels old.nodes.items map.first sought) (false_from_ne_true (nat_eq sought number) (λ t. ne ((Decides-eqb sought number).0 t)))
 
   made_is_map : IsMap new made
   made_is_map = record {
@@ -167,9 +169,9 @@ module _ (old new : Maps) (map : Map) (name : List ℕ) (number class at : ℕ)
       go true e =
           let same : sought ≡ name = (bytes_eq-Decides sought name).0 e in
           let there : number_among (names_in new) sought ≡ Some number = ap (number_among (names_in new)) same ∙ k in
-          let lt : number < 2 ^ LEVELS = omega (arith, numbered_within) in
+          let lt : number < 2 ^ old.levels = omega (arith, numbered_within) in
           ap (λ o. or_else (at_number_of new (Some at) o) map.otherwise) there
-          ∙ ap (λ o. or_else o map.otherwise) (p.found number lt ∙ ap (λ b. if b then Some class else at_number LEVELS old.nodes.items map.first number) ((Decides-eqb number number).1 refl))
+          ∙ ap (λ o. or_else o map.otherwise) (p.found number lt ∙ ap (λ b. if b then Some class else at_number old.levels old.nodes.items map.first number) ((Decides-eqb number number).1 refl))
       go false e =
           let there : number_among (names_in new) sought ≡ number_among (names_in old) sought = ap (λ ns. number_among ns sought) n ∙ other_number (names_in old) name sought e in
           ap (λ o. or_else (at_number_of new (Some at) o) map.otherwise) there

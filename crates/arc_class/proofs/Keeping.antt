@@ -1,14 +1,12 @@
 -- The first that a name is declared with.
-use Rattle.std.proofs.Common.{◌≡◌, ℕ, Bool, true, false, cond, List, [], ◌∷◌, ◌++◌, Option, Some, None, is_some, option_map, if◌then◌else◌, refl, sym, ap, ◌∙◌, true≢false}
+use Rattle.std.proofs.Common.{◌≡◌, ℕ, Bool, true, false, List, [], ◌∷◌, ◌++◌, Option, Some, None, is_some, option_map, if◌then◌else◌, refl, sym, ap, ◌∙◌, true≢false}
 use Rattle.std.specs.Str.{bytes_eq}
-use Rattle.std.specs.Map.{update}
 use Rattle.std.proofs.lemmas.Slice.Eq.{bytes_eq-Decides}
 use Rattle.arc_ast.specs.declared.tree.Sign.{Sign}
 use Rattle.arc_ast.specs.Tree.{HeadTree}
 use Rattle.arc_class.specs.Classes.{is_method, first_head}
 use Rattle.arc_class.specs.Kept.{one_at}
 use Rattle.arc_class.specs.Classes.{or_else}
-use Rattle.arc_class.proofs.Names.{eq_turned}
 
 pub or_none : {X : Type 0} (a : Option X) → or_else a None ≡ a
 or_none None = refl
@@ -55,27 +53,6 @@ kept_map f old new name value sought e = ap (option_map f) e ∙ map_or f old (o
 pub none_is : {X : Type 0} (o : Option X) → is_some o ≡ false → o ≡ None
 none_is None e = refl
 none_is (Some a) e = absurd (true≢false e)
-
--- a value is kept for a name, where there is none, and else what there was
-pub put_first : {X : Type 0} (old : List ℕ → Option X) (name : List ℕ) (value : X) (sought : List ℕ) → old name ≡ None → update bytes_eq old name (Some value) sought ≡ or_else (old sought) (one_at name value sought)
-put_first {X} old name value sought none = go (bytes_eq name sought) refl
-  where
-    go : (b : Bool) → bytes_eq name sought ≡ b → cond b (Some value) (old sought) ≡ or_else (old sought) (one_at name value sought)
-    go true e =
-        let same : name ≡ sought = (bytes_eq-Decides name sought).0 e in
-        let turned : bytes_eq sought name ≡ true = eq_turned sought name ∙ e in
-        sym (ap (λ o. or_else o (one_at name value sought)) (ap old (sym same) ∙ none) ∙ ap (λ b. if b then Some value else None) turned)
-    go false e = sym (ap (λ b. or_else (old sought) (if b then Some value else None)) (eq_turned sought name ∙ e) ∙ or_none (old sought))
-
--- what there was is put back
-pub put_back : {X : Type 0} (old put : List ℕ → Option X) (name : List ℕ) (value first : X) (sought : List ℕ) → old name ≡ Some first
-    → put sought ≡ update bytes_eq old name (Some value) sought → update bytes_eq put name (Some first) sought ≡ or_else (old sought) (one_at name value sought)
-put_back {X} old put name value first sought had made = go (bytes_eq name sought) refl
-  where
-    go : (b : Bool) → bytes_eq name sought ≡ b → cond b (Some first) (put sought) ≡ or_else (old sought) (one_at name value sought)
-    go true e = sym (ap (λ o. or_else o (one_at name value sought)) (ap old (sym ((bytes_eq-Decides name sought).0 e)) ∙ had))
-    go false e =
-        made ∙ ap (λ b. cond b (Some value) (old sought)) e ∙ sym (ap (λ b. or_else (old sought) (if b then Some value else None)) (eq_turned sought name ∙ e) ∙ or_none (old sought))
 
 -- what has a value at a name keeps it
 pub stays_kept : {X : Type 0} (old : List ℕ → Option X) (name : List ℕ) (value : X) (sought : List ℕ) → is_some (old name) ≡ true → old sought ≡ or_else (old sought) (one_at name value sought)

@@ -7,7 +7,6 @@ use Rattle.arc_class.specs.declared.table.Entry.{Entry}
 use Rattle.arc_class.specs.declared.owners.Map.{Map}
 use Rattle.arc_class.specs.declared.owners.Maps.{Maps}
 use Rattle.arc_class.specs.declared.owners.Owners.{Owners}
-use Rattle.arc_class.specs.declared.numbered.TheConstants.{LEVELS}
 use Rattle.arc_class.specs.Classes.{or_else, number_among}
 use Rattle.arc_class.specs.Numbered.{at_number, IsWithin}
 use Rattle.arc_class.specs.Lookups.{head_at, superclass_of_entry, own_result_in, superclass_of_fields, own_field_in, names_of}
@@ -19,7 +18,7 @@ names_in maps = names_of maps.names.keys
 -- what a map has at a name's number, if the name has one
 abbrev pub at_number_of : Maps → (first number : Option ℕ) → Option ℕ
 at_number_of maps first None = None
-at_number_of maps first (Some number) = at_number LEVELS maps.nodes.items first number
+at_number_of maps first (Some number) = at_number maps.levels maps.nodes.items first number
 
 -- what a map has at a name
 abbrev pub in_map : Maps → Map → List ℕ → Option ℕ
@@ -32,8 +31,8 @@ pub record no_maps (maps : Maps) : Type 0 where
 
 -- A map's parts are there, and it has nothing at numbers that no name has.
 pub record IsMap (maps : Maps) (map : Map) : Type 0 where
-  pub within : IsWithin LEVELS maps.nodes.items map.first
-  pub unnamed : (number : ℕ) → length (names_in maps) ≤ number → number < 2 ^ LEVELS → at_number LEVELS maps.nodes.items map.first number ≡ None
+  pub within : IsWithin maps.levels maps.nodes.items map.first
+  pub unnamed : (number : ℕ) → length (names_in maps) ≤ number → number < 2 ^ maps.levels → at_number maps.levels maps.nodes.items map.first number ≡ None
 
 -- all maps stay, and what they have
 pub record Keeps (old new : Maps) : Type 0 where

@@ -20,14 +20,11 @@ pub fn keep_first<'a, V: Copy>(
 ) -> Result<(), AllocError>
     ensures { OnOk result ((sought : List ℕ) → at_name map.new sought ≡ or_else (at_name map.old sought) (one_at name.now value sought)) }
 {
-    let before = map.insert(name, value)?;
-    match before {
-        None => Ok(()),
-        Some(first) => {
-            map.insert(name, first)?;
-            Ok(())
-        }
+    if map.get(name).is_some() {
+        return Ok(());
     }
+    map.insert(name, value)?;
+    Ok(())
 }
 
 /// A method for each sign and selector.

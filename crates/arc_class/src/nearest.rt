@@ -32,22 +32,33 @@ fn add_entry<'a>(
     Ok(())
 }
 
-/// Which class has the nearest method of the sign with each selector, from each class up. Memory:
-/// there was none, or so many classes or selectors have no numbers.
+/// Which class has the nearest method of the sign with each selector, from each class up, of a source with so many
+/// selectors. Memory: there was none, or so many classes or selectors have no numbers.
 pub fn method_owners<'a>(
     alloc: Global,
     entries: &[Entry<'a>],
+    selectors: usize,
     sign: Sign,
 ) -> Result<Owners<'a>, ClassFault>
     requires { superclass_among entries.now 0 ≡ None }
     ensures finds { IfOk result (λ owners. FindsMethods entries.now sign owners) }
     ensures refused { IfErr result (λ fault. fault ≡ Memory) }
 {
-    let mut owners = Owners::new(alloc);
+    let mut owners = Owners::new(alloc, selectors);
     for (class, entry) in entries.iter().enumerate() {
         add_entry(&mut owners, class, entry, sign)?;
     }
     Ok(owners)
+}
+
+/// How many fields the objects of these classes have, one of each, as far as there is a number for it.
+fn field_count(classes: &[ClassFields]) -> usize {
+    let mut count = 0_usize;
+    for known in classes {
+        count = count.saturating_add(known.counted.numbers);
+        count = count.saturating_add(known.counted.objects);
+    }
+    count
 }
 
 /// Which class has the nearest field with each name, from each class up. Memory: there was none, or
@@ -59,7 +70,7 @@ pub fn field_owners<'a>(
     ensures finds { IfOk result (λ owners. FindsFields classes.now owners) }
     ensures refused { IfErr result (λ fault. fault ≡ Memory) }
 {
-    let mut owners = Owners::new(alloc);
+    let mut owners = Owners::new(alloc, field_count(classes));
     for known in classes {
         owners.add_class(known.superclass, &known.named)?;
     }

@@ -1,13 +1,37 @@
 //! Maps from numbers to numbers, which share their parts.
-ghost use Rattle.std.specs.Prelude.{◌≡◌, ◌<◌, ◌^◌, IfOk, IfErr};
+ghost use Rattle.std.specs.Prelude.{◌≡◌, ◌<◌, ◌≤◌, ◌^◌, ℕ, nat_le, IfOk, IfErr};
 ghost use Rattle.arc_fault.specs.declared.class.ClassFault.TheVariants.{Memory};
 ghost use Rattle.arc_class.specs.Numbered as specs;
 ghost use Rattle.arc_class.specs.Numbered.{at_number, IsWithin, Puts};
 
 use arc_fault::class::ClassFault;
 
-/// How many binary digits the numbers have that a map is asked for: they are below 2^20.
-pub const LEVELS: usize = 20;
+/// The most binary digits that the numbers have that a map is asked for: they are below 2^20.
+pub const MOST_LEVELS: u32 = 20;
+
+/// Whether there are so many numbers of so many binary digits.
+pub fn has_numbers(levels: u32, count: usize) -> bool
+    ensures { result ≡ nat_le count (2 ^ levels) }
+{
+    match 2_usize.checked_pow(levels) {
+        None => true,
+        Some(numbers) => count <= numbers,
+    }
+}
+
+/// The fewest binary digits of which there are so many numbers, or the most that a map's numbers have, where these are fewer.
+pub fn levels_for(count: usize) -> u32
+    ensures most { result ≤ MOST_LEVELS }
+    ensures enough { result < MOST_LEVELS → count ≤ 2 ^ result }
+    ensures fewest { (fewer : ℕ) → fewer < result → 2 ^ fewer < count }
+{
+    for levels in 0..MOST_LEVELS {
+        if has_numbers(levels, count) {
+            return levels;
+        }
+    }
+    MOST_LEVELS
+}
 
 /// A part of a map. `even` serves the even numbers, and `odd` the odd ones: each is the number of a
 /// further part, which is asked for half of the number. After the last binary digit it is the value

@@ -6,14 +6,11 @@ ghost use Rattle.arc_class.specs.Owners.{no_maps, IsMap, Adds, in_map, IsOwners,
 ghost use Rattle.arc_class.specs.Table.{at_name};
 
 use crate::by_name::ByName;
-use crate::numbered::{LEVELS, Node, find, put};
+use crate::numbered::{Node, find, has_numbers, levels_for, put};
 use arc_fault::class::ClassFault;
 use indexmap::IndexSet;
 use std::alloc::Global;
 use std::collections::BTreeMap;
-
-/// How many names can have numbers.
-const MOST_NAMES: usize = 1 << LEVELS;
 
 /// A map from names to the numbers of classes: the first of its parts, and what it has at all names
 /// that these do not have.
@@ -23,21 +20,25 @@ pub struct Map {
     pub otherwise: Option<u32>,
 }
 
-/// What maps share: the names that they have, by their numbers, and parts of maps from numbers.
+/// What maps share: the names that they have, by their numbers, parts of maps from numbers, and how many binary digits
+/// these numbers have.
 #[derive(Drop)]
 pub struct Maps<'a> {
     names: IndexSet<&'a [u8]>,
     nodes: Vec<Node>,
+    levels: u32,
 }
 
 impl<'a> Maps<'a> {
-    /// Nothing to be shared yet.
-    fn new(alloc: Global) -> Maps<'a>
-        ensures { no_maps result }
+    /// Nothing to be shared yet, with numbers of so many binary digits.
+    fn new(alloc: Global, levels: u32) -> Maps<'a>
+        ensures none { no_maps result }
+        ensures levels { result.levels ≡ levels }
     {
         Maps {
             names: IndexSet::new(alloc),
             nodes: Vec::new(alloc),
+            levels,
         }
     }
 
@@ -48,7 +49,7 @@ impl<'a> Maps<'a> {
         let Some(number) = self.names.get_index_of(&name) else {
             return map.otherwise;
         };
-        match find(&self.nodes, LEVELS, map.first, number) {
+        match find(&self.nodes, self.levels as usize, map.first, number) {
             None => map.otherwise,
             Some(class) => Some(class),
         }
@@ -61,10 +62,16 @@ impl<'a> Maps<'a> {
         ensures refused { IfErr result (λ fault. fault ≡ Memory) }
     {
         let (number, _) = self.names.insert_full(name)?;
-        if self.names.len() > MOST_NAMES {
+        if !has_numbers(self.levels, self.names.len()) {
             return Err(ClassFault::Memory);
         }
-        let first = put(&mut self.nodes, LEVELS, map.first, number, class)?;
+        let first = put(
+            &mut self.nodes,
+            self.levels as usize,
+            map.first,
+            number,
+            class,
+        )?;
         Ok(Map {
             first: Some(first),
             otherwise: map.otherwise,
@@ -119,13 +126,13 @@ pub struct Owners<'a> {
 }
 
 impl<'a> Owners<'a> {
-    /// Of no classes yet.
-    pub fn new(alloc: Global) -> Owners<'a>
+    /// Of no classes yet, with numbers for so many names, as far as there are so many.
+    pub fn new(alloc: Global, names: usize) -> Owners<'a>
         ensures owners { IsOwners result }
         ensures none { views result ≡ [] }
     {
         Owners {
-            maps: Maps::new(alloc),
+            maps: Maps::new(alloc, levels_for(names)),
             classes: Vec::new(alloc),
         }
     }

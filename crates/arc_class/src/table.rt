@@ -616,8 +616,9 @@ impl<'a> ClassTable<'a> {
         ensures refused { IfErr result (λ fault. fault ≡ Memory) }
     {
         let parts = Parts::of(alloc, &source, &named_fields)?;
-        let class_methods = method_owners(alloc, &parts.entries, Sign::Class)?;
-        let instance_methods = method_owners(alloc, &parts.entries, Sign::Instance)?;
+        let selectors = parts.selectors.len();
+        let class_methods = method_owners(alloc, &parts.entries, selectors, Sign::Class)?;
+        let instance_methods = method_owners(alloc, &parts.entries, selectors, Sign::Instance)?;
         let Source {
             known,
             functions,

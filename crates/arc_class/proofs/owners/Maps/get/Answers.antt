@@ -1,5 +1,4 @@
 use Rattle.std.proofs.Common.{◌≡◌, ◌∙◌, Some, None, ap, sym}
-use Rattle.arc_class.specs.declared.numbered.TheConstants.{LEVELS}
 use Rattle.arc_class.specs.Classes.{or_else, number_among}
 use Rattle.arc_class.specs.Numbered.{at_number}
 use Rattle.arc_class.specs.Owners.{names_in, at_number_of}
@@ -21,7 +20,7 @@ returns-in-None c =
     let name = c.args.name.now in
     let number = c.in-Some.number in
     let there : Some number ≡ number_among (names_in maps) name = sym c.in-Some.is ∙ c.get_index_of.ensures.index ∙ position_number maps.names.keys name in
-    let none : None ≡ at_number LEVELS maps.nodes.items map.first number = sym c.in-None.is ∙ c.find.ensures ∙ ap (λ nodes. at_number LEVELS nodes map.first number) c.deref.ensures.value in
+    let none : None ≡ at_number maps.levels maps.nodes.items map.first number = sym c.in-None.is ∙ c.find.ensures ∙ ap (λ nodes. at_number maps.levels nodes map.first number) c.deref.ensures.value in
     ap (λ o. or_else o map.otherwise) none ∙ ap (λ o. or_else (at_number_of maps map.first o) map.otherwise) there
 
 pub returns-in-Some-find : goal.returns-in-Some-find
@@ -31,6 +30,6 @@ returns-in-Some-find c =
     let name = c.args.name.now in
     let number = c.in-Some.number in
     let there : Some number ≡ number_among (names_in maps) name = sym c.in-Some.is ∙ c.get_index_of.ensures.index ∙ position_number maps.names.keys name in
-    let found : Some c.in-Some-find.class ≡ at_number LEVELS maps.nodes.items map.first number =
-    sym c.in-Some-find.is ∙ c.find.ensures ∙ ap (λ nodes. at_number LEVELS nodes map.first number) c.deref.ensures.value in
+    let found : Some c.in-Some-find.class ≡ at_number maps.levels maps.nodes.items map.first number =
+    sym c.in-Some-find.is ∙ c.find.ensures ∙ ap (λ nodes. at_number maps.levels nodes map.first number) c.deref.ensures.value in
     ap (λ o. or_else o map.otherwise) found ∙ ap (λ o. or_else (at_number_of maps map.first o) map.otherwise) there
