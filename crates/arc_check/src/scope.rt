@@ -77,8 +77,7 @@ impl<'a> Visible<'a> {
         ensures { (table : ClassTable) → seen table result ≡ of_method (known_in table) (option_map number_of_class class) (head_tree head.now) }
     {
         let gives = head.result.kind();
-        let family = method_family(head.sign, &head.selector, gives);
-        let owns = is_init(family);
+        let owns = is_init_method(head.sign, &head.selector, gives);
         let hidden = hidden_in(head.sign);
         let owned = owned_in(owns);
         Visible {
@@ -130,17 +129,19 @@ impl<'a> Visible<'a> {
         !self.has_place()
     }
 
-    /// The variable of the body that the name means.
+    /// The variable of the body that the name means: the last one that has it.
     pub fn local(&self, name: &[u8]) -> Option<Local>
         ensures { option_map local_of result ≡ local_in self.now.bound.items name.now }
     {
-        let mut local = None;
-        for one in &self.bound {
+        let mut left = self.bound.len();
+        while left > 0 {
+            left -= 1;
+            let one = self.bound[left];
             if one.name == name {
-                local = Some(one.local);
+                return Some(one.local);
             }
         }
-        local
+        None
     }
 
     /// A number of the kind more.
@@ -228,6 +229,16 @@ fn is_init(family: Family) -> bool
     ensures { result ≡ families.is_init family }
 {
     matches!(family, Family::Init)
+}
+
+/// Whether a method that gives a value of the kind is one of init. All of those give objects.
+fn is_init_method(sign: Sign, selector: &[u8], gives: Kind) -> bool
+    ensures { result ≡ families.is_init (families.method_family sign selector.now gives) }
+{
+    match gives {
+        Kind::Object => is_init(method_family(sign, selector, gives)),
+        Kind::Void | Kind::Bool | Kind::Int | Kind::Long => false,
+    }
 }
 
 /// How many variables that name objects a method has without a name.

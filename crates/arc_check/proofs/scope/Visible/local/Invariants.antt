@@ -1,7 +1,10 @@
-use Rattle.std.proofs.Common.{◌≡◌, drop, option_map}
-use Rattle.arc_check.specs.private.Views.{local_of, later, local_in}
+use Rattle.std.proofs.Common.{◌≡◌, ◌≤◌, length, take}
+use Rattle.arc_check.specs.private.Views.{local_in}
 use Rattle.arc_check.proofs.scope.Visible.local.Given as goal
 
--- the last so far, or the last of the rest
-abbrev pub invariant-loop-one : goal.invariant-loop-one
-invariant-loop-one l = local_in l.self.bound.items l.name ≡ later (option_map local_of l.local) (local_in (drop l.one-index l.self.bound.items) l.name)
+-- the last of those that are left is the last of all
+abbrev pub invariant-loop-left : goal.invariant-loop-left
+invariant-loop-left l = (l.left ≤ length l.self.bound.items) × (local_in (take l.left l.self.bound.items) l.name ≡ local_in l.self.bound.items l.name)
+
+abbrev pub decreases-loop-left : goal.decreases-loop-left
+decreases-loop-left l = l.left
