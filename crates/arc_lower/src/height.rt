@@ -1,7 +1,7 @@
 //! How many numbers, references, temporaries and variables that name objects the running function has before each
 //! action, and the most.
 ghost use Rattle.std.specs.Prelude.{◌≡◌, IfOk, drop, get_or, reverse};
-ghost use Rattle.arc_code.specs.Effects.{no_height};
+ghost use Rattle.arc_code.specs.Effects.{no_height, on_numbers};
 ghost use Rattle.arc_check.specs.Checked.{program_of};
 ghost use Rattle.arc_lower.specs.Order.{order, orders};
 ghost use Rattle.arc_lower.specs.Heights.{height, between, highest, after_effect, effect_in, walk, next_walk, heights, greatest};
@@ -10,7 +10,7 @@ use crate::call::{parameters_of, slots_of};
 use crate::variable::add_operands;
 use arc_check::checked::Checked;
 use arc_code::effect::{Effect, Height, instr_effect};
-use arc_code::instr::Instr;
+use arc_code::instr::{Instr, Op};
 use arc_ir::action::Action;
 use arc_spec::event::NoMemory;
 use std::alloc::Global;
@@ -100,10 +100,40 @@ fn effect_in(program: &Checked, action: &Action) -> Result<Effect, NoMemory>
     }
 }
 
+/// The height after an operation that takes so many numbers and gives so many, and leaves references and places as they are.
+/// NoMemory: no stack has so many.
+fn with_numbers(before: Height, taken: usize, given: usize) -> Result<Height, NoMemory>
+    ensures { IfOk result (λ next. next ≡ after_effect before (on_numbers taken given)) }
+{
+    let numbers = before.numbers.saturating_sub(taken);
+    Ok(Height {
+        numbers: add_operands(numbers, given)?,
+        ..before
+    })
+}
+
 /// The height before the next action, in a function with the height `base` between two statements;
 /// `pending` are the heights at which the parts begin that the tests before it may lead to.
 /// NoMemory: no stack has so many numbers, references or places.
 fn next_height(
+    program: &Checked,
+    base: Height,
+    action: &Action,
+    before: Height,
+    pending: &mut Vec<Height>,
+) -> Result<Height, NoMemory>
+    ensures { IfOk result (λ next. walk next (reverse pending.new.items) ≡ next_walk (program_of program.now) base (order action.now) (walk before (reverse pending.old.items))) }
+{
+    match action {
+        Instr::Plain(Op::Num(_) | Op::Get(_)) => with_numbers(before, 0, 1),
+        Instr::Plain(Op::Bin(_, _) | Op::PrintNum | Op::PrintByte) => with_numbers(before, 2, 1),
+        Instr::Plain(Op::Pop | Op::Set(_)) => with_numbers(before, 1, 0),
+        _ => other_height(program, base, action, before, pending),
+    }
+}
+
+/// The same of an action that isn't common.
+fn other_height(
     program: &Checked,
     base: Height,
     action: &Action,
