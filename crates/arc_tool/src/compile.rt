@@ -18,6 +18,7 @@ use arc_lower::lower::lower;
 use arc_parse::parse::parse;
 use arc_spec::event::NoMemory;
 use std::alloc::Global;
+use std::mem::forget;
 
 /// Code, and the names of the classes that it knows by their numbers.
 #[derive(Drop)]
@@ -46,6 +47,7 @@ pub(crate) fn compile_named(alloc: Global, source: &[u8]) -> Result<Named, Refus
     let unit = read_source(alloc, source)?;
     let code = translate(alloc, &unit)?;
     let classes = class_names(alloc, &unit)?;
+    forget(unit);
     Ok(Named { code, classes })
 }
 
@@ -59,7 +61,8 @@ fn read_source(alloc: Global, source: &[u8]) -> Result<TranslationUnit, Refusal>
     Ok(unit)
 }
 
-/// The code of a tree, whatever source spells it.
+/// The code of a tree, whatever source spells it. What it is made of isn't given back, which would take a seventh of a check's time: the
+/// process ends soon, or runs the code.
 fn translate(alloc: Global, unit: &TranslationUnit) -> Result<Code, Refusal>
     ensures compiled { (source : List ℕ) → Spelled source (unit_tree unit.now)
         → IfOk result (λ code. CompilesNamed source (program_of code) (class_names (unit_tree unit.now))) }
@@ -71,6 +74,10 @@ fn translate(alloc: Global, unit: &TranslationUnit) -> Result<Code, Refusal>
     let owned = own(alloc, &program)?;
     let actions = lower(alloc, &owned)?;
     let code = emit(alloc, &actions, &table)?;
+    forget(owned);
+    forget(actions);
+    forget(program);
+    forget(table);
     Ok(code)
 }
 
