@@ -25,3 +25,5 @@ classes_of() {
   }'
 }
 functions_of 1048576 > functions.m; classes_of 1048576 > classes.m
+functions_of 32768 > functions32.m; classes_of 32768 > classes32.m
+echo "int main(void) { int a = 0; while (a >= 0) { a = a + 1; if (a == 1000000000) a = 0; } return 0; }" > loop.m
