@@ -51,6 +51,7 @@ pub mod Standings
 pub mod Starting
 pub mod StoredFields
 pub mod StoredGlobals
+pub mod Taken
 pub mod Turning
 pub mod Unstuck
 pub mod Walking

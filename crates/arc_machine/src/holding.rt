@@ -63,9 +63,9 @@ impl Place {
         // There are no more places than the code asks for, whose number fits a word.
         let _places = code.places;
         let object = objects.receiver();
-        objects.raise(object);
         objects.push(object);
         objects.name(object);
+        objects.raise(object);
         self.at += 1;
         Answer::Going
     }
@@ -91,9 +91,9 @@ impl Place {
         // There are no more places than the code asks for, whose number fits a word.
         let _places = code.places;
         let object = objects.variable(variable);
-        objects.raise(object);
         objects.push(object);
         objects.name(object);
+        objects.raise(object);
         self.at += 1;
         Answer::Going
     }
@@ -118,9 +118,9 @@ impl Place {
         // There are no more places than the code asks for, whose number fits a word.
         let _places = code.places;
         let object = objects.strong_global(variable).unwrap_or(0);
-        objects.raise(object);
         objects.push(object);
         objects.name(object);
+        objects.raise(object);
         self.at += 1;
         Answer::Going
     }
@@ -141,8 +141,8 @@ impl Place {
         // There are no more places than the code asks for, whose number fits a word.
         let _places = code.places;
         let object = objects.reference();
-        objects.raise(object);
         objects.push(object);
+        objects.raise(object);
         self.at += 1;
         Answer::Going
     }

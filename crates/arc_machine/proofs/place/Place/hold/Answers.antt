@@ -1,33 +1,35 @@
-use Rattle.std.proofs.Common.{ap, refl, ◌∙◌, length, arith}
+use Rattle.std.proofs.Common.{ap, refl, ◌∙◌, length, arith, ◌<◌, ◌-◌, ◌^◌, subst}
 use Rattle.arc_code.specs.declared.instr.Op.TheVariants.{Hold}
 use Rattle.arc_code.specs.declared.instr.Instr.TheVariants.{Plain}
 use Rattle.arc_code.specs.Running.{program_of}
-use Rattle.arc_machine.specs.Standing.{Memory, taking, with_names}
+use Rattle.arc_heap.specs.Blocks.{Blocks}
+use Rattle.arc_machine.specs.Cells.{Cell, IsCell}
+use Rattle.arc_machine.specs.Standing.{NamesBlock}
 use Rattle.arc_machine.specs.Places.{spot}
 use Rattle.arc_machine.proofs.Holdings.{hold_reference, reference_taking, taking_needs, taking_went}
+use Rattle.arc_machine.proofs.Taken.{same_blocks, without, counted, taken}
 use Rattle.arc_machine.proofs.place.Place.hold.Goals as goal
 
 pub reference-object-requires : goal.reference-object-requires
 reference-object-requires g c = hold_reference g.S.Store.out (program_of c.args.code.now) (spot c.args.self.now c.args.objects.now) c.requires.ready
 
 pub raise-requires-clause-object : goal.raise-requires-clause-object
-raise-requires-clause-object g c = (taking_needs g.S.Store.out (program_of c.args.code.now) (spot c.args.self.now c.args.objects.now) (Plain Hold) c.reference-object.result c.args.objects.now.names (reference_taking g.S.Store.out (program_of c.args.code.now) (spot c.args.self.now c.args.objects.now) _ c.reference-object.ensures) c.requires.few (omega arith)).0
+raise-requires-clause-object g c = subst (λ (b : Blocks). NamesBlock b c.reference-object.result) (same_blocks g.S.Store.out c.args.objects.now c.reference-object.result c.args.objects.now.names c.push.new.self c.push.ensures)
+    (taking_needs g.S.Store.out (program_of c.args.code.now) (spot c.args.self.now c.args.objects.now) (Plain Hold) c.reference-object.result c.args.objects.now.names (reference_taking g.S.Store.out (program_of c.args.code.now) (spot c.args.self.now c.args.objects.now) _ c.reference-object.ensures) c.requires.few (omega arith)).0
 
 pub raise-requires-clause-fits : goal.raise-requires-clause-fits
-raise-requires-clause-fits g c = (taking_needs g.S.Store.out (program_of c.args.code.now) (spot c.args.self.now c.args.objects.now) (Plain Hold) c.reference-object.result c.args.objects.now.names (reference_taking g.S.Store.out (program_of c.args.code.now) (spot c.args.self.now c.args.objects.now) _ c.reference-object.ensures) c.requires.few (omega arith)).1
+raise-requires-clause-fits g c = subst (λ (b : Blocks). 0 < c.reference-object.result → (cell : Cell) → IsCell b c.reference-object.result cell → cell.count < 2 ^ 64 - 1) (same_blocks g.S.Store.out c.args.objects.now c.reference-object.result c.args.objects.now.names c.push.new.self c.push.ensures)
+    (taking_needs g.S.Store.out (program_of c.args.code.now) (spot c.args.self.now c.args.objects.now) (Plain Hold) c.reference-object.result c.args.objects.now.names (reference_taking g.S.Store.out (program_of c.args.code.now) (spot c.args.self.now c.args.objects.now) _ c.reference-object.ensures) c.requires.few (omega arith)).1
 
 pub push-requires-clause-few : goal.push-requires-clause-few
-push-requires-clause-few g c =
-    let few = (taking_needs g.S.Store.out (program_of c.args.code.now) (spot c.args.self.now c.args.objects.now) (Plain Hold) c.reference-object.result c.args.objects.now.names (reference_taking g.S.Store.out (program_of c.args.code.now) (spot c.args.self.now c.args.objects.now) _ c.reference-object.ensures) c.requires.few (omega arith)).2 in
-    let same = ap (λ (x : Memory). x.temporaries) c.raise.ensures.others in
-    omega (arith, few, same)
+push-requires-clause-few g c = (taking_needs g.S.Store.out (program_of c.args.code.now) (spot c.args.self.now c.args.objects.now) (Plain Hold) c.reference-object.result c.args.objects.now.names (reference_taking g.S.Store.out (program_of c.args.code.now) (spot c.args.self.now c.args.objects.now) _ c.reference-object.ensures) c.requires.few (omega arith)).2
 
 pub push-requires-clause-room : goal.push-requires-clause-room
 push-requires-clause-room g c =
     let few = (taking_needs g.S.Store.out (program_of c.args.code.now) (spot c.args.self.now c.args.objects.now) (Plain Hold) c.reference-object.result c.args.objects.now.names (reference_taking g.S.Store.out (program_of c.args.code.now) (spot c.args.self.now c.args.objects.now) _ c.reference-object.ensures) c.requires.few (omega arith)).3 in
-    let same = ap (λ (x : Memory). length x.places) c.raise.ensures.others in
-    let room = ap (λ (x : Memory). x.room) c.raise.ensures.others in
-    omega (arith, few, same, room, c.requires.places.places)
+    omega (arith, few, c.requires.places.places)
 
 pub returns-clause-went : goal.returns-clause-went
-returns-clause-went g c = taking_went g.S.Store.out (program_of c.args.code.now) (spot c.args.self.now c.args.objects.now) (Plain Hold) c.reference-object.result c.args.objects.now.names (reference_taking g.S.Store.out (program_of c.args.code.now) (spot c.args.self.now c.args.objects.now) _ c.reference-object.ensures) c.raise.new.self c.raise.ensures _ refl refl (c.push.ensures ∙ ap (λ ws. with_names (taking c.reference-object.result c.raise.new.self) ws) (ap (λ (x : Memory). x.names) c.raise.ensures.others))
+returns-clause-went g c = taking_went g.S.Store.out (program_of c.args.code.now) (spot c.args.self.now c.args.objects.now) (Plain Hold) c.reference-object.result c.args.objects.now.names (reference_taking g.S.Store.out (program_of c.args.code.now) (spot c.args.self.now c.args.objects.now) _ c.reference-object.ensures)
+    (without g.S.Store.out c.args.objects.now c.reference-object.result c.args.objects.now.names c.push.new.self c.push.ensures c.raise.new.self c.raise.ensures) (counted g.S.Store.out c.args.objects.now c.reference-object.result c.args.objects.now.names c.push.new.self c.push.ensures c.raise.new.self c.raise.ensures)
+    _ refl refl (taken g.S.Store.out c.args.objects.now c.reference-object.result c.args.objects.now.names c.push.new.self c.push.ensures c.raise.new.self c.raise.ensures)
