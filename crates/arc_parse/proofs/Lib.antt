@@ -1,2 +1,9 @@
+pub mod Table
+pub mod Fix
+pub mod Levels
+pub mod Bound
+pub mod Signatures
+pub mod Fields
+pub mod Globals
 pub mod Tops
 pub mod Unit

@@ -1,0 +1,47 @@
+-- The fields of classes: the loops that read them.
+use Rattle.std.proofs.Common.{◌≡◌, List, [], ◌∷◌, ◌++◌, append_assoc, append-nil, Ok, Err, refl, sym, ap, ◌∙◌}
+use Rattle.arc_lex.specs.Tokens.{Tok}
+use Rattle.arc_ast.specs.declared.tree.Visibility.{Visibility}
+use Rattle.arc_ast.specs.Tree.{FieldTree}
+use Rattle.arc_form.specs.Form.{map}
+use Rattle.arc_form.specs.Operators.{fold}
+use Rattle.arc_form.specs.Reader.{Read, Reader, bind, ◌>>=◌, ret, if_sees, take_one}
+use Rattle.arc_grammar.specs.Grammar.{QualifiedType, QualifiedName, FieldGroup, OfWord, OfType, reads, qualifiers, begins_fields, more_qualified_names, more_starred_names, plain_fields, object_fields, typed_fields, qualified_fields, group, groups, field_of, fields_of, named_fields, visibility_of, begins_visibility}
+use Rattle.arc_grammar.proofs.Fits.{taking}
+use Rattle.arc_grammar.proofs.Loops.{one_more}
+use Rattle.arc_form.specs.Joining.{joining}
+use Rattle.arc_form.proofs.Binding.{bind_twice, bind_if}
+use Rattle.arc_parse.specs.private.Fields.{begins_group, add_field, add_group, typed_fields_on, group_on}
+
+-- the fields of a class after these
+abbrev pub groups_on : Visibility × List FieldTree → Reader (List FieldTree)
+groups_on s = joining begins_group (reads group) add_group s >>= (λ s. ret s.1)
+
+-- one group more, or none
+pub read_groups_on : (s : Visibility × List FieldTree) (ts : List Tok) → groups_on s ts ≡ if_sees begins_group (group_on s >>= (λ s. groups_on s)) (ret s.1) ts
+read_groups_on s ts = rw (one_more begins_group group add_group (search taking) s ts) (simp (bind_if, bind_twice))
+
+pub read_group : (v : Visibility) (made : List FieldTree) (ts : List Tok) → group_on (v, made) ts
+    ≡ if_sees begins_fields (reads qualifiers >>= (λ q us. (typed_fields_on v q made >>= (λ all. ret (v, all))) us)) (take_one begins_visibility (λ t. visibility_of t.sort) >>= (λ next. ret (next, made))) ts
+unfolding group qualified_fields typed_fields object_fields plain_fields more_starred_names more_qualified_names
+read_group v made ts = simp (bind_if, bind_twice)
+
+-- ---- the fields of a class
+
+-- the names of one type
+names_fold : (v : Visibility) (type : QualifiedType) (made : List FieldTree) (names : List QualifiedName) (others : List FieldTree) → fold (add_field v type) made names ++ others ≡ made ++ named_fields v type names others
+names_fold v type made [] others = refl
+names_fold v type made (n ∷ names) others = names_fold v type (add_field v type made n) names others ∙ append_assoc made (field_of v type n ∷ []) (named_fields v type names others)
+
+groups_fold : (s : Visibility × List FieldTree) (all : List FieldGroup) → (fold add_group s all).1 ≡ s.1 ++ fields_of s.0 all
+groups_fold s [] = sym (append-nil s.1)
+groups_fold s (OfWord v ∷ all) = groups_fold (v, s.1) all
+groups_fold s (OfType type names ∷ all) = groups_fold (s.0, fold (add_field s.0 type) s.1 names) all ∙ names_fold s.0 type s.1 names (fields_of s.0 all)
+
+pub groups_start : (v : Visibility) (ts : List Tok) → reads (map (fields_of v) groups) ts ≡ groups_on (v, []) ts
+unfolding groups
+groups_start v ts = go (reads groups ts)
+  where
+    go : (x : Read (List FieldGroup)) → bind x (λ all. ret (fields_of v all)) ≡ bind (bind x (λ all. ret (fold add_group (v, []) all))) (λ s. ret s.1)
+    go (Ok x) = ap (λ y. Ok (y, x.1)) (sym (groups_fold (v, []) x.0))
+    go (Err x) = refl

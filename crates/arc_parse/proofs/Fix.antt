@@ -1,0 +1,79 @@
+-- What the rules read, as the code asks for it.
+use Rattle.std.proofs.Common.{◌≡◌, ◌≤◌, ◌-◌, min, ℕ, zero, suc, List, false, cond, Ok, refl, sym, ap, ◌∙◌, arith}
+use Rattle.arc_lex.specs.Tokens.{Tok}
+use Rattle.arc_lex.specs.declared.token.Mark.TheVariants as m
+use Rattle.arc_ast.specs.declared.tree.BinaryOperator.TheVariants as operators
+use Rattle.arc_ast.specs.Tree.{ExprTree, Binary, begins}
+use Rattle.arc_form.specs.Form.{unlimited}
+use Rattle.arc_form.specs.Kinds.{mark, name}
+use Rattle.arc_form.specs.Reader.{◌>>=◌, ret, sees, if_sees, take_one, from}
+use Rattle.arc_form.specs.Operators.{marks_at, placed_operator}
+use Rattle.arc_form.proofs.Binding.{bind_twice, pair_then, second_then}
+use Rattle.arc_form.proofs.Joining.{joined_is}
+use Rattle.arc_form.proofs.Sets.{sees_neither}
+use Rattle.arc_form.proofs.Local.{Takes, weaker, then, takes_token, takes_ret}
+use Rattle.arc_form.proofs.FormLocal.{read_is, fronts}
+use Rattle.arc_grammar.specs.Grammar.{Sent, rules, reads_free, reads_on, body, expr, binary, table, assigning, marks_up_to, join, further, more, up_to, choice, continued, operations, begins_suffix, suffix, suffixes, next_argument, more_arguments, add, next_part, more_parts, add_part}
+use Rattle.arc_grammar.proofs.Fits.{facts, sure, taking}
+use Rattle.arc_grammar.proofs.Loops.{one_more_on}
+use Rattle.arc_parse.specs.declared.operator.TheConstants.{ASSIGNING, LOOSEST}
+
+further_front : (l : ℕ) → Takes 1 (reads_free (further l))
+unfolding further
+further_front l = weaker 1 (omega arith) (then (takes_token (marks_at l table) (placed_operator operators.Add table)) (λ o. then (fronts facts body sure unlimited (binary (l - 1))) (λ right. takes_ret (o, right))))
+
+pub read_binary : (l : ℕ) (ts : List Tok) → l ≤ LOOSEST → rules unlimited (binary l) ts ≡ reads_free (operations l) ts
+unfolding body table
+read_binary l ts p =
+    let same : min l LOOSEST ≡ l = omega (arith, p) in
+    read_is facts body sure unlimited (binary l) ts ∙ ap (λ k. reads_free (operations k) ts) same
+
+-- the level of the operators that assign
+pub assigning_is : assigning ≡ ASSIGNING
+unfolding table
+assigning_is = refl
+
+-- the operators of all levels, and then what they choose
+pub read_continued : (left : ExprTree) (ts : List Tok) → reads_on continued left ts ≡ (reads_on (up_to LOOSEST) left >>= (λ test. reads_on choice test)) ts
+unfolding continued table
+read_continued left ts = simp bind_twice
+
+-- the operators of a level after a left operand, one by one
+pub read_more : (l : ℕ) (left : ExprTree) (ts : List Tok)
+    → reads_on (more l) left ts ≡ if_sees (marks_at l table) (take_one (marks_at l table) (placed_operator operators.Add table) >>= (λ o. rules unlimited (binary (l - 1)) >>= (λ right. reads_on (more l) (Binary (begins left) o.1 left right)))) (ret left) ts
+unfolding more further
+read_more l left ts =
+    let K = marks_at l table in
+    joined_is K (reads_free (further l)) join (further_front l) left ts
+    ∙ ap (λ y. cond (sees K ts) y (ret left ts)) (pair_then (take_one K (placed_operator operators.Add table) ts) (rules unlimited (binary (l - 1))) (λ a. reads_on (more l) (join left a)))
+
+-- those of the levels up to one, level by level
+pub up_one : (l : ℕ) (left : ExprTree) (ts : List Tok) → reads_on (up_to (suc l)) left ts ≡ (reads_on (up_to l) left >>= (λ tighter. reads_on (more (suc l)) tighter)) ts
+unfolding up_to
+up_one l left ts = simp bind_twice
+
+-- and none where no operator of such a level is ahead
+pub read_past : (l : ℕ) (left : ExprTree) (ts : List Tok) → sees (marks_up_to l) ts ≡ false → reads_on (up_to l) left ts ≡ Ok (left, ts)
+unfolding up_to
+read_past zero left ts s = refl
+read_past (suc l) left ts s =
+    let p = sees_neither (marks_up_to l) (marks_at (suc l) table) ts s in
+    up_one l left ts ∙ rw (read_past l left ts p.0) (read_more (suc l) left ts ∙ rw p.1 refl)
+
+-- the suffixes after an operand, further arguments, and further parts of a selector, one by one
+pub read_suffixes : (operand : ExprTree) (ts : List Tok)
+    → reads_on suffixes operand ts ≡ if_sees begins_suffix (reads_on suffix operand >>= (λ whole. reads_on suffixes whole)) (ret operand) ts
+unfolding suffixes
+read_suffixes operand ts = one_more_on begins_suffix suffix (λ a make. make a) (search taking) operand ts
+    ∙ ap (λ y. cond (sees begins_suffix ts) y (ret operand ts)) (sym (bind_twice (reads_free suffix ts) (λ make. ret (make operand)) (λ whole. reads_on suffixes whole)))
+
+pub read_more_arguments : (before : List ExprTree) (ts : List Tok)
+    → reads_on more_arguments before ts ≡ if_sees (mark m.Comma) (take_one (mark m.Comma) from >>= (λ comma. rules unlimited expr >>= (λ a. reads_on more_arguments (add before a)))) (ret before) ts
+unfolding more_arguments next_argument
+read_more_arguments before ts = one_more_on (mark m.Comma) next_argument add (search taking) before ts
+    ∙ ap (λ y. cond (sees (mark m.Comma) ts) y (ret before ts)) (second_then (take_one (mark m.Comma) from ts) (rules unlimited expr) (λ a. reads_on more_arguments (add before a)))
+
+pub read_more_parts : (before : Sent) (ts : List Tok)
+    → reads_on more_parts before ts ≡ if_sees name (reads_free next_part >>= (λ p. reads_on more_parts (add_part before p))) (ret before) ts
+unfolding more_parts
+read_more_parts = one_more_on name next_part add_part (search taking)

@@ -1,0 +1,32 @@
+use Rattle.std.proofs.Common.{rules, Ok}
+use Rattle.std.proofs.lemmas.Result.{err_from_is_err_and}
+use Rattle.arc_lex.specs.Tokens.{toks}
+use Rattle.arc_ast.specs.Tree.{expr_tree}
+use Rattle.arc_grammar.specs.Grammar.{reads_on, exprs}
+use Rattle.arc_grammar.specs.Grammar as grammar
+use Rattle.arc_parse.proofs.Levels.{one_more, no_operand}
+use Rattle.arc_ast.proofs.Trees.{call_tree, send_tree, send_super_tree}
+use Rattle.arc_grammar.proofs.Lists.{exprs_all}
+use Rattle.arc_parse.proofs.expr.+exprs.Goals as goal
+
+pub call-returns-clause-gives : goal.call-returns-clause-gives
+unfolding grammar.arguments
+call-returns-clause-gives t c = rw (c.in_ok-boxed.ensures, call_tree c.args.at c.args.called c.in_ok-all.all, ← exprs_all c.in_ok-all.all.items) (search rules)
+
+pub to_super-returns-clause-gives : goal.to_super-returns-clause-gives
+unfolding grammar.to_super
+to_super-returns-clause-gives t c = rw (c.in_ok-boxed.ensures, send_super_tree c.args.at c.in_ok-part.part c.in_ok-super_at.super_at c.in_ok-part.selector c.in_ok-part.all, ← exprs_all c.in_ok-part.all.items) (search rules)
+
+pub to_object-returns-clause-gives : goal.to_object-returns-clause-gives
+unfolding grammar.to_object
+to_object-returns-clause-gives t c = rw (c.in_ok-boxed.ensures, send_tree c.args.at c.in_ok-part.part c.in_ok-object.object c.in_ok-part.selector c.in_ok-part.all, ← exprs_all c.in_ok-part.all.items) (search rules)
+
+pub up_to-returns-in_err-right-clause-gives : goal.up_to-returns-in_err-right-clause-gives
+up_to-returns-in_err-right-clause-gives t c =
+    let p = err_from_is_err_and c.from_residual-in_err-right.result c.from_residual-in_err-right.ensures.1 in
+    rw (p.1, p.2) (no_operand c.in-Some.found (expr_tree c.args.left.value) (toks c.args.reader.now.rest.now) (toks c.operator.new.reader.rest.now) (c.in_ok-operator.field-0-0, c.in_ok-operator.operator) c.in-Some.ensures.none_tighter c.in-Some.ensures.there c.in_ok-operator.ensures.gives c.args.level c.in_err-right.field-0.0 (toks c.binary.new.reader.rest.now) c.in-Some.ensures.within.0 c.in-Some.ensures.within.1 c.in_err-right.ensures.gives)
+
+pub up_to-returns-clause-gives : goal.up_to-returns-clause-gives
+up_to-returns-clause-gives t c =
+    let one = one_more c.in-Some.found (expr_tree c.args.left.value) (toks c.args.reader.now.rest.now) (toks c.operator.new.reader.rest.now) (c.in_ok-operator.field-0-0, c.in_ok-operator.operator) c.in-Some.ensures.none_tighter c.in-Some.ensures.there c.in_ok-operator.ensures.gives c.args.level (Ok (expr_tree c.in_ok-right.right.value, toks c.binary.new.reader.rest.now)) c.in-Some.ensures.within.0 c.in-Some.ensures.within.1 c.in_ok-right.ensures.gives c.in_ok-right.ensures.past in
+    rw one (search rules)

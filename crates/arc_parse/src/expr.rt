@@ -1,0 +1,536 @@
+//! Reads expressions, in which no limit holds.
+ghost use Rattle.std.specs.Prelude.{◌≡◌, ◌<◌, ◌≤◌, false, length, IfOk};
+ghost use Rattle.arc_lex.specs.Tokens.{toks};
+ghost use Rattle.arc_ast.specs.Tree.{expr_tree};
+ghost use Rattle.arc_form.specs.Form.{unlimited};
+ghost use Rattle.arc_form.specs.Reader.{Gives, sees};
+ghost use Rattle.arc_form.specs.Views.{all};
+ghost use Rattle.arc_grammar.specs.Grammar.{marks_up_to, reads_free, reads_on, rules};
+ghost use Rattle.arc_grammar.specs.Grammar as grammar;
+ghost use Rattle.arc_parse.specs.declared.operator.TheConstants.{ASSIGNING, LOOSEST};
+
+use crate::literal::literal;
+use crate::node::{boxed, by_one, place_of, times};
+use crate::operator::{ASSIGNING, LOOSEST, level_ahead, operator, sees_operator};
+use crate::sign::{counting, sees_counting, sees_sign, sign};
+use crate::type_name::{begins_plain_type, plain_type};
+use arc_ast::tree::{Expr, Moment, TypeName};
+use arc_form::fail::Read;
+use arc_form::reader::Reader;
+use arc_lex::token::{Mark, Word};
+use std::alloc::Global;
+
+/// An expression.
+#[cycle(exprs)]
+#[tactic(auto, using(arc_grammar::proofs::Fits::read_rule), unfolding(arc_grammar::specs::Grammar::body, arc_grammar::specs::Grammar::expression))]
+pub fn expr(alloc: Global, reader: &mut Reader) -> Read<Box<Expr>>
+    ensures gives { Gives (λ x. expr_tree x.value) result (toks reader.new.rest.now) (rules unlimited grammar.expr (toks reader.old.rest.now)) }
+    ensures shorter { IfOk result (λ _. length reader.new.rest.now < length reader.old.rest.now) }
+{
+    let left = prefixed(alloc, reader)?;
+    operation(alloc, left, reader)
+}
+
+/// An expression of this unary expression and what comes after it.
+#[cycle(exprs)]
+#[tactic(auto, using(crate::proofs::Fix::assigning_is), unfolding(arc_grammar::specs::Grammar::operation))]
+fn operation(alloc: Global, left: Box<Expr>, reader: &mut Reader) -> Read<Box<Expr>>
+    ensures gives { Gives (λ x. expr_tree x.value) result (toks reader.new.rest.now) (reads_on grammar.operation (expr_tree left.value) (toks reader.old.rest.now)) }
+    ensures shorter { IfOk result (λ _. length reader.new.rest.now ≤ length reader.old.rest.now) }
+{
+    if reader.sees_mark(Mark::Assign) {
+        assigned(alloc, left, reader)
+    } else if sees_operator(ASSIGNING, reader) {
+        updated(alloc, left, reader)
+    } else {
+        continued(alloc, left, reader)
+    }
+}
+
+/// An assignment to what is before its `=`.
+#[cycle(exprs)]
+#[tactic(auto, unfolding(arc_grammar::specs::Grammar::assigned))]
+fn assigned(alloc: Global, left: Box<Expr>, reader: &mut Reader) -> Read<Box<Expr>>
+    ensures gives { Gives (λ x. expr_tree x.value) result (toks reader.new.rest.now) (reads_on grammar.assigned (expr_tree left.value) (toks reader.old.rest.now)) }
+    ensures shorter { IfOk result (λ _. length reader.new.rest.now ≤ length reader.old.rest.now) }
+{
+    let at = place_of(&left);
+    let sign = reader.expect(Mark::Assign)?;
+    let right = expr(alloc, reader)?;
+    Ok(boxed(alloc, Expr::Assign(at, sign, left, right))?)
+}
+
+/// An update of what is before its operator.
+#[cycle(exprs)]
+#[tactic(auto, using(crate::proofs::Fix::assigning_is), unfolding(arc_grammar::specs::Grammar::updated))]
+fn updated(alloc: Global, left: Box<Expr>, reader: &mut Reader) -> Read<Box<Expr>>
+    ensures gives { Gives (λ x. expr_tree x.value) result (toks reader.new.rest.now) (reads_on grammar.updated (expr_tree left.value) (toks reader.old.rest.now)) }
+    ensures shorter { IfOk result (λ _. length reader.new.rest.now ≤ length reader.old.rest.now) }
+{
+    let at = place_of(&left);
+    let (sign, operator) = operator(ASSIGNING, reader)?;
+    let right = expr(alloc, reader)?;
+    Ok(boxed(
+        alloc,
+        Expr::Update(at, sign, Moment::After, operator, left, right),
+    )?)
+}
+
+/// The operators of all levels after this unary expression, with their right operands, and what they choose.
+#[cycle(exprs)]
+#[tactic(auto, using(crate::proofs::Fix::read_continued))]
+fn continued(alloc: Global, left: Box<Expr>, reader: &mut Reader) -> Read<Box<Expr>>
+    ensures gives { Gives (λ x. expr_tree x.value) result (toks reader.new.rest.now) (reads_on grammar.continued (expr_tree left.value) (toks reader.old.rest.now)) }
+    ensures shorter { IfOk result (λ _. length reader.new.rest.now ≤ length reader.old.rest.now) }
+{
+    let left = up_to(alloc, LOOSEST, left, reader)?;
+    choice(alloc, left, reader)
+}
+
+/// What this test chooses, where `?` is after it.
+#[cycle(exprs)]
+#[tactic(auto, unfolding(arc_grammar::specs::Grammar::choice))]
+fn choice(alloc: Global, test: Box<Expr>, reader: &mut Reader) -> Read<Box<Expr>>
+    ensures gives { Gives (λ x. expr_tree x.value) result (toks reader.new.rest.now) (reads_on grammar.choice (expr_tree test.value) (toks reader.old.rest.now)) }
+    ensures shorter { IfOk result (λ _. length reader.new.rest.now ≤ length reader.old.rest.now) }
+{
+    if reader.sees_mark(Mark::Question) {
+        chosen(alloc, test, reader)
+    } else {
+        Ok(test)
+    }
+}
+
+/// The two expressions of which this test chooses.
+#[cycle(exprs)]
+#[tactic(auto, unfolding(arc_grammar::specs::Grammar::chosen))]
+fn chosen(alloc: Global, test: Box<Expr>, reader: &mut Reader) -> Read<Box<Expr>>
+    ensures gives { Gives (λ x. expr_tree x.value) result (toks reader.new.rest.now) (reads_on grammar.chosen (expr_tree test.value) (toks reader.old.rest.now)) }
+    ensures shorter { IfOk result (λ _. length reader.new.rest.now ≤ length reader.old.rest.now) }
+{
+    let at = place_of(&test);
+    reader.expect(Mark::Question)?;
+    let first = expr(alloc, reader)?;
+    reader.expect(Mark::Colon)?;
+    let second = condition(alloc, reader)?;
+    Ok(boxed(alloc, Expr::Conditional(at, test, first, second))?)
+}
+
+/// An expression that is no assignment.
+#[cycle(exprs)]
+#[tactic(auto, using(arc_grammar::proofs::Fits::read_rule), unfolding(arc_grammar::specs::Grammar::body, arc_grammar::specs::Grammar::conditional_expr))]
+fn condition(alloc: Global, reader: &mut Reader) -> Read<Box<Expr>>
+    ensures gives { Gives (λ x. expr_tree x.value) result (toks reader.new.rest.now) (rules unlimited grammar.condition (toks reader.old.rest.now)) }
+    ensures shorter { IfOk result (λ _. length reader.new.rest.now < length reader.old.rest.now) }
+{
+    let left = prefixed(alloc, reader)?;
+    continued(alloc, left, reader)
+}
+
+/// The operators of the levels up to this one after this left operand, with their right operands.
+#[cycle(exprs)]
+#[tactic(auto, using(crate::proofs::Fix::read_past))]
+fn up_to(alloc: Global, level: usize, left: Box<Expr>, reader: &mut Reader) -> Read<Box<Expr>>
+    requires { level ≤ LOOSEST }
+    ensures gives { Gives (λ x. expr_tree x.value) result (toks reader.new.rest.now) (reads_on (grammar.up_to level) (expr_tree left.value) (toks reader.old.rest.now)) }
+    ensures shorter { IfOk result (λ _. length reader.new.rest.now ≤ length reader.old.rest.now) }
+    ensures past { IfOk result (λ _. sees (marks_up_to level) (toks reader.new.rest.now) ≡ false) }
+{
+    let found = match level_ahead(level, reader) {
+        None => return Ok(left),
+        Some(found) => found,
+    };
+    let at = place_of(&left);
+    let (_, operator) = operator(found, reader)?;
+    let right = binary(alloc, found - 1, reader)?;
+    let left = boxed(alloc, Expr::Binary(at, operator, left, right))?;
+    up_to(alloc, level, left, reader)
+}
+
+/// An expression whose operators are of this level or tighter.
+#[cycle(exprs)]
+#[tactic(auto, using(crate::proofs::Fix::read_binary), unfolding(arc_grammar::specs::Grammar::operations))]
+fn binary(alloc: Global, level: usize, reader: &mut Reader) -> Read<Box<Expr>>
+    requires { level ≤ LOOSEST }
+    ensures gives { Gives (λ x. expr_tree x.value) result (toks reader.new.rest.now) (rules unlimited (grammar.binary level) (toks reader.old.rest.now)) }
+    ensures shorter { IfOk result (λ _. length reader.new.rest.now < length reader.old.rest.now) }
+    ensures past { IfOk result (λ _. sees (marks_up_to level) (toks reader.new.rest.now) ≡ false) }
+{
+    let left = prefixed(alloc, reader)?;
+    up_to(alloc, level, left, reader)
+}
+
+/// A unary expression.
+#[cycle(exprs)]
+#[tactic(auto, unfolding(arc_grammar::specs::Grammar::prefixed))]
+fn prefixed(alloc: Global, reader: &mut Reader) -> Read<Box<Expr>>
+    ensures gives { Gives (λ x. expr_tree x.value) result (toks reader.new.rest.now) (reads_free grammar.prefixed (toks reader.old.rest.now)) }
+    ensures shorter { IfOk result (λ _. length reader.new.rest.now < length reader.old.rest.now) }
+{
+    if sees_sign(reader) {
+        signed(alloc, reader)
+    } else if sees_counting(reader) {
+        counted(alloc, reader)
+    } else if reader.sees_mark(Mark::OpenParen) {
+        parenthesized(alloc, reader)
+    } else {
+        postfix(alloc, reader)
+    }
+}
+
+/// An operator and the unary expression after it.
+#[cycle(exprs)]
+#[tactic(auto, using(arc_grammar::proofs::Fits::read_rule), unfolding(arc_grammar::specs::Grammar::body, arc_grammar::specs::Grammar::signed))]
+fn signed(alloc: Global, reader: &mut Reader) -> Read<Box<Expr>>
+    ensures gives { Gives (λ x. expr_tree x.value) result (toks reader.new.rest.now) (reads_free grammar.signed (toks reader.old.rest.now)) }
+    ensures shorter { IfOk result (λ _. length reader.new.rest.now < length reader.old.rest.now) }
+{
+    let (at, operator) = sign(reader)?;
+    let operand = prefixed(alloc, reader)?;
+    Ok(boxed(alloc, Expr::Unary(at, operator, operand))?)
+}
+
+/// `++` or `--` and the unary expression after it.
+#[cycle(exprs)]
+#[tactic(auto, using(arc_grammar::proofs::Fits::read_rule), unfolding(arc_grammar::specs::Grammar::body, arc_grammar::specs::Grammar::counted))]
+fn counted(alloc: Global, reader: &mut Reader) -> Read<Box<Expr>>
+    ensures gives { Gives (λ x. expr_tree x.value) result (toks reader.new.rest.now) (reads_free grammar.counted (toks reader.old.rest.now)) }
+    ensures shorter { IfOk result (λ _. length reader.new.rest.now < length reader.old.rest.now) }
+{
+    let operator = counting(reader)?;
+    let operand = prefixed(alloc, reader)?;
+    Ok(by_one(alloc, operator.0, operator, Moment::After, operand)?)
+}
+
+/// An expression in parentheses with what may come after one, or a cast.
+#[cycle(exprs)]
+#[tactic(auto, unfolding(arc_grammar::specs::Grammar::parenthesized))]
+fn parenthesized(alloc: Global, reader: &mut Reader) -> Read<Box<Expr>>
+    ensures gives { Gives (λ x. expr_tree x.value) result (toks reader.new.rest.now) (reads_free grammar.parenthesized (toks reader.old.rest.now)) }
+    ensures shorter { IfOk result (λ _. length reader.new.rest.now < length reader.old.rest.now) }
+{
+    let at = reader.expect(Mark::OpenParen)?;
+    if begins_plain_type(reader) {
+        cast_to_plain(alloc, at, reader)
+    } else if reader.sees_reference() {
+        starred(alloc, at, reader)
+    } else {
+        inside(alloc, at, reader)
+    }
+}
+
+/// What is after the `(` of an expression in parentheses, which is at this place.
+#[cycle(exprs)]
+#[tactic(auto, unfolding(arc_grammar::specs::Grammar::inside))]
+fn inside(alloc: Global, at: usize, reader: &mut Reader) -> Read<Box<Expr>>
+    ensures gives { Gives (λ x. expr_tree x.value) result (toks reader.new.rest.now) (reads_on grammar.inside at (toks reader.old.rest.now)) }
+    ensures shorter { IfOk result (λ _. length reader.new.rest.now < length reader.old.rest.now) }
+{
+    let inside = expr(alloc, reader)?;
+    reader.expect(Mark::CloseParen)?;
+    let whole = boxed(alloc, Expr::Paren(at, inside))?;
+    suffixes(alloc, whole, reader)
+}
+
+/// What is after the `(`, which is at this place, of a cast to a type that names no class.
+#[cycle(exprs)]
+#[tactic(auto, using(arc_grammar::proofs::Fits::read_rule), unfolding(arc_grammar::specs::Grammar::body, arc_grammar::specs::Grammar::cast_to_plain))]
+fn cast_to_plain(alloc: Global, at: usize, reader: &mut Reader) -> Read<Box<Expr>>
+    ensures gives { Gives (λ x. expr_tree x.value) result (toks reader.new.rest.now) (reads_on grammar.cast_to_plain at (toks reader.old.rest.now)) }
+    ensures shorter { IfOk result (λ _. length reader.new.rest.now < length reader.old.rest.now) }
+{
+    let (_, written) = plain_type(reader)?;
+    reader.expect(Mark::CloseParen)?;
+    let operand = prefixed(alloc, reader)?;
+    Ok(boxed(alloc, Expr::Cast(at, written, operand))?)
+}
+
+/// What is after the `(` at this place, where a name and `*` come: a cast, or a product in parentheses.
+#[cycle(exprs)]
+#[tactic(auto, unfolding(arc_grammar::specs::Grammar::starred))]
+fn starred(alloc: Global, at: usize, reader: &mut Reader) -> Read<Box<Expr>>
+    ensures gives { Gives (λ x. expr_tree x.value) result (toks reader.new.rest.now) (reads_on grammar.starred at (toks reader.old.rest.now)) }
+    ensures shorter { IfOk result (λ _. length reader.new.rest.now < length reader.old.rest.now) }
+{
+    let (name_at, called) = reader.name(alloc)?;
+    reader.expect(Mark::Star)?;
+    if reader.sees_mark(Mark::CloseParen) {
+        cast(alloc, at, name_at, called, reader)
+    } else {
+        product(alloc, at, name_at, called, reader)
+    }
+}
+
+/// What is after `(`, which is at this place, this name and `*` in a cast.
+#[cycle(exprs)]
+#[tactic(auto, using(arc_grammar::proofs::Fits::read_rule), unfolding(arc_grammar::specs::Grammar::body, arc_grammar::specs::Grammar::cast))]
+fn cast(
+    alloc: Global,
+    at: usize,
+    name_at: usize,
+    called: Vec<u8>,
+    reader: &mut Reader,
+) -> Read<Box<Expr>>
+    ensures gives { Gives (λ x. expr_tree x.value) result (toks reader.new.rest.now) (reads_on grammar.cast (at, name_at, called.items) (toks reader.old.rest.now)) }
+    ensures shorter { IfOk result (λ _. length reader.new.rest.now < length reader.old.rest.now) }
+{
+    reader.expect(Mark::CloseParen)?;
+    let operand = prefixed(alloc, reader)?;
+    let kind = TypeName::Object(name_at, called);
+    Ok(boxed(alloc, Expr::Cast(at, kind, operand))?)
+}
+
+/// What is after `(`, which is at this place, this name and `*` in a product in parentheses.
+#[cycle(exprs)]
+#[tactic(auto, using(arc_grammar::proofs::Fits::read_rule), unfolding(arc_grammar::specs::Grammar::body, arc_grammar::specs::Grammar::product))]
+fn product(
+    alloc: Global,
+    at: usize,
+    name_at: usize,
+    called: Vec<u8>,
+    reader: &mut Reader,
+) -> Read<Box<Expr>>
+    ensures gives { Gives (λ x. expr_tree x.value) result (toks reader.new.rest.now) (reads_on grammar.product (at, name_at, called.items) (toks reader.old.rest.now)) }
+    ensures shorter { IfOk result (λ _. length reader.new.rest.now < length reader.old.rest.now) }
+{
+    let right = prefixed(alloc, reader)?;
+    let first = times(alloc, name_at, called, right)?;
+    let inside = continued(alloc, first, reader)?;
+    reader.expect(Mark::CloseParen)?;
+    let whole = boxed(alloc, Expr::Paren(at, inside))?;
+    suffixes(alloc, whole, reader)
+}
+
+/// A primary expression, a call or a message, and the suffixes after it.
+#[cycle(exprs)]
+#[tactic(auto, unfolding(arc_grammar::specs::Grammar::postfix))]
+fn postfix(alloc: Global, reader: &mut Reader) -> Read<Box<Expr>>
+    ensures gives { Gives (λ x. expr_tree x.value) result (toks reader.new.rest.now) (reads_free grammar.postfix (toks reader.old.rest.now)) }
+    ensures shorter { IfOk result (λ _. length reader.new.rest.now < length reader.old.rest.now) }
+{
+    let object = primary(alloc, reader)?;
+    suffixes(alloc, object, reader)
+}
+
+/// The suffixes after an operand: fields, each of them after `->`, and `++` and `--`.
+#[tactic(auto, using(crate::proofs::Fix::read_suffixes))]
+fn suffixes(alloc: Global, operand: Box<Expr>, reader: &mut Reader) -> Read<Box<Expr>>
+    ensures gives { Gives (λ x. expr_tree x.value) result (toks reader.new.rest.now) (reads_on grammar.suffixes (expr_tree operand.value) (toks reader.old.rest.now)) }
+    ensures shorter { IfOk result (λ _. length reader.new.rest.now ≤ length reader.old.rest.now) }
+{
+    if !sees_suffix(reader) {
+        return Ok(operand);
+    }
+    let whole = suffix(alloc, operand, reader)?;
+    suffixes(alloc, whole, reader)
+}
+
+/// Whether the first token begins a suffix.
+#[tactic(auto, using(arc_form::proofs::Sets::sees_or))]
+fn sees_suffix(reader: &Reader) -> bool
+    ensures { result ≡ sees grammar.begins_suffix (toks reader.now.rest.now) }
+{
+    reader.sees_mark(Mark::Arrow) || sees_counting(reader)
+}
+
+/// One suffix after an operand.
+#[tactic(auto, unfolding(arc_grammar::specs::Grammar::suffix))]
+fn suffix(alloc: Global, operand: Box<Expr>, reader: &mut Reader) -> Read<Box<Expr>>
+    ensures gives { Gives (λ x. expr_tree x.value) result (toks reader.new.rest.now) (reads_on grammar.suffix (expr_tree operand.value) (toks reader.old.rest.now)) }
+    ensures shorter { IfOk result (λ _. length reader.new.rest.now < length reader.old.rest.now) }
+{
+    let at = place_of(&operand);
+    if !reader.sees_mark(Mark::Arrow) {
+        let operator = counting(reader)?;
+        return Ok(by_one(alloc, at, operator, Moment::Before, operand)?);
+    }
+    let object = operand;
+    let (name_at, called) = field_name(alloc, reader)?;
+    Ok(boxed(alloc, Expr::Arrow(at, name_at, object, called))?)
+}
+
+/// `->` and the name of a field, with its place.
+#[tactic(auto, unfolding(arc_grammar::specs::Grammar::field_name))]
+fn field_name(alloc: Global, reader: &mut Reader) -> Read<(usize, Vec<u8>)>
+    ensures gives { Gives (λ x. (x.0, x.1.items)) result (toks reader.new.rest.now) (reads_free grammar.field_name (toks reader.old.rest.now)) }
+    ensures shorter { IfOk result (λ _. length reader.new.rest.now < length reader.old.rest.now) }
+{
+    reader.expect(Mark::Arrow)?;
+    reader.name(alloc)
+}
+
+/// A name, a call, a message or a literal.
+#[cycle(exprs)]
+#[tactic(auto, unfolding(arc_grammar::specs::Grammar::primary))]
+fn primary(alloc: Global, reader: &mut Reader) -> Read<Box<Expr>>
+    ensures gives { Gives (λ x. expr_tree x.value) result (toks reader.new.rest.now) (reads_free grammar.primary (toks reader.old.rest.now)) }
+    ensures shorter { IfOk result (λ _. length reader.new.rest.now < length reader.old.rest.now) }
+{
+    if reader.sees_name() {
+        named(alloc, reader)
+    } else if reader.sees_mark(Mark::OpenSquare) {
+        message(alloc, reader)
+    } else {
+        literal(alloc, reader)
+    }
+}
+
+/// A variable's name, or a call.
+#[cycle(exprs)]
+#[tactic(auto, unfolding(arc_grammar::specs::Grammar::named))]
+fn named(alloc: Global, reader: &mut Reader) -> Read<Box<Expr>>
+    ensures gives { Gives (λ x. expr_tree x.value) result (toks reader.new.rest.now) (reads_free grammar.named (toks reader.old.rest.now)) }
+    ensures shorter { IfOk result (λ _. length reader.new.rest.now < length reader.old.rest.now) }
+{
+    let (at, called) = reader.name(alloc)?;
+    if reader.sees_mark(Mark::OpenParen) {
+        return call(alloc, at, called, reader);
+    }
+    Ok(boxed(alloc, Expr::Name(at, called))?)
+}
+
+/// The arguments of a call of this name, which is at this place.
+#[cycle(exprs)]
+#[tactic(auto, unfolding(arc_grammar::specs::Grammar::arguments))]
+fn call(alloc: Global, at: usize, called: Vec<u8>, reader: &mut Reader) -> Read<Box<Expr>>
+    ensures gives { Gives (λ x. expr_tree x.value) result (toks reader.new.rest.now) (reads_on grammar.arguments (at, called.items) (toks reader.old.rest.now)) }
+    ensures shorter { IfOk result (λ _. length reader.new.rest.now < length reader.old.rest.now) }
+{
+    reader.expect(Mark::OpenParen)?;
+    let all = given(alloc, reader)?;
+    Ok(boxed(alloc, Expr::Call(at, called, all))?)
+}
+
+/// The arguments of a call, of which there may be none, and `)`.
+#[cycle(exprs)]
+#[tactic(auto, unfolding(arc_grammar::specs::Grammar::given, arc_grammar::specs::Grammar::no_arguments, arc_grammar::specs::Grammar::some_arguments))]
+fn given(alloc: Global, reader: &mut Reader) -> Read<Vec<Expr>>
+    ensures gives { Gives (λ x. all expr_tree x.items) result (toks reader.new.rest.now) (reads_free grammar.given (toks reader.old.rest.now)) }
+    ensures shorter { IfOk result (λ _. length reader.new.rest.now < length reader.old.rest.now) }
+{
+    let mut all = Vec::new(alloc);
+    if reader.sees_mark(Mark::CloseParen) {
+        reader.expect(Mark::CloseParen)?;
+        return Ok(all);
+    }
+    let one = expr(alloc, reader)?;
+    all.push(Box::into_inner(one))?;
+    let all = more_arguments(alloc, all, reader)?;
+    reader.expect(Mark::CloseParen)?;
+    Ok(all)
+}
+
+/// These arguments and the further ones, each after a comma.
+#[cycle(exprs)]
+#[tactic(auto, using(crate::proofs::Fix::read_more_arguments, arc_form::proofs::Joining::all_push))]
+fn more_arguments(alloc: Global, before: Vec<Expr>, reader: &mut Reader) -> Read<Vec<Expr>>
+    ensures gives { Gives (λ x. all expr_tree x.items) result (toks reader.new.rest.now) (reads_on grammar.more_arguments (all expr_tree before.items) (toks reader.old.rest.now)) }
+    ensures shorter { IfOk result (λ _. length reader.new.rest.now ≤ length reader.old.rest.now) }
+{
+    if !reader.sees_mark(Mark::Comma) {
+        return Ok(before);
+    }
+    let mut all = before;
+    reader.expect(Mark::Comma)?;
+    let next = expr(alloc, reader)?;
+    all.push(Box::into_inner(next))?;
+    more_arguments(alloc, all, reader)
+}
+
+/// A message.
+#[cycle(exprs)]
+#[tactic(auto, unfolding(arc_grammar::specs::Grammar::message))]
+fn message(alloc: Global, reader: &mut Reader) -> Read<Box<Expr>>
+    ensures gives { Gives (λ x. expr_tree x.value) result (toks reader.new.rest.now) (reads_free grammar.message (toks reader.old.rest.now)) }
+    ensures shorter { IfOk result (λ _. length reader.new.rest.now < length reader.old.rest.now) }
+{
+    let at = reader.expect(Mark::OpenSquare)?;
+    if reader.sees_word(Word::Super) {
+        to_super(alloc, at, reader)
+    } else {
+        to_object(alloc, at, reader)
+    }
+}
+
+/// What is after the `[` of a message, which is at this place, where `super` comes.
+#[cycle(exprs)]
+#[tactic(auto, unfolding(arc_grammar::specs::Grammar::to_super))]
+fn to_super(alloc: Global, at: usize, reader: &mut Reader) -> Read<Box<Expr>>
+    ensures gives { Gives (λ x. expr_tree x.value) result (toks reader.new.rest.now) (reads_on grammar.to_super at (toks reader.old.rest.now)) }
+    ensures shorter { IfOk result (λ _. length reader.new.rest.now < length reader.old.rest.now) }
+{
+    let super_at = reader.keyword(Word::Super)?;
+    let (part, selector, all) = sent(alloc, reader)?;
+    reader.expect(Mark::CloseSquare)?;
+    Ok(boxed(alloc, Expr::SendSuper(at, part, super_at, selector, all))?)
+}
+
+/// What is after the `[` of a message, which is at this place, where an expression comes.
+#[cycle(exprs)]
+#[tactic(auto, unfolding(arc_grammar::specs::Grammar::to_object))]
+fn to_object(alloc: Global, at: usize, reader: &mut Reader) -> Read<Box<Expr>>
+    ensures gives { Gives (λ x. expr_tree x.value) result (toks reader.new.rest.now) (reads_on grammar.to_object at (toks reader.old.rest.now)) }
+    ensures shorter { IfOk result (λ _. length reader.new.rest.now < length reader.old.rest.now) }
+{
+    let object = expr(alloc, reader)?;
+    let (part, selector, all) = sent(alloc, reader)?;
+    reader.expect(Mark::CloseSquare)?;
+    Ok(boxed(alloc, Expr::Send(at, part, object, selector, all))?)
+}
+
+/// The place of a selector's first part, the selector, and the arguments.
+#[cycle(exprs)]
+#[tactic(auto, unfolding(arc_grammar::specs::Grammar::sent))]
+fn sent(alloc: Global, reader: &mut Reader) -> Read<(usize, Vec<u8>, Vec<Expr>)>
+    ensures gives { Gives (λ x. (x.0, (x.1.items, all expr_tree x.2.items))) result (toks reader.new.rest.now) (reads_free grammar.sent (toks reader.old.rest.now)) }
+    ensures shorter { IfOk result (λ _. length reader.new.rest.now < length reader.old.rest.now) }
+{
+    let (at, selector) = reader.name(alloc)?;
+    if !reader.sees_mark(Mark::Colon) {
+        return Ok((at, selector, Vec::new(alloc)));
+    }
+    let (selector, all) = parts(alloc, selector, reader)?;
+    Ok((at, selector, all))
+}
+
+/// What is after the name of a selector's first part: its argument, and further parts.
+#[cycle(exprs)]
+#[tactic(auto, unfolding(arc_grammar::specs::Grammar::parts, arc_grammar::specs::Grammar::argument_part))]
+fn parts(alloc: Global, first: Vec<u8>, reader: &mut Reader) -> Read<(Vec<u8>, Vec<Expr>)>
+    ensures gives { Gives (λ x. (x.0.items, all expr_tree x.1.items)) result (toks reader.new.rest.now) (reads_on grammar.parts first.items (toks reader.old.rest.now)) }
+    ensures shorter { IfOk result (λ _. length reader.new.rest.now < length reader.old.rest.now) }
+{
+    let mut selector = first;
+    let mut all = Vec::new(alloc);
+    reader.expect(Mark::Colon)?;
+    selector.push(b':')?;
+    let one = expr(alloc, reader)?;
+    all.push(Box::into_inner(one))?;
+    more_parts(alloc, selector, all, reader)
+}
+
+/// This selector and these arguments, and further parts with theirs.
+#[cycle(exprs)]
+#[tactic(auto, using(crate::proofs::Fix::read_more_parts, arc_form::proofs::Joining::all_push), unfolding(arc_grammar::specs::Grammar::next_part, arc_grammar::specs::Grammar::argument_part))]
+fn more_parts(
+    alloc: Global,
+    before: Vec<u8>,
+    given: Vec<Expr>,
+    reader: &mut Reader,
+) -> Read<(Vec<u8>, Vec<Expr>)>
+    ensures gives { Gives (λ x. (x.0.items, all expr_tree x.1.items)) result (toks reader.new.rest.now) (reads_on grammar.more_parts (before.items, all expr_tree given.items) (toks reader.old.rest.now)) }
+    ensures shorter { IfOk result (λ _. length reader.new.rest.now ≤ length reader.old.rest.now) }
+{
+    if !reader.sees_name() {
+        return Ok((before, given));
+    }
+    let mut selector = before;
+    let mut all = given;
+    let (_, called) = reader.name(alloc)?;
+    selector.extend_from_slice(&called)?;
+    reader.expect(Mark::Colon)?;
+    selector.push(b':')?;
+    let one = expr(alloc, reader)?;
+    all.push(Box::into_inner(one))?;
+    more_parts(alloc, selector, all, reader)
+}

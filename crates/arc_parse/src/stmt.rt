@@ -1,0 +1,243 @@
+//! Reads statements.
+ghost use Rattle.std.specs.Prelude.{◌≡◌, ◌<◌, ◌≤◌, length, option_map, IfOk};
+ghost use Rattle.arc_lex.specs.Tokens.{toks};
+ghost use Rattle.arc_form.specs.Reader.{Gives};
+ghost use Rattle.arc_form.specs.Views.{all};
+ghost use Rattle.arc_ast.specs.Tree.{expr_tree, stmt_tree};
+ghost use Rattle.arc_grammar.specs.Grammar.{reads, rules, these};
+ghost use Rattle.arc_grammar.specs.Grammar as grammar;
+ghost use Rattle.arc_grammar.specs.declared.limits.TheConstants.{DEEPEST};
+
+use crate::clauses::{clauses, controlling, test_after};
+use crate::first::{begins_item, begins_stmt};
+use crate::made::{boxed, keep, unboxed};
+use crate::qualifier::sees_qualifier;
+use crate::simple::{breaking, continuing, empty, returned, simple};
+use crate::type_name::begins_plain_type;
+use crate::variable::{declaration, objects, qualified_declaration};
+use arc_ast::tree::{Expr, Qualifiers, Stmt};
+use arc_form::fail::{Fail, Read};
+use arc_form::reader::Reader;
+use arc_grammar::limits::DEEPEST;
+use arc_lex::token::{Mark, Word};
+use std::alloc::Global;
+
+/// A statement that is nested so deep.
+#[cycle(stmts)]
+#[tactic(auto, using(arc_grammar::proofs::Fits::read_rule), unfolding(arc_grammar::specs::Grammar::body, arc_form::specs::Reader::nested))]
+fn stmt(alloc: Global, depth: usize, reader: &mut Reader) -> Read<Stmt>
+    ensures gives { Gives stmt_tree result (toks reader.new.rest.now) (rules these (grammar.stmt depth) (toks reader.old.rest.now)) }
+    ensures shorter { IfOk result (λ _. length reader.new.rest.now < length reader.old.rest.now) }
+{
+    if depth <= DEEPEST {
+        statement(alloc, depth, reader)
+    } else if begins_stmt(reader) {
+        Err(Fail::TooDeep)
+    } else {
+        Err(Fail::Unexpected)
+    }
+}
+
+#[cycle(stmts)]
+#[tactic(auto, unfolding(arc_grammar::specs::Grammar::statement))]
+fn statement(alloc: Global, depth: usize, reader: &mut Reader) -> Read<Stmt>
+    requires { depth ≤ DEEPEST }
+    ensures gives { Gives stmt_tree result (toks reader.new.rest.now) (reads (grammar.statement depth) (toks reader.old.rest.now)) }
+    ensures shorter { IfOk result (λ _. length reader.new.rest.now < length reader.old.rest.now) }
+{
+    if reader.sees_mark(Mark::OpenBrace) {
+        block(alloc, depth, reader)
+    } else if reader.sees_mark(Mark::Semicolon) {
+        empty(reader)
+    } else {
+        worded(alloc, depth, reader)
+    }
+}
+
+/// A statement that begins with a word, or an expression.
+#[cycle(stmts)]
+#[tactic(auto, unfolding(arc_grammar::specs::Grammar::worded))]
+fn worded(alloc: Global, depth: usize, reader: &mut Reader) -> Read<Stmt>
+    requires { depth ≤ DEEPEST }
+    ensures gives { Gives stmt_tree result (toks reader.new.rest.now) (reads (grammar.worded depth) (toks reader.old.rest.now)) }
+    ensures shorter { IfOk result (λ _. length reader.new.rest.now < length reader.old.rest.now) }
+{
+    if reader.sees_word(Word::Return) {
+        returned(alloc, reader)
+    } else if reader.sees_word(Word::If) {
+        conditional(alloc, depth, reader)
+    } else if reader.sees_word(Word::Break) {
+        breaking(reader)
+    } else if reader.sees_word(Word::Continue) {
+        continuing(reader)
+    } else {
+        looped(alloc, depth, reader)
+    }
+}
+
+/// A loop, or an expression.
+#[cycle(stmts)]
+#[tactic(auto, unfolding(arc_grammar::specs::Grammar::looped))]
+fn looped(alloc: Global, depth: usize, reader: &mut Reader) -> Read<Stmt>
+    requires { depth ≤ DEEPEST }
+    ensures gives { Gives stmt_tree result (toks reader.new.rest.now) (reads (grammar.looped depth) (toks reader.old.rest.now)) }
+    ensures shorter { IfOk result (λ _. length reader.new.rest.now < length reader.old.rest.now) }
+{
+    if reader.sees_word(Word::While) {
+        repeated(alloc, depth, reader)
+    } else if reader.sees_word(Word::Do) {
+        repeated_after(alloc, depth, reader)
+    } else if reader.sees_word(Word::For) {
+        stepped(alloc, depth, reader)
+    } else {
+        simple(alloc, reader)
+    }
+}
+
+/// `if`, a controlling expression, a branch, and perhaps `else` and another
+#[cycle(stmts)]
+#[tactic(auto, unfolding(arc_grammar::specs::Grammar::if_else))]
+fn conditional(alloc: Global, depth: usize, reader: &mut Reader) -> Read<Stmt>
+    requires { depth ≤ DEEPEST }
+    ensures gives { Gives stmt_tree result (toks reader.new.rest.now) (reads (grammar.if_else depth) (toks reader.old.rest.now)) }
+    ensures shorter { IfOk result (λ _. length reader.new.rest.now < length reader.old.rest.now) }
+{
+    let at = reader.keyword(Word::If)?;
+    let condition = controlling(alloc, reader)?;
+    let first = branch(alloc, depth + 1, reader)?;
+    let second = otherwise(alloc, depth, reader)?;
+    Ok(chosen(at, condition, first, second))
+}
+
+/// An `if` with this test and these branches.
+fn chosen(at: usize, condition: Box<Expr>, first: Box<Stmt>, second: Option<Box<Stmt>>) -> Stmt
+    ensures { stmt_tree result ≡ grammar.conditional at (expr_tree condition.value) (stmt_tree first.value) (option_map (λ b. stmt_tree b.value) second) }
+{
+    match second {
+        None => Stmt::If(at, Box::into_inner(condition), first),
+        Some(second) => Stmt::IfElse(at, Box::into_inner(condition), first, second),
+    }
+}
+
+/// Perhaps `else` and a branch.
+#[cycle(stmts)]
+#[tactic(auto, unfolding(arc_grammar::specs::Grammar::otherwise))]
+fn otherwise(alloc: Global, depth: usize, reader: &mut Reader) -> Read<Option<Box<Stmt>>>
+    requires { depth ≤ DEEPEST }
+    ensures gives { Gives (λ x. option_map (λ b. stmt_tree b.value) x) result (toks reader.new.rest.now) (reads (grammar.otherwise depth) (toks reader.old.rest.now)) }
+    ensures shorter { IfOk result (λ _. length reader.new.rest.now ≤ length reader.old.rest.now) }
+{
+    if !reader.sees_word(Word::Else) {
+        return Ok(None);
+    }
+    reader.keyword(Word::Else)?;
+    let second = branch(alloc, depth + 1, reader)?;
+    Ok(Some(second))
+}
+
+/// `while`, a controlling expression and a body
+#[cycle(stmts)]
+#[tactic(auto, unfolding(arc_grammar::specs::Grammar::while_do))]
+fn repeated(alloc: Global, depth: usize, reader: &mut Reader) -> Read<Stmt>
+    requires { depth ≤ DEEPEST }
+    ensures gives { Gives stmt_tree result (toks reader.new.rest.now) (reads (grammar.while_do depth) (toks reader.old.rest.now)) }
+    ensures shorter { IfOk result (λ _. length reader.new.rest.now < length reader.old.rest.now) }
+{
+    let at = reader.keyword(Word::While)?;
+    let condition = controlling(alloc, reader)?;
+    let body = branch(alloc, depth + 1, reader)?;
+    Ok(Stmt::While(at, Box::into_inner(condition), body))
+}
+
+/// `do`, a body, and the test after it
+#[cycle(stmts)]
+#[tactic(auto, unfolding(arc_grammar::specs::Grammar::do_while))]
+fn repeated_after(alloc: Global, depth: usize, reader: &mut Reader) -> Read<Stmt>
+    requires { depth ≤ DEEPEST }
+    ensures gives { Gives stmt_tree result (toks reader.new.rest.now) (reads (grammar.do_while depth) (toks reader.old.rest.now)) }
+    ensures shorter { IfOk result (λ _. length reader.new.rest.now < length reader.old.rest.now) }
+{
+    let at = reader.keyword(Word::Do)?;
+    let body = branch(alloc, depth + 1, reader)?;
+    let condition = test_after(alloc, reader)?;
+    Ok(Stmt::Do(at, body, Box::into_inner(condition)))
+}
+
+/// `for`, its clauses and a body
+#[cycle(stmts)]
+#[tactic(auto, unfolding(arc_grammar::specs::Grammar::for_do))]
+fn stepped(alloc: Global, depth: usize, reader: &mut Reader) -> Read<Stmt>
+    requires { depth ≤ DEEPEST }
+    ensures gives { Gives stmt_tree result (toks reader.new.rest.now) (reads (grammar.for_do depth) (toks reader.old.rest.now)) }
+    ensures shorter { IfOk result (λ _. length reader.new.rest.now < length reader.old.rest.now) }
+{
+    let at = reader.keyword(Word::For)?;
+    let clauses = clauses(alloc, reader)?;
+    let body = branch(alloc, depth + 1, reader)?;
+    Ok(Stmt::For(
+        at,
+        clauses.beginning,
+        unboxed(clauses.test),
+        unboxed(clauses.step),
+        body,
+    ))
+}
+
+/// A statement in a box.
+#[cycle(stmts)]
+fn branch(alloc: Global, depth: usize, reader: &mut Reader) -> Read<Box<Stmt>>
+    ensures gives { Gives (λ x. stmt_tree x.value) result (toks reader.new.rest.now) (rules these (grammar.stmt depth) (toks reader.old.rest.now)) }
+    ensures shorter { IfOk result (λ _. length reader.new.rest.now < length reader.old.rest.now) }
+{
+    let read = stmt(alloc, depth, reader)?;
+    Ok(boxed(alloc, read)?)
+}
+
+/// Items in braces.
+#[cycle(stmts)]
+#[tactic(auto, unfolding(arc_grammar::specs::Grammar::block))]
+fn block(alloc: Global, depth: usize, reader: &mut Reader) -> Read<Stmt>
+    requires { depth ≤ DEEPEST }
+    ensures gives { Gives stmt_tree result (toks reader.new.rest.now) (reads (grammar.block depth) (toks reader.old.rest.now)) }
+    ensures shorter { IfOk result (λ _. length reader.new.rest.now < length reader.old.rest.now) }
+{
+    let at = reader.expect(Mark::OpenBrace)?;
+    let all = items(alloc, depth + 1, reader)?;
+    reader.expect(Mark::CloseBrace)?;
+    Ok(Stmt::Block(at, all))
+}
+
+/// The items of a block, each a declaration or a statement.
+#[cycle(stmts)]
+#[tactic(auto, using(arc_grammar::proofs::Loops::one_more, arc_grammar::proofs::Fits::taking, arc_form::proofs::Joining::row_start, arc_form::proofs::Joining::all_push), unfolding(arc_grammar::specs::Grammar::items))]
+pub fn items(alloc: Global, depth: usize, reader: &mut Reader) -> Read<Vec<Stmt>>
+    requires { depth ≤ 201 }
+    ensures gives { Gives (λ x. all stmt_tree x.items) result (toks reader.new.rest.now) (reads (grammar.items depth) (toks reader.old.rest.now)) }
+    ensures shorter { IfOk result (λ _. length reader.new.rest.now ≤ length reader.old.rest.now) }
+{
+    let mut all = Vec::new(alloc);
+    'items: while begins_item(reader) {
+        let item = item(alloc, depth, reader)?;
+        keep(&mut all, item)?;
+    }
+    Ok(all)
+}
+
+/// A declaration or a statement.
+#[cycle(stmts)]
+#[tactic(auto, unfolding(arc_grammar::specs::Grammar::item, arc_grammar::specs::Grammar::by_name))]
+fn item(alloc: Global, depth: usize, reader: &mut Reader) -> Read<Stmt>
+    requires { depth ≤ 201 }
+    ensures gives { Gives stmt_tree result (toks reader.new.rest.now) (reads (grammar.item depth) (toks reader.old.rest.now)) }
+    ensures shorter { IfOk result (λ _. length reader.new.rest.now < length reader.old.rest.now) }
+{
+    if sees_qualifier(reader) {
+        qualified_declaration(alloc, reader)
+    } else if begins_plain_type(reader) {
+        declaration(alloc, Qualifiers::Unqualified, reader)
+    } else if reader.sees_reference() {
+        objects(alloc, Qualifiers::Unqualified, reader)
+    } else {
+        stmt(alloc, depth, reader)
+    }
+}

@@ -1,0 +1,152 @@
+//! Reads declarations.
+ghost use Rattle.std.specs.Prelude.{◌≡◌, ◌<◌, ◌≤◌, length, option_map, IfOk};
+ghost use Rattle.arc_lex.specs.Tokens.{toks};
+ghost use Rattle.arc_form.specs.Reader.{Gives};
+ghost use Rattle.arc_form.specs.Views.{all, with_row};
+ghost use Rattle.arc_ast.specs.Tree.{expr_tree, variable_tree, stmt_tree};
+ghost use Rattle.arc_grammar.specs.Grammar.{reads};
+ghost use Rattle.arc_parse.specs.private.Signatures.{reads_after};
+ghost use Rattle.arc_grammar.specs.Grammar as grammar;
+
+use crate::full::full;
+use crate::made::unboxed;
+use crate::qualifier::{qualifiers, some_qualifiers};
+use crate::type_name::plain_type;
+use arc_ast::tree::{Expr, Qualifiers, Stmt, TypeName, Variable};
+use arc_form::fail::Read;
+use arc_form::reader::Reader;
+use arc_lex::token::Mark;
+use std::alloc::Global;
+
+/// Perhaps `=` and what a variable begins with.
+#[tactic(auto, unfolding(arc_grammar::specs::Grammar::initial))]
+fn initial(alloc: Global, reader: &mut Reader) -> Read<Option<Box<Expr>>>
+    ensures gives { Gives (λ x. option_map (λ b. expr_tree b.value) x) result (toks reader.new.rest.now) (reads grammar.initial (toks reader.old.rest.now)) }
+    ensures shorter { IfOk result (λ _. length reader.new.rest.now ≤ length reader.old.rest.now) }
+{
+    if !reader.sees_mark(Mark::Assign) {
+        return Ok(None);
+    }
+    reader.expect(Mark::Assign)?;
+    let value = full(alloc, reader)?;
+    Ok(Some(value))
+}
+
+/// A variable's qualifiers, its name, and perhaps `=` and what it begins with.
+#[tactic(auto, unfolding(arc_grammar::specs::Grammar::variable))]
+fn variable(alloc: Global, reader: &mut Reader) -> Read<Variable>
+    ensures gives { Gives variable_tree result (toks reader.new.rest.now) (reads grammar.variable (toks reader.old.rest.now)) }
+    ensures shorter { IfOk result (λ _. length reader.new.rest.now < length reader.old.rest.now) }
+{
+    let qualifiers = qualifiers(reader)?;
+    let (at, name) = reader.name(alloc)?;
+    let initial = initial(alloc, reader)?;
+    Ok(Variable {
+        at,
+        qualifiers,
+        name,
+        initial: unboxed(initial),
+    })
+}
+
+/// A comma and a variable.
+#[tactic(auto, unfolding(arc_grammar::specs::Grammar::next_variable))]
+fn next_variable(alloc: Global, reader: &mut Reader) -> Read<Variable>
+    ensures gives { Gives variable_tree result (toks reader.new.rest.now) (reads grammar.next_variable (toks reader.old.rest.now)) }
+    ensures shorter { IfOk result (λ _. length reader.new.rest.now < length reader.old.rest.now) }
+{
+    reader.expect(Mark::Comma)?;
+    variable(alloc, reader)
+}
+
+/// These variables and the further ones, each after a comma.
+#[tactic(auto, using(arc_grammar::proofs::Loops::one_more, arc_grammar::proofs::Fits::taking, arc_form::proofs::Joining::row_is, arc_form::proofs::Joining::all_push), unfolding(arc_grammar::specs::Grammar::more_variables))]
+fn more_variables(alloc: Global, before: Vec<Variable>, reader: &mut Reader) -> Read<Vec<Variable>>
+    ensures gives { Gives (λ x. all variable_tree x.items) result (toks reader.new.rest.now) (with_row variable_tree before.items (reads grammar.more_variables (toks reader.old.rest.now))) }
+    ensures shorter { IfOk result (λ _. length reader.new.rest.now ≤ length reader.old.rest.now) }
+{
+    let mut all = before;
+    'variables: while reader.sees_mark(Mark::Comma) {
+        let next = next_variable(alloc, reader)?;
+        all.push(next)?;
+    }
+    Ok(all)
+}
+
+/// `*` and a variable.
+#[tactic(auto, unfolding(arc_grammar::specs::Grammar::reference))]
+fn reference(alloc: Global, reader: &mut Reader) -> Read<Variable>
+    ensures gives { Gives variable_tree result (toks reader.new.rest.now) (reads grammar.reference (toks reader.old.rest.now)) }
+    ensures shorter { IfOk result (λ _. length reader.new.rest.now < length reader.old.rest.now) }
+{
+    reader.expect(Mark::Star)?;
+    variable(alloc, reader)
+}
+
+/// A comma, `*` and a variable.
+#[tactic(auto, unfolding(arc_grammar::specs::Grammar::next_reference))]
+fn next_reference(alloc: Global, reader: &mut Reader) -> Read<Variable>
+    ensures gives { Gives variable_tree result (toks reader.new.rest.now) (reads grammar.next_reference (toks reader.old.rest.now)) }
+    ensures shorter { IfOk result (λ _. length reader.new.rest.now < length reader.old.rest.now) }
+{
+    reader.expect(Mark::Comma)?;
+    reference(alloc, reader)
+}
+
+/// These variables and the further ones, each after a comma and with a `*`.
+#[tactic(auto, using(arc_grammar::proofs::Loops::one_more, arc_grammar::proofs::Fits::taking, arc_form::proofs::Joining::row_is, arc_form::proofs::Joining::all_push), unfolding(arc_grammar::specs::Grammar::more_references))]
+fn more_references(alloc: Global, before: Vec<Variable>, reader: &mut Reader) -> Read<Vec<Variable>>
+    ensures gives { Gives (λ x. all variable_tree x.items) result (toks reader.new.rest.now) (with_row variable_tree before.items (reads grammar.more_references (toks reader.old.rest.now))) }
+    ensures shorter { IfOk result (λ _. length reader.new.rest.now ≤ length reader.old.rest.now) }
+{
+    let mut all = before;
+    'references: while reader.sees_mark(Mark::Comma) {
+        let next = next_reference(alloc, reader)?;
+        all.push(next)?;
+    }
+    Ok(all)
+}
+
+/// A type that names no class, one variable or more and `;`, after qualifiers.
+#[tactic(auto, using(arc_grammar::proofs::Lists::alls), unfolding(arc_grammar::specs::Grammar::declaration))]
+pub fn declaration(alloc: Global, qualifiers: Qualifiers, reader: &mut Reader) -> Read<Stmt>
+    ensures gives { Gives stmt_tree result (toks reader.new.rest.now) (reads_after grammar.declaration qualifiers (toks reader.old.rest.now)) }
+    ensures shorter { IfOk result (λ _. length reader.new.rest.now < length reader.old.rest.now) }
+{
+    let (at, written) = plain_type(reader)?;
+    let first = variable(alloc, reader)?;
+    let mut all = Vec::new(alloc);
+    all.push(first)?;
+    let all = more_variables(alloc, all, reader)?;
+    reader.expect(Mark::Semicolon)?;
+    Ok(Stmt::Variables(at, qualifiers, written, all))
+}
+
+/// The name of a class, one variable or more, with a `*` each, and `;`, after qualifiers.
+#[tactic(auto, using(arc_grammar::proofs::Lists::alls), unfolding(arc_grammar::specs::Grammar::objects))]
+pub fn objects(alloc: Global, qualifiers: Qualifiers, reader: &mut Reader) -> Read<Stmt>
+    ensures gives { Gives stmt_tree result (toks reader.new.rest.now) (reads_after grammar.objects qualifiers (toks reader.old.rest.now)) }
+    ensures shorter { IfOk result (λ _. length reader.new.rest.now < length reader.old.rest.now) }
+{
+    let (at, class) = reader.name(alloc)?;
+    let first = reference(alloc, reader)?;
+    let mut all = Vec::new(alloc);
+    all.push(first)?;
+    let all = more_references(alloc, all, reader)?;
+    reader.expect(Mark::Semicolon)?;
+    Ok(Stmt::Variables(at, qualifiers, TypeName::Object(at, class), all))
+}
+
+/// Qualifiers, a type, one variable or more and `;`.
+#[tactic(auto, unfolding(arc_grammar::specs::Grammar::qualified_declaration))]
+pub fn qualified_declaration(alloc: Global, reader: &mut Reader) -> Read<Stmt>
+    ensures gives { Gives stmt_tree result (toks reader.new.rest.now) (reads grammar.qualified_declaration (toks reader.old.rest.now)) }
+    ensures shorter { IfOk result (λ _. length reader.new.rest.now < length reader.old.rest.now) }
+{
+    let qualifiers = some_qualifiers(reader)?;
+    if reader.sees_name() {
+        objects(alloc, qualifiers, reader)
+    } else {
+        declaration(alloc, qualifiers, reader)
+    }
+}
