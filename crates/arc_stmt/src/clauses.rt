@@ -6,6 +6,7 @@ ghost use Rattle.arc_ast.specs.Tree.{expr_tree, stmt_tree};
 ghost use Rattle.arc_grammar.specs.Grammar.{reads};
 ghost use Rattle.arc_grammar.specs.Grammar as grammar;
 
+use crate::node::boxed;
 use crate::simple::{empty, simple, value};
 use crate::variable::{declaration, objects, qualified_declaration};
 use arc_ast::tree::{Expr, Qualifiers, Stmt};
@@ -22,8 +23,8 @@ use std::alloc::Global;
 pub struct ForClauses {
     /// A declaration, an expression or `;` alone.
     pub beginning: Box<Stmt>,
-    pub test: Option<Expr>,
-    pub step: Option<Expr>,
+    pub test: Option<Box<Expr>>,
+    pub step: Option<Box<Expr>>,
 }
 
 /// A controlling expression in parentheses.
@@ -71,8 +72,8 @@ fn beginning(alloc: Global, reader: &mut Reader) -> Read<Stmt>
 
 /// The step of a `for`, if there is one, and `)`.
 #[tactic(auto, unfolding(arc_grammar::specs::Grammar::step))]
-fn step(alloc: Global, reader: &mut Reader) -> Read<Option<Expr>>
-    ensures gives { Gives (λ x. option_map expr_tree x) result (toks reader.new.rest.now) (reads grammar.step (toks reader.old.rest.now)) }
+fn step(alloc: Global, reader: &mut Reader) -> Read<Option<Box<Expr>>>
+    ensures gives { Gives (λ x. option_map (λ b. expr_tree b.value) x) result (toks reader.new.rest.now) (reads grammar.step (toks reader.old.rest.now)) }
     ensures shorter { IfOk result (λ _. length reader.new.rest.now < length reader.old.rest.now) }
 {
     if reader.sees_mark(Mark::CloseParen) {
@@ -81,18 +82,18 @@ fn step(alloc: Global, reader: &mut Reader) -> Read<Option<Expr>>
     }
     let step = full(alloc, reader)?;
     reader.expect(Mark::CloseParen)?;
-    Ok(Some(Box::into_inner(step)))
+    Ok(Some(step))
 }
 
 /// What is in the parentheses of a `for`.
 #[tactic(auto, unfolding(arc_grammar::specs::Grammar::clauses))]
 pub fn clauses(alloc: Global, reader: &mut Reader) -> Read<ForClauses>
-    ensures gives { Gives (λ x. (stmt_tree x.beginning.value, (option_map expr_tree x.test, option_map expr_tree x.step))) result (toks reader.new.rest.now) (reads grammar.clauses (toks reader.old.rest.now)) }
+    ensures gives { Gives (λ x. (stmt_tree x.beginning.value, (option_map (λ b. expr_tree b.value) x.test, option_map (λ b. expr_tree b.value) x.step))) result (toks reader.new.rest.now) (reads grammar.clauses (toks reader.old.rest.now)) }
     ensures shorter { IfOk result (λ _. length reader.new.rest.now < length reader.old.rest.now) }
 {
     reader.expect(Mark::OpenParen)?;
     let beginning = beginning(alloc, reader)?;
-    let beginning = Box::new(alloc, beginning)?;
+    let beginning = boxed(alloc, beginning)?;
     let test = value(alloc, reader)?;
     let step = step(alloc, reader)?;
     Ok(ForClauses {

@@ -3,6 +3,7 @@
 
 mod clauses;
 mod first;
+mod node;
 mod simple;
 pub mod stmt;
 mod variable;

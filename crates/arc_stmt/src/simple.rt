@@ -6,6 +6,7 @@ ghost use Rattle.arc_ast.specs.Tree.{expr_tree, stmt_tree};
 ghost use Rattle.arc_grammar.specs.Grammar.{reads};
 ghost use Rattle.arc_grammar.specs.Grammar as grammar;
 
+use crate::node::unboxed;
 use arc_ast::tree::{Expr, Stmt};
 use arc_expr::full::full;
 use arc_form::fail::{Fail, Read};
@@ -47,13 +48,13 @@ pub fn returned(alloc: Global, reader: &mut Reader) -> Read<Stmt>
 {
     let at = reader.keyword(Word::Return)?;
     let value = value(alloc, reader)?;
-    Ok(Stmt::Return(at, value))
+    Ok(Stmt::Return(at, unboxed(value)))
 }
 
 /// What `return` gives, or what a `for` tests, if there is something, and `;`.
 #[tactic(auto, unfolding(arc_grammar::specs::Grammar::value))]
-pub fn value(alloc: Global, reader: &mut Reader) -> Read<Option<Expr>>
-    ensures gives { Gives (λ x. option_map expr_tree x) result (toks reader.new.rest.now) (reads grammar.value (toks reader.old.rest.now)) }
+pub fn value(alloc: Global, reader: &mut Reader) -> Read<Option<Box<Expr>>>
+    ensures gives { Gives (λ x. option_map (λ b. expr_tree b.value) x) result (toks reader.new.rest.now) (reads grammar.value (toks reader.old.rest.now)) }
     ensures shorter { IfOk result (λ _. length reader.new.rest.now < length reader.old.rest.now) }
 {
     if reader.sees_mark(Mark::Semicolon) {
@@ -62,7 +63,7 @@ pub fn value(alloc: Global, reader: &mut Reader) -> Read<Option<Expr>>
     }
     let value = full(alloc, reader)?;
     reader.expect(Mark::Semicolon)?;
-    Ok(Some(Box::into_inner(value)))
+    Ok(Some(value))
 }
 
 /// `break`

@@ -10,6 +10,7 @@ ghost use Rattle.arc_grammar.specs.declared.limits.TheConstants.{DEEPEST};
 
 use crate::clauses::{clauses, controlling, test_after};
 use crate::first::{begins_item, begins_stmt};
+use crate::node::{boxed, keep, unboxed};
 use crate::simple::{breaking, continuing, empty, returned, simple};
 use crate::variable::{declaration, objects, qualified_declaration};
 use arc_ast::tree::{Expr, Qualifiers, Stmt};
@@ -112,10 +113,9 @@ fn conditional(alloc: Global, depth: usize, reader: &mut Reader) -> Read<Stmt>
 fn chosen(at: usize, condition: Box<Expr>, first: Box<Stmt>, second: Option<Box<Stmt>>) -> Stmt
     ensures { stmt_tree result ≡ grammar.conditional at (expr_tree condition.value) (stmt_tree first.value) (option_map (λ b. stmt_tree b.value) second) }
 {
-    let condition = Box::into_inner(condition);
     match second {
-        None => Stmt::If(at, condition, first),
-        Some(second) => Stmt::IfElse(at, condition, first, second),
+        None => Stmt::If(at, Box::into_inner(condition), first),
+        Some(second) => Stmt::IfElse(at, Box::into_inner(condition), first, second),
     }
 }
 
@@ -174,7 +174,13 @@ fn stepped(alloc: Global, depth: usize, reader: &mut Reader) -> Read<Stmt>
     let at = reader.keyword(Word::For)?;
     let clauses = clauses(alloc, reader)?;
     let body = branch(alloc, depth + 1, reader)?;
-    Ok(Stmt::For(at, clauses.beginning, clauses.test, clauses.step, body))
+    Ok(Stmt::For(
+        at,
+        clauses.beginning,
+        unboxed(clauses.test),
+        unboxed(clauses.step),
+        body,
+    ))
 }
 
 /// A statement in a box.
@@ -184,7 +190,7 @@ fn branch(alloc: Global, depth: usize, reader: &mut Reader) -> Read<Box<Stmt>>
     ensures shorter { IfOk result (λ _. length reader.new.rest.now < length reader.old.rest.now) }
 {
     let read = stmt(alloc, depth, reader)?;
-    Ok(Box::new(alloc, read)?)
+    Ok(boxed(alloc, read)?)
 }
 
 /// Items in braces.
@@ -212,7 +218,7 @@ pub fn items(alloc: Global, depth: usize, reader: &mut Reader) -> Read<Vec<Stmt>
     let mut all = Vec::new(alloc);
     'items: while begins_item(reader) {
         let item = item(alloc, depth, reader)?;
-        all.push(item)?;
+        keep(&mut all, item)?;
     }
     Ok(all)
 }

@@ -8,6 +8,7 @@ ghost use Rattle.arc_grammar.specs.Grammar.{reads};
 ghost use Rattle.arc_stmt.specs.Declaring.{reads_after};
 ghost use Rattle.arc_grammar.specs.Grammar as grammar;
 
+use crate::node::unboxed;
 use arc_ast::tree::{Expr, Qualifiers, Stmt, TypeName, Variable};
 use arc_expr::full::full;
 use arc_expr::qualifier::{qualifiers, some_qualifiers};
@@ -19,8 +20,8 @@ use std::alloc::Global;
 
 /// Perhaps `=` and what a variable begins with.
 #[tactic(auto, unfolding(arc_grammar::specs::Grammar::initial))]
-fn initial(alloc: Global, reader: &mut Reader) -> Read<Option<Expr>>
-    ensures gives { Gives (λ x. option_map expr_tree x) result (toks reader.new.rest.now) (reads grammar.initial (toks reader.old.rest.now)) }
+fn initial(alloc: Global, reader: &mut Reader) -> Read<Option<Box<Expr>>>
+    ensures gives { Gives (λ x. option_map (λ b. expr_tree b.value) x) result (toks reader.new.rest.now) (reads grammar.initial (toks reader.old.rest.now)) }
     ensures shorter { IfOk result (λ _. length reader.new.rest.now ≤ length reader.old.rest.now) }
 {
     if !reader.sees_mark(Mark::Assign) {
@@ -28,7 +29,7 @@ fn initial(alloc: Global, reader: &mut Reader) -> Read<Option<Expr>>
     }
     reader.expect(Mark::Assign)?;
     let value = full(alloc, reader)?;
-    Ok(Some(Box::into_inner(value)))
+    Ok(Some(value))
 }
 
 /// A variable's qualifiers, its name, and perhaps `=` and what it begins with.
@@ -44,7 +45,7 @@ fn variable(alloc: Global, reader: &mut Reader) -> Read<Variable>
         at,
         qualifiers,
         name,
-        initial,
+        initial: unboxed(initial),
     })
 }
 
