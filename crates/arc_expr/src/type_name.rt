@@ -10,6 +10,7 @@ use arc_ast::tree::TypeName;
 use arc_form::fail::Read;
 use arc_form::reader::Reader;
 use arc_lex::token::Word;
+use std::alloc::Global;
 
 /// Whether a type of numbers can begin with the first token.
 #[tactic(auto, using(arc_form::proofs::Sets::sees_or))]
@@ -48,6 +49,19 @@ pub fn plain_type(reader: &mut Reader) -> Read<(usize, TypeName)>
     } else {
         number_type(reader)
     }
+}
+
+/// The type before names that are declared, with its place: a class's name, or a type that names no class.
+#[tactic(auto, using(arc_form::proofs::Binding::take_as), unfolding(arc_grammar::specs::Grammar::declared_type))]
+pub fn declared_type(alloc: Global, of_class: bool, reader: &mut Reader) -> Read<(usize, TypeName)>
+    ensures gives { Gives (λ x. (x.0, type_tree x.1)) result (toks reader.new.rest.now) (reads (grammar.declared_type of_class) (toks reader.old.rest.now)) }
+    ensures shorter { IfOk result (λ _. length reader.new.rest.now < length reader.old.rest.now) }
+{
+    if !of_class {
+        return plain_type(reader);
+    }
+    let (at, class) = reader.name(alloc)?;
+    Ok((at, TypeName::Object(at, class)))
 }
 
 /// `id`, with its place.

@@ -10,7 +10,7 @@ use Rattle.arc_form.proofs.Static.{Facts, passes, holds, decided, Decided, nulla
 use Rattle.arc_form.proofs.Sets.{both}
 use Rattle.arc_form.proofs.Local.{Takes}
 use Rattle.arc_form.proofs.FormLocal.{some_front, read_is}
-use Rattle.arc_grammar.specs.Grammar.{Part, Rule, rules, expr, unary, binary, condition, stmt, table, begins_suffix, begins_expr, begins_stmt, assigning, loosest, marks_up_to, further, more, up_to, chosen, choice, continued, conditional_expr, perhaps_int, perhaps_long, long_type, bool_type, integer_type, int_type, other_type, number_type, id_type, plain_type, class_type, value_type, other_value_type, qualifier, more_qualifiers, qualifiers, some_qualifiers, literal, counting, field_name, suffix, suffixes, next_argument, more_arguments, some_arguments, no_arguments, given, arguments, named, argument_part, next_part, more_parts, parts, sent, to_super, to_object, message, inside, cast_to_plain, cast, product, starred, parenthesized, primary, postfix, operator_before, signed, counted, prefixed, operations, assigned, updated, operation, expression, full, initial, variable, next_variable, more_variables, declaration, reference, next_reference, more_references, objects, qualified_declaration, simple, empty, value, returned, controlling, otherwise, if_else, while_do, test_after, do_while, beginning, step, clauses, for_do, breaking, continuing, looped, by_name, item, items, block, worded, statement, parameter, next_parameter, more_parameters, void_parameters, some_parameters, parameters, texts_name, perhaps_const, texts, further_parameters, second, counted_of_main, qualified_of_main, int_of_main, qualified_type_of_main, others_of_main, some_of_main, parameters_of_main, enclosed, braces, function_body, main_function, other_function, function, plain_constant, negative_constant, constant, first_constant, global, next_global, more_globals, globals, global_reference, next_global_reference, more_global_references, global_references, enclosed_type, typed, next_typed, typed_parts, selector, sign, result_type, enclosed_result, method_result, method_head, next_head, method_heads, perhaps_semicolon, method, methods, next_name, more_names, qualified_name, next_qualified_name, more_qualified_names, plain_fields, starred_name, next_starred_name, more_starred_names, object_fields, typed_fields, qualified_fields, group, groups, fields, interface, implementation, class_names, perhaps_static, of_void, typed_top, of_plain, of_objects, plain_globals, object_globals, of_qualified, external, top, tops, unit, body}
+use Rattle.arc_grammar.specs.Grammar.{Part, Rule, rules, expr, unary, binary, condition, stmt, table, begins_suffix, begins_expr, begins_stmt, assigning, loosest, marks_up_to, further, more, up_to, chosen, choice, continued, conditional_expr, perhaps_int, perhaps_long, long_type, bool_type, integer_type, int_type, other_type, number_type, id_type, plain_type, class_type, value_type_of, value_type, other_value_type, qualifier, more_qualifiers, qualifiers, some_qualifiers, literal, counting, field_name, suffix, suffixes, next_argument, more_arguments, some_arguments, no_arguments, given, arguments, named, argument_part, next_part, more_parts, parts, sent, to_super, to_object, message, inside, cast_to_plain, cast, product, starred, parenthesized, primary, postfix, operator_before, signed, counted, prefixed, operations, assigned, updated, operation, expression, full, initial, variable, declared_type, starred_variable, next_variable, more_variables, declaration, qualified_declaration, simple, empty, value, returned, controlling, otherwise, if_else, while_do, test_after, do_while, beginning, step, clauses, for_do, breaking, continuing, looped, by_name, item, items, block, worded, statement, parameter, next_parameter, more_parameters, void_parameters, some_parameters, parameters, texts_name, perhaps_const, texts, further_parameters, second, counted_of_main, qualified_of_main, int_of_main, qualified_type_of_main, others_of_main, some_of_main, parameters_of_main, enclosed, braces, function_body, main_function, other_function, function, plain_constant, negative_constant, constant, first_constant, global, next_global, more_globals, globals, enclosed_type, typed, next_typed, typed_parts, selector, sign, result_type, enclosed_result, method_result, method_head, next_head, method_heads, perhaps_semicolon, method, methods, next_name, more_names, qualified_name, starred_name, next_qualified_name, more_qualified_names, typed_fields, qualified_fields, group, groups, fields, interface, implementation, class_names, perhaps_static, of_void, typed_top, of_type, typed_globals, of_qualified, external, top, tops, unit, body}
 use Rattle.arc_grammar.specs.Grammar as grammar
 
 -- an expression whose operators are of a level or tighter
@@ -26,7 +26,7 @@ facts (stmt d) = record { begins = begins_stmt; goes_on = none; bars = word w.El
 
 -- `unfolding lines` opens each line of the grammar, so that the test is a computation.
 unfoldable pub lines : Unit {0}
-unfolding table further more up_to chosen choice continued conditional_expr perhaps_int perhaps_long long_type bool_type integer_type int_type other_type number_type id_type plain_type class_type value_type other_value_type qualifier more_qualifiers qualifiers some_qualifiers literal counting field_name suffix suffixes next_argument more_arguments some_arguments no_arguments given arguments named argument_part next_part more_parts parts sent to_super to_object message inside cast_to_plain cast product starred parenthesized primary postfix operator_before signed counted prefixed operations assigned updated operation expression full initial variable next_variable more_variables declaration reference next_reference more_references objects qualified_declaration simple empty value returned controlling otherwise if_else while_do test_after do_while beginning step clauses for_do breaking continuing looped by_name item items block worded statement parameter next_parameter more_parameters void_parameters some_parameters parameters texts_name perhaps_const texts further_parameters second counted_of_main qualified_of_main int_of_main qualified_type_of_main others_of_main some_of_main parameters_of_main enclosed braces function_body main_function other_function function plain_constant negative_constant constant first_constant global next_global more_globals globals global_reference next_global_reference more_global_references global_references enclosed_type typed next_typed typed_parts selector sign result_type enclosed_result method_result method_head next_head method_heads perhaps_semicolon method methods next_name more_names qualified_name next_qualified_name more_qualified_names plain_fields starred_name next_starred_name more_starred_names object_fields typed_fields qualified_fields group groups fields interface implementation class_names perhaps_static of_void typed_top of_plain of_objects plain_globals object_globals of_qualified external top tops unit body
+unfolding table further more up_to chosen choice continued conditional_expr perhaps_int perhaps_long long_type bool_type integer_type int_type other_type number_type id_type plain_type class_type value_type_of value_type other_value_type qualifier more_qualifiers qualifiers some_qualifiers literal counting field_name suffix suffixes next_argument more_arguments some_arguments no_arguments given arguments named argument_part next_part more_parts parts sent to_super to_object message inside cast_to_plain cast product starred parenthesized primary postfix operator_before signed counted prefixed operations assigned updated operation expression full initial variable declared_type starred_variable next_variable more_variables declaration qualified_declaration simple empty value returned controlling otherwise if_else while_do test_after do_while beginning step clauses for_do breaking continuing looped by_name item items block worded statement parameter next_parameter more_parameters void_parameters some_parameters parameters texts_name perhaps_const texts further_parameters second counted_of_main qualified_of_main int_of_main qualified_type_of_main others_of_main some_of_main parameters_of_main enclosed braces function_body main_function other_function function plain_constant negative_constant constant first_constant global next_global more_globals globals enclosed_type typed next_typed typed_parts selector sign result_type enclosed_result method_result method_head next_head method_heads perhaps_semicolon method methods next_name more_names qualified_name starred_name next_qualified_name more_qualified_names typed_fields qualified_fields group groups fields interface implementation class_names perhaps_static of_void typed_top of_type typed_globals of_qualified external top tops unit body
 lines = tt
 
 -- what `fits` asks of an operand
@@ -87,8 +87,14 @@ pub record TakesToken {A : Type 0} (part : Part A) : Type 0 where
 pub takes : {A : Type 0} {part : Part A} → passes (decided facts part) ≡ true → nullable facts part ≡ false → TakesToken part
 takes d n = record { decided = d; some = n }
 
--- the parts that loops read
-pub taking : TakesToken grammar.suffix × TakesToken grammar.next_argument × TakesToken grammar.next_part × TakesToken grammar.qualifier × ((d : ℕ) → TakesToken (grammar.item d)) × TakesToken grammar.next_variable × TakesToken grammar.next_reference × TakesToken grammar.next_parameter × TakesToken grammar.next_head × TakesToken grammar.method
-    × TakesToken grammar.next_typed × TakesToken grammar.next_qualified_name × TakesToken grammar.next_starred_name × TakesToken grammar.group × TakesToken grammar.next_name × TakesToken grammar.next_global × TakesToken grammar.next_global_reference × TakesToken grammar.top
+-- of a list of names that are declared, each part after a comma, whether their type is a class's or not
+next_declared : (of_class : Bool) → TakesToken (grammar.next_variable of_class) × TakesToken (grammar.next_qualified_name of_class) × TakesToken (grammar.next_global of_class)
 unfolding lines
-taking = (takes refl refl, takes refl refl, takes refl refl, takes refl refl, λ d. takes refl refl, takes refl refl, takes refl refl, takes refl refl, takes refl refl, takes refl refl, takes refl refl, takes refl refl, takes refl refl, takes refl refl, takes refl refl, takes refl refl, takes refl refl, takes refl refl)
+next_declared true = (takes refl refl, takes refl refl, takes refl refl)
+next_declared false = (takes refl refl, takes refl refl, takes refl refl)
+
+-- the parts that loops read
+pub taking : TakesToken grammar.suffix × TakesToken grammar.next_argument × TakesToken grammar.next_part × TakesToken grammar.qualifier × ((d : ℕ) → TakesToken (grammar.item d)) × ((c : Bool) → TakesToken (grammar.next_variable c)) × TakesToken grammar.next_parameter × TakesToken grammar.next_head × TakesToken grammar.method
+    × TakesToken grammar.next_typed × ((c : Bool) → TakesToken (grammar.next_qualified_name c)) × TakesToken grammar.group × TakesToken grammar.next_name × ((c : Bool) → TakesToken (grammar.next_global c)) × TakesToken grammar.top
+unfolding lines
+taking = (takes refl refl, takes refl refl, takes refl refl, takes refl refl, λ d. takes refl refl, λ c. (next_declared c).0, takes refl refl, takes refl refl, takes refl refl, takes refl refl, λ c. (next_declared c).1, takes refl refl, takes refl refl, λ c. (next_declared c).2, takes refl refl)

@@ -1,3 +1,4 @@
 pub mod Fits
 pub mod Loops
 pub mod Lists
+pub mod Declared

@@ -1,5 +1,5 @@
 -- The grammar, a line for each of its rules, with the tree that each gives.
-use Rattle.std.specs.Prelude.{ℕ, zero, suc, ℤ, pos, false, ◌-◌, min, max, List, [], ◌∷◌, ◌++◌, map as list_map, Option, Some, None}
+use Rattle.std.specs.Prelude.{ℕ, zero, suc, ℤ, pos, Bool, true, false, ◌-◌, min, max, List, [], ◌∷◌, ◌++◌, map as list_map, Option, Some, None}
 use Rattle.std.specs.Int.{w64, int_wrapping_neg}
 use Rattle.arc_lex.specs.declared.token.Mark.{Mark}
 use Rattle.arc_lex.specs.declared.token.Mark.TheVariants as m
@@ -199,9 +199,14 @@ begins_plain_type = word w.Id ∪ begins_number_type
 unfoldable pub class_type : Part (ℕ × TypeTree)
 class_type = map (λ (n, star). (n.0, Object n.0 n.1)) (called ⨾ the m.Star)
 
+-- a class's type, or one that names no class
+unfoldable pub value_type_of : Bool → Part (ℕ × TypeTree)
+value_type_of true = class_type
+value_type_of false = plain_type
+
 -- any type of a value, with its place
 unfoldable pub value_type : Part (ℕ × TypeTree)
-value_type = choose name class_type plain_type
+value_type = choose name (value_type_of true) (value_type_of false)
 
 abbrev pub begins_value_type : Kinds
 begins_value_type = name ∪ begins_plain_type
@@ -472,33 +477,36 @@ initial = choose (mark m.Assign) (map (λ (sign, e). Some e) (the m.Assign ⨾ f
 unfoldable pub variable : Part VariableTree
 variable = map (λ (q, (n, e)). record { at = n.0; qualifiers = q; name = n.1; initial = e }) (qualifiers ⨾ called ⨾ initial)
 
-unfoldable pub next_variable : Part VariableTree
-next_variable = map (λ (comma, v). v) (the m.Comma ⨾ variable)
+abbrev pub class_named : ℕ × List ℕ → ℕ × TypeTree
+class_named n = (n.0, Object n.0 n.1)
 
-unfoldable pub more_variables : Part (List VariableTree)
-more_variables = many (mark m.Comma) next_variable
+-- the type before names that are declared: a class's name, where each name has a `*` of its own, or a type that names no class; with its place
+unfoldable pub declared_type : Bool → Part (ℕ × TypeTree)
+declared_type true = token name (λ t. class_named (readers.named t))
+declared_type false = plain_type
 
--- a type that names no class, variables and `;`, after qualifiers
-unfoldable pub declaration : Part (Qualifiers → StmtTree)
-declaration = map (λ (type, (v, (others, end))) q. Variables type.0 q type.1 (v ∷ others)) (plain_type ⨾ variable ⨾ more_variables ⨾ the m.Semicolon)
+-- what is declared, which has a `*` where its type is a class's (6.7.5.1)
+abbrev pub after_star : {A : Type 0} → Bool → Part A → Part A
+after_star true part = map (λ (star, a). a) (the m.Star ⨾ part)
+after_star false part = part
 
--- `*` and a variable (6.7.5.1)
-unfoldable pub reference : Part VariableTree
-reference = map (λ (star, v). v) (the m.Star ⨾ variable)
+unfoldable pub starred_variable : Bool → Part VariableTree
+starred_variable of_class = after_star of_class variable
 
-unfoldable pub next_reference : Part VariableTree
-next_reference = map (λ (comma, v). v) (the m.Comma ⨾ reference)
+unfoldable pub next_variable : Bool → Part VariableTree
+next_variable of_class = map (λ (comma, v). v) (the m.Comma ⨾ starred_variable of_class)
 
-unfoldable pub more_references : Part (List VariableTree)
-more_references = many (mark m.Comma) next_reference
+unfoldable pub more_variables : Bool → Part (List VariableTree)
+more_variables of_class = many (mark m.Comma) (next_variable of_class)
 
--- a class's name, variables with a `*` each, and `;`, after qualifiers
-unfoldable pub objects : Part (Qualifiers → StmtTree)
-objects = map (λ (n, (v, (others, end))) q. Variables n.0 q (Object n.0 n.1) (v ∷ others)) (called ⨾ reference ⨾ more_references ⨾ the m.Semicolon)
+-- a type, variables and `;`, after qualifiers
+unfoldable pub declaration : Bool → Part (Qualifiers → StmtTree)
+declaration of_class = map (λ (type, (v, (others, end))) q. Variables type.0 q type.1 (v ∷ others))
+    (declared_type of_class ⨾ starred_variable of_class ⨾ more_variables of_class ⨾ the m.Semicolon)
 
 -- qualifiers, a type, variables and `;`
 unfoldable pub qualified_declaration : Part StmtTree
-qualified_declaration = map (λ (q, make). make q) (some_qualifiers ⨾ choose name objects declaration)
+qualified_declaration = map (λ (q, make). make q) (some_qualifiers ⨾ choose name (declaration true) (declaration false))
 
 -- ---- statements (C99, section 6.8)
 
@@ -555,8 +563,8 @@ do_while d = map (λ (at, (a, c)). Do at a c) (key w.Do ⨾ call (stmt (suc d)) 
 
 -- what comes before a `for`: a declaration, an expression or nothing, and `;` (6.8.5.3)
 unfoldable pub beginning : Part StmtTree
-beginning = choose begins_qualifier qualified_declaration (choose begins_plain_type (unqualified declaration)
-    (two_ahead name (mark m.Star) (unqualified objects) (choose (mark m.Semicolon) empty simple)))
+beginning = choose begins_qualifier qualified_declaration (choose begins_plain_type (unqualified (declaration false))
+    (two_ahead name (mark m.Star) (unqualified (declaration true)) (choose (mark m.Semicolon) empty simple)))
 
 -- what comes after each turn of a `for`, and `)`
 unfoldable pub step : Part (Option ExprTree)
@@ -578,10 +586,10 @@ continuing = map (λ (at, end). Continue at) (key w.Continue ⨾ the m.Semicolon
 
 -- a declaration, where a name and `*` are ahead, or a statement
 unfoldable pub by_name : ℕ → Part StmtTree
-by_name d = two_ahead name (mark m.Star) (unqualified objects) (call (stmt d))
+by_name d = two_ahead name (mark m.Star) (unqualified (declaration true)) (call (stmt d))
 
 unfoldable pub item : ℕ → Part StmtTree
-item d = choose begins_qualifier qualified_declaration (choose begins_plain_type (unqualified declaration) (by_name d))
+item d = choose begins_qualifier qualified_declaration (choose begins_plain_type (unqualified (declaration false)) (by_name d))
 
 abbrev pub begins_item : Kinds
 begins_item = begins_qualifier ∪ begins_plain_type ∪ begins_stmt
@@ -734,29 +742,15 @@ QualifiedType = Qualifiers × TypeTree
 unfoldable pub global : Part (QualifiedType → GlobalTree)
 global = map (λ (q, (n, value)) type. record { at = n.0; type = type.1; qualifiers = both_qualifiers type.0 q; name = n.1; initial = value }) (qualifiers ⨾ called ⨾ first_constant)
 
-unfoldable pub next_global : Part (QualifiedType → GlobalTree)
-next_global = map (λ (comma, make). make) (the m.Comma ⨾ global)
+unfoldable pub next_global : Bool → Part (QualifiedType → GlobalTree)
+next_global of_class = map (λ (comma, make). make) (the m.Comma ⨾ after_star of_class global)
 
-unfoldable pub more_globals : Part (List (QualifiedType → GlobalTree))
-more_globals = many (mark m.Comma) next_global
+unfoldable pub more_globals : Bool → Part (List (QualifiedType → GlobalTree))
+more_globals of_class = many (mark m.Comma) (next_global of_class)
 
--- one variable or more of a type that is known, and `;`
-unfoldable pub globals : Part (QualifiedType → List GlobalTree)
-globals = map (λ (make, (others, end)) type. make type ∷ list_map (λ other. other type) others) (global ⨾ more_globals ⨾ the m.Semicolon)
-
--- `*` and such a variable, which names objects of a class that is known
-unfoldable pub global_reference : Part (QualifiedType → GlobalTree)
-global_reference = map (λ (star, make). make) (the m.Star ⨾ global)
-
-unfoldable pub next_global_reference : Part (QualifiedType → GlobalTree)
-next_global_reference = map (λ (comma, make). make) (the m.Comma ⨾ global_reference)
-
-unfoldable pub more_global_references : Part (List (QualifiedType → GlobalTree))
-more_global_references = many (mark m.Comma) next_global_reference
-
--- one or more of these, of which the first is after its `*`, and `;`
-unfoldable pub global_references : Part (QualifiedType → List GlobalTree)
-global_references = map (λ (make, (others, end)) type. make type ∷ list_map (λ other. other type) others) (global ⨾ more_global_references ⨾ the m.Semicolon)
+-- one variable or more of a type that is known, of which the first is after its `*`, and `;`
+unfoldable pub globals : Bool → Part (QualifiedType → List GlobalTree)
+globals of_class = map (λ (make, (others, end)) type. make type ∷ list_map (λ other. other type) others) (global ⨾ more_globals of_class ⨾ the m.Semicolon)
 
 -- ---- methods (OPL, "Defining a Class")
 
@@ -860,36 +854,22 @@ more_names = many (mark m.Comma) next_name
 unfoldable pub qualified_name : Part QualifiedName
 qualified_name = qualifiers ⨾ called
 
-unfoldable pub next_qualified_name : Part QualifiedName
-next_qualified_name = map (λ (comma, n). n) (the m.Comma ⨾ qualified_name)
+unfoldable pub starred_name : Bool → Part QualifiedName
+starred_name of_class = after_star of_class qualified_name
 
-unfoldable pub more_qualified_names : Part (List QualifiedName)
-more_qualified_names = many (mark m.Comma) next_qualified_name
+unfoldable pub next_qualified_name : Bool → Part QualifiedName
+next_qualified_name of_class = map (λ (comma, n). n) (the m.Comma ⨾ starred_name of_class)
 
--- a type that names no class, names and `;`, after qualifiers
-unfoldable pub plain_fields : Part (Qualifiers → FieldGroup)
-plain_fields = map (λ (type, (n, (others, end))) q. OfType (q, type.1) (n ∷ others)) (plain_type ⨾ qualified_name ⨾ more_qualified_names ⨾ the m.Semicolon)
+unfoldable pub more_qualified_names : Bool → Part (List QualifiedName)
+more_qualified_names of_class = many (mark m.Comma) (next_qualified_name of_class)
 
--- `*` and a name after qualifiers
-unfoldable pub starred_name : Part QualifiedName
-starred_name = map (λ (star, n). n) (the m.Star ⨾ qualified_name)
-
-unfoldable pub next_starred_name : Part QualifiedName
-next_starred_name = map (λ (comma, n). n) (the m.Comma ⨾ starred_name)
-
-unfoldable pub more_starred_names : Part (List QualifiedName)
-more_starred_names = many (mark m.Comma) next_starred_name
-
--- a class's name, names with a `*` each, and `;`, after qualifiers
-unfoldable pub object_fields : Part (Qualifiers → FieldGroup)
-object_fields = map (λ (class, (n, (others, end))) q. OfType (q, Object class.0 class.1) (n ∷ others)) (called ⨾ starred_name ⨾ more_starred_names ⨾ the m.Semicolon)
-
--- fields of a type, after qualifiers
-unfoldable pub typed_fields : Part (Qualifiers → FieldGroup)
-typed_fields = choose name object_fields plain_fields
+-- a type, names and `;`, after qualifiers
+unfoldable pub typed_fields : Bool → Part (Qualifiers → FieldGroup)
+typed_fields of_class = map (λ (type, (n, (others, end))) q. OfType (q, type.1) (n ∷ others))
+    (declared_type of_class ⨾ starred_name of_class ⨾ more_qualified_names of_class ⨾ the m.Semicolon)
 
 unfoldable pub qualified_fields : Part FieldGroup
-qualified_fields = map (λ (q, make). make q) (qualifiers ⨾ typed_fields)
+qualified_fields = map (λ (q, make). make q) (qualifiers ⨾ choose name (typed_fields true) (typed_fields false))
 
 abbrev pub begins_fields : Kinds
 begins_fields = begins_qualifier ∪ begins_value_type
@@ -950,27 +930,20 @@ unfoldable pub typed_top : Part (QualifiedType → List GlobalTree) → Part (Ty
 typed_top variables = two_ahead main (mark m.OpenParen) (map of_function main_function)
     (two_ahead other_name (mark m.OpenParen) (map of_function other_function) (map of_globals variables))
 
--- a type that names no class, and a function or variables
-unfoldable pub of_plain : Part TopTree
-of_plain = map (λ (type, make). make type.1) (plain_type ⨾ typed_top globals)
-
--- a class's name and `*`, and a function, or variables of which the others have a `*` each
-unfoldable pub of_objects : Part TopTree
-of_objects = map (λ (type, make). make type.1) (class_type ⨾ typed_top global_references)
+-- a type, and a function or variables, of which the others have a `*` each where the type is a class's
+unfoldable pub of_type : Bool → Part TopTree
+of_type of_class = map (λ (type, make). make type.1) (value_type_of of_class ⨾ typed_top (globals of_class))
 
 -- the same after qualifiers, where only variables may come
-unfoldable pub plain_globals : Part (Qualifiers → TopTree)
-plain_globals = map (λ (type, make) q. OfGlobals (make (q, type.1))) (plain_type ⨾ globals)
-
-unfoldable pub object_globals : Part (Qualifiers → TopTree)
-object_globals = map (λ (type, make) q. OfGlobals (make (q, type.1))) (class_type ⨾ global_references)
+unfoldable pub typed_globals : Bool → Part (Qualifiers → TopTree)
+typed_globals of_class = map (λ (type, make) q. OfGlobals (make (q, type.1))) (value_type_of of_class ⨾ globals of_class)
 
 unfoldable pub of_qualified : Part TopTree
-of_qualified = map (λ (q, make). make q) (some_qualifiers ⨾ choose name object_globals plain_globals)
+of_qualified = map (λ (q, make). make q) (some_qualifiers ⨾ choose name (typed_globals true) (typed_globals false))
 
 -- a function or variables
 unfoldable pub external : Part TopTree
-external = map (λ (static, t). t) (perhaps_static ⨾ choose (word w.Void) of_void (choose begins_qualifier of_qualified (choose name of_objects of_plain)))
+external = map (λ (static, t). t) (perhaps_static ⨾ choose (word w.Void) of_void (choose begins_qualifier of_qualified (choose name (of_type true) (of_type false))))
 
 unfoldable pub top : Part TopTree
 top = choose (at words.Class) (map (λ _. OfNames) class_names) (choose (at words.Interface) (map OfInterface interface)

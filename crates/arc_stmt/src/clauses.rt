@@ -8,7 +8,7 @@ ghost use Rattle.arc_grammar.specs.Grammar as grammar;
 
 use crate::node::boxed;
 use crate::simple::{empty, simple, value};
-use crate::variable::{declaration, objects, qualified_declaration};
+use crate::variable::{declaration, qualified_declaration};
 use arc_ast::tree::{Expr, Qualifiers, Stmt};
 use arc_expr::full::full;
 use arc_expr::qualifier::sees_qualifier;
@@ -60,9 +60,9 @@ fn beginning(alloc: Global, reader: &mut Reader) -> Read<Stmt>
     if sees_qualifier(reader) {
         qualified_declaration(alloc, reader)
     } else if begins_plain_type(reader) {
-        declaration(alloc, Qualifiers::Unqualified, reader)
+        declaration(alloc, false, Qualifiers::Unqualified, reader)
     } else if reader.sees_reference() {
-        objects(alloc, Qualifiers::Unqualified, reader)
+        declaration(alloc, true, Qualifiers::Unqualified, reader)
     } else if reader.sees_mark(Mark::Semicolon) {
         empty(reader)
     } else {

@@ -12,7 +12,7 @@ use crate::clauses::{clauses, controlling, test_after};
 use crate::first::{begins_item, begins_stmt};
 use crate::node::{boxed, keep, unboxed};
 use crate::simple::{breaking, continuing, empty, returned, simple};
-use crate::variable::{declaration, objects, qualified_declaration};
+use crate::variable::{declaration, qualified_declaration};
 use arc_ast::tree::{Expr, Qualifiers, Stmt};
 use arc_expr::qualifier::sees_qualifier;
 use arc_expr::type_name::begins_plain_type;
@@ -234,9 +234,9 @@ fn item(alloc: Global, depth: usize, reader: &mut Reader) -> Read<Stmt>
     if sees_qualifier(reader) {
         qualified_declaration(alloc, reader)
     } else if begins_plain_type(reader) {
-        declaration(alloc, Qualifiers::Unqualified, reader)
+        declaration(alloc, false, Qualifiers::Unqualified, reader)
     } else if reader.sees_reference() {
-        objects(alloc, Qualifiers::Unqualified, reader)
+        declaration(alloc, true, Qualifiers::Unqualified, reader)
     } else {
         stmt(alloc, depth, reader)
     }

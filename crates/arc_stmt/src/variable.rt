@@ -9,10 +9,10 @@ ghost use Rattle.arc_stmt.specs.Declaring.{reads_after};
 ghost use Rattle.arc_grammar.specs.Grammar as grammar;
 
 use crate::node::unboxed;
-use arc_ast::tree::{Expr, Qualifiers, Stmt, TypeName, Variable};
+use arc_ast::tree::{Expr, Qualifiers, Stmt, Variable};
 use arc_expr::full::full;
 use arc_expr::qualifier::{qualifiers, some_qualifiers};
-use arc_expr::type_name::plain_type;
+use arc_expr::type_name::declared_type;
 use arc_form::fail::Read;
 use arc_form::reader::Reader;
 use arc_lex::token::Mark;
@@ -49,104 +49,74 @@ fn variable(alloc: Global, reader: &mut Reader) -> Read<Variable>
     })
 }
 
-/// A comma and a variable.
-#[tactic(auto, unfolding(arc_grammar::specs::Grammar::next_variable))]
-fn next_variable(alloc: Global, reader: &mut Reader) -> Read<Variable>
-    ensures gives { Gives variable_tree result (toks reader.new.rest.now) (reads grammar.next_variable (toks reader.old.rest.now)) }
+/// A variable, after `*` where its type is a class's.
+#[tactic(auto, unfolding(arc_grammar::specs::Grammar::starred_variable))]
+fn starred_variable(alloc: Global, of_class: bool, reader: &mut Reader) -> Read<Variable>
+    ensures gives { Gives variable_tree result (toks reader.new.rest.now) (reads (grammar.starred_variable of_class) (toks reader.old.rest.now)) }
     ensures shorter { IfOk result (λ _. length reader.new.rest.now < length reader.old.rest.now) }
 {
-    reader.expect(Mark::Comma)?;
+    if of_class {
+        reader.expect(Mark::Star)?;
+    }
     variable(alloc, reader)
 }
 
-/// These variables and the further ones, each after a comma.
+/// A comma and such a variable.
+#[tactic(auto, unfolding(arc_grammar::specs::Grammar::next_variable))]
+fn next_variable(alloc: Global, of_class: bool, reader: &mut Reader) -> Read<Variable>
+    ensures gives { Gives variable_tree result (toks reader.new.rest.now) (reads (grammar.next_variable of_class) (toks reader.old.rest.now)) }
+    ensures shorter { IfOk result (λ _. length reader.new.rest.now < length reader.old.rest.now) }
+{
+    reader.expect(Mark::Comma)?;
+    starred_variable(alloc, of_class, reader)
+}
+
+/// These variables and the further ones, each after a comma, and with a `*` where their type is a class's.
 #[tactic(auto, using(arc_grammar::proofs::Loops::one_more, arc_grammar::proofs::Fits::taking, arc_form::proofs::Joining::row_is, arc_form::proofs::Joining::all_push), unfolding(arc_grammar::specs::Grammar::more_variables))]
-fn more_variables(alloc: Global, before: Vec<Variable>, reader: &mut Reader) -> Read<Vec<Variable>>
-    ensures gives { Gives (λ x. all variable_tree x.items) result (toks reader.new.rest.now) (with_row variable_tree before.items (reads grammar.more_variables (toks reader.old.rest.now))) }
+fn more_variables(
+    alloc: Global,
+    of_class: bool,
+    before: Vec<Variable>,
+    reader: &mut Reader,
+) -> Read<Vec<Variable>>
+    ensures gives { Gives (λ x. all variable_tree x.items) result (toks reader.new.rest.now) (with_row variable_tree before.items (reads (grammar.more_variables of_class) (toks reader.old.rest.now))) }
     ensures shorter { IfOk result (λ _. length reader.new.rest.now ≤ length reader.old.rest.now) }
 {
     let mut all = before;
     'variables: while reader.sees_mark(Mark::Comma) {
-        let next = next_variable(alloc, reader)?;
+        let next = next_variable(alloc, of_class, reader)?;
         all.push(next)?;
     }
     Ok(all)
 }
 
-/// `*` and a variable.
-#[tactic(auto, unfolding(arc_grammar::specs::Grammar::reference))]
-fn reference(alloc: Global, reader: &mut Reader) -> Read<Variable>
-    ensures gives { Gives variable_tree result (toks reader.new.rest.now) (reads grammar.reference (toks reader.old.rest.now)) }
-    ensures shorter { IfOk result (λ _. length reader.new.rest.now < length reader.old.rest.now) }
-{
-    reader.expect(Mark::Star)?;
-    variable(alloc, reader)
-}
-
-/// A comma, `*` and a variable.
-#[tactic(auto, unfolding(arc_grammar::specs::Grammar::next_reference))]
-fn next_reference(alloc: Global, reader: &mut Reader) -> Read<Variable>
-    ensures gives { Gives variable_tree result (toks reader.new.rest.now) (reads grammar.next_reference (toks reader.old.rest.now)) }
-    ensures shorter { IfOk result (λ _. length reader.new.rest.now < length reader.old.rest.now) }
-{
-    reader.expect(Mark::Comma)?;
-    reference(alloc, reader)
-}
-
-/// These variables and the further ones, each after a comma and with a `*`.
-#[tactic(auto, using(arc_grammar::proofs::Loops::one_more, arc_grammar::proofs::Fits::taking, arc_form::proofs::Joining::row_is, arc_form::proofs::Joining::all_push), unfolding(arc_grammar::specs::Grammar::more_references))]
-fn more_references(alloc: Global, before: Vec<Variable>, reader: &mut Reader) -> Read<Vec<Variable>>
-    ensures gives { Gives (λ x. all variable_tree x.items) result (toks reader.new.rest.now) (with_row variable_tree before.items (reads grammar.more_references (toks reader.old.rest.now))) }
-    ensures shorter { IfOk result (λ _. length reader.new.rest.now ≤ length reader.old.rest.now) }
-{
-    let mut all = before;
-    'references: while reader.sees_mark(Mark::Comma) {
-        let next = next_reference(alloc, reader)?;
-        all.push(next)?;
-    }
-    Ok(all)
-}
-
-/// A type that names no class, one variable or more and `;`, after qualifiers.
+/// A type, a class's or one that names no class, one variable or more and `;`, after qualifiers.
 #[tactic(auto, using(arc_grammar::proofs::Lists::alls), unfolding(arc_grammar::specs::Grammar::declaration))]
-pub fn declaration(alloc: Global, qualifiers: Qualifiers, reader: &mut Reader) -> Read<Stmt>
-    ensures gives { Gives stmt_tree result (toks reader.new.rest.now) (reads_after grammar.declaration qualifiers (toks reader.old.rest.now)) }
+pub fn declaration(
+    alloc: Global,
+    of_class: bool,
+    qualifiers: Qualifiers,
+    reader: &mut Reader,
+) -> Read<Stmt>
+    ensures gives { Gives stmt_tree result (toks reader.new.rest.now) (reads_after (grammar.declaration of_class) qualifiers (toks reader.old.rest.now)) }
     ensures shorter { IfOk result (λ _. length reader.new.rest.now < length reader.old.rest.now) }
 {
-    let (at, written) = plain_type(reader)?;
-    let first = variable(alloc, reader)?;
+    let (at, written) = declared_type(alloc, of_class, reader)?;
+    let first = starred_variable(alloc, of_class, reader)?;
     let mut all = Vec::new(alloc);
     all.push(first)?;
-    let all = more_variables(alloc, all, reader)?;
+    let all = more_variables(alloc, of_class, all, reader)?;
     reader.expect(Mark::Semicolon)?;
     Ok(Stmt::Variables(at, qualifiers, written, all))
 }
 
-/// The name of a class, one variable or more, with a `*` each, and `;`, after qualifiers.
-#[tactic(auto, using(arc_grammar::proofs::Lists::alls), unfolding(arc_grammar::specs::Grammar::objects))]
-pub fn objects(alloc: Global, qualifiers: Qualifiers, reader: &mut Reader) -> Read<Stmt>
-    ensures gives { Gives stmt_tree result (toks reader.new.rest.now) (reads_after grammar.objects qualifiers (toks reader.old.rest.now)) }
-    ensures shorter { IfOk result (λ _. length reader.new.rest.now < length reader.old.rest.now) }
-{
-    let (at, class) = reader.name(alloc)?;
-    let first = reference(alloc, reader)?;
-    let mut all = Vec::new(alloc);
-    all.push(first)?;
-    let all = more_references(alloc, all, reader)?;
-    reader.expect(Mark::Semicolon)?;
-    Ok(Stmt::Variables(at, qualifiers, TypeName::Object(at, class), all))
-}
-
 /// Qualifiers, a type, one variable or more and `;`.
-#[tactic(auto, unfolding(arc_grammar::specs::Grammar::qualified_declaration))]
+#[tactic(auto, using(arc_grammar::proofs::Declared::either), unfolding(arc_grammar::specs::Grammar::qualified_declaration))]
 pub fn qualified_declaration(alloc: Global, reader: &mut Reader) -> Read<Stmt>
     ensures gives { Gives stmt_tree result (toks reader.new.rest.now) (reads grammar.qualified_declaration (toks reader.old.rest.now)) }
     ensures shorter { IfOk result (λ _. length reader.new.rest.now < length reader.old.rest.now) }
 {
     let qualifiers = some_qualifiers(reader)?;
-    if reader.sees_name() {
-        objects(alloc, qualifiers, reader)
-    } else {
-        declaration(alloc, qualifiers, reader)
-    }
+    let of_class = reader.sees_name();
+    declaration(alloc, of_class, qualifiers, reader)
 }

@@ -2,17 +2,18 @@
 use Rattle.std.proofs.Common.{◌≡◌, List, [], ◌∷◌, ◌++◌, map as list_map, append_assoc, append-nil, Bool, true, false, ◌&&◌, ◌||◌, cond, Ok, Err, refl, sym, ◌∙◌}
 use Rattle.arc_lex.specs.Tokens.{Tok}
 use Rattle.arc_lex.specs.declared.token.Mark.TheVariants as m
+use Rattle.arc_ast.specs.declared.tree.Qualifiers.{Qualifiers}
 use Rattle.arc_ast.specs.declared.tree.Qualifiers.TheVariants.{Unqualified}
 use Rattle.arc_ast.specs.Tree.{TypeTree, ResultTree, FunctionTree, GlobalTree, Value}
 use Rattle.arc_form.specs.Kinds.{mark, main, name, other_name}
 use Rattle.arc_form.specs.Operators.{fold}
 use Rattle.arc_form.specs.Reader.{Read, Reader, bind, ◌>>=◌, ret, sees, sees_second, if_sees, take_one, from}
 use Rattle.arc_form.specs.Joining.{joining}
-use Rattle.arc_form.proofs.Binding.{bind_twice, bind_if}
-use Rattle.arc_grammar.specs.Grammar.{Part, QualifiedType, OfFunction, OfGlobals, reads, some_qualifiers, plain_type, class_type, of_function, of_globals, main_function, other_function, function, global, more_globals, globals, more_global_references, global_references, typed_top, of_plain, of_objects, plain_globals, object_globals, of_qualified}
+use Rattle.arc_form.proofs.Binding.{bind_twice, bind_alike}
+use Rattle.arc_grammar.specs.Grammar.{Part, QualifiedType, OfFunction, OfGlobals, reads, some_qualifiers, value_type_of, of_function, of_globals, main_function, other_function, function, global, next_global, more_globals, globals, typed_top, of_type, typed_globals, of_qualified}
 use Rattle.arc_grammar.proofs.Fits.{TakesToken}
 use Rattle.arc_grammar.proofs.Loops.{one_more}
-use Rattle.arc_top.specs.Globals.{add_global, globals_on, global_references_on, typed_on}
+use Rattle.arc_top.specs.Globals.{add_global, globals_on, typed_on}
 use Rattle.arc_top.specs.Signatures.{reads_after}
 
 -- further variables of a type, one by one
@@ -24,20 +25,12 @@ all_made : (type : QualifiedType) (made : List GlobalTree) (others : List (Quali
 all_made type made [] = sym (append-nil made)
 all_made type made (make ∷ others) = all_made type (made ++ make type ∷ []) others ∙ append_assoc made (make type ∷ []) (list_map (λ other. other type) others)
 
-pub read_globals : (type : QualifiedType) (ts : List Tok) → reads_after globals type ts ≡ (reads_after global type >>= (λ g. globals_on type (g ∷ []) >>= (λ all. take_one (mark m.Semicolon) from >>= (λ end. ret all)))) ts
+pub read_globals : (c : Bool) (type : QualifiedType) (ts : List Tok) → reads_after (globals c) type ts
+    ≡ (reads_after global type >>= (λ g. globals_on c type (g ∷ []) >>= (λ all. take_one (mark m.Semicolon) from >>= (λ end. ret all)))) ts
 unfolding globals more_globals
-read_globals type ts = simp (bind_twice, all_made)
-
-pub read_global_references : (type : QualifiedType) (ts : List Tok) → reads_after global_references type ts ≡ (reads_after global type >>= (λ g. global_references_on type (g ∷ []) >>= (λ all. take_one (mark m.Semicolon) from >>= (λ end. ret all)))) ts
-unfolding global_references more_global_references
-read_global_references type ts = simp (bind_twice, all_made)
+read_globals c type ts = simp (bind_twice, all_made)
 
 -- ---- what is after a type
-
--- readers of which each part reads alike
-bind_alike : {A B : Type 0} (x : Read A) (f g : A → Reader B) → ((a : A) (us : List Tok) → f a us ≡ g a us) → bind x f ≡ bind x g
-bind_alike (Ok x) f g k = k x.0 x.1
-bind_alike (Err x) f g k = refl
 
 -- a function whose result has this type, or variables of it
 read_typed : (type : TypeTree) (variables : Part (QualifiedType → List GlobalTree)) (ts : List Tok) → reads_after (typed_top variables) type ts ≡ typed_on variables type ts
@@ -56,18 +49,20 @@ read_typed type variables (t ∷ ts) = go (sees main (t ∷ ts)) (sees other_nam
     go false true false f g all = simp bind_twice
     go false false opens f g all = simp bind_twice
 
-pub read_of_plain : (ts : List Tok) → reads of_plain ts ≡ (reads plain_type >>= (λ type. typed_on globals type.1)) ts
-unfolding of_plain
-read_of_plain ts = simp bind_twice (bind_alike _ _ _ (λ type us. read_typed type.1 globals us))
-
-pub read_of_objects : (ts : List Tok) → reads of_objects ts ≡ (reads class_type >>= (λ type. typed_on global_references type.1)) ts
-unfolding of_objects
-read_of_objects ts = simp bind_twice (bind_alike _ _ _ (λ type us. read_typed type.1 global_references us))
+pub read_of_type : (c : Bool) (ts : List Tok) → reads (of_type c) ts ≡ (reads (value_type_of c) >>= (λ type. typed_on (globals c) type.1)) ts
+unfolding of_type
+read_of_type c ts = simp bind_twice (bind_alike _ _ _ (λ type us. read_typed type.1 (globals c) us))
 
 -- ---- variables after qualifiers
 
+-- of a type, a class's or another
+read_typed_globals : (c : Bool) (q : Qualifiers) (ts : List Tok) → bind (cond c (reads (typed_globals true) ts) (reads (typed_globals false) ts)) (λ make. ret (make q))
+    ≡ (reads (value_type_of c) >>= (λ type. reads (globals c) >>= (λ make. ret (OfGlobals (make (q, type.1)))))) ts
+unfolding typed_globals
+read_typed_globals true q ts = simp bind_twice
+read_typed_globals false q ts = simp bind_twice
+
 pub read_of_qualified : (ts : List Tok) → reads of_qualified ts
-    ≡ (reads some_qualifiers >>= (λ q us. if_sees name (reads class_type >>= (λ type vs. (reads_after global_references (q, type.1) >>= (λ all. ret (OfGlobals all))) vs))
-    (reads plain_type >>= (λ type vs. (reads_after globals (q, type.1) >>= (λ all. ret (OfGlobals all))) vs)) us)) ts
-unfolding of_qualified object_globals plain_globals
-read_of_qualified ts = simp (bind_if, bind_twice)
+    ≡ (reads some_qualifiers >>= (λ q us. (reads (value_type_of (sees name us)) >>= (λ type vs. (reads_after (globals (sees name us)) (q, type.1) >>= (λ all. ret (OfGlobals all))) vs)) us)) ts
+unfolding of_qualified
+read_of_qualified ts = simp bind_twice (bind_alike _ _ _ (λ q us. read_typed_globals (sees name us) q us))

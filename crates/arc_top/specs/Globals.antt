@@ -1,12 +1,12 @@
 -- What functions promise that add variables of the whole program to those that were read.
-use Rattle.std.specs.Prelude.{List, [], ◌∷◌, ◌++◌}
+use Rattle.std.specs.Prelude.{Bool, List, [], ◌∷◌, ◌++◌}
 use Rattle.arc_lex.specs.declared.token.Mark.TheVariants as m
 use Rattle.arc_ast.specs.declared.tree.Qualifiers.TheVariants.{Unqualified}
 use Rattle.arc_ast.specs.Tree.{TypeTree, GlobalTree, Value}
 use Rattle.arc_form.specs.Kinds.{mark, name}
 use Rattle.arc_form.specs.Reader.{Reader, ◌>>=◌, ret, if_sees_two}
 use Rattle.arc_form.specs.Joining.{joining}
-use Rattle.arc_grammar.specs.Grammar.{Part, QualifiedType, TopTree, OfFunction, OfGlobals, reads, function, next_global, next_global_reference}
+use Rattle.arc_grammar.specs.Grammar.{Part, QualifiedType, TopTree, OfFunction, OfGlobals, reads, function, next_global}
 use Rattle.arc_top.specs.Signatures.{reads_after}
 
 -- variables, and after them one of this type
@@ -14,12 +14,8 @@ abbrev pub add_global : QualifiedType → List GlobalTree → (QualifiedType →
 add_global type made make = made ++ make type ∷ []
 
 -- these variables and further ones of this type
-abbrev pub globals_on : QualifiedType → List GlobalTree → Reader (List GlobalTree)
-globals_on type = joining (mark m.Comma) (reads next_global) (add_global type)
-
--- these variables and further ones of this class, with a `*` each
-abbrev pub global_references_on : QualifiedType → List GlobalTree → Reader (List GlobalTree)
-global_references_on type = joining (mark m.Comma) (reads next_global_reference) (add_global type)
+abbrev pub globals_on : Bool → QualifiedType → List GlobalTree → Reader (List GlobalTree)
+globals_on of_class type = joining (mark m.Comma) (reads (next_global of_class)) (add_global type)
 
 -- a function whose result has this type
 abbrev pub function_on : TypeTree → Reader TopTree

@@ -3,18 +3,17 @@ ghost use Rattle.std.specs.Prelude.{◌≡◌, ◌<◌, ◌≤◌, length, IfOk}
 ghost use Rattle.arc_lex.specs.Tokens.{toks};
 ghost use Rattle.arc_ast.specs.Tree.{type_tree, field_tree, field_trees};
 ghost use Rattle.arc_form.specs.Form.{map};
+ghost use Rattle.arc_form.specs.Kinds as kinds;
 ghost use Rattle.arc_form.specs.Reader.{Gives, sees, take_one};
 ghost use Rattle.arc_grammar.specs.Grammar.{reads};
 ghost use Rattle.arc_grammar.specs.Grammar as grammar;
-ghost use Rattle.arc_top.specs.Fields.{begins_group, names_on, starred_names_on, plain_fields_on, object_fields_on, typed_fields_on, group_on};
+ghost use Rattle.arc_top.specs.Fields.{begins_group, names_on, typed_fields_on, group_on};
 
-use crate::name::{
-    QualifiedName, next_qualified_name, next_starred_name, qualified_name, starred_name,
-};
+use crate::name::{QualifiedName, next_qualified_name, starred_name};
 use crate::value_type::begins_qualified_type;
 use arc_ast::tree::{Field, Qualifiers, TypeName, Visibility};
 use arc_expr::qualifier::qualifiers;
-use arc_expr::type_name::plain_type;
+use arc_expr::type_name::declared_type;
 use arc_form::fail::{Fail, Read};
 use arc_form::reader::Reader;
 use arc_lex::token::{AtWord, Mark, Token, TokenKind};
@@ -100,7 +99,8 @@ fn visibility(reader: &mut Reader) -> Read<Visibility>
     Ok(visibility)
 }
 
-/// These fields and those of a type.
+/// These fields and those of a type, one name or more and `;`, each with a `*` where the type is a class's.
+#[tactic(auto, using(arc_grammar::proofs::Lists::appends))]
 fn typed_fields(
     alloc: Global,
     visibility: Visibility,
@@ -108,96 +108,38 @@ fn typed_fields(
     before: Vec<Field>,
     reader: &mut Reader,
 ) -> Read<Vec<Field>>
-    ensures gives { Gives (λ x. field_trees x.items) result (toks reader.new.rest.now) (typed_fields_on visibility qualifiers (field_trees before.items) (toks reader.old.rest.now)) }
+    ensures gives { Gives (λ x. field_trees x.items) result (toks reader.new.rest.now) (typed_fields_on (sees kinds.name (toks reader.old.rest.now)) visibility qualifiers (field_trees before.items) (toks reader.old.rest.now)) }
     ensures shorter { IfOk result (λ _. length reader.new.rest.now < length reader.old.rest.now) }
 {
-    if reader.sees_name() {
-        object_fields(alloc, visibility, qualifiers, before, reader)
-    } else {
-        plain_fields(alloc, visibility, qualifiers, before, reader)
-    }
-}
-
-/// These fields and those of a class, one name or more with a `*` each and `;`.
-#[tactic(auto, using(arc_grammar::proofs::Lists::appends))]
-fn object_fields(
-    alloc: Global,
-    visibility: Visibility,
-    qualifiers: Qualifiers,
-    before: Vec<Field>,
-    reader: &mut Reader,
-) -> Read<Vec<Field>>
-    ensures gives { Gives (λ x. field_trees x.items) result (toks reader.new.rest.now) (object_fields_on visibility qualifiers (field_trees before.items) (toks reader.old.rest.now)) }
-    ensures shorter { IfOk result (λ _. length reader.new.rest.now < length reader.old.rest.now) }
-{
-    let (class_at, class) = reader.name(alloc)?;
-    let type_name = TypeName::Object(class_at, class);
-    let named = starred_name(alloc, reader)?;
+    let of_class = reader.sees_name();
+    let (_, type_name) = declared_type(alloc, of_class, reader)?;
+    let named = starred_name(alloc, of_class, reader)?;
     let mut all = before;
     all.push(field(alloc, visibility, qualifiers, &type_name, named)?)?;
-    let all = more_starred_fields(alloc, visibility, qualifiers, &type_name, all, reader)?;
+    let all = more_fields(
+        alloc, of_class, visibility, qualifiers, &type_name, all, reader,
+    )?;
     reader.expect(Mark::Semicolon)?;
     Ok(all)
 }
 
-/// These fields and those of a type that names no class, one name or more and `;`.
-#[tactic(auto, using(arc_grammar::proofs::Lists::appends))]
-fn plain_fields(
-    alloc: Global,
-    visibility: Visibility,
-    qualifiers: Qualifiers,
-    before: Vec<Field>,
-    reader: &mut Reader,
-) -> Read<Vec<Field>>
-    ensures gives { Gives (λ x. field_trees x.items) result (toks reader.new.rest.now) (plain_fields_on visibility qualifiers (field_trees before.items) (toks reader.old.rest.now)) }
-    ensures shorter { IfOk result (λ _. length reader.new.rest.now < length reader.old.rest.now) }
-{
-    let (_, type_name) = plain_type(reader)?;
-    let named = qualified_name(alloc, reader)?;
-    let mut all = before;
-    all.push(field(alloc, visibility, qualifiers, &type_name, named)?)?;
-    let all = more_fields(alloc, visibility, qualifiers, &type_name, all, reader)?;
-    reader.expect(Mark::Semicolon)?;
-    Ok(all)
-}
-
-/// These fields and the further ones of this type, each of which is after a comma.
+/// These fields and the further ones of this type, each of which is after a comma, and a `*` where the type is a class's.
 #[tactic(auto, using(arc_grammar::proofs::Loops::one_more, arc_grammar::proofs::Fits::taking, arc_grammar::proofs::Lists::appends))]
 fn more_fields(
     alloc: Global,
+    of_class: bool,
     visibility: Visibility,
     qualifiers: Qualifiers,
     type_name: &TypeName,
     before: Vec<Field>,
     reader: &mut Reader,
 ) -> Read<Vec<Field>>
-    ensures gives { Gives (λ x. field_trees x.items) result (toks reader.new.rest.now) (names_on visibility (qualifiers, type_tree type_name.now) (field_trees before.items) (toks reader.old.rest.now)) }
+    ensures gives { Gives (λ x. field_trees x.items) result (toks reader.new.rest.now) (names_on of_class visibility (qualifiers, type_tree type_name.now) (field_trees before.items) (toks reader.old.rest.now)) }
     ensures shorter { IfOk result (λ _. length reader.new.rest.now ≤ length reader.old.rest.now) }
 {
     let mut all = before;
     'fields: while reader.sees_mark(Mark::Comma) {
-        let named = next_qualified_name(alloc, reader)?;
-        all.push(field(alloc, visibility, qualifiers, type_name, named)?)?;
-    }
-    Ok(all)
-}
-
-/// These fields and the further ones of this class, each of which is after a comma and `*`.
-#[tactic(auto, using(arc_grammar::proofs::Loops::one_more, arc_grammar::proofs::Fits::taking, arc_grammar::proofs::Lists::appends))]
-fn more_starred_fields(
-    alloc: Global,
-    visibility: Visibility,
-    qualifiers: Qualifiers,
-    type_name: &TypeName,
-    before: Vec<Field>,
-    reader: &mut Reader,
-) -> Read<Vec<Field>>
-    ensures gives { Gives (λ x. field_trees x.items) result (toks reader.new.rest.now) (starred_names_on visibility (qualifiers, type_tree type_name.now) (field_trees before.items) (toks reader.old.rest.now)) }
-    ensures shorter { IfOk result (λ _. length reader.new.rest.now ≤ length reader.old.rest.now) }
-{
-    let mut all = before;
-    'fields: while reader.sees_mark(Mark::Comma) {
-        let named = next_starred_name(alloc, reader)?;
+        let named = next_qualified_name(alloc, of_class, reader)?;
         all.push(field(alloc, visibility, qualifiers, type_name, named)?)?;
     }
     Ok(all)

@@ -6,7 +6,7 @@ ghost use Rattle.arc_form.specs.Kinds as kinds;
 ghost use Rattle.arc_form.specs.Reader.{Gives, take_one};
 ghost use Rattle.arc_grammar.specs.Grammar.{reads};
 ghost use Rattle.arc_grammar.specs.Grammar as grammar;
-ghost use Rattle.arc_top.specs.Globals.{globals_on, global_references_on};
+ghost use Rattle.arc_top.specs.Globals.{globals_on};
 ghost use Rattle.arc_top.specs.Signatures.{reads_after};
 
 use arc_ast::tree;
@@ -16,21 +16,22 @@ use arc_form::reader::Reader;
 use arc_lex::token::{Mark, Token, TokenKind, Word};
 use std::alloc::Global;
 
-/// The variables of a type, one or more, and `;`
+/// The variables of a type, one or more, and `;`, where all but the first have a `*` if the type is a class's.
 #[tactic(auto, using(crate::proofs::Globals::read_globals))]
 pub fn globals(
     alloc: Global,
+    of_class: bool,
     qualifiers: Qualifiers,
     type_name: &TypeName,
     reader: &mut Reader,
 ) -> Read<Vec<tree::Global>>
-    ensures gives { Gives (λ x. global_trees x.items) result (toks reader.new.rest.now) (reads_after grammar.globals (qualifiers, type_tree type_name.now) (toks reader.old.rest.now)) }
+    ensures gives { Gives (λ x. global_trees x.items) result (toks reader.new.rest.now) (reads_after (grammar.globals of_class) (qualifiers, type_tree type_name.now) (toks reader.old.rest.now)) }
     ensures shorter { IfOk result (λ _. length reader.new.rest.now < length reader.old.rest.now) }
 {
     let first = global(alloc, qualifiers, type_name, reader)?;
     let mut all = Vec::new(alloc);
     all.push(first)?;
-    let all = more_globals(alloc, qualifiers, type_name, all, reader)?;
+    let all = more_globals(alloc, of_class, qualifiers, type_name, all, reader)?;
     reader.expect(Mark::Semicolon)?;
     Ok(all)
 }
@@ -58,107 +59,43 @@ fn global(
     })
 }
 
-/// A comma and a variable of a type.
-#[tactic(auto, unfolding(arc_grammar::specs::Grammar::next_global))]
+/// A comma and a variable of a type, after `*` where the type is a class's.
+#[tactic(auto, using(arc_form::proofs::Binding::bind_twice), unfolding(arc_grammar::specs::Grammar::next_global))]
 fn next_global(
     alloc: Global,
+    of_class: bool,
     qualifiers: Qualifiers,
     type_name: &TypeName,
     reader: &mut Reader,
 ) -> Read<tree::Global>
-    ensures gives { Gives global_tree result (toks reader.new.rest.now) (reads_after grammar.next_global (qualifiers, type_tree type_name.now) (toks reader.old.rest.now)) }
+    ensures gives { Gives global_tree result (toks reader.new.rest.now) (reads_after (grammar.next_global of_class) (qualifiers, type_tree type_name.now) (toks reader.old.rest.now)) }
     ensures shorter { IfOk result (λ _. length reader.new.rest.now < length reader.old.rest.now) }
 {
     reader.expect(Mark::Comma)?;
+    if of_class {
+        reader.expect(Mark::Star)?;
+    }
     global(alloc, qualifiers, type_name, reader)
 }
 
-/// These variables and the further ones of this type, each after a comma.
+/// These variables and the further ones of this type, each after a comma, and a `*` where the type is a class's.
 #[tactic(auto, using(crate::proofs::Globals::further, arc_grammar::proofs::Fits::taking, arc_grammar::proofs::Lists::appends))]
 fn more_globals(
     alloc: Global,
+    of_class: bool,
     qualifiers: Qualifiers,
     type_name: &TypeName,
     before: Vec<tree::Global>,
     reader: &mut Reader,
 ) -> Read<Vec<tree::Global>>
-    ensures gives { Gives (λ x. global_trees x.items) result (toks reader.new.rest.now) (globals_on (qualifiers, type_tree type_name.now) (global_trees before.items) (toks reader.old.rest.now)) }
+    ensures gives { Gives (λ x. global_trees x.items) result (toks reader.new.rest.now) (globals_on of_class (qualifiers, type_tree type_name.now) (global_trees before.items) (toks reader.old.rest.now)) }
     ensures shorter { IfOk result (λ _. length reader.new.rest.now ≤ length reader.old.rest.now) }
 {
     let mut all = before;
     'globals: while reader.sees_mark(Mark::Comma) {
-        let next = next_global(alloc, qualifiers, type_name, reader)?;
+        let next = next_global(alloc, of_class, qualifiers, type_name, reader)?;
         all.push(next)?;
     }
-    Ok(all)
-}
-
-/// `*`, a name, and perhaps what it begins with, of a variable that names objects of a class.
-#[tactic(auto, unfolding(arc_grammar::specs::Grammar::global_reference))]
-fn global_reference(
-    alloc: Global,
-    qualifiers: Qualifiers,
-    type_name: &TypeName,
-    reader: &mut Reader,
-) -> Read<tree::Global>
-    ensures gives { Gives global_tree result (toks reader.new.rest.now) (reads_after grammar.global_reference (qualifiers, type_tree type_name.now) (toks reader.old.rest.now)) }
-    ensures shorter { IfOk result (λ _. length reader.new.rest.now < length reader.old.rest.now) }
-{
-    reader.expect(Mark::Star)?;
-    global(alloc, qualifiers, type_name, reader)
-}
-
-/// A comma and such a variable.
-#[tactic(auto, unfolding(arc_grammar::specs::Grammar::next_global_reference))]
-fn next_global_reference(
-    alloc: Global,
-    qualifiers: Qualifiers,
-    type_name: &TypeName,
-    reader: &mut Reader,
-) -> Read<tree::Global>
-    ensures gives { Gives global_tree result (toks reader.new.rest.now) (reads_after grammar.next_global_reference (qualifiers, type_tree type_name.now) (toks reader.old.rest.now)) }
-    ensures shorter { IfOk result (λ _. length reader.new.rest.now < length reader.old.rest.now) }
-{
-    reader.expect(Mark::Comma)?;
-    global_reference(alloc, qualifiers, type_name, reader)
-}
-
-/// These variables and the further ones of this class, each after a comma and `*`.
-#[tactic(auto, using(crate::proofs::Globals::further, arc_grammar::proofs::Fits::taking, arc_grammar::proofs::Lists::appends))]
-fn more_global_references(
-    alloc: Global,
-    qualifiers: Qualifiers,
-    type_name: &TypeName,
-    before: Vec<tree::Global>,
-    reader: &mut Reader,
-) -> Read<Vec<tree::Global>>
-    ensures gives { Gives (λ x. global_trees x.items) result (toks reader.new.rest.now) (global_references_on (qualifiers, type_tree type_name.now) (global_trees before.items) (toks reader.old.rest.now)) }
-    ensures shorter { IfOk result (λ _. length reader.new.rest.now ≤ length reader.old.rest.now) }
-{
-    let mut all = before;
-    'references: while reader.sees_mark(Mark::Comma) {
-        let next = next_global_reference(alloc, qualifiers, type_name, reader)?;
-        all.push(next)?;
-    }
-    Ok(all)
-}
-
-/// The variables that name objects of a class, the first one, further ones with a `*` each, and `;`
-#[tactic(auto, using(crate::proofs::Globals::read_global_references))]
-pub fn global_references(
-    alloc: Global,
-    qualifiers: Qualifiers,
-    type_name: &TypeName,
-    reader: &mut Reader,
-) -> Read<Vec<tree::Global>>
-    ensures gives { Gives (λ x. global_trees x.items) result (toks reader.new.rest.now) (reads_after grammar.global_references (qualifiers, type_tree type_name.now) (toks reader.old.rest.now)) }
-    ensures shorter { IfOk result (λ _. length reader.new.rest.now < length reader.old.rest.now) }
-{
-    let first = global(alloc, qualifiers, type_name, reader)?;
-    let mut all = Vec::new(alloc);
-    all.push(first)?;
-    let all = more_global_references(alloc, qualifiers, type_name, all, reader)?;
-    reader.expect(Mark::Semicolon)?;
     Ok(all)
 }
 

@@ -27,7 +27,7 @@ pub type QualifiedName = (Qualifiers, (usize, Vec<u8>));
 
 /// Qualifiers and a name.
 #[tactic(auto, unfolding(arc_grammar::specs::Grammar::qualified_name))]
-pub fn qualified_name(alloc: Global, reader: &mut Reader) -> Read<QualifiedName>
+fn qualified_name(alloc: Global, reader: &mut Reader) -> Read<QualifiedName>
     ensures gives { Gives (λ x. (x.0, (x.1.0, x.1.1.items))) result (toks reader.new.rest.now) (reads grammar.qualified_name (toks reader.old.rest.now)) }
     ensures shorter { IfOk result (λ _. length reader.new.rest.now < length reader.old.rest.now) }
 {
@@ -36,32 +36,28 @@ pub fn qualified_name(alloc: Global, reader: &mut Reader) -> Read<QualifiedName>
     Ok((qualifiers, named))
 }
 
-/// A comma, qualifiers and a name.
-#[tactic(auto, unfolding(arc_grammar::specs::Grammar::next_qualified_name))]
-pub fn next_qualified_name(alloc: Global, reader: &mut Reader) -> Read<QualifiedName>
-    ensures gives { Gives (λ x. (x.0, (x.1.0, x.1.1.items))) result (toks reader.new.rest.now) (reads grammar.next_qualified_name (toks reader.old.rest.now)) }
-    ensures shorter { IfOk result (λ _. length reader.new.rest.now < length reader.old.rest.now) }
-{
-    reader.expect(Mark::Comma)?;
-    qualified_name(alloc, reader)
-}
-
-/// `*`, qualifiers and a name.
+/// Qualifiers and a name, after `*` where the type before it is a class's.
 #[tactic(auto, unfolding(arc_grammar::specs::Grammar::starred_name))]
-pub fn starred_name(alloc: Global, reader: &mut Reader) -> Read<QualifiedName>
-    ensures gives { Gives (λ x. (x.0, (x.1.0, x.1.1.items))) result (toks reader.new.rest.now) (reads grammar.starred_name (toks reader.old.rest.now)) }
+pub fn starred_name(alloc: Global, of_class: bool, reader: &mut Reader) -> Read<QualifiedName>
+    ensures gives { Gives (λ x. (x.0, (x.1.0, x.1.1.items))) result (toks reader.new.rest.now) (reads (grammar.starred_name of_class) (toks reader.old.rest.now)) }
     ensures shorter { IfOk result (λ _. length reader.new.rest.now < length reader.old.rest.now) }
 {
-    reader.expect(Mark::Star)?;
+    if of_class {
+        reader.expect(Mark::Star)?;
+    }
     qualified_name(alloc, reader)
 }
 
-/// A comma, `*`, qualifiers and a name.
-#[tactic(auto, unfolding(arc_grammar::specs::Grammar::next_starred_name))]
-pub fn next_starred_name(alloc: Global, reader: &mut Reader) -> Read<QualifiedName>
-    ensures gives { Gives (λ x. (x.0, (x.1.0, x.1.1.items))) result (toks reader.new.rest.now) (reads grammar.next_starred_name (toks reader.old.rest.now)) }
+/// A comma and such a name.
+#[tactic(auto, unfolding(arc_grammar::specs::Grammar::next_qualified_name))]
+pub fn next_qualified_name(
+    alloc: Global,
+    of_class: bool,
+    reader: &mut Reader,
+) -> Read<QualifiedName>
+    ensures gives { Gives (λ x. (x.0, (x.1.0, x.1.1.items))) result (toks reader.new.rest.now) (reads (grammar.next_qualified_name of_class) (toks reader.old.rest.now)) }
     ensures shorter { IfOk result (λ _. length reader.new.rest.now < length reader.old.rest.now) }
 {
     reader.expect(Mark::Comma)?;
-    starred_name(alloc, reader)
+    starred_name(alloc, of_class, reader)
 }

@@ -12,12 +12,11 @@ ghost use Rattle.arc_top.specs.Tops.{top_tree};
 
 use crate::class::{class_names, implementation, interface};
 use crate::function::function;
-use crate::global::{global_references, globals};
-use crate::value_type::{begins_qualified_type, class_type};
+use crate::global::globals;
+use crate::value_type::{begins_qualified_type, value_type_of};
 use arc_ast::tree;
 use arc_ast::tree::{Function, Implementation, Interface, Qualifiers, ResultType, TypeName};
 use arc_expr::qualifier::{sees_qualifier, some_qualifiers};
-use arc_expr::type_name::plain_type;
 use arc_form::fail::Read;
 use arc_form::reader::Reader;
 use arc_lex::token::{AtWord, Mark, Word};
@@ -68,7 +67,7 @@ pub fn any_top(alloc: Global, reader: &mut Reader) -> Read<Top>
 }
 
 /// Perhaps `static`, and a function or variables.
-#[tactic(auto, unfolding(arc_grammar::specs::Grammar::external))]
+#[tactic(auto, using(arc_grammar::proofs::Declared::either), unfolding(arc_grammar::specs::Grammar::external))]
 fn external(alloc: Global, reader: &mut Reader) -> Read<Top>
     ensures gives { Gives top_tree result (toks reader.new.rest.now) (reads grammar.external (toks reader.old.rest.now)) }
     ensures shorter { IfOk result (λ _. length reader.new.rest.now < length reader.old.rest.now) }
@@ -78,10 +77,9 @@ fn external(alloc: Global, reader: &mut Reader) -> Read<Top>
         of_void(alloc, reader)
     } else if sees_qualifier(reader) {
         of_qualified(alloc, reader)
-    } else if reader.sees_name() {
-        of_objects(alloc, reader)
     } else {
-        of_plain(alloc, reader)
+        let of_class = reader.sees_name();
+        of_type(alloc, of_class, reader)
     }
 }
 
@@ -109,31 +107,17 @@ fn of_void(alloc: Global, reader: &mut Reader) -> Read<Top>
     Ok(Top::Function(function))
 }
 
-/// A class's name and `*`, and a function, or variables of which the others have a `*` each.
-#[tactic(auto, using(crate::proofs::Globals::read_of_objects))]
-fn of_objects(alloc: Global, reader: &mut Reader) -> Read<Top>
-    ensures gives { Gives top_tree result (toks reader.new.rest.now) (reads grammar.of_objects (toks reader.old.rest.now)) }
+/// A type, and a function, or variables of which all but the first have a `*` if the type is a class's.
+#[tactic(auto, using(crate::proofs::Globals::read_of_type))]
+fn of_type(alloc: Global, of_class: bool, reader: &mut Reader) -> Read<Top>
+    ensures gives { Gives top_tree result (toks reader.new.rest.now) (reads (grammar.of_type of_class) (toks reader.old.rest.now)) }
     ensures shorter { IfOk result (λ _. length reader.new.rest.now < length reader.old.rest.now) }
 {
-    let (_, written) = class_type(alloc, reader)?;
+    let (_, written) = value_type_of(alloc, of_class, reader)?;
     if sees_function(reader) {
         return of_function(alloc, written, reader);
     }
-    let all = global_references(alloc, Qualifiers::Unqualified, &written, reader)?;
-    Ok(Top::Globals(all))
-}
-
-/// A type that names no class, and a function or variables.
-#[tactic(auto, using(crate::proofs::Globals::read_of_plain))]
-fn of_plain(alloc: Global, reader: &mut Reader) -> Read<Top>
-    ensures gives { Gives top_tree result (toks reader.new.rest.now) (reads grammar.of_plain (toks reader.old.rest.now)) }
-    ensures shorter { IfOk result (λ _. length reader.new.rest.now < length reader.old.rest.now) }
-{
-    let (_, written) = plain_type(reader)?;
-    if sees_function(reader) {
-        return of_function(alloc, written, reader);
-    }
-    let all = globals(alloc, Qualifiers::Unqualified, &written, reader)?;
+    let all = globals(alloc, of_class, Qualifiers::Unqualified, &written, reader)?;
     Ok(Top::Globals(all))
 }
 
@@ -153,13 +137,9 @@ fn of_qualified(alloc: Global, reader: &mut Reader) -> Read<Top>
     ensures shorter { IfOk result (λ _. length reader.new.rest.now < length reader.old.rest.now) }
 {
     let qualifiers = some_qualifiers(reader)?;
-    if reader.sees_name() {
-        let (_, written) = class_type(alloc, reader)?;
-        let all = global_references(alloc, qualifiers, &written, reader)?;
-        return Ok(Top::Globals(all));
-    }
-    let (_, written) = plain_type(reader)?;
-    let all = globals(alloc, qualifiers, &written, reader)?;
+    let of_class = reader.sees_name();
+    let (_, written) = value_type_of(alloc, of_class, reader)?;
+    let all = globals(alloc, of_class, qualifiers, &written, reader)?;
     Ok(Top::Globals(all))
 }
 

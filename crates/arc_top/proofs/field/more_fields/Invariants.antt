@@ -4,7 +4,7 @@ use Rattle.arc_top.specs.Fields.{names_on}
 use Rattle.arc_top.proofs.field.more_fields.Given as goal
 
 abbrev pub invariant-fields : goal.invariant-fields
-invariant-fields l = SoFar l.initial.reader.rest.now l.reader.rest.now (names_on l.visibility (l.qualifiers, type_tree l.type_name) (field_trees l.fn.before.items)) (names_on l.visibility (l.qualifiers, type_tree l.type_name) (field_trees l.all.items))
+invariant-fields l = SoFar l.initial.reader.rest.now l.reader.rest.now (names_on l.of_class l.visibility (l.qualifiers, type_tree l.type_name) (field_trees l.fn.before.items)) (names_on l.of_class l.visibility (l.qualifiers, type_tree l.type_name) (field_trees l.all.items))
 
 abbrev pub decreases-fields : goal.decreases-fields
 decreases-fields l = length l.reader.rest.now

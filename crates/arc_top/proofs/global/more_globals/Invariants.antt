@@ -4,7 +4,7 @@ use Rattle.arc_top.specs.Globals.{globals_on}
 use Rattle.arc_top.proofs.global.more_globals.Given as goal
 
 abbrev pub invariant-globals : goal.invariant-globals
-invariant-globals l = SoFar l.initial.reader.rest.now l.reader.rest.now (globals_on (l.qualifiers, type_tree l.type_name) (global_trees l.fn.before.items)) (globals_on (l.qualifiers, type_tree l.type_name) (global_trees l.all.items))
+invariant-globals l = SoFar l.initial.reader.rest.now l.reader.rest.now (globals_on l.of_class (l.qualifiers, type_tree l.type_name) (global_trees l.fn.before.items)) (globals_on l.of_class (l.qualifiers, type_tree l.type_name) (global_trees l.all.items))
 
 abbrev pub decreases-globals : goal.decreases-globals
 decreases-globals l = length l.reader.rest.now
