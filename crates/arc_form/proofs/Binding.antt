@@ -4,10 +4,6 @@ use Rattle.arc_lex.specs.Tokens.{Tok}
 use Rattle.arc_form.specs.Kinds.{Kinds, is}
 use Rattle.arc_form.specs.Reader.{Read, Reader, bind, ◌>>=◌, ret, taken, take_one}
 
-pub bind_ret : {A : Type 0} (x : Read A) → bind x (λ a. ret a) ≡ x
-bind_ret (Ok x) = refl
-bind_ret (Err e) = refl
-
 pub bind_twice : {A B C : Type 0} (x : Read A) (f : A → Reader B) (g : B → Reader C) → bind (bind x f) g ≡ bind x (λ a us. bind (f a us) g)
 bind_twice (Ok x) f g = refl
 bind_twice (Err e) f g = refl

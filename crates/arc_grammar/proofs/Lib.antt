@@ -1,4 +1,3 @@
 pub mod Fits
 pub mod Loops
 pub mod Lists
-pub mod Declared

@@ -206,7 +206,7 @@ value_type_of false = plain_type
 
 -- any type of a value, with its place
 unfoldable pub value_type : Part (ℕ × TypeTree)
-value_type = choose name (value_type_of true) (value_type_of false)
+value_type = choose name class_type plain_type
 
 abbrev pub begins_value_type : Kinds
 begins_value_type = name ∪ begins_plain_type

@@ -111,12 +111,15 @@ pub fn declaration(
 }
 
 /// Qualifiers, a type, one variable or more and `;`.
-#[tactic(auto, using(arc_grammar::proofs::Declared::either), unfolding(arc_grammar::specs::Grammar::qualified_declaration))]
+#[tactic(auto, unfolding(arc_grammar::specs::Grammar::qualified_declaration))]
 pub fn qualified_declaration(alloc: Global, reader: &mut Reader) -> Read<Stmt>
     ensures gives { Gives stmt_tree result (toks reader.new.rest.now) (reads grammar.qualified_declaration (toks reader.old.rest.now)) }
     ensures shorter { IfOk result (λ _. length reader.new.rest.now < length reader.old.rest.now) }
 {
     let qualifiers = some_qualifiers(reader)?;
-    let of_class = reader.sees_name();
-    declaration(alloc, of_class, qualifiers, reader)
+    if reader.sees_name() {
+        declaration(alloc, true, qualifiers, reader)
+    } else {
+        declaration(alloc, false, qualifiers, reader)
+    }
 }

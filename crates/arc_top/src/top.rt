@@ -67,7 +67,7 @@ pub fn any_top(alloc: Global, reader: &mut Reader) -> Read<Top>
 }
 
 /// Perhaps `static`, and a function or variables.
-#[tactic(auto, using(arc_grammar::proofs::Declared::either), unfolding(arc_grammar::specs::Grammar::external))]
+#[tactic(auto, unfolding(arc_grammar::specs::Grammar::external))]
 fn external(alloc: Global, reader: &mut Reader) -> Read<Top>
     ensures gives { Gives top_tree result (toks reader.new.rest.now) (reads grammar.external (toks reader.old.rest.now)) }
     ensures shorter { IfOk result (λ _. length reader.new.rest.now < length reader.old.rest.now) }
@@ -77,9 +77,10 @@ fn external(alloc: Global, reader: &mut Reader) -> Read<Top>
         of_void(alloc, reader)
     } else if sees_qualifier(reader) {
         of_qualified(alloc, reader)
+    } else if reader.sees_name() {
+        of_type(alloc, true, reader)
     } else {
-        let of_class = reader.sees_name();
-        of_type(alloc, of_class, reader)
+        of_type(alloc, false, reader)
     }
 }
 

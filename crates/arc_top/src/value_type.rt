@@ -64,13 +64,16 @@ pub fn value_type_of(alloc: Global, of_class: bool, reader: &mut Reader) -> Read
 }
 
 /// The type of a value, with its place.
-#[tactic(auto, using(arc_grammar::proofs::Declared::either), unfolding(arc_grammar::specs::Grammar::value_type))]
+#[tactic(auto, unfolding(arc_grammar::specs::Grammar::value_type))]
 pub fn value_type(alloc: Global, reader: &mut Reader) -> Read<(usize, TypeName)>
     ensures gives { Gives (λ x. (x.0, type_tree x.1)) result (toks reader.new.rest.now) (reads grammar.value_type (toks reader.old.rest.now)) }
     ensures shorter { IfOk result (λ _. length reader.new.rest.now < length reader.old.rest.now) }
 {
-    let of_class = reader.sees_name();
-    value_type_of(alloc, of_class, reader)
+    if reader.sees_name() {
+        class_type(alloc, reader)
+    } else {
+        plain_type(reader)
+    }
 }
 
 /// The type of a value but `int`, with its place.
