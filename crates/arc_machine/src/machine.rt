@@ -3,16 +3,18 @@ ghost use Rattle.std.specs.Prelude.{◌≡◌, ◌≢◌, ◌+◌, ◌-◌, ◌^
 ghost use Rattle.arc_code.specs.Attempts.{HasFailedToRead, HasFailedToWrite};
 ghost use Rattle.arc_code.specs.Counting.{failures_of, inner_of, left_in, held_by};
 ghost use Rattle.arc_code.specs.Running.{IsSound, program_of};
-ghost use Rattle.arc_machine.specs.Views.{fresh, said};
-ghost use Rattle.arc_machine.specs.Runs.{Runs, Troubled, Lacks, is_stopped};
+ghost use Rattle.arc_steps.specs.Views.{fresh};
+ghost use Rattle.arc_machine.specs.Said.{said};
+ghost use Rattle.arc_turns.specs.Runs.{Runs, Troubled, Lacks, is_stopped};
 
 use crate::engine::Engine;
-use crate::stop::{Answer, Stop};
+use crate::stop::Stop;
 use arc_code::code::{Code, IoFault};
 use arc_code::counted::Counted;
 use arc_code::device::{Input, Output};
 use arc_heap::store::Store;
 use arc_spec::event::{Event, NoMemory};
+use arc_steps::answer::Answer;
 use std::alloc::Global;
 use std::marker::Model;
 
@@ -23,7 +25,7 @@ pub struct Machine<S: Store + Drop> {
 }
 
 impl<S: Store + Drop> Model for Machine<S> {
-    ghost use Rattle.arc_machine.specs.Views.{Seen, StaysSound};
+    ghost use Rattle.arc_steps.specs.Views.{Seen, StaysSound};
 
     ghost Value = { Seen S };
 

@@ -1,6 +1,5 @@
 //! How a run ends.
 
-use arc_code::code::IoFault;
 use arc_spec::event::Fault;
 
 /// What a run answers, where no device failed.
@@ -12,18 +11,6 @@ pub enum Stop {
     Fault(Fault),
     /// The program goes on: the steps that the run was given are used.
     StepsUsed,
-    /// The store had no block for a new object.
-    NoHeap,
-}
-
-/// Whether a machine goes on, and else why not.
-#[derive(Clone, Copy, PartialEq, Eq)]
-pub enum Answer {
-    Going,
-    Ended(i32),
-    Faulted(Fault),
-    /// A device broke a step.
-    Broken(IoFault),
     /// The store had no block for a new object.
     NoHeap,
 }

@@ -16,11 +16,12 @@ use Rattle.arc_code.specs.Running.{Program, State, start, step, seen, IsSound}
 use Rattle.arc_heap.specs.Blocks.{Blocks}
 use Rattle.arc_machine.specs.declared.stop.Stop.{Stop}
 use Rattle.arc_machine.specs.declared.stop.Stop.TheVariants as stop
-use Rattle.arc_machine.specs.declared.stop.Answer.{Answer}
-use Rattle.arc_machine.specs.declared.stop.Answer.TheVariants as answer
-use Rattle.arc_machine.specs.Views.{Seen, StandsAs, fresh, said}
-use Rattle.arc_machine.specs.Runs.{Leaves, Moves, IsAsking, Runs, Troubled, is_stopped, reached}
-use Rattle.arc_machine.proofs.Chained.{moves_on, leaves_before}
+use Rattle.arc_steps.specs.declared.answer.Answer.{Answer}
+use Rattle.arc_steps.specs.declared.answer.Answer.TheVariants as answer
+use Rattle.arc_steps.specs.Views.{Seen, StandsAs, fresh}
+use Rattle.arc_machine.specs.Said.{said}
+use Rattle.arc_turns.specs.Runs.{Leaves, Moves, IsAsking, Runs, Troubled, is_stopped, reached}
+use Rattle.arc_turns.proofs.Chained.{moves_on, leaves_before}
 use Rattle.arc_machine.proofs.Starting.{fresh_stands}
 use Rattle.arc_tool.specs.declared.lines.Left.{Left}
 use Rattle.arc_tool.specs.declared.lines.Left.TheVariants.{Stopped, Unread}

@@ -19,12 +19,13 @@ use Rattle.arc_heap.specs.Blocks.{Blocks}
 use Rattle.arc_heap.specs.Stock.{Stock}
 use Rattle.arc_machine.specs.declared.stop.Stop.{Stop}
 use Rattle.arc_machine.specs.declared.stop.Stop.TheVariants as stop
-use Rattle.arc_machine.specs.declared.stop.Answer.{Answer}
-use Rattle.arc_machine.specs.declared.stop.Answer.TheVariants as answer
-use Rattle.arc_machine.specs.Views.{Seen, fresh, said}
-use Rattle.arc_machine.specs.Runs.{Leaves, Writes, Moves, IsAsking, Runs, Lacks, is_stopped, reached, next_events}
-use Rattle.arc_machine.specs.Steps.{bytes_of}
-use Rattle.arc_machine.proofs.Farther.{bytes_of-append}
+use Rattle.arc_steps.specs.declared.answer.Answer.{Answer}
+use Rattle.arc_steps.specs.declared.answer.Answer.TheVariants as answer
+use Rattle.arc_steps.specs.Views.{Seen, fresh}
+use Rattle.arc_machine.specs.Said.{said}
+use Rattle.arc_turns.specs.Runs.{Leaves, Writes, Moves, IsAsking, Runs, Lacks, is_stopped, reached, next_events}
+use Rattle.arc_steps.specs.Steps.{bytes_of}
+use Rattle.arc_turns.proofs.Farther.{bytes_of-append}
 use Rattle.arc_tool.specs.declared.run.ToolFault.{ToolFault}
 use Rattle.arc_source.specs.Accepted.{meant}
 use Rattle.arc_tool.specs.Compiled.{Compiles}

@@ -9,9 +9,9 @@ use Rattle.arc_code.specs.Running.{Program, IsSound, seen}
 use Rattle.arc_code.specs.Written.{Written}
 use Rattle.arc_code.proofs.Parts.{then_ok, none_written}
 use Rattle.arc_heap.specs.Blocks.{Blocks}
-use Rattle.arc_machine.specs.declared.stop.Answer.TheVariants as answer
-use Rattle.arc_machine.specs.Views.{Seen, fresh}
-use Rattle.arc_machine.specs.Runs.{Runs, Leaves, is_stopped}
+use Rattle.arc_steps.specs.declared.answer.Answer.TheVariants as answer
+use Rattle.arc_steps.specs.Views.{Seen, fresh}
+use Rattle.arc_turns.specs.Runs.{Runs, Leaves, is_stopped}
 use Rattle.arc_tool.specs.declared.lines.Left.{Left}
 use Rattle.arc_tool.specs.Lines.{events_text, open_after}
 use Rattle.arc_tool.specs.Traced.{new_events, Follows, Followed, Interrupted, Within, Reads}

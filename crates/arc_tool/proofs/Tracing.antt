@@ -9,7 +9,7 @@ use Rattle.arc_code.specs.declared.code.IoFault.TheVariants.{Read, Write}
 use Rattle.arc_code.specs.Running.{Program, seen}
 use Rattle.arc_code.specs.Written.{Written}
 use Rattle.arc_code.proofs.Parts.{then_written}
-use Rattle.arc_machine.specs.Runs.{Leaves}
+use Rattle.arc_turns.specs.Runs.{Leaves}
 use Rattle.arc_machine.specs.declared.stop.Stop.{Stop}
 use Rattle.arc_machine.specs.declared.stop.Stop.TheVariants as stop
 use Rattle.arc_tool.specs.declared.lines.Left.{Left}

@@ -4,7 +4,7 @@ use Rattle.arc_spec.specs.Stepping.{Reached, Running, Ended, Faulted, Wedged, af
 use Rattle.arc_code.specs.declared.instr.Op.TheVariants.{Alloc}
 use Rattle.arc_code.specs.declared.instr.Instr.TheVariants.{Plain}
 use Rattle.arc_code.specs.Running.{Program, State, start, step}
-use Rattle.arc_machine.specs.Runs.{IsAsking}
+use Rattle.arc_turns.specs.Runs.{IsAsking}
 
 abbrev pub run_of : Program → (input : List ℕ) → (made : ℕ) → Reached State
 run_of p input made = after_steps (step p) made (Running (start p) input [])

@@ -7,8 +7,8 @@ use Rattle.arc_code.specs.declared.code.IoFault.TheVariants.{Read, Write}
 use Rattle.arc_code.specs.Running.{Program, seen}
 use Rattle.arc_machine.specs.declared.stop.Stop.{Stop}
 use Rattle.arc_machine.specs.declared.stop.Stop.TheVariants.{Ended, Fault, StepsUsed, NoHeap}
-use Rattle.arc_machine.specs.Runs.{Leaves}
-use Rattle.arc_machine.specs.Steps.{bytes_of}
+use Rattle.arc_turns.specs.Runs.{Leaves}
+use Rattle.arc_steps.specs.Steps.{bytes_of}
 use Rattle.arc_tool.specs.declared.refusal.Refusal.{Refusal}
 use Rattle.arc_tool.specs.declared.run.ToolFault.{ToolFault}
 use Rattle.arc_tool.specs.declared.run.ToolFault.TheVariants.{Refused, Memory, Io}

@@ -12,8 +12,8 @@ use Rattle.arc_code.specs.Running.{Program, State, seen}
 use Rattle.arc_code.specs.Written.{Written}
 use Rattle.arc_machine.specs.declared.stop.Stop.{Stop}
 use Rattle.arc_machine.specs.declared.stop.Stop.TheVariants.{Ended, Fault, StepsUsed, NoHeap}
-use Rattle.arc_machine.specs.Runs.{Leaves}
-use Rattle.arc_machine.specs.Views.{Seen}
+use Rattle.arc_turns.specs.Runs.{Leaves}
+use Rattle.arc_steps.specs.Views.{Seen}
 use Rattle.arc_tool.specs.declared.lines.Left.{Left}
 use Rattle.arc_tool.specs.declared.lines.Left.TheVariants.{Stopped, Unread}
 use Rattle.arc_tool.specs.declared.run.ToolFault.{ToolFault}

@@ -3,8 +3,8 @@ ghost use Rattle.std.specs.Prelude.{◌≡◌, ◌-◌, ◌^◌, ◌<◌, Ok};
 ghost use Rattle.arc_code.specs.Attempts.{HasFailedToRead, HasFailedToWrite};
 ghost use Rattle.arc_code.specs.Counting.{failures_of, inner_of, left_in, held_by};
 ghost use Rattle.arc_code.specs.Running.{IsSound, Program};
-ghost use Rattle.arc_machine.specs.Runs.{Lacks};
-ghost use Rattle.arc_machine.specs.Views.{fresh};
+ghost use Rattle.arc_turns.specs.Runs.{Lacks};
+ghost use Rattle.arc_steps.specs.Views.{fresh};
 ghost use Rattle.arc_machine.specs.declared.stop.Stop.TheVariants.{NoHeap};
 ghost use Rattle.arc_tool.specs.Ran.{RanCode, Failed, Answered, Untouched, Caused};
 

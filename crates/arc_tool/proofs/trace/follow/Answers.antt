@@ -3,7 +3,7 @@ use Rattle.std.proofs.lemmas.Result.{err_from_is_err_and}
 use Rattle.arc_code.specs.Counting.{inner_of}
 use Rattle.arc_code.specs.declared.code.IoFault.TheVariants.{Read, Write}
 use Rattle.arc_machine.specs.declared.stop.Stop.TheVariants as stop
-use Rattle.arc_machine.specs.Views.{said}
+use Rattle.arc_machine.specs.Said.{said}
 use Rattle.arc_tool.specs.Compiled.{bytes_of_name}
 use Rattle.arc_tool.proofs.Following.{left_of, left_stopped, left_unread, going_on, no_room, unread, reader_kept, reader_failed, writer_failed, never_fails, within_stop}
 use Rattle.arc_tool.proofs.Showing.{shows_fresh, one_step, shows_on, shows_part, is_left}

@@ -1,6 +1,6 @@
 use Rattle.std.proofs.Common.{◌≡◌, map}
 use Rattle.arc_code.specs.Counting.{failures_of, left_in, held_by}
-use Rattle.arc_machine.specs.declared.stop.Answer.TheVariants as answer
+use Rattle.arc_steps.specs.declared.answer.Answer.TheVariants as answer
 use Rattle.arc_tool.specs.Compiled.{bytes_of_name}
 use Rattle.arc_tool.proofs.Showing.{Shows}
 use Rattle.arc_tool.proofs.trace.follow.Given as goal

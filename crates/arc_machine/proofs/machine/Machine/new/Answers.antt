@@ -1,6 +1,6 @@
 use Rattle.std.proofs.Common.{sym, subst}
 use Rattle.arc_code.specs.Running.{program_of}
-use Rattle.arc_machine.specs.Views.{Seen, StaysSound}
+use Rattle.arc_steps.specs.Views.{Seen, StaysSound}
 use Rattle.arc_machine.proofs.Starting.{fresh_sound}
 use Rattle.arc_machine.proofs.machine.Machine.new.Goals as goal
 

@@ -1,8 +1,8 @@
 use Rattle.std.proofs.Common.{◌≡◌, arith, rules, refl, ap, ◌∙◌, sym, add-one}
-use Rattle.arc_machine.specs.declared.stop.Answer.TheVariants as answer
-use Rattle.arc_machine.specs.Views.{Seen}
-use Rattle.arc_machine.proofs.Farther.{turned_start}
-use Rattle.arc_machine.proofs.Sliding.{turned_slid, advanced}
+use Rattle.arc_steps.specs.declared.answer.Answer.TheVariants as answer
+use Rattle.arc_steps.specs.Views.{Seen}
+use Rattle.arc_turns.proofs.Farther.{turned_start}
+use Rattle.arc_turns.proofs.Sliding.{turned_slid, advanced}
 use Rattle.arc_machine.proofs.machine.Machine.run.Goals as goal
 
 pub loop-turns-init : goal.loop-turns-init

@@ -1,5 +1,5 @@
 use Rattle.std.proofs.Common.{ap, ◌∙◌}
-use Rattle.arc_machine.specs.Views.{Seen}
+use Rattle.arc_steps.specs.Views.{Seen}
 use Rattle.arc_machine.proofs.machine.Machine.steps_done.Goals as goal
 
 pub returns : goal.returns

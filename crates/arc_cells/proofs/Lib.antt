@@ -1,0 +1,4 @@
+pub mod Alterations
+pub mod Making
+pub mod Patterning
+pub mod Piles

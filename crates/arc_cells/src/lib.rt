@@ -1,0 +1,13 @@
+//! What a machine keeps: objects in blocks of a store, numbers, and what is found of code before it runs.
+#![tactic(auto)]
+
+pub mod cell;
+pub mod decoded;
+pub mod found;
+pub mod number_ending;
+pub mod objects;
+pub mod order;
+pub mod pattern;
+pub mod shape;
+pub mod stack;
+pub mod waiting;

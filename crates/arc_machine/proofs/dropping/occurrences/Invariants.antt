@@ -1,6 +1,0 @@
-use Rattle.std.proofs.Common.{◌≡◌, take}
-use Rattle.arc_spec.specs.Holding.{holders}
-use Rattle.arc_machine.proofs.dropping.occurrences.Given as goal
-
-abbrev pub invariant-loop-depth : goal.invariant-loop-depth
-invariant-loop-depth g l = l.count ≡ holders l.object (take l.depth l.objects.places)

@@ -1,5 +1,0 @@
-use Rattle.arc_machine.proofs.Piles.{first_is}
-use Rattle.arc_machine.proofs.stack.Stack.top.Goals as goal
-
-pub returns : goal.returns
-returns g c = first_is _ _ c.get.ensures

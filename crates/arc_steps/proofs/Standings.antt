@@ -1,0 +1,357 @@
+-- A machine's memory goes on standing for objects where one of them is changed.
+use Rattle.std.proofs.Common.{◌≡◌, ◌≢◌, ◌⊎◌, inl, inr, ℕ, zero, suc, ◌+◌, ◌-◌, ◌≤◌, ℤ, List, [], ◌∷◌, ◌++◌, length, Option, Some, true, refl, sym, ap, ◌∙◌, subst, arith}
+use Rattle.std.specs.Prelude.{All, map, slice_get, slice_set}
+use Rattle.std.proofs.lemmas.Bool.Decides.{nat_tests}
+use Rattle.std.proofs.lemmas.Grind.{common_steps}
+use Rattle.std.proofs.lemmas.List.{length-set}
+use Rattle.std.proofs.lemmas.List.Elements.{All-nil, All-cons, All-head, All-tail, All-append}
+use Rattle.arc_spec.specs.Classes.{Class}
+use Rattle.arc_spec.specs.Objects.{Object, Phase, Live, Dying, Emptying, Gone, fields_of, field_places}
+use Rattle.arc_spec.specs.Holding.{Held, Frame, stacked, all_places, is_there, with_globals, with_strong_globals, raised, lowered}
+use Rattle.arc_heap.specs.Blocks.{Blocks}
+use Rattle.arc_cells.specs.Cells.{Cell, words, IsCell, Sets, Becomes, with_count}
+use Rattle.arc_cells.specs.Standing.{Memory, Stored, Kept, Stands, Ends, IsKnown, cell_of, place, waiting, waiting_places, with_store, with_names}
+
+same_or_other : (i j : ℕ) → (i ≡ j) ⊎ (i ≢ j)
+same_or_other i j = grind arith
+
+-- ---- lists of objects of which one is another now
+
+-- the object with this index is x, and the others are the same
+abbrev pub Only : (old new : List Object) → (k : ℕ) → Object → Type 0
+Only old new k x = (j : ℕ) (o : Object) → slice_get new j ≡ Some o → ((j ≡ k) × (o ≡ x)) ⊎ ((j ≢ k) × (slice_get old j ≡ Some o))
+
+pub only_set : (xs : List Object) (k : ℕ) (x : Object) → Only xs (slice_set xs k x) k x
+only_set [] k x j o e = absurd (cc)
+only_set (y ∷ xs) zero x zero o e = inl (refl, cc)
+only_set (y ∷ xs) zero x (suc j) o e = inr ((λ n. omega arith), e)
+only_set (y ∷ xs) (suc k) x zero o e = inr ((λ n. omega arith), e)
+only_set (y ∷ xs) (suc k) x (suc j) o e =
+    elim (only_set xs k x j o e) [ inl p ↦ inl (ap suc p.0, p.1) | inr p ↦ inr ((λ n. p.0 (omega arith)), p.1) ]
+
+pub only_same : (xs : List Object) (k : ℕ) (x : Object) → slice_get xs k ≡ Some x → Only xs xs k x
+only_same xs k x e j o f = elim (same_or_other j k) [
+  | inl same ↦ inl (same, (let both : Some o ≡ Some x = sym f ∙ ap (slice_get xs) same ∙ e in cc))
+  | inr other ↦ inr (other, f)
+]
+
+-- ---- objects and their blocks
+
+-- every object stands in its block
+abbrev pub KeptAll : List Class → Blocks → (at : ℕ → ℕ) → List Object → (counts : ℕ → ℕ) → Type 0
+KeptAll classes blocks at objects counts = (k : ℕ) (o : Object) → slice_get objects k ≡ Some o → Kept o.phase (place at) classes blocks (at k) (suc k) (counts (suc k)) o
+
+pub stored_of : (phase : Phase) (f : ℕ → ℕ) (classes : List Class) (blocks : Blocks) (at number count : ℕ) (o : Object) → is_there phase ≡ true → Kept phase f classes blocks at number count o → Stored f classes blocks at number count o
+stored_of Live f classes blocks at number count o e h = h
+stored_of Dying f classes blocks at number count o e h = h
+stored_of Emptying f classes blocks at number count o e h = h
+stored_of Gone f classes blocks at number count o e h = absurd (cc)
+
+pub kept_of : (phase : Phase) (f : ℕ → ℕ) (classes : List Class) (blocks : Blocks) (at number count : ℕ) (o : Object) → is_there phase ≡ true → Stored f classes blocks at number count o → Kept phase f classes blocks at number count o
+kept_of Live f classes blocks at number count o e h = h
+kept_of Dying f classes blocks at number count o e h = h
+kept_of Emptying f classes blocks at number count o e h = h
+kept_of Gone f classes blocks at number count o e h = absurd (cc)
+
+module _ (classes : List Class) (blocks blocks' : Blocks) (at : ℕ → ℕ) (k : ℕ) (cell : Cell) (now : Option (List ℕ)) (here : IsCell blocks (at k) cell) (number : cell.number ≡ suc k) (sets : Sets blocks blocks' (at k) now) where
+  -- another object's block is another block, since a block has its object's number
+  apart : (j : ℕ) (c : Cell) → IsCell blocks (at j) c → c.number ≡ suc j → j ≢ k → at j ≢ at k
+  apart j c e is other same =
+      let both : Some (words c) ≡ Some (words cell) = sym e ∙ ap blocks same ∙ here in
+      let numbers : c.number ≡ cell.number = cc in
+      other (omega (arith, numbers, is, number))
+
+  still_stored : (j count : ℕ) (o : Object) → j ≢ k → Stored (place at) classes blocks (at j) (suc j) count o → Stored (place at) classes blocks' (at j) (suc j) count o
+  still_stored j count o other h = record {
+    fields = h.fields;
+    block = sets.others (at j) (apart j (cell_of o count (suc j) h.fields) h.block refl other) ∙ h.block;
+    values = h.values;
+    names = h.names;
+    all = h.all;
+  }
+
+  still : (phase : Phase) (j count : ℕ) (o : Object) → j ≢ k → Kept phase (place at) classes blocks (at j) (suc j) count o → Kept phase (place at) classes blocks' (at j) (suc j) count o
+  still Live j count o other h = still_stored j count o other h
+  still Dying j count o other h = still_stored j count o other h
+  still Emptying j count o other h = still_stored j count o other h
+  still Gone j count o other h = h
+
+  -- one block is changed, as one object is
+  pub kept_set : (objects objects' : List Object) (counts counts' : ℕ → ℕ) (x : Object) → Only objects objects' k x → ((j : ℕ) → j ≢ k → counts' (suc j) ≡ counts (suc j))
+      → KeptAll classes blocks at objects counts → Kept x.phase (place at) classes blocks' (at k) (suc k) (counts' (suc k)) x → KeptAll classes blocks' at objects' counts'
+  kept_set objects objects' counts counts' x only same all there j o e = elim (only j o e) [
+    | inl p ↦ subst (λ j. Kept o.phase (place at) classes blocks' (at j) (suc j) (counts' (suc j)) o) (sym p.0) (subst (λ o. Kept o.phase (place at) classes blocks' (at k) (suc k) (counts' (suc k)) o) (sym p.1) there)
+    | inr p ↦ subst (λ count. Kept o.phase (place at) classes blocks' (at j) (suc j) count o) (sym (same j p.0)) (still o.phase j (counts (suc j)) o p.0 (all j o p.1))
+  ]
+
+-- the block has this number
+abbrev pub IsNumbered : Blocks → (place number : ℕ) → Type 0
+IsNumbered blocks place number = (c : Cell) × IsCell blocks place c × (c.number ≡ number)
+
+-- ---- counts
+
+pub raised_there : (o : ℕ) (h : Held) → (raised o h).counts o ≡ h.counts o + 1
+raised_there o h = grind (arith, nat_tests, common_steps)
+
+pub raised_else : (o k : ℕ) (h : Held) → k ≢ o → (raised o h).counts k ≡ h.counts k
+raised_else o k h other = grind (arith, nat_tests, common_steps)
+
+pub lowered_there : (o : ℕ) (h : Held) → (lowered o h).counts o ≡ h.counts o - 1
+lowered_there o h = grind (arith, nat_tests, common_steps)
+
+pub lowered_else : (o k : ℕ) (h : Held) → k ≢ o → (lowered o h).counts k ≡ h.counts k
+lowered_else o k h other = grind (arith, nat_tests, common_steps)
+
+-- the same object with another count stands in the block that has this count
+pub stored_counted : (f : ℕ → ℕ) (classes : List Class) (blocks blocks' : Blocks) (at number count count' : ℕ) (o : Object) → (h : Stored f classes blocks at number count o)
+    → Becomes blocks blocks' at (with_count (cell_of o count number h.fields) count') → Stored f classes blocks' at number count' o
+stored_counted f classes blocks blocks' at number count count' o h change = record { fields = h.fields; block = change.here; values = h.values; names = h.names; all = h.all }
+
+-- ---- what fields name
+
+-- what holds of two lists holds of the first, and of the second
+pub all_left : (P : ℕ → Type 0) (xs ys : List ℕ) → All P (xs ++ ys) → All P xs
+all_left P [] ys h = All-nil P
+all_left P (x ∷ xs) ys h = All-cons P x xs (All-head P x (xs ++ ys) h) (all_left P xs ys (All-tail P x (xs ++ ys) h))
+
+pub all_right : (P : ℕ → Type 0) (xs ys : List ℕ) → All P (xs ++ ys) → All P ys
+all_right P [] ys h = h
+all_right P (x ∷ xs) ys h = all_right P xs ys (All-tail P x (xs ++ ys) h)
+
+-- one object is another now
+pub all_fields_set : (P : ℕ → Type 0) (xs : List Object) (k : ℕ) (x : Object) → All P (field_places xs) → All P (fields_of x) → All P (field_places (slice_set xs k x))
+all_fields_set P [] k x h n = h
+all_fields_set P (y ∷ xs) zero x h n = All-append P (fields_of x) (field_places xs) n (all_right P (fields_of y) (field_places xs) h)
+all_fields_set P (y ∷ xs) (suc k) x h n =
+    All-append P (fields_of y) (field_places (slice_set xs k x)) (all_left P (fields_of y) (field_places xs) h) (all_fields_set P xs k x (all_right P (fields_of y) (field_places xs) h) n)
+
+-- what the fields of one object name
+pub all_fields_at : (P : ℕ → Type 0) (xs : List Object) (k : ℕ) (o : Object) → slice_get xs k ≡ Some o → All P (field_places xs) → All P (fields_of o)
+all_fields_at P [] k o e h = absurd (cc)
+all_fields_at P (y ∷ xs) zero o e h = let same : y ≡ o = cc in subst (λ o. All P (fields_of o)) same (all_left P (fields_of y) (field_places xs) h)
+all_fields_at P (y ∷ xs) (suc k) o e h = all_fields_at P xs k o e (all_right P (fields_of y) (field_places xs) h)
+
+-- ---- memories
+
+-- what isn't of functions: in a machine its store, how many objects were made, and the variables of the whole program
+abbrev pub kept_parts : Memory → Blocks × ℕ × List ℤ × List ℕ × List (List ℕ)
+kept_parts m = (m.store, m.made, m.globals, m.strong_globals, m.orders)
+
+-- and in a state the objects, the counts, and these variables
+abbrev pub kept_things : Held → List Object × (ℕ → ℕ) × List ℤ × List ℕ
+kept_things h = (h.objects, h.counts, h.globals, h.strong_globals)
+
+abbrev pub with_counts : Held → (ℕ → ℕ) → Held
+with_counts h counts = record h { counts = counts }
+
+-- the places and the references of functions, and their words
+pub record Spelled (at : ℕ → ℕ) (classes : List Class) (m : Memory) (frames : List Frame) (h : Held) : Type 0 where
+  pub places : m.places ≡ map (place at) (stacked h)
+  pub temporaries : m.temporaries ≡ length h.temporaries
+  pub variables : m.variables ≡ length h.variables
+  pub names : m.names ≡ map (place at) h.names
+  pub self : m.self ≡ place at h.self
+  pub waits : m.frames ≡ map (waiting at) frames
+  pub all : length h.places ≡ waiting_places frames
+  pub known_places : All (λ r. r ≤ length h.objects) (stacked h)
+  pub known_names : All (λ r. r ≤ length h.objects) h.names
+  pub known_self : h.self ≤ length h.objects
+  pub known_frames : All (IsKnown (length h.objects)) frames
+  pub ends : Ends classes h.objects frames
+
+-- what isn't a place of functions
+abbrev pub others_named : Held → List ℕ
+others_named h = h.strong_globals ++ field_places h.objects
+
+pub known_stacked : (n : ℕ) (h : Held) → All (λ r. r ≤ n) (all_places h) → All (λ r. r ≤ n) (stacked h)
+known_stacked n h known = all_left (λ r. r ≤ n) (stacked h) (others_named h) known
+
+pub known_others : (n : ℕ) (h : Held) → All (λ r. r ≤ n) (all_places h) → All (λ r. r ≤ n) (others_named h)
+known_others n h known = all_right (λ r. r ≤ n) (stacked h) (others_named h) known
+
+-- the same blocks and objects, with these places and references
+pub spelled_stands : (at : ℕ → ℕ) (classes : List Class) (m m' : Memory) (frames frames' : List Frame) (h h' : Held) → Stands at classes m frames h → kept_parts m' ≡ kept_parts m → kept_things h' ≡ kept_things h → Spelled at classes m' frames' h'
+    → Stands at classes m' frames' h'
+spelled_stands at classes m m' frames frames' h h' t parts things is = record {
+  made = ap (λ x. x.1) parts ∙ t.made ∙ sym (ap (λ x. length x.0) things);
+  some = t.some;
+  kept = λ k o e. subst (λ (c : ℕ → ℕ). Kept o.phase (place at) classes m'.store (at k) (suc k) (c (suc k)) o) (sym (ap (λ x. x.1) things))
+      (subst (λ (b : Blocks). Kept o.phase (place at) classes b (at k) (suc k) (h.counts (suc k)) o) (sym (ap (λ x. x.0) parts)) (t.kept k o (sym (ap (λ x. slice_get x.0 k) things) ∙ e)));
+  places = is.places;
+  temporaries = is.temporaries;
+  variables = is.variables;
+  names = is.names;
+  self = is.self;
+  waits = is.waits;
+  all = is.all;
+  known_places =
+      let objects : h'.objects ≡ h.objects = ap (λ x. x.0) things in
+      let globals : h'.strong_globals ≡ h.strong_globals = ap (λ x. x.3) things in
+      let n = length h'.objects in
+      let same : others_named h ≡ others_named h' = sym (ap (λ l. l ++ field_places h'.objects) globals ∙ ap (λ os. h.strong_globals ++ field_places os) objects) in
+      let known = subst (λ (os : List Object). All (λ r. r ≤ length os) (others_named h)) (sym objects) (known_others (length h.objects) h t.known_places) in
+      All-append (λ r. r ≤ n) (stacked h') (others_named h') is.known_places (subst (λ l. All (λ r. r ≤ n) l) same known);
+  known_names = is.known_names;
+  known_self = is.known_self;
+  known_frames = is.known_frames;
+  ends = is.ends;
+  globals = ap (λ x. x.2) parts ∙ t.globals ∙ sym (ap (λ x. x.2) things);
+  strong_globals = ap (λ x. x.3) parts ∙ t.strong_globals ∙ ap (map (place at)) (sym (ap (λ x. x.3) things));
+  orders = ap (λ x. x.4) parts ∙ t.orders;
+}
+
+module _ (at : ℕ → ℕ) (classes : List Class) (m : Memory) (frames : List Frame) (h : Held) (t : Stands at classes m frames h) where
+  -- other blocks and counts, and other numbers in the variables of the whole program
+  stored_stands : (blocks' : Blocks) (counts' : ℕ → ℕ) (words globals : List ℤ) → KeptAll classes blocks' at h.objects counts' → words ≡ globals
+      → Stands at classes (record m { store = blocks'; globals = words }) frames (record h { counts = counts'; globals = globals })
+  stored_stands blocks' counts' words globals kept is = record {
+    made = t.made;
+    some = t.some;
+    kept = kept;
+    places = t.places;
+    temporaries = t.temporaries;
+    variables = t.variables;
+    names = t.names;
+    self = t.self;
+    waits = t.waits;
+    all = t.all;
+    known_places = t.known_places;
+    known_names = t.known_names;
+    known_self = t.known_self;
+    known_frames = t.known_frames;
+    ends = t.ends;
+    globals = is;
+    strong_globals = t.strong_globals;
+    orders = t.orders;
+  }
+
+  -- other numbers in the variables of the whole program
+  pub globals_stands : (words globals : List ℤ) → words ≡ globals → Stands at classes (record m { globals = words }) frames (with_globals h globals)
+  globals_stands words globals is = stored_stands m.store h.counts words globals t.kept is
+
+  -- the count of nil says nothing
+  pub recounted_nil : (counts' : ℕ → ℕ) → ((j : ℕ) → counts' (suc j) ≡ h.counts (suc j)) → Stands at classes m frames (with_counts h counts')
+  recounted_nil counts' same = stored_stands m.store counts' m.globals h.globals (λ k o e. subst (λ count. Kept o.phase (place at) classes m.store (at k) (suc k) count o) (sym (same k)) (t.kept k o e)) t.globals
+
+  pub raised_nil : Stands at classes m frames (raised 0 h)
+  raised_nil = recounted_nil (raised 0 h).counts (λ j. raised_else 0 (suc j) h (λ e. omega arith))
+
+  pub lowered_nil : Stands at classes m frames (lowered 0 h)
+  lowered_nil = recounted_nil (lowered 0 h).counts (λ j. lowered_else 0 (suc j) h (λ e. omega arith))
+
+  module _ (k : ℕ) (o : Object) (there : slice_get h.objects k ≡ Some o) (is_here : is_there o.phase ≡ true) where
+    pub block_of : Stored (place at) classes m.store (at k) (suc k) (h.counts (suc k)) o
+    block_of = stored_of o.phase (place at) classes m.store (at k) (suc k) (h.counts (suc k)) o is_here (t.kept k o there)
+
+    -- so many places are counted to name an object
+    recounted : (counts' : ℕ → ℕ) (blocks' : Blocks) → ((j : ℕ) → j ≢ k → counts' (suc j) ≡ h.counts (suc j))
+        → Becomes m.store blocks' (at k) (with_count (cell_of o (h.counts (suc k)) (suc k) block_of.fields) (counts' (suc k)))
+        → Stands at classes (with_store m blocks') frames (with_counts h counts')
+    recounted counts' blocks' same change = stored_stands blocks' counts' m.globals h.globals
+        (kept_set classes m.store blocks' at k (cell_of o (h.counts (suc k)) (suc k) block_of.fields) _ block_of.block refl change h.objects h.objects h.counts counts' o
+        (only_same h.objects k o there) same t.kept
+        (kept_of o.phase (place at) classes blocks' (at k) (suc k) (counts' (suc k)) o is_here (stored_counted (place at) classes m.store blocks' (at k) (suc k) (h.counts (suc k)) (counts' (suc k)) o block_of change))) t.globals
+
+    pub raised_stands : (blocks' : Blocks) → ((c : Cell) → IsCell m.store (at k) c → Becomes m.store blocks' (at k) (with_count c (c.count + 1)))
+        → Stands at classes (with_store m blocks') frames (raised (suc k) h)
+    raised_stands blocks' change =
+        let cell = cell_of o (h.counts (suc k)) (suc k) block_of.fields in
+        let count : h.counts (suc k) + 1 ≡ (raised (suc k) h).counts (suc k) = sym (raised_there (suc k) h) in
+        recounted (raised (suc k) h).counts blocks' (λ j other. raised_else (suc k) (suc j) h (λ same. other (omega arith)))
+        (subst (λ n. Becomes m.store blocks' (at k) (with_count cell n)) count (change cell block_of.block))
+
+    pub lowered_stands : (blocks' : Blocks) → ((c : Cell) → IsCell m.store (at k) c → Becomes m.store blocks' (at k) (with_count c (c.count - 1)))
+        → Stands at classes (with_store m blocks') frames (lowered (suc k) h)
+    lowered_stands blocks' change =
+        let cell = cell_of o (h.counts (suc k)) (suc k) block_of.fields in
+        let count : h.counts (suc k) - 1 ≡ (lowered (suc k) h).counts (suc k) = sym (lowered_there (suc k) h) in
+        recounted (lowered (suc k) h).counts blocks' (λ j other. lowered_else (suc k) (suc j) h (λ same. other (omega arith)))
+        (subst (λ n. Becomes m.store blocks' (at k) (with_count cell n)) count (change cell block_of.block))
+
+  -- other places and references of the running function, and other words for them
+  pub placed_stands : (ts vs ns words names : List ℕ) (a b : ℕ) → words ≡ map (place at) ((ts ++ vs) ++ h.places) → a ≡ length ts → b ≡ length vs → names ≡ map (place at) ns
+      → All (λ r. r ≤ length h.objects) ((ts ++ vs) ++ h.places) → All (λ r. r ≤ length h.objects) ns
+      → Stands at classes (record m { places = words; temporaries = a; variables = b; names = names }) frames (record h { temporaries = ts; variables = vs; names = ns })
+  placed_stands ts vs ns words names a b is few fewer named known known_names =
+      spelled_stands at classes m (record m { places = words; temporaries = a; variables = b; names = names }) frames frames h (record h { temporaries = ts; variables = vs; names = ns }) t refl refl (record {
+        places = is;
+        temporaries = few;
+        variables = fewer;
+        names = named;
+        self = t.self;
+        waits = t.waits;
+        all = t.all;
+        known_places = known;
+        known_names = known_names;
+        known_self = t.known_self;
+        known_frames = t.known_frames;
+        ends = t.ends;
+      })
+
+  -- other references
+  pub named_stands : (ns names : List ℕ) → names ≡ map (place at) ns → All (λ r. r ≤ length h.objects) ns → Stands at classes (with_names m names) frames (record h { names = ns })
+  named_stands ns names is known = placed_stands h.temporaries h.variables ns m.places names m.temporaries m.variables t.places t.temporaries t.variables is (known_stacked (length h.objects) h t.known_places) known
+
+  -- other words in the variables of the whole program that name objects
+  pub strong_globals_stands : (words names : List ℕ) → words ≡ map (place at) names → All (λ r. r ≤ length h.objects) names → Stands at classes (record m { strong_globals = words }) frames (with_strong_globals h names)
+  strong_globals_stands words names is known =
+      let n = length h.objects in
+      let rest = all_right (λ r. r ≤ n) h.strong_globals (field_places h.objects) (known_others n h t.known_places) in
+      record {
+        made = t.made;
+        some = t.some;
+        kept = t.kept;
+        places = t.places;
+        temporaries = t.temporaries;
+        variables = t.variables;
+        names = t.names;
+        self = t.self;
+        waits = t.waits;
+        all = t.all;
+        known_places = All-append (λ r. r ≤ n) (stacked h) (names ++ field_places h.objects) (known_stacked n h t.known_places) (All-append (λ r. r ≤ n) names (field_places h.objects) known rest);
+        known_names = t.known_names;
+        known_self = t.known_self;
+        known_frames = t.known_frames;
+        ends = t.ends;
+        globals = t.globals;
+        strong_globals = is;
+        orders = t.orders;
+      }
+
+  -- one object is another now, and counted otherwise
+  pub changed_stands : (k : ℕ) (o x : Object) (counts' : ℕ → ℕ) → slice_get h.objects k ≡ Some o → (number : IsNumbered m.store (at k) (suc k)) (blocks' : Blocks) (now : Option (List ℕ)) → Sets m.store blocks' (at k) now
+      → ((j : ℕ) → j ≢ k → counts' (suc j) ≡ h.counts (suc j)) → Kept x.phase (place at) classes blocks' (at k) (suc k) (counts' (suc k)) x → Ends classes (slice_set h.objects k x) frames → All (λ r. r ≤ length h.objects) (fields_of x)
+      → Stands at classes (with_store m blocks') frames (record h { objects = slice_set h.objects k x; counts = counts' })
+  changed_stands k o x counts' there number blocks' now sets else_same kept ends known =
+      let n = length h.objects in
+      let same : length h.objects ≡ length (slice_set h.objects k x) = sym (length-set h.objects k x) in
+      record {
+        made = t.made ∙ same;
+        some = t.some;
+        kept = kept_set classes m.store blocks' at k number.0 now number.1 number.2 sets h.objects (slice_set h.objects k x) h.counts counts' x
+            (only_set h.objects k x) else_same t.kept kept;
+        places = t.places;
+        temporaries = t.temporaries;
+        variables = t.variables;
+        names = t.names;
+        self = t.self;
+        waits = t.waits;
+        all = t.all;
+        known_places = subst (λ n. All (λ r. r ≤ n) (stacked h ++ (h.strong_globals ++ field_places (slice_set h.objects k x)))) same
+            (All-append (λ r. r ≤ n) (stacked h) (h.strong_globals ++ field_places (slice_set h.objects k x)) (known_stacked n h t.known_places)
+            (All-append (λ r. r ≤ n) h.strong_globals (field_places (slice_set h.objects k x)) (all_left (λ r. r ≤ n) h.strong_globals (field_places h.objects) (known_others n h t.known_places))
+            (all_fields_set (λ r. r ≤ n) h.objects k x (all_right (λ r. r ≤ n) h.strong_globals (field_places h.objects) (known_others n h t.known_places)) known)));
+        known_names = subst (λ n. All (λ r. r ≤ n) h.names) same t.known_names;
+        known_self = subst (λ n. h.self ≤ n) same t.known_self;
+        known_frames = subst (λ n. All (IsKnown n) frames) same t.known_frames;
+        ends = ends;
+        globals = t.globals;
+        strong_globals = t.strong_globals;
+        orders = t.orders;
+      }
+
+  -- what the fields of an object name
+  pub known_fields : (k : ℕ) (o : Object) → slice_get h.objects k ≡ Some o → All (λ r. r ≤ length h.objects) (fields_of o)
+  known_fields k o there =
+      let n = length h.objects in
+      all_fields_at (λ r. r ≤ n) h.objects k o there (all_right (λ r. r ≤ n) h.strong_globals (field_places h.objects) (known_others n h t.known_places))

@@ -1,0 +1,10 @@
+pub mod Clearing
+pub mod Entering
+pub mod Fields
+pub mod Giving
+pub mod Places
+pub mod Refusals
+pub mod Releases
+pub mod Steps
+pub mod Storing
+pub mod Views
