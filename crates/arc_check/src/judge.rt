@@ -98,6 +98,7 @@ fn no_object_read(before: Taken) -> Judged
 }
 
 /// The judgement on an operator's expression, from its operands and their places.
+#[inline(always)]
 fn combined(
     operator: BinaryOperator,
     left: Judged,
@@ -190,6 +191,7 @@ fn judge_own_field(
 }
 
 /// The judgement on a name.
+#[inline(always)]
 fn judge_name<'a>(
     table: &ClassTable<'a>,
     visible: &Visible<'a>,

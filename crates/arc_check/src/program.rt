@@ -162,7 +162,7 @@ fn evaluated(of: Resolution) -> Command
     ensures { checked.command result ≡ resolving.evaluated (resolution of) }
 {
     match of {
-        Resolution::Gives(_, value) => Command::Evaluate(Box::into_inner(value)),
+        Resolution::Gives(_, value) => Command::Evaluate(value),
         Resolution::Refers(object) => Command::EvaluateReference(object),
     }
 }
@@ -186,8 +186,8 @@ fn test<'a>(
     table: &ClassTable<'a>,
     visible: &Visible<'a>,
     expr: &'a Expr,
-) -> Result<Box<Value>, AllocError>
-    ensures { IfOk result (λ new. checked.value new.value ≡ resolving.number_in (resolving.resolved (seen table.now visible.now) (expr_tree expr.now))) }
+) -> Result<Value, AllocError>
+    ensures { IfOk result (λ new. checked.value new ≡ resolving.number_in (resolving.resolved (seen table.now visible.now) (expr_tree expr.now))) }
 {
     let typed = expression(alloc, table, visible, expr)?;
     number_in(alloc, typed.value)
@@ -206,11 +206,11 @@ fn test_or_one<'a>(
     table: &ClassTable<'a>,
     visible: &Visible<'a>,
     expr: &'a Option<Expr>,
-) -> Result<Box<Value>, AllocError>
-    ensures { IfOk result (λ new. checked.value new.value ≡ resolving.tested (seen table.now visible.now) (option_map expr_tree expr.now)) }
+) -> Result<Value, AllocError>
+    ensures { IfOk result (λ new. checked.value new ≡ resolving.tested (seen table.now visible.now) (option_map expr_tree expr.now)) }
 {
     match expr {
-        None => Ok(Box::new(alloc, Value::Number(1))?),
+        None => Ok(Value::Number(1)),
         Some(expr) => test(alloc, table, visible, expr),
     }
 }
@@ -286,7 +286,7 @@ fn chosen_or_nothing<'a>(
     let test = test(alloc, table, visible, condition)?;
     let then = scoped(alloc, table, visible, then)?;
     let other = Box::new(alloc, nothing(alloc))?;
-    Ok(Command::Choose(Box::into_inner(test), then, other))
+    Ok(Command::Choose(test, then, other))
 }
 
 /// A resolved choice with `else`.
@@ -309,7 +309,7 @@ fn chosen<'a>(
     let test = test(alloc, table, visible, condition)?;
     let then = scoped(alloc, table, visible, then)?;
     let other = scoped(alloc, table, visible, other)?;
-    Ok(Command::Choose(Box::into_inner(test), then, other))
+    Ok(Command::Choose(test, then, other))
 }
 
 /// A resolved loop.
@@ -329,7 +329,7 @@ fn repeated<'a>(
     let test = test(alloc, table, visible, condition)?;
     let body = scoped(alloc, table, visible, body)?;
     let step = Box::new(alloc, nothing(alloc))?;
-    Ok(Command::Repeat(Box::into_inner(test), step, body))
+    Ok(Command::Repeat(test, step, body))
 }
 
 /// A resolved loop that begins with its body.
@@ -348,7 +348,7 @@ fn repeated_after<'a>(
 {
     let test = test(alloc, table, visible, condition)?;
     let body = scoped(alloc, table, visible, body)?;
-    Ok(Command::RepeatAfter(body, Box::into_inner(test)))
+    Ok(Command::RepeatAfter(body, test))
 }
 
 /// The resolved loop of a `for`, without what comes before it.
@@ -369,7 +369,7 @@ fn turns<'a>(
     let test = test_or_one(alloc, table, visible, test)?;
     let step = step_or_nothing(alloc, table, visible, step)?;
     let body = scoped(alloc, table, visible, body)?;
-    Ok(Command::Repeat(Box::into_inner(test), step, body))
+    Ok(Command::Repeat(test, step, body))
 }
 
 /// A resolved `for`.

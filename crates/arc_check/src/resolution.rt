@@ -24,7 +24,7 @@ use std::alloc::{AllocError, Global};
 /// What an expression is resolved to: a number of a kind, or an object.
 #[derive(Drop)]
 pub enum Resolution {
-    Gives(Kind, Box<Value>),
+    Gives(Kind, Value),
     Refers(Reference),
 }
 
@@ -36,6 +36,7 @@ pub struct Typed {
 }
 
 /// The kind of what is resolved.
+#[inline(always)]
 fn kind_in(of: &Resolution) -> Kind
     ensures { result ≡ resolving.kind_in (resolution of.now) }
 {
@@ -45,22 +46,16 @@ fn kind_in(of: &Resolution) -> Kind
     }
 }
 
-/// A number of the kind.
-pub fn given(alloc: Global, kind: Kind, value: Value) -> Result<Resolution, AllocError>
-    ensures { IfOk result (λ new. resolution new ≡ resolving.Gives kind (checked.value value)) }
-{
-    Ok(Resolution::Gives(kind, Box::new(alloc, value)?))
-}
-
 /// The number, and of an object whether it is one.
-pub fn number_in(alloc: Global, of: Resolution) -> Result<Box<Value>, AllocError>
-    ensures { IfOk result (λ new. checked.value new.value ≡ resolving.number_in (resolution of)) }
+#[inline(always)]
+pub fn number_in(alloc: Global, of: Resolution) -> Result<Value, AllocError>
+    ensures { IfOk result (λ new. checked.value new ≡ resolving.number_in (resolution of)) }
 {
     match of {
         Resolution::Gives(_, value) => Ok(value),
         Resolution::Refers(object) => {
             let object = Box::new(alloc, object)?;
-            Ok(Box::new(alloc, Value::IsObject(object))?)
+            Ok(Value::IsObject(object))
         }
     }
 }
@@ -76,31 +71,46 @@ pub fn object_in(of: Resolution) -> Reference
 }
 
 /// The value of one kind as one of the wanted kind.
-fn as_kind(
-    alloc: Global,
-    wanted: Kind,
-    kind: Kind,
-    value: Box<Value>,
-) -> Result<Box<Value>, AllocError>
-    ensures { IfOk result (λ new. checked.value new.value ≡ resolving.as_kind wanted kind (checked.value value.value)) }
+#[inline(always)]
+fn as_kind(alloc: Global, wanted: Kind, kind: Kind, value: Value) -> Result<Value, AllocError>
+    ensures { IfOk result (λ new. checked.value new ≡ resolving.as_kind wanted kind (checked.value value)) }
 {
     match (wanted, kind) {
         (Kind::Long, Kind::Bool | Kind::Int)
         | (Kind::Int, Kind::Bool | Kind::Long)
         | (Kind::Bool, Kind::Int | Kind::Long) => {
-            Ok(Box::new(alloc, Value::Converted(wanted, value))?)
+            let value = Box::new(alloc, value)?;
+            Ok(Value::Converted(wanted, value))
         }
         _ => Ok(value),
     }
 }
 
 /// The number as one of the kind.
-pub fn converted(alloc: Global, wanted: Kind, of: Resolution) -> Result<Box<Value>, AllocError>
-    ensures { IfOk result (λ new. checked.value new.value ≡ resolving.converted wanted (resolution of)) }
+#[inline(always)]
+pub fn converted(alloc: Global, wanted: Kind, of: Resolution) -> Result<Value, AllocError>
+    ensures { IfOk result (λ new. checked.value new ≡ resolving.converted wanted (resolution of)) }
 {
     let kind = kind_in(&of);
     let value = number_in(alloc, of)?;
     as_kind(alloc, wanted, kind, value)
+}
+
+/// The number as one of the kind, where it is a part of another one.
+#[inline(always)]
+pub fn converted_part(alloc: Global, wanted: Kind, of: Resolution) -> Result<Box<Value>, AllocError>
+    ensures { IfOk result (λ new. checked.value new.value ≡ resolving.converted wanted (resolution of)) }
+{
+    let value = converted(alloc, wanted, of)?;
+    Ok(Box::new(alloc, value)?)
+}
+
+/// The number, and of an object whether it is one, where that is a part of another number.
+pub fn number_part(alloc: Global, of: Resolution) -> Result<Box<Value>, AllocError>
+    ensures { IfOk result (λ new. checked.value new.value ≡ resolving.number_in (resolution of)) }
+{
+    let value = number_in(alloc, of)?;
+    Ok(Box::new(alloc, value)?)
 }
 
 /// The kind in which an operator of the sort computes, from those of its operands.
@@ -157,9 +167,9 @@ fn applied(
 ) -> Result<Resolution, AllocError>
     ensures { IfOk result (λ new. resolution new ≡ resolving.applied operator kind (resolution of)) }
 {
-    let value = converted(alloc, kind, of)?;
+    let value = converted_part(alloc, kind, of)?;
     let given_kind = unary_given(operator, kind);
-    given(alloc, given_kind, Value::Applied(operator, kind, value))
+    Ok(Resolution::Gives(given_kind, Value::Applied(operator, kind, value)))
 }
 
 /// An expression of an operator before its operand.
@@ -187,6 +197,7 @@ pub fn cast(alloc: Global, kind: Kind, of: Resolution) -> Result<Resolution, All
 }
 
 /// An operator's expression that computes in the kind, from its operands.
+#[inline(always)]
 fn combined(
     alloc: Global,
     operator: BinaryOperator,
@@ -196,10 +207,10 @@ fn combined(
 ) -> Result<Resolution, AllocError>
     ensures { IfOk result (λ new. resolution new ≡ resolving.combined operator kind (resolution left) (resolution right)) }
 {
-    let left = converted(alloc, kind, left)?;
-    let right = converted(alloc, kind, right)?;
+    let left = converted_part(alloc, kind, left)?;
+    let right = converted_part(alloc, kind, right)?;
     let value = Value::Combined(operator, kind, left, right);
-    given(alloc, given_kind(operator_sort(operator), kind), value)
+    Ok(Resolution::Gives(given_kind(operator_sort(operator), kind), value))
 }
 
 /// What compares two objects, from whether they differ.
@@ -217,6 +228,7 @@ fn compared(alloc: Global, operator: BinaryOperator, differs: Value) -> Result<V
 }
 
 /// An expression with `==` or `!=`, from its operands.
+#[inline(always)]
 fn equality(
     alloc: Global,
     operator: BinaryOperator,
@@ -230,7 +242,7 @@ fn equality(
             let left = Box::new(alloc, left)?;
             let right = Box::new(alloc, right)?;
             let value = compared(alloc, operator, Value::Differ(left, right))?;
-            given(alloc, Kind::Int, value)
+            Ok(Resolution::Gives(Kind::Int, value))
         }
         (left, right) => {
             let kind = wider(kind_in(&left), kind_in(&right));
@@ -270,10 +282,10 @@ fn logic(
 ) -> Result<Resolution, AllocError>
     ensures { IfOk result (λ new. resolution new ≡ resolving.binary_of OperatorSort.Logic operator (resolution left) (resolution right)) }
 {
-    let left = number_in(alloc, left)?;
-    let right = number_in(alloc, right)?;
+    let left = number_part(alloc, left)?;
+    let right = number_part(alloc, right)?;
     let value = logic_value(alloc, operator, left, right)?;
-    given(alloc, Kind::Int, value)
+    Ok(Resolution::Gives(Kind::Int, value))
 }
 
 /// One of two values by a test.
@@ -285,7 +297,7 @@ pub fn conditional(
 ) -> Result<Resolution, AllocError>
     ensures { IfOk result (λ new. resolution new ≡ resolving.conditional (resolving.number_in (resolution test)) (resolution first) (resolution second)) }
 {
-    let test = number_in(alloc, test)?;
+    let test = number_part(alloc, test)?;
     match (first, second) {
         (Resolution::Refers(first), Resolution::Refers(second)) => {
             let first = Box::new(alloc, first)?;
@@ -306,12 +318,13 @@ fn chosen_number(
     ensures { IfOk result (λ new. resolution new ≡ resolving.choice (checked.value test.value) (resolution first) (resolution second)) }
 {
     let kind = wider(kind_in(&first), kind_in(&second));
-    let first = converted(alloc, kind, first)?;
-    let second = converted(alloc, kind, second)?;
-    given(alloc, kind, Value::Choice(test, first, second))
+    let first = converted_part(alloc, kind, first)?;
+    let second = converted_part(alloc, kind, second)?;
+    Ok(Resolution::Gives(kind, Value::Choice(test, first, second)))
 }
 
 /// An operator's expression, from its operands.
+#[inline(always)]
 pub fn binary(
     alloc: Global,
     operator: BinaryOperator,
@@ -374,7 +387,7 @@ pub fn field(
     ensures { IfOk result (λ new. resolution new ≡ resolving.field (checked.reference object) found) }
 {
     match found {
-        None => given(alloc, Kind::Int, Value::Number(0)),
+        None => Ok(Resolution::Gives(Kind::Int, Value::Number(0))),
         Some(field) => read_field(alloc, object, field),
     }
 }
@@ -388,7 +401,7 @@ fn read_field(alloc: Global, object: Reference, field: FoundField) -> Result<Res
         Ok(Resolution::Refers(Reference::ObjectField(object, field.owner.0, field.index)))
     } else {
         let value = Value::Field(object, field.owner.0, field.index);
-        given(alloc, field.kind, value)
+        Ok(Resolution::Gives(field.kind, value))
     }
 }
 
@@ -422,9 +435,9 @@ fn store_field(
         let (owner, index) = (field.owner.0, field.index);
         Ok(Resolution::Refers(Reference::ObjectFieldStored(object, owner, index, stored)))
     } else {
-        let value = converted(alloc, field.kind, of)?;
+        let value = converted_part(alloc, field.kind, of)?;
         let value = Value::FieldAssigned(object, field.owner.0, field.index, value);
-        given(alloc, field.kind, value)
+        Ok(Resolution::Gives(field.kind, value))
     }
 }
 
@@ -451,6 +464,7 @@ pub fn itself_assigned(alloc: Global, owns: bool, of: Resolution) -> Result<Reso
 }
 
 /// What a name means: the variable, or else the field of `self`.
+#[inline(always)]
 pub fn named(
     alloc: Global,
     owns: bool,
@@ -461,7 +475,9 @@ pub fn named(
 {
     match local {
         None => field(alloc, itself(owns), own),
-        Some(Local::Number(kind, location)) => given(alloc, kind, Value::Read(location)),
+        Some(Local::Number(kind, location)) => {
+            Ok(Resolution::Gives(kind, Value::Read(location)))
+        }
         Some(Local::Object(location, _)) => Ok(Resolution::Refers(Reference::Variable(location))),
     }
 }
@@ -479,8 +495,8 @@ pub fn name_assigned(
     match local {
         None => field_assigned(alloc, itself(owns), own, of),
         Some(Local::Number(kind, location)) => {
-            let value = converted(alloc, kind, of)?;
-            given(alloc, kind, Value::Assigned(location, value))
+            let value = converted_part(alloc, kind, of)?;
+            Ok(Resolution::Gives(kind, Value::Assigned(location, value)))
         }
         Some(Local::Object(location, _)) => {
             let object = Box::new(alloc, object_in(of))?;
@@ -525,10 +541,9 @@ pub fn updated(
         Resolution::Refers(object) => Ok(Resolution::Refers(object)),
         Resolution::Gives(kind, place) => {
             let computed = computing_kind(operator_sort(operator), kind, kind_in(&right));
-            let operand = converted(alloc, computed, right)?;
-            let place = Box::into_inner(place);
+            let operand = converted_part(alloc, computed, right)?;
             let value = place_updated(moment, operator, computed, kind, place, operand);
-            given(alloc, kind, value)
+            Ok(Resolution::Gives(kind, value))
         }
     }
 }
@@ -547,18 +562,13 @@ pub fn class_value(receiver: &Expr, number: usize) -> Result<Value, AllocError>
 }
 
 /// A call of the function with the number, which gives a value of the kind.
-pub fn invoked(
-    alloc: Global,
-    kind: Kind,
-    function: usize,
-    all: Vec<Argument>,
-) -> Result<Resolution, AllocError>
-    ensures { IfOk result (λ new. resolution new ≡ resolving.invoked kind function (checked.arguments all.items)) }
+pub fn invoked(kind: Kind, function: usize, all: Vec<Argument>) -> Resolution
+    ensures { resolution result ≡ resolving.invoked kind function (checked.arguments all.items) }
 {
     if is_object(Some(kind)) {
-        return Ok(Resolution::Refers(Reference::ObjectInvoked(function, all)));
+        return Resolution::Refers(Reference::ObjectInvoked(function, all));
     }
-    given(alloc, kind, Value::Invoked(function, all))
+    Resolution::Gives(kind, Value::Invoked(function, all))
 }
 
 /// A message that gives a value of the kind, or none.
@@ -575,11 +585,8 @@ pub fn sent_to(
     if is_object(kind) {
         return Ok(Resolution::Refers(Reference::ObjectSent(receiver, selector, all)));
     }
-    given(
-        alloc,
-        kind_or_int(kind),
-        Value::Sent(receiver, selector, all),
-    )
+    let value = Value::Sent(receiver, selector, all);
+    Ok(Resolution::Gives(kind_or_int(kind), value))
 }
 
 /// What gets a message: a class, whose number this value gives, and the class from which the method is looked up where

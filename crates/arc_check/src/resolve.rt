@@ -20,9 +20,9 @@ use crate::message::{
 };
 use crate::resolution::{
     ClassReceiver, Resolution, SuperSite, Typed, binary, cast as cast_to, class_number,
-    class_value, conditional, converted, field, field_assigned, given, invoked, itself,
-    itself_assigned, name_assigned, named, number, number_in, object_in, selector_number, to_class,
-    to_object, to_super, unary, updated,
+    class_value, conditional, converted, converted_part, field, field_assigned, invoked, itself,
+    itself_assigned, name_assigned, named, number, number_part, object_in, selector_number,
+    to_class, to_object, to_super, unary, updated,
 };
 use crate::rule::{either_class, is_nil, literal_kind};
 use crate::scope::Visible;
@@ -32,26 +32,27 @@ use arc_class::table::{ClassId, ClassTable};
 use std::alloc::{AllocError, Global};
 
 /// A resolved integer.
-fn integer(alloc: Global, number: &i64, suffixed: bool) -> Result<Typed, AllocError>
-    ensures { IfOk result (λ typed. (s : scopes.Scope) (at : ℕ) → Resolves s (Integer at number.now suffixed) typed) }
+fn integer(number: &i64, suffixed: bool) -> Typed
+    ensures { (s : scopes.Scope) (at : ℕ) → Resolves s (Integer at number.now suffixed) result }
 {
-    let value = given(
-        alloc,
-        literal_kind(*number, suffixed),
-        Value::Number(*number),
-    )?;
-    Ok(Typed { class: None, value })
+    Typed {
+        class: None,
+        value: Resolution::Gives(literal_kind(*number, suffixed), Value::Number(*number)),
+    }
 }
 
 /// A resolved text.
-fn text(alloc: Global) -> Result<Typed, AllocError>
-    ensures { IfOk result (λ typed. (s : scopes.Scope) (at : ℕ) (bytes : List ℕ) → Resolves s (Text at bytes) typed) }
+fn text() -> Typed
+    ensures { (s : scopes.Scope) (at : ℕ) (bytes : List ℕ) → Resolves s (Text at bytes) result }
 {
-    let value = given(alloc, Kind::Int, Value::Number(0))?;
-    Ok(Typed { class: None, value })
+    Typed {
+        class: None,
+        value: Resolution::Gives(Kind::Int, Value::Number(0)),
+    }
 }
 
 /// A resolved name.
+#[inline(always)]
 fn variable<'a>(
     alloc: Global,
     table: &ClassTable<'a>,
@@ -80,8 +81,8 @@ pub fn expression<'a>(
     ensures { IfOk result (λ typed. Resolves (seen table.now visible.now) (expr_tree expr.now) typed) }
 {
     match expr {
-        Expr::Integer(_, number, suffixed) => integer(alloc, number, *suffixed),
-        Expr::Text(_, _) => text(alloc),
+        Expr::Integer(_, number, suffixed) => Ok(integer(number, *suffixed)),
+        Expr::Text(_, _) => Ok(text()),
         Expr::Paren(_, inside) => expression(alloc, table, visible, inside),
         Expr::Call(_, name, arguments) => call(alloc, table, visible, name, arguments),
         Expr::Nil(_) => Ok(Typed {
@@ -340,8 +341,7 @@ pub fn number_as<'a>(
     ensures { IfOk result (λ value. checked.value value ≡ number_as kind (seen table.now visible.now) (expr_tree expr.now)) }
 {
     let typed = expression(alloc, table, visible, expr)?;
-    let value = converted(alloc, kind, typed.value)?;
-    Ok(Box::into_inner(value))
+    converted(alloc, kind, typed.value)
 }
 
 /// The resolved expression, as an object.
@@ -372,15 +372,15 @@ fn call<'a>(
     let value = match callee {
         Callee::Printf => {
             let value = print(alloc, table, visible, arguments)?;
-            given(alloc, Kind::Int, value)?
+            Resolution::Gives(Kind::Int, value)
         }
         Callee::Defined(kind, _, body) => {
             let wanted = Some(table.parameters(name));
             let all = resolved_arguments(alloc, table, visible, wanted, arguments)?;
-            invoked(alloc, kind, number(body), all)?
+            invoked(kind, number(body), all)
         }
-        Callee::GetChar => given(alloc, Kind::Int, Value::ReadByte)?,
-        Callee::Unknown => given(alloc, Kind::Int, Value::ReadByte)?,
+        Callee::GetChar => Resolution::Gives(Kind::Int, Value::ReadByte),
+        Callee::Unknown => Resolution::Gives(Kind::Int, Value::ReadByte),
     };
     Ok(Typed {
         class: table.function_class(name),
@@ -519,12 +519,12 @@ fn passed(alloc: Global, wanted: Option<Kind>, of: Resolution) -> Result<Argumen
     ensures { IfOk result (λ new. (others : spec.Arguments) → checked.and_argument new others ≡ resolving.argument wanted (resolution of) others) }
 {
     let Some(kind) = wanted else {
-        return Ok(Argument::Number(number_in(alloc, of)?));
+        return Ok(Argument::Number(number_part(alloc, of)?));
     };
     match kind {
         Kind::Object => Ok(Argument::Object(Box::new(alloc, object_in(of))?)),
         Kind::Void | Kind::Bool | Kind::Int | Kind::Long => {
-            Ok(Argument::Number(converted(alloc, kind, of)?))
+            Ok(Argument::Number(converted_part(alloc, kind, of)?))
         }
     }
 }

@@ -145,6 +145,7 @@ impl<'a> Visible<'a> {
     }
 
     /// A number of the kind more.
+    #[inline(always)]
     fn declare_number(&mut self, name: &'a [u8], kind: Kind) -> Result<(), AllocError>
         ensures scope { OnOk result ((table : ClassTable) → seen table self.new
             ≡ (if scopes.has_place (seen table self.old) then scopes.with_number name.now kind (seen table self.old) else seen table self.old)) }
@@ -177,6 +178,7 @@ impl<'a> Visible<'a> {
     }
 
     /// A variable more, of the type.
+    #[inline(always)]
     pub fn declare(
         &mut self,
         table: &ClassTable<'a>,

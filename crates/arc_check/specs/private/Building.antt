@@ -18,7 +18,7 @@ use Rattle.arc_check.specs.Scopes.{Scope, class_of}
 
 -- what an expression is resolved to
 abbrev pub resolution : built.Resolution → Resolution
-resolution (b.Gives kind a) = Gives kind (checked.value a.value)
+resolution (b.Gives kind a) = Gives kind (checked.value a)
 resolution (b.Refers a) = Refers (checked.reference a)
 
 -- the resolved expression, and its static class

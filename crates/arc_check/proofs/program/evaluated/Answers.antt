@@ -1,12 +1,10 @@
-use Rattle.std.proofs.Common.{sym, ap, ◌∙◌}
-use Rattle.arc_spec.specs.Resolved.{Evaluate}
-use Rattle.arc_check.specs.Checked as checked
+use Rattle.std.proofs.Common.{sym, ap}
 use Rattle.arc_check.specs.private.Building.{resolution}
 use Rattle.arc_check.specs.Resolving.{evaluated}
 use Rattle.arc_check.proofs.program.evaluated.Goals as goal
 
 pub returns-in-Gives : goal.returns-in-Gives
-returns-in-Gives c = ap (λ a. Evaluate (checked.value a)) c.into_inner.ensures ∙ ap (λ r. evaluated (resolution r)) (sym c.in-Gives.is)
+returns-in-Gives c = ap (λ r. evaluated (resolution r)) (sym c.in-Gives.is)
 
 pub returns-in-Refers : goal.returns-in-Refers
 returns-in-Refers c = ap (λ r. evaluated (resolution r)) (sym c.in-Refers.is)

@@ -1,5 +1,4 @@
 use Rattle.std.proofs.Common.{ap, ◌∙◌}
-use Rattle.std.proofs.lemmas.Result.{IfOk-weaker}
 use Rattle.arc_spec.specs.Resolved.{Applied}
 use Rattle.arc_check.specs.Checked as checked
 use Rattle.arc_check.specs.Resolving.{Gives, unary_given}
@@ -9,5 +8,5 @@ pub returns : goal.returns
 returns c =
     let operator = c.args.operator in
     let kind = c.args.kind in
-    IfOk-weaker c.given.result _ _ (λ new h. h ∙ ap (λ k. Gives k (Applied operator kind (checked.value c.in_ok-value.value.value))) c.unary_given-given_kind.ensures
-    ∙ ap (λ x. Gives (unary_given operator kind) (Applied operator kind x)) c.in_ok-value.ensures) c.given.ensures
+    ap (λ k. Gives k (Applied operator kind (checked.value c.in_ok-value.value.value))) c.unary_given-given_kind.ensures
+    ∙ ap (λ x. Gives (unary_given operator kind) (Applied operator kind x)) c.in_ok-value.ensures

@@ -1,5 +1,4 @@
 use Rattle.std.proofs.Common.{ap, ◌∙◌}
-use Rattle.std.proofs.lemmas.Result.{IfOk-weaker}
 use Rattle.arc_ast.specs.Operators.{sort_of}
 use Rattle.arc_spec.specs.Resolved.{Combined}
 use Rattle.arc_check.specs.private.Building.{resolution}
@@ -14,5 +13,5 @@ returns c =
     let kind = c.args.kind in
     let a = checked.value c.in_ok-left.left.value in
     let b = checked.value c.in_ok-right.right.value in
-    IfOk-weaker c.given.result _ _ (λ new h. h ∙ ap (λ k. Gives k (Combined operator kind a b)) (c.given_kind.ensures ∙ ap (λ o. given_kind o kind) c.operator_sort.ensures) ∙ ap (λ x. Gives (given_kind (sort_of operator) kind) (Combined operator kind x b)) c.in_ok-left.ensures
-    ∙ ap (λ x. Gives (given_kind (sort_of operator) kind) (Combined operator kind (converted kind (resolution c.args.left)) x)) c.in_ok-right.ensures) c.given.ensures
+    ap (λ k. Gives k (Combined operator kind a b)) (c.given_kind.ensures ∙ ap (λ o. given_kind o kind) c.operator_sort.ensures) ∙ ap (λ x. Gives (given_kind (sort_of operator) kind) (Combined operator kind x b)) c.in_ok-left.ensures
+    ∙ ap (λ x. Gives (given_kind (sort_of operator) kind) (Combined operator kind (converted kind (resolution c.args.left)) x)) c.in_ok-right.ensures

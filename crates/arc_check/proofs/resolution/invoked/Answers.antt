@@ -1,5 +1,4 @@
 use Rattle.std.proofs.Common.{sym, ap, ◌∙◌}
-use Rattle.std.proofs.lemmas.Result.{IfOk-weaker}
 use Rattle.arc_check.specs.Checked as checked
 use Rattle.arc_check.specs.Resolving.{Gives, Refers}
 use Rattle.arc_check.proofs.Buildings.{invoked_object, invoked_number}
@@ -12,5 +11,5 @@ returns-then-is_object c =
 
 pub returns : goal.returns
 returns c =
-    IfOk-weaker c.given.result _ _ (λ new h. h ∙ ap (Gives c.args.kind) (invoked_value c.args.function c.args.all)
-    ∙ invoked_number c.args.kind c.args.function (checked.arguments c.args.all.items) (sym c.is_object.ensures ∙ c.if-is_object.false)) c.given.ensures
+    ap (Gives c.args.kind) (invoked_value c.args.function c.args.all)
+    ∙ invoked_number c.args.kind c.args.function (checked.arguments c.args.all.items) (sym c.is_object.ensures ∙ c.if-is_object.false)

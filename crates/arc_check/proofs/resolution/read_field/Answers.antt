@@ -1,5 +1,4 @@
 use Rattle.std.proofs.Common.{sym, ap, ◌∙◌}
-use Rattle.std.proofs.lemmas.Result.{IfOk-weaker}
 use Rattle.arc_class.specs.Table.{number_of_class}
 use Rattle.arc_spec.specs.Resolved.{Field, ObjectField}
 use Rattle.arc_check.specs.Checked as checked
@@ -15,4 +14,4 @@ pub returns-else-is_object : goal.returns-else-is_object
 returns-else-is_object c =
     let f = c.args.field in
     rw (sym c.is_object.ensures ∙ c.if-is_object.false)
-    (IfOk-weaker c.given.result _ _ (λ new h. h ∙ ap (λ o. Gives f.kind (Field (checked.reference o) (number_of_class f.owner) f.index)) c.in_ok-object.ensures.ok) c.given.ensures)
+    (ap (λ o. Gives f.kind (Field (checked.reference o) (number_of_class f.owner) f.index)) c.in_ok-object.ensures.ok)

@@ -1,5 +1,4 @@
 use Rattle.std.proofs.Common.{sym, ap, ◌∙◌}
-use Rattle.std.proofs.lemmas.Result.{IfOk-weaker}
 use Rattle.arc_spec.specs.Resolved.{Sent, ObjectSent}
 use Rattle.arc_check.specs.Checked as checked
 use Rattle.arc_check.specs.Resolving.{Gives, Refers}
@@ -16,5 +15,5 @@ pub returns : goal.returns
 returns c =
     let all = checked.arguments c.args.all.items in
     rw (sym c.is_object.ensures ∙ c.if-is_object.false)
-    (IfOk-weaker c.given.result _ _ (λ new h. h ∙ ap (Gives c.kind_or_int.result) (sent_value c.in_ok-receiver.receiver c.args.selector c.args.all ∙ ap (λ r. Sent (checked.receiver r) c.args.selector all) c.in_ok-receiver.ensures.ok)
-    ∙ ap (λ k. Gives k (Sent (checked.receiver c.args.receiver) c.args.selector all)) c.kind_or_int.ensures) c.given.ensures)
+    (ap (Gives c.kind_or_int.result) (sent_value c.in_ok-receiver.receiver c.args.selector c.args.all ∙ ap (λ r. Sent (checked.receiver r) c.args.selector all) c.in_ok-receiver.ensures.ok)
+    ∙ ap (λ k. Gives k (Sent (checked.receiver c.args.receiver) c.args.selector all)) c.kind_or_int.ensures)

@@ -1,5 +1,4 @@
 use Rattle.std.proofs.Common.{sym, ap, ◌∙◌}
-use Rattle.std.proofs.lemmas.Result.{IfOk-weaker}
 use Rattle.arc_class.specs.Table.{number_of_class}
 use Rattle.arc_spec.specs.Resolved.{FieldAssigned, ObjectFieldStored}
 use Rattle.arc_check.specs.Checked as checked
@@ -18,5 +17,5 @@ pub returns-in_ok-value : goal.returns-in_ok-value
 returns-in_ok-value c =
     let f = c.args.field in
     rw (sym c.is_object.ensures ∙ c.if-is_object.false)
-    (IfOk-weaker c.given.result _ _ (λ new h. h ∙ ap (λ o. Gives f.kind (FieldAssigned (checked.reference o) (number_of_class f.owner) f.index (checked.value c.in_ok-value.value.value))) c.in_ok-object.ensures.ok
-    ∙ ap (λ v. Gives f.kind (FieldAssigned (checked.reference c.args.object) (number_of_class f.owner) f.index v)) c.in_ok-value.ensures) c.given.ensures)
+    (ap (λ o. Gives f.kind (FieldAssigned (checked.reference o) (number_of_class f.owner) f.index (checked.value c.in_ok-value.value.value))) c.in_ok-object.ensures.ok
+    ∙ ap (λ v. Gives f.kind (FieldAssigned (checked.reference c.args.object) (number_of_class f.owner) f.index v)) c.in_ok-value.ensures)

@@ -19,7 +19,7 @@ use Rattle.arc_check.proofs.Trees.{print_value}
 use Rattle.arc_check.proofs.Buildings.{values_turn, values_end, printing_some, printing_none, resolves_call}
 use Rattle.arc_check.proofs.Messages.{assigned_other, resolves_class, resolves_object, resolves_super}
 use Rattle.arc_check.proofs.resolve.+resolve.Goals as goal
-use Rattle.arc_check.proofs.resolve.+resolve.Goals.{call-in-Printf+in_ok-value-in-Printf+in_ok-value-in-Printf-2, call-in-Defined+in_ok-all-in-Defined+in_ok-value-in-Defined, call-in-GetChar+in_ok-value-in-GetChar, call-in-Unknown+in_ok-value-in-Unknown}
+use Rattle.arc_check.proofs.resolve.+resolve.Goals.{call-in-Printf+in_ok-value-in-Printf, call-in-Defined+in_ok-all-in-Defined, call-in-GetChar, call-in-Unknown}
 
 pub expression-returns-in-Call : goal.expression-returns-in-Call
 expression-returns-in-Call t c =
@@ -39,10 +39,10 @@ pub expression-returns-in-Itself : goal.expression-returns-in-Itself
 expression-returns-in-Itself t c = rw c.in-Itself.is (record { class = c.own_class.ensures c.args.table.now; value = ap resolving.Refers c.itself.ensures })
 
 pub expression-returns-in-Integer : goal.expression-returns-in-Integer
-expression-returns-in-Integer t c = IfOk-weaker c.integer.result _ _ (λ typed h. rw c.in-Integer.is (h (seen c.args.table.now c.args.visible.now) c.in-Integer.field-0)) c.integer.ensures
+expression-returns-in-Integer t c = rw c.in-Integer.is (c.integer.ensures (seen c.args.table.now c.args.visible.now) c.in-Integer.field-0)
 
 pub expression-returns-in-Text : goal.expression-returns-in-Text
-expression-returns-in-Text t c = IfOk-weaker c.text.result _ _ (λ typed h. rw c.in-Text.is (h (seen c.args.table.now c.args.visible.now) c.in-Text.field-0 c.in-Text.field-1.items)) c.text.ensures
+expression-returns-in-Text t c = rw c.in-Text.is (c.text.ensures (seen c.args.table.now c.args.visible.now) c.in-Text.field-0 c.in-Text.field-1.items)
 
 pub expression-returns-in-Name : goal.expression-returns-in-Name
 expression-returns-in-Name t c = IfOk-weaker c.variable.result _ _ (λ typed h. rw (c.in-Name.is, sym c.deref-in-Name.ensures.value) (h c.in-Name.field-0)) c.variable.ensures
@@ -166,12 +166,12 @@ call-returns t c = λ at.
     let typed : Typed = record { class = c.function_class.result; value = c.match-callee.value } in
     let class = ap (option_map number_of_class) c.function_class.ensures in
     elim c.match-callee.branch [
-      | call-in-Printf+in_ok-value-in-Printf+in_ok-value-in-Printf-2 w ↦ resolves_call s at name all Printf typed (sym w.in-Printf.ensures) class (ap resolution w.value-is ∙ w.in_ok-value-in-Printf-2.ensures ∙ ap (Gives Int) w.in_ok-value-in-Printf.ensures)
-      | call-in-Defined+in_ok-all-in-Defined+in_ok-value-in-Defined w ↦ resolves_call s at name all (Defined w.in-Defined.kind w.in-Defined.field-1 w.in-Defined.body) typed (sym w.in-Defined.ensures) class
-          (ap resolution w.value-is ∙ w.in_ok-value-in-Defined.ensures ∙ ap (λ f. invoked w.in-Defined.kind f (checked.arguments w.in_ok-all-in-Defined.all.items)) w.number.ensures
+      | call-in-Printf+in_ok-value-in-Printf w ↦ resolves_call s at name all Printf typed (sym w.in-Printf.ensures) class (ap resolution w.value-is ∙ ap (Gives Int) w.in_ok-value-in-Printf.ensures)
+      | call-in-Defined+in_ok-all-in-Defined w ↦ resolves_call s at name all (Defined w.in-Defined.kind w.in-Defined.field-1 w.in-Defined.body) typed (sym w.in-Defined.ensures) class
+          (ap resolution w.value-is ∙ w.invoked-value.ensures ∙ ap (λ f. invoked w.in-Defined.kind f (checked.arguments w.in_ok-all-in-Defined.all.items)) w.number.ensures
           ∙ ap (invoked w.in-Defined.kind (unwrap_or w.in-Defined.body 0)) (w.in_ok-all-in-Defined.ensures ∙ ap (λ k. resolved_all s (Some k) all) w.parameters.ensures))
-      | call-in-GetChar+in_ok-value-in-GetChar w ↦ resolves_call s at name all GetChar typed (sym w.in-GetChar.ensures) class (ap resolution w.value-is ∙ w.in_ok-value-in-GetChar.ensures)
-      | call-in-Unknown+in_ok-value-in-Unknown w ↦ resolves_call s at name all Unknown typed (sym w.in-Unknown.ensures) class (ap resolution w.value-is ∙ w.in_ok-value-in-Unknown.ensures)
+      | call-in-GetChar w ↦ resolves_call s at name all GetChar typed (sym w.in-GetChar.ensures) class (ap resolution w.value-is)
+      | call-in-Unknown w ↦ resolves_call s at name all Unknown typed (sym w.in-Unknown.ensures) class (ap resolution w.value-is)
     ]
 
 pub print-returns-in_ok-pieces-in-Some : goal.print-returns-in_ok-pieces-in-Some
