@@ -39,6 +39,7 @@ impl<'a, 't> Visitor for Ownership<'a, 't> {
 
     ghost found = { λ ownership. option_map reported ownership.fault };
 
+    #[inline(always)]
     fn visit(&mut self, enclosing: Enclosing, node: Node) {
         if is_unasked(node) {
             return;
@@ -69,6 +70,7 @@ fn is_unasked(node: Node) -> bool
 }
 
 /// The first rule that a site breaks.
+#[inline(never)]
 fn first_broken(table: &ClassTable, enclosing: Enclosing, node: Node) -> Option<OwnFault>
     ensures { (u : UnitTree) → IsTableOf u table.now → (scope : sites.Scope) (need : sites.Need) → option_map reported result ≡ first (rules.violations u (around (enclosing_of enclosing.entry) scope need) (node_of node.entry)) }
 {
