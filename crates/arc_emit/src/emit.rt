@@ -1,5 +1,5 @@
 //! Writes actions as instructions, one for each.
-ghost use Rattle.std.specs.Prelude.{◌≡◌, ◌≤◌, length, IfOk, IsErrOf};
+ghost use Rattle.std.specs.Prelude.{◌≡◌, ◌<◌, ◌≤◌, length, IfOk, IfErr, IsErrOf};
 ghost use Rattle.arc_spec.specs.Correct.{Refines, Steady};
 ghost use Rattle.arc_ir.specs.Acting as acting;
 ghost use Rattle.arc_code.specs.Running as running;
@@ -32,15 +32,25 @@ pub fn emit(alloc: Global, ir: &Ir, _table: &ClassTable) -> Result<Code, EmitFau
     write_code(alloc, ir)
 }
 
+/// Whether code may have so many instructions. TooLarge: there would be over 16,777,216.
+pub fn fits(instrs: usize) -> Result<(), EmitFault>
+    ensures few { IfOk result (λ _. instrs ≤ most_instrs) }
+    ensures large { IfErr result (λ fault. (fault ≡ EmitFault.TooLarge) × (most_instrs < instrs)) }
+{
+    if instrs > MOST_INSTRS {
+        Err(EmitFault::TooLarge)
+    } else {
+        Ok(())
+    }
+}
+
 /// The code of a program, whether it is sound or not.
 fn write_code(alloc: Global, ir: &Ir) -> Result<Code, EmitFault>
     ensures code { IfOk result (λ code. program_of code ≡ code_of (acting.program_of ir.now)) }
     ensures few_instrs { IfOk result (λ code. length code.instrs.items ≤ most_instrs) }
     ensures large { IsErrOf result EmitFault.TooLarge → IsLarge (acting.program_of ir.now) }
 {
-    if ir.actions.len() > MOST_INSTRS {
-        return Err(EmitFault::TooLarge);
-    }
+    fits(ir.actions.len())?;
     let mut instrs = Vec::with_capacity(alloc, ir.actions.len())?;
     let mut texts = Vec::new(alloc);
     for action in &ir.actions {
