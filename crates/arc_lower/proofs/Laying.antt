@@ -10,7 +10,25 @@ pub greatest_append : (a b : List Height) (most : Height) → greatest (a ++ b) 
 greatest_append [] b most = refl
 greatest_append (h ∷ a) b most = greatest_append a b (highest most h)
 
--- with these functions still to come, all comes out as from the start
+-- what stands for a first part of a row stands for the row
+pub row_on : (o part rest o' whole : List Order) → o' ≡ o ++ part → o ++ (part ++ rest) ≡ whole → o' ++ rest ≡ whole
+row_on o part rest o' whole eo before = ap (λ l. l ++ rest) eo ∙ append_assoc o part rest ∙ before
+
+-- with these functions still to come, the actions and the entries come out as from the start
+pub record Listed (P : Program) (o0 : List Order) (e0 : List ℕ) (all : List Function) (o : List Order) (e : List ℕ) (left : List Function) : Type 0 where
+  pub actions : o ++ functions_orders P (length o) left ≡ o0 ++ functions_orders P (length o0) all
+  pub entries : e ++ entries_from P (length o) left ≡ e0 ++ entries_from P (length o0) all
+
+pub listed_more : (P : Program) (o0 : List Order) (e0 : List ℕ) (all : List Function) (o : List Order) (e : List ℕ) (f : Function) (left : List Function) (o' : List Order) (e' : List ℕ) → Listed P o0 e0 all o e (f ∷ left) → o' ≡ o ++ function_orders P (length o) f → e' ≡ e ++ entry_of (length o) f ∷ [] → Listed P o0 e0 all o' e' left
+listed_more P o0 e0 all o e f left o' e' listed eo ee =
+    let is = function_orders P (length o) f in
+    let n : length o' ≡ length o + length is = ap length eo ∙ length-append o is in
+    record {
+      actions = ap (λ l. l ++ functions_orders P (length o') left) eo ∙ append_assoc o is (functions_orders P (length o') left) ∙ ap (λ m. o ++ (is ++ functions_orders P m left)) n ∙ listed.actions;
+      entries = ap (λ l. l ++ entries_from P (length o') left) ee ∙ append_assoc e (entry_of (length o) f ∷ []) (entries_from P (length o') left) ∙ ap (λ m. e ++ entry_of (length o) f ∷ entries_from P m left) n ∙ listed.entries;
+    }
+
+-- and the greatest height
 pub record Laid (P : Program) (o0 : List Order) (e0 : List ℕ) (m0 : Height) (all : List Function) (o : List Order) (e : List ℕ) (m : Height) (left : List Function) : Type 0 where
   pub actions : o ++ functions_orders P (length o) left ≡ o0 ++ functions_orders P (length o0) all
   pub entries : e ++ entries_from P (length o) left ≡ e0 ++ entries_from P (length o0) all
@@ -20,10 +38,10 @@ pub laid_more : (P : Program) (o0 : List Order) (e0 : List ℕ) (m0 : Height) (a
 laid_more P o0 e0 m0 all o e m f left o' e' m' laid eo ee em =
     let is = function_orders P (length o) f in
     let n : length o' ≡ length o + length is = ap length eo ∙ length-append o is in
-    let before : o ++ (is ++ functions_orders P (length o + length is) left) ≡ o0 ++ functions_orders P (length o0) all = laid.actions in
     let rest = functions_heights P (length o + length is) left in
+    let listed = listed_more P o0 e0 all o e f left o' e' (record { actions = laid.actions; entries = laid.entries }) eo ee in
     record {
-      actions = ap (λ l. l ++ functions_orders P (length o') left) eo ∙ append_assoc o is (functions_orders P (length o') left) ∙ ap (λ m. o ++ (is ++ functions_orders P m left)) n ∙ before;
-      entries = ap (λ l. l ++ entries_from P (length o') left) ee ∙ append_assoc e (entry_of (length o) f ∷ []) (entries_from P (length o') left) ∙ ap (λ m. e ++ entry_of (length o) f ∷ entries_from P m left) n ∙ laid.entries;
+      actions = listed.actions;
+      entries = listed.entries;
       most = ap (λ q. greatest (functions_heights P q left) m') n ∙ ap (greatest rest) em ∙ sym (greatest_append (function_heights P (length o) f) rest m) ∙ laid.most;
     }

@@ -8,6 +8,7 @@ pub mod height;
 mod jump;
 mod known;
 pub mod law;
+pub mod list;
 pub mod lower;
 mod place;
 mod print;

@@ -80,7 +80,10 @@ fn room_for(most: usize) -> Result<usize, NoMemory>
 
 /// Appends the actions that call `main`, and the one at which the ends of objects go on. Gives the
 /// number of that one.
-fn append_call_of_main(actions: &mut Vec<Action>, program: &Checked) -> Result<usize, NoMemory>
+pub(crate) fn append_call_of_main(
+    actions: &mut Vec<Action>,
+    program: &Checked,
+) -> Result<usize, NoMemory>
     ensures actions { OnOk result (orders actions.new.items ≡ orders actions.old.items ++ start_orders (program_of program.now)) }
     ensures end_step { IfOk result (λ place. place ≡ length (orders actions.old.items) + end_step_of (program_of program.now)) }
 {
@@ -144,17 +147,17 @@ fn append_functions(
 /// A function: how many variables it has that hold numbers and that name objects, how many objects it is passed, what it
 /// gives, whether it owns `self`, and what it does.
 #[derive(Clone, Copy)]
-struct Definition<'p> {
-    slots: usize,
-    names: usize,
-    parameters: usize,
-    gives: Gives,
-    owns: bool,
-    body: &'p [Command],
+pub(crate) struct Definition<'p> {
+    pub slots: usize,
+    pub names: usize,
+    pub parameters: usize,
+    pub gives: Gives,
+    pub owns: bool,
+    pub body: &'p [Command],
 }
 
 /// A function that does nothing, and gives 0 or nil.
-fn nothing_giving<'p>(gives: Gives) -> Definition<'p>
+pub(crate) fn nothing_giving<'p>(gives: Gives) -> Definition<'p>
     ensures { function_of result ≡ nothing_giving gives }
 {
     Definition {
@@ -229,7 +232,7 @@ fn append_owned(actions: &mut Vec<Action>, owns: bool, names: usize) -> Result<(
 }
 
 /// Appends what a function does from its entry on, which is left at this action.
-fn append_body(
+pub(crate) fn append_body(
     alloc: Global,
     actions: &mut Vec<Action>,
     program: &Checked,

@@ -32,7 +32,7 @@ fn entry_of(entries: &[usize], number: usize) -> usize
 
 /// How many numbers a message of this sign passes that has so many arguments. NoMemory: no stack
 /// has so many.
-fn numbers_passed(sign: Sign, takes: usize) -> Result<usize, NoMemory>
+pub(crate) fn numbers_passed(sign: Sign, takes: usize) -> Result<usize, NoMemory>
     ensures { IfOk result (λ count. count ≡ passes sign takes) }
 {
     match sign {
@@ -43,7 +43,7 @@ fn numbers_passed(sign: Sign, takes: usize) -> Result<usize, NoMemory>
 
 /// Appends the actions that make the `count` numbers on top and the `objects` last references what a
 /// function takes, and go on where that is entered.
-fn append_jump_to(
+pub(crate) fn append_jump_to(
     actions: &mut Vec<Action>,
     program: &Checked,
     entries: &[usize],

@@ -28,6 +28,7 @@ pub(crate) fn one_more(depth: usize) -> Result<usize, NoMemory>
 }
 
 /// Appends the action that puts the number of a variable on the stack, above `depth` operands.
+#[inline(always)]
 pub(crate) fn append_get(
     actions: &mut Vec<Action>,
     slots: usize,
@@ -43,6 +44,7 @@ pub(crate) fn append_get(
 }
 
 /// The same of a variable of the function.
+#[inline(always)]
 fn append_get_local(
     actions: &mut Vec<Action>,
     slots: usize,
@@ -61,6 +63,7 @@ fn append_get_local(
 
 /// Appends the actions that put a copy of the top number, below which `depth` operands lie, in a
 /// variable's place.
+#[inline(always)]
 pub(crate) fn append_set(
     actions: &mut Vec<Action>,
     slots: usize,
@@ -79,6 +82,7 @@ pub(crate) fn append_set(
 }
 
 /// The same of a variable of the function.
+#[inline(always)]
 fn append_set_local(
     actions: &mut Vec<Action>,
     slots: usize,

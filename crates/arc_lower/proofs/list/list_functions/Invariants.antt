@@ -1,0 +1,10 @@
+use Rattle.std.proofs.Common.{◌++◌, [], ◌∷◌, drop}
+use Rattle.arc_check.specs.Checked.{functions, program_of}
+use Rattle.arc_lower.specs.Order.{orders}
+use Rattle.arc_spec.specs.declared.class.Gives.TheVariants as gives
+use Rattle.arc_spec.specs.Meaning.{nothing_giving}
+use Rattle.arc_lower.proofs.Laying.{Listed}
+use Rattle.arc_lower.proofs.list.list_functions.Given as goal
+
+abbrev pub invariant-loop-function : goal.invariant-loop-function
+invariant-loop-function l = Listed (program_of l.program) (orders l.initial.actions.items) l.initial.entries.items (functions l.function-items ++ nothing_giving gives.Number ∷ nothing_giving gives.Object ∷ []) (orders l.actions.items) l.entries.items (functions (drop l.function-index l.function-items) ++ nothing_giving gives.Number ∷ nothing_giving gives.Object ∷ [])
