@@ -1,5 +1,5 @@
 -- The stages one after another.
-use Rattle.std.proofs.Common.{◌≡◌, ℕ, List, [], length, refl, sym, ap, subst, ◌∙◌, arith}
+use Rattle.std.proofs.Common.{◌≡◌, ℕ, ◌<◌, List, [], length, refl, sym, ap, subst, ◌∙◌, arith}
 use Rattle.std.proofs.lemmas.List.{length-map}
 use Rattle.arc_lex.specs.declared.token.Token.{Token}
 use Rattle.arc_lex.specs.Tokens.{toks}
@@ -23,7 +23,7 @@ use Rattle.arc_lower.specs.Promise.{Performs, IsLowered}
 use Rattle.arc_emit.specs.declared.fault.EmitFault.{EmitFault}
 use Rattle.arc_emit.specs.declared.fault.EmitFault.TheVariants as f
 use Rattle.arc_emit.specs.Faults as emitting
-use Rattle.arc_emit.specs.Emitted.{IsLarge}
+use Rattle.arc_emit.specs.Emitted.{most_instrs, IsLarge}
 use Rattle.arc_code.specs.Running.{Program, seen, IsSound}
 use Rattle.arc_tool.specs.declared.refusal.Refusal.{Refusal}
 use Rattle.arc_source.specs.Accepted.{Spelled, Accepted, program_meant, meant}
@@ -41,6 +41,12 @@ too_many : (P : resolved.Program) (actions : acting.Program) → orders actions.
 too_many P actions is large =
     let many : length (lowered P) ≡ length actions.actions = ap length (sym is) ∙ length-map actions.actions order.order in
     omega (arith, many, large)
+
+-- a program that becomes so many actions, where there is no room for them
+pub too_long : (source : List ℕ) (program : Accepted source) (count : ℕ) → count ≡ length (lowered (program_meant program)) → (e : EmitFault) (r : Refusal)
+    → (e ≡ f.TooLarge) × (most_instrs < count) → Reports (emitting.fault_number e) (emitting.fault_name e) 0 r → IsRefusal source r
+too_long source program count is f.TooLarge r large reports = too_large program (subst (λ n. most_instrs < n) is large.1) reports
+too_long source program count is f.Memory r large reports = no_memory program reports
 
 -- ---- the stages
 

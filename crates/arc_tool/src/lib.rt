@@ -1,6 +1,7 @@
 //! The whole way from a source to what it prints, and the program's words.
 #![tactic(auto)]
 
+mod accept;
 pub mod compile;
 mod lines;
 mod nowhere;

@@ -5,6 +5,7 @@ ghost use Rattle.arc_code.specs.Counting.{failures_of, inner_of};
 ghost use Rattle.arc_tool.specs.declared.report.Trouble.{Trouble};
 ghost use Rattle.arc_tool.specs.Served.{Attempted, Blamed, Obeyed, Prints, Reported, Checks, Lists, WriterBlamed, source_or, ended_with};
 
+use crate::accept::accept;
 use crate::compile::compile;
 use crate::report::{Trouble, flush, print_trouble, put, status};
 use crate::request::{Command, Words, WordsFault};
@@ -150,7 +151,7 @@ fn check_source<W: Output>(
     ensures blamed { WriterBlamed result (failures_of output.old) (failures_of output.new)
         (HasFailedToWrite W.writes W.flushes (inner_of output.new)) }
 {
-    let _ = compile(alloc, source)?;
+    accept(alloc, source)?;
     print(b"ok\n", output)?;
     Ok(0)
 }

@@ -1,0 +1,48 @@
+//! Whether a source is a program, for a process that ends right after.
+ghost use Rattle.std.specs.Prelude.{ℕ, List, IfOk, IfErr};
+ghost use Rattle.arc_ast.specs.Tree.{unit_tree};
+ghost use Rattle.arc_source.specs.Accepted.{Accepted, Spelled};
+ghost use Rattle.arc_tool.specs.Refused.{IsRefusal};
+
+use crate::refusal::Refusal;
+use arc_ast::tree::TranslationUnit;
+use arc_check::check::check;
+use arc_class::table::ClassTable;
+use arc_emit::emit::fits;
+use arc_family::owned::own;
+use arc_lex::lex::lex;
+use arc_lower::list::list_actions;
+use arc_parse::parse::parse;
+use std::alloc::Global;
+use std::mem::forget;
+
+/// Whether the source is a program, by the stages of `compile`, of which the last ones only count the instructions; a refusal is that of the
+/// first one that refuses. The tokens, the tree and what is made of them aren't given back, which would take a seventh of the time.
+pub(crate) fn accept(alloc: Global, source: &[u8]) -> Result<(), Refusal>
+    ensures accepted { IfOk result (λ _. Accepted source.now) }
+    ensures refused { IfErr result (λ refusal. IsRefusal source.now refusal) }
+{
+    let tokens = lex(alloc, source)?;
+    let unit = parse(alloc, &tokens)?;
+    forget(tokens);
+    let answer = accept_tree(alloc, &unit);
+    forget(unit);
+    answer
+}
+
+/// The same of a tree, whatever source spells it.
+fn accept_tree(alloc: Global, unit: &TranslationUnit) -> Result<(), Refusal>
+    ensures accepted { (source : List ℕ) → Spelled source (unit_tree unit.now) → IfOk result (λ _. Accepted source) }
+    ensures refused { (source : List ℕ) → Spelled source (unit_tree unit.now) → IfErr result (λ refusal. IsRefusal source refusal) }
+{
+    let table = ClassTable::build(alloc, unit)?;
+    let program = check(alloc, unit, &table)?;
+    let owned = own(alloc, &program)?;
+    let actions = list_actions(alloc, &owned)?;
+    fits(actions.len())?;
+    forget(actions);
+    forget(owned);
+    forget(program);
+    forget(table);
+    Ok(())
+}
