@@ -1,2 +1,5 @@
+pub mod Signatures
+pub mod Fields
+pub mod Globals
 pub mod Tops
 pub mod Unit

@@ -1,2 +1,6 @@
 -- The vocabulary of private functions: no contract of a public call speaks of it.
+pub mod Signatures
+pub mod Fields
+pub mod Globals
+pub mod Tops
 pub mod Views

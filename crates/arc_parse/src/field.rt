@@ -1,0 +1,166 @@
+//! Reads the fields of classes.
+ghost use Rattle.std.specs.Prelude.{◌≡◌, ◌<◌, ◌≤◌, length, IfOk};
+ghost use Rattle.arc_lex.specs.Tokens.{toks};
+ghost use Rattle.arc_ast.specs.Tree.{type_tree, field_tree, field_trees};
+ghost use Rattle.arc_form.specs.Form.{map};
+ghost use Rattle.arc_form.specs.Kinds as kinds;
+ghost use Rattle.arc_form.specs.Reader.{Gives, sees, take_one};
+ghost use Rattle.arc_grammar.specs.Grammar.{reads};
+ghost use Rattle.arc_grammar.specs.Grammar as grammar;
+ghost use Rattle.arc_parse.specs.private.Fields.{begins_group, names_on, typed_fields_on, group_on};
+
+use crate::name::{QualifiedName, next_qualified_name, starred_name};
+use crate::value_type::begins_qualified_type;
+use arc_ast::tree::{Field, Qualifiers, TypeName, Visibility};
+use arc_expr::qualifier::qualifiers;
+use arc_expr::type_name::declared_type;
+use arc_form::fail::{Fail, Read};
+use arc_form::reader::Reader;
+use arc_lex::token::{AtWord, Mark, Token, TokenKind};
+use std::alloc::{AllocError, Global};
+
+/// The fields in braces, if there are any; those before any word are visible so.
+#[tactic(auto, using(arc_form::proofs::Binding::bind_twice), unfolding(arc_grammar::specs::Grammar::fields))]
+pub fn fields(alloc: Global, first: Visibility, reader: &mut Reader) -> Read<Vec<Field>>
+    ensures gives { Gives (λ x. field_trees x.items) result (toks reader.new.rest.now) (reads (grammar.fields first) (toks reader.old.rest.now)) }
+    ensures shorter { IfOk result (λ _. length reader.new.rest.now ≤ length reader.old.rest.now) }
+{
+    if !reader.sees_mark(Mark::OpenBrace) {
+        return Ok(Vec::new(alloc));
+    }
+    reader.expect(Mark::OpenBrace)?;
+    let all = groups(alloc, first, reader)?;
+    reader.expect(Mark::CloseBrace)?;
+    Ok(all)
+}
+
+/// Fields and words on those after them, as many as there are; the fields before any word are visible so.
+#[tactic(auto, using(crate::proofs::Fields::read_groups_on, crate::proofs::Fields::groups_start))]
+fn groups(alloc: Global, first: Visibility, reader: &mut Reader) -> Read<Vec<Field>>
+    ensures gives { Gives (λ x. field_trees x.items) result (toks reader.new.rest.now) (reads (map (grammar.fields_of first) grammar.groups) (toks reader.old.rest.now)) }
+    ensures shorter { IfOk result (λ _. length reader.new.rest.now ≤ length reader.old.rest.now) }
+{
+    let mut all = Vec::new(alloc);
+    let mut visibility = first;
+    'groups: while begins_group(reader) {
+        let (next, more) = group(alloc, visibility, all, reader)?;
+        all = more;
+        visibility = next;
+    }
+    Ok(all)
+}
+
+/// Whether fields, or a word on those after it, can begin with the first token.
+#[tactic(auto, using(arc_form::proofs::Sets::sees_or))]
+fn begins_group(reader: &Reader) -> bool
+    ensures { result ≡ sees begins_group (toks reader.now.rest.now) }
+{
+    begins_qualified_type(reader)
+        || (reader.sees_at(AtWord::Private)
+            || reader.sees_at(AtWord::Protected)
+            || reader.sees_at(AtWord::Public))
+}
+
+/// These fields and those of a type, which are visible so, or a word: how those after it are visible, and the fields.
+#[tactic(auto, using(crate::proofs::Fields::read_group))]
+fn group(
+    alloc: Global,
+    now: Visibility,
+    before: Vec<Field>,
+    reader: &mut Reader,
+) -> Read<(Visibility, Vec<Field>)>
+    ensures gives { Gives (λ x. (x.0, field_trees x.1.items)) result (toks reader.new.rest.now) (group_on (now, field_trees before.items) (toks reader.old.rest.now)) }
+    ensures shorter { IfOk result (λ _. length reader.new.rest.now < length reader.old.rest.now) }
+{
+    if begins_qualified_type(reader) {
+        let qualifiers = qualifiers(reader)?;
+        let all = typed_fields(alloc, now, qualifiers, before, reader)?;
+        return Ok((now, all));
+    }
+    let next = visibility(reader)?;
+    Ok((next, before))
+}
+
+/// How the fields after the first token are visible, which is a word that says so.
+fn visibility(reader: &mut Reader) -> Read<Visibility>
+    ensures gives { Gives (λ x. x) result (toks reader.new.rest.now) (take_one grammar.begins_visibility (λ t. grammar.visibility_of t.sort) (toks reader.old.rest.now)) }
+    ensures shorter { IfOk result (λ _. length reader.new.rest.now < length reader.old.rest.now) }
+{
+    let Some((token, rest)) = reader.rest.split_first() else {
+        return Err(Fail::Unexpected);
+    };
+    let visibility = match token.kind {
+        TokenKind::At(AtWord::Private) => Visibility::Private,
+        TokenKind::At(AtWord::Protected) => Visibility::Protected,
+        TokenKind::At(AtWord::Public) => Visibility::Public,
+        _ => return Err(Fail::Unexpected),
+    };
+    reader.rest = rest;
+    Ok(visibility)
+}
+
+/// These fields and those of a type, one name or more and `;`, each with a `*` where the type is a class's.
+#[tactic(auto, using(arc_grammar::proofs::Lists::appends))]
+fn typed_fields(
+    alloc: Global,
+    visibility: Visibility,
+    qualifiers: Qualifiers,
+    before: Vec<Field>,
+    reader: &mut Reader,
+) -> Read<Vec<Field>>
+    ensures gives { Gives (λ x. field_trees x.items) result (toks reader.new.rest.now) (typed_fields_on (sees kinds.name (toks reader.old.rest.now)) visibility qualifiers (field_trees before.items) (toks reader.old.rest.now)) }
+    ensures shorter { IfOk result (λ _. length reader.new.rest.now < length reader.old.rest.now) }
+{
+    let of_class = reader.sees_name();
+    let (_, type_name) = declared_type(alloc, of_class, reader)?;
+    let named = starred_name(alloc, of_class, reader)?;
+    let mut all = before;
+    all.push(field(alloc, visibility, qualifiers, &type_name, named)?)?;
+    let all = more_fields(
+        alloc, of_class, visibility, qualifiers, &type_name, all, reader,
+    )?;
+    reader.expect(Mark::Semicolon)?;
+    Ok(all)
+}
+
+/// These fields and the further ones of this type, each of which is after a comma, and a `*` where the type is a class's.
+#[tactic(auto, using(arc_grammar::proofs::Loops::one_more, arc_grammar::proofs::Fits::taking, arc_grammar::proofs::Lists::appends))]
+fn more_fields(
+    alloc: Global,
+    of_class: bool,
+    visibility: Visibility,
+    qualifiers: Qualifiers,
+    type_name: &TypeName,
+    before: Vec<Field>,
+    reader: &mut Reader,
+) -> Read<Vec<Field>>
+    ensures gives { Gives (λ x. field_trees x.items) result (toks reader.new.rest.now) (names_on of_class visibility (qualifiers, type_tree type_name.now) (field_trees before.items) (toks reader.old.rest.now)) }
+    ensures shorter { IfOk result (λ _. length reader.new.rest.now ≤ length reader.old.rest.now) }
+{
+    let mut all = before;
+    'fields: while reader.sees_mark(Mark::Comma) {
+        let named = next_qualified_name(alloc, of_class, reader)?;
+        all.push(field(alloc, visibility, qualifiers, type_name, named)?)?;
+    }
+    Ok(all)
+}
+
+/// A field of this type and this name.
+fn field(
+    alloc: Global,
+    visibility: Visibility,
+    qualifiers: Qualifiers,
+    type_name: &TypeName,
+    named: QualifiedName,
+) -> Result<Field, AllocError>
+    ensures { IfOk result (λ f. field_tree f ≡ grammar.field_of visibility (qualifiers, type_tree type_name.now) (named.0, (named.1.0, named.1.1.items))) }
+{
+    let (own, (at, name)) = named;
+    Ok(Field {
+        at,
+        type_name: type_name.copy(alloc)?,
+        qualifiers: qualifiers.both(own),
+        name,
+        visibility,
+    })
+}

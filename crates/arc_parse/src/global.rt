@@ -1,0 +1,180 @@
+//! Reads variables of the whole program.
+ghost use Rattle.std.specs.Prelude.{◌≡◌, ◌<◌, ◌≤◌, length, IfOk};
+ghost use Rattle.arc_lex.specs.Tokens.{toks};
+ghost use Rattle.arc_ast.specs.Tree.{type_tree, global_tree, global_trees};
+ghost use Rattle.arc_form.specs.Kinds as kinds;
+ghost use Rattle.arc_form.specs.Reader.{Gives, take_one};
+ghost use Rattle.arc_grammar.specs.Grammar.{reads};
+ghost use Rattle.arc_grammar.specs.Grammar as grammar;
+ghost use Rattle.arc_parse.specs.private.Globals.{globals_on};
+ghost use Rattle.arc_parse.specs.private.Signatures.{reads_after};
+
+use arc_ast::tree;
+use arc_ast::tree::{Constant, Qualifiers, TypeName};
+use arc_form::fail::{Fail, Read};
+use arc_form::reader::Reader;
+use arc_lex::token::{Mark, Token, TokenKind, Word};
+use std::alloc::Global;
+
+/// The variables of a type, one or more, and `;`, where all but the first have a `*` if the type is a class's.
+#[tactic(auto, using(crate::proofs::Globals::read_globals))]
+pub fn globals(
+    alloc: Global,
+    of_class: bool,
+    qualifiers: Qualifiers,
+    type_name: &TypeName,
+    reader: &mut Reader,
+) -> Read<Vec<tree::Global>>
+    ensures gives { Gives (λ x. global_trees x.items) result (toks reader.new.rest.now) (reads_after (grammar.globals of_class) (qualifiers, type_tree type_name.now) (toks reader.old.rest.now)) }
+    ensures shorter { IfOk result (λ _. length reader.new.rest.now < length reader.old.rest.now) }
+{
+    let first = global(alloc, qualifiers, type_name, reader)?;
+    let mut all = Vec::new(alloc);
+    all.push(first)?;
+    let all = more_globals(alloc, of_class, qualifiers, type_name, all, reader)?;
+    reader.expect(Mark::Semicolon)?;
+    Ok(all)
+}
+
+/// Qualifiers, a name, and perhaps what it begins with, of a variable of a type.
+#[tactic(auto, unfolding(arc_grammar::specs::Grammar::global))]
+fn global(
+    alloc: Global,
+    qualifiers: Qualifiers,
+    type_name: &TypeName,
+    reader: &mut Reader,
+) -> Read<tree::Global>
+    ensures gives { Gives global_tree result (toks reader.new.rest.now) (reads_after grammar.global (qualifiers, type_tree type_name.now) (toks reader.old.rest.now)) }
+    ensures shorter { IfOk result (λ _. length reader.new.rest.now < length reader.old.rest.now) }
+{
+    let own = arc_expr::qualifier::qualifiers(reader)?;
+    let (at, name) = reader.name(alloc)?;
+    let initial = first_constant(reader)?;
+    Ok(tree::Global {
+        at,
+        type_name: type_name.copy(alloc)?,
+        qualifiers: qualifiers.both(own),
+        name,
+        initial,
+    })
+}
+
+/// A comma and a variable of a type, after `*` where the type is a class's.
+#[tactic(auto, using(arc_form::proofs::Binding::bind_twice), unfolding(arc_grammar::specs::Grammar::next_global))]
+fn next_global(
+    alloc: Global,
+    of_class: bool,
+    qualifiers: Qualifiers,
+    type_name: &TypeName,
+    reader: &mut Reader,
+) -> Read<tree::Global>
+    ensures gives { Gives global_tree result (toks reader.new.rest.now) (reads_after (grammar.next_global of_class) (qualifiers, type_tree type_name.now) (toks reader.old.rest.now)) }
+    ensures shorter { IfOk result (λ _. length reader.new.rest.now < length reader.old.rest.now) }
+{
+    reader.expect(Mark::Comma)?;
+    if of_class {
+        reader.expect(Mark::Star)?;
+    }
+    global(alloc, qualifiers, type_name, reader)
+}
+
+/// These variables and the further ones of this type, each after a comma, and a `*` where the type is a class's.
+#[tactic(auto, using(crate::proofs::Globals::further, arc_grammar::proofs::Fits::taking, arc_grammar::proofs::Lists::appends))]
+fn more_globals(
+    alloc: Global,
+    of_class: bool,
+    qualifiers: Qualifiers,
+    type_name: &TypeName,
+    before: Vec<tree::Global>,
+    reader: &mut Reader,
+) -> Read<Vec<tree::Global>>
+    ensures gives { Gives (λ x. global_trees x.items) result (toks reader.new.rest.now) (globals_on of_class (qualifiers, type_tree type_name.now) (global_trees before.items) (toks reader.old.rest.now)) }
+    ensures shorter { IfOk result (λ _. length reader.new.rest.now ≤ length reader.old.rest.now) }
+{
+    let mut all = before;
+    'globals: while reader.sees_mark(Mark::Comma) {
+        let next = next_global(alloc, of_class, qualifiers, type_name, reader)?;
+        all.push(next)?;
+    }
+    Ok(all)
+}
+
+/// `=` and a constant, or nothing.
+#[tactic(auto, unfolding(arc_grammar::specs::Grammar::first_constant))]
+fn first_constant(reader: &mut Reader) -> Read<Option<Constant>>
+    ensures gives { Gives (λ x. x) result (toks reader.new.rest.now) (reads grammar.first_constant (toks reader.old.rest.now)) }
+    ensures shorter { IfOk result (λ _. length reader.new.rest.now ≤ length reader.old.rest.now) }
+{
+    if !reader.sees_mark(Mark::Assign) {
+        return Ok(None);
+    }
+    reader.expect(Mark::Assign)?;
+    let value = constant(reader)?;
+    Ok(Some(value))
+}
+
+/// What a variable of the whole program may begin with.
+#[tactic(auto, unfolding(arc_grammar::specs::Grammar::constant))]
+fn constant(reader: &mut Reader) -> Read<Constant>
+    ensures gives { Gives (λ x. x) result (toks reader.new.rest.now) (reads grammar.constant (toks reader.old.rest.now)) }
+    ensures shorter { IfOk result (λ _. length reader.new.rest.now < length reader.old.rest.now) }
+{
+    if reader.sees_mark(Mark::Minus) {
+        negative_constant(reader)
+    } else {
+        plain_constant(reader)
+    }
+}
+
+/// `-`, and an integer or a character.
+#[tactic(auto, unfolding(arc_grammar::specs::Grammar::negative_constant))]
+fn negative_constant(reader: &mut Reader) -> Read<Constant>
+    ensures gives { Gives (λ x. x) result (toks reader.new.rest.now) (reads grammar.negative_constant (toks reader.old.rest.now)) }
+    ensures shorter { IfOk result (λ _. length reader.new.rest.now < length reader.old.rest.now) }
+{
+    let at = reader.expect(Mark::Minus)?;
+    let value = integer(reader)?;
+    Ok(Constant::Number(at, value.wrapping_neg()))
+}
+
+/// The number of the first token, which is an integer or a character.
+///
+/// `Unexpected` comes where it is not, and nothing is taken.
+fn integer(reader: &mut Reader) -> Read<i64>
+    ensures gives { Gives (λ x. x) result (toks reader.new.rest.now) (take_one kinds.integer (λ t. grammar.number_of t.sort) (toks reader.old.rest.now)) }
+    ensures shorter { IfOk result (λ _. length reader.new.rest.now < length reader.old.rest.now) }
+{
+    match reader.rest.split_first() {
+        Some((token, rest)) => match token.kind {
+            TokenKind::Integer(value, _) => {
+                reader.rest = rest;
+                Ok(value)
+            }
+            _ => Err(Fail::Unexpected),
+        },
+        None => Err(Fail::Unexpected),
+    }
+}
+
+/// What the first token stands for, which is an integer, a character, `YES`, `NO` or `nil`.
+///
+/// `Unexpected` comes where it is not, and nothing is taken.
+#[tactic(auto, unfolding(arc_grammar::specs::Grammar::plain_constant))]
+fn plain_constant(reader: &mut Reader) -> Read<Constant>
+    ensures gives { Gives (λ x. x) result (toks reader.new.rest.now) (reads grammar.plain_constant (toks reader.old.rest.now)) }
+    ensures shorter { IfOk result (λ _. length reader.new.rest.now < length reader.old.rest.now) }
+{
+    let Some((token, rest)) = reader.rest.split_first() else {
+        return Err(Fail::Unexpected);
+    };
+    let at = token.span.from;
+    let constant = match token.kind {
+        TokenKind::Integer(value, _) => Constant::Number(at, value),
+        TokenKind::Word(Word::Yes) => Constant::Number(at, 1),
+        TokenKind::Word(Word::No) => Constant::Number(at, 0),
+        TokenKind::Word(Word::Nil) => Constant::Nil(at),
+        _ => return Err(Fail::Unexpected),
+    };
+    reader.rest = rest;
+    Ok(constant)
+}

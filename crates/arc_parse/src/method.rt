@@ -1,0 +1,261 @@
+//! Reads methods.
+ghost use Rattle.std.specs.Prelude.{◌≡◌, ◌<◌, ◌≤◌, length, IfOk};
+ghost use Rattle.arc_lex.specs.Tokens.{toks};
+ghost use Rattle.arc_ast.specs.Tree.{type_tree, result_tree, parameter_tree, head_tree, head_trees, method_tree, method_trees};
+ghost use Rattle.arc_form.specs.Reader.{Gives, sees};
+ghost use Rattle.arc_form.specs.Views.{all};
+ghost use Rattle.arc_grammar.specs.Grammar.{reads};
+ghost use Rattle.arc_grammar.specs.Grammar as grammar;
+ghost use Rattle.arc_parse.specs.private.Signatures.{reads_after};
+ghost use Rattle.arc_parse.specs.private.Signatures as signatures;
+
+use crate::function::braces;
+use crate::parameter::parameter_of;
+use crate::value_type::value_type;
+use arc_ast::tree::{Method, MethodHead, Parameter, Qualifiers, ResultType, Sign, TypeName};
+use arc_expr::qualifier::qualifiers;
+use arc_form::fail::Read;
+use arc_form::reader::Reader;
+use arc_lex::token::{Mark, Word};
+use std::alloc::Global;
+
+/// Whether a method can begin with the first token.
+#[tactic(auto, using(arc_form::proofs::Sets::sees_or))]
+fn begins_method(reader: &Reader) -> bool
+    ensures { result ≡ sees grammar.begins_method (toks reader.now.rest.now) }
+{
+    reader.sees_mark(Mark::Plus) || reader.sees_mark(Mark::Minus)
+}
+
+/// The methods that an interface declares.
+#[tactic(auto, using(arc_grammar::proofs::Loops::one_more, arc_grammar::proofs::Fits::taking, arc_form::proofs::Joining::row_start, arc_form::proofs::Joining::all_push, arc_grammar::proofs::Lists::alls), unfolding(arc_grammar::specs::Grammar::method_heads))]
+pub fn method_heads(alloc: Global, reader: &mut Reader) -> Read<Vec<MethodHead>>
+    ensures gives { Gives (λ x. head_trees x.items) result (toks reader.new.rest.now) (reads grammar.method_heads (toks reader.old.rest.now)) }
+    ensures shorter { IfOk result (λ _. length reader.new.rest.now ≤ length reader.old.rest.now) }
+{
+    let mut all = Vec::new(alloc);
+    'heads: while begins_method(reader) {
+        let head = next_head(alloc, reader)?;
+        all.push(head)?;
+    }
+    Ok(all)
+}
+
+/// A method's declaration.
+#[tactic(auto, unfolding(arc_grammar::specs::Grammar::next_head))]
+fn next_head(alloc: Global, reader: &mut Reader) -> Read<MethodHead>
+    ensures gives { Gives head_tree result (toks reader.new.rest.now) (reads grammar.next_head (toks reader.old.rest.now)) }
+    ensures shorter { IfOk result (λ _. length reader.new.rest.now < length reader.old.rest.now) }
+{
+    let head = method_head(alloc, reader)?;
+    reader.expect(Mark::Semicolon)?;
+    Ok(head)
+}
+
+/// The methods that an implementation defines.
+#[tactic(auto, using(arc_grammar::proofs::Loops::one_more, arc_grammar::proofs::Fits::taking, arc_form::proofs::Joining::row_start, arc_form::proofs::Joining::all_push, arc_grammar::proofs::Lists::alls), unfolding(arc_grammar::specs::Grammar::methods))]
+pub fn methods(alloc: Global, reader: &mut Reader) -> Read<Vec<Method>>
+    ensures gives { Gives (λ x. method_trees x.items) result (toks reader.new.rest.now) (reads grammar.methods (toks reader.old.rest.now)) }
+    ensures shorter { IfOk result (λ _. length reader.new.rest.now ≤ length reader.old.rest.now) }
+{
+    let mut all = Vec::new(alloc);
+    'methods: while begins_method(reader) {
+        let method = method(alloc, reader)?;
+        all.push(method)?;
+    }
+    Ok(all)
+}
+
+/// A method's definition.
+#[tactic(auto, unfolding(arc_grammar::specs::Grammar::method))]
+fn method(alloc: Global, reader: &mut Reader) -> Read<Method>
+    ensures gives { Gives method_tree result (toks reader.new.rest.now) (reads grammar.method (toks reader.old.rest.now)) }
+    ensures shorter { IfOk result (λ _. length reader.new.rest.now < length reader.old.rest.now) }
+{
+    let head = method_head(alloc, reader)?;
+    perhaps_semicolon(reader)?;
+    let body = braces(alloc, reader)?;
+    Ok(Method { head, body })
+}
+
+/// Perhaps `;`.
+#[tactic(auto, unfolding(arc_grammar::specs::Grammar::perhaps_semicolon))]
+fn perhaps_semicolon(reader: &mut Reader) -> Read<()>
+    ensures gives { Gives (λ x. x) result (toks reader.new.rest.now) (reads grammar.perhaps_semicolon (toks reader.old.rest.now)) }
+    ensures shorter { IfOk result (λ _. length reader.new.rest.now ≤ length reader.old.rest.now) }
+{
+    if !reader.sees_mark(Mark::Semicolon) {
+        return Ok(());
+    }
+    reader.expect(Mark::Semicolon)?;
+    Ok(())
+}
+
+/// `+` or `-`, perhaps the type of the result, and the selector with the parameters
+#[tactic(auto, using(arc_grammar::proofs::Lists::alls), unfolding(arc_grammar::specs::Grammar::method_head))]
+fn method_head(alloc: Global, reader: &mut Reader) -> Read<MethodHead>
+    ensures gives { Gives head_tree result (toks reader.new.rest.now) (reads grammar.method_head (toks reader.old.rest.now)) }
+    ensures shorter { IfOk result (λ _. length reader.new.rest.now < length reader.old.rest.now) }
+{
+    let (at, sign) = sign(reader)?;
+    let result = method_result(alloc, reader)?;
+    let (selector, parameters) = selector(alloc, reader)?;
+    Ok(MethodHead {
+        at,
+        sign,
+        selector,
+        result,
+        parameters,
+    })
+}
+
+/// In parentheses the type of what a method gives, or else `id`.
+#[tactic(auto, unfolding(arc_grammar::specs::Grammar::method_result, arc_grammar::specs::Grammar::enclosed_result))]
+fn method_result(alloc: Global, reader: &mut Reader) -> Read<ResultType>
+    ensures gives { Gives result_tree result (toks reader.new.rest.now) (reads grammar.method_result (toks reader.old.rest.now)) }
+    ensures shorter { IfOk result (λ _. length reader.new.rest.now ≤ length reader.old.rest.now) }
+{
+    if !reader.sees_mark(Mark::OpenParen) {
+        return Ok(ResultType::Value(TypeName::Id));
+    }
+    reader.expect(Mark::OpenParen)?;
+    let result = result_type(alloc, reader)?;
+    reader.expect(Mark::CloseParen)?;
+    Ok(result)
+}
+
+/// `void`, `instancetype`, or the type of a value.
+#[tactic(auto, unfolding(arc_grammar::specs::Grammar::result_type))]
+fn result_type(alloc: Global, reader: &mut Reader) -> Read<ResultType>
+    ensures gives { Gives result_tree result (toks reader.new.rest.now) (reads grammar.result_type (toks reader.old.rest.now)) }
+    ensures shorter { IfOk result (λ _. length reader.new.rest.now < length reader.old.rest.now) }
+{
+    if reader.sees_word(Word::Void) {
+        reader.keyword(Word::Void)?;
+        return Ok(ResultType::Void);
+    }
+    if reader.sees_word(Word::InstanceType) {
+        reader.keyword(Word::InstanceType)?;
+        return Ok(ResultType::Related);
+    }
+    let (_, written) = value_type(alloc, reader)?;
+    Ok(ResultType::Value(written))
+}
+
+/// `+` or `-`, with its place
+#[tactic(auto, unfolding(arc_grammar::specs::Grammar::sign))]
+fn sign(reader: &mut Reader) -> Read<(usize, Sign)>
+    ensures gives { Gives (λ x. x) result (toks reader.new.rest.now) (reads grammar.sign (toks reader.old.rest.now)) }
+    ensures shorter { IfOk result (λ _. length reader.new.rest.now < length reader.old.rest.now) }
+{
+    if reader.sees_mark(Mark::Plus) {
+        let at = reader.expect(Mark::Plus)?;
+        return Ok((at, Sign::Class));
+    }
+    let at = reader.expect(Mark::Minus)?;
+    Ok((at, Sign::Instance))
+}
+
+/// A selector with all of its colons, and the parameters.
+type Typed = (Vec<u8>, Vec<Parameter>);
+
+/// A selector, and the parameters.
+#[tactic(auto, unfolding(arc_grammar::specs::Grammar::selector))]
+fn selector(alloc: Global, reader: &mut Reader) -> Read<Typed>
+    ensures gives { Gives (λ x. (x.0.items, all parameter_tree x.1.items)) result (toks reader.new.rest.now) (reads grammar.selector (toks reader.old.rest.now)) }
+    ensures shorter { IfOk result (λ _. length reader.new.rest.now < length reader.old.rest.now) }
+{
+    let (_, first) = reader.name(alloc)?;
+    if reader.sees_mark(Mark::Colon) {
+        return typed_parts(alloc, first, reader);
+    }
+    Ok((first, Vec::new(alloc)))
+}
+
+/// The selector whose first part has this name, and the parameters, one or more.
+#[tactic(auto, using(crate::proofs::Signatures::read_typed_parts))]
+fn typed_parts(alloc: Global, first: Vec<u8>, reader: &mut Reader) -> Read<Typed>
+    ensures gives { Gives (λ x. (x.0.items, all parameter_tree x.1.items)) result (toks reader.new.rest.now) (reads_after grammar.typed_parts first.items (toks reader.old.rest.now)) }
+    ensures shorter { IfOk result (λ _. length reader.new.rest.now < length reader.old.rest.now) }
+{
+    let mut selector = first;
+    let mut all = Vec::new(alloc);
+    let parameter = typed(alloc, reader)?;
+    selector.push(b':')?;
+    all.push(parameter)?;
+    more_typed(alloc, selector, all, reader)
+}
+
+/// This selector and these parameters, and further parts with theirs.
+#[tactic(auto, using(crate::proofs::Signatures::begin_typed, arc_grammar::proofs::Loops::one_more, arc_grammar::proofs::Fits::taking, arc_form::proofs::Joining::all_push))]
+fn more_typed(
+    alloc: Global,
+    before: Vec<u8>,
+    given: Vec<Parameter>,
+    reader: &mut Reader,
+) -> Read<Typed>
+    ensures gives { Gives (λ x. (x.0.items, all parameter_tree x.1.items)) result (toks reader.new.rest.now) (reads_after signatures.more_typed (before.items, all parameter_tree given.items) (toks reader.old.rest.now)) }
+    ensures shorter { IfOk result (λ _. length reader.new.rest.now ≤ length reader.old.rest.now) }
+{
+    let mut selector = before;
+    let mut all = given;
+    'parts: while reader.sees_name() {
+        let (called, parameter) = next_typed(alloc, reader)?;
+        selector.extend_from_slice(&called)?;
+        selector.push(b':')?;
+        all.push(parameter)?;
+    }
+    Ok((selector, all))
+}
+
+/// A further part of a selector: its name, and its parameter.
+#[tactic(auto, unfolding(arc_grammar::specs::Grammar::next_typed))]
+fn next_typed(alloc: Global, reader: &mut Reader) -> Read<(Vec<u8>, Parameter)>
+    ensures gives { Gives (λ x. (x.0.items, parameter_tree x.1)) result (toks reader.new.rest.now) (reads grammar.next_typed (toks reader.old.rest.now)) }
+    ensures shorter { IfOk result (λ _. length reader.new.rest.now < length reader.old.rest.now) }
+{
+    let (_, called) = reader.name(alloc)?;
+    let parameter = typed(alloc, reader)?;
+    Ok((called, parameter))
+}
+
+/// A type and the qualifiers that stand before and after it.
+type QualifiedType = (Qualifiers, TypeName);
+
+/// In parentheses a type, after and before qualifiers.
+#[tactic(auto, unfolding(arc_grammar::specs::Grammar::enclosed_type))]
+fn enclosed_type(alloc: Global, reader: &mut Reader) -> Read<QualifiedType>
+    ensures gives { Gives (λ x. (x.0, type_tree x.1)) result (toks reader.new.rest.now) (reads grammar.enclosed_type (toks reader.old.rest.now)) }
+    ensures shorter { IfOk result (λ _. length reader.new.rest.now < length reader.old.rest.now) }
+{
+    reader.expect(Mark::OpenParen)?;
+    let before = qualifiers(reader)?;
+    let (_, type_name) = value_type(alloc, reader)?;
+    let after = qualifiers(reader)?;
+    reader.expect(Mark::CloseParen)?;
+    Ok((before.both(after), type_name))
+}
+
+/// In parentheses the type of a parameter, or else `id`.
+fn parameter_type(alloc: Global, reader: &mut Reader) -> Read<QualifiedType>
+    ensures gives { Gives (λ x. (x.0, type_tree x.1)) result (toks reader.new.rest.now) (signatures.parameter_type (toks reader.old.rest.now)) }
+    ensures shorter { IfOk result (λ _. length reader.new.rest.now ≤ length reader.old.rest.now) }
+{
+    if reader.sees_mark(Mark::OpenParen) {
+        enclosed_type(alloc, reader)
+    } else {
+        Ok((Qualifiers::Unqualified, TypeName::Id))
+    }
+}
+
+/// A colon, perhaps a type in parentheses, and a name
+#[tactic(auto, unfolding(arc_grammar::specs::Grammar::typed))]
+fn typed(alloc: Global, reader: &mut Reader) -> Read<Parameter>
+    ensures gives { Gives parameter_tree result (toks reader.new.rest.now) (reads grammar.typed (toks reader.old.rest.now)) }
+    ensures shorter { IfOk result (λ _. length reader.new.rest.now < length reader.old.rest.now) }
+{
+    reader.expect(Mark::Colon)?;
+    let (qualifiers, type_name) = parameter_type(alloc, reader)?;
+    let (at, name) = reader.name(alloc)?;
+    Ok(parameter_of(qualifiers, type_name, at, name))
+}

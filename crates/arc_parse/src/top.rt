@@ -1,0 +1,155 @@
+//! Reads what stands outside of all else.
+ghost use Rattle.std.specs.Prelude.{◌≡◌, ◌<◌, ◌≤◌, length, IfOk};
+ghost use Rattle.arc_lex.specs.Tokens.{toks};
+ghost use Rattle.arc_ast.specs.Tree.{type_tree};
+ghost use Rattle.arc_lex.specs.declared.token.Mark.TheVariants as m;
+ghost use Rattle.arc_form.specs.Kinds as kinds;
+ghost use Rattle.arc_form.specs.Reader.{Gives, sees, sees_two};
+ghost use Rattle.arc_grammar.specs.Grammar.{reads};
+ghost use Rattle.arc_grammar.specs.Grammar as grammar;
+ghost use Rattle.arc_parse.specs.private.Globals.{function_on};
+ghost use Rattle.arc_parse.specs.private.Tops.{top_tree};
+
+use crate::class::{class_names, implementation, interface};
+use crate::function::function;
+use crate::global::globals;
+use crate::value_type::{begins_qualified_type, value_type_of};
+use arc_ast::tree;
+use arc_ast::tree::{Function, Implementation, Interface, Qualifiers, ResultType, TypeName};
+use arc_expr::qualifier::{sees_qualifier, some_qualifiers};
+use arc_form::fail::Read;
+use arc_form::reader::Reader;
+use arc_lex::token::{AtWord, Mark, Word};
+use std::alloc::Global;
+
+/// What stands outside of all else. The names that `@class` declares aren't kept.
+#[derive(Drop)]
+pub enum Top {
+    Names,
+    Function(Function),
+    Globals(Vec<tree::Global>),
+    Interface(Interface),
+    Implementation(Implementation),
+}
+
+/// Whether what stands outside of all else can begin with the first token.
+#[tactic(auto, using(arc_form::proofs::Sets::sees_or))]
+pub fn begins_top(reader: &Reader) -> bool
+    ensures { result ≡ sees grammar.begins_top (toks reader.now.rest.now) }
+{
+    reader.sees_at(AtWord::Class)
+        || reader.sees_at(AtWord::Interface)
+        || reader.sees_at(AtWord::Implementation)
+        || reader.sees_word(Word::Static)
+        || reader.sees_word(Word::Void)
+        || begins_qualified_type(reader)
+}
+
+/// Names of classes, an interface, an implementation, a function, or variables of the whole program.
+#[tactic(auto, unfolding(arc_grammar::specs::Grammar::top))]
+pub fn any_top(alloc: Global, reader: &mut Reader) -> Read<Top>
+    ensures gives { Gives top_tree result (toks reader.new.rest.now) (reads grammar.top (toks reader.old.rest.now)) }
+    ensures shorter { IfOk result (λ _. length reader.new.rest.now < length reader.old.rest.now) }
+{
+    if reader.sees_at(AtWord::Class) {
+        class_names(alloc, reader)?;
+        return Ok(Top::Names);
+    }
+    if reader.sees_at(AtWord::Interface) {
+        let interface = interface(alloc, reader)?;
+        return Ok(Top::Interface(interface));
+    }
+    if reader.sees_at(AtWord::Implementation) {
+        let implementation = implementation(alloc, reader)?;
+        return Ok(Top::Implementation(implementation));
+    }
+    external(alloc, reader)
+}
+
+/// Perhaps `static`, and a function or variables.
+#[tactic(auto, unfolding(arc_grammar::specs::Grammar::external))]
+fn external(alloc: Global, reader: &mut Reader) -> Read<Top>
+    ensures gives { Gives top_tree result (toks reader.new.rest.now) (reads grammar.external (toks reader.old.rest.now)) }
+    ensures shorter { IfOk result (λ _. length reader.new.rest.now < length reader.old.rest.now) }
+{
+    perhaps_static(reader)?;
+    if reader.sees_word(Word::Void) {
+        of_void(alloc, reader)
+    } else if sees_qualifier(reader) {
+        of_qualified(alloc, reader)
+    } else if reader.sees_name() {
+        of_type(alloc, true, reader)
+    } else {
+        of_type(alloc, false, reader)
+    }
+}
+
+/// Perhaps `static`.
+#[tactic(auto, unfolding(arc_grammar::specs::Grammar::perhaps_static))]
+fn perhaps_static(reader: &mut Reader) -> Read<()>
+    ensures gives { Gives (λ x. x) result (toks reader.new.rest.now) (reads grammar.perhaps_static (toks reader.old.rest.now)) }
+    ensures shorter { IfOk result (λ _. length reader.new.rest.now ≤ length reader.old.rest.now) }
+{
+    if !reader.sees_word(Word::Static) {
+        return Ok(());
+    }
+    reader.keyword(Word::Static)?;
+    Ok(())
+}
+
+/// `void` and a function.
+#[tactic(auto, unfolding(arc_grammar::specs::Grammar::of_void))]
+fn of_void(alloc: Global, reader: &mut Reader) -> Read<Top>
+    ensures gives { Gives top_tree result (toks reader.new.rest.now) (reads grammar.of_void (toks reader.old.rest.now)) }
+    ensures shorter { IfOk result (λ _. length reader.new.rest.now < length reader.old.rest.now) }
+{
+    reader.keyword(Word::Void)?;
+    let function = function(alloc, ResultType::Void, reader)?;
+    Ok(Top::Function(function))
+}
+
+/// A type, and a function, or variables of which all but the first have a `*` if the type is a class's.
+#[tactic(auto, using(crate::proofs::Globals::read_of_type))]
+fn of_type(alloc: Global, of_class: bool, reader: &mut Reader) -> Read<Top>
+    ensures gives { Gives top_tree result (toks reader.new.rest.now) (reads (grammar.of_type of_class) (toks reader.old.rest.now)) }
+    ensures shorter { IfOk result (λ _. length reader.new.rest.now < length reader.old.rest.now) }
+{
+    let (_, written) = value_type_of(alloc, of_class, reader)?;
+    if sees_function(reader) {
+        return of_function(alloc, written, reader);
+    }
+    let all = globals(alloc, of_class, Qualifiers::Unqualified, &written, reader)?;
+    Ok(Top::Globals(all))
+}
+
+/// A function whose result has this type.
+fn of_function(alloc: Global, written: TypeName, reader: &mut Reader) -> Read<Top>
+    ensures gives { Gives top_tree result (toks reader.new.rest.now) (function_on (type_tree written) (toks reader.old.rest.now)) }
+    ensures shorter { IfOk result (λ _. length reader.new.rest.now < length reader.old.rest.now) }
+{
+    let function = function(alloc, ResultType::Value(written), reader)?;
+    Ok(Top::Function(function))
+}
+
+/// Qualifiers, a type and variables.
+#[tactic(auto, using(crate::proofs::Globals::read_of_qualified))]
+fn of_qualified(alloc: Global, reader: &mut Reader) -> Read<Top>
+    ensures gives { Gives top_tree result (toks reader.new.rest.now) (reads grammar.of_qualified (toks reader.old.rest.now)) }
+    ensures shorter { IfOk result (λ _. length reader.new.rest.now < length reader.old.rest.now) }
+{
+    let qualifiers = some_qualifiers(reader)?;
+    let of_class = reader.sees_name();
+    let (_, written) = value_type_of(alloc, of_class, reader)?;
+    let all = globals(alloc, of_class, qualifiers, &written, reader)?;
+    Ok(Top::Globals(all))
+}
+
+/// Whether the tokens begin with a name and `(`.
+fn sees_function(reader: &Reader) -> bool
+    ensures { result ≡ sees_two kinds.name (kinds.mark m.OpenParen) (toks reader.now.rest.now) }
+{
+    match reader.rest.split_first() {
+        Some((_, rest)) => reader.sees_name() && Reader { rest }.sees_mark(Mark::OpenParen),
+        None => false,
+    }
+}

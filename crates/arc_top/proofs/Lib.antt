@@ -1,3 +1,0 @@
-pub mod Signatures
-pub mod Fields
-pub mod Globals

@@ -1,4 +1,0 @@
-pub mod Signatures
-pub mod Fields
-pub mod Tops
-pub mod Globals
