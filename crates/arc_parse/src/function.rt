@@ -36,7 +36,7 @@ pub fn function(alloc: Global, written: ResultType, reader: &mut Reader) -> Read
 }
 
 /// In parentheses what a function of this name takes.
-#[tactic(auto, unfolding(crate::specs::Signatures::enclosed_to, arc_grammar::specs::Grammar::enclosed))]
+#[tactic(auto, unfolding(crate::specs::private::Signatures::enclosed_to, arc_grammar::specs::Grammar::enclosed))]
 fn enclosed(alloc: Global, called: &[u8], reader: &mut Reader) -> Read<Parameters>
     ensures gives { Gives parameters_tree result (toks reader.new.rest.now) (reads (signatures.enclosed_to called.now) (toks reader.old.rest.now)) }
     ensures shorter { IfOk result (λ _. length reader.new.rest.now < length reader.old.rest.now) }

@@ -13,7 +13,7 @@ use crate::function::braces;
 use crate::parameter::parameter_of;
 use crate::value_type::value_type;
 use arc_ast::tree::{Method, MethodHead, Parameter, Qualifiers, ResultType, Sign, TypeName};
-use arc_expr::qualifier::qualifiers;
+use arc_stmt::qualifier::qualifiers;
 use arc_form::fail::Read;
 use arc_form::reader::Reader;
 use arc_lex::token::{Mark, Word};

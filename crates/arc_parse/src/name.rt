@@ -6,7 +6,7 @@ ghost use Rattle.arc_grammar.specs.Grammar.{reads};
 ghost use Rattle.arc_grammar.specs.Grammar as grammar;
 
 use arc_ast::tree::Qualifiers;
-use arc_expr::qualifier::qualifiers;
+use arc_stmt::qualifier::qualifiers;
 use arc_form::fail::Read;
 use arc_form::reader::Reader;
 use arc_lex::token::Mark;

@@ -16,7 +16,7 @@ use crate::value_type::{
     begins_other_value_type, begins_qualified_type, other_value_type, value_type,
 };
 use arc_ast::tree::{Parameter, Parameters, Qualifiers, TypeName};
-use arc_expr::qualifier::{qualifiers, sees_qualifier, some_qualifiers};
+use arc_stmt::qualifier::{qualifiers, sees_qualifier, some_qualifiers};
 use arc_form::fail::Read;
 use arc_form::reader::Reader;
 use arc_lex::token::{Mark, Word};

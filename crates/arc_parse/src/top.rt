@@ -16,7 +16,7 @@ use crate::global::globals;
 use crate::value_type::{begins_qualified_type, value_type_of};
 use arc_ast::tree;
 use arc_ast::tree::{Function, Implementation, Interface, Qualifiers, ResultType, TypeName};
-use arc_expr::qualifier::{sees_qualifier, some_qualifiers};
+use arc_stmt::qualifier::{sees_qualifier, some_qualifiers};
 use arc_form::fail::Read;
 use arc_form::reader::Reader;
 use arc_lex::token::{AtWord, Mark, Word};

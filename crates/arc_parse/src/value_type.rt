@@ -8,8 +8,8 @@ ghost use Rattle.arc_grammar.specs.Grammar.{reads};
 ghost use Rattle.arc_grammar.specs.Grammar as grammar;
 
 use arc_ast::tree::TypeName;
-use arc_expr::qualifier::sees_qualifier;
-use arc_expr::type_name::{begins_other_type, begins_plain_type, id_type, other_type, plain_type};
+use arc_stmt::qualifier::sees_qualifier;
+use arc_stmt::type_name::{begins_other_type, begins_plain_type, id_type, other_type, plain_type};
 use arc_form::fail::Read;
 use arc_form::reader::Reader;
 use arc_lex::token::{Mark, Word};

@@ -4,9 +4,9 @@ ghost use Rattle.arc_lex.specs.Tokens.{toks};
 ghost use Rattle.arc_form.specs.Reader.{sees};
 ghost use Rattle.arc_grammar.specs.Grammar as grammar;
 
-use arc_expr::qualifier::sees_qualifier;
-use arc_expr::sign::{sees_counting, sees_sign};
-use arc_expr::type_name::begins_plain_type;
+use crate::qualifier::sees_qualifier;
+use crate::sign::{sees_counting, sees_sign};
+use crate::type_name::begins_plain_type;
 use arc_form::reader::Reader;
 use arc_lex::token::{Mark, Word};
 

@@ -1,31 +1,73 @@
-//! Statements as they are made and kept. Each function here holds a statement or an expression where memory may run out, so that no
-//! other does.
-ghost use Rattle.std.specs.Prelude.{◌≡◌, ◌++◌, ◌∷◌, [], option_map, IfOk};
-ghost use Rattle.arc_ast.specs.Tree.{expr_tree, stmt_tree};
+//! Expressions as they are made.
+ghost use Rattle.std.specs.Prelude.{◌≡◌, IfOk};
+ghost use Rattle.arc_ast.specs.Tree.{expr_tree, begins, Binary, Name};
+ghost use Rattle.arc_ast.specs.declared.tree.BinaryOperator.TheVariants.{Multiply};
+ghost use Rattle.arc_grammar.specs.Grammar as grammar;
 
-use arc_ast::tree::{Expr, Stmt};
+use arc_ast::tree::{BinaryOperator, Expr, Moment};
 use std::alloc::{AllocError, Global};
 
-/// The statement in a box.
-pub fn boxed(alloc: Global, stmt: Stmt) -> Result<Box<Stmt>, AllocError>
-    ensures { IfOk result (λ made. stmt_tree made.value ≡ stmt_tree stmt) }
+/// The place of the first byte.
+pub fn place_of(expr: &Expr) -> usize
+    ensures { result ≡ begins (expr_tree expr.now) }
 {
-    Ok(Box::new(alloc, stmt)?)
-}
-
-/// Puts the statement after the others.
-pub fn keep(all: &mut Vec<Stmt>, stmt: Stmt) -> Result<(), AllocError>
-    ensures { IfOk result (λ _. all.new.items ≡ all.old.items ++ (stmt ∷ [])) }
-{
-    Ok(all.push(stmt)?)
-}
-
-/// The expression without its box, if there is one.
-pub fn unboxed(value: Option<Box<Expr>>) -> Option<Expr>
-    ensures { option_map expr_tree result ≡ option_map (λ b. expr_tree b.value) value }
-{
-    match value {
-        Some(value) => Some(Box::into_inner(value)),
-        None => None,
+    match expr {
+        Expr::Integer(at, _, _)
+        | Expr::Text(at, _)
+        | Expr::Paren(at, _)
+        | Expr::Call(at, _, _)
+        | Expr::Nil(at)
+        | Expr::Itself(at)
+        | Expr::Name(at, _)
+        | Expr::Unary(at, _, _)
+        | Expr::Cast(at, _, _)
+        | Expr::Binary(at, _, _, _)
+        | Expr::Conditional(at, _, _, _)
+        | Expr::Arrow(at, _, _, _)
+        | Expr::Assign(at, _, _, _)
+        | Expr::Update(at, _, _, _, _, _)
+        | Expr::Send(at, _, _, _, _)
+        | Expr::SendSuper(at, _, _, _, _) => *at,
     }
+}
+
+/// The expression in a box.
+pub fn boxed(alloc: Global, expr: Expr) -> Result<Box<Expr>, AllocError>
+    ensures { IfOk result (λ made. expr_tree made.value ≡ expr_tree expr) }
+{
+    Ok(Box::new(alloc, expr)?)
+}
+
+/// An update of an operand by 1, with the operator and its place, which begins at this place.
+pub fn by_one(
+    alloc: Global,
+    at: usize,
+    operator: (usize, BinaryOperator),
+    moment: Moment,
+    operand: Box<Expr>,
+) -> Result<Box<Expr>, AllocError>
+    ensures { IfOk result (λ made. expr_tree made.value ≡ grammar.by_one at operator moment (expr_tree operand.value)) }
+{
+    let (sign, operator) = operator;
+    let one = boxed(alloc, Expr::Integer(sign, 1, false))?;
+    boxed(
+        alloc,
+        Expr::Update(at, sign, moment, operator, operand, one),
+    )
+}
+
+/// The product of a variable of this name and an operand.
+pub fn times(
+    alloc: Global,
+    at: usize,
+    called: Vec<u8>,
+    right: Box<Expr>,
+) -> Result<Box<Expr>, AllocError>
+    ensures { IfOk result (λ product. expr_tree product.value ≡ Binary at Multiply (Name at called.items) (expr_tree right.value)) }
+{
+    let left = boxed(alloc, Expr::Name(at, called))?;
+    boxed(
+        alloc,
+        Expr::Binary(at, BinaryOperator::Multiply, left, right),
+    )
 }

@@ -10,12 +10,12 @@ ghost use Rattle.arc_grammar.specs.declared.limits.TheConstants.{DEEPEST};
 
 use crate::clauses::{clauses, controlling, test_after};
 use crate::first::{begins_item, begins_stmt};
-use crate::node::{boxed, keep, unboxed};
+use crate::made::{boxed, keep, unboxed};
 use crate::simple::{breaking, continuing, empty, returned, simple};
 use crate::variable::{declaration, qualified_declaration};
 use arc_ast::tree::{Expr, Qualifiers, Stmt};
-use arc_expr::qualifier::sees_qualifier;
-use arc_expr::type_name::begins_plain_type;
+use crate::qualifier::sees_qualifier;
+use crate::type_name::begins_plain_type;
 use arc_form::fail::{Fail, Read};
 use arc_form::reader::Reader;
 use arc_grammar::limits::DEEPEST;
