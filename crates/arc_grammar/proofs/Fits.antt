@@ -10,7 +10,7 @@ use Rattle.arc_form.proofs.Static.{Facts, passes, holds, decided, Decided, nulla
 use Rattle.arc_form.proofs.Sets.{both}
 use Rattle.arc_form.proofs.Local.{Takes}
 use Rattle.arc_form.proofs.FormLocal.{some_front, read_is}
-use Rattle.arc_grammar.specs.Grammar.{Part, Rule, rules, expr, unary, binary, condition, stmt, table, begins_suffix, begins_expr, begins_stmt, assigning, loosest, marks_up_to, further, more, up_to, chosen, choice, continued, conditional_expr, perhaps_int, perhaps_long, long_type, bool_type, integer_type, int_type, other_type, number_type, id_type, plain_type, class_type, value_type_of, value_type, other_value_type, qualifier, more_qualifiers, qualifiers, some_qualifiers, literal, counting, field_name, suffix, suffixes, next_argument, more_arguments, some_arguments, no_arguments, given, arguments, named, argument_part, next_part, more_parts, parts, sent, to_super, to_object, message, inside, cast_to_plain, cast, product, starred, parenthesized, primary, postfix, operator_before, signed, counted, prefixed, operations, assigned, updated, operation, expression, full, initial, variable, declared_type, starred_variable, next_variable, more_variables, declaration, qualified_declaration, simple, empty, value, returned, controlling, otherwise, if_else, while_do, test_after, do_while, beginning, step, clauses, for_do, breaking, continuing, looped, by_name, item, items, block, worded, statement, parameter, next_parameter, more_parameters, void_parameters, some_parameters, parameters, texts_name, perhaps_const, texts, further_parameters, second, counted_of_main, qualified_of_main, int_of_main, qualified_type_of_main, others_of_main, some_of_main, parameters_of_main, enclosed, braces, function_body, main_function, other_function, function, plain_constant, negative_constant, constant, first_constant, global, next_global, more_globals, globals, enclosed_type, typed, next_typed, typed_parts, selector, sign, result_type, enclosed_result, method_result, method_head, next_head, method_heads, perhaps_semicolon, method, methods, next_name, more_names, qualified_name, starred_name, next_qualified_name, more_qualified_names, typed_fields, qualified_fields, group, groups, fields, interface, implementation, class_names, perhaps_static, of_void, typed_top, of_type, typed_globals, of_qualified, external, top, tops, unit, body}
+use Rattle.arc_grammar.specs.Grammar.{Part, Rule, rules, expr, unary, binary, condition, stmt, table, begins_suffix, begins_expr, begins_stmt, assigning, loosest, marks_up_to, further, more, up_to, chosen, choice, continued, conditional_expr, perhaps, long_type, of_word, other_type, number_type, plain_type, class_type, value_type_of, value_type, other_value_type, qualifier, more_qualifiers, qualifiers, some_qualifiers, literal, counting, field_name, suffix, suffixes, next_argument, more_arguments, some_arguments, no_arguments, given, arguments, named, argument_part, next_part, more_parts, parts, sent, to_super, to_object, message, inside, cast_to_plain, cast, product, starred, parenthesized, primary, postfix, operator_before, signed, counted, prefixed, operations, assigned, updated, operation, expression, full, initial, variable, declared_type, starred_variable, next_variable, more_variables, declaration, qualified_declaration, simple, empty, value, returned, controlling, otherwise, if_else, while_do, test_after, do_while, beginning, step, clauses, for_do, breaking, continuing, looped, by_name, item, items, block, worded, statement, parameter, next_parameter, more_parameters, void_parameters, some_parameters, parameters, texts_name, texts, further_parameters, second, counted_of_main, qualified_of_main, int_of_main, qualified_type_of_main, others_of_main, some_of_main, parameters_of_main, enclosed, braces, function_body, main_function, other_function, function, plain_constant, negative_constant, constant, first_constant, global, next_global, more_globals, globals, enclosed_type, typed, next_typed, typed_parts, selector, sign, result_type, enclosed_result, method_result, method_head, next_head, method_heads, perhaps_semicolon, method, methods, next_name, more_names, qualified_name, starred_name, next_qualified_name, more_qualified_names, typed_fields, qualified_fields, group, groups, fields, interface, implementation, class_names, of_void, typed_top, of_type, typed_globals, of_qualified, external, top, tops, unit, body}
 use Rattle.arc_grammar.specs.Grammar as grammar
 
 -- an expression whose operators are of a level or tighter
@@ -26,7 +26,7 @@ facts (stmt d) = record { begins = begins_stmt; goes_on = none; bars = word w.El
 
 -- `unfolding lines` opens each line of the grammar, so that the test is a computation.
 unfoldable pub lines : Unit {0}
-unfolding table further more up_to chosen choice continued conditional_expr perhaps_int perhaps_long long_type bool_type integer_type int_type other_type number_type id_type plain_type class_type value_type_of value_type other_value_type qualifier more_qualifiers qualifiers some_qualifiers literal counting field_name suffix suffixes next_argument more_arguments some_arguments no_arguments given arguments named argument_part next_part more_parts parts sent to_super to_object message inside cast_to_plain cast product starred parenthesized primary postfix operator_before signed counted prefixed operations assigned updated operation expression full initial variable declared_type starred_variable next_variable more_variables declaration qualified_declaration simple empty value returned controlling otherwise if_else while_do test_after do_while beginning step clauses for_do breaking continuing looped by_name item items block worded statement parameter next_parameter more_parameters void_parameters some_parameters parameters texts_name perhaps_const texts further_parameters second counted_of_main qualified_of_main int_of_main qualified_type_of_main others_of_main some_of_main parameters_of_main enclosed braces function_body main_function other_function function plain_constant negative_constant constant first_constant global next_global more_globals globals enclosed_type typed next_typed typed_parts selector sign result_type enclosed_result method_result method_head next_head method_heads perhaps_semicolon method methods next_name more_names qualified_name starred_name next_qualified_name more_qualified_names typed_fields qualified_fields group groups fields interface implementation class_names perhaps_static of_void typed_top of_type typed_globals of_qualified external top tops unit body
+unfolding table further more up_to chosen choice continued conditional_expr perhaps long_type of_word other_type number_type plain_type class_type value_type_of value_type other_value_type qualifier more_qualifiers qualifiers some_qualifiers literal counting field_name suffix suffixes next_argument more_arguments some_arguments no_arguments given arguments named argument_part next_part more_parts parts sent to_super to_object message inside cast_to_plain cast product starred parenthesized primary postfix operator_before signed counted prefixed operations assigned updated operation expression full initial variable declared_type starred_variable next_variable more_variables declaration qualified_declaration simple empty value returned controlling otherwise if_else while_do test_after do_while beginning step clauses for_do breaking continuing looped by_name item items block worded statement parameter next_parameter more_parameters void_parameters some_parameters parameters texts_name texts further_parameters second counted_of_main qualified_of_main int_of_main qualified_type_of_main others_of_main some_of_main parameters_of_main enclosed braces function_body main_function other_function function plain_constant negative_constant constant first_constant global next_global more_globals globals enclosed_type typed next_typed typed_parts selector sign result_type enclosed_result method_result method_head next_head method_heads perhaps_semicolon method methods next_name more_names qualified_name starred_name next_qualified_name more_qualified_names typed_fields qualified_fields group groups fields interface implementation class_names of_void typed_top of_type typed_globals of_qualified external top tops unit body
 lines = tt
 
 -- what `fits` asks of an operand

@@ -150,47 +150,42 @@ continued = map (λ (make, choose_by) left. choose_by (make left)) (up_to looses
 
 -- ---- types (C99, section 6.7.2; `BOOL` and `NSInteger` are names of types of the library, which are words here)
 
--- `int` after `long`, or nothing
-unfoldable pub perhaps_int : Part (Unit {0})
-perhaps_int = choose (word w.Int) (map (λ _. tt) (key w.Int)) (give tt)
-
--- a second `long`, or nothing
-unfoldable pub perhaps_long : Part (Unit {0})
-perhaps_long = choose (word w.Long) (map (λ _. tt) (key w.Long)) (give tt)
+-- this word, or nothing
+unfoldable pub perhaps : Word → Part (Unit {0})
+perhaps w = choose (word w) (map (λ _. tt) (key w)) (give tt)
 
 -- `long`, `long int`, `long long` or `long long int`, with its place
 unfoldable pub long_type : Part (ℕ × TypeTree)
-long_type = map (λ (at, _). (at, Long)) (key w.Long ⨾ perhaps_long ⨾ perhaps_int)
+long_type = map (λ (at, _). (at, Long)) (key w.Long ⨾ perhaps w.Long ⨾ perhaps w.Int)
 
-unfoldable pub bool_type : Part (ℕ × TypeTree)
-bool_type = map (λ at. (at, Boolean)) (key w.Bool)
+-- the types that are one word
+abbrev pub type_of : Word → TypeTree
+type_of w.Int = Int
+type_of w.Bool = Boolean
+type_of w.NsInteger = Long
+type_of _ = Id
 
-unfoldable pub integer_type : Part (ℕ × TypeTree)
-integer_type = map (λ at. (at, Long)) (key w.NsInteger)
-
-unfoldable pub int_type : Part (ℕ × TypeTree)
-int_type = map (λ at. (at, Int)) (key w.Int)
+-- such a type, with its place
+unfoldable pub of_word : Word → Part (ℕ × TypeTree)
+of_word w = map (λ at. (at, type_of w)) (key w)
 
 -- a type of numbers but `int`, with its place
 unfoldable pub other_type : Part (ℕ × TypeTree)
-other_type = choose (word w.Long) long_type (choose (word w.Bool) bool_type integer_type)
+other_type = choose (word w.Long) long_type (choose (word w.Bool) (of_word w.Bool) (of_word w.NsInteger))
 
 abbrev pub begins_other_type : Kinds
 begins_other_type = word w.Long ∪ word w.Bool ∪ word w.NsInteger
 
 -- a type of numbers, with its place
 unfoldable pub number_type : Part (ℕ × TypeTree)
-number_type = choose (word w.Int) int_type other_type
+number_type = choose (word w.Int) (of_word w.Int) other_type
 
 abbrev pub begins_number_type : Kinds
 begins_number_type = word w.Int ∪ begins_other_type
 
-unfoldable pub id_type : Part (ℕ × TypeTree)
-id_type = map (λ at. (at, Id)) (key w.Id)
-
 -- a type that names no class, with its place
 unfoldable pub plain_type : Part (ℕ × TypeTree)
-plain_type = choose (word w.Id) id_type number_type
+plain_type = choose (word w.Id) (of_word w.Id) number_type
 
 abbrev pub begins_plain_type : Kinds
 begins_plain_type = word w.Id ∪ begins_number_type
@@ -213,7 +208,7 @@ begins_value_type = name ∪ begins_plain_type
 
 -- any type of a value but `int`, with its place
 unfoldable pub other_value_type : Part (ℕ × TypeTree)
-other_value_type = choose name class_type (choose (word w.Id) id_type other_type)
+other_value_type = choose name class_type (choose (word w.Id) (of_word w.Id) other_type)
 
 abbrev pub begins_other_value_type : Kinds
 begins_other_value_type = name ∪ word w.Id ∪ begins_other_type
@@ -641,12 +636,9 @@ parameters = choose (word w.Void) void_parameters (choose begins_parameter some_
 unfoldable pub texts_name : Part (Unit {0})
 texts_name = choose (mark m.Star) (map (λ _. tt) (the m.Star ⨾ called)) (map (λ _. tt) (called ⨾ the m.OpenSquare ⨾ the m.CloseSquare))
 
-unfoldable pub perhaps_const : Part (Unit {0})
-perhaps_const = choose (word w.Const) (map (λ _. tt) (key w.Const)) (give tt)
-
 -- the texts of `main` as an array or a pointer, constant or not, after the count
 unfoldable pub texts : Part (ParameterTree → ParametersTree)
-texts = map (λ _ count. CountAndTexts) (perhaps_const ⨾ key w.Char ⨾ the m.Star ⨾ texts_name)
+texts = map (λ _ count. CountAndTexts) (perhaps w.Const ⨾ key w.Char ⨾ the m.Star ⨾ texts_name)
 
 unfoldable pub further_parameters : Part (ParameterTree → ParametersTree)
 further_parameters = map (λ (q, others) p. Listed (p ∷ q ∷ others)) (parameter ⨾ more_parameters)
@@ -910,10 +902,6 @@ pub data TopTree : Type 0 where
   OfInterface : InterfaceTree → TopTree
   OfImplementation : ImplementationTree → TopTree
 
--- a name that is `static` is known in its file alone (C99, section 6.2.2), which is the whole program
-unfoldable pub perhaps_static : Part (Unit {0})
-perhaps_static = choose (word w.Static) (map (λ _. tt) (key w.Static)) (give tt)
-
 -- `void` and a function
 unfoldable pub of_void : Part TopTree
 of_void = map (λ (void, make). OfFunction (make Void)) (key w.Void ⨾ function)
@@ -941,9 +929,9 @@ typed_globals of_class = map (λ (type, make) q. OfGlobals (make (q, type.1))) (
 unfoldable pub of_qualified : Part TopTree
 of_qualified = map (λ (q, make). make q) (some_qualifiers ⨾ choose name (typed_globals true) (typed_globals false))
 
--- a function or variables
+-- a function or variables; a name that is `static` is known in its file alone (C99, section 6.2.2), which is the whole program
 unfoldable pub external : Part TopTree
-external = map (λ (static, t). t) (perhaps_static ⨾ choose (word w.Void) of_void (choose begins_qualifier of_qualified (choose name (of_type true) (of_type false))))
+external = map (λ (static, t). t) (perhaps w.Static ⨾ choose (word w.Void) of_void (choose begins_qualifier of_qualified (choose name (of_type true) (of_type false))))
 
 unfoldable pub top : Part TopTree
 top = choose (at words.Class) (map (λ _. OfNames) class_names) (choose (at words.Interface) (map OfInterface interface)

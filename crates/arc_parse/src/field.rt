@@ -12,11 +12,11 @@ ghost use Rattle.arc_parse.specs.private.Fields.{begins_group, names_on, typed_f
 use crate::name::{QualifiedName, next_qualified_name, starred_name};
 use crate::value_type::begins_qualified_type;
 use arc_ast::tree::{Field, Qualifiers, TypeName, Visibility};
-use arc_stmt::qualifier::qualifiers;
-use arc_stmt::type_name::declared_type;
 use arc_form::fail::{Fail, Read};
 use arc_form::reader::Reader;
 use arc_lex::token::{AtWord, Mark, Token, TokenKind};
+use arc_stmt::qualifier::qualifiers;
+use arc_stmt::type_name::declared_type;
 use std::alloc::{AllocError, Global};
 
 /// The fields in braces, if there are any; those before any word are visible so.

@@ -13,10 +13,10 @@ use crate::function::braces;
 use crate::parameter::parameter_of;
 use crate::value_type::value_type;
 use arc_ast::tree::{Method, MethodHead, Parameter, Qualifiers, ResultType, Sign, TypeName};
-use arc_stmt::qualifier::qualifiers;
 use arc_form::fail::Read;
 use arc_form::reader::Reader;
 use arc_lex::token::{Mark, Word};
+use arc_stmt::qualifier::qualifiers;
 use std::alloc::Global;
 
 /// Whether a method can begin with the first token.

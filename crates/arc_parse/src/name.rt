@@ -6,10 +6,10 @@ ghost use Rattle.arc_grammar.specs.Grammar.{reads};
 ghost use Rattle.arc_grammar.specs.Grammar as grammar;
 
 use arc_ast::tree::Qualifiers;
-use arc_stmt::qualifier::qualifiers;
 use arc_form::fail::Read;
 use arc_form::reader::Reader;
 use arc_lex::token::Mark;
+use arc_stmt::qualifier::qualifiers;
 use std::alloc::Global;
 
 /// A comma and a name, with the name's place.

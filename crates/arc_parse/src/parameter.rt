@@ -16,10 +16,11 @@ use crate::value_type::{
     begins_other_value_type, begins_qualified_type, other_value_type, value_type,
 };
 use arc_ast::tree::{Parameter, Parameters, Qualifiers, TypeName};
-use arc_stmt::qualifier::{qualifiers, sees_qualifier, some_qualifiers};
 use arc_form::fail::Read;
 use arc_form::reader::Reader;
 use arc_lex::token::{Mark, Word};
+use arc_stmt::qualifier::{qualifiers, sees_qualifier, some_qualifiers};
+use arc_stmt::type_name::perhaps;
 use std::alloc::{AllocError, Global};
 
 /// What a function other than `main` takes.
@@ -279,24 +280,11 @@ fn texts(alloc: Global, _count: &Parameter, reader: &mut Reader) -> Read<Paramet
     ensures gives { Gives parameters_tree result (toks reader.new.rest.now) (reads_after grammar.texts (parameter_tree _count.now) (toks reader.old.rest.now)) }
     ensures shorter { IfOk result (λ _. length reader.new.rest.now < length reader.old.rest.now) }
 {
-    perhaps_const(reader)?;
+    perhaps(Word::Const, reader)?;
     reader.keyword(Word::Char)?;
     reader.expect(Mark::Star)?;
     texts_name(alloc, reader)?;
     Ok(Parameters::CountAndTexts)
-}
-
-/// Perhaps `const`.
-#[tactic(auto, unfolding(arc_grammar::specs::Grammar::perhaps_const))]
-fn perhaps_const(reader: &mut Reader) -> Read<()>
-    ensures gives { Gives (λ x. x) result (toks reader.new.rest.now) (reads grammar.perhaps_const (toks reader.old.rest.now)) }
-    ensures shorter { IfOk result (λ _. length reader.new.rest.now ≤ length reader.old.rest.now) }
-{
-    if !reader.sees_word(Word::Const) {
-        return Ok(());
-    }
-    reader.keyword(Word::Const)?;
-    Ok(())
 }
 
 /// `name[]` or `*name`

@@ -9,10 +9,10 @@ ghost use Rattle.arc_grammar.specs.Grammar as grammar;
 ghost use Rattle.arc_parse.specs.private.Tops.{top_tree};
 ghost use Rattle.arc_parse.specs.private.Views.{and_top};
 
+use crate::top::{Top, any_top, begins_top};
 use arc_ast::tree::TranslationUnit;
 use arc_form::fail::{Fail, Read};
 use arc_form::reader::Reader;
-use crate::top::{Top, any_top, begins_top};
 use std::alloc::{AllocError, Global};
 
 /// What stands outside of all else, and the end of the tokens.

@@ -16,10 +16,11 @@ use crate::global::globals;
 use crate::value_type::{begins_qualified_type, value_type_of};
 use arc_ast::tree;
 use arc_ast::tree::{Function, Implementation, Interface, Qualifiers, ResultType, TypeName};
-use arc_stmt::qualifier::{sees_qualifier, some_qualifiers};
 use arc_form::fail::Read;
 use arc_form::reader::Reader;
 use arc_lex::token::{AtWord, Mark, Word};
+use arc_stmt::qualifier::{sees_qualifier, some_qualifiers};
+use arc_stmt::type_name::perhaps;
 use std::alloc::Global;
 
 /// What stands outside of all else. The names that `@class` declares aren't kept.
@@ -72,7 +73,7 @@ fn external(alloc: Global, reader: &mut Reader) -> Read<Top>
     ensures gives { Gives top_tree result (toks reader.new.rest.now) (reads grammar.external (toks reader.old.rest.now)) }
     ensures shorter { IfOk result (λ _. length reader.new.rest.now < length reader.old.rest.now) }
 {
-    perhaps_static(reader)?;
+    perhaps(Word::Static, reader)?;
     if reader.sees_word(Word::Void) {
         of_void(alloc, reader)
     } else if sees_qualifier(reader) {
@@ -82,19 +83,6 @@ fn external(alloc: Global, reader: &mut Reader) -> Read<Top>
     } else {
         of_type(alloc, false, reader)
     }
-}
-
-/// Perhaps `static`.
-#[tactic(auto, unfolding(arc_grammar::specs::Grammar::perhaps_static))]
-fn perhaps_static(reader: &mut Reader) -> Read<()>
-    ensures gives { Gives (λ x. x) result (toks reader.new.rest.now) (reads grammar.perhaps_static (toks reader.old.rest.now)) }
-    ensures shorter { IfOk result (λ _. length reader.new.rest.now ≤ length reader.old.rest.now) }
-{
-    if !reader.sees_word(Word::Static) {
-        return Ok(());
-    }
-    reader.keyword(Word::Static)?;
-    Ok(())
 }
 
 /// `void` and a function.

@@ -8,11 +8,11 @@ ghost use Rattle.arc_grammar.specs.Grammar.{reads};
 ghost use Rattle.arc_grammar.specs.Grammar as grammar;
 
 use arc_ast::tree::TypeName;
-use arc_stmt::qualifier::sees_qualifier;
-use arc_stmt::type_name::{begins_other_type, begins_plain_type, id_type, other_type, plain_type};
 use arc_form::fail::Read;
 use arc_form::reader::Reader;
 use arc_lex::token::{Mark, Word};
+use arc_stmt::qualifier::sees_qualifier;
+use arc_stmt::type_name::{begins_other_type, begins_plain_type, of_word, other_type, plain_type};
 use std::alloc::Global;
 
 /// Whether the type of a value can begin with the first token.
@@ -85,7 +85,7 @@ pub fn other_value_type(alloc: Global, reader: &mut Reader) -> Read<(usize, Type
     if reader.sees_name() {
         class_type(alloc, reader)
     } else if reader.sees_word(Word::Id) {
-        id_type(reader)
+        of_word(Word::Id, reader)
     } else {
         other_type(reader)
     }

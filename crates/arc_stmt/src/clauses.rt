@@ -6,13 +6,13 @@ ghost use Rattle.arc_ast.specs.Tree.{expr_tree, stmt_tree};
 ghost use Rattle.arc_grammar.specs.Grammar.{reads};
 ghost use Rattle.arc_grammar.specs.Grammar as grammar;
 
+use crate::full::full;
 use crate::made::boxed;
+use crate::qualifier::sees_qualifier;
 use crate::simple::{empty, simple, value};
+use crate::type_name::begins_plain_type;
 use crate::variable::{declaration, qualified_declaration};
 use arc_ast::tree::{Expr, Qualifiers, Stmt};
-use crate::full::full;
-use crate::qualifier::sees_qualifier;
-use crate::type_name::begins_plain_type;
 use arc_form::fail::Read;
 use arc_form::reader::Reader;
 use arc_lex::token::{Mark, Word};

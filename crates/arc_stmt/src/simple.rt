@@ -6,9 +6,9 @@ ghost use Rattle.arc_ast.specs.Tree.{expr_tree, stmt_tree};
 ghost use Rattle.arc_grammar.specs.Grammar.{reads};
 ghost use Rattle.arc_grammar.specs.Grammar as grammar;
 
+use crate::full::full;
 use crate::made::unboxed;
 use arc_ast::tree::{Expr, Stmt};
-use crate::full::full;
 use arc_form::fail::{Fail, Read};
 use arc_form::reader::Reader;
 use arc_form::slice::after_first;

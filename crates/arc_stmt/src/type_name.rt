@@ -45,7 +45,7 @@ pub fn plain_type(reader: &mut Reader) -> Read<(usize, TypeName)>
     ensures shorter { IfOk result (λ _. length reader.new.rest.now < length reader.old.rest.now) }
 {
     if reader.sees_word(Word::Id) {
-        id_type(reader)
+        of_word(Word::Id, reader)
     } else {
         number_type(reader)
     }
@@ -64,17 +64,6 @@ pub fn declared_type(alloc: Global, of_class: bool, reader: &mut Reader) -> Read
     Ok((at, TypeName::Object(at, class)))
 }
 
-/// `id`, with its place.
-#[tactic(auto, unfolding(arc_grammar::specs::Grammar::id_type))]
-pub fn id_type(reader: &mut Reader) -> Read<(usize, TypeName)>
-    ensures gives { Gives (λ x. (x.0, type_tree x.1)) result (toks reader.new.rest.now) (reads_free grammar.id_type (toks reader.old.rest.now)) }
-    ensures within { Gives (λ x. (x.0, type_tree x.1)) result (toks reader.new.rest.now) (reads grammar.id_type (toks reader.old.rest.now)) }
-    ensures shorter { IfOk result (λ _. length reader.new.rest.now < length reader.old.rest.now) }
-{
-    let at = reader.keyword(Word::Id)?;
-    Ok((at, TypeName::Id))
-}
-
 /// A type of numbers, with its place.
 #[tactic(auto, unfolding(arc_grammar::specs::Grammar::number_type))]
 pub fn number_type(reader: &mut Reader) -> Read<(usize, TypeName)>
@@ -83,7 +72,7 @@ pub fn number_type(reader: &mut Reader) -> Read<(usize, TypeName)>
     ensures shorter { IfOk result (λ _. length reader.new.rest.now < length reader.old.rest.now) }
 {
     if reader.sees_word(Word::Int) {
-        int_type(reader)
+        of_word(Word::Int, reader)
     } else {
         other_type(reader)
     }
@@ -99,43 +88,33 @@ pub fn other_type(reader: &mut Reader) -> Read<(usize, TypeName)>
     if reader.sees_word(Word::Long) {
         long_type(reader)
     } else if reader.sees_word(Word::Bool) {
-        bool_type(reader)
+        of_word(Word::Bool, reader)
     } else {
-        integer_type(reader)
+        of_word(Word::NsInteger, reader)
     }
 }
 
-/// `int`, with its place.
-#[tactic(auto, unfolding(arc_grammar::specs::Grammar::int_type))]
-fn int_type(reader: &mut Reader) -> Read<(usize, TypeName)>
-    ensures gives { Gives (λ x. (x.0, type_tree x.1)) result (toks reader.new.rest.now) (reads_free grammar.int_type (toks reader.old.rest.now)) }
-    ensures within { Gives (λ x. (x.0, type_tree x.1)) result (toks reader.new.rest.now) (reads grammar.int_type (toks reader.old.rest.now)) }
-    ensures shorter { IfOk result (λ _. length reader.new.rest.now < length reader.old.rest.now) }
+/// The type that this word is.
+fn type_of(word: Word) -> TypeName
+    ensures { type_tree result ≡ grammar.type_of word }
 {
-    let at = reader.keyword(Word::Int)?;
-    Ok((at, TypeName::Int))
+    match word {
+        Word::Int => TypeName::Int,
+        Word::Bool => TypeName::Bool,
+        Word::NsInteger => TypeName::Long,
+        _ => TypeName::Id,
+    }
 }
 
-/// `BOOL`, with its place.
-#[tactic(auto, unfolding(arc_grammar::specs::Grammar::bool_type))]
-fn bool_type(reader: &mut Reader) -> Read<(usize, TypeName)>
-    ensures gives { Gives (λ x. (x.0, type_tree x.1)) result (toks reader.new.rest.now) (reads_free grammar.bool_type (toks reader.old.rest.now)) }
-    ensures within { Gives (λ x. (x.0, type_tree x.1)) result (toks reader.new.rest.now) (reads grammar.bool_type (toks reader.old.rest.now)) }
+/// A type that is this word, with its place.
+#[tactic(auto, unfolding(arc_grammar::specs::Grammar::of_word))]
+pub fn of_word(word: Word, reader: &mut Reader) -> Read<(usize, TypeName)>
+    ensures gives { Gives (λ x. (x.0, type_tree x.1)) result (toks reader.new.rest.now) (reads_free (grammar.of_word word) (toks reader.old.rest.now)) }
+    ensures within { Gives (λ x. (x.0, type_tree x.1)) result (toks reader.new.rest.now) (reads (grammar.of_word word) (toks reader.old.rest.now)) }
     ensures shorter { IfOk result (λ _. length reader.new.rest.now < length reader.old.rest.now) }
 {
-    let at = reader.keyword(Word::Bool)?;
-    Ok((at, TypeName::Bool))
-}
-
-/// `NSInteger`, with its place.
-#[tactic(auto, unfolding(arc_grammar::specs::Grammar::integer_type))]
-fn integer_type(reader: &mut Reader) -> Read<(usize, TypeName)>
-    ensures gives { Gives (λ x. (x.0, type_tree x.1)) result (toks reader.new.rest.now) (reads_free grammar.integer_type (toks reader.old.rest.now)) }
-    ensures within { Gives (λ x. (x.0, type_tree x.1)) result (toks reader.new.rest.now) (reads grammar.integer_type (toks reader.old.rest.now)) }
-    ensures shorter { IfOk result (λ _. length reader.new.rest.now < length reader.old.rest.now) }
-{
-    let at = reader.keyword(Word::NsInteger)?;
-    Ok((at, TypeName::Long))
+    let at = reader.keyword(word)?;
+    Ok((at, type_of(word)))
 }
 
 /// `long`, perhaps another `long`, and perhaps `int`.
@@ -146,35 +125,21 @@ fn long_type(reader: &mut Reader) -> Read<(usize, TypeName)>
     ensures shorter { IfOk result (λ _. length reader.new.rest.now < length reader.old.rest.now) }
 {
     let at = reader.keyword(Word::Long)?;
-    perhaps_long(reader)?;
-    perhaps_int(reader)?;
+    perhaps(Word::Long, reader)?;
+    perhaps(Word::Int, reader)?;
     Ok((at, TypeName::Long))
 }
 
-/// Perhaps `long`.
-#[tactic(auto, unfolding(arc_grammar::specs::Grammar::perhaps_long))]
-fn perhaps_long(reader: &mut Reader) -> Read<()>
-    ensures gives { Gives (λ x. x) result (toks reader.new.rest.now) (reads_free grammar.perhaps_long (toks reader.old.rest.now)) }
-    ensures within { Gives (λ x. x) result (toks reader.new.rest.now) (reads grammar.perhaps_long (toks reader.old.rest.now)) }
+/// Perhaps this word.
+#[tactic(auto, unfolding(arc_grammar::specs::Grammar::perhaps))]
+pub fn perhaps(word: Word, reader: &mut Reader) -> Read<()>
+    ensures gives { Gives (λ x. x) result (toks reader.new.rest.now) (reads_free (grammar.perhaps word) (toks reader.old.rest.now)) }
+    ensures within { Gives (λ x. x) result (toks reader.new.rest.now) (reads (grammar.perhaps word) (toks reader.old.rest.now)) }
     ensures shorter { IfOk result (λ _. length reader.new.rest.now ≤ length reader.old.rest.now) }
 {
-    if !reader.sees_word(Word::Long) {
+    if !reader.sees_word(word) {
         return Ok(());
     }
-    reader.keyword(Word::Long)?;
-    Ok(())
-}
-
-/// Perhaps `int`.
-#[tactic(auto, unfolding(arc_grammar::specs::Grammar::perhaps_int))]
-fn perhaps_int(reader: &mut Reader) -> Read<()>
-    ensures gives { Gives (λ x. x) result (toks reader.new.rest.now) (reads_free grammar.perhaps_int (toks reader.old.rest.now)) }
-    ensures within { Gives (λ x. x) result (toks reader.new.rest.now) (reads grammar.perhaps_int (toks reader.old.rest.now)) }
-    ensures shorter { IfOk result (λ _. length reader.new.rest.now ≤ length reader.old.rest.now) }
-{
-    if !reader.sees_word(Word::Int) {
-        return Ok(());
-    }
-    reader.keyword(Word::Int)?;
+    reader.keyword(word)?;
     Ok(())
 }

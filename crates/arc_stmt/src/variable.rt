@@ -8,11 +8,11 @@ ghost use Rattle.arc_grammar.specs.Grammar.{reads};
 ghost use Rattle.arc_stmt.specs.Declaring.{reads_after};
 ghost use Rattle.arc_grammar.specs.Grammar as grammar;
 
-use crate::made::unboxed;
-use arc_ast::tree::{Expr, Qualifiers, Stmt, Variable};
 use crate::full::full;
+use crate::made::unboxed;
 use crate::qualifier::{qualifiers, some_qualifiers};
 use crate::type_name::declared_type;
+use arc_ast::tree::{Expr, Qualifiers, Stmt, Variable};
 use arc_form::fail::Read;
 use arc_form::reader::Reader;
 use arc_lex::token::Mark;
