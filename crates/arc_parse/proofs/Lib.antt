@@ -1,3 +1,7 @@
+pub mod Table
+pub mod Fix
+pub mod Levels
+pub mod Bound
 pub mod Signatures
 pub mod Fields
 pub mod Globals

@@ -1,4 +1,5 @@
 -- The vocabulary of private functions: no contract of a public call speaks of it.
+pub mod Declaring
 pub mod Signatures
 pub mod Fields
 pub mod Globals

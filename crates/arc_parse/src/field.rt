@@ -15,8 +15,8 @@ use arc_ast::tree::{Field, Qualifiers, TypeName, Visibility};
 use arc_form::fail::{Fail, Read};
 use arc_form::reader::Reader;
 use arc_lex::token::{AtWord, Mark, Token, TokenKind};
-use arc_stmt::qualifier::qualifiers;
-use arc_stmt::type_name::declared_type;
+use crate::qualifier::qualifiers;
+use crate::type_name::declared_type;
 use std::alloc::{AllocError, Global};
 
 /// The fields in braces, if there are any; those before any word are visible so.

@@ -14,7 +14,7 @@ use arc_ast::tree::{Function, Parameters, ResultType, Stmt};
 use arc_form::fail::Read;
 use arc_form::reader::Reader;
 use arc_lex::token::Mark;
-use arc_stmt::stmt::items;
+use crate::stmt::items;
 use std::alloc::Global;
 
 /// A declaration or a definition of a function, but for `static` and the type of its result, which is given.

@@ -47,7 +47,7 @@ fn global(
     ensures gives { Gives global_tree result (toks reader.new.rest.now) (reads_after grammar.global (qualifiers, type_tree type_name.now) (toks reader.old.rest.now)) }
     ensures shorter { IfOk result (λ _. length reader.new.rest.now < length reader.old.rest.now) }
 {
-    let own = arc_stmt::qualifier::qualifiers(reader)?;
+    let own = crate::qualifier::qualifiers(reader)?;
     let (at, name) = reader.name(alloc)?;
     let initial = first_constant(reader)?;
     Ok(tree::Global {

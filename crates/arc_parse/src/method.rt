@@ -16,7 +16,7 @@ use arc_ast::tree::{Method, MethodHead, Parameter, Qualifiers, ResultType, Sign,
 use arc_form::fail::Read;
 use arc_form::reader::Reader;
 use arc_lex::token::{Mark, Word};
-use arc_stmt::qualifier::qualifiers;
+use crate::qualifier::qualifiers;
 use std::alloc::Global;
 
 /// Whether a method can begin with the first token.

@@ -9,7 +9,7 @@ use arc_ast::tree::Qualifiers;
 use arc_form::fail::Read;
 use arc_form::reader::Reader;
 use arc_lex::token::Mark;
-use arc_stmt::qualifier::qualifiers;
+use crate::qualifier::qualifiers;
 use std::alloc::Global;
 
 /// A comma and a name, with the name's place.

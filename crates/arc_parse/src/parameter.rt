@@ -19,8 +19,8 @@ use arc_ast::tree::{Parameter, Parameters, Qualifiers, TypeName};
 use arc_form::fail::Read;
 use arc_form::reader::Reader;
 use arc_lex::token::{Mark, Word};
-use arc_stmt::qualifier::{qualifiers, sees_qualifier, some_qualifiers};
-use arc_stmt::type_name::perhaps;
+use crate::qualifier::{qualifiers, sees_qualifier, some_qualifiers};
+use crate::type_name::perhaps;
 use std::alloc::{AllocError, Global};
 
 /// What a function other than `main` takes.

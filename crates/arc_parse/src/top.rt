@@ -19,8 +19,8 @@ use arc_ast::tree::{Function, Implementation, Interface, Qualifiers, ResultType,
 use arc_form::fail::Read;
 use arc_form::reader::Reader;
 use arc_lex::token::{AtWord, Mark, Word};
-use arc_stmt::qualifier::{sees_qualifier, some_qualifiers};
-use arc_stmt::type_name::perhaps;
+use crate::qualifier::{sees_qualifier, some_qualifiers};
+use crate::type_name::perhaps;
 use std::alloc::Global;
 
 /// What stands outside of all else. The names that `@class` declares aren't kept.

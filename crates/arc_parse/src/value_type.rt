@@ -11,8 +11,8 @@ use arc_ast::tree::TypeName;
 use arc_form::fail::Read;
 use arc_form::reader::Reader;
 use arc_lex::token::{Mark, Word};
-use arc_stmt::qualifier::sees_qualifier;
-use arc_stmt::type_name::{begins_other_type, begins_plain_type, of_word, other_type, plain_type};
+use crate::qualifier::sees_qualifier;
+use crate::type_name::{begins_other_type, begins_plain_type, of_word, other_type, plain_type};
 use std::alloc::Global;
 
 /// Whether the type of a value can begin with the first token.

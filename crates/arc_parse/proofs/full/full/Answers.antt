@@ -1,6 +1,6 @@
 use Rattle.std.proofs.Common.{arith}
-use Rattle.arc_stmt.proofs.Bound.{then_over, then_fits}
-use Rattle.arc_stmt.proofs.full.full.Goals as goal
+use Rattle.arc_parse.proofs.Bound.{then_over, then_fits}
+use Rattle.arc_parse.proofs.full.full.Goals as goal
 
 pub after-reader-requires : goal.after-reader-requires
 after-reader-requires c = omega (arith, c.front-ahead.ensures.fits, c.if-taken-gt-MOST_TOKENS.true)

@@ -1,5 +1,5 @@
 use Rattle.std.proofs.Common.{◌+◌, ◌*◌, length}
-use Rattle.arc_stmt.proofs.expr.+exprs.Given as goal
+use Rattle.arc_parse.proofs.expr.+exprs.Given as goal
 
 abbrev pub decreases-expr : goal.decreases-expr
 decreases-expr l = 16 * length l.reader.now.rest.now + 7

@@ -4,10 +4,10 @@ use Rattle.arc_lex.specs.Tokens.{toks}
 use Rattle.arc_ast.specs.Tree.{expr_tree}
 use Rattle.arc_grammar.specs.Grammar.{reads_on, exprs}
 use Rattle.arc_grammar.specs.Grammar as grammar
-use Rattle.arc_stmt.proofs.Levels.{one_more, no_operand}
+use Rattle.arc_parse.proofs.Levels.{one_more, no_operand}
 use Rattle.arc_ast.proofs.Trees.{call_tree, send_tree, send_super_tree}
 use Rattle.arc_grammar.proofs.Lists.{exprs_all}
-use Rattle.arc_stmt.proofs.expr.+exprs.Goals as goal
+use Rattle.arc_parse.proofs.expr.+exprs.Goals as goal
 
 pub call-returns-clause-gives : goal.call-returns-clause-gives
 unfolding grammar.arguments

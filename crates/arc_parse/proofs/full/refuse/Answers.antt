@@ -1,7 +1,7 @@
 use Rattle.std.proofs.Common.{length, ap, arith}
-use Rattle.arc_stmt.proofs.Bound.{rest_short, fails_over, fails_fits}
+use Rattle.arc_parse.proofs.Bound.{rest_short, fails_over, fails_fits}
 use Rattle.arc_form.proofs.Front.{take_short}
-use Rattle.arc_stmt.proofs.full.refuse.Goals as goal
+use Rattle.arc_parse.proofs.full.refuse.Goals as goal
 
 pub overflow_sub-taken : goal.overflow_sub-taken
 overflow_sub-taken c = rest_short c.args.reader.now.rest.now c.args.ahead.now c.args.left.now c.args.left.now c.requires.first _ c.requires.fails.1

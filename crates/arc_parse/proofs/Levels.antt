@@ -11,7 +11,7 @@ use Rattle.arc_form.specs.Form.{unlimited}
 use Rattle.arc_form.specs.Reader.{Read, Fails, misfit, too_deep, bind, sees, take_one}
 use Rattle.arc_form.specs.Operators.{marks_at, placed_operator}
 use Rattle.arc_grammar.specs.Grammar.{rules, reads_on, binary, table, marks_up_to, more, up_to}
-use Rattle.arc_stmt.proofs.Fix.{read_more, read_past, up_one}
+use Rattle.arc_parse.proofs.Fix.{read_more, read_past, up_one}
 
 -- An operator of level g is ahead, and before it no tighter one; its operand is read after it.
 module _ (g : ℕ) (left : ExprTree) (ts us : List Tok) (o : ℕ × BinaryOperator) (tight : sees (marks_up_to (g - 1)) ts ≡ false) (there : sees (marks_at g table) ts ≡ true)

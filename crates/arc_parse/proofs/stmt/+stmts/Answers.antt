@@ -2,7 +2,7 @@ use Rattle.std.proofs.Common.{◌≡◌, ◌+◌, suc, rules, arith}
 use Rattle.arc_grammar.specs.Grammar as grammar
 use Rattle.arc_ast.proofs.Trees.{block_tree}
 use Rattle.arc_grammar.proofs.Lists.{stmts_all}
-use Rattle.arc_stmt.proofs.stmt.+stmts.Goals as goal
+use Rattle.arc_parse.proofs.stmt.+stmts.Goals as goal
 
 pub block-returns-clause-gives : goal.block-returns-clause-gives
 unfolding grammar.block

@@ -16,7 +16,7 @@ use Rattle.arc_form.proofs.FormLocal.{read_is, fronts}
 use Rattle.arc_grammar.specs.Grammar.{Sent, rules, reads_free, reads_on, body, expr, binary, table, assigning, marks_up_to, join, further, more, up_to, choice, continued, operations, begins_suffix, suffix, suffixes, next_argument, more_arguments, add, next_part, more_parts, add_part}
 use Rattle.arc_grammar.proofs.Fits.{facts, sure, taking}
 use Rattle.arc_grammar.proofs.Loops.{one_more_on}
-use Rattle.arc_stmt.specs.declared.operator.TheConstants.{ASSIGNING, LOOSEST}
+use Rattle.arc_parse.specs.declared.operator.TheConstants.{ASSIGNING, LOOSEST}
 
 further_front : (l : ℕ) → Takes 1 (reads_free (further l))
 unfolding further

@@ -5,7 +5,7 @@ ghost use Rattle.arc_form.specs.Reader.{Gives};
 ghost use Rattle.arc_form.specs.Views.{all, with_row};
 ghost use Rattle.arc_ast.specs.Tree.{expr_tree, variable_tree, stmt_tree};
 ghost use Rattle.arc_grammar.specs.Grammar.{reads};
-ghost use Rattle.arc_stmt.specs.Declaring.{reads_after};
+ghost use Rattle.arc_parse.specs.private.Declaring.{reads_after};
 ghost use Rattle.arc_grammar.specs.Grammar as grammar;
 
 use crate::full::full;

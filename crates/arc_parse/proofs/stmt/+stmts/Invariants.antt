@@ -2,7 +2,7 @@ use Rattle.std.proofs.Common.{◌+◌, ◌*◌, length}
 use Rattle.arc_ast.specs.Tree.{stmt_tree}
 use Rattle.arc_grammar.specs.Grammar.{reads, items, item, begins_item}
 use Rattle.arc_grammar.proofs.Loops.{SoFar, row}
-use Rattle.arc_stmt.proofs.stmt.+stmts.Given as goal
+use Rattle.arc_parse.proofs.stmt.+stmts.Given as goal
 
 abbrev pub decreases-stmt : goal.decreases-stmt
 decreases-stmt l = 16 * length l.reader.now.rest.now + 6

@@ -1,4 +1,0 @@
-pub mod Table
-pub mod Fix
-pub mod Levels
-pub mod Bound
