@@ -78,6 +78,9 @@ if_sees T f g = λ ts. if sees T ts then f ts else g ts
 abbrev pub if_sees_two : {A : Type 0} → Kinds → Kinds → Reader A → Reader A → Reader A
 if_sees_two T U f g = λ ts. if sees_two T U ts then f ts else g ts
 
+abbrev pub from : Tok → ℕ
+from t = t.from
+
 abbrev pub taken : {A : Type 0} → Bool → (Tok → A) → Tok → List Tok → Read A
 taken true g t ts = Ok (g t, ts)
 taken false g t ts = Err (misfit, t ∷ ts)
@@ -86,6 +89,11 @@ taken false g t ts = Err (misfit, t ∷ ts)
 abbrev pub take_one : {A : Type 0} → Kinds → (Tok → A) → Reader A
 take_one T g [] = Err (misfit, [])
 take_one T g (t ∷ ts) = taken (is T t) g t ts
+
+-- The first token, which is of these kinds, was taken, and it is at this place; or it is not, and none was.
+abbrev pub Taken : Option ℕ → Kinds → List Tok → List Tok → Type 0
+Taken (Some place) T ts rest = (sees T ts ≡ true) × (take_one T from ts ≡ Ok (place, rest))
+Taken None T ts rest = (sees T rest ≡ false) × (ts ≡ rest)
 
 -- what f reads, again and again while a token of these kinds is ahead, so many times at most
 abbrev pub turns : {A : Type 0} → ℕ → Kinds → Reader A → Reader (List A)
@@ -118,9 +126,6 @@ unfoldable pub up_to : {A : Type 0} → Option ℕ → Reader A → Reader A
 up_to most f = λ ts. cut most ts (f ts)
 
 -- ---- what tokens give
-
-abbrev pub from : Tok → ℕ
-from t = t.from
 
 abbrev pub bytes_of : Sort → List ℕ
 bytes_of (Name bytes) = bytes

@@ -2,5 +2,6 @@
 #![tactic(auto)]
 
 pub mod fail;
+pub mod made;
 pub mod reader;
 pub mod slice;

@@ -1,11 +1,10 @@
 //! The tokens that are left, and the steps by which every part of the parser takes them.
-ghost use Rattle.std.specs.Prelude.{◌≡◌, ◌<◌, length, IfOk};
+ghost use Rattle.std.specs.Prelude.{◌≡◌, ◌<◌, length, IfOk, IfSome, None};
 ghost use Rattle.std.specs.Str.{bytes_eq};
 ghost use Rattle.arc_lex.specs.Spellings.{mark_bytes, word_bytes, at_bytes};
 ghost use Rattle.arc_lex.specs.Tokens.{toks};
 ghost use Rattle.arc_form.specs.Kinds as kinds;
-ghost use Rattle.arc_lex.specs.declared.token.Mark.TheVariants as m;
-ghost use Rattle.arc_form.specs.Reader.{Gives, sees, sees_two, take_one, from, named};
+ghost use Rattle.arc_form.specs.Reader.{Gives, Taken, sees, sees_two, take_one, from, named};
 
 use crate::fail::{Fail, Read};
 use arc_lex::token::{AtWord, Mark, Token, TokenKind, Word};
@@ -95,12 +94,22 @@ impl<'a> Reader<'a> {
         )
     }
 
-    /// Whether the tokens begin with a name and `*`.
-    pub fn sees_reference(&self) -> bool
-        ensures { result ≡ sees_two kinds.name (kinds.mark m.Star) (toks self.now.rest.now) }
+    /// Whether the tokens begin with a name, and this mark after it.
+    pub fn sees_name_and(&self, mark: Mark) -> bool
+        ensures { result ≡ sees_two kinds.name (kinds.mark mark) (toks self.now.rest.now) }
     {
         match self.rest.split_first() {
-            Some((_, rest)) => self.sees_name() && Reader { rest }.sees_mark(Mark::Star),
+            Some((_, rest)) => self.sees_name() && Reader { rest }.sees_mark(mark),
+            None => false,
+        }
+    }
+
+    /// Whether the tokens begin with this word, and a name after it.
+    pub fn sees_word_and_name(&self, word: Word) -> bool
+        ensures { result ≡ sees_two (kinds.word word) kinds.name (toks self.now.rest.now) }
+    {
+        match self.rest.split_first() {
+            Some((_, rest)) => self.sees_word(word) && Reader { rest }.sees_name(),
             None => false,
         }
     }
@@ -131,12 +140,11 @@ impl<'a> Reader<'a> {
         )
     }
 
-    /// Takes the first token, which is this mark: its place.
-    ///
-    /// `Unexpected` comes where it is not, and nothing is taken.
-    pub fn expect(&mut self, mark: Mark) -> Read<usize>
-        ensures gives { Gives (λ x. x) result (toks self.new.rest.now) (take_one (kinds.mark mark) from (toks self.old.rest.now)) }
-        ensures shorter { IfOk result (λ _. length self.new.rest.now < length self.old.rest.now) }
+    /// Takes the first token where it is this mark: its place. Where it is not, nothing is taken.
+    pub fn take(&mut self, mark: Mark) -> Option<usize>
+        ensures taken { Taken result (kinds.mark mark) (toks self.old.rest.now) (toks self.new.rest.now) }
+        ensures shorter { IfSome result (λ _. length self.new.rest.now < length self.old.rest.now) }
+        ensures kept { result ≡ None → self.old.rest.now ≡ self.new.rest.now }
     {
         match self.rest.split_first() {
             Some(
@@ -149,18 +157,30 @@ impl<'a> Reader<'a> {
                 ),
             ) if same_mark(*found, mark) => {
                 self.rest = rest;
-                Ok(span.from)
+                Some(span.from)
             }
-            _ => Err(Fail::Unexpected),
+            _ => None,
         }
     }
 
-    /// Takes the first token, which is this word: its place.
+    /// Takes the first token, which is this mark: its place.
     ///
     /// `Unexpected` comes where it is not, and nothing is taken.
-    pub fn keyword(&mut self, word: Word) -> Read<usize>
-        ensures gives { Gives (λ x. x) result (toks self.new.rest.now) (take_one (kinds.word word) from (toks self.old.rest.now)) }
+    pub fn expect(&mut self, mark: Mark) -> Read<usize>
+        ensures gives { Gives (λ x. x) result (toks self.new.rest.now) (take_one (kinds.mark mark) from (toks self.old.rest.now)) }
         ensures shorter { IfOk result (λ _. length self.new.rest.now < length self.old.rest.now) }
+    {
+        match self.take(mark) {
+            Some(at) => Ok(at),
+            None => Err(Fail::Unexpected),
+        }
+    }
+
+    /// Takes the first token where it is this word: its place. Where it is not, nothing is taken.
+    pub fn take_word(&mut self, word: Word) -> Option<usize>
+        ensures taken { Taken result (kinds.word word) (toks self.old.rest.now) (toks self.new.rest.now) }
+        ensures shorter { IfSome result (λ _. length self.new.rest.now < length self.old.rest.now) }
+        ensures kept { result ≡ None → self.old.rest.now ≡ self.new.rest.now }
     {
         match self.rest.split_first() {
             Some(
@@ -173,9 +193,22 @@ impl<'a> Reader<'a> {
                 ),
             ) if same_word(*found, word) => {
                 self.rest = rest;
-                Ok(span.from)
+                Some(span.from)
             }
-            _ => Err(Fail::Unexpected),
+            _ => None,
+        }
+    }
+
+    /// Takes the first token, which is this word: its place.
+    ///
+    /// `Unexpected` comes where it is not, and nothing is taken.
+    pub fn keyword(&mut self, word: Word) -> Read<usize>
+        ensures gives { Gives (λ x. x) result (toks self.new.rest.now) (take_one (kinds.word word) from (toks self.old.rest.now)) }
+        ensures shorter { IfOk result (λ _. length self.new.rest.now < length self.old.rest.now) }
+    {
+        match self.take_word(word) {
+            Some(at) => Ok(at),
+            None => Err(Fail::Unexpected),
         }
     }
 

@@ -1,5 +1,5 @@
 -- The grammar, a line for each of its rules, with the tree that each gives.
-use Rattle.std.specs.Prelude.{ℕ, zero, suc, ℤ, pos, Bool, true, false, ◌-◌, min, max, List, [], ◌∷◌, ◌++◌, map as list_map, Option, Some, None}
+use Rattle.std.specs.Prelude.{ℕ, zero, suc, ℤ, pos, Bool, true, false, ◌+◌, ◌-◌, min, max, List, [], ◌∷◌, ◌++◌, map as list_map, Option, Some, None}
 use Rattle.std.specs.Int.{w64, int_wrapping_neg}
 use Rattle.arc_lex.specs.declared.token.Mark.{Mark}
 use Rattle.arc_lex.specs.declared.token.Mark.TheVariants as m
@@ -66,6 +66,20 @@ at_key w = token (at w) from
 -- a name and its place
 abbrev pub called : Part (ℕ × List ℕ)
 called = token name readers.named
+
+-- ---- lists
+
+-- a comma and this
+unfoldable pub after_comma : {A : Type 0} → Part A → Part A
+after_comma part = map (λ (comma, a). a) (the m.Comma ⨾ part)
+
+-- further ones, each after a comma
+unfoldable pub commas : {A : Type 0} → Part A → Part (List A)
+commas part = many (mark m.Comma) (after_comma part)
+
+-- one or more, with a comma between two
+unfoldable pub listed : {A : Type 0} → Part A → Part (List A)
+listed part = map (λ (a, others). a ∷ others) (part ⨾ commas part)
 
 -- ---- operators between two operands (C99, sections 6.5.5 to 6.5.14), the tightest first; those of the last level assign what they compute (6.5.16)
 
@@ -158,37 +172,22 @@ perhaps w = choose (word w) (map (λ _. tt) (key w)) (give tt)
 unfoldable pub long_type : Part (ℕ × TypeTree)
 long_type = map (λ (at, _). (at, Long)) (key w.Long ⨾ perhaps w.Long ⨾ perhaps w.Int)
 
--- the types that are one word
-abbrev pub type_of : Word → TypeTree
-type_of w.Int = Int
-type_of w.Bool = Boolean
-type_of w.NsInteger = Long
+abbrev pub type_of : Sort → TypeTree
+type_of (tokens.Key w.Int) = Int
+type_of (tokens.Key w.Bool) = Boolean
+type_of (tokens.Key w.NsInteger) = Long
 type_of _ = Id
 
--- such a type, with its place
-unfoldable pub of_word : Word → Part (ℕ × TypeTree)
-of_word w = map (λ at. (at, type_of w)) (key w)
-
--- a type of numbers but `int`, with its place
-unfoldable pub other_type : Part (ℕ × TypeTree)
-other_type = choose (word w.Long) long_type (choose (word w.Bool) (of_word w.Bool) (of_word w.NsInteger))
-
-abbrev pub begins_other_type : Kinds
-begins_other_type = word w.Long ∪ word w.Bool ∪ word w.NsInteger
-
--- a type of numbers, with its place
-unfoldable pub number_type : Part (ℕ × TypeTree)
-number_type = choose (word w.Int) (of_word w.Int) other_type
-
-abbrev pub begins_number_type : Kinds
-begins_number_type = word w.Int ∪ begins_other_type
+-- a type that is one word and names no class, with its place
+unfoldable pub one_word : Part (ℕ × TypeTree)
+one_word = token (word w.Int ∪ word w.Bool ∪ word w.NsInteger ∪ word w.Id) (λ t. (t.from, type_of t.sort))
 
 -- a type that names no class, with its place
 unfoldable pub plain_type : Part (ℕ × TypeTree)
-plain_type = choose (word w.Id) (of_word w.Id) number_type
+plain_type = choose (word w.Long) long_type one_word
 
 abbrev pub begins_plain_type : Kinds
-begins_plain_type = word w.Id ∪ begins_number_type
+begins_plain_type = word w.Long ∪ word w.Int ∪ word w.Bool ∪ word w.NsInteger ∪ word w.Id
 
 -- a class's name and `*`, which is the type of references to the class's objects (OPL, "Static Typing"), with its place
 unfoldable pub class_type : Part (ℕ × TypeTree)
@@ -205,13 +204,6 @@ value_type = choose name class_type plain_type
 
 abbrev pub begins_value_type : Kinds
 begins_value_type = name ∪ begins_plain_type
-
--- any type of a value but `int`, with its place
-unfoldable pub other_value_type : Part (ℕ × TypeTree)
-other_value_type = choose name class_type (choose (word w.Id) (of_word w.Id) other_type)
-
-abbrev pub begins_other_value_type : Kinds
-begins_other_value_type = name ∪ word w.Id ∪ begins_other_type
 
 -- ---- ownership qualifiers (ARC, "Ownership qualification")
 
@@ -296,16 +288,13 @@ abbrev pub exprs : List ExprTree → ExprTrees
 exprs [] = no_exprs
 exprs (a ∷ others) = and_expr a (exprs others)
 
-unfoldable pub next_argument : Part ExprTree
-next_argument = map (λ (comma, a). a) (the m.Comma ⨾ call expr)
-
 -- one more at the end
 abbrev pub add : {A : Type 0} → List A → A → List A
 add all a = all ++ a ∷ []
 
 -- further arguments, each after a comma
 unfoldable pub more_arguments : Part (List ExprTree → List ExprTree)
-more_arguments = map (λ others all. fold add all others) (many (mark m.Comma) next_argument)
+more_arguments = map (λ others all. fold add all others) (commas (call expr))
 
 -- arguments, one or more, and `)`
 unfoldable pub some_arguments : Part (List ExprTree)
@@ -358,19 +347,22 @@ next_part = map (λ (n, a). (n.1, a)) (called ⨾ argument_part)
 unfoldable pub more_parts : Part (Sent → Sent)
 more_parts = map (λ others s. fold add_part s others) (many name next_part)
 
+unfoldable pub some_parts : Part (List ℕ → Sent)
+some_parts = map (λ (a, make) first. make (first ++ 58 ∷ [], a ∷ [])) (argument_part ⨾ more_parts)
+
 -- what is after the name of the first part
 unfoldable pub parts : Part (List ℕ → Sent)
-parts = map (λ (a, make) first. make (first ++ 58 ∷ [], a ∷ [])) (argument_part ⨾ more_parts)
+parts = choose (mark m.Colon) some_parts (give (λ first. (first, [])))
 
--- a selector with its arguments, and the place of its first part
+-- a selector with its arguments, and the place of its first part, and `]`
 unfoldable pub sent : Part (ℕ × Sent)
-sent = map (λ (n, make). (n.0, make n.1)) (called ⨾ choose (mark m.Colon) parts (give (λ first. (first, []))))
+sent = map (λ (n, (make, end)). (n.0, make n.1)) (called ⨾ parts ⨾ the m.CloseSquare)
 
 unfoldable pub to_super : Part (ℕ → ExprTree)
-to_super = map (λ (super_at, (s, end)) at. SendSuper at s.0 super_at s.1.0 (exprs s.1.1)) (key w.Super ⨾ sent ⨾ the m.CloseSquare)
+to_super = map (λ (super_at, s) at. SendSuper at s.0 super_at s.1.0 (exprs s.1.1)) (key w.Super ⨾ sent)
 
 unfoldable pub to_object : Part (ℕ → ExprTree)
-to_object = map (λ (object, (s, end)) at. Send at s.0 object s.1.0 (exprs s.1.1)) (call expr ⨾ sent ⨾ the m.CloseSquare)
+to_object = map (λ (object, s) at. Send at s.0 object s.1.0 (exprs s.1.1)) (call expr ⨾ sent)
 
 unfoldable pub message : Part ExprTree
 message = map (λ (at, make). make at) (the m.OpenSquare ⨾ choose (word w.Super) to_super to_object)
@@ -394,11 +386,11 @@ unfoldable pub product : Part (ℕ × ℕ × List ℕ → ExprTree)
 product = map (λ (right, (make, (end, others))) (at, name_at, called). others (Paren at (make (Binary name_at operators.Multiply (Name name_at called) right)))) (call unary ⨾ continued ⨾ the m.CloseParen ⨾ suffixes)
 
 -- what is after the `(` where a name and `*` come
-unfoldable pub starred : Part (ℕ → ExprTree)
-starred = map (λ (n, (star, make)) at. make (at, n.0, n.1)) (called ⨾ the m.Star ⨾ choose (mark m.CloseParen) cast product)
+unfoldable pub cast_or_product : Part (ℕ → ExprTree)
+cast_or_product = map (λ (n, (star, make)) at. make (at, n.0, n.1)) (called ⨾ the m.Star ⨾ choose (mark m.CloseParen) cast product)
 
 unfoldable pub parenthesized : Part ExprTree
-parenthesized = map (λ (at, make). make at) (the m.OpenParen ⨾ choose begins_plain_type cast_to_plain (two_ahead name (mark m.Star) starred inside))
+parenthesized = map (λ (at, make). make at) (the m.OpenParen ⨾ choose begins_plain_type cast_to_plain (two_ahead name (mark m.Star) cast_or_product inside))
 
 -- ---- unary expressions (C99, section 6.5.3)
 
@@ -488,16 +480,12 @@ after_star false part = part
 unfoldable pub starred_variable : Bool → Part VariableTree
 starred_variable of_class = after_star of_class variable
 
-unfoldable pub next_variable : Bool → Part VariableTree
-next_variable of_class = map (λ (comma, v). v) (the m.Comma ⨾ starred_variable of_class)
-
-unfoldable pub more_variables : Bool → Part (List VariableTree)
-more_variables of_class = many (mark m.Comma) (next_variable of_class)
+unfoldable pub variables : Bool → Part (List VariableTree)
+variables of_class = listed (starred_variable of_class)
 
 -- a type, variables and `;`, after qualifiers
 unfoldable pub declaration : Bool → Part (Qualifiers → StmtTree)
-declaration of_class = map (λ (type, (v, (others, end))) q. Variables type.0 q type.1 (v ∷ others))
-    (declared_type of_class ⨾ starred_variable of_class ⨾ more_variables of_class ⨾ the m.Semicolon)
+declaration of_class = map (λ (type, (all, end)) q. Variables type.0 q type.1 all) (declared_type of_class ⨾ variables of_class ⨾ the m.Semicolon)
 
 -- qualifiers, a type, variables and `;`
 unfoldable pub qualified_declaration : Part StmtTree
@@ -540,13 +528,13 @@ conditional at c a (Some b) = IfElse at c a b
 
 -- an `else` belongs to the nearest `if` that it may belong to (6.8.4.1)
 unfoldable pub otherwise : ℕ → Part (Option StmtTree)
-otherwise d = or_none (word w.Else) (map (λ (other, b). Some b) (key w.Else ⨾ call (stmt (suc d)))) None
+otherwise d = or_none (word w.Else) (map (λ (other, b). Some b) (key w.Else ⨾ call (stmt (d + 1)))) None
 
 unfoldable pub if_else : ℕ → Part StmtTree
-if_else d = map (λ (at, (c, (a, b))). conditional at c a b) (key w.If ⨾ controlling ⨾ call (stmt (suc d)) ⨾ otherwise d)
+if_else d = map (λ (at, (c, (a, b))). conditional at c a b) (key w.If ⨾ controlling ⨾ call (stmt (d + 1)) ⨾ otherwise d)
 
 unfoldable pub while_do : ℕ → Part StmtTree
-while_do d = map (λ (at, (c, a)). While at c a) (key w.While ⨾ controlling ⨾ call (stmt (suc d)))
+while_do d = map (λ (at, (c, a)). While at c a) (key w.While ⨾ controlling ⨾ call (stmt (d + 1)))
 
 -- what is after the body of a `do`
 unfoldable pub test_after : Part ExprTree
@@ -554,7 +542,7 @@ test_after = map (λ (again, (c, end)). c) (key w.While ⨾ controlling ⨾ the 
 
 -- a body, and the test after it (6.8.5.2)
 unfoldable pub do_while : ℕ → Part StmtTree
-do_while d = map (λ (at, (a, c)). Do at a c) (key w.Do ⨾ call (stmt (suc d)) ⨾ test_after)
+do_while d = map (λ (at, (a, c)). Do at a c) (key w.Do ⨾ call (stmt (d + 1)) ⨾ test_after)
 
 -- what comes before a `for`: a declaration, an expression or nothing, and `;` (6.8.5.3)
 unfoldable pub beginning : Part StmtTree
@@ -570,7 +558,7 @@ unfoldable pub clauses : Part (StmtTree × (Option ExprTree × Option ExprTree))
 clauses = map (λ (start, all). all) (the m.OpenParen ⨾ beginning ⨾ value ⨾ step)
 
 unfoldable pub for_do : ℕ → Part StmtTree
-for_do d = map (λ (at, ((a, (c, e)), b)). For at a c e b) (key w.For ⨾ clauses ⨾ call (stmt (suc d)))
+for_do d = map (λ (at, ((a, (c, e)), b)). For at a c e b) (key w.For ⨾ clauses ⨾ call (stmt (d + 1)))
 
 -- `break` and `continue` (6.8.6.2 and 6.8.6.3)
 unfoldable pub breaking : Part StmtTree
@@ -593,17 +581,11 @@ unfoldable pub items : ℕ → Part (List StmtTree)
 items d = many begins_item (item d)
 
 unfoldable pub block : ℕ → Part StmtTree
-block d = map (λ (at, (all, end)). Block at (stmts all)) (the m.OpenBrace ⨾ items (suc d) ⨾ the m.CloseBrace)
-
--- a loop, or an expression
-unfoldable pub looped : ℕ → Part StmtTree
-looped d = choose (word w.While) (while_do d) (choose (word w.Do) (do_while d) (choose (word w.For) (for_do d) simple))
-
-unfoldable pub worded : ℕ → Part StmtTree
-worded d = choose (word w.Return) returned (choose (word w.If) (if_else d) (choose (word w.Break) breaking (choose (word w.Continue) continuing (looped d))))
+block d = map (λ (at, (all, end)). Block at (stmts all)) (the m.OpenBrace ⨾ items (d + 1) ⨾ the m.CloseBrace)
 
 unfoldable pub statement : ℕ → Part StmtTree
-statement d = choose (mark m.OpenBrace) (block d) (choose (mark m.Semicolon) empty (worded d))
+statement d = choose (mark m.OpenBrace) (block d) (choose (mark m.Semicolon) empty (choose (word w.Return) returned (choose (word w.If) (if_else d)
+    (choose (word w.Break) breaking (choose (word w.Continue) continuing (choose (word w.While) (while_do d) (choose (word w.Do) (do_while d) (choose (word w.For) (for_do d) simple))))))))
 
 -- ---- functions (C99, section 6.9.1; those of `main`, 5.1.2.2.1)
 
@@ -617,63 +599,30 @@ parameter = map (λ (before, (type, (q, n))). parameter_of (both_qualifiers befo
 abbrev pub begins_parameter : Kinds
 begins_parameter = begins_qualifier ∪ begins_value_type
 
-unfoldable pub next_parameter : Part ParameterTree
-next_parameter = map (λ (comma, p). p) (the m.Comma ⨾ parameter)
-
-unfoldable pub more_parameters : Part (List ParameterTree)
-more_parameters = many (mark m.Comma) next_parameter
-
-unfoldable pub void_parameters : Part ParametersTree
-void_parameters = map (λ void. Listed []) (key w.Void)
-
-unfoldable pub some_parameters : Part ParametersTree
-some_parameters = map (λ (p, others). Listed (p ∷ others)) (parameter ⨾ more_parameters)
-
-unfoldable pub parameters : Part ParametersTree
-parameters = choose (word w.Void) void_parameters (choose begins_parameter some_parameters (give (Listed [])))
-
 -- `name[]` or `*name`
 unfoldable pub texts_name : Part (Unit {0})
 texts_name = choose (mark m.Star) (map (λ _. tt) (the m.Star ⨾ called)) (map (λ _. tt) (called ⨾ the m.OpenSquare ⨾ the m.CloseSquare))
 
 -- the texts of `main` as an array or a pointer, constant or not, after the count
-unfoldable pub texts : Part (ParameterTree → ParametersTree)
-texts = map (λ _ count. CountAndTexts) (perhaps w.Const ⨾ key w.Char ⨾ the m.Star ⨾ texts_name)
-
-unfoldable pub further_parameters : Part (ParameterTree → ParametersTree)
-further_parameters = map (λ (q, others) p. Listed (p ∷ q ∷ others)) (parameter ⨾ more_parameters)
+unfoldable pub texts : Part ParametersTree
+texts = map (λ _. CountAndTexts) (perhaps w.Const ⨾ key w.Char ⨾ the m.Star ⨾ texts_name)
 
 -- what is after a first parameter of `main` that is an `int`, as the count of texts is, and a comma
 unfoldable pub second : Part (ParameterTree → ParametersTree)
-second = map (λ (comma, make). make) (the m.Comma ⨾ choose (word w.Const ∪ word w.Char) texts further_parameters)
+second = map (λ (comma, make). make) (the m.Comma ⨾ choose (word w.Const ∪ word w.Char) (map (λ all count. all) texts) (map (λ others p. Listed (p ∷ others)) (listed parameter)))
 
--- the name of such a parameter, and what is after it
-unfoldable pub counted_of_main : Part ParametersTree
-counted_of_main = map (λ (n, make). make (parameter_of Unqualified Int n)) (called ⨾ choose (mark m.Comma) second (give (λ p. Listed (p ∷ []))))
+-- `int` and a name, and what is after them
+unfoldable pub counted_parameters : Part ParametersTree
+counted_parameters = map (λ (int, (n, make)). make (parameter_of Unqualified Int n)) (key w.Int ⨾ called ⨾ choose (mark m.Comma) second (give (λ p. Listed (p ∷ []))))
 
--- qualifiers and the name of a parameter of a type, and further ones
-unfoldable pub qualified_of_main : Part (TypeTree → ParametersTree)
-qualified_of_main = map (λ (q, (n, others)) type. Listed (parameter_of q type n ∷ others)) (some_qualifiers ⨾ called ⨾ more_parameters)
+-- one parameter or more, of `main` or of another function
+unfoldable pub listed_parameters : Bool → Part ParametersTree
+listed_parameters true = two_ahead (word w.Int) name counted_parameters (map Listed (listed parameter))
+listed_parameters false = map Listed (listed parameter)
 
-unfoldable pub int_of_main : Part ParametersTree
-int_of_main = map (λ (int, ps). ps) (key w.Int ⨾ choose begins_qualifier (map (λ make. make Int) qualified_of_main) counted_of_main)
-
--- a first parameter that begins with qualifiers or is of another type, with which no program begins, and further ones
-unfoldable pub qualified_type_of_main : Part ParametersTree
-qualified_type_of_main = map (λ ((before, (type, (q, n))), others). Listed (parameter_of (both_qualifiers before q) type.1 n ∷ others))
-    ((some_qualifiers ⨾ value_type ⨾ qualifiers ⨾ called) ⨾ more_parameters)
-
-unfoldable pub others_of_main : Part ParametersTree
-others_of_main = map (λ ((type, (q, n)), others). Listed (parameter_of q type.1 n ∷ others)) ((other_value_type ⨾ qualifiers ⨾ called) ⨾ more_parameters)
-
-unfoldable pub some_of_main : Part ParametersTree
-some_of_main = choose begins_qualifier qualified_type_of_main (choose (word w.Int) int_of_main others_of_main)
-
-abbrev pub begins_of_main : Kinds
-begins_of_main = begins_qualifier ∪ word w.Int ∪ begins_other_value_type
-
-unfoldable pub parameters_of_main : Part ParametersTree
-parameters_of_main = choose (word w.Void) void_parameters (choose begins_of_main some_of_main (give (Listed [])))
+-- what a function takes
+unfoldable pub parameters : Bool → Part ParametersTree
+parameters of_main = choose (word w.Void) (map (λ void. Listed []) (key w.Void)) (choose begins_parameter (listed_parameters of_main) (give (Listed [])))
 
 -- the block of a function or a method, whose statements are at depth 2
 unfoldable pub braces : Part StmtTrees
@@ -691,10 +640,10 @@ abbrev pub with_result : (ℕ × List ℕ) × (ParametersTree × Option StmtTree
 with_result (n, (ps, b)) type = record { at = n.0; name = n.1; result = type; parameters = ps; body = b }
 
 unfoldable pub main_function : Part (ResultTree → FunctionTree)
-main_function = map with_result (token main readers.named ⨾ enclosed parameters_of_main ⨾ function_body)
+main_function = map with_result (token main readers.named ⨾ enclosed (parameters true) ⨾ function_body)
 
 unfoldable pub other_function : Part (ResultTree → FunctionTree)
-other_function = map with_result (token other_name readers.named ⨾ enclosed parameters ⨾ function_body)
+other_function = map with_result (token other_name readers.named ⨾ enclosed (parameters false) ⨾ function_body)
 
 -- all of a function that is after its result's type
 unfoldable pub function : Part (ResultTree → FunctionTree)
@@ -734,15 +683,12 @@ QualifiedType = Qualifiers × TypeTree
 unfoldable pub global : Part (QualifiedType → GlobalTree)
 global = map (λ (q, (n, value)) type. record { at = n.0; type = type.1; qualifiers = both_qualifiers type.0 q; name = n.1; initial = value }) (qualifiers ⨾ called ⨾ first_constant)
 
-unfoldable pub next_global : Bool → Part (QualifiedType → GlobalTree)
-next_global of_class = map (λ (comma, make). make) (the m.Comma ⨾ after_star of_class global)
-
-unfoldable pub more_globals : Bool → Part (List (QualifiedType → GlobalTree))
-more_globals of_class = many (mark m.Comma) (next_global of_class)
+unfoldable pub starred_global : Bool → Part (QualifiedType → GlobalTree)
+starred_global of_class = after_star of_class global
 
 -- one variable or more of a type that is known, of which the first is after its `*`, and `;`
 unfoldable pub globals : Bool → Part (QualifiedType → List GlobalTree)
-globals of_class = map (λ (make, (others, end)) type. make type ∷ list_map (λ other. other type) others) (global ⨾ more_globals of_class ⨾ the m.Semicolon)
+globals of_class = map (λ (make, (others, end)) type. make type ∷ list_map (λ other. other type) others) (global ⨾ commas (starred_global of_class) ⨾ the m.Semicolon)
 
 -- ---- methods (OPL, "Defining a Class")
 
@@ -836,12 +782,6 @@ visibility_of _ = seen.Protected
 abbrev pub begins_visibility : Kinds
 begins_visibility = at words.Private ∪ at words.Protected ∪ at words.Public
 
-unfoldable pub next_name : Part (ℕ × List ℕ)
-next_name = map (λ (comma, n). n) (the m.Comma ⨾ called)
-
-unfoldable pub more_names : Part (List (ℕ × List ℕ))
-more_names = many (mark m.Comma) next_name
-
 -- qualifiers and a name
 unfoldable pub qualified_name : Part QualifiedName
 qualified_name = qualifiers ⨾ called
@@ -849,16 +789,9 @@ qualified_name = qualifiers ⨾ called
 unfoldable pub starred_name : Bool → Part QualifiedName
 starred_name of_class = after_star of_class qualified_name
 
-unfoldable pub next_qualified_name : Bool → Part QualifiedName
-next_qualified_name of_class = map (λ (comma, n). n) (the m.Comma ⨾ starred_name of_class)
-
-unfoldable pub more_qualified_names : Bool → Part (List QualifiedName)
-more_qualified_names of_class = many (mark m.Comma) (next_qualified_name of_class)
-
 -- a type, names and `;`, after qualifiers
 unfoldable pub typed_fields : Bool → Part (Qualifiers → FieldGroup)
-typed_fields of_class = map (λ (type, (n, (others, end))) q. OfType (q, type.1) (n ∷ others))
-    (declared_type of_class ⨾ starred_name of_class ⨾ more_qualified_names of_class ⨾ the m.Semicolon)
+typed_fields of_class = map (λ (type, (names, end)) q. OfType (q, type.1) names) (declared_type of_class ⨾ listed (starred_name of_class) ⨾ the m.Semicolon)
 
 unfoldable pub qualified_fields : Part FieldGroup
 qualified_fields = map (λ (q, make). make q) (qualifiers ⨾ choose name (typed_fields true) (typed_fields false))
@@ -890,7 +823,7 @@ implementation = map (λ (at, (n, (f, (all, end)))). record { at = n.0; name = n
 
 -- `@class` and names of classes
 unfoldable pub class_names : Part (Unit {0})
-class_names = map (λ _. tt) (at_key words.Class ⨾ called ⨾ more_names ⨾ the m.Semicolon)
+class_names = map (λ _. tt) (at_key words.Class ⨾ listed called ⨾ the m.Semicolon)
 
 -- ---- translation units (C99, section 6.9)
 

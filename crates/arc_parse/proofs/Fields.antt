@@ -1,20 +1,19 @@
 -- The fields of classes: the loops that read them.
 use Rattle.std.proofs.Common.{◌≡◌, Bool, true, false, cond, List, [], ◌∷◌, ◌++◌, append_assoc, append-nil, Ok, Err, refl, sym, ap, ◌∙◌}
 use Rattle.arc_lex.specs.Tokens.{Tok}
-use Rattle.arc_form.specs.Kinds.{mark, name}
-use Rattle.arc_lex.specs.declared.token.Mark.TheVariants as m
+use Rattle.arc_form.specs.Kinds.{name}
 use Rattle.arc_ast.specs.declared.tree.Qualifiers.{Qualifiers}
 use Rattle.arc_ast.specs.declared.tree.Visibility.{Visibility}
 use Rattle.arc_ast.specs.Tree.{FieldTree}
 use Rattle.arc_form.specs.Form.{map}
 use Rattle.arc_form.specs.Operators.{fold}
-use Rattle.arc_form.specs.Reader.{Read, Reader, bind, ◌>>=◌, ret, sees, if_sees, take_one, from}
-use Rattle.arc_grammar.specs.Grammar.{QualifiedType, QualifiedName, FieldGroup, OfWord, OfType, reads, qualifiers, begins_fields, declared_type, starred_name, more_qualified_names, typed_fields, qualified_fields, group, groups, field_of, fields_of, named_fields, visibility_of, begins_visibility}
+use Rattle.arc_form.specs.Reader.{Read, Reader, bind, ◌>>=◌, ret, sees, if_sees, take_one}
+use Rattle.arc_grammar.specs.Grammar.{QualifiedType, QualifiedName, FieldGroup, OfWord, OfType, reads, qualifiers, begins_fields, listed, commas, typed_fields, qualified_fields, group, groups, field_of, fields_of, named_fields, visibility_of, begins_visibility}
 use Rattle.arc_grammar.proofs.Fits.{taking}
 use Rattle.arc_grammar.proofs.Loops.{one_more}
 use Rattle.arc_form.specs.Joining.{joining}
 use Rattle.arc_form.proofs.Binding.{bind_twice, bind_if, bind_alike}
-use Rattle.arc_parse.specs.private.Fields.{begins_group, add_field, add_group, names_on, typed_fields_on, group_on}
+use Rattle.arc_parse.specs.private.Fields.{begins_group, add_field, add_group, typed_fields_on, group_on}
 
 -- the fields of a class after these
 abbrev pub groups_on : Visibility × List FieldTree → Reader (List FieldTree)
@@ -27,7 +26,7 @@ read_groups_on s ts = rw (one_more begins_group group add_group (search taking) 
 -- those of a type, a class's or another
 read_typed_fields : (c : Bool) (v : Visibility) (q : Qualifiers) (made : List FieldTree) (ts : List Tok) → bind (reads (typed_fields c) ts) (λ make. ret (add_group (v, made) (make q)))
     ≡ (typed_fields_on c v q made >>= (λ all. ret (v, all))) ts
-unfolding typed_fields more_qualified_names
+unfolding typed_fields listed commas
 read_typed_fields c v q made ts = simp bind_twice
 
 abbrev either_fields : Bool → Visibility → Qualifiers → List FieldTree → Reader (Visibility × List FieldTree)

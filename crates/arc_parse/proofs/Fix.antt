@@ -4,7 +4,7 @@ use Rattle.arc_lex.specs.Tokens.{Tok}
 use Rattle.arc_lex.specs.declared.token.Mark.TheVariants as m
 use Rattle.arc_ast.specs.declared.tree.BinaryOperator.TheVariants as operators
 use Rattle.arc_ast.specs.Tree.{ExprTree, Binary, begins}
-use Rattle.arc_form.specs.Form.{unlimited}
+use Rattle.arc_form.specs.Form.{unlimited, call}
 use Rattle.arc_form.specs.Kinds.{mark, name}
 use Rattle.arc_form.specs.Reader.{◌>>=◌, ret, sees, if_sees, take_one, from}
 use Rattle.arc_form.specs.Operators.{marks_at, placed_operator}
@@ -13,7 +13,7 @@ use Rattle.arc_form.proofs.Joining.{joined_is}
 use Rattle.arc_form.proofs.Sets.{sees_neither}
 use Rattle.arc_form.proofs.Local.{Takes, weaker, then, takes_token, takes_ret}
 use Rattle.arc_form.proofs.FormLocal.{read_is, fronts}
-use Rattle.arc_grammar.specs.Grammar.{Sent, rules, reads_free, reads_on, body, expr, binary, table, assigning, marks_up_to, join, further, more, up_to, choice, continued, operations, begins_suffix, suffix, suffixes, next_argument, more_arguments, add, next_part, more_parts, add_part}
+use Rattle.arc_grammar.specs.Grammar.{Sent, rules, reads_free, reads_on, body, expr, binary, table, assigning, marks_up_to, join, further, more, up_to, choice, continued, operations, begins_suffix, suffix, suffixes, after_comma, commas, more_arguments, add, next_part, more_parts, add_part}
 use Rattle.arc_grammar.proofs.Fits.{facts, sure, taking}
 use Rattle.arc_grammar.proofs.Loops.{one_more_on}
 use Rattle.arc_parse.specs.declared.operator.TheConstants.{ASSIGNING, LOOSEST}
@@ -69,8 +69,8 @@ read_suffixes operand ts = one_more_on begins_suffix suffix (λ a make. make a) 
 
 pub read_more_arguments : (before : List ExprTree) (ts : List Tok)
     → reads_on more_arguments before ts ≡ if_sees (mark m.Comma) (take_one (mark m.Comma) from >>= (λ comma. rules unlimited expr >>= (λ a. reads_on more_arguments (add before a)))) (ret before) ts
-unfolding more_arguments next_argument
-read_more_arguments before ts = one_more_on (mark m.Comma) next_argument add (search taking) before ts
+unfolding more_arguments commas after_comma
+read_more_arguments before ts = one_more_on (mark m.Comma) (after_comma (call expr)) add (search taking) before ts
     ∙ ap (λ y. cond (sees (mark m.Comma) ts) y (ret before ts)) (second_then (take_one (mark m.Comma) from ts) (rules unlimited expr) (λ a. reads_on more_arguments (add before a)))
 
 pub read_more_parts : (before : Sent) (ts : List Tok)

@@ -1,15 +1,22 @@
 -- What reads the rest of a function, and the parts of a selector, which a loop appends to those that are there.
-use Rattle.std.proofs.Common.{◌≡◌, ℕ, List, [], ◌∷◌, ◌++◌, append_assoc, append-nil, bytes_eq, Bool, true, false, Ok, refl, sym, ap, ap₂, ◌∙◌}
+use Rattle.std.proofs.Common.{◌≡◌, ℕ, List, [], ◌∷◌, ◌++◌, append_assoc, append-nil, bytes_eq, Bool, true, false, cond, ◌&&◌, Ok, Err, refl, sym, ap, ap₂, ◌∙◌}
+use Rattle.arc_lex.specs.declared.token.Mark.TheVariants as m
+use Rattle.arc_lex.specs.declared.token.Word.TheVariants as w
+use Rattle.arc_ast.specs.declared.tree.Qualifiers.TheVariants.{Unqualified}
 use Rattle.arc_lex.specs.Tokens.{Tok, Sort, Name, Integer, Text, Key, At, Sign}
-use Rattle.arc_ast.specs.Tree.{ParameterTree, ParametersTree, ResultTree, FunctionTree}
-use Rattle.arc_form.specs.Kinds.{main_bytes, main_or_none, kind, name}
+use Rattle.arc_ast.specs.Tree.{ParameterTree, ParametersTree, Listed, Int, HeadTree, ResultTree, FunctionTree}
+use Rattle.arc_form.specs.Kinds.{main_bytes, main_or_none, kind, name, mark, word, ◌∪◌}
 use Rattle.arc_form.specs.Operators.{fold}
-use Rattle.arc_form.specs.Reader.{Reader, bind, ◌>>=◌, ret, take_one, bytes_of, named}
+use Rattle.arc_form.specs.Reader.{Read, Reader, bind, ◌>>=◌, ret, take_one, from, sees, if_sees, sees_two, bytes_of, named}
 use Rattle.arc_form.specs.Joining.{joining}
 use Rattle.arc_form.proofs.Sets.{name_has}
-use Rattle.arc_form.proofs.Binding.{bind_twice}
-use Rattle.arc_grammar.specs.Grammar.{Typed, reads, enclosed, with_result, function_body, main_function, other_function, function, typed, next_typed, typed_parts, selector_of, seconds}
-use Rattle.arc_parse.specs.private.Signatures.{reads_after, parameters_if_main, enclosed_to, more_typed}
+use Rattle.arc_form.proofs.Binding.{bind_twice, bind_if, bind_alike}
+use Rattle.arc_form.proofs.Joining.{fold_push, push}
+use Rattle.arc_grammar.specs.Grammar.{Typed, reads, enclosed, with_result, after_comma, commas, listed, parameter, parameter_of, second, texts, begins_method, next_head, method_head, counted_parameters, listed_parameters, parameters, begins_parameter, function_body, main_function, other_function, function, typed, next_typed, typed_parts, selector_of, seconds}
+use Rattle.arc_grammar.proofs.Fits.{taking}
+use Rattle.arc_grammar.proofs.Loops.{one_more}
+use Rattle.arc_parse.specs.private.Declaring.{reads_after}
+use Rattle.arc_parse.specs.private.Signatures.{enclosed_to, parameters_on, more_typed}
 
 abbrev by_name : ResultTree → Reader FunctionTree
 by_name type = take_one name named >>= (λ n. reads (enclosed_to n.1) >>= (λ ps. reads function_body >>= (λ b. ret (with_result (n, (ps, b)) type))))
@@ -22,7 +29,7 @@ read_function type [] = refl
 read_function type (t ∷ ts) = go t.sort refl
   where
     signed : (called : List ℕ) (is_main : Bool) → kind t.sort ≡ (0, main_or_none is_main) → bytes_of t.sort ≡ called
-        → reads_after function type (t ∷ ts) ≡ bind {A = ParametersTree} (reads (enclosed (parameters_if_main is_main)) ts) (λ ps. reads function_body >>= (λ b. ret (with_result ((t.from, called), (ps, b)) type)))
+        → reads_after function type (t ∷ ts) ≡ bind {A = ParametersTree} (reads (enclosed (parameters is_main)) ts) (λ ps. reads function_body >>= (λ b. ret (with_result ((t.from, called), (ps, b)) type)))
     signed called true k b = rw (k, b) (simp bind_twice)
     signed called false k b = rw (k, b) (simp bind_twice)
 
@@ -53,7 +60,49 @@ pub begin_typed : (s : Typed) (ts : List Tok) → reads_after more_typed s ts �
 unfolding more_typed
 begin_typed s ts = simp (bind_twice, fold_typed)
 
+-- one part more, or none
+pub next_part : (s : Typed) (ts : List Tok) → typed_on s ts ≡ if_sees name (take_one name named >>= (λ n. reads typed >>= (λ p. typed_on (and_typed s (n.1, p))))) (ret s) ts
+unfolding next_typed
+next_part s ts = one_more name next_typed and_typed (search taking) s ts ∙ ap (λ y. cond (sees name ts) y (ret s ts)) (simp bind_twice)
+
 -- the first part, and then further ones
 pub read_typed_parts : (first : List ℕ) (ts : List Tok) → reads_after typed_parts first ts ≡ (reads typed >>= (λ p us. reads_after more_typed (first ++ 58 ∷ [], p ∷ []) us)) ts
 unfolding typed_parts more_typed
 read_typed_parts first ts = simp (bind_twice, append_assoc)
+
+-- further parameters after these and one
+read_further : (made : List ParameterTree) (p : ParameterTree) (ts : List Tok) → (reads (commas parameter) >>= (λ others. ret (Listed (made ++ p ∷ others)))) ts
+    ≡ (joining (mark m.Comma) (reads (after_comma parameter)) push (push made p) >>= (λ all. ret (Listed all))) ts
+unfolding commas
+read_further made p ts = simp (bind_twice, fold_push, append_assoc)
+
+-- one parameter or more after these
+read_after : (made : List ParameterTree) (ts : List Tok) → (reads (listed parameter) >>= (λ others. ret (Listed (made ++ others)))) ts ≡ parameters_on made ts
+unfolding listed
+read_after made ts = simp bind_twice (bind_alike _ _ _ (λ p us. read_further made p us))
+
+-- what a function takes
+pub read_parameters : (of_main : Bool) (ts : List Tok) → reads (parameters of_main) ts
+    ≡ if_sees (word w.Void) (take_one (word w.Void) from >>= (λ void. ret (Listed []))) (if_sees begins_parameter (λ ts. cond (of_main && sees_two (word w.Int) name ts) (reads counted_parameters ts) (parameters_on [] ts)) (ret (Listed []))) ts
+unfolding parameters listed_parameters
+read_parameters true ts = rw (← read_after [] ts) refl
+read_parameters false ts = rw (← read_after [] ts) refl
+
+-- and what is after `int` and a name, which may count the texts of `main`
+abbrev second_on : ParameterTree → Reader ParametersTree
+second_on p = if_sees (mark m.Comma) (take_one (mark m.Comma) from >>= (λ comma. if_sees (word w.Const ∪ word w.Char) (reads texts) (parameters_on (p ∷ [])))) (ret (Listed (p ∷ [])))
+
+read_second : (p : ParameterTree) (ts : List Tok) → bind {A = ParameterTree → ParametersTree} (if_sees (mark m.Comma) (reads second) (ret (λ p. Listed (p ∷ []))) ts) (λ make. ret (make p)) ≡ second_on p ts
+unfolding second
+read_second p ts = simp (bind_if, bind_twice) (ap (λ x. cond (sees (mark m.Comma) ts) x (ret (Listed (p ∷ [])) ts)) (bind_alike (take_one (mark m.Comma) from ts) _ _
+    (λ comma us. ap₂ (cond (sees (word w.Const ∪ word w.Char) us)) (elim (reads texts us) as (λ (x : Read ParametersTree). bind x (λ a. ret a) ≡ x) [ Ok x ↦ refl | Err x ↦ refl ]) (read_after (p ∷ []) us))))
+
+pub read_counted : (ts : List Tok) → reads counted_parameters ts ≡ (take_one (word w.Int) from >>= (λ int. take_one name named >>= (λ n. second_on (parameter_of Unqualified Int n)))) ts
+unfolding counted_parameters
+read_counted ts = simp bind_twice (bind_alike (take_one (word w.Int) from ts) _ _ (λ int us. bind_alike (take_one name named us) _ _ (λ n vs. read_second (parameter_of Unqualified Int n) vs)))
+
+-- one head more of an interface's methods, or none
+pub next_heads : (made : List HeadTree) (ts : List Tok) → joining begins_method (reads next_head) push made ts
+    ≡ if_sees begins_method (reads method_head >>= (λ h. take_one (mark m.Semicolon) from >>= (λ end. joining begins_method (reads next_head) push (push made h)))) (ret made) ts
+unfolding next_head
+next_heads made ts = one_more begins_method next_head push (search taking) made ts ∙ ap (λ y. cond (sees begins_method ts) y (ret made ts)) (simp bind_twice)

@@ -9,7 +9,6 @@ ghost use Rattle.arc_parse.specs.private.Fields.{names_skipped};
 
 use crate::field::fields;
 use crate::method::{method_heads, methods};
-use crate::name::next_name;
 use arc_ast::tree::{Implementation, Interface, Visibility};
 use arc_form::fail::Read;
 use arc_form::reader::Reader;
@@ -59,7 +58,7 @@ pub fn implementation(alloc: Global, reader: &mut Reader) -> Read<Implementation
 }
 
 /// `@class`, names of classes and `;`
-#[tactic(auto, using(arc_form::proofs::Binding::bind_twice), unfolding(arc_grammar::specs::Grammar::class_names, arc_grammar::specs::Grammar::more_names))]
+#[tactic(auto, using(arc_form::proofs::Binding::bind_twice), unfolding(arc_grammar::specs::Grammar::class_names, arc_grammar::specs::Grammar::listed, arc_grammar::specs::Grammar::commas))]
 pub fn class_names(alloc: Global, reader: &mut Reader) -> Read<()>
     ensures gives { Gives (λ x. x) result (toks reader.new.rest.now) (reads grammar.class_names (toks reader.old.rest.now)) }
     ensures shorter { IfOk result (λ _. length reader.new.rest.now < length reader.old.rest.now) }
@@ -72,13 +71,13 @@ pub fn class_names(alloc: Global, reader: &mut Reader) -> Read<()>
 }
 
 /// Further names, each after a comma.
-#[tactic(auto, using(arc_grammar::proofs::Loops::one_more, arc_grammar::proofs::Fits::taking))]
+#[tactic(auto, using(arc_grammar::proofs::Loops::one_more_listed, arc_grammar::proofs::Fits::taking))]
 fn more_names(alloc: Global, reader: &mut Reader) -> Read<()>
     ensures gives { Gives (λ x. x) result (toks reader.new.rest.now) (names_skipped (toks reader.old.rest.now)) }
     ensures shorter { IfOk result (λ _. length reader.new.rest.now ≤ length reader.old.rest.now) }
 {
-    'names: while reader.sees_mark(Mark::Comma) {
-        next_name(alloc, reader)?;
+    'names: while let Some(_) = reader.take(Mark::Comma) {
+        reader.name(alloc)?;
     }
     Ok(())
 }

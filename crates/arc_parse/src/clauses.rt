@@ -7,13 +7,13 @@ ghost use Rattle.arc_grammar.specs.Grammar.{reads};
 ghost use Rattle.arc_grammar.specs.Grammar as grammar;
 
 use crate::full::full;
-use crate::made::boxed;
 use crate::qualifier::sees_qualifier;
 use crate::simple::{empty, simple, value};
 use crate::type_name::begins_plain_type;
 use crate::variable::{declaration, qualified_declaration};
 use arc_ast::tree::{Expr, Qualifiers, Stmt};
 use arc_form::fail::Read;
+use arc_form::made::boxed;
 use arc_form::reader::Reader;
 use arc_lex::token::{Mark, Word};
 use std::alloc::Global;
@@ -61,7 +61,7 @@ fn beginning(alloc: Global, reader: &mut Reader) -> Read<Stmt>
         qualified_declaration(alloc, reader)
     } else if begins_plain_type(reader) {
         declaration(alloc, false, Qualifiers::Unqualified, reader)
-    } else if reader.sees_reference() {
+    } else if reader.sees_name_and(Mark::Star) {
         declaration(alloc, true, Qualifiers::Unqualified, reader)
     } else if reader.sees_mark(Mark::Semicolon) {
         empty(reader)
@@ -76,8 +76,7 @@ fn step(alloc: Global, reader: &mut Reader) -> Read<Option<Box<Expr>>>
     ensures gives { Gives (λ x. option_map (λ b. expr_tree b.value) x) result (toks reader.new.rest.now) (reads grammar.step (toks reader.old.rest.now)) }
     ensures shorter { IfOk result (λ _. length reader.new.rest.now < length reader.old.rest.now) }
 {
-    if reader.sees_mark(Mark::CloseParen) {
-        reader.expect(Mark::CloseParen)?;
+    if let Some(_) = reader.take(Mark::CloseParen) {
         return Ok(None);
     }
     let step = full(alloc, reader)?;

@@ -10,12 +10,13 @@ ghost use Rattle.arc_grammar.specs.Grammar as grammar;
 ghost use Rattle.arc_parse.specs.declared.operator.TheConstants.{ASSIGNING, LOOSEST};
 
 use crate::literal::literal;
-use crate::node::{boxed, by_one, place_of, times};
+use crate::node::{add, and_part, boxed, by_one, place_of, times};
 use crate::operator::{ASSIGNING, LOOSEST, level_ahead, operator, sees_operator};
 use crate::sign::{counting, sees_counting, sees_sign, sign};
 use crate::type_name::{begins_plain_type, plain_type};
 use arc_ast::tree::{Expr, Moment, TypeName};
 use arc_form::fail::Read;
+use arc_form::made;
 use arc_form::reader::Reader;
 use arc_lex::token::{Mark, Word};
 use std::alloc::Global;
@@ -33,87 +34,43 @@ pub fn expr(alloc: Global, reader: &mut Reader) -> Read<Box<Expr>>
 
 /// An expression of this unary expression and what comes after it.
 #[cycle(exprs)]
-#[tactic(auto, using(crate::proofs::Fix::assigning_is), unfolding(arc_grammar::specs::Grammar::operation))]
+#[tactic(auto, using(crate::proofs::Fix::assigning_is), unfolding(arc_grammar::specs::Grammar::operation, arc_grammar::specs::Grammar::assigned, arc_grammar::specs::Grammar::updated))]
 fn operation(alloc: Global, left: Box<Expr>, reader: &mut Reader) -> Read<Box<Expr>>
     ensures gives { Gives (λ x. expr_tree x.value) result (toks reader.new.rest.now) (reads_on grammar.operation (expr_tree left.value) (toks reader.old.rest.now)) }
     ensures shorter { IfOk result (λ _. length reader.new.rest.now ≤ length reader.old.rest.now) }
 {
-    if reader.sees_mark(Mark::Assign) {
-        assigned(alloc, left, reader)
-    } else if sees_operator(ASSIGNING, reader) {
-        updated(alloc, left, reader)
-    } else {
-        continued(alloc, left, reader)
+    let at = place_of(&left);
+    if let Some(sign) = reader.take(Mark::Assign) {
+        let right = expr(alloc, reader)?;
+        return boxed(alloc, Expr::Assign(at, sign, left, right));
     }
-}
-
-/// An assignment to what is before its `=`.
-#[cycle(exprs)]
-#[tactic(auto, unfolding(arc_grammar::specs::Grammar::assigned))]
-fn assigned(alloc: Global, left: Box<Expr>, reader: &mut Reader) -> Read<Box<Expr>>
-    ensures gives { Gives (λ x. expr_tree x.value) result (toks reader.new.rest.now) (reads_on grammar.assigned (expr_tree left.value) (toks reader.old.rest.now)) }
-    ensures shorter { IfOk result (λ _. length reader.new.rest.now ≤ length reader.old.rest.now) }
-{
-    let at = place_of(&left);
-    let sign = reader.expect(Mark::Assign)?;
-    let right = expr(alloc, reader)?;
-    Ok(boxed(alloc, Expr::Assign(at, sign, left, right))?)
-}
-
-/// An update of what is before its operator.
-#[cycle(exprs)]
-#[tactic(auto, using(crate::proofs::Fix::assigning_is), unfolding(arc_grammar::specs::Grammar::updated))]
-fn updated(alloc: Global, left: Box<Expr>, reader: &mut Reader) -> Read<Box<Expr>>
-    ensures gives { Gives (λ x. expr_tree x.value) result (toks reader.new.rest.now) (reads_on grammar.updated (expr_tree left.value) (toks reader.old.rest.now)) }
-    ensures shorter { IfOk result (λ _. length reader.new.rest.now ≤ length reader.old.rest.now) }
-{
-    let at = place_of(&left);
+    if !sees_operator(ASSIGNING, reader) {
+        return continued(alloc, left, reader);
+    }
     let (sign, operator) = operator(ASSIGNING, reader)?;
     let right = expr(alloc, reader)?;
-    Ok(boxed(
+    boxed(
         alloc,
         Expr::Update(at, sign, Moment::After, operator, left, right),
-    )?)
+    )
 }
 
-/// The operators of all levels after this unary expression, with their right operands, and what they choose.
+/// The operators of all levels after this unary expression, with their right operands, and what they choose, where `?` is after them.
 #[cycle(exprs)]
-#[tactic(auto, using(crate::proofs::Fix::read_continued))]
+#[tactic(auto, using(crate::proofs::Fix::read_continued), unfolding(arc_grammar::specs::Grammar::choice, arc_grammar::specs::Grammar::chosen))]
 fn continued(alloc: Global, left: Box<Expr>, reader: &mut Reader) -> Read<Box<Expr>>
     ensures gives { Gives (λ x. expr_tree x.value) result (toks reader.new.rest.now) (reads_on grammar.continued (expr_tree left.value) (toks reader.old.rest.now)) }
     ensures shorter { IfOk result (λ _. length reader.new.rest.now ≤ length reader.old.rest.now) }
 {
-    let left = up_to(alloc, LOOSEST, left, reader)?;
-    choice(alloc, left, reader)
-}
-
-/// What this test chooses, where `?` is after it.
-#[cycle(exprs)]
-#[tactic(auto, unfolding(arc_grammar::specs::Grammar::choice))]
-fn choice(alloc: Global, test: Box<Expr>, reader: &mut Reader) -> Read<Box<Expr>>
-    ensures gives { Gives (λ x. expr_tree x.value) result (toks reader.new.rest.now) (reads_on grammar.choice (expr_tree test.value) (toks reader.old.rest.now)) }
-    ensures shorter { IfOk result (λ _. length reader.new.rest.now ≤ length reader.old.rest.now) }
-{
-    if reader.sees_mark(Mark::Question) {
-        chosen(alloc, test, reader)
-    } else {
-        Ok(test)
-    }
-}
-
-/// The two expressions of which this test chooses.
-#[cycle(exprs)]
-#[tactic(auto, unfolding(arc_grammar::specs::Grammar::chosen))]
-fn chosen(alloc: Global, test: Box<Expr>, reader: &mut Reader) -> Read<Box<Expr>>
-    ensures gives { Gives (λ x. expr_tree x.value) result (toks reader.new.rest.now) (reads_on grammar.chosen (expr_tree test.value) (toks reader.old.rest.now)) }
-    ensures shorter { IfOk result (λ _. length reader.new.rest.now ≤ length reader.old.rest.now) }
-{
+    let test = up_to(alloc, LOOSEST, left, reader)?;
+    let Some(_) = reader.take(Mark::Question) else {
+        return Ok(test);
+    };
     let at = place_of(&test);
-    reader.expect(Mark::Question)?;
     let first = expr(alloc, reader)?;
     reader.expect(Mark::Colon)?;
     let second = condition(alloc, reader)?;
-    Ok(boxed(alloc, Expr::Conditional(at, test, first, second))?)
+    boxed(alloc, Expr::Conditional(at, test, first, second))
 }
 
 /// An expression that is no assignment.
@@ -143,7 +100,7 @@ fn up_to(alloc: Global, level: usize, left: Box<Expr>, reader: &mut Reader) -> R
     let at = place_of(&left);
     let (_, operator) = operator(found, reader)?;
     let right = binary(alloc, found - 1, reader)?;
-    let left = boxed(alloc, Expr::Binary(at, operator, left, right))?;
+    let left = made::boxed(alloc, Expr::Binary(at, operator, left, right))?;
     up_to(alloc, level, left, reader)
 }
 
@@ -162,44 +119,26 @@ fn binary(alloc: Global, level: usize, reader: &mut Reader) -> Read<Box<Expr>>
 
 /// A unary expression.
 #[cycle(exprs)]
-#[tactic(auto, unfolding(arc_grammar::specs::Grammar::prefixed))]
+#[tactic(auto, using(arc_grammar::proofs::Fits::read_rule), unfolding(arc_grammar::specs::Grammar::body, arc_grammar::specs::Grammar::prefixed, arc_grammar::specs::Grammar::signed, arc_grammar::specs::Grammar::counted))]
 fn prefixed(alloc: Global, reader: &mut Reader) -> Read<Box<Expr>>
     ensures gives { Gives (λ x. expr_tree x.value) result (toks reader.new.rest.now) (reads_free grammar.prefixed (toks reader.old.rest.now)) }
     ensures shorter { IfOk result (λ _. length reader.new.rest.now < length reader.old.rest.now) }
 {
     if sees_sign(reader) {
-        signed(alloc, reader)
-    } else if sees_counting(reader) {
-        counted(alloc, reader)
-    } else if reader.sees_mark(Mark::OpenParen) {
+        let (at, operator) = sign(reader)?;
+        let operand = prefixed(alloc, reader)?;
+        return boxed(alloc, Expr::Unary(at, operator, operand));
+    }
+    if sees_counting(reader) {
+        let operator = counting(reader)?;
+        let operand = prefixed(alloc, reader)?;
+        return by_one(alloc, operator.0, operator, Moment::After, operand);
+    }
+    if reader.sees_mark(Mark::OpenParen) {
         parenthesized(alloc, reader)
     } else {
         postfix(alloc, reader)
     }
-}
-
-/// An operator and the unary expression after it.
-#[cycle(exprs)]
-#[tactic(auto, using(arc_grammar::proofs::Fits::read_rule), unfolding(arc_grammar::specs::Grammar::body, arc_grammar::specs::Grammar::signed))]
-fn signed(alloc: Global, reader: &mut Reader) -> Read<Box<Expr>>
-    ensures gives { Gives (λ x. expr_tree x.value) result (toks reader.new.rest.now) (reads_free grammar.signed (toks reader.old.rest.now)) }
-    ensures shorter { IfOk result (λ _. length reader.new.rest.now < length reader.old.rest.now) }
-{
-    let (at, operator) = sign(reader)?;
-    let operand = prefixed(alloc, reader)?;
-    Ok(boxed(alloc, Expr::Unary(at, operator, operand))?)
-}
-
-/// `++` or `--` and the unary expression after it.
-#[cycle(exprs)]
-#[tactic(auto, using(arc_grammar::proofs::Fits::read_rule), unfolding(arc_grammar::specs::Grammar::body, arc_grammar::specs::Grammar::counted))]
-fn counted(alloc: Global, reader: &mut Reader) -> Read<Box<Expr>>
-    ensures gives { Gives (λ x. expr_tree x.value) result (toks reader.new.rest.now) (reads_free grammar.counted (toks reader.old.rest.now)) }
-    ensures shorter { IfOk result (λ _. length reader.new.rest.now < length reader.old.rest.now) }
-{
-    let operator = counting(reader)?;
-    let operand = prefixed(alloc, reader)?;
-    Ok(by_one(alloc, operator.0, operator, Moment::After, operand)?)
 }
 
 /// An expression in parentheses with what may come after one, or a cast.
@@ -212,8 +151,8 @@ fn parenthesized(alloc: Global, reader: &mut Reader) -> Read<Box<Expr>>
     let at = reader.expect(Mark::OpenParen)?;
     if begins_plain_type(reader) {
         cast_to_plain(alloc, at, reader)
-    } else if reader.sees_reference() {
-        starred(alloc, at, reader)
+    } else if reader.sees_name_and(Mark::Star) {
+        cast_or_product(alloc, at, reader)
     } else {
         inside(alloc, at, reader)
     }
@@ -228,7 +167,7 @@ fn inside(alloc: Global, at: usize, reader: &mut Reader) -> Read<Box<Expr>>
 {
     let inside = expr(alloc, reader)?;
     reader.expect(Mark::CloseParen)?;
-    let whole = boxed(alloc, Expr::Paren(at, inside))?;
+    let whole = made::boxed(alloc, Expr::Paren(at, inside))?;
     suffixes(alloc, whole, reader)
 }
 
@@ -242,42 +181,24 @@ fn cast_to_plain(alloc: Global, at: usize, reader: &mut Reader) -> Read<Box<Expr
     let (_, written) = plain_type(reader)?;
     reader.expect(Mark::CloseParen)?;
     let operand = prefixed(alloc, reader)?;
-    Ok(boxed(alloc, Expr::Cast(at, written, operand))?)
+    boxed(alloc, Expr::Cast(at, written, operand))
 }
 
 /// What is after the `(` at this place, where a name and `*` come: a cast, or a product in parentheses.
 #[cycle(exprs)]
-#[tactic(auto, unfolding(arc_grammar::specs::Grammar::starred))]
-fn starred(alloc: Global, at: usize, reader: &mut Reader) -> Read<Box<Expr>>
-    ensures gives { Gives (λ x. expr_tree x.value) result (toks reader.new.rest.now) (reads_on grammar.starred at (toks reader.old.rest.now)) }
+#[tactic(auto, using(arc_grammar::proofs::Fits::read_rule), unfolding(arc_grammar::specs::Grammar::body, arc_grammar::specs::Grammar::cast_or_product, arc_grammar::specs::Grammar::cast))]
+fn cast_or_product(alloc: Global, at: usize, reader: &mut Reader) -> Read<Box<Expr>>
+    ensures gives { Gives (λ x. expr_tree x.value) result (toks reader.new.rest.now) (reads_on grammar.cast_or_product at (toks reader.old.rest.now)) }
     ensures shorter { IfOk result (λ _. length reader.new.rest.now < length reader.old.rest.now) }
 {
     let (name_at, called) = reader.name(alloc)?;
     reader.expect(Mark::Star)?;
-    if reader.sees_mark(Mark::CloseParen) {
-        cast(alloc, at, name_at, called, reader)
-    } else {
-        product(alloc, at, name_at, called, reader)
-    }
-}
-
-/// What is after `(`, which is at this place, this name and `*` in a cast.
-#[cycle(exprs)]
-#[tactic(auto, using(arc_grammar::proofs::Fits::read_rule), unfolding(arc_grammar::specs::Grammar::body, arc_grammar::specs::Grammar::cast))]
-fn cast(
-    alloc: Global,
-    at: usize,
-    name_at: usize,
-    called: Vec<u8>,
-    reader: &mut Reader,
-) -> Read<Box<Expr>>
-    ensures gives { Gives (λ x. expr_tree x.value) result (toks reader.new.rest.now) (reads_on grammar.cast (at, name_at, called.items) (toks reader.old.rest.now)) }
-    ensures shorter { IfOk result (λ _. length reader.new.rest.now < length reader.old.rest.now) }
-{
-    reader.expect(Mark::CloseParen)?;
+    let Some(_) = reader.take(Mark::CloseParen) else {
+        return product(alloc, at, name_at, called, reader);
+    };
     let operand = prefixed(alloc, reader)?;
-    let kind = TypeName::Object(name_at, called);
-    Ok(boxed(alloc, Expr::Cast(at, kind, operand))?)
+    let class = TypeName::Object(name_at, called);
+    boxed(alloc, Expr::Cast(at, class, operand))
 }
 
 /// What is after `(`, which is at this place, this name and `*` in a product in parentheses.
@@ -297,7 +218,7 @@ fn product(
     let first = times(alloc, name_at, called, right)?;
     let inside = continued(alloc, first, reader)?;
     reader.expect(Mark::CloseParen)?;
-    let whole = boxed(alloc, Expr::Paren(at, inside))?;
+    let whole = made::boxed(alloc, Expr::Paren(at, inside))?;
     suffixes(alloc, whole, reader)
 }
 
@@ -334,29 +255,18 @@ fn sees_suffix(reader: &Reader) -> bool
 }
 
 /// One suffix after an operand.
-#[tactic(auto, unfolding(arc_grammar::specs::Grammar::suffix))]
+#[tactic(auto, unfolding(arc_grammar::specs::Grammar::suffix, arc_grammar::specs::Grammar::field_name))]
 fn suffix(alloc: Global, operand: Box<Expr>, reader: &mut Reader) -> Read<Box<Expr>>
     ensures gives { Gives (λ x. expr_tree x.value) result (toks reader.new.rest.now) (reads_on grammar.suffix (expr_tree operand.value) (toks reader.old.rest.now)) }
     ensures shorter { IfOk result (λ _. length reader.new.rest.now < length reader.old.rest.now) }
 {
     let at = place_of(&operand);
-    if !reader.sees_mark(Mark::Arrow) {
+    let Some(_) = reader.take(Mark::Arrow) else {
         let operator = counting(reader)?;
-        return Ok(by_one(alloc, at, operator, Moment::Before, operand)?);
-    }
-    let object = operand;
-    let (name_at, called) = field_name(alloc, reader)?;
-    Ok(boxed(alloc, Expr::Arrow(at, name_at, object, called))?)
-}
-
-/// `->` and the name of a field, with its place.
-#[tactic(auto, unfolding(arc_grammar::specs::Grammar::field_name))]
-fn field_name(alloc: Global, reader: &mut Reader) -> Read<(usize, Vec<u8>)>
-    ensures gives { Gives (λ x. (x.0, x.1.items)) result (toks reader.new.rest.now) (reads_free grammar.field_name (toks reader.old.rest.now)) }
-    ensures shorter { IfOk result (λ _. length reader.new.rest.now < length reader.old.rest.now) }
-{
-    reader.expect(Mark::Arrow)?;
-    reader.name(alloc)
+        return by_one(alloc, at, operator, Moment::Before, operand);
+    };
+    let (name_at, called) = reader.name(alloc)?;
+    boxed(alloc, Expr::Arrow(at, name_at, operand, called))
 }
 
 /// A name, a call, a message or a literal.
@@ -377,28 +287,17 @@ fn primary(alloc: Global, reader: &mut Reader) -> Read<Box<Expr>>
 
 /// A variable's name, or a call.
 #[cycle(exprs)]
-#[tactic(auto, unfolding(arc_grammar::specs::Grammar::named))]
+#[tactic(auto, unfolding(arc_grammar::specs::Grammar::named, arc_grammar::specs::Grammar::arguments))]
 fn named(alloc: Global, reader: &mut Reader) -> Read<Box<Expr>>
     ensures gives { Gives (λ x. expr_tree x.value) result (toks reader.new.rest.now) (reads_free grammar.named (toks reader.old.rest.now)) }
     ensures shorter { IfOk result (λ _. length reader.new.rest.now < length reader.old.rest.now) }
 {
     let (at, called) = reader.name(alloc)?;
-    if reader.sees_mark(Mark::OpenParen) {
-        return call(alloc, at, called, reader);
-    }
-    Ok(boxed(alloc, Expr::Name(at, called))?)
-}
-
-/// The arguments of a call of this name, which is at this place.
-#[cycle(exprs)]
-#[tactic(auto, unfolding(arc_grammar::specs::Grammar::arguments))]
-fn call(alloc: Global, at: usize, called: Vec<u8>, reader: &mut Reader) -> Read<Box<Expr>>
-    ensures gives { Gives (λ x. expr_tree x.value) result (toks reader.new.rest.now) (reads_on grammar.arguments (at, called.items) (toks reader.old.rest.now)) }
-    ensures shorter { IfOk result (λ _. length reader.new.rest.now < length reader.old.rest.now) }
-{
-    reader.expect(Mark::OpenParen)?;
+    let Some(_) = reader.take(Mark::OpenParen) else {
+        return boxed(alloc, Expr::Name(at, called));
+    };
     let all = given(alloc, reader)?;
-    Ok(boxed(alloc, Expr::Call(at, called, all))?)
+    boxed(alloc, Expr::Call(at, called, all))
 }
 
 /// The arguments of a call, of which there may be none, and `)`.
@@ -409,60 +308,45 @@ fn given(alloc: Global, reader: &mut Reader) -> Read<Vec<Expr>>
     ensures shorter { IfOk result (λ _. length reader.new.rest.now < length reader.old.rest.now) }
 {
     let mut all = Vec::new(alloc);
-    if reader.sees_mark(Mark::CloseParen) {
-        reader.expect(Mark::CloseParen)?;
+    if let Some(_) = reader.take(Mark::CloseParen) {
         return Ok(all);
     }
     let one = expr(alloc, reader)?;
-    all.push(Box::into_inner(one))?;
+    add(&mut all, one)?;
     let all = more_arguments(alloc, all, reader)?;
     reader.expect(Mark::CloseParen)?;
     Ok(all)
 }
 
-/// These arguments and the further ones, each after a comma.
+/// These arguments and further ones, each after a comma.
 #[cycle(exprs)]
 #[tactic(auto, using(crate::proofs::Fix::read_more_arguments, arc_form::proofs::Joining::all_push))]
 fn more_arguments(alloc: Global, before: Vec<Expr>, reader: &mut Reader) -> Read<Vec<Expr>>
     ensures gives { Gives (λ x. all expr_tree x.items) result (toks reader.new.rest.now) (reads_on grammar.more_arguments (all expr_tree before.items) (toks reader.old.rest.now)) }
     ensures shorter { IfOk result (λ _. length reader.new.rest.now ≤ length reader.old.rest.now) }
 {
-    if !reader.sees_mark(Mark::Comma) {
+    let Some(_) = reader.take(Mark::Comma) else {
         return Ok(before);
-    }
+    };
     let mut all = before;
-    reader.expect(Mark::Comma)?;
     let next = expr(alloc, reader)?;
-    all.push(Box::into_inner(next))?;
+    add(&mut all, next)?;
     more_arguments(alloc, all, reader)
 }
 
 /// A message.
 #[cycle(exprs)]
-#[tactic(auto, unfolding(arc_grammar::specs::Grammar::message))]
+#[tactic(auto, unfolding(arc_grammar::specs::Grammar::message, arc_grammar::specs::Grammar::to_super))]
 fn message(alloc: Global, reader: &mut Reader) -> Read<Box<Expr>>
     ensures gives { Gives (λ x. expr_tree x.value) result (toks reader.new.rest.now) (reads_free grammar.message (toks reader.old.rest.now)) }
     ensures shorter { IfOk result (λ _. length reader.new.rest.now < length reader.old.rest.now) }
 {
     let at = reader.expect(Mark::OpenSquare)?;
-    if reader.sees_word(Word::Super) {
-        to_super(alloc, at, reader)
-    } else {
-        to_object(alloc, at, reader)
-    }
-}
-
-/// What is after the `[` of a message, which is at this place, where `super` comes.
-#[cycle(exprs)]
-#[tactic(auto, unfolding(arc_grammar::specs::Grammar::to_super))]
-fn to_super(alloc: Global, at: usize, reader: &mut Reader) -> Read<Box<Expr>>
-    ensures gives { Gives (λ x. expr_tree x.value) result (toks reader.new.rest.now) (reads_on grammar.to_super at (toks reader.old.rest.now)) }
-    ensures shorter { IfOk result (λ _. length reader.new.rest.now < length reader.old.rest.now) }
-{
-    let super_at = reader.keyword(Word::Super)?;
+    let Some(super_at) = reader.take_word(Word::Super) else {
+        return to_object(alloc, at, reader);
+    };
     let (part, selector, all) = sent(alloc, reader)?;
-    reader.expect(Mark::CloseSquare)?;
-    Ok(boxed(alloc, Expr::SendSuper(at, part, super_at, selector, all))?)
+    boxed(alloc, Expr::SendSuper(at, part, super_at, selector, all))
 }
 
 /// What is after the `[` of a message, which is at this place, where an expression comes.
@@ -474,38 +358,37 @@ fn to_object(alloc: Global, at: usize, reader: &mut Reader) -> Read<Box<Expr>>
 {
     let object = expr(alloc, reader)?;
     let (part, selector, all) = sent(alloc, reader)?;
-    reader.expect(Mark::CloseSquare)?;
-    Ok(boxed(alloc, Expr::Send(at, part, object, selector, all))?)
+    boxed(alloc, Expr::Send(at, part, object, selector, all))
 }
 
-/// The place of a selector's first part, the selector, and the arguments.
+/// The place of a selector's first part, the selector, and the arguments, and `]`.
 #[cycle(exprs)]
 #[tactic(auto, unfolding(arc_grammar::specs::Grammar::sent))]
 fn sent(alloc: Global, reader: &mut Reader) -> Read<(usize, Vec<u8>, Vec<Expr>)>
     ensures gives { Gives (λ x. (x.0, (x.1.items, all expr_tree x.2.items))) result (toks reader.new.rest.now) (reads_free grammar.sent (toks reader.old.rest.now)) }
     ensures shorter { IfOk result (λ _. length reader.new.rest.now < length reader.old.rest.now) }
 {
-    let (at, selector) = reader.name(alloc)?;
-    if !reader.sees_mark(Mark::Colon) {
-        return Ok((at, selector, Vec::new(alloc)));
-    }
-    let (selector, all) = parts(alloc, selector, reader)?;
+    let (at, first) = reader.name(alloc)?;
+    let (selector, all) = parts(alloc, first, reader)?;
+    reader.expect(Mark::CloseSquare)?;
     Ok((at, selector, all))
 }
 
-/// What is after the name of a selector's first part: its argument, and further parts.
+/// What is after the name of a selector's first part: its argument, if it takes one, and further parts.
 #[cycle(exprs)]
-#[tactic(auto, unfolding(arc_grammar::specs::Grammar::parts, arc_grammar::specs::Grammar::argument_part))]
+#[tactic(auto, unfolding(arc_grammar::specs::Grammar::parts, arc_grammar::specs::Grammar::some_parts, arc_grammar::specs::Grammar::argument_part))]
 fn parts(alloc: Global, first: Vec<u8>, reader: &mut Reader) -> Read<(Vec<u8>, Vec<Expr>)>
     ensures gives { Gives (λ x. (x.0.items, all expr_tree x.1.items)) result (toks reader.new.rest.now) (reads_on grammar.parts first.items (toks reader.old.rest.now)) }
-    ensures shorter { IfOk result (λ _. length reader.new.rest.now < length reader.old.rest.now) }
+    ensures shorter { IfOk result (λ _. length reader.new.rest.now ≤ length reader.old.rest.now) }
 {
-    let mut selector = first;
     let mut all = Vec::new(alloc);
-    reader.expect(Mark::Colon)?;
+    let Some(_) = reader.take(Mark::Colon) else {
+        return Ok((first, all));
+    };
+    let mut selector = first;
     selector.push(b':')?;
     let one = expr(alloc, reader)?;
-    all.push(Box::into_inner(one))?;
+    add(&mut all, one)?;
     more_parts(alloc, selector, all, reader)
 }
 
@@ -527,10 +410,9 @@ fn more_parts(
     let mut selector = before;
     let mut all = given;
     let (_, called) = reader.name(alloc)?;
-    selector.extend_from_slice(&called)?;
     reader.expect(Mark::Colon)?;
-    selector.push(b':')?;
     let one = expr(alloc, reader)?;
-    all.push(Box::into_inner(one))?;
+    and_part(&mut selector, &called)?;
+    add(&mut all, one)?;
     more_parts(alloc, selector, all, reader)
 }

@@ -1,7 +1,8 @@
 //! Reads the fields of classes.
-ghost use Rattle.std.specs.Prelude.{◌≡◌, ◌<◌, ◌≤◌, length, IfOk};
+ghost use Rattle.std.specs.Prelude.{◌≡◌, ◌<◌, ◌≤◌, length, IfOk, IfErr};
 ghost use Rattle.arc_lex.specs.Tokens.{toks};
 ghost use Rattle.arc_ast.specs.Tree.{type_tree, field_tree, field_trees};
+ghost use Rattle.arc_form.specs.declared.fail.Fail.TheVariants.{Memory};
 ghost use Rattle.arc_form.specs.Form.{map};
 ghost use Rattle.arc_form.specs.Kinds as kinds;
 ghost use Rattle.arc_form.specs.Reader.{Gives, sees, take_one};
@@ -9,15 +10,16 @@ ghost use Rattle.arc_grammar.specs.Grammar.{reads};
 ghost use Rattle.arc_grammar.specs.Grammar as grammar;
 ghost use Rattle.arc_parse.specs.private.Fields.{begins_group, names_on, typed_fields_on, group_on};
 
-use crate::name::{QualifiedName, next_qualified_name, starred_name};
+use crate::name::{QualifiedName, starred_name};
+use crate::qualifier::qualifiers;
+use crate::type_name::declared_type;
 use crate::value_type::begins_qualified_type;
 use arc_ast::tree::{Field, Qualifiers, TypeName, Visibility};
 use arc_form::fail::{Fail, Read};
+use arc_form::made::keep;
 use arc_form::reader::Reader;
 use arc_lex::token::{AtWord, Mark, Token, TokenKind};
-use crate::qualifier::qualifiers;
-use crate::type_name::declared_type;
-use std::alloc::{AllocError, Global};
+use std::alloc::Global;
 
 /// The fields in braces, if there are any; those before any word are visible so.
 #[tactic(auto, using(arc_form::proofs::Binding::bind_twice), unfolding(arc_grammar::specs::Grammar::fields))]
@@ -25,10 +27,9 @@ pub fn fields(alloc: Global, first: Visibility, reader: &mut Reader) -> Read<Vec
     ensures gives { Gives (λ x. field_trees x.items) result (toks reader.new.rest.now) (reads (grammar.fields first) (toks reader.old.rest.now)) }
     ensures shorter { IfOk result (λ _. length reader.new.rest.now ≤ length reader.old.rest.now) }
 {
-    if !reader.sees_mark(Mark::OpenBrace) {
+    let Some(_) = reader.take(Mark::OpenBrace) else {
         return Ok(Vec::new(alloc));
-    }
-    reader.expect(Mark::OpenBrace)?;
+    };
     let all = groups(alloc, first, reader)?;
     reader.expect(Mark::CloseBrace)?;
     Ok(all)
@@ -115,7 +116,8 @@ fn typed_fields(
     let (_, type_name) = declared_type(alloc, of_class, reader)?;
     let named = starred_name(alloc, of_class, reader)?;
     let mut all = before;
-    all.push(field(alloc, visibility, qualifiers, &type_name, named)?)?;
+    let first = field(alloc, visibility, qualifiers, &type_name, named)?;
+    keep(&mut all, first)?;
     let all = more_fields(
         alloc, of_class, visibility, qualifiers, &type_name, all, reader,
     )?;
@@ -124,7 +126,7 @@ fn typed_fields(
 }
 
 /// These fields and the further ones of this type, each of which is after a comma, and a `*` where the type is a class's.
-#[tactic(auto, using(arc_grammar::proofs::Loops::one_more, arc_grammar::proofs::Fits::taking, arc_grammar::proofs::Lists::appends))]
+#[tactic(auto, using(arc_grammar::proofs::Loops::one_more_listed, arc_grammar::proofs::Fits::taking, arc_grammar::proofs::Lists::appends))]
 fn more_fields(
     alloc: Global,
     of_class: bool,
@@ -138,22 +140,26 @@ fn more_fields(
     ensures shorter { IfOk result (λ _. length reader.new.rest.now ≤ length reader.old.rest.now) }
 {
     let mut all = before;
-    'fields: while reader.sees_mark(Mark::Comma) {
-        let named = next_qualified_name(alloc, of_class, reader)?;
-        all.push(field(alloc, visibility, qualifiers, type_name, named)?)?;
+    'fields: while let Some(_) = reader.take(Mark::Comma) {
+        let named = starred_name(alloc, of_class, reader)?;
+        let next = field(alloc, visibility, qualifiers, type_name, named)?;
+        keep(&mut all, next)?;
     }
     Ok(all)
 }
 
 /// A field of this type and this name.
+///
+/// `Memory` comes where there is no memory for its type.
 fn field(
     alloc: Global,
     visibility: Visibility,
     qualifiers: Qualifiers,
     type_name: &TypeName,
     named: QualifiedName,
-) -> Result<Field, AllocError>
-    ensures { IfOk result (λ f. field_tree f ≡ grammar.field_of visibility (qualifiers, type_tree type_name.now) (named.0, (named.1.0, named.1.1.items))) }
+) -> Read<Field>
+    ensures failed { IfErr result (λ why. why ≡ Memory) }
+    ensures made { IfOk result (λ f. field_tree f ≡ grammar.field_of visibility (qualifiers, type_tree type_name.now) (named.0, (named.1.0, named.1.1.items))) }
 {
     let (own, (at, name)) = named;
     Ok(Field {

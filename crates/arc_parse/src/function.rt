@@ -1,20 +1,20 @@
 //! Reads functions.
-ghost use Rattle.std.specs.Prelude.{◌≡◌, ◌<◌, ◌≤◌, length, IfOk, bytes_eq, option_map};
+ghost use Rattle.std.specs.Prelude.{◌≡◌, ◌<◌, length, IfOk, bytes_eq, option_map};
 ghost use Rattle.arc_lex.specs.Tokens.{toks};
 ghost use Rattle.arc_ast.specs.Tree.{stmt_trees, parameters_tree, function_tree, result_tree};
 ghost use Rattle.arc_form.specs.Kinds.{main_bytes};
 ghost use Rattle.arc_form.specs.Reader.{Gives};
 ghost use Rattle.arc_grammar.specs.Grammar.{reads};
 ghost use Rattle.arc_grammar.specs.Grammar as grammar;
-ghost use Rattle.arc_parse.specs.private.Signatures.{reads_after};
+ghost use Rattle.arc_parse.specs.private.Declaring.{reads_after};
 ghost use Rattle.arc_parse.specs.private.Signatures as signatures;
 
-use crate::parameter::{parameters, parameters_of_main};
+use crate::parameter::parameters;
+use crate::stmt::items;
 use arc_ast::tree::{Function, Parameters, ResultType, Stmt};
 use arc_form::fail::Read;
 use arc_form::reader::Reader;
 use arc_lex::token::Mark;
-use crate::stmt::items;
 use std::alloc::Global;
 
 /// A declaration or a definition of a function, but for `static` and the type of its result, which is given.
@@ -42,21 +42,9 @@ fn enclosed(alloc: Global, called: &[u8], reader: &mut Reader) -> Read<Parameter
     ensures shorter { IfOk result (λ _. length reader.new.rest.now < length reader.old.rest.now) }
 {
     reader.expect(Mark::OpenParen)?;
-    let parameters = parameters_to(alloc, called, reader)?;
+    let parameters = parameters(alloc, is_main(called), reader)?;
     reader.expect(Mark::CloseParen)?;
     Ok(parameters)
-}
-
-/// What a function of this name takes.
-fn parameters_to(alloc: Global, called: &[u8], reader: &mut Reader) -> Read<Parameters>
-    ensures gives { Gives parameters_tree result (toks reader.new.rest.now) (reads (signatures.parameters_to called.now) (toks reader.old.rest.now)) }
-    ensures shorter { IfOk result (λ _. length reader.new.rest.now ≤ length reader.old.rest.now) }
-{
-    if is_main(called) {
-        parameters_of_main(alloc, reader)
-    } else {
-        parameters(alloc, reader)
-    }
 }
 
 /// Whether this is the name of the function at which a program starts.
@@ -72,8 +60,7 @@ fn function_body(alloc: Global, reader: &mut Reader) -> Read<Option<Vec<Stmt>>>
     ensures gives { Gives (λ x. option_map (λ b. stmt_trees b.items) x) result (toks reader.new.rest.now) (reads grammar.function_body (toks reader.old.rest.now)) }
     ensures shorter { IfOk result (λ _. length reader.new.rest.now < length reader.old.rest.now) }
 {
-    if reader.sees_mark(Mark::Semicolon) {
-        reader.expect(Mark::Semicolon)?;
+    if let Some(_) = reader.take(Mark::Semicolon) {
         return Ok(None);
     }
     let all = braces(alloc, reader)?;

@@ -7,11 +7,12 @@ ghost use Rattle.arc_form.specs.Reader.{Gives, take_one};
 ghost use Rattle.arc_grammar.specs.Grammar.{reads};
 ghost use Rattle.arc_grammar.specs.Grammar as grammar;
 ghost use Rattle.arc_parse.specs.private.Globals.{globals_on};
-ghost use Rattle.arc_parse.specs.private.Signatures.{reads_after};
+ghost use Rattle.arc_parse.specs.private.Declaring.{reads_after};
 
 use arc_ast::tree;
 use arc_ast::tree::{Constant, Qualifiers, TypeName};
 use arc_form::fail::{Fail, Read};
+use arc_form::made::keep;
 use arc_form::reader::Reader;
 use arc_lex::token::{Mark, Token, TokenKind, Word};
 use std::alloc::Global;
@@ -30,7 +31,7 @@ pub fn globals(
 {
     let first = global(alloc, qualifiers, type_name, reader)?;
     let mut all = Vec::new(alloc);
-    all.push(first)?;
+    keep(&mut all, first)?;
     let all = more_globals(alloc, of_class, qualifiers, type_name, all, reader)?;
     reader.expect(Mark::Semicolon)?;
     Ok(all)
@@ -59,19 +60,18 @@ fn global(
     })
 }
 
-/// A comma and a variable of a type, after `*` where the type is a class's.
-#[tactic(auto, using(arc_form::proofs::Binding::bind_twice), unfolding(arc_grammar::specs::Grammar::next_global))]
-fn next_global(
+/// A variable of a type, after `*` where the type is a class's.
+#[tactic(auto, using(arc_form::proofs::Binding::bind_twice), unfolding(arc_grammar::specs::Grammar::starred_global))]
+fn starred_global(
     alloc: Global,
     of_class: bool,
     qualifiers: Qualifiers,
     type_name: &TypeName,
     reader: &mut Reader,
 ) -> Read<tree::Global>
-    ensures gives { Gives global_tree result (toks reader.new.rest.now) (reads_after (grammar.next_global of_class) (qualifiers, type_tree type_name.now) (toks reader.old.rest.now)) }
+    ensures gives { Gives global_tree result (toks reader.new.rest.now) (reads_after (grammar.starred_global of_class) (qualifiers, type_tree type_name.now) (toks reader.old.rest.now)) }
     ensures shorter { IfOk result (λ _. length reader.new.rest.now < length reader.old.rest.now) }
 {
-    reader.expect(Mark::Comma)?;
     if of_class {
         reader.expect(Mark::Star)?;
     }
@@ -92,9 +92,9 @@ fn more_globals(
     ensures shorter { IfOk result (λ _. length reader.new.rest.now ≤ length reader.old.rest.now) }
 {
     let mut all = before;
-    'globals: while reader.sees_mark(Mark::Comma) {
-        let next = next_global(alloc, of_class, qualifiers, type_name, reader)?;
-        all.push(next)?;
+    'globals: while let Some(_) = reader.take(Mark::Comma) {
+        let next = starred_global(alloc, of_class, qualifiers, type_name, reader)?;
+        keep(&mut all, next)?;
     }
     Ok(all)
 }
@@ -105,34 +105,22 @@ fn first_constant(reader: &mut Reader) -> Read<Option<Constant>>
     ensures gives { Gives (λ x. x) result (toks reader.new.rest.now) (reads grammar.first_constant (toks reader.old.rest.now)) }
     ensures shorter { IfOk result (λ _. length reader.new.rest.now ≤ length reader.old.rest.now) }
 {
-    if !reader.sees_mark(Mark::Assign) {
+    let Some(_) = reader.take(Mark::Assign) else {
         return Ok(None);
-    }
-    reader.expect(Mark::Assign)?;
+    };
     let value = constant(reader)?;
     Ok(Some(value))
 }
 
-/// What a variable of the whole program may begin with.
-#[tactic(auto, unfolding(arc_grammar::specs::Grammar::constant))]
+/// What a variable of the whole program may begin with: `-` and an integer or a character, or what a token stands for.
+#[tactic(auto, unfolding(arc_grammar::specs::Grammar::constant, arc_grammar::specs::Grammar::negative_constant))]
 fn constant(reader: &mut Reader) -> Read<Constant>
     ensures gives { Gives (λ x. x) result (toks reader.new.rest.now) (reads grammar.constant (toks reader.old.rest.now)) }
     ensures shorter { IfOk result (λ _. length reader.new.rest.now < length reader.old.rest.now) }
 {
-    if reader.sees_mark(Mark::Minus) {
-        negative_constant(reader)
-    } else {
-        plain_constant(reader)
-    }
-}
-
-/// `-`, and an integer or a character.
-#[tactic(auto, unfolding(arc_grammar::specs::Grammar::negative_constant))]
-fn negative_constant(reader: &mut Reader) -> Read<Constant>
-    ensures gives { Gives (λ x. x) result (toks reader.new.rest.now) (reads grammar.negative_constant (toks reader.old.rest.now)) }
-    ensures shorter { IfOk result (λ _. length reader.new.rest.now < length reader.old.rest.now) }
-{
-    let at = reader.expect(Mark::Minus)?;
+    let Some(at) = reader.take(Mark::Minus) else {
+        return plain_constant(reader);
+    };
     let value = integer(reader)?;
     Ok(Constant::Number(at, value.wrapping_neg()))
 }

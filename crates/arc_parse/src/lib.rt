@@ -1,8 +1,8 @@
 //! Reads the tokens of a source as its tree.
 #![tactic(auto)]
 
-mod clauses;
 mod class;
+mod clauses;
 mod expr;
 pub mod fault;
 mod field;
@@ -11,7 +11,6 @@ mod full;
 mod function;
 mod global;
 mod literal;
-mod made;
 mod method;
 mod name;
 mod node;

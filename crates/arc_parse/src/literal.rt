@@ -1,24 +1,28 @@
 //! Reads literals.
-ghost use Rattle.std.specs.Prelude.{◌≡◌, ◌<◌, length, IfOk};
+ghost use Rattle.std.specs.Prelude.{◌≡◌, ◌<◌, length, IfOk, IfErr};
 ghost use Rattle.arc_lex.specs.Tokens.{toks};
 ghost use Rattle.arc_ast.specs.Tree.{expr_tree};
+ghost use Rattle.arc_form.specs.declared.fail.Fail.TheVariants.{Memory};
 ghost use Rattle.arc_form.specs.Reader.{Gives};
 ghost use Rattle.arc_grammar.specs.Grammar.{reads_free};
 ghost use Rattle.arc_grammar.specs.Grammar as grammar;
 ghost use Rattle.arc_grammar.specs.Grammar.{bool_of};
 
-use crate::node::boxed;
 use arc_ast::tree::{Expr, TypeName};
 use arc_form::fail::{Fail, Read};
+use arc_form::made;
 use arc_form::reader::Reader;
 use arc_lex::token::{Token, TokenKind, Word};
-use std::alloc::{AllocError, Global};
+use std::alloc::Global;
 
 /// 1 or 0 as a BOOL.
-fn boolean(alloc: Global, at: usize, value: i64) -> Result<Expr, AllocError>
-    ensures { IfOk result (λ made. expr_tree made ≡ bool_of at value) }
+///
+/// `Memory` comes where there is no memory for it.
+fn boolean(alloc: Global, at: usize, value: i64) -> Read<Expr>
+    ensures made { IfOk result (λ made. expr_tree made ≡ bool_of at value) }
+    ensures failed { IfErr result (λ why. why ≡ Memory) }
 {
-    let number = boxed(alloc, Expr::Integer(at, value, false))?;
+    let number = made::boxed(alloc, Expr::Integer(at, value, false))?;
     Ok(Expr::Cast(at, TypeName::Bool, number))
 }
 
@@ -42,5 +46,5 @@ pub fn literal(alloc: Global, reader: &mut Reader) -> Read<Box<Expr>>
         _ => return Err(Fail::Unexpected),
     };
     reader.rest = rest;
-    Ok(boxed(alloc, value)?)
+    Ok(made::boxed(alloc, value)?)
 }

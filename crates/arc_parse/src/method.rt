@@ -1,22 +1,26 @@
 //! Reads methods.
-ghost use Rattle.std.specs.Prelude.{◌≡◌, ◌<◌, ◌≤◌, length, IfOk};
+ghost use Rattle.std.specs.Prelude.{◌≡◌, ◌<◌, ◌≤◌, length, Ok, IfOk};
 ghost use Rattle.arc_lex.specs.Tokens.{toks};
 ghost use Rattle.arc_ast.specs.Tree.{type_tree, result_tree, parameter_tree, head_tree, head_trees, method_tree, method_trees};
+ghost use Rattle.arc_lex.specs.declared.token.Mark.TheVariants as m;
+ghost use Rattle.arc_form.specs.Kinds as kinds;
 ghost use Rattle.arc_form.specs.Reader.{Gives, sees};
 ghost use Rattle.arc_form.specs.Views.{all};
 ghost use Rattle.arc_grammar.specs.Grammar.{reads};
 ghost use Rattle.arc_grammar.specs.Grammar as grammar;
-ghost use Rattle.arc_parse.specs.private.Signatures.{reads_after};
+ghost use Rattle.arc_parse.specs.private.Declaring.{reads_after};
 ghost use Rattle.arc_parse.specs.private.Signatures as signatures;
 
 use crate::function::braces;
+use crate::node::and_part;
 use crate::parameter::parameter_of;
+use crate::qualifier::qualifiers;
 use crate::value_type::value_type;
 use arc_ast::tree::{Method, MethodHead, Parameter, Qualifiers, ResultType, Sign, TypeName};
 use arc_form::fail::Read;
+use arc_form::made::keep;
 use arc_form::reader::Reader;
 use arc_lex::token::{Mark, Word};
-use crate::qualifier::qualifiers;
 use std::alloc::Global;
 
 /// Whether a method can begin with the first token.
@@ -28,28 +32,18 @@ fn begins_method(reader: &Reader) -> bool
 }
 
 /// The methods that an interface declares.
-#[tactic(auto, using(arc_grammar::proofs::Loops::one_more, arc_grammar::proofs::Fits::taking, arc_form::proofs::Joining::row_start, arc_form::proofs::Joining::all_push, arc_grammar::proofs::Lists::alls), unfolding(arc_grammar::specs::Grammar::method_heads))]
+#[tactic(auto, using(crate::proofs::Signatures::next_heads, arc_form::proofs::Joining::row_start, arc_form::proofs::Joining::all_push, arc_grammar::proofs::Lists::alls), unfolding(arc_grammar::specs::Grammar::method_heads))]
 pub fn method_heads(alloc: Global, reader: &mut Reader) -> Read<Vec<MethodHead>>
     ensures gives { Gives (λ x. head_trees x.items) result (toks reader.new.rest.now) (reads grammar.method_heads (toks reader.old.rest.now)) }
     ensures shorter { IfOk result (λ _. length reader.new.rest.now ≤ length reader.old.rest.now) }
 {
     let mut all = Vec::new(alloc);
     'heads: while begins_method(reader) {
-        let head = next_head(alloc, reader)?;
-        all.push(head)?;
+        let head = method_head(alloc, reader)?;
+        reader.expect(Mark::Semicolon)?;
+        keep(&mut all, head)?;
     }
     Ok(all)
-}
-
-/// A method's declaration.
-#[tactic(auto, unfolding(arc_grammar::specs::Grammar::next_head))]
-fn next_head(alloc: Global, reader: &mut Reader) -> Read<MethodHead>
-    ensures gives { Gives head_tree result (toks reader.new.rest.now) (reads grammar.next_head (toks reader.old.rest.now)) }
-    ensures shorter { IfOk result (λ _. length reader.new.rest.now < length reader.old.rest.now) }
-{
-    let head = method_head(alloc, reader)?;
-    reader.expect(Mark::Semicolon)?;
-    Ok(head)
 }
 
 /// The methods that an implementation defines.
@@ -61,7 +55,7 @@ pub fn methods(alloc: Global, reader: &mut Reader) -> Read<Vec<Method>>
     let mut all = Vec::new(alloc);
     'methods: while begins_method(reader) {
         let method = method(alloc, reader)?;
-        all.push(method)?;
+        keep(&mut all, method)?;
     }
     Ok(all)
 }
@@ -73,22 +67,22 @@ fn method(alloc: Global, reader: &mut Reader) -> Read<Method>
     ensures shorter { IfOk result (λ _. length reader.new.rest.now < length reader.old.rest.now) }
 {
     let head = method_head(alloc, reader)?;
-    perhaps_semicolon(reader)?;
+    perhaps_semicolon(reader);
     let body = braces(alloc, reader)?;
     Ok(Method { head, body })
 }
 
-/// Perhaps `;`.
+/// Takes `;` where it is the first token, and reports whether it was.
 #[tactic(auto, unfolding(arc_grammar::specs::Grammar::perhaps_semicolon))]
-fn perhaps_semicolon(reader: &mut Reader) -> Read<()>
-    ensures gives { Gives (λ x. x) result (toks reader.new.rest.now) (reads grammar.perhaps_semicolon (toks reader.old.rest.now)) }
-    ensures shorter { IfOk result (λ _. length reader.new.rest.now ≤ length reader.old.rest.now) }
+fn perhaps_semicolon(reader: &mut Reader) -> bool
+    ensures there { result ≡ sees (kinds.mark m.Semicolon) (toks reader.old.rest.now) }
+    ensures gives { reads grammar.perhaps_semicolon (toks reader.old.rest.now) ≡ Ok (tt, toks reader.new.rest.now) }
+    ensures shorter { length reader.new.rest.now ≤ length reader.old.rest.now }
 {
-    if !reader.sees_mark(Mark::Semicolon) {
-        return Ok(());
+    match reader.take(Mark::Semicolon) {
+        Some(_) => true,
+        None => false,
     }
-    reader.expect(Mark::Semicolon)?;
-    Ok(())
 }
 
 /// `+` or `-`, perhaps the type of the result, and the selector with the parameters
@@ -115,10 +109,9 @@ fn method_result(alloc: Global, reader: &mut Reader) -> Read<ResultType>
     ensures gives { Gives result_tree result (toks reader.new.rest.now) (reads grammar.method_result (toks reader.old.rest.now)) }
     ensures shorter { IfOk result (λ _. length reader.new.rest.now ≤ length reader.old.rest.now) }
 {
-    if !reader.sees_mark(Mark::OpenParen) {
+    let Some(_) = reader.take(Mark::OpenParen) else {
         return Ok(ResultType::Value(TypeName::Id));
-    }
-    reader.expect(Mark::OpenParen)?;
+    };
     let result = result_type(alloc, reader)?;
     reader.expect(Mark::CloseParen)?;
     Ok(result)
@@ -130,12 +123,10 @@ fn result_type(alloc: Global, reader: &mut Reader) -> Read<ResultType>
     ensures gives { Gives result_tree result (toks reader.new.rest.now) (reads grammar.result_type (toks reader.old.rest.now)) }
     ensures shorter { IfOk result (λ _. length reader.new.rest.now < length reader.old.rest.now) }
 {
-    if reader.sees_word(Word::Void) {
-        reader.keyword(Word::Void)?;
+    if let Some(_) = reader.take_word(Word::Void) {
         return Ok(ResultType::Void);
     }
-    if reader.sees_word(Word::InstanceType) {
-        reader.keyword(Word::InstanceType)?;
+    if let Some(_) = reader.take_word(Word::InstanceType) {
         return Ok(ResultType::Related);
     }
     let (_, written) = value_type(alloc, reader)?;
@@ -148,8 +139,7 @@ fn sign(reader: &mut Reader) -> Read<(usize, Sign)>
     ensures gives { Gives (λ x. x) result (toks reader.new.rest.now) (reads grammar.sign (toks reader.old.rest.now)) }
     ensures shorter { IfOk result (λ _. length reader.new.rest.now < length reader.old.rest.now) }
 {
-    if reader.sees_mark(Mark::Plus) {
-        let at = reader.expect(Mark::Plus)?;
+    if let Some(at) = reader.take(Mark::Plus) {
         return Ok((at, Sign::Class));
     }
     let at = reader.expect(Mark::Minus)?;
@@ -182,12 +172,12 @@ fn typed_parts(alloc: Global, first: Vec<u8>, reader: &mut Reader) -> Read<Typed
     let mut all = Vec::new(alloc);
     let parameter = typed(alloc, reader)?;
     selector.push(b':')?;
-    all.push(parameter)?;
+    keep(&mut all, parameter)?;
     more_typed(alloc, selector, all, reader)
 }
 
 /// This selector and these parameters, and further parts with theirs.
-#[tactic(auto, using(crate::proofs::Signatures::begin_typed, arc_grammar::proofs::Loops::one_more, arc_grammar::proofs::Fits::taking, arc_form::proofs::Joining::all_push))]
+#[tactic(auto, using(crate::proofs::Signatures::begin_typed, crate::proofs::Signatures::next_part, arc_form::proofs::Joining::all_push))]
 fn more_typed(
     alloc: Global,
     before: Vec<u8>,
@@ -200,52 +190,31 @@ fn more_typed(
     let mut selector = before;
     let mut all = given;
     'parts: while reader.sees_name() {
-        let (called, parameter) = next_typed(alloc, reader)?;
-        selector.extend_from_slice(&called)?;
-        selector.push(b':')?;
-        all.push(parameter)?;
+        let (_, called) = reader.name(alloc)?;
+        let parameter = typed(alloc, reader)?;
+        and_part(&mut selector, &called)?;
+        keep(&mut all, parameter)?;
     }
     Ok((selector, all))
-}
-
-/// A further part of a selector: its name, and its parameter.
-#[tactic(auto, unfolding(arc_grammar::specs::Grammar::next_typed))]
-fn next_typed(alloc: Global, reader: &mut Reader) -> Read<(Vec<u8>, Parameter)>
-    ensures gives { Gives (λ x. (x.0.items, parameter_tree x.1)) result (toks reader.new.rest.now) (reads grammar.next_typed (toks reader.old.rest.now)) }
-    ensures shorter { IfOk result (λ _. length reader.new.rest.now < length reader.old.rest.now) }
-{
-    let (_, called) = reader.name(alloc)?;
-    let parameter = typed(alloc, reader)?;
-    Ok((called, parameter))
 }
 
 /// A type and the qualifiers that stand before and after it.
 type QualifiedType = (Qualifiers, TypeName);
 
-/// In parentheses a type, after and before qualifiers.
+/// In parentheses the type of a parameter, after and before qualifiers, or else `id`.
 #[tactic(auto, unfolding(arc_grammar::specs::Grammar::enclosed_type))]
-fn enclosed_type(alloc: Global, reader: &mut Reader) -> Read<QualifiedType>
-    ensures gives { Gives (λ x. (x.0, type_tree x.1)) result (toks reader.new.rest.now) (reads grammar.enclosed_type (toks reader.old.rest.now)) }
-    ensures shorter { IfOk result (λ _. length reader.new.rest.now < length reader.old.rest.now) }
+fn parameter_type(alloc: Global, reader: &mut Reader) -> Read<QualifiedType>
+    ensures gives { Gives (λ x. (x.0, type_tree x.1)) result (toks reader.new.rest.now) (signatures.parameter_type (toks reader.old.rest.now)) }
+    ensures shorter { IfOk result (λ _. length reader.new.rest.now ≤ length reader.old.rest.now) }
 {
-    reader.expect(Mark::OpenParen)?;
+    let Some(_) = reader.take(Mark::OpenParen) else {
+        return Ok((Qualifiers::Unqualified, TypeName::Id));
+    };
     let before = qualifiers(reader)?;
     let (_, type_name) = value_type(alloc, reader)?;
     let after = qualifiers(reader)?;
     reader.expect(Mark::CloseParen)?;
     Ok((before.both(after), type_name))
-}
-
-/// In parentheses the type of a parameter, or else `id`.
-fn parameter_type(alloc: Global, reader: &mut Reader) -> Read<QualifiedType>
-    ensures gives { Gives (λ x. (x.0, type_tree x.1)) result (toks reader.new.rest.now) (signatures.parameter_type (toks reader.old.rest.now)) }
-    ensures shorter { IfOk result (λ _. length reader.new.rest.now ≤ length reader.old.rest.now) }
-{
-    if reader.sees_mark(Mark::OpenParen) {
-        enclosed_type(alloc, reader)
-    } else {
-        Ok((Qualifiers::Unqualified, TypeName::Id))
-    }
 }
 
 /// A colon, perhaps a type in parentheses, and a name

@@ -5,22 +5,12 @@ ghost use Rattle.arc_form.specs.Reader.{Gives};
 ghost use Rattle.arc_grammar.specs.Grammar.{reads};
 ghost use Rattle.arc_grammar.specs.Grammar as grammar;
 
+use crate::qualifier::qualifiers;
 use arc_ast::tree::Qualifiers;
 use arc_form::fail::Read;
 use arc_form::reader::Reader;
 use arc_lex::token::Mark;
-use crate::qualifier::qualifiers;
 use std::alloc::Global;
-
-/// A comma and a name, with the name's place.
-#[tactic(auto, unfolding(arc_grammar::specs::Grammar::next_name))]
-pub fn next_name(alloc: Global, reader: &mut Reader) -> Read<(usize, Vec<u8>)>
-    ensures gives { Gives (λ x. (x.0, x.1.items)) result (toks reader.new.rest.now) (reads grammar.next_name (toks reader.old.rest.now)) }
-    ensures shorter { IfOk result (λ _. length reader.new.rest.now < length reader.old.rest.now) }
-{
-    reader.expect(Mark::Comma)?;
-    reader.name(alloc)
-}
 
 /// A name with its place, and the qualifiers before it.
 pub type QualifiedName = (Qualifiers, (usize, Vec<u8>));
@@ -46,18 +36,4 @@ pub fn starred_name(alloc: Global, of_class: bool, reader: &mut Reader) -> Read<
         reader.expect(Mark::Star)?;
     }
     qualified_name(alloc, reader)
-}
-
-/// A comma and such a name.
-#[tactic(auto, unfolding(arc_grammar::specs::Grammar::next_qualified_name))]
-pub fn next_qualified_name(
-    alloc: Global,
-    of_class: bool,
-    reader: &mut Reader,
-) -> Read<QualifiedName>
-    ensures gives { Gives (λ x. (x.0, (x.1.0, x.1.1.items))) result (toks reader.new.rest.now) (reads (grammar.next_qualified_name of_class) (toks reader.old.rest.now)) }
-    ensures shorter { IfOk result (λ _. length reader.new.rest.now < length reader.old.rest.now) }
-{
-    reader.expect(Mark::Comma)?;
-    starred_name(alloc, of_class, reader)
 }

@@ -7,7 +7,7 @@ ghost use Rattle.arc_grammar.specs.Grammar.{reads};
 ghost use Rattle.arc_grammar.specs.Grammar as grammar;
 
 use crate::full::full;
-use crate::made::unboxed;
+use crate::node::unboxed;
 use arc_ast::tree::{Expr, Stmt};
 use arc_form::fail::{Fail, Read};
 use arc_form::reader::Reader;
@@ -31,7 +31,7 @@ pub fn simple(alloc: Global, reader: &mut Reader) -> Read<Stmt>
     ensures gives { Gives stmt_tree result (toks reader.new.rest.now) (reads grammar.simple (toks reader.old.rest.now)) }
     ensures shorter { IfOk result (λ _. length reader.new.rest.now < length reader.old.rest.now) }
 {
-    if reader.sees_reference() {
+    if reader.sees_name_and(Mark::Star) {
         reader.rest = after_first(reader.rest);
         return Err(Fail::Unexpected);
     }
@@ -57,8 +57,7 @@ pub fn value(alloc: Global, reader: &mut Reader) -> Read<Option<Box<Expr>>>
     ensures gives { Gives (λ x. option_map (λ b. expr_tree b.value) x) result (toks reader.new.rest.now) (reads grammar.value (toks reader.old.rest.now)) }
     ensures shorter { IfOk result (λ _. length reader.new.rest.now < length reader.old.rest.now) }
 {
-    if reader.sees_mark(Mark::Semicolon) {
-        reader.expect(Mark::Semicolon)?;
+    if let Some(_) = reader.take(Mark::Semicolon) {
         return Ok(None);
     }
     let value = full(alloc, reader)?;

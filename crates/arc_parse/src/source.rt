@@ -1,7 +1,8 @@
 //! Reads all of a source.
-ghost use Rattle.std.specs.Prelude.{◌≡◌, ◌≤◌, length, IfOk};
+ghost use Rattle.std.specs.Prelude.{◌≡◌, ◌≤◌, length, IfOk, IfErr};
 ghost use Rattle.arc_lex.specs.Tokens.{toks};
 ghost use Rattle.arc_ast.specs.Tree.{unit_tree};
+ghost use Rattle.arc_form.specs.declared.fail.Fail.TheVariants.{Memory};
 ghost use Rattle.arc_form.specs.Reader.{Gives};
 ghost use Rattle.arc_form.specs.Whole.{read_whole};
 ghost use Rattle.arc_grammar.specs.Grammar.{these, reads};
@@ -12,8 +13,9 @@ ghost use Rattle.arc_parse.specs.private.Views.{and_top};
 use crate::top::{Top, any_top, begins_top};
 use arc_ast::tree::TranslationUnit;
 use arc_form::fail::{Fail, Read};
+use arc_form::made::keep;
 use arc_form::reader::Reader;
-use std::alloc::{AllocError, Global};
+use std::alloc::Global;
 
 /// What stands outside of all else, and the end of the tokens.
 #[tactic(auto, unfolding(arc_form::specs::Whole::read_whole))]
@@ -40,22 +42,25 @@ fn tops(alloc: Global, reader: &mut Reader) -> Read<TranslationUnit>
     };
     'tops: while begins_top(reader) {
         let one = any_top(alloc, reader)?;
-        keep(&mut all, one)?;
+        put(&mut all, one)?;
     }
     Ok(all)
 }
 
 /// Puts this after what the unit has of its kind.
+///
+/// `Memory` comes where there is no memory for it.
 #[tactic(auto, using(arc_grammar::proofs::Lists::appends))]
-fn keep(unit: &mut TranslationUnit, top: Top) -> Result<(), AllocError>
-    ensures { IfOk result (λ _. unit_tree unit.new ≡ and_top (unit_tree unit.old) (top_tree top)) }
+fn put(unit: &mut TranslationUnit, top: Top) -> Read<()>
+    ensures failed { IfErr result (λ why. why ≡ Memory) }
+    ensures kept { IfOk result (λ _. unit_tree unit.new ≡ and_top (unit_tree unit.old) (top_tree top)) }
 {
     match top {
         Top::Names => {}
-        Top::Function(function) => unit.functions.push(function)?,
+        Top::Function(function) => keep(&mut unit.functions, function)?,
         Top::Globals(mut all) => unit.globals.append(&mut all)?,
-        Top::Interface(interface) => unit.interfaces.push(interface)?,
-        Top::Implementation(implementation) => unit.implementations.push(implementation)?,
+        Top::Interface(interface) => keep(&mut unit.interfaces, interface)?,
+        Top::Implementation(implementation) => keep(&mut unit.implementations, implementation)?,
     }
     Ok(())
 }

@@ -10,13 +10,14 @@ ghost use Rattle.arc_grammar.specs.declared.limits.TheConstants.{DEEPEST};
 
 use crate::clauses::{clauses, controlling, test_after};
 use crate::first::{begins_item, begins_stmt};
-use crate::made::{boxed, keep, unboxed};
+use crate::node::{boxed_stmt, unboxed};
 use crate::qualifier::sees_qualifier;
 use crate::simple::{breaking, continuing, empty, returned, simple};
 use crate::type_name::begins_plain_type;
 use crate::variable::{declaration, qualified_declaration};
 use arc_ast::tree::{Expr, Qualifiers, Stmt};
 use arc_form::fail::{Fail, Read};
+use arc_form::made::keep;
 use arc_form::reader::Reader;
 use arc_grammar::limits::DEEPEST;
 use arc_lex::token::{Mark, Word};
@@ -38,6 +39,7 @@ fn stmt(alloc: Global, depth: usize, reader: &mut Reader) -> Read<Stmt>
     }
 }
 
+/// A block, `;`, a statement that begins with a word, or an expression.
 #[cycle(stmts)]
 #[tactic(auto, unfolding(arc_grammar::specs::Grammar::statement))]
 fn statement(alloc: Global, depth: usize, reader: &mut Reader) -> Read<Stmt>
@@ -49,20 +51,7 @@ fn statement(alloc: Global, depth: usize, reader: &mut Reader) -> Read<Stmt>
         block(alloc, depth, reader)
     } else if reader.sees_mark(Mark::Semicolon) {
         empty(reader)
-    } else {
-        worded(alloc, depth, reader)
-    }
-}
-
-/// A statement that begins with a word, or an expression.
-#[cycle(stmts)]
-#[tactic(auto, unfolding(arc_grammar::specs::Grammar::worded))]
-fn worded(alloc: Global, depth: usize, reader: &mut Reader) -> Read<Stmt>
-    requires { depth ≤ DEEPEST }
-    ensures gives { Gives stmt_tree result (toks reader.new.rest.now) (reads (grammar.worded depth) (toks reader.old.rest.now)) }
-    ensures shorter { IfOk result (λ _. length reader.new.rest.now < length reader.old.rest.now) }
-{
-    if reader.sees_word(Word::Return) {
+    } else if reader.sees_word(Word::Return) {
         returned(alloc, reader)
     } else if reader.sees_word(Word::If) {
         conditional(alloc, depth, reader)
@@ -70,20 +59,7 @@ fn worded(alloc: Global, depth: usize, reader: &mut Reader) -> Read<Stmt>
         breaking(reader)
     } else if reader.sees_word(Word::Continue) {
         continuing(reader)
-    } else {
-        looped(alloc, depth, reader)
-    }
-}
-
-/// A loop, or an expression.
-#[cycle(stmts)]
-#[tactic(auto, unfolding(arc_grammar::specs::Grammar::looped))]
-fn looped(alloc: Global, depth: usize, reader: &mut Reader) -> Read<Stmt>
-    requires { depth ≤ DEEPEST }
-    ensures gives { Gives stmt_tree result (toks reader.new.rest.now) (reads (grammar.looped depth) (toks reader.old.rest.now)) }
-    ensures shorter { IfOk result (λ _. length reader.new.rest.now < length reader.old.rest.now) }
-{
-    if reader.sees_word(Word::While) {
+    } else if reader.sees_word(Word::While) {
         repeated(alloc, depth, reader)
     } else if reader.sees_word(Word::Do) {
         repeated_after(alloc, depth, reader)
@@ -127,10 +103,9 @@ fn otherwise(alloc: Global, depth: usize, reader: &mut Reader) -> Read<Option<Bo
     ensures gives { Gives (λ x. option_map (λ b. stmt_tree b.value) x) result (toks reader.new.rest.now) (reads (grammar.otherwise depth) (toks reader.old.rest.now)) }
     ensures shorter { IfOk result (λ _. length reader.new.rest.now ≤ length reader.old.rest.now) }
 {
-    if !reader.sees_word(Word::Else) {
+    let Some(_) = reader.take_word(Word::Else) else {
         return Ok(None);
-    }
-    reader.keyword(Word::Else)?;
+    };
     let second = branch(alloc, depth + 1, reader)?;
     Ok(Some(second))
 }
@@ -190,7 +165,7 @@ fn branch(alloc: Global, depth: usize, reader: &mut Reader) -> Read<Box<Stmt>>
     ensures shorter { IfOk result (λ _. length reader.new.rest.now < length reader.old.rest.now) }
 {
     let read = stmt(alloc, depth, reader)?;
-    Ok(boxed(alloc, read)?)
+    boxed_stmt(alloc, read)
 }
 
 /// Items in braces.
@@ -235,7 +210,7 @@ fn item(alloc: Global, depth: usize, reader: &mut Reader) -> Read<Stmt>
         qualified_declaration(alloc, reader)
     } else if begins_plain_type(reader) {
         declaration(alloc, false, Qualifiers::Unqualified, reader)
-    } else if reader.sees_reference() {
+    } else if reader.sees_name_and(Mark::Star) {
         declaration(alloc, true, Qualifiers::Unqualified, reader)
     } else {
         stmt(alloc, depth, reader)

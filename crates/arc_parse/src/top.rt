@@ -13,14 +13,14 @@ ghost use Rattle.arc_parse.specs.private.Tops.{top_tree};
 use crate::class::{class_names, implementation, interface};
 use crate::function::function;
 use crate::global::globals;
+use crate::qualifier::{sees_qualifier, some_qualifiers};
+use crate::type_name::perhaps;
 use crate::value_type::{begins_qualified_type, value_type_of};
 use arc_ast::tree;
 use arc_ast::tree::{Function, Implementation, Interface, Qualifiers, ResultType, TypeName};
 use arc_form::fail::Read;
 use arc_form::reader::Reader;
 use arc_lex::token::{AtWord, Mark, Word};
-use crate::qualifier::{sees_qualifier, some_qualifiers};
-use crate::type_name::perhaps;
 use std::alloc::Global;
 
 /// What stands outside of all else. The names that `@class` declares aren't kept.
@@ -68,32 +68,23 @@ pub fn any_top(alloc: Global, reader: &mut Reader) -> Read<Top>
 }
 
 /// Perhaps `static`, and a function or variables.
-#[tactic(auto, unfolding(arc_grammar::specs::Grammar::external))]
+#[tactic(auto, unfolding(arc_grammar::specs::Grammar::external, arc_grammar::specs::Grammar::of_void))]
 fn external(alloc: Global, reader: &mut Reader) -> Read<Top>
     ensures gives { Gives top_tree result (toks reader.new.rest.now) (reads grammar.external (toks reader.old.rest.now)) }
     ensures shorter { IfOk result (λ _. length reader.new.rest.now < length reader.old.rest.now) }
 {
-    perhaps(Word::Static, reader)?;
-    if reader.sees_word(Word::Void) {
-        of_void(alloc, reader)
-    } else if sees_qualifier(reader) {
+    perhaps(Word::Static, reader);
+    if let Some(_) = reader.take_word(Word::Void) {
+        let function = function(alloc, ResultType::Void, reader)?;
+        return Ok(Top::Function(function));
+    }
+    if sees_qualifier(reader) {
         of_qualified(alloc, reader)
     } else if reader.sees_name() {
         of_type(alloc, true, reader)
     } else {
         of_type(alloc, false, reader)
     }
-}
-
-/// `void` and a function.
-#[tactic(auto, unfolding(arc_grammar::specs::Grammar::of_void))]
-fn of_void(alloc: Global, reader: &mut Reader) -> Read<Top>
-    ensures gives { Gives top_tree result (toks reader.new.rest.now) (reads grammar.of_void (toks reader.old.rest.now)) }
-    ensures shorter { IfOk result (λ _. length reader.new.rest.now < length reader.old.rest.now) }
-{
-    reader.keyword(Word::Void)?;
-    let function = function(alloc, ResultType::Void, reader)?;
-    Ok(Top::Function(function))
 }
 
 /// A type, and a function, or variables of which all but the first have a `*` if the type is a class's.
@@ -103,18 +94,10 @@ fn of_type(alloc: Global, of_class: bool, reader: &mut Reader) -> Read<Top>
     ensures shorter { IfOk result (λ _. length reader.new.rest.now < length reader.old.rest.now) }
 {
     let (_, written) = value_type_of(alloc, of_class, reader)?;
-    if sees_function(reader) {
-        return of_function(alloc, written, reader);
+    if !reader.sees_name_and(Mark::OpenParen) {
+        let all = globals(alloc, of_class, Qualifiers::Unqualified, &written, reader)?;
+        return Ok(Top::Globals(all));
     }
-    let all = globals(alloc, of_class, Qualifiers::Unqualified, &written, reader)?;
-    Ok(Top::Globals(all))
-}
-
-/// A function whose result has this type.
-fn of_function(alloc: Global, written: TypeName, reader: &mut Reader) -> Read<Top>
-    ensures gives { Gives top_tree result (toks reader.new.rest.now) (function_on (type_tree written) (toks reader.old.rest.now)) }
-    ensures shorter { IfOk result (λ _. length reader.new.rest.now < length reader.old.rest.now) }
-{
     let function = function(alloc, ResultType::Value(written), reader)?;
     Ok(Top::Function(function))
 }
@@ -130,14 +113,4 @@ fn of_qualified(alloc: Global, reader: &mut Reader) -> Read<Top>
     let (_, written) = value_type_of(alloc, of_class, reader)?;
     let all = globals(alloc, of_class, qualifiers, &written, reader)?;
     Ok(Top::Globals(all))
-}
-
-/// Whether the tokens begin with a name and `(`.
-fn sees_function(reader: &Reader) -> bool
-    ensures { result ≡ sees_two kinds.name (kinds.mark m.OpenParen) (toks reader.now.rest.now) }
-{
-    match reader.rest.split_first() {
-        Some((_, rest)) => reader.sees_name() && Reader { rest }.sees_mark(Mark::OpenParen),
-        None => false,
-    }
 }

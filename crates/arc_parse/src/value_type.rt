@@ -7,12 +7,12 @@ ghost use Rattle.arc_form.specs.Reader.{Gives, sees};
 ghost use Rattle.arc_grammar.specs.Grammar.{reads};
 ghost use Rattle.arc_grammar.specs.Grammar as grammar;
 
+use crate::qualifier::sees_qualifier;
+use crate::type_name::{begins_plain_type, plain_type};
 use arc_ast::tree::TypeName;
 use arc_form::fail::Read;
 use arc_form::reader::Reader;
-use arc_lex::token::{Mark, Word};
-use crate::qualifier::sees_qualifier;
-use crate::type_name::{begins_other_type, begins_plain_type, of_word, other_type, plain_type};
+use arc_lex::token::Mark;
 use std::alloc::Global;
 
 /// Whether the type of a value can begin with the first token.
@@ -29,14 +29,6 @@ pub fn begins_qualified_type(reader: &Reader) -> bool
     ensures { result ≡ sees (grammar.begins_qualifier ∪ grammar.begins_value_type) (toks reader.now.rest.now) }
 {
     sees_qualifier(reader) || begins_value_type(reader)
-}
-
-/// Whether the type of a value but `int` can begin with the first token.
-#[tactic(auto, using(arc_form::proofs::Sets::sees_or))]
-pub fn begins_other_value_type(reader: &Reader) -> bool
-    ensures { result ≡ sees grammar.begins_other_value_type (toks reader.now.rest.now) }
-{
-    reader.sees_name() || reader.sees_word(Word::Id) || begins_other_type(reader)
 }
 
 /// A class's name and `*`, with the name's place.
@@ -73,20 +65,5 @@ pub fn value_type(alloc: Global, reader: &mut Reader) -> Read<(usize, TypeName)>
         class_type(alloc, reader)
     } else {
         plain_type(reader)
-    }
-}
-
-/// The type of a value but `int`, with its place.
-#[tactic(auto, unfolding(arc_grammar::specs::Grammar::other_value_type))]
-pub fn other_value_type(alloc: Global, reader: &mut Reader) -> Read<(usize, TypeName)>
-    ensures gives { Gives (λ x. (x.0, type_tree x.1)) result (toks reader.new.rest.now) (reads grammar.other_value_type (toks reader.old.rest.now)) }
-    ensures shorter { IfOk result (λ _. length reader.new.rest.now < length reader.old.rest.now) }
-{
-    if reader.sees_name() {
-        class_type(alloc, reader)
-    } else if reader.sees_word(Word::Id) {
-        of_word(Word::Id, reader)
-    } else {
-        other_type(reader)
     }
 }

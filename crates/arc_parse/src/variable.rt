@@ -2,18 +2,19 @@
 ghost use Rattle.std.specs.Prelude.{◌≡◌, ◌<◌, ◌≤◌, length, option_map, IfOk};
 ghost use Rattle.arc_lex.specs.Tokens.{toks};
 ghost use Rattle.arc_form.specs.Reader.{Gives};
-ghost use Rattle.arc_form.specs.Views.{all, with_row};
+ghost use Rattle.arc_form.specs.Views.{all};
 ghost use Rattle.arc_ast.specs.Tree.{expr_tree, variable_tree, stmt_tree};
 ghost use Rattle.arc_grammar.specs.Grammar.{reads};
 ghost use Rattle.arc_parse.specs.private.Declaring.{reads_after};
 ghost use Rattle.arc_grammar.specs.Grammar as grammar;
 
 use crate::full::full;
-use crate::made::unboxed;
+use crate::node::unboxed;
 use crate::qualifier::{qualifiers, some_qualifiers};
 use crate::type_name::declared_type;
 use arc_ast::tree::{Expr, Qualifiers, Stmt, Variable};
 use arc_form::fail::Read;
+use arc_form::made::keep;
 use arc_form::reader::Reader;
 use arc_lex::token::Mark;
 use std::alloc::Global;
@@ -24,10 +25,9 @@ fn initial(alloc: Global, reader: &mut Reader) -> Read<Option<Box<Expr>>>
     ensures gives { Gives (λ x. option_map (λ b. expr_tree b.value) x) result (toks reader.new.rest.now) (reads grammar.initial (toks reader.old.rest.now)) }
     ensures shorter { IfOk result (λ _. length reader.new.rest.now ≤ length reader.old.rest.now) }
 {
-    if !reader.sees_mark(Mark::Assign) {
+    let Some(_) = reader.take(Mark::Assign) else {
         return Ok(None);
-    }
-    reader.expect(Mark::Assign)?;
+    };
     let value = full(alloc, reader)?;
     Ok(Some(value))
 }
@@ -61,31 +61,18 @@ fn starred_variable(alloc: Global, of_class: bool, reader: &mut Reader) -> Read<
     variable(alloc, reader)
 }
 
-/// A comma and such a variable.
-#[tactic(auto, unfolding(arc_grammar::specs::Grammar::next_variable))]
-fn next_variable(alloc: Global, of_class: bool, reader: &mut Reader) -> Read<Variable>
-    ensures gives { Gives variable_tree result (toks reader.new.rest.now) (reads (grammar.next_variable of_class) (toks reader.old.rest.now)) }
+/// Variables, one or more, with a comma between two, and each after `*` where their type is a class's.
+#[tactic(auto, using(arc_grammar::proofs::Loops::one_more_listed, arc_grammar::proofs::Loops::read_listed, arc_grammar::proofs::Fits::taking, arc_form::proofs::Joining::all_push), unfolding(arc_grammar::specs::Grammar::variables))]
+fn variables(alloc: Global, of_class: bool, reader: &mut Reader) -> Read<Vec<Variable>>
+    ensures gives { Gives (λ x. all variable_tree x.items) result (toks reader.new.rest.now) (reads (grammar.variables of_class) (toks reader.old.rest.now)) }
     ensures shorter { IfOk result (λ _. length reader.new.rest.now < length reader.old.rest.now) }
 {
-    reader.expect(Mark::Comma)?;
-    starred_variable(alloc, of_class, reader)
-}
-
-/// These variables and the further ones, each after a comma, and with a `*` where their type is a class's.
-#[tactic(auto, using(arc_grammar::proofs::Loops::one_more, arc_grammar::proofs::Fits::taking, arc_form::proofs::Joining::row_is, arc_form::proofs::Joining::all_push), unfolding(arc_grammar::specs::Grammar::more_variables))]
-fn more_variables(
-    alloc: Global,
-    of_class: bool,
-    before: Vec<Variable>,
-    reader: &mut Reader,
-) -> Read<Vec<Variable>>
-    ensures gives { Gives (λ x. all variable_tree x.items) result (toks reader.new.rest.now) (with_row variable_tree before.items (reads (grammar.more_variables of_class) (toks reader.old.rest.now))) }
-    ensures shorter { IfOk result (λ _. length reader.new.rest.now ≤ length reader.old.rest.now) }
-{
-    let mut all = before;
-    'variables: while reader.sees_mark(Mark::Comma) {
-        let next = next_variable(alloc, of_class, reader)?;
-        all.push(next)?;
+    let first = starred_variable(alloc, of_class, reader)?;
+    let mut all = Vec::new(alloc);
+    keep(&mut all, first)?;
+    'variables: while let Some(_) = reader.take(Mark::Comma) {
+        let next = starred_variable(alloc, of_class, reader)?;
+        keep(&mut all, next)?;
     }
     Ok(all)
 }
@@ -102,10 +89,7 @@ pub fn declaration(
     ensures shorter { IfOk result (λ _. length reader.new.rest.now < length reader.old.rest.now) }
 {
     let (at, written) = declared_type(alloc, of_class, reader)?;
-    let first = starred_variable(alloc, of_class, reader)?;
-    let mut all = Vec::new(alloc);
-    all.push(first)?;
-    let all = more_variables(alloc, of_class, all, reader)?;
+    let all = variables(alloc, of_class, reader)?;
     reader.expect(Mark::Semicolon)?;
     Ok(Stmt::Variables(at, qualifiers, written, all))
 }

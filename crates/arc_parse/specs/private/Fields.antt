@@ -7,7 +7,7 @@ use Rattle.arc_ast.specs.declared.tree.Qualifiers.{Qualifiers}
 use Rattle.arc_form.specs.Kinds.{Kinds, ◌∪◌, mark}
 use Rattle.arc_form.specs.Operators.{fold}
 use Rattle.arc_form.specs.Reader.{Reader, ◌>>=◌, ret, take_one, from}
-use Rattle.arc_grammar.specs.Grammar.{QualifiedType, QualifiedName, FieldGroup, OfWord, OfType, field_of, reads, declared_type, begins_fields, next_name, next_qualified_name, starred_name, group, begins_visibility}
+use Rattle.arc_grammar.specs.Grammar.{QualifiedType, QualifiedName, FieldGroup, OfWord, OfType, field_of, reads, declared_type, begins_fields, after_comma, called, starred_name, group, begins_visibility}
 use Rattle.arc_form.specs.Joining.{joining}
 
 -- what a group of fields begins with
@@ -25,7 +25,7 @@ add_group s (OfType type names) = (s.0, fold (add_field s.0 type) s.1 names)
 
 -- these fields and further ones of this type
 abbrev pub names_on : Bool → Visibility → QualifiedType → List FieldTree → Reader (List FieldTree)
-names_on of_class v type = joining (mark m.Comma) (reads (next_qualified_name of_class)) (add_field v type)
+names_on of_class v type = joining (mark m.Comma) (reads (after_comma (starred_name of_class))) (add_field v type)
 
 -- these fields, and those of a type, one name or more and `;`
 abbrev pub typed_fields_on : Bool → Visibility → Qualifiers → List FieldTree → Reader (List FieldTree)
@@ -41,4 +41,4 @@ skip u n = tt
 
 -- names that aren't kept, each after a comma
 abbrev pub names_skipped : Reader (Unit {0})
-names_skipped = joining (mark m.Comma) (reads next_name) skip tt
+names_skipped = joining (mark m.Comma) (reads (after_comma called)) skip tt

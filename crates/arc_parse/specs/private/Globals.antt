@@ -6,8 +6,8 @@ use Rattle.arc_ast.specs.Tree.{TypeTree, GlobalTree, Value}
 use Rattle.arc_form.specs.Kinds.{mark, name}
 use Rattle.arc_form.specs.Reader.{Reader, ◌>>=◌, ret, if_sees_two}
 use Rattle.arc_form.specs.Joining.{joining}
-use Rattle.arc_grammar.specs.Grammar.{Part, QualifiedType, TopTree, OfFunction, OfGlobals, reads, function, next_global}
-use Rattle.arc_parse.specs.private.Signatures.{reads_after}
+use Rattle.arc_grammar.specs.Grammar.{Part, QualifiedType, TopTree, OfFunction, OfGlobals, reads, function, after_comma, starred_global}
+use Rattle.arc_parse.specs.private.Declaring.{reads_after}
 
 -- variables, and after them one of this type
 abbrev pub add_global : QualifiedType → List GlobalTree → (QualifiedType → GlobalTree) → List GlobalTree
@@ -15,7 +15,7 @@ add_global type made make = made ++ make type ∷ []
 
 -- these variables and further ones of this type
 abbrev pub globals_on : Bool → QualifiedType → List GlobalTree → Reader (List GlobalTree)
-globals_on of_class type = joining (mark m.Comma) (reads (next_global of_class)) (add_global type)
+globals_on of_class type = joining (mark m.Comma) (reads (after_comma (starred_global of_class))) (add_global type)
 
 -- a function whose result has this type
 abbrev pub function_on : TypeTree → Reader TopTree

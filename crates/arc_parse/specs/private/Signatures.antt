@@ -1,34 +1,25 @@
 -- What functions promise that read a part of a function's or a method's signature.
-use Rattle.std.specs.Prelude.{ℕ, List, ◌∷◌, ◌++◌, Bool, true, false, bytes_eq}
+use Rattle.std.specs.Prelude.{ℕ, List, ◌∷◌, ◌++◌, [], bytes_eq}
 use Rattle.arc_ast.specs.Tree.{ParameterTree, ParametersTree, Listed}
 use Rattle.arc_form.specs.Kinds.{main_bytes, name, mark}
 use Rattle.arc_form.specs.Form.{map, many, choose, give}
+use Rattle.arc_form.specs.Joining.{joining}
 use Rattle.arc_form.specs.Reader.{Reader, ◌>>=◌, ret}
 use Rattle.arc_ast.specs.Tree.{Id}
 use Rattle.arc_ast.specs.declared.tree.Qualifiers.TheVariants.{Unqualified}
 use Rattle.arc_lex.specs.declared.token.Mark.TheVariants as m
-use Rattle.arc_grammar.specs.Grammar.{Part, QualifiedType, Typed, reads, enclosed, enclosed_type, more_parameters, parameters, parameters_of_main, next_typed, selector_of, seconds}
+use Rattle.arc_grammar.specs.Grammar.{Part, QualifiedType, Typed, reads, enclosed, enclosed_type, after_comma, parameter, parameters, next_typed, selector_of, seconds}
 
--- what reads a rest that makes a value of one that is there
-abbrev pub reads_after : {A B : Type 0} → Part (A → B) → A → Reader B
-reads_after part a = reads part >>= (λ make. ret (make a))
+abbrev push : {A : Type 0} → List A → A → List A
+push made a = made ++ a ∷ []
 
--- what `main` takes, or another function (C99, section 5.1.2.2.1)
-abbrev pub parameters_if_main : Bool → Part ParametersTree
-parameters_if_main true = parameters_of_main
-parameters_if_main false = parameters
-
--- what a function of this name takes
-abbrev pub parameters_to : List ℕ → Part ParametersTree
-parameters_to called = parameters_if_main (bytes_eq called main_bytes)
-
--- the same in parentheses
+-- in parentheses what a function of this name takes, of which `main` is one (C99, section 5.1.2.2.1)
 unfoldable pub enclosed_to : List ℕ → Part ParametersTree
-enclosed_to called = enclosed (parameters_to called)
+enclosed_to called = enclosed (parameters (bytes_eq called main_bytes))
 
--- a parameter that is there, and further ones
-abbrev pub listed_after : ParameterTree → Reader ParametersTree
-listed_after p = reads more_parameters >>= (λ others. ret (Listed (p ∷ others)))
+-- these parameters and one more, or several
+abbrev pub parameters_on : List ParameterTree → Reader ParametersTree
+parameters_on made = reads parameter >>= (λ p. joining (mark m.Comma) (reads (after_comma parameter)) push (push made p) >>= (λ all. ret (Listed all)))
 
 -- in parentheses the type of a parameter of a method, or else `id`
 abbrev pub parameter_type : Reader QualifiedType

@@ -7,20 +7,8 @@ decreases-expr l = 16 * length l.reader.now.rest.now + 7
 abbrev pub decreases-operation : goal.decreases-operation
 decreases-operation l = 16 * length l.reader.now.rest.now + 13
 
-abbrev pub decreases-assigned : goal.decreases-assigned
-decreases-assigned l = 16 * length l.reader.now.rest.now + 1
-
-abbrev pub decreases-updated : goal.decreases-updated
-decreases-updated l = 16 * length l.reader.now.rest.now + 1
-
 abbrev pub decreases-continued : goal.decreases-continued
 decreases-continued l = 16 * length l.reader.now.rest.now + 12
-
-abbrev pub decreases-choice : goal.decreases-choice
-decreases-choice l = 16 * length l.reader.now.rest.now + 2
-
-abbrev pub decreases-chosen : goal.decreases-chosen
-decreases-chosen l = 16 * length l.reader.now.rest.now + 1
 
 abbrev pub decreases-condition : goal.decreases-condition
 decreases-condition l = 16 * length l.reader.now.rest.now + 4
@@ -34,12 +22,6 @@ decreases-binary l = 16 * length l.reader.now.rest.now + 4
 abbrev pub decreases-prefixed : goal.decreases-prefixed
 decreases-prefixed l = 16 * length l.reader.now.rest.now + 3
 
-abbrev pub decreases-signed : goal.decreases-signed
-decreases-signed l = 16 * length l.reader.now.rest.now + 1
-
-abbrev pub decreases-counted : goal.decreases-counted
-decreases-counted l = 16 * length l.reader.now.rest.now + 1
-
 abbrev pub decreases-parenthesized : goal.decreases-parenthesized
 decreases-parenthesized l = 16 * length l.reader.now.rest.now + 1
 
@@ -49,11 +31,8 @@ decreases-inside l = 16 * length l.reader.now.rest.now + 8
 abbrev pub decreases-cast_to_plain : goal.decreases-cast_to_plain
 decreases-cast_to_plain l = 16 * length l.reader.now.rest.now + 1
 
-abbrev pub decreases-starred : goal.decreases-starred
-decreases-starred l = 16 * length l.reader.now.rest.now + 1
-
-abbrev pub decreases-cast : goal.decreases-cast
-decreases-cast l = 16 * length l.reader.now.rest.now + 1
+abbrev pub decreases-cast_or_product : goal.decreases-cast_or_product
+decreases-cast_or_product l = 16 * length l.reader.now.rest.now + 1
 
 abbrev pub decreases-product : goal.decreases-product
 decreases-product l = 16 * length l.reader.now.rest.now + 4
@@ -67,9 +46,6 @@ decreases-primary l = 16 * length l.reader.now.rest.now + 1
 abbrev pub decreases-named : goal.decreases-named
 decreases-named l = 16 * length l.reader.now.rest.now
 
-abbrev pub decreases-call : goal.decreases-call
-decreases-call l = 16 * length l.reader.now.rest.now + 1
-
 abbrev pub decreases-given : goal.decreases-given
 decreases-given l = 16 * length l.reader.now.rest.now + 8
 
@@ -78,9 +54,6 @@ decreases-more_arguments l = 16 * length l.reader.now.rest.now + 1
 
 abbrev pub decreases-message : goal.decreases-message
 decreases-message l = 16 * length l.reader.now.rest.now
-
-abbrev pub decreases-to_super : goal.decreases-to_super
-decreases-to_super l = 16 * length l.reader.now.rest.now + 1
 
 abbrev pub decreases-to_object : goal.decreases-to_object
 decreases-to_object l = 16 * length l.reader.now.rest.now + 8

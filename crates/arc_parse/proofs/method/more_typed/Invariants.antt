@@ -1,7 +1,8 @@
 use Rattle.arc_form.specs.Views.{all}
 use Rattle.arc_ast.specs.Tree.{parameter_tree}
 use Rattle.arc_grammar.proofs.Loops.{length, SoFar}
-use Rattle.arc_parse.specs.private.Signatures.{reads_after, more_typed}
+use Rattle.arc_parse.specs.private.Declaring.{reads_after}
+use Rattle.arc_parse.specs.private.Signatures.{more_typed}
 use Rattle.arc_parse.proofs.Signatures.{typed_on}
 use Rattle.arc_parse.proofs.method.more_typed.Given as goal
 

@@ -10,12 +10,6 @@ decreases-stmt l = 16 * length l.reader.now.rest.now + 6
 abbrev pub decreases-statement : goal.decreases-statement
 decreases-statement l = 16 * length l.reader.now.rest.now + 5
 
-abbrev pub decreases-worded : goal.decreases-worded
-decreases-worded l = 16 * length l.reader.now.rest.now + 4
-
-abbrev pub decreases-looped : goal.decreases-looped
-decreases-looped l = 16 * length l.reader.now.rest.now + 3
-
 abbrev pub decreases-conditional : goal.decreases-conditional
 decreases-conditional l = 16 * length l.reader.now.rest.now + 3
 
