@@ -1,5 +1,5 @@
 -- Loops that read one thing more, whatever it is, and join it to what there is.
-use Rattle.std.proofs.Common.{◌≡◌, ◌≤◌, List, [], ◌∷◌, cond, ap, ◌∙◌}
+use Rattle.std.proofs.Common.{◌≡◌, ◌≤◌, List, [], ◌∷◌, ◌++◌, append_assoc, cond, ap, ◌∙◌}
 pub use Rattle.std.proofs.Common.{length}
 use Rattle.arc_lex.specs.declared.token.Token.{Token}
 use Rattle.arc_lex.specs.Tokens.{Tok, toks}
@@ -49,10 +49,15 @@ one_more_listed part join t b ts = one_more (mark Comma) (after_comma part) join
     ∙ ap (λ y. cond (sees (mark Comma) ts) y (ret b ts)) (second_then (take_one (mark Comma) from ts) (reads part) (λ a. joining (mark Comma) (reads (after_comma part)) join (join b a)))
 
 -- one or more, with a comma between two: the first one, and then further ones
-after_first : {T : Type 0} (part : Part T) (a : T) (us : List Tok) → (reads (commas part) >>= (λ others. ret (a ∷ others))) us ≡ joining (mark Comma) (reads (after_comma part)) push (a ∷ []) us
+after_first : {T : Type 0} (part : Part T) (made : List T) (a : T) (us : List Tok) → (reads (commas part) >>= (λ others. ret (made ++ a ∷ others))) us ≡ joining (mark Comma) (reads (after_comma part)) push (push made a) us
 unfolding commas
-after_first part a us = simp fold_push
+after_first part made a us = simp (fold_push, append_assoc)
 
 pub read_listed : {T : Type 0} (part : Part T) (ts : List Tok) → reads (listed part) ts ≡ (reads part >>= (λ a. joining (mark Comma) (reads (after_comma part)) push (a ∷ []))) ts
 unfolding listed
-read_listed part ts = simp bind_twice (bind_alike _ _ _ (λ a us. after_first part a us))
+read_listed part ts = simp bind_twice (bind_alike _ _ _ (λ a us. after_first part [] a us))
+
+-- and after these
+pub listed_after : {T : Type 0} (part : Part T) (made : List T) (ts : List Tok) → (reads (listed part) >>= (λ others. ret (made ++ others))) ts ≡ (reads part >>= (λ a. joining (mark Comma) (reads (after_comma part)) push (push made a))) ts
+unfolding listed
+listed_after part made ts = simp bind_twice (bind_alike _ _ _ (λ a us. after_first part made a us))

@@ -442,7 +442,7 @@ updated = map (λ (o, right) left. Update (begins left) o.0 After o.1 left right
 
 -- what comes after a unary expression
 unfoldable pub operation : Part (ExprTree → ExprTree)
-operation = choose (mark m.Assign) assigned (choose (marks_at assigning table) updated continued)
+operation = choose (marks_at assigning table) updated (choose (mark m.Assign) assigned continued)
 
 unfoldable pub expression : Part ExprTree
 expression = map (λ (left, make). make left) (prefixed ⨾ operation)

@@ -14,7 +14,7 @@ use Rattle.arc_form.proofs.Sets.{sees_neither}
 use Rattle.arc_form.proofs.Local.{Takes, weaker, then, takes_token, takes_ret}
 use Rattle.arc_form.proofs.FormLocal.{read_is, fronts}
 use Rattle.arc_grammar.specs.Grammar.{Sent, rules, reads_free, reads_on, body, expr, binary, table, assigning, marks_up_to, join, further, more, up_to, choice, continued, operations, begins_suffix, suffix, suffixes, after_comma, commas, more_arguments, add, next_part, more_parts, add_part}
-use Rattle.arc_grammar.proofs.Fits.{facts, sure, taking}
+use Rattle.arc_grammar.proofs.Fits.{facts, sure, takes, taking}
 use Rattle.arc_grammar.proofs.Loops.{one_more_on}
 use Rattle.arc_parse.specs.declared.operator.TheConstants.{ASSIGNING, LOOSEST}
 
@@ -70,7 +70,7 @@ read_suffixes operand ts = one_more_on begins_suffix suffix (λ a make. make a) 
 pub read_more_arguments : (before : List ExprTree) (ts : List Tok)
     → reads_on more_arguments before ts ≡ if_sees (mark m.Comma) (take_one (mark m.Comma) from >>= (λ comma. rules unlimited expr >>= (λ a. reads_on more_arguments (add before a)))) (ret before) ts
 unfolding more_arguments commas after_comma
-read_more_arguments before ts = one_more_on (mark m.Comma) (after_comma (call expr)) add (search taking) before ts
+read_more_arguments before ts = one_more_on (mark m.Comma) (after_comma (call expr)) add (takes refl refl) before ts
     ∙ ap (λ y. cond (sees (mark m.Comma) ts) y (ret before ts)) (second_then (take_one (mark m.Comma) from ts) (rules unlimited expr) (λ a. reads_on more_arguments (add before a)))
 
 pub read_more_parts : (before : Sent) (ts : List Tok)

@@ -11,19 +11,18 @@ use Rattle.arc_form.specs.Reader.{Read, Reader, bind, ◌>>=◌, ret, take_one, 
 use Rattle.arc_form.specs.Joining.{joining}
 use Rattle.arc_form.proofs.Sets.{name_has}
 use Rattle.arc_form.proofs.Binding.{bind_twice, bind_if, bind_alike}
-use Rattle.arc_form.proofs.Joining.{fold_push, push}
-use Rattle.arc_grammar.specs.Grammar.{Typed, reads, enclosed, with_result, after_comma, commas, listed, parameter, parameter_of, second, texts, begins_method, next_head, method_head, counted_parameters, listed_parameters, parameters, begins_parameter, function_body, main_function, other_function, function, typed, next_typed, typed_parts, selector_of, seconds}
+use Rattle.arc_form.proofs.Joining.{push}
+use Rattle.arc_grammar.specs.Grammar.{Typed, reads, enclosed, with_result, listed, parameter, parameter_of, second, texts, begins_method, next_head, method_head, counted_parameters, listed_parameters, parameters, begins_parameter, function_body, main_function, other_function, function, typed, next_typed, typed_parts, selector_of, seconds}
 use Rattle.arc_grammar.proofs.Fits.{taking}
-use Rattle.arc_grammar.proofs.Loops.{one_more}
+use Rattle.arc_grammar.proofs.Loops.{one_more, listed_after}
 use Rattle.arc_parse.specs.private.Declaring.{reads_after}
 use Rattle.arc_parse.specs.private.Signatures.{enclosed_to, parameters_on, more_typed}
 
-abbrev by_name : ResultTree → Reader FunctionTree
+abbrev pub by_name : ResultTree → Reader FunctionTree
 by_name type = take_one name named >>= (λ n. reads (enclosed_to n.1) >>= (λ ps. reads function_body >>= (λ b. ret (with_result (n, (ps, b)) type))))
 
 -- a name, what a function of this name takes, and its body
-pub read_function : (type : ResultTree) (ts : List Tok)
-    → reads_after function type ts ≡ (take_one name named >>= (λ n. reads (enclosed_to n.1) >>= (λ ps. reads function_body >>= (λ b. ret (with_result (n, (ps, b)) type))))) ts
+pub read_function : (type : ResultTree) (ts : List Tok) → reads_after function type ts ≡ by_name type ts
 unfolding function main_function other_function enclosed_to
 read_function type [] = refl
 read_function type (t ∷ ts) = go t.sort refl
@@ -70,16 +69,9 @@ pub read_typed_parts : (first : List ℕ) (ts : List Tok) → reads_after typed_
 unfolding typed_parts more_typed
 read_typed_parts first ts = simp (bind_twice, append_assoc)
 
--- further parameters after these and one
-read_further : (made : List ParameterTree) (p : ParameterTree) (ts : List Tok) → (reads (commas parameter) >>= (λ others. ret (Listed (made ++ p ∷ others)))) ts
-    ≡ (joining (mark m.Comma) (reads (after_comma parameter)) push (push made p) >>= (λ all. ret (Listed all))) ts
-unfolding commas
-read_further made p ts = simp (bind_twice, fold_push, append_assoc)
-
 -- one parameter or more after these
 read_after : (made : List ParameterTree) (ts : List Tok) → (reads (listed parameter) >>= (λ others. ret (Listed (made ++ others)))) ts ≡ parameters_on made ts
-unfolding listed
-read_after made ts = simp bind_twice (bind_alike _ _ _ (λ p us. read_further made p us))
+read_after made ts = sym (bind_twice (reads (listed parameter) ts) (λ others. ret (made ++ others)) (λ all. ret (Listed all))) ∙ ap (λ x. bind x (λ all. ret (Listed all))) (listed_after parameter made ts)
 
 -- what a function takes
 pub read_parameters : (of_main : Bool) (ts : List Tok) → reads (parameters of_main) ts

@@ -40,19 +40,20 @@ fn operation(alloc: Global, left: Box<Expr>, reader: &mut Reader) -> Read<Box<Ex
     ensures shorter { IfOk result (λ _. length reader.new.rest.now ≤ length reader.old.rest.now) }
 {
     let at = place_of(&left);
-    if let Some(sign) = reader.take(Mark::Assign) {
+    if sees_operator(ASSIGNING, reader) {
+        let (sign, operator) = operator(ASSIGNING, reader)?;
         let right = expr(alloc, reader)?;
-        return boxed(alloc, Expr::Assign(at, sign, left, right));
+        return boxed(
+            alloc,
+            Expr::Update(at, sign, Moment::After, operator, left, right),
+        );
     }
-    if !sees_operator(ASSIGNING, reader) {
+    if !reader.sees_mark(Mark::Assign) {
         return continued(alloc, left, reader);
     }
-    let (sign, operator) = operator(ASSIGNING, reader)?;
+    let sign = reader.expect(Mark::Assign)?;
     let right = expr(alloc, reader)?;
-    boxed(
-        alloc,
-        Expr::Update(at, sign, Moment::After, operator, left, right),
-    )
+    boxed(alloc, Expr::Assign(at, sign, left, right))
 }
 
 /// The operators of all levels after this unary expression, with their right operands, and what they choose, where `?` is after them.
@@ -143,77 +144,41 @@ fn prefixed(alloc: Global, reader: &mut Reader) -> Read<Box<Expr>>
 
 /// An expression in parentheses with what may come after one, or a cast.
 #[cycle(exprs)]
-#[tactic(auto, unfolding(arc_grammar::specs::Grammar::parenthesized))]
+#[tactic(auto, using(arc_grammar::proofs::Fits::read_rule), unfolding(arc_grammar::specs::Grammar::body, arc_grammar::specs::Grammar::parenthesized, arc_grammar::specs::Grammar::cast_to_plain, arc_grammar::specs::Grammar::inside))]
 fn parenthesized(alloc: Global, reader: &mut Reader) -> Read<Box<Expr>>
     ensures gives { Gives (λ x. expr_tree x.value) result (toks reader.new.rest.now) (reads_free grammar.parenthesized (toks reader.old.rest.now)) }
     ensures shorter { IfOk result (λ _. length reader.new.rest.now < length reader.old.rest.now) }
 {
     let at = reader.expect(Mark::OpenParen)?;
     if begins_plain_type(reader) {
-        cast_to_plain(alloc, at, reader)
-    } else if reader.sees_name_and(Mark::Star) {
-        cast_or_product(alloc, at, reader)
-    } else {
-        inside(alloc, at, reader)
+        let (_, written) = plain_type(reader)?;
+        reader.expect(Mark::CloseParen)?;
+        let operand = prefixed(alloc, reader)?;
+        return boxed(alloc, Expr::Cast(at, written, operand));
     }
-}
-
-/// What is after the `(` of an expression in parentheses, which is at this place.
-#[cycle(exprs)]
-#[tactic(auto, unfolding(arc_grammar::specs::Grammar::inside))]
-fn inside(alloc: Global, at: usize, reader: &mut Reader) -> Read<Box<Expr>>
-    ensures gives { Gives (λ x. expr_tree x.value) result (toks reader.new.rest.now) (reads_on grammar.inside at (toks reader.old.rest.now)) }
-    ensures shorter { IfOk result (λ _. length reader.new.rest.now < length reader.old.rest.now) }
-{
+    if reader.sees_name_and(Mark::Star) {
+        return cast_or_product(alloc, at, reader);
+    }
     let inside = expr(alloc, reader)?;
     reader.expect(Mark::CloseParen)?;
     let whole = made::boxed(alloc, Expr::Paren(at, inside))?;
     suffixes(alloc, whole, reader)
 }
 
-/// What is after the `(`, which is at this place, of a cast to a type that names no class.
-#[cycle(exprs)]
-#[tactic(auto, using(arc_grammar::proofs::Fits::read_rule), unfolding(arc_grammar::specs::Grammar::body, arc_grammar::specs::Grammar::cast_to_plain))]
-fn cast_to_plain(alloc: Global, at: usize, reader: &mut Reader) -> Read<Box<Expr>>
-    ensures gives { Gives (λ x. expr_tree x.value) result (toks reader.new.rest.now) (reads_on grammar.cast_to_plain at (toks reader.old.rest.now)) }
-    ensures shorter { IfOk result (λ _. length reader.new.rest.now < length reader.old.rest.now) }
-{
-    let (_, written) = plain_type(reader)?;
-    reader.expect(Mark::CloseParen)?;
-    let operand = prefixed(alloc, reader)?;
-    boxed(alloc, Expr::Cast(at, written, operand))
-}
-
 /// What is after the `(` at this place, where a name and `*` come: a cast, or a product in parentheses.
 #[cycle(exprs)]
-#[tactic(auto, using(arc_grammar::proofs::Fits::read_rule), unfolding(arc_grammar::specs::Grammar::body, arc_grammar::specs::Grammar::cast_or_product, arc_grammar::specs::Grammar::cast))]
+#[tactic(auto, using(arc_grammar::proofs::Fits::read_rule), unfolding(arc_grammar::specs::Grammar::body, arc_grammar::specs::Grammar::cast_or_product, arc_grammar::specs::Grammar::cast, arc_grammar::specs::Grammar::product))]
 fn cast_or_product(alloc: Global, at: usize, reader: &mut Reader) -> Read<Box<Expr>>
     ensures gives { Gives (λ x. expr_tree x.value) result (toks reader.new.rest.now) (reads_on grammar.cast_or_product at (toks reader.old.rest.now)) }
     ensures shorter { IfOk result (λ _. length reader.new.rest.now < length reader.old.rest.now) }
 {
     let (name_at, called) = reader.name(alloc)?;
     reader.expect(Mark::Star)?;
-    let Some(_) = reader.take(Mark::CloseParen) else {
-        return product(alloc, at, name_at, called, reader);
-    };
-    let operand = prefixed(alloc, reader)?;
-    let class = TypeName::Object(name_at, called);
-    boxed(alloc, Expr::Cast(at, class, operand))
-}
-
-/// What is after `(`, which is at this place, this name and `*` in a product in parentheses.
-#[cycle(exprs)]
-#[tactic(auto, using(arc_grammar::proofs::Fits::read_rule), unfolding(arc_grammar::specs::Grammar::body, arc_grammar::specs::Grammar::product))]
-fn product(
-    alloc: Global,
-    at: usize,
-    name_at: usize,
-    called: Vec<u8>,
-    reader: &mut Reader,
-) -> Read<Box<Expr>>
-    ensures gives { Gives (λ x. expr_tree x.value) result (toks reader.new.rest.now) (reads_on grammar.product (at, name_at, called.items) (toks reader.old.rest.now)) }
-    ensures shorter { IfOk result (λ _. length reader.new.rest.now < length reader.old.rest.now) }
-{
+    if let Some(_) = reader.take(Mark::CloseParen) {
+        let operand = prefixed(alloc, reader)?;
+        let class = TypeName::Object(name_at, called);
+        return boxed(alloc, Expr::Cast(at, class, operand));
+    }
     let right = prefixed(alloc, reader)?;
     let first = times(alloc, name_at, called, right)?;
     let inside = continued(alloc, first, reader)?;
@@ -334,28 +299,18 @@ fn more_arguments(alloc: Global, before: Vec<Expr>, reader: &mut Reader) -> Read
     more_arguments(alloc, all, reader)
 }
 
-/// A message.
+/// A message, to `super` or to what an expression gives.
 #[cycle(exprs)]
-#[tactic(auto, unfolding(arc_grammar::specs::Grammar::message, arc_grammar::specs::Grammar::to_super))]
+#[tactic(auto, unfolding(arc_grammar::specs::Grammar::message, arc_grammar::specs::Grammar::to_super, arc_grammar::specs::Grammar::to_object))]
 fn message(alloc: Global, reader: &mut Reader) -> Read<Box<Expr>>
     ensures gives { Gives (λ x. expr_tree x.value) result (toks reader.new.rest.now) (reads_free grammar.message (toks reader.old.rest.now)) }
     ensures shorter { IfOk result (λ _. length reader.new.rest.now < length reader.old.rest.now) }
 {
     let at = reader.expect(Mark::OpenSquare)?;
-    let Some(super_at) = reader.take_word(Word::Super) else {
-        return to_object(alloc, at, reader);
-    };
-    let (part, selector, all) = sent(alloc, reader)?;
-    boxed(alloc, Expr::SendSuper(at, part, super_at, selector, all))
-}
-
-/// What is after the `[` of a message, which is at this place, where an expression comes.
-#[cycle(exprs)]
-#[tactic(auto, unfolding(arc_grammar::specs::Grammar::to_object))]
-fn to_object(alloc: Global, at: usize, reader: &mut Reader) -> Read<Box<Expr>>
-    ensures gives { Gives (λ x. expr_tree x.value) result (toks reader.new.rest.now) (reads_on grammar.to_object at (toks reader.old.rest.now)) }
-    ensures shorter { IfOk result (λ _. length reader.new.rest.now < length reader.old.rest.now) }
-{
+    if let Some(super_at) = reader.take_word(Word::Super) {
+        let (part, selector, all) = sent(alloc, reader)?;
+        return boxed(alloc, Expr::SendSuper(at, part, super_at, selector, all));
+    }
     let object = expr(alloc, reader)?;
     let (part, selector, all) = sent(alloc, reader)?;
     boxed(alloc, Expr::Send(at, part, object, selector, all))

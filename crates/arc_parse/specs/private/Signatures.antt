@@ -17,9 +17,12 @@ push made a = made ++ a ∷ []
 unfoldable pub enclosed_to : List ℕ → Part ParametersTree
 enclosed_to called = enclosed (parameters (bytes_eq called main_bytes))
 
--- these parameters and one more, or several
+-- one more parameter, or several, after these
+abbrev pub listed_on : List ParameterTree → Reader (List ParameterTree)
+listed_on made = reads parameter >>= (λ p. joining (mark m.Comma) (reads (after_comma parameter)) push (push made p))
+
 abbrev pub parameters_on : List ParameterTree → Reader ParametersTree
-parameters_on made = reads parameter >>= (λ p. joining (mark m.Comma) (reads (after_comma parameter)) push (push made p) >>= (λ all. ret (Listed all)))
+parameters_on made = listed_on made >>= (λ all. ret (Listed all))
 
 -- in parentheses the type of a parameter of a method, or else `id`
 abbrev pub parameter_type : Reader QualifiedType

@@ -4,7 +4,6 @@ use Rattle.arc_lex.specs.Tokens.{toks}
 use Rattle.arc_ast.specs.Tree.{expr_tree}
 use Rattle.arc_grammar.specs.Grammar.{reads_on, exprs}
 use Rattle.arc_grammar.specs.Grammar as grammar
-use Rattle.arc_parse.proofs.Fix.{assigning_is}
 use Rattle.arc_parse.proofs.Levels.{one_more, no_operand}
 use Rattle.arc_ast.proofs.Trees.{call_tree, send_tree, send_super_tree}
 use Rattle.arc_grammar.proofs.Lists.{exprs_all}
@@ -14,25 +13,13 @@ pub named-returns-clause-gives : goal.named-returns-clause-gives
 unfolding grammar.named grammar.arguments
 named-returns-clause-gives t c = rw (c.in_ok-at.ensures.gives, c.in-Some.ensures.taken.0, c.in-Some.ensures.taken.1, c.in_ok-all.ensures.gives, exprs_all c.in_ok-all.all.items, ← call_tree c.in_ok-at.at c.in_ok-at.called c.in_ok-all.all) (c.boxed-2.ensures.gives (toks c.given.new.reader.rest.now))
 
-pub message-returns-clause-gives : goal.message-returns-clause-gives
+pub message-returns-in-Some-clause-gives : goal.message-returns-in-Some-clause-gives
 unfolding grammar.message grammar.to_super
-message-returns-clause-gives t c = rw (c.in_ok-at.ensures.gives, c.in-Some.ensures.taken.0, c.in-Some.ensures.taken.1, c.in_ok-part.ensures.gives, exprs_all c.in_ok-part.all.items, ← send_super_tree c.in_ok-at.at c.in_ok-part.part c.in-Some.super_at c.in_ok-part.selector c.in_ok-part.all) (c.boxed.ensures.gives (toks c.sent.new.reader.rest.now))
+message-returns-in-Some-clause-gives t c = rw (c.in_ok-at.ensures.gives, c.in-Some.ensures.taken.0, c.in-Some.ensures.taken.1, c.in_ok-part.ensures.gives, exprs_all c.in_ok-part.all.items, ← send_super_tree c.in_ok-at.at c.in_ok-part.part c.in-Some.super_at c.in_ok-part.selector c.in_ok-part.all) (c.boxed.ensures.gives (toks c.sent.new.reader.rest.now))
 
-pub message-returns-in_default-clause-gives : goal.message-returns-in_default-clause-gives
-unfolding grammar.message
-message-returns-in_default-clause-gives t c = rw (c.in_ok-at.ensures.gives, c.in_default.ensures.taken.1, c.in_default.ensures.taken.0) (search rules)
-
-pub to_object-returns-clause-gives : goal.to_object-returns-clause-gives
-unfolding grammar.to_object
-to_object-returns-clause-gives t c = rw (c.in_ok-object.ensures.gives, c.in_ok-part.ensures.gives, exprs_all c.in_ok-part.all.items, ← send_tree c.args.at c.in_ok-part.part c.in_ok-object.object c.in_ok-part.selector c.in_ok-part.all) (c.boxed.ensures.gives (toks c.sent.new.reader.rest.now))
-
-pub operation-returns-then-not-sees_operator-clause-gives : goal.operation-returns-then-not-sees_operator-clause-gives
-unfolding grammar.operation
-operation-returns-then-not-sees_operator-clause-gives t c = rw (c.in_default.ensures.taken.1, c.in_default.ensures.taken.0, assigning_is) (search rules)
-
-pub cast_or_product-returns-in_default-clause-gives : goal.cast_or_product-returns-in_default-clause-gives
-unfolding grammar.cast_or_product
-cast_or_product-returns-in_default-clause-gives t c = rw (c.in_ok-name_at.ensures.gives, c.in_ok-expect.ensures.gives, c.in_default.ensures.taken.1, c.in_default.ensures.taken.0) (search rules)
+pub message-returns-clause-gives : goal.message-returns-clause-gives
+unfolding grammar.message grammar.to_object
+message-returns-clause-gives t c = rw (c.in_ok-at.ensures.gives, c.in_default.ensures.taken.1, c.in_default.ensures.taken.0, c.in_ok-object.ensures.gives, c.in_ok-part-2.ensures.gives, exprs_all c.in_ok-part-2.all.items, ← send_tree c.in_ok-at.at c.in_ok-part-2.part c.in_ok-object.object c.in_ok-part-2.selector c.in_ok-part-2.all) (c.boxed-2.ensures.gives (toks c.sent-2.new.reader.rest.now))
 
 pub up_to-returns-in_err-right-clause-gives : goal.up_to-returns-in_err-right-clause-gives
 up_to-returns-in_err-right-clause-gives t c =

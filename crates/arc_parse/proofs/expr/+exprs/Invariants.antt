@@ -25,17 +25,8 @@ decreases-prefixed l = 16 * length l.reader.now.rest.now + 3
 abbrev pub decreases-parenthesized : goal.decreases-parenthesized
 decreases-parenthesized l = 16 * length l.reader.now.rest.now + 1
 
-abbrev pub decreases-inside : goal.decreases-inside
-decreases-inside l = 16 * length l.reader.now.rest.now + 8
-
-abbrev pub decreases-cast_to_plain : goal.decreases-cast_to_plain
-decreases-cast_to_plain l = 16 * length l.reader.now.rest.now + 1
-
 abbrev pub decreases-cast_or_product : goal.decreases-cast_or_product
 decreases-cast_or_product l = 16 * length l.reader.now.rest.now + 1
-
-abbrev pub decreases-product : goal.decreases-product
-decreases-product l = 16 * length l.reader.now.rest.now + 4
 
 abbrev pub decreases-postfix : goal.decreases-postfix
 decreases-postfix l = 16 * length l.reader.now.rest.now + 2
@@ -54,9 +45,6 @@ decreases-more_arguments l = 16 * length l.reader.now.rest.now + 1
 
 abbrev pub decreases-message : goal.decreases-message
 decreases-message l = 16 * length l.reader.now.rest.now
-
-abbrev pub decreases-to_object : goal.decreases-to_object
-decreases-to_object l = 16 * length l.reader.now.rest.now + 8
 
 abbrev pub decreases-sent : goal.decreases-sent
 decreases-sent l = 16 * length l.reader.now.rest.now + 1
