@@ -36,15 +36,14 @@ read_either : (c : Bool) (v : Visibility) (q : Qualifiers) (made : List FieldTre
 read_either true v q made ts = read_typed_fields true v q made ts
 read_either false v q made ts = read_typed_fields false v q made ts
 
-abbrev word_on : List FieldTree → Reader (Visibility × List FieldTree)
+abbrev pub word_on : List FieldTree → Reader (Visibility × List FieldTree)
 word_on made = take_one begins_visibility (λ t. visibility_of t.sort) >>= (λ next. ret (next, made))
 
 group_is : (v : Visibility) (made : List FieldTree) (ts : List Tok) → group_on (v, made) ts ≡ if_sees begins_fields (reads qualifiers >>= (λ q us. either_fields (sees name us) v q made us)) (word_on made) ts
 unfolding group qualified_fields
 group_is v made ts = simp (bind_if, bind_twice)
 
-pub read_group : (v : Visibility) (made : List FieldTree) (ts : List Tok) → group_on (v, made) ts
-    ≡ if_sees begins_fields (reads qualifiers >>= (λ q us. (typed_fields_on (sees name us) v q made >>= (λ all. ret (v, all))) us)) (take_one begins_visibility (λ t. visibility_of t.sort) >>= (λ next. ret (next, made))) ts
+pub read_group : (v : Visibility) (made : List FieldTree) (ts : List Tok) → group_on (v, made) ts ≡ if_sees begins_fields (reads qualifiers >>= (λ q us. (typed_fields_on (sees name us) v q made >>= (λ all. ret (v, all))) us)) (word_on made) ts
 read_group v made ts = group_is v made ts ∙ ap (λ x. cond (sees begins_fields ts) x (word_on made ts)) (bind_alike (reads qualifiers ts) _ _ (λ q us. read_either (sees name us) v q made us))
 
 -- ---- the fields of a class
