@@ -9,9 +9,9 @@ use Rattle.arc_ast.specs.Tree.{head_tree, parameter_trees, stmt_trees, method_tr
 use Rattle.arc_spec.specs.declared.class.Class as declared
 use Rattle.arc_spec.specs.Classes.{Class, class_of, classes_of}
 use Rattle.arc_spec.specs.Resolved as resolved
-use Rattle.arc_check.specs.declared.checked.CheckedFunction.{CheckedFunction}
+use Rattle.arc_checked.specs.declared.program.CheckedFunction.{CheckedFunction}
 use Rattle.arc_check.specs.private.Building.{function_of, functions_ahead}
-use Rattle.arc_check.specs.Checked as checked
+use Rattle.arc_checked.specs.Checked as checked
 use Rattle.arc_check.specs.Resolving.{resolved_body, resolved_method, resolved_methods}
 use Rattle.arc_check.specs.Rules.{of_method}
 use Rattle.arc_check.specs.Scopes.{Known, Scope, with_parameters}

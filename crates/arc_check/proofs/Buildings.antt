@@ -6,12 +6,12 @@ use Rattle.arc_ast.specs.declared.tree.Kind.TheVariants as k
 use Rattle.arc_ast.specs.Tree.{ExprTrees, Call, expr_tree, expr_trees}
 use Rattle.arc_class.specs.Table.{number_of_class}
 use Rattle.arc_spec.specs.Resolved as resolved
-use Rattle.arc_check.specs.declared.checked.Piece.{Piece}
+use Rattle.arc_checked.specs.declared.program.Piece.{Piece}
 use Rattle.arc_check.specs.declared.format.Begun.TheVariants.{Nothing}
 use Rattle.arc_check.specs.Formats.{parts, printed}
 use Rattle.arc_spec.specs.Resolved.{Arguments, no_arguments}
-use Rattle.arc_check.specs.declared.checked.Argument.{Argument}
-use Rattle.arc_check.specs.Checked as checked
+use Rattle.arc_checked.specs.declared.program.Argument.{Argument}
+use Rattle.arc_checked.specs.Checked as checked
 use Rattle.arc_check.specs.private.Building.{Resolves, resolution, in_front, printing}
 use Rattle.arc_check.specs.declared.callee.Callee.{Callee}
 use Rattle.arc_check.specs.declared.resolution.Typed.{Typed}

@@ -13,17 +13,17 @@ use Rattle.arc_spec.specs.Classes.{gives_of}
 use Rattle.arc_spec.specs.Resolved as resolved
 use Rattle.arc_spec.specs.Resolved.{Commands, no_commands, and_command}
 use Rattle.arc_sites.specs.Sites.{named_parameters}
-use Rattle.arc_check.specs.declared.checked.Command as command
-use Rattle.arc_check.specs.declared.checked.Command.{Command}
-use Rattle.arc_check.specs.declared.checked.CheckedFunction.{CheckedFunction}
+use Rattle.arc_checked.specs.declared.program.Command as command
+use Rattle.arc_checked.specs.declared.program.Command.{Command}
+use Rattle.arc_checked.specs.declared.program.CheckedFunction.{CheckedFunction}
 use Rattle.arc_check.specs.private.Building.{ahead_of, function_of, functions_ahead}
-use Rattle.arc_check.specs.Checked as checked
+use Rattle.arc_checked.specs.Checked as checked
 use Rattle.arc_check.specs.Resolving.{declared, resolved_variables, resolved_stmt, resolved_stmts, resolved_body, resolved_function, with_loop}
 use Rattle.arc_check.specs.Scopes.{Known, Scope, declare, with_parameters, leave, scope_after, scope_after_all, outermost, owned_in}
 use Rattle.arc_check.proofs.Leaving.{after_all_same}
 use Rattle.arc_check.proofs.Lists.{drop_turn, drop_end}
 use Rattle.arc_ast.proofs.Trees.{block_tree}
-use Rattle.arc_check.proofs.Trees.{sequence_command}
+use Rattle.arc_checked.proofs.Trees.{sequence_command}
 
 ahead_of-push : (all : List Command) (a : Command) (others : Commands) → ahead_of (all ++ a ∷ []) others ≡ ahead_of all (and_command (checked.command a) others)
 ahead_of-push [] a others = refl

@@ -1,5 +1,4 @@
 pub mod Lists
-pub mod Trees
 pub mod Scoping
 pub mod Readings
 pub mod Printing

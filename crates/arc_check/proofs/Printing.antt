@@ -5,8 +5,8 @@ use Rattle.arc_check.specs.declared.format.Begun.{Begun}
 use Rattle.arc_check.specs.declared.format.Begun.TheVariants as b
 use Rattle.arc_check.specs.declared.format.Part.{Part}
 use Rattle.arc_check.specs.declared.format.Part.TheVariants as p
-use Rattle.arc_check.specs.declared.checked.Piece.{Piece}
-use Rattle.arc_check.specs.Checked as checked
+use Rattle.arc_checked.specs.declared.program.Piece.{Piece}
+use Rattle.arc_checked.specs.Checked as checked
 use Rattle.arc_check.specs.Formats.{put_byte, printed, unfinished}
 use Rattle.arc_check.specs.private.Runs.{put_bytes, run_piece}
 

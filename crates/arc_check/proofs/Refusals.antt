@@ -14,11 +14,11 @@ use Rattle.arc_class.specs.declared.table.Variable.{Variable}
 use Rattle.arc_class.specs.Broken.{Broken, first, earlier_of}
 use Rattle.arc_class.specs.Table.{IsTableOf, number_of_class}
 use Rattle.arc_class.proofs.Firsts.{none_broken, first_both}
-use Rattle.arc_check.specs.declared.checked.Checked.{Checked}
-use Rattle.arc_check.specs.declared.checked.CheckedFunction.{CheckedFunction}
+use Rattle.arc_checked.specs.declared.program.Checked.{Checked}
+use Rattle.arc_checked.specs.declared.program.CheckedFunction.{CheckedFunction}
 use Rattle.arc_fault.specs.declared.check.CheckFault.{CheckFault}
 use Rattle.arc_fault.specs.declared.check.CheckFault.TheVariants as f
-use Rattle.arc_check.specs.Checked as checked
+use Rattle.arc_checked.specs.Checked as checked
 use Rattle.arc_check.specs.Fault.{reported, Refuses}
 use Rattle.arc_check.specs.Resolving.{resolved_function, resolved_methods, resolved_unit}
 use Rattle.arc_check.specs.Rules.{broken_function, broken_global, broken_interface, broken_implementation, broken_unit, known_of}

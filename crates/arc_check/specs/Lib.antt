@@ -1,4 +1,3 @@
-pub mod Checked
 pub mod Fault
 pub mod Kinds
 pub mod Formats

@@ -1,13 +1,13 @@
 //! Formats of printf.
 ghost use Rattle.std.specs.Prelude.{◌≡◌, [], ◌∷◌, ◌&&◌, List, Option, MatchOption, IfOk};
-ghost use Rattle.arc_check.specs.Checked as checked;
+ghost use Rattle.arc_checked.specs.Checked as checked;
 ghost use Rattle.arc_check.specs.Formats.{reading, parts, wanted, suits_kind, suits, fits, printed};
 ghost use Rattle.arc_ast.specs.declared.tree.Kind.{Kind};
 ghost use Rattle.arc_check.specs.declared.format.Begun.TheVariants.{Nothing};
 ghost use Rattle.arc_check.specs.private.Runs.{Ends, Adds};
 
-use crate::checked::Piece;
 use arc_ast::tree::Kind;
+use arc_checked::program::Piece;
 use std::alloc::{AllocError, Global};
 
 /// What is read of a conversion: nothing, `%`, `%l` or `%ll`.

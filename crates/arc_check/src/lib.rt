@@ -4,7 +4,6 @@
 mod body;
 mod callee;
 pub mod check;
-pub mod checked;
 mod classes;
 pub mod fault;
 mod field;

@@ -7,20 +7,20 @@ ghost use Rattle.arc_class.specs.Table.{number_of_class};
 ghost use Rattle.arc_spec.specs.Resolved.{Sequence, Choose, Repeat, RepeatAfter};
 ghost use Rattle.arc_spec.specs.Resolved as spec;
 ghost use Rattle.arc_check.specs.private.Building.{ahead_of, function_of, functions_ahead, resolution};
-ghost use Rattle.arc_check.specs.Checked as checked;
+ghost use Rattle.arc_checked.specs.Checked as checked;
 ghost use Rattle.arc_check.specs.Resolving as resolving;
 ghost use Rattle.arc_check.specs.Resolving.{number_as, resolved_variables, resolved_stmt, resolved_stmts, resolved_body, resolved_function, resolved_method, resolved_methods};
 ghost use Rattle.arc_check.specs.Scopes.{declare, leave, scope_after, scope_after_all, with_parameters, with_variables};
 ghost use Rattle.arc_check.specs.private.Views.{known_in, seen};
 
 use crate::body::named_parameters;
-use crate::checked::{CheckedFunction, Command, Value};
 use crate::resolution::{Resolution, number_in};
 use crate::resolve::{expression, number_as, object};
 use crate::scope::{Visible, owned_in};
 use arc_ast::tree::{
     Expr, Function, Implementation, Kind, Method, Parameter, Stmt, TypeName, Variable,
 };
+use arc_checked::program::{CheckedFunction, Command, Value};
 use arc_class::table::{ClassId, ClassTable};
 use arc_spec::class::gives_of;
 use arc_spec::location::Location;

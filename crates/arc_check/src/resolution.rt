@@ -5,18 +5,18 @@ ghost use Rattle.arc_ast.specs.Tree.{expr_tree, Name};
 ghost use Rattle.arc_class.specs.Table.{number_of_class, number_of_selector};
 ghost use Rattle.arc_check.specs.private.Building.{resolution, class_receiver_of};
 ghost use Rattle.arc_spec.specs.Resolved as spec;
-ghost use Rattle.arc_check.specs.Checked as checked;
+ghost use Rattle.arc_checked.specs.Checked as checked;
 ghost use Rattle.arc_check.specs.Kinds as kinds;
 ghost use Rattle.arc_check.specs.Resolving as resolving;
 ghost use Rattle.arc_check.specs.Resolving.{resolved};
 ghost use Rattle.arc_check.specs.private.Views.{local_of};
 
-use crate::checked::{Argument, Receiver, Reference, Value};
 use crate::rule::{is_object, wider};
 use crate::scope::Local;
 use arc_ast::tree::{
     BinaryOperator, Expr, Kind, Moment, OperatorSort, Sign, UnaryOperator, operator_sort,
 };
+use arc_checked::program::{Argument, Receiver, Reference, Value};
 use arc_class::table::{ClassId, FoundField, Sel};
 use arc_spec::location::Location;
 use std::alloc::{AllocError, Global};

@@ -3,7 +3,7 @@ ghost use Rattle.std.specs.Prelude.{◌≡◌, ℕ, List, Option, Some, None, op
 ghost use Rattle.arc_ast.specs.Tree.{ExprTree, type_tree, expr_tree, expr_trees, Integer, Text, Name, Unary, Cast, Binary, Conditional, Arrow, Assign, Update, Call, Send, SendSuper};
 ghost use Rattle.arc_class.specs.Table.{number_of_class};
 ghost use Rattle.arc_check.specs.private.Building.{Resolves, printing, resolution};
-ghost use Rattle.arc_check.specs.Checked as checked;
+ghost use Rattle.arc_checked.specs.Checked as checked;
 ghost use Rattle.arc_check.specs.Resolving as resolving;
 ghost use Rattle.arc_check.specs.Resolving.{number_as, resolved, resolved_all};
 ghost use Rattle.arc_check.specs.Scopes as scopes;
@@ -12,7 +12,6 @@ ghost use Rattle.arc_check.specs.private.Views.{kinds_wanted, seen};
 ghost use Rattle.arc_spec.specs.Resolved as spec;
 
 use crate::callee::{Callee, callee_of};
-use crate::checked::{Argument, Reference, Value};
 use crate::field::{field_class, name_class, named_variable, own_field};
 use crate::format::pieces;
 use crate::message::{
@@ -28,6 +27,7 @@ use crate::rule::{either_class, is_nil, literal_kind};
 use crate::scope::Visible;
 use crate::wanted::{after_first, first_wanted, receiver_sign};
 use arc_ast::tree::{BinaryOperator, Expr, Kind, Moment, Parameter, TypeName, UnaryOperator};
+use arc_checked::program::{Argument, Reference, Value};
 use arc_class::table::{ClassId, ClassTable};
 use std::alloc::{AllocError, Global};
 

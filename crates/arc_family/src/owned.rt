@@ -6,7 +6,7 @@ ghost use Rattle.arc_family.specs.Rules.{broken};
 ghost use Rattle.arc_family.specs.Fault.{Refuses};
 
 use crate::rules::Ownership;
-use arc_check::checked::Checked;
+use arc_checked::program::Checked;
 use arc_fault::own::OwnFault;
 use arc_sites::walk::walk;
 use std::alloc::Global;

@@ -1,10 +1,10 @@
 -- Functions of a checked program by their numbers.
 use Rattle.std.proofs.Common.{◌≡◌, ℕ, zero, suc, ◌<◌, ◌≤◌, if◌then◌else◌, List, [], ◌∷◌, length, Some, None, slice_index_or, refl, arith}
-use Rattle.arc_check.specs.declared.checked.CheckedFunction.{CheckedFunction}
+use Rattle.arc_checked.specs.declared.program.CheckedFunction.{CheckedFunction}
 use Rattle.arc_spec.specs.declared.class.Gives.{Gives}
 use Rattle.arc_spec.specs.Classes.{same_gives}
 use Rattle.arc_spec.specs.Resolved.{Function, Program}
-use Rattle.arc_check.specs.Checked.{functions}
+use Rattle.arc_checked.specs.Checked.{functions}
 use Rattle.arc_lower.specs.Definitions.{definition_of, found_at}
 
 -- the program with these functions

@@ -1,7 +1,7 @@
 -- Rows of orders, and lists of a checked program as long as what they are of.
 use Rattle.std.proofs.Common.{◌≡◌, ℕ, zero, suc, ◌+◌, ◌-◌, ◌/◌, ◌<◌, arith, List, [], ◌∷◌, ◌++◌, length, take, drop, length-drop, length-append, refl, sym, ap, ◌∙◌}
-use Rattle.arc_check.specs.declared.checked.CheckedFunction.{CheckedFunction}
-use Rattle.arc_check.specs.Checked.{functions}
+use Rattle.arc_checked.specs.declared.program.CheckedFunction.{CheckedFunction}
+use Rattle.arc_checked.specs.Checked.{functions}
 use Rattle.arc_spec.specs.declared.class.Gives.{Gives}
 use Rattle.arc_spec.specs.Resolved.{Program}
 use Rattle.arc_code.specs.declared.instr.Op.TheVariants.{Forget}

@@ -1,9 +1,9 @@
 -- What an expression is of its parts, and how much of it is left to lower: that falls with each call.
 use Rattle.std.proofs.Common.{arith, ◌≡◌, ℕ, zero, suc, ◌+◌, ◌<◌, ◌≤◌, List, [], ◌∷◌, length, get_or, sym, subst}
-use Rattle.arc_check.specs.declared.checked.Argument as g
-use Rattle.arc_check.specs.declared.checked.Argument.TheVariants.{Number', Object'}
+use Rattle.arc_checked.specs.declared.program.Argument as g
+use Rattle.arc_checked.specs.declared.program.Argument.TheVariants.{Number', Object'}
 use Rattle.arc_spec.specs.Resolved.{Value, Print, Applied, Combined, Choice, Converted, Assigned, Updated, Invoked, Sent, Receiver, ClassValue, ClassSuper, ObjectValue, ObjectSuper, Field, FieldAssigned, FieldUpdated, Differ, IsObject, Reference, Chosen, Stored, ObjectField, ObjectFieldStored, Made, New, ObjectInvoked, ObjectSent, Arguments, no_arguments, number_argument, object_argument}
-use Rattle.arc_check.specs.Checked.{arguments, and_argument, receiver}
+use Rattle.arc_checked.specs.Checked.{arguments, and_argument, receiver}
 
 abbrev mutual
   pub value_weight : Value → ℕ

@@ -1,7 +1,7 @@
 -- Functions of a checked program without where they lie in memory.
 use Rattle.std.specs.Prelude.{ℕ, Option, option_and_then, Some, None, slice_get, if◌then◌else◌}
-use Rattle.arc_check.specs.declared.checked.CheckedFunction.{CheckedFunction}
-use Rattle.arc_check.specs.Checked.{commands}
+use Rattle.arc_checked.specs.declared.program.CheckedFunction.{CheckedFunction}
+use Rattle.arc_checked.specs.Checked.{commands}
 use Rattle.arc_spec.specs.declared.class.Gives.{Gives}
 use Rattle.arc_spec.specs.Classes.{same_gives}
 use Rattle.arc_spec.specs.Resolved.{Function, Program}

@@ -1,5 +1,5 @@
 -- The function that is being lowered, without where it lies in memory.
-use Rattle.arc_check.specs.Checked.{commands}
+use Rattle.arc_checked.specs.Checked.{commands}
 use Rattle.arc_spec.specs.Resolved.{Function}
 use Rattle.arc_lower.specs.declared.lower.Definition.{Definition}
 

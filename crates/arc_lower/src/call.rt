@@ -1,6 +1,6 @@
 //! From a call, whose values lie on the stack, to actions.
 ghost use Rattle.std.specs.Prelude.{◌≡◌, ◌<◌, ◌-◌, suc, [], ◌∷◌, ◌++◌, Some, None, option_map, if◌then◌else◌, OnOk, IfOk};
-ghost use Rattle.arc_check.specs.Checked.{program_of};
+ghost use Rattle.arc_checked.specs.Checked.{program_of};
 ghost use Rattle.arc_spec.specs.Classes.{lesser, same_gives};
 ghost use Rattle.arc_lower.specs.Definitions.{definition_of, found_at};
 ghost use Rattle.arc_lower.specs.Order.{orders};
@@ -10,7 +10,7 @@ use crate::expression::append;
 use crate::place::{append_all_empty, append_forgets, append_nils};
 use crate::print::{append_keep, append_pops};
 use crate::variable::{append_zeros, one_more};
-use arc_check::checked::{Checked, CheckedFunction};
+use arc_checked::program::{Checked, CheckedFunction};
 use arc_code::instr::Instr;
 use arc_ir::action::Action;
 use arc_spec::class::Gives;

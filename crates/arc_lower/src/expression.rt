@@ -1,7 +1,7 @@
 //! From expressions to actions that leave a number on the stack, or a reference to an object.
 ghost use Rattle.std.specs.Prelude.{◌≡◌, ◌++◌, suc, [], ◌∷◌, if◌then◌else◌, OnOk, IfOk};
-ghost use Rattle.arc_check.specs.Checked as checked;
-ghost use Rattle.arc_check.specs.Checked.{value, reference, receiver as receiver_of, arguments as arguments_of, program_of};
+ghost use Rattle.arc_checked.specs.Checked as checked;
+ghost use Rattle.arc_checked.specs.Checked.{value, reference, receiver as receiver_of, arguments as arguments_of, program_of};
 ghost use Rattle.arc_spec.specs.Resolved as resolved;
 ghost use Rattle.arc_lower.specs.Order.{order, orders};
 ghost use Rattle.arc_lower.specs.Known.{combined_kind};
@@ -18,7 +18,7 @@ use crate::print::append_print;
 use crate::update::{Update, append_given, append_narrow, append_new, append_old, below_new};
 use crate::variable::{append_get, append_set, one_more};
 use arc_ast::tree::{Kind, Moment, Sign};
-use arc_check::checked::{Argument, Checked, Piece, Receiver, Reference, Value};
+use arc_checked::program::{Argument, Checked, Piece, Receiver, Reference, Value};
 use arc_code::instr::{Instr, Op};
 use arc_ir::action::{Action, Target};
 use arc_spec::class::{Gives, look_up};

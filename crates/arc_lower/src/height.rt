@@ -2,13 +2,13 @@
 //! action, and the most.
 ghost use Rattle.std.specs.Prelude.{◌≡◌, IfOk, drop, get_or, reverse};
 ghost use Rattle.arc_code.specs.Effects.{no_height};
-ghost use Rattle.arc_check.specs.Checked.{program_of};
+ghost use Rattle.arc_checked.specs.Checked.{program_of};
 ghost use Rattle.arc_lower.specs.Order.{order, orders};
 ghost use Rattle.arc_lower.specs.Heights.{height, between, highest, after_effect, effect_in, walk, next_walk, heights, greatest};
 
 use crate::call::{parameters_of, slots_of};
 use crate::variable::add_operands;
-use arc_check::checked::Checked;
+use arc_checked::program::Checked;
 use arc_code::effect::{Effect, Height, instr_effect};
 use arc_code::instr::Instr;
 use arc_ir::action::Action;

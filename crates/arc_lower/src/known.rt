@@ -1,11 +1,11 @@
 //! Of which kind a number is by the form of the expression that gives it.
 ghost use Rattle.std.specs.Prelude.{◌≡◌};
-ghost use Rattle.arc_check.specs.Checked.{value};
+ghost use Rattle.arc_checked.specs.Checked.{value};
 ghost use Rattle.arc_spec.specs.Number.{is_same};
 ghost use Rattle.arc_lower.specs.Known.{width, is_within, wider, narrower, number_kind, applied_kind, combined_kind, known_kind};
 
 use arc_ast::tree::{BinaryOperator, Kind, UnaryOperator};
-use arc_check::checked::Value;
+use arc_checked::program::Value;
 use arc_spec::number::convert;
 
 /// How wide a kind is, of which the wider ones have all numbers.

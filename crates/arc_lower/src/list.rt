@@ -1,7 +1,7 @@
 //! From a program to its actions alone, without the room that they need.
 ghost use Rattle.std.specs.Prelude.{◌≡◌, ◌++◌, [], ◌∷◌, length, IfOk, OnOk};
 ghost use Rattle.arc_spec.specs.Classes.{class_of};
-ghost use Rattle.arc_check.specs.Checked.{program_of};
+ghost use Rattle.arc_checked.specs.Checked.{program_of};
 ghost use Rattle.arc_lower.specs.Entered.{function_of};
 ghost use Rattle.arc_lower.specs.Order.{orders};
 ghost use Rattle.arc_lower.specs.Lowered.{entry_of, function_orders, functions_orders, entries_from, methods_orders, dealloc_orders, class_orders, classes_orders, all_functions, lowered};
@@ -9,7 +9,7 @@ ghost use Rattle.arc_lower.specs.Lowered.{entry_of, function_orders, functions_o
 use crate::call::append_leave;
 use crate::lower::{Definition, append_body, append_call_of_main, nothing_giving};
 use crate::stub::{append_jump_to, numbers_passed};
-use arc_check::checked::Checked;
+use arc_checked::program::Checked;
 use arc_family::owned::Owned;
 use arc_ir::action::Action;
 use arc_spec::class::{Class, Gives, Method};

@@ -3,7 +3,7 @@ ghost use Rattle.std.specs.Prelude.{◌≡◌, ◌+◌, ◌++◌, [], ◌∷◌,
 ghost use Rattle.arc_code.specs.Effects.{room_for};
 ghost use Rattle.arc_ir.specs.Acting as acting;
 ghost use Rattle.arc_spec.specs.Meaning.{nothing_giving};
-ghost use Rattle.arc_check.specs.Checked.{program_of};
+ghost use Rattle.arc_checked.specs.Checked.{program_of};
 ghost use Rattle.arc_lower.specs.Entered.{function_of};
 ghost use Rattle.arc_lower.specs.Order.{orders};
 ghost use Rattle.arc_lower.specs.Lowered.{own_orders, opening_orders, body_orders, entry_of, function_orders, functions_orders, entries_from, start_orders, end_step_of, all_functions};
@@ -18,7 +18,7 @@ use crate::place::{append_declares, append_own, append_takes};
 use crate::statement::append_commands;
 use crate::stub::append_classes;
 use crate::variable::{add_operands, one_more};
-use arc_check::checked::{Checked, Command};
+use arc_checked::program::{Checked, Command};
 use arc_code::effect::Height;
 use arc_code::instr::{Instr, Op};
 use arc_family::owned::Owned;

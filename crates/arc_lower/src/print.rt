@@ -1,13 +1,13 @@
 //! From a call of `printf`, whose values lie on the stack, to actions.
 ghost use Rattle.std.specs.Prelude.{◌≡◌, ◌≤◌, [], ◌∷◌, ◌++◌, length, pred, OnOk, IfOk};
-ghost use Rattle.arc_check.specs.Checked as checked;
+ghost use Rattle.arc_checked.specs.Checked as checked;
 ghost use Rattle.arc_code.specs.declared.instr.Instr.TheVariants.{PrintText};
 ghost use Rattle.arc_lower.specs.Order.{order, orders};
 ghost use Rattle.arc_lower.specs.Lowered.{conversion_orders, text_orders, piece_orders, left_after, format_orders, pop_orders, keep_orders, print_orders};
 
 use crate::expression::append;
 use arc_ast::tree::Kind;
-use arc_check::checked::Piece;
+use arc_checked::program::Piece;
 use arc_code::instr::{Instr, Op};
 use arc_ir::action::{Action, TextPart};
 use arc_spec::event::NoMemory;

@@ -1,7 +1,7 @@
 //! From statements to actions.
 ghost use Rattle.std.specs.Prelude.{◌≡◌, ℕ, ◌+◌, ◌<◌, List, [], ◌∷◌, ◌++◌, length, reverse, OnOk, IfOk, option_map};
 ghost use Rattle.arc_spec.specs.Resolved.{Program, Sequence, Return, Give, Break, Continue};
-ghost use Rattle.arc_check.specs.Checked.{value as value_of, reference as reference_of, command, commands, program_of};
+ghost use Rattle.arc_checked.specs.Checked.{value as value_of, reference as reference_of, command, commands, program_of};
 ghost use Rattle.arc_code.specs.declared.instr.Op.TheVariants.{Pop};
 ghost use Rattle.arc_code.specs.declared.instr.Instr.TheVariants.{Plain, Jump, JumpZero};
 ghost use Rattle.arc_ir.specs.declared.action.Target.TheVariants.{At, Skip};
@@ -13,7 +13,7 @@ use crate::expression::{append, append_reference, append_unused, append_value};
 use crate::frame::{Body, Frame, Scope, Turn};
 use crate::jump::{distance, join, replace};
 use crate::place::{append_all_empty, append_drops, append_forget, append_store, take_some};
-use arc_check::checked::{Checked, Command, Reference, Value};
+use arc_checked::program::{Checked, Command, Reference, Value};
 use arc_code::instr::{Instr, Op};
 use arc_ir::action::{Action, Target};
 use arc_spec::event::NoMemory;

@@ -1,7 +1,7 @@
 //! From classes to the stubs of their methods and deallocs, where messages and ends of objects go.
 ghost use Rattle.std.specs.Prelude.{◌≡◌, ◌++◌, length, slice_index_or, OnOk, IfOk};
 ghost use Rattle.arc_spec.specs.Classes.{class_of, classes_of};
-ghost use Rattle.arc_check.specs.Checked.{program_of};
+ghost use Rattle.arc_checked.specs.Checked.{program_of};
 ghost use Rattle.arc_code.specs.Effects.{passes};
 ghost use Rattle.arc_lower.specs.Order.{orders};
 ghost use Rattle.arc_lower.specs.Heights.{greatest, stub_heights, methods_heights, dealloc_heights, class_heights, classes_heights};
@@ -12,7 +12,7 @@ use crate::expression::append;
 use crate::height::{greatest, no_height, passed};
 use crate::variable::one_more;
 use arc_ast::tree::Sign;
-use arc_check::checked::Checked;
+use arc_checked::program::Checked;
 use arc_code::effect::Height;
 use arc_code::instr::Instr;
 use arc_ir::action::{Action, Target};

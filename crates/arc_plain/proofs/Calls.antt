@@ -2,8 +2,8 @@
 use Rattle.std.proofs.Common.{arith, ◌≡◌, ℕ, zero, suc, ◌+◌, ◌-◌, ◌<◌, ◌≤◌, ℤ, true, false, List, [], ◌∷◌, length, take, drop, reverse, get_or, Option, Some, None, option_map, Result, Err, slice_get, refl, sym, ap, subst, ◌∙◌}
 use Rattle.std.proofs.lemmas.List.{reverse-reverse, length-reverse, drop_more}
 use Rattle.std.proofs.lemmas.Option.{slice_get-map}
-use Rattle.arc_check.specs.declared.checked.CheckedFunction.{CheckedFunction}
-use Rattle.arc_check.specs.Checked.{functions, program_of}
+use Rattle.arc_checked.specs.declared.program.CheckedFunction.{CheckedFunction}
+use Rattle.arc_checked.specs.Checked.{functions, program_of}
 use Rattle.arc_spec.specs.declared.class.Class as declared
 use Rattle.arc_spec.specs.Classes.{Class, same_gives, field_order, class_of, classes_of, superclasses, ancestry_within}
 use Rattle.arc_spec.proofs.Deallocs.{dealloc_and_above, deallocs_from}

@@ -1,8 +1,8 @@
 -- What calls and messages give, of which the parts are known.
 use Rattle.std.proofs.Common.{◌≡◌, ℕ, ℤ, Result, Err, refl, sym, ap, subst, ◌∙◌}
-use Rattle.arc_check.specs.declared.checked.Value as c
-use Rattle.arc_check.specs.declared.checked.Reference as r
-use Rattle.arc_check.specs.Checked.{value, reference}
+use Rattle.arc_checked.specs.declared.program.Value as c
+use Rattle.arc_checked.specs.declared.program.Reference as r
+use Rattle.arc_checked.specs.Checked.{value, reference}
 use Rattle.arc_spec.specs.declared.class.Gives.TheVariants as gives
 use Rattle.arc_spec.specs.Resolved.{Arguments, Receiver, Invoked, Sent, ObjectInvoked, ObjectSent}
 use Rattle.arc_spec.specs.World.{World, Outcome, Done, Faulted, Cut, then_do, Answer, takes}

@@ -3,18 +3,18 @@ use Rattle.std.specs.Prelude.{if◌then◌else◌}
 use Rattle.std.proofs.Common.{rules, Bool, true, ◌≡◌, ℕ, zero, suc, ◌+◌, ◌-◌, ◌<◌, ◌≤◌, ℤ, false, List, [], ◌∷◌, ◌++◌, length, get_or, drop, Option, Some, None, Result, Err, Box, Global, append_assoc, refl, sym, ap, subst, ◌∙◌}
 use Rattle.std.proofs.lemmas.List.{drop_more}
 use native.Mathlib.Omega.{arith}
-use Rattle.arc_check.specs.declared.checked.Value.{Value}
-use Rattle.arc_check.specs.declared.checked.Command.{Command}
-use Rattle.arc_check.specs.declared.checked.Reference.{Reference}
-use Rattle.arc_check.specs.declared.checked.Argument as g
-use Rattle.arc_check.specs.declared.checked.Argument.{Argument}
-use Rattle.arc_check.specs.Checked.{functions, value, reference, arguments, and_argument, command}
+use Rattle.arc_checked.specs.declared.program.Value.{Value}
+use Rattle.arc_checked.specs.declared.program.Command.{Command}
+use Rattle.arc_checked.specs.declared.program.Reference.{Reference}
+use Rattle.arc_checked.specs.declared.program.Argument as g
+use Rattle.arc_checked.specs.declared.program.Argument.{Argument}
+use Rattle.arc_checked.specs.Checked.{functions, value, reference, arguments, and_argument, command}
 use Rattle.arc_spec.specs.declared.class.Gives.{Gives}
 use Rattle.arc_spec.specs.Resolved as resolved
 use Rattle.arc_spec.specs.Classes.{Class, same_gives}
 use Rattle.arc_spec.specs.World.{World, Outcome, Done, Faulted, Cut, then_do, Given}
 use Rattle.arc_spec.specs.Number.{is_zero}
-use Rattle.arc_check.specs.declared.checked.CheckedFunction.{CheckedFunction}
+use Rattle.arc_checked.specs.declared.program.CheckedFunction.{CheckedFunction}
 use Rattle.arc_plain.specs.declared.halt.Halt.{Halt}
 use Rattle.arc_plain.specs.declared.halt.Halt.TheVariants.{Stopped, Cut, Memory}
 use Rattle.arc_spec.specs.Meaning as meaning

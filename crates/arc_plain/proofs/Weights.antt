@@ -1,17 +1,17 @@
 -- How much of a program is left to go through: the interpreter ends, since that falls with each call.
 use Rattle.std.proofs.Common.{arith, ◌≡◌, ℕ, zero, suc, ◌+◌, ◌<◌, ◌≤◌, List, [], ◌∷◌, Some, None, Vec, Box, Global, length, get_or, sym, ap, subst}
-use Rattle.arc_check.specs.declared.checked.Value as c
-use Rattle.arc_check.specs.declared.checked.Reference as r
-use Rattle.arc_check.specs.declared.checked.Receiver as rc
-use Rattle.arc_check.specs.declared.checked.Argument as g
-use Rattle.arc_check.specs.declared.checked.Argument.TheVariants.{Number', Object'}
-use Rattle.arc_check.specs.declared.checked.Command as d
-use Rattle.arc_check.specs.declared.checked.Piece.{Piece}
-use Rattle.arc_check.specs.declared.checked.CheckedFunction.{CheckedFunction}
-use Rattle.arc_check.specs.declared.checked.Checked.{Checked}
+use Rattle.arc_checked.specs.declared.program.Value as c
+use Rattle.arc_checked.specs.declared.program.Reference as r
+use Rattle.arc_checked.specs.declared.program.Receiver as rc
+use Rattle.arc_checked.specs.declared.program.Argument as g
+use Rattle.arc_checked.specs.declared.program.Argument.TheVariants.{Number', Object'}
+use Rattle.arc_checked.specs.declared.program.Command as d
+use Rattle.arc_checked.specs.declared.program.Piece.{Piece}
+use Rattle.arc_checked.specs.declared.program.CheckedFunction.{CheckedFunction}
+use Rattle.arc_checked.specs.declared.program.Checked.{Checked}
 use Rattle.arc_spec.specs.Resolved.{Value, Number, ReadByte, Print, Applied, Combined, Choice, Converted, Read, Assigned, Updated, Invoked, Sent, Receiver, ClassValue, ClassSuper, ObjectValue, ObjectSuper, Field, FieldAssigned, FieldUpdated, Differ, IsObject, Reference, Nil, Itself, Variable, Chosen, Stored, ObjectField, ObjectFieldStored, Made, New, ObjectInvoked, ObjectSent, Arguments, no_arguments, number_argument, object_argument, Command, Sequence, Evaluate, EvaluateReference, Begin, Return, Give, Choose, Repeat, RepeatAfter, Break, Continue, Commands, no_commands, and_command, Function}
-use Rattle.arc_check.specs.Checked.{program_of, functions, value, arguments, and_argument, reference, receiver, command, commands}
-use Rattle.arc_check.proofs.Trees.{is_print, is_invoked, is_sent, is_object_invoked, is_object_sent, is_sequence}
+use Rattle.arc_checked.specs.Checked.{program_of, functions, value, arguments, and_argument, reference, receiver, command, commands}
+use Rattle.arc_checked.proofs.Trees.{is_print, is_invoked, is_sent, is_object_invoked, is_object_sent, is_sequence}
 use Rattle.arc_plain.proofs.Turns.{nothing_below}
 use Rattle.arc_plain.specs.declared.context.Context.{Context}
 

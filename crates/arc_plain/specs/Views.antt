@@ -10,8 +10,8 @@ use Rattle.arc_ast.specs.declared.tree.Kind.TheVariants as k
 use Rattle.arc_spec.specs.Number.{converted, is_zero}
 use Rattle.arc_spec.specs.Meaning as meaning
 use Rattle.arc_spec.specs.Meaning.{formatted, byte_count, Deeper, chosen, level, in_object, field_stores, ToClass, ToObject, ToSuper}
-use Rattle.arc_check.specs.declared.checked.CheckedFunction.{CheckedFunction}
-use Rattle.arc_check.specs.Checked.{program_of, commands}
+use Rattle.arc_checked.specs.declared.program.CheckedFunction.{CheckedFunction}
+use Rattle.arc_checked.specs.Checked.{program_of, commands}
 use Rattle.arc_plain.specs.declared.context.Context.{Context}
 use Rattle.arc_plain.specs.declared.frame.Frame.{Frame}
 use Rattle.arc_plain.specs.declared.given.Given.{Given}

@@ -1,7 +1,7 @@
 //! Calls, places that are dropped, and the ends of objects.
 ghost use Rattle.std.specs.Prelude.{◌≡◌};
 ghost use Rattle.arc_spec.specs.Classes.{superclasses, ancestry, same_gives};
-ghost use Rattle.arc_check.specs.Checked.{program_of};
+ghost use Rattle.arc_checked.specs.Checked.{program_of};
 ghost use Rattle.arc_spec.specs.Objects.{object_at};
 ghost use Rattle.arc_spec.specs.Meaning.{emptied, fields_dropped, called, given, released, all_dropped, second_dropped, variables_dropped, function_at, dealloc_run, deallocs_run};
 ghost use Rattle.arc_plain.specs.Views.{world, given_of, answer_of, Reports, flow_of, nothing_of, deeper};
@@ -16,7 +16,7 @@ use crate::object::{
 use crate::place::{clear, drop_last, drop_second, is_named, name_at, pop_frame, push_frame};
 use crate::progress::Progress;
 use crate::statement::{Flow, execute_all};
-use arc_check::checked::CheckedFunction;
+use arc_checked::program::CheckedFunction;
 use arc_spec::class::Gives;
 use arc_spec::event::Fault;
 use arc_spec::order::field_order;

@@ -1,6 +1,6 @@
 //! What a running function is given in addition to the program's progress.
 
-use arc_check::checked::Checked;
+use arc_checked::program::Checked;
 
 /// The program, how many turns each loop may make, and how many calls and ends of objects within one another
 /// may still begin.

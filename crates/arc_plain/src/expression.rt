@@ -1,5 +1,5 @@
 //! What expressions give.
-ghost use Rattle.arc_check.specs.Checked as checked;
+ghost use Rattle.arc_checked.specs.Checked as checked;
 ghost use Rattle.arc_spec.specs.Resolved as resolved;
 ghost use Rattle.arc_spec.specs.Meaning.{evaluated, referred, all_evaluated, whole};
 ghost use Rattle.arc_plain.specs.Views.{world, given_of, answer_of, invoked, Reports, printed, deeper};
@@ -16,7 +16,7 @@ use crate::progress::{Progress, assign, held, print, read};
 use crate::sending::{send, send_new};
 use crate::update::{Update, given_by, renew};
 use arc_ast::tree::{BinaryOperator, Kind};
-use arc_check::checked::{Argument, Piece, Reference, Value};
+use arc_checked::program::{Argument, Piece, Reference, Value};
 use arc_spec::class::Gives;
 use arc_spec::event::Fault;
 use arc_spec::location::Location;

@@ -1,10 +1,10 @@
 //! What `printf` prints.
 ghost use Rattle.std.specs.Prelude.{◌≡◌, IfOk};
-ghost use Rattle.arc_check.specs.Checked as checked;
+ghost use Rattle.arc_checked.specs.Checked as checked;
 ghost use Rattle.arc_spec.specs.Meaning.{formatted, byte_count};
 ghost use Rattle.arc_plain.specs.Views.{WritesPiece};
 
-use arc_check::checked::Piece;
+use arc_checked::program::Piece;
 use arc_spec::event::NoMemory;
 use arc_spec::number::{low_byte, low_half};
 use itoa::Buffer;

@@ -5,7 +5,7 @@ ghost use Rattle.arc_spec.specs.World.{first_frame, first_locals, first_names, a
 ghost use Rattle.arc_plain.specs.Views.{frame_of, given_of, function_of};
 
 use crate::given::Given;
-use arc_check::checked::CheckedFunction;
+use arc_checked::program::CheckedFunction;
 use arc_spec::class::Gives;
 use arc_spec::event::NoMemory;
 use std::alloc::Global;

@@ -1,6 +1,6 @@
 //! Runs a checked program as its meaning says, with no code in between.
 ghost use Rattle.std.specs.Prelude.{◌≡◌, IfOk};
-ghost use Rattle.arc_check.specs.Checked.{program_of};
+ghost use Rattle.arc_checked.specs.Checked.{program_of};
 ghost use Rattle.arc_spec.specs.Meaning.{mean};
 ghost use Rattle.arc_spec.specs.Correct.{meaning_seen};
 ghost use Rattle.arc_plain.specs.Views.{Stops, seen};
@@ -10,7 +10,7 @@ use crate::context::Context;
 use crate::given::{Answered, nothing};
 use crate::halt::Halt;
 use crate::progress::start;
-use arc_check::checked::Checked;
+use arc_checked::program::Checked;
 use arc_spec::class::Gives;
 use arc_spec::event::{Event, Fault, NoMemory};
 use arc_spec::number::low_half;

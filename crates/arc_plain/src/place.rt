@@ -13,7 +13,7 @@ use crate::given::Given;
 use crate::halt::Halt;
 use crate::object::{Object, Phase};
 use crate::progress::Progress;
-use arc_check::checked::CheckedFunction;
+use arc_checked::program::CheckedFunction;
 use arc_spec::event::NoMemory;
 use arc_spec::location::Location;
 use std::alloc::Global;

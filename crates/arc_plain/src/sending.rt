@@ -1,5 +1,5 @@
 //! Messages, and what they find.
-ghost use Rattle.arc_check.specs.Checked as checked;
+ghost use Rattle.arc_checked.specs.Checked as checked;
 ghost use Rattle.arc_ast.specs.declared.tree.Sign.TheVariants.{Class};
 ghost use Rattle.arc_spec.specs.Meaning.{received, sent, given, dispatched, finds, sent_from, answered_by_root, new_sent, made_new};
 ghost use Rattle.arc_spec.specs.World.{World};
@@ -15,7 +15,7 @@ use crate::object::{class_of, make};
 use crate::place::take;
 use crate::progress::{Progress, local};
 use arc_ast::tree::Sign;
-use arc_check::checked::{Argument, Receiver};
+use arc_checked::program::{Argument, Receiver};
 use arc_spec::class::Gives;
 use arc_spec::event::Fault;
 use std::alloc::Global;

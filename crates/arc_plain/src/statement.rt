@@ -1,6 +1,6 @@
 //! What statements do, and how they are left.
 ghost use Rattle.std.specs.Prelude.{option_map};
-ghost use Rattle.arc_check.specs.Checked as checked;
+ghost use Rattle.arc_checked.specs.Checked as checked;
 ghost use Rattle.arc_spec.specs.Resolved as resolved;
 ghost use Rattle.arc_spec.specs.Meaning.{whole, begun, executed, all_executed, turns, turns_after};
 ghost use Rattle.arc_plain.specs.Views.{world, nothing_of, Reports, flow_of, step_of, test_of, turn_of, deeper};
@@ -12,7 +12,7 @@ use crate::halt::Halt;
 use crate::message::is_zero;
 use crate::place::store;
 use crate::progress::Progress;
-use arc_check::checked::{Command, Reference, Value};
+use arc_checked::program::{Command, Reference, Value};
 use arc_spec::location::Location;
 use std::alloc::Global;
 

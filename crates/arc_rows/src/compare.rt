@@ -3,7 +3,7 @@
 use crate::lines::trace_lines;
 use arc_ast::tree::TranslationUnit;
 use arc_check::check::check;
-use arc_check::checked::Checked;
+use arc_checked::program::Checked;
 use arc_class::table::ClassTable;
 use arc_code::counted::Counted;
 use arc_lex::lex::lex;

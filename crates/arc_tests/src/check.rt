@@ -1,7 +1,7 @@
 //! A source that becomes a checked program, and one that is refused. The program `arc_rows` has many more.
 use crate::source::tree;
 use arc_check::check::check;
-use arc_check::checked::{Command, Value};
+use arc_checked::program::{Command, Value};
 use arc_class::table::ClassTable;
 use arc_fault::check::CheckFault;
 

@@ -4,7 +4,7 @@ ghost use Rattle.arc_class.specs.Table.{IsTableOf};
 
 use crate::source::tree;
 use arc_ast::tree::{Kind, TranslationUnit};
-use arc_check::checked::Checked;
+use arc_checked::program::Checked;
 use arc_class::table::ClassTable;
 use arc_family::family::family;
 use arc_family::owned::own;

@@ -7,8 +7,8 @@ use Rattle.arc_lex.specs.Source.{Tokens}
 use Rattle.arc_ast.specs.declared.tree.TranslationUnit.{TranslationUnit}
 use Rattle.arc_ast.specs.Tree.{unit_tree}
 use Rattle.arc_class.specs.ClassRules.{broken}
-use Rattle.arc_check.specs.declared.checked.Checked.{Checked}
-use Rattle.arc_check.specs.Checked.{program_of}
+use Rattle.arc_checked.specs.declared.program.Checked.{Checked}
+use Rattle.arc_checked.specs.Checked.{program_of}
 use Rattle.arc_check.specs.Rules.{broken_unit}
 use Rattle.arc_check.specs.Resolving.{resolved_unit}
 use Rattle.arc_family.specs.Rules as ownership

@@ -4,14 +4,14 @@ use Rattle.arc_ast.specs.Tree.{ExprTree, ExprTrees}
 use Rattle.arc_class.specs.Table.{number_of_class}
 use Rattle.arc_spec.specs.Resolved as spec
 use Rattle.arc_spec.specs.Resolved.{Arguments, Commands, and_command}
-use Rattle.arc_check.specs.declared.checked.Argument as checked_argument
-use Rattle.arc_check.specs.declared.checked.Command as checked_command
-use Rattle.arc_check.specs.declared.checked.CheckedFunction.{CheckedFunction}
+use Rattle.arc_checked.specs.declared.program.Argument as checked_argument
+use Rattle.arc_checked.specs.declared.program.Command as checked_command
+use Rattle.arc_checked.specs.declared.program.CheckedFunction.{CheckedFunction}
 use Rattle.arc_check.specs.declared.resolution.Resolution as built
 use Rattle.arc_check.specs.declared.resolution.Resolution.TheVariants as b
 use Rattle.arc_check.specs.declared.resolution.ClassReceiver.{ClassReceiver}
 use Rattle.arc_check.specs.declared.resolution.Typed.{Typed}
-use Rattle.arc_check.specs.Checked as checked
+use Rattle.arc_checked.specs.Checked as checked
 use Rattle.arc_check.specs.Resolving as resolving
 use Rattle.arc_check.specs.Resolving.{Resolution, Gives, Refers, resolved, resolved_all}
 use Rattle.arc_check.specs.Scopes.{Scope, class_of}

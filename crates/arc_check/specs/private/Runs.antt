@@ -3,7 +3,7 @@ use Rattle.std.specs.Prelude.{◌≡◌, ℕ, List, [], ◌∷◌, ◌++◌}
 use Rattle.arc_spec.specs.Resolved as resolved
 use Rattle.arc_check.specs.declared.format.Part.{Part}
 use Rattle.arc_check.specs.declared.format.Printed.{Printed}
-use Rattle.arc_check.specs.Checked as checked
+use Rattle.arc_checked.specs.Checked as checked
 use Rattle.arc_check.specs.Formats.{put_byte, printed}
 
 abbrev pub put_bytes : List ℕ → List resolved.Piece → List resolved.Piece

@@ -2,12 +2,12 @@ use Rattle.std.proofs.Common.{rules, arith, option_map, false, suc, length, map,
 use Rattle.std.proofs.lemmas.Int.{to_z-of_z}
 use Rattle.std.proofs.lemmas.Bool.{ltb-true, ltb-false}
 use Rattle.std.proofs.lemmas.Result.{err_from_is_err_and}
-use Rattle.arc_check.specs.Checked as checked
+use Rattle.arc_checked.specs.Checked as checked
 use Rattle.arc_spec.specs.declared.class.Gives.TheVariants as gives
 use Rattle.arc_spec.specs.Classes.{same_gives, classes_of, superclasses, ancestry, field_order}
 use Rattle.arc_spec.specs.Number.{is_zero}
 use Rattle.arc_spec.proofs.Ancestry.{all_classes}
-use Rattle.arc_check.specs.Checked.{program_of}
+use Rattle.arc_checked.specs.Checked.{program_of}
 use Rattle.arc_spec.specs.Meaning.{referred, released, updated, given_by, field_set, evaluated, whole, all_evaluated, all_executed, executed, turns, turns_after, called, function_at, all_dropped, variables_dropped, class_in, deallocs_run, dying, emptied, gone, level}
 use Rattle.arc_spec.specs.Resolved.{Updated, FieldUpdated, ObjectFieldStored, Function, no_arguments}
 use Rattle.arc_spec.specs.Objects.{object_at}
@@ -15,7 +15,7 @@ use Rattle.arc_spec.specs.World.{World, Outcome, Done, then_do, Finished, name_a
 use Rattle.arc_plain.specs.Views.{world, given_of, answer_of, invoked, sent_to, Reports, deeper, flow_of, nothing_of, object_of, function_of, left_at, object_field_replaced}
 use Rattle.arc_plain.proofs.Calls.{call_reported, body_failed, drop_failed, nothing_reported, function_there, function_unwanted, function_absent, temporary_step, temporaries_fewer, no_temporary, variable_step, variable_failed, layer_done, layer_failed, emptied_is}
 use Rattle.arc_plain.proofs.Keeping.{level_steady}
-use Rattle.arc_check.proofs.Trees.{is_print, is_invoked, is_sent, is_object_invoked, is_object_sent, is_sequence}
+use Rattle.arc_checked.proofs.Trees.{is_print, is_invoked, is_sent, is_object_invoked, is_object_sent, is_sequence}
 use Rattle.arc_plain.proofs.Turns.{value_reported, command_reported, with_numbers, with_named, is_number, is_object, number_step, object_step, test_failed, turns_step, turns_left, turn_failed, turns_after_step, turns_after_left, turn_after_failed, call_is, end_is, level_classes, finds_through}
 use Rattle.arc_plain.proofs.Results.{number_invoked, number_sent, object_invoked, object_sent, number_reported, number_failed, object_reported, object_failed}
 use Rattle.arc_plain.proofs.Updates.{variable_stored, field_stored, variable_updated, field_updated, field_named}

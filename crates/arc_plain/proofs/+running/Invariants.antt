@@ -1,6 +1,6 @@
 use Rattle.std.proofs.Common.{◌≡◌, ◌+◌, ◌-◌, suc, drop, length, vec_len}
-use Rattle.arc_check.specs.Checked as checked
-use Rattle.arc_check.specs.Checked.{program_of}
+use Rattle.arc_checked.specs.Checked as checked
+use Rattle.arc_checked.specs.Checked.{program_of}
 use Rattle.arc_spec.specs.Classes.{superclasses, ancestry, ancestry_within}
 use Rattle.arc_spec.specs.Meaning.{all_evaluated, whole, executed, all_executed, turns, turns_after, all_dropped, variables_dropped, deallocs_run, fields_dropped}
 use Rattle.arc_plain.specs.Views.{world, given_of, deeper}

@@ -2,14 +2,14 @@ use Rattle.std.proofs.Common.{◌≡◌, ◌-◌, [], ◌∷◌, ◌++◌, OnOk,
 use Rattle.std.proofs.lemmas.Result.{on_ok_weaker}
 use Rattle.arc_ast.specs.Tree.{expr_tree, stmt_tree, stmt_trees}
 use Rattle.arc_spec.specs.Resolved as spec
-use Rattle.arc_check.specs.Checked as checked
+use Rattle.arc_checked.specs.Checked as checked
 use Rattle.arc_check.specs.Resolving.{nothing, number_in, resolved, resolved_stmt, resolved_stmts, stepped, tested}
 use Rattle.arc_check.specs.Scopes.{Scope, leave, scope_after, scope_after_all}
 use Rattle.arc_check.specs.private.Views.{seen}
 use Rattle.arc_check.proofs.Commands.{commands_turn, commands_end, after_turn, block_command, block_scope, choose_is, loop_command, repeat_is}
 use Rattle.arc_check.proofs.Leaving.{after_same, after_all_same, inner_same, leave_is}
 use Rattle.arc_check.proofs.Scoping.{keeps_turn, keeps_same}
-use Rattle.arc_check.proofs.Trees.{sequence_command}
+use Rattle.arc_checked.proofs.Trees.{sequence_command}
 use Rattle.arc_check.proofs.program.+commands.Goals as goal
 
 pub block-returns-clause-scope : goal.block-returns-clause-scope

@@ -1,8 +1,8 @@
 use Rattle.std.proofs.Common.{ap, ◌∙◌}
 use Rattle.arc_ast.specs.Tree.{expr_tree}
 use Rattle.arc_spec.specs.Resolved.{Begin}
-use Rattle.arc_check.specs.Checked.{reference}
-use Rattle.arc_check.specs.declared.checked.Command as command
+use Rattle.arc_checked.specs.Checked.{reference}
+use Rattle.arc_checked.specs.declared.program.Command as command
 use Rattle.arc_check.specs.Resolving.{object_in, resolved}
 use Rattle.arc_check.specs.private.Views.{seen}
 use Rattle.arc_check.proofs.Commands.{one_more}

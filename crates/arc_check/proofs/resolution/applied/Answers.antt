@@ -1,6 +1,6 @@
 use Rattle.std.proofs.Common.{ap, ◌∙◌}
 use Rattle.arc_spec.specs.Resolved.{Applied}
-use Rattle.arc_check.specs.Checked as checked
+use Rattle.arc_checked.specs.Checked as checked
 use Rattle.arc_check.specs.Resolving.{Gives, unary_given}
 use Rattle.arc_check.proofs.resolution.applied.Goals as goal
 

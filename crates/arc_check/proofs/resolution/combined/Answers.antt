@@ -2,7 +2,7 @@ use Rattle.std.proofs.Common.{ap, ◌∙◌}
 use Rattle.arc_ast.specs.Operators.{sort_of}
 use Rattle.arc_spec.specs.Resolved.{Combined}
 use Rattle.arc_check.specs.private.Building.{resolution}
-use Rattle.arc_check.specs.Checked as checked
+use Rattle.arc_checked.specs.Checked as checked
 use Rattle.arc_check.specs.Kinds.{given_kind}
 use Rattle.arc_check.specs.Resolving.{Gives, converted}
 use Rattle.arc_check.proofs.resolution.combined.Goals as goal

@@ -1,8 +1,8 @@
 use Rattle.std.proofs.Common.{sym, ap, ◌∙◌}
-use Rattle.arc_check.specs.Checked as checked
+use Rattle.arc_checked.specs.Checked as checked
 use Rattle.arc_check.specs.Resolving.{Gives, Refers}
 use Rattle.arc_check.proofs.Buildings.{invoked_object, invoked_number}
-use Rattle.arc_check.proofs.Trees.{invoked_value, object_invoked_reference}
+use Rattle.arc_checked.proofs.Trees.{invoked_value, object_invoked_reference}
 use Rattle.arc_check.proofs.resolution.invoked.Goals as goal
 
 pub returns-then-is_object : goal.returns-then-is_object

@@ -1,8 +1,8 @@
 use Rattle.std.proofs.Common.{sym, ap, ◌∙◌}
 use Rattle.arc_spec.specs.Resolved.{Sent, ObjectSent}
-use Rattle.arc_check.specs.Checked as checked
+use Rattle.arc_checked.specs.Checked as checked
 use Rattle.arc_check.specs.Resolving.{Gives, Refers}
-use Rattle.arc_check.proofs.Trees.{sent_value, object_sent_reference}
+use Rattle.arc_checked.proofs.Trees.{sent_value, object_sent_reference}
 use Rattle.arc_check.proofs.resolution.sent_to.Goals as goal
 
 pub returns-then-is_object : goal.returns-then-is_object

@@ -1,7 +1,7 @@
 use Rattle.std.proofs.Common.{sym, ap, ◌∙◌}
 use Rattle.arc_class.specs.Table.{number_of_class}
 use Rattle.arc_spec.specs.Resolved.{FieldAssigned, ObjectFieldStored}
-use Rattle.arc_check.specs.Checked as checked
+use Rattle.arc_checked.specs.Checked as checked
 use Rattle.arc_check.specs.Resolving.{Gives, Refers}
 use Rattle.arc_check.proofs.resolution.store_field.Goals as goal
 

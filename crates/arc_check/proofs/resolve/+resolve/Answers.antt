@@ -7,7 +7,7 @@ use Rattle.arc_check.specs.declared.callee.Callee.TheVariants.{Printf, GetChar, 
 use Rattle.arc_check.specs.declared.resolution.Typed.{Typed}
 use Rattle.arc_check.specs.private.Building.{resolution}
 use Rattle.arc_check.specs.Passing as passing
-use Rattle.arc_check.specs.Checked as checked
+use Rattle.arc_checked.specs.Checked as checked
 use Rattle.arc_ast.specs.Tree.{expr_tree, expr_trees, type_tree}
 use Rattle.arc_ast.specs.Types.{type_kind}
 use Rattle.arc_check.specs.Resolving as resolving
@@ -15,7 +15,7 @@ use Rattle.arc_check.specs.Resolving.{Gives, unary, binary, updated, cast, condi
 use Rattle.arc_check.specs.Scopes.{class_of, either_class, is_nil}
 use Rattle.arc_check.specs.private.Views.{kinds_wanted, seen}
 use Rattle.arc_ast.proofs.Trees.{call_tree, send_tree, send_super_tree}
-use Rattle.arc_check.proofs.Trees.{print_value}
+use Rattle.arc_checked.proofs.Trees.{print_value}
 use Rattle.arc_check.proofs.Buildings.{values_turn, values_end, printing_some, printing_none, resolves_call}
 use Rattle.arc_check.proofs.Messages.{assigned_other, resolves_class, resolves_object, resolves_super}
 use Rattle.arc_check.proofs.resolve.+resolve.Goals as goal

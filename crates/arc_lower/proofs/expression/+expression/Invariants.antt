@@ -1,5 +1,5 @@
 use Rattle.std.proofs.Common.{◌≡◌, suc, ◌+◌, ◌++◌, drop}
-use Rattle.arc_check.specs.Checked.{value, reference, receiver, arguments, program_of}
+use Rattle.arc_checked.specs.Checked.{value, reference, receiver, arguments, program_of}
 use Rattle.arc_lower.specs.Order.{orders}
 use Rattle.arc_lower.specs.Lowered.{argument_orders}
 use Rattle.arc_lower.proofs.Weights.{value_weight, reference_weight, receiver_weight, arguments_weight}

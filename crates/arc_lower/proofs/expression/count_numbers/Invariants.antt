@@ -1,5 +1,5 @@
 use Rattle.std.proofs.Common.{◌≡◌, ◌+◌, ◌≤◌, drop}
-use Rattle.arc_check.specs.Checked.{arguments}
+use Rattle.arc_checked.specs.Checked.{arguments}
 use Rattle.arc_lower.specs.Lowered.{number_count}
 use Rattle.arc_lower.proofs.expression.count_numbers.Given as goal
 

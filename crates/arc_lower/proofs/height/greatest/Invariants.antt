@@ -1,5 +1,5 @@
 use Rattle.std.proofs.Common.{◌≡◌, drop, reverse}
-use Rattle.arc_check.specs.Checked.{program_of}
+use Rattle.arc_checked.specs.Checked.{program_of}
 use Rattle.arc_lower.specs.Order.{orders}
 use Rattle.arc_lower.specs.Heights.{walk, walk_heights, heights, greatest}
 use Rattle.arc_lower.proofs.height.greatest.Given as goal

@@ -1,5 +1,5 @@
 use Rattle.std.proofs.Common.{◌≡◌, ◌++◌, length, ap, ◌∙◌}
-use Rattle.arc_check.specs.Checked.{program_of}
+use Rattle.arc_checked.specs.Checked.{program_of}
 use Rattle.arc_lower.specs.Order.{orders}
 use Rattle.arc_lower.specs.Lowered.{all_functions, functions_orders, entries_from, start_orders, running_orders, entries_of, classes_orders}
 use Rattle.arc_lower.proofs.list.list_actions.Goals as goal

@@ -1,5 +1,5 @@
 use Rattle.std.proofs.Common.{◌++◌, [], ◌∷◌, drop}
-use Rattle.arc_check.specs.Checked.{functions, program_of}
+use Rattle.arc_checked.specs.Checked.{functions, program_of}
 use Rattle.arc_lower.specs.Order.{orders}
 use Rattle.arc_spec.specs.declared.class.Gives.TheVariants as gives
 use Rattle.arc_spec.specs.Meaning.{nothing_giving}

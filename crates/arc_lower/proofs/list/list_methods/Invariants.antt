@@ -1,5 +1,5 @@
 use Rattle.std.proofs.Common.{◌≡◌, ◌++◌, drop}
-use Rattle.arc_check.specs.Checked.{program_of}
+use Rattle.arc_checked.specs.Checked.{program_of}
 use Rattle.arc_lower.specs.Order.{orders}
 use Rattle.arc_lower.specs.Lowered.{methods_orders}
 use Rattle.arc_lower.proofs.list.list_methods.Given as goal

@@ -1,7 +1,7 @@
 use Rattle.std.proofs.Common.{[], ◌∷◌, length, ap, sym, ◌∙◌, length-append, arith}
 use Rattle.std.proofs.lemmas.List.{length-map}
 use Rattle.arc_spec.specs.declared.class.Gives.TheVariants as gives
-use Rattle.arc_check.specs.Checked.{program_of}
+use Rattle.arc_checked.specs.Checked.{program_of}
 use Rattle.arc_code.specs.declared.instr.Instr.TheVariants.{Return}
 use Rattle.arc_lower.specs.Order.{order, orders}
 use Rattle.arc_lower.specs.Lowered.{call_orders}

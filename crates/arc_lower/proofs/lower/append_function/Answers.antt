@@ -2,7 +2,7 @@ use Rattle.std.proofs.Common.{◌≡◌, suc, ◌++◌, length, sym, ap, ◌∙�
 use Rattle.std.proofs.lemmas.List.{length-map}
 use Rattle.arc_spec.specs.Resolved.{Function}
 use Rattle.arc_spec.specs.Meaning.{function_places}
-use Rattle.arc_check.specs.Checked.{commands, program_of}
+use Rattle.arc_checked.specs.Checked.{commands, program_of}
 use Rattle.arc_lower.specs.Order.{order, orders}
 use Rattle.arc_lower.specs.Lowered.{leave_orders, body_orders, entry_of, object_parameters}
 use Rattle.arc_lower.specs.Heights.{height, between, heights, greatest}

@@ -2,8 +2,8 @@ use Rattle.std.proofs.lemmas.Grind.{common_steps}
 use Rattle.std.proofs.Common.{arith, ◌≡◌, List, ◌++◌, [], ◌∷◌, ◌+◌, length, drop, ap, sym, ◌∙◌, subst}
 use Rattle.std.proofs.lemmas.List.{drop_more, drop_all}
 use Rattle.arc_spec.specs.Resolved.{Function}
-use Rattle.arc_check.specs.declared.checked.CheckedFunction.{CheckedFunction}
-use Rattle.arc_check.specs.Checked.{functions, commands, program_of}
+use Rattle.arc_checked.specs.declared.program.CheckedFunction.{CheckedFunction}
+use Rattle.arc_checked.specs.Checked.{functions, commands, program_of}
 use Rattle.arc_lower.specs.Order.{orders}
 use Rattle.arc_spec.specs.declared.class.Gives.TheVariants as gives
 use Rattle.arc_spec.specs.Meaning.{nothing_giving}

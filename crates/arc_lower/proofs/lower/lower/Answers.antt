@@ -1,6 +1,6 @@
 use Rattle.std.proofs.Common.{◌≡◌, refl, ◌+◌, ◌++◌, length, sym, ap, ◌∙◌, arith}
 use Rattle.arc_spec.specs.Classes.{classes_of}
-use Rattle.arc_check.specs.Checked.{program_of}
+use Rattle.arc_checked.specs.Checked.{program_of}
 use Rattle.arc_ir.specs.Acting.{Program}
 use Rattle.arc_lower.specs.Order.{orders}
 use Rattle.arc_lower.specs.Lowered.{all_functions, functions_orders, entries_from, start_orders, end_step_of, running_orders, entries_of, classes_orders, linked_classes}

@@ -1,5 +1,5 @@
 use Rattle.std.proofs.Common.{◌≡◌, ◌++◌, drop}
-use Rattle.arc_check.specs.Checked.{pieces}
+use Rattle.arc_checked.specs.Checked.{pieces}
 use Rattle.arc_lower.specs.Order.{orders}
 use Rattle.arc_lower.specs.Lowered.{format_orders}
 use Rattle.arc_lower.proofs.print.append_pieces.Given as goal

@@ -3,11 +3,11 @@ use Rattle.std.proofs.Common.{◌≡◌, ◌++◌, ◌∷◌, [], length, refl, 
 use Rattle.std.proofs.lemmas.List.{length-map}
 use Rattle.arc_code.specs.declared.instr.Instr.TheVariants.{Jump, JumpZero}
 use Rattle.arc_ir.specs.declared.action.Target.TheVariants.{Skip}
-use Rattle.arc_check.specs.Checked.{value, command, program_of}
+use Rattle.arc_checked.specs.Checked.{value, command, program_of}
 use Rattle.arc_lower.specs.Order.{order, orders}
 use Rattle.arc_lower.specs.Lowered.{whole_orders, command_orders}
 use Rattle.arc_lower.specs.Surroundings.{surroundings}
-use Rattle.arc_check.proofs.Trees.{sequence_command}
+use Rattle.arc_checked.proofs.Trees.{sequence_command}
 use Rattle.arc_lower.proofs.Patching.{patch_fork}
 use Rattle.arc_lower.proofs.Turning.{choice_written, repeat_written, repeat_after_written, step_written}
 use Rattle.arc_lower.proofs.statement.+statement.Goals as goal

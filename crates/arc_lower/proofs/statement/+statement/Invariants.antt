@@ -1,5 +1,5 @@
 use Rattle.std.proofs.Common.{◌≡◌, ◌++◌, length, drop}
-use Rattle.arc_check.specs.Checked.{commands, program_of}
+use Rattle.arc_checked.specs.Checked.{commands, program_of}
 use Rattle.arc_lower.specs.Order.{orders}
 use Rattle.arc_lower.specs.Lowered.{commands_orders}
 use Rattle.arc_lower.specs.Surroundings.{surroundings}

@@ -2,10 +2,10 @@ use Rattle.std.proofs.Common.{◌≡◌, ℕ, zero, suc, length, Bool, true, fal
 use Rattle.std.proofs.lemmas.Bool.{eqb-true}
 use Rattle.std.specs.Bool.{◌==◌}
 use Rattle.arc_spec.specs.Resolved.{Sequence}
-use Rattle.arc_check.specs.declared.checked.Command.{Command}
-use Rattle.arc_check.specs.Checked.{command, commands}
+use Rattle.arc_checked.specs.declared.program.Command.{Command}
+use Rattle.arc_checked.specs.Checked.{command, commands}
 use Rattle.arc_lower.specs.Lowered.{does_nothing}
-use Rattle.arc_check.proofs.Trees.{sequence_command}
+use Rattle.arc_checked.proofs.Trees.{sequence_command}
 use Rattle.arc_lower.proofs.statement.does_nothing.Goals as goal
 
 no_zero : (n : ℕ) (b : Bool) → (suc n == 0) ≡ b → b ≡ false

@@ -1,6 +1,6 @@
 use Rattle.std.proofs.Common.{drop}
 use Rattle.arc_spec.specs.Classes.{classes_of}
-use Rattle.arc_check.specs.Checked.{program_of}
+use Rattle.arc_checked.specs.Checked.{program_of}
 use Rattle.arc_lower.specs.Order.{orders}
 use Rattle.arc_lower.proofs.Stubbing.{ClassesLaid}
 use Rattle.arc_lower.proofs.stub.append_classes.Given as goal

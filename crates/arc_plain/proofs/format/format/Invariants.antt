@@ -1,5 +1,5 @@
 use Rattle.std.proofs.Common.{◌≡◌, ◌++◌, drop}
-use Rattle.arc_check.specs.Checked as checked
+use Rattle.arc_checked.specs.Checked as checked
 use Rattle.arc_spec.specs.Meaning.{formatted}
 use Rattle.arc_plain.proofs.format.format.Given as goal
 

@@ -1,5 +1,5 @@
 use Rattle.std.proofs.Common.{ap, subst, ◌∙◌}
-use Rattle.arc_check.specs.Checked.{program_of}
+use Rattle.arc_checked.specs.Checked.{program_of}
 use Rattle.arc_spec.specs.Meaning.{most_levels, level}
 use Rattle.arc_spec.specs.declared.class.Gives.TheVariants.{Number}
 use Rattle.arc_spec.specs.World.{first_world}

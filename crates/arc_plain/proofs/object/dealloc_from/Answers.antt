@@ -1,7 +1,7 @@
 use Rattle.std.proofs.Common.{suc, length, slice_get, Some, refl, ◌≡◌, ap, sym, ◌∙◌}
 use Rattle.std.proofs.lemmas.Bool.{ltb-true}
 use Rattle.std.proofs.lemmas.Option.{slice_get_read}
-use Rattle.arc_check.specs.Checked.{program_of}
+use Rattle.arc_checked.specs.Checked.{program_of}
 use Rattle.arc_spec.specs.Classes.{superclasses, ancestry_within}
 use Rattle.arc_spec.specs.Meaning.{deallocs_run}
 use Rattle.arc_plain.proofs.Calls.{dealloc_here}

@@ -1,5 +1,5 @@
 use Rattle.std.proofs.Common.{refl, ap, ◌∙◌, slice_get}
-use Rattle.arc_check.specs.Checked.{program_of}
+use Rattle.arc_checked.specs.Checked.{program_of}
 use Rattle.arc_spec.specs.Classes.{classes_of, strong_count}
 use Rattle.arc_spec.specs.Meaning.{field_count}
 use Rattle.arc_plain.specs.Views.{world, deeper}

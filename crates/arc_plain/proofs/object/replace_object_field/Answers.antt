@@ -2,7 +2,7 @@ use Rattle.std.proofs.Common.{map, ap, sym, Some, ◌∙◌, rules}
 use Rattle.std.proofs.lemmas.List.{with_items_is, places}
 use Rattle.std.specs.Vec.{with_items}
 use Rattle.std.specs.Prelude.{if◌then◌else◌}
-use Rattle.arc_check.specs.Checked.{program_of}
+use Rattle.arc_checked.specs.Checked.{program_of}
 use Rattle.arc_spec.specs.Classes.{classes_of, descends}
 use Rattle.arc_spec.specs.Meaning.{field_stores}
 use Rattle.arc_spec.specs.Objects.{object_at}

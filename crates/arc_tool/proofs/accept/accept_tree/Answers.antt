@@ -4,7 +4,7 @@ use Rattle.std.proofs.lemmas.Result.{err_from_is_err_and}
 use Rattle.arc_ast.specs.Tree.{unit_tree}
 use Rattle.arc_family.specs.Fault.{Refuses}
 use Rattle.arc_family.specs.Rules.{broken}
-use Rattle.arc_check.specs.Checked.{program_of}
+use Rattle.arc_checked.specs.Checked.{program_of}
 use Rattle.arc_lower.specs.Order.{order}
 use Rattle.arc_lower.specs.Lowered.{lowered}
 use Rattle.arc_tool.specs.Refused.{in_building, in_checking, in_owning, no_memory}

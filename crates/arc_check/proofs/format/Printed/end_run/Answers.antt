@@ -1,7 +1,7 @@
 use Rattle.std.proofs.Common.{◌∷◌, ◌++◌, [], ◌<◌, length, ap, ◌∙◌, arith}
 use Rattle.std.proofs.lemmas.Grind.{common_steps}
-use Rattle.arc_check.specs.Checked as checked
-use Rattle.arc_check.specs.declared.checked.Piece.TheVariants as p
+use Rattle.arc_checked.specs.Checked as checked
+use Rattle.arc_checked.specs.declared.program.Piece.TheVariants as p
 use Rattle.arc_check.proofs.Printing.{pieces-append, run_is_piece}
 use Rattle.arc_check.proofs.format.Printed.end_run.Goals as goal
 

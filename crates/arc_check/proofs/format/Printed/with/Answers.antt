@@ -1,6 +1,6 @@
 use Rattle.std.proofs.Common.{◌∷◌, [], refl, ap, ◌∙◌}
 use Rattle.arc_spec.specs.Resolved as resolved
-use Rattle.arc_check.specs.Checked as checked
+use Rattle.arc_checked.specs.Checked as checked
 use Rattle.arc_check.specs.Formats.{printed}
 use Rattle.arc_check.proofs.Printing.{pieces-append, adds_plain, adds_piece, put_bytes-decimal, put_bytes-character}
 use Rattle.arc_check.proofs.format.Printed.with.Goals as goal

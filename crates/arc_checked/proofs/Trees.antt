@@ -1,13 +1,13 @@
 -- The children of a node of a checked program that stand in a Vec, as a list, and nodes of which the parts are known.
 use Rattle.std.proofs.Common.{◌≡◌, ℕ, List, Vec, Box, Global, refl, sym, ap, ◌∙◌}
 use mathlib.Core.Former.{Count}
-use Rattle.arc_check.specs.declared.checked.Piece.{Piece}
-use Rattle.arc_check.specs.declared.checked.Value.{Value, Print, Print', Invoked, Invoked', Sent, Sent', Row_of-Argument, end_of-Argument, more_of-Argument, items-the_row-Argument, items_hidden-the_row-Argument-0}
-use Rattle.arc_check.specs.declared.checked.Reference.{Reference, ObjectInvoked, ObjectInvoked', ObjectSent, ObjectSent'}
-use Rattle.arc_check.specs.declared.checked.Receiver.{Receiver}
-use Rattle.arc_check.specs.declared.checked.Argument.{Argument}
-use Rattle.arc_check.specs.declared.checked.Command.{Command, Sequence, Sequence', Row_of-Command, end_of-Command, more_of-Command, items-the_row-Command, items_hidden-the_row-Command-0}
-use Rattle.arc_check.specs.Checked.{pieces, value, reference, receiver, arguments, and_argument, row_arguments, command, commands, row_commands}
+use Rattle.arc_checked.specs.declared.program.Piece.{Piece}
+use Rattle.arc_checked.specs.declared.program.Value.{Value, Print, Print', Invoked, Invoked', Sent, Sent', Row_of-Argument, end_of-Argument, more_of-Argument, items-the_row-Argument, items_hidden-the_row-Argument-0}
+use Rattle.arc_checked.specs.declared.program.Reference.{Reference, ObjectInvoked, ObjectInvoked', ObjectSent, ObjectSent'}
+use Rattle.arc_checked.specs.declared.program.Receiver.{Receiver}
+use Rattle.arc_checked.specs.declared.program.Argument.{Argument}
+use Rattle.arc_checked.specs.declared.program.Command.{Command, Sequence, Sequence', Row_of-Command, end_of-Command, more_of-Command, items-the_row-Command, items_hidden-the_row-Command-0}
+use Rattle.arc_checked.specs.Checked.{pieces, value, reference, receiver, arguments, and_argument, row_arguments, command, commands, row_commands}
 use Rattle.arc_spec.specs.Resolved as resolved
 
 abbrev arguments_of : Value → (n : Count) × Row_of-Argument n

@@ -1,19 +1,19 @@
 -- Checked programs without where they lie in memory.
 use Rattle.std.specs.Prelude.{List, [], ◌∷◌, option_map}
-use Rattle.arc_check.specs.declared.checked.Piece.{Piece}
-use Rattle.arc_check.specs.declared.checked.Piece.TheVariants as p
-use Rattle.arc_check.specs.declared.checked.Value.{Value, Row_of-Argument, end_of-Argument, more_of-Argument}
-use Rattle.arc_check.specs.declared.checked.Value.TheVariants as v
-use Rattle.arc_check.specs.declared.checked.Reference.{Reference}
-use Rattle.arc_check.specs.declared.checked.Reference.TheVariants as r
-use Rattle.arc_check.specs.declared.checked.Receiver.{Receiver}
-use Rattle.arc_check.specs.declared.checked.Receiver.TheVariants as rc
-use Rattle.arc_check.specs.declared.checked.Argument.{Argument}
-use Rattle.arc_check.specs.declared.checked.Argument.TheVariants as arg
-use Rattle.arc_check.specs.declared.checked.Command.{Command, Row_of-Command, end_of-Command, more_of-Command}
-use Rattle.arc_check.specs.declared.checked.Command.TheVariants as c
-use Rattle.arc_check.specs.declared.checked.CheckedFunction.{CheckedFunction}
-use Rattle.arc_check.specs.declared.checked.Checked.{Checked}
+use Rattle.arc_checked.specs.declared.program.Piece.{Piece}
+use Rattle.arc_checked.specs.declared.program.Piece.TheVariants as p
+use Rattle.arc_checked.specs.declared.program.Value.{Value, Row_of-Argument, end_of-Argument, more_of-Argument}
+use Rattle.arc_checked.specs.declared.program.Value.TheVariants as v
+use Rattle.arc_checked.specs.declared.program.Reference.{Reference}
+use Rattle.arc_checked.specs.declared.program.Reference.TheVariants as r
+use Rattle.arc_checked.specs.declared.program.Receiver.{Receiver}
+use Rattle.arc_checked.specs.declared.program.Receiver.TheVariants as rc
+use Rattle.arc_checked.specs.declared.program.Argument.{Argument}
+use Rattle.arc_checked.specs.declared.program.Argument.TheVariants as arg
+use Rattle.arc_checked.specs.declared.program.Command.{Command, Row_of-Command, end_of-Command, more_of-Command}
+use Rattle.arc_checked.specs.declared.program.Command.TheVariants as c
+use Rattle.arc_checked.specs.declared.program.CheckedFunction.{CheckedFunction}
+use Rattle.arc_checked.specs.declared.program.Checked.{Checked}
 use Rattle.arc_spec.specs.Classes.{classes_of}
 use Rattle.arc_spec.specs.Resolved as resolved
 use Rattle.arc_spec.specs.Resolved.{Number, ReadByte, Print, Applied, Combined, Choice, Converted, Read, Assigned, Updated, Invoked, Sent, ClassValue, ClassSuper, ObjectValue, ObjectSuper, Field, FieldAssigned, FieldUpdated, Differ, IsObject, Nil, Itself, Variable, Chosen, Stored, ObjectField, ObjectFieldStored, Made, New, ObjectInvoked, ObjectSent, no_arguments, number_argument, object_argument, Sequence, Evaluate, EvaluateReference, Begin, Return, Give, Choose, Repeat, RepeatAfter, Break, Continue, no_commands, and_command, Bytes, Decimal, Character}
