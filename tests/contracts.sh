@@ -1,8 +1,9 @@
 #!/usr/bin/env bash
 # Fails for each public function of a library that has no `ensures`, and for each public call that no must-fail
 # edit turns. A public call is a public function of a public module, but for the laws, which have no body to turn,
-# and for `From` and `Default`. tests/contracts.txt names the edits of each. The functions of arc_cells, arc_steps and
-# arc_turns are called by one another and by arc_machine alone: each has to have an `ensures`, and none is a public call.
+# and for `From` and `Default`. tests/contracts.txt names the edits of each. The functions of arc_scope are called by arc_judge
+# and arc_resolve alone, those of arc_cells, arc_steps and arc_turns by one another and by arc_machine: each has to have an
+# `ensures`, and none is a public call.
 # Each library is checked over what earlier checks kept. The last line is `N passed, M failed`.
 set -u
 cd "$(dirname "$0")/.." || exit 2
@@ -54,7 +55,7 @@ check_crate() {
   (cd "crates/$1" && rt plant --max 0 --minutes 0) >"$rows" 2>&1
   grep -q "^plants crate=$1 " "$rows" || { fail "$1: rt plant judged nothing: $(tail -n 3 "$rows")"; return; }
   if grep '^no-ensures' "$rows"; then fail "$1: functions without ensures"; else pass; fi
-  [[ $1 =~ ^arc_(cells|steps|turns)$ ]] && return
+  [[ $1 =~ ^arc_(scope|cells|steps|turns)$ ]] && return
   while read -r call; do check_call "$1" "$call"; done < <(public_calls "$1")
 }
 

@@ -1,16 +1,1 @@
-pub mod Lists
-pub mod Scoping
-pub mod Readings
-pub mod Printing
-pub mod Counting
-pub mod Judgements
-pub mod Buildings
-pub mod Messages
-pub mod Walks
-pub mod Commands
-pub mod Leaving
-pub mod Statements
-pub mod Methods
-pub mod Appended
-pub mod Refusals
-pub mod Globals
+mod Refusals

@@ -19,8 +19,8 @@ use Rattle.arc_parse.specs.Refusal.{place_of}
 use Rattle.arc_parse.proofs.Unit.{within, refused as unfit, too_deep_at}
 use Rattle.arc_sites.specs.declared.violation.Violation.{Violation}
 use Rattle.arc_class.specs.ClassRules.{broken}
-use Rattle.arc_check.specs.Rules.{broken_unit}
-use Rattle.arc_check.specs.Resolving.{resolved_unit}
+use Rattle.arc_judge.specs.Rules.{broken_unit}
+use Rattle.arc_resolve.specs.Resolving.{resolved_unit}
 use Rattle.arc_family.specs.Rules as ownership
 use Rattle.arc_spec.specs.Families.{without_underscores, first_component, begins_with_word}
 use Rattle.arc_spec.specs.declared.event.Event.{Event}

@@ -12,7 +12,7 @@ use Rattle.arc_sites.specs.declared.violation.Violation.{Violation}
 use Rattle.arc_class.specs.Broken.{first}
 use Rattle.arc_class.specs.Classes.{or_else}
 use Rattle.arc_class.specs.ClassRules.{broken}
-use Rattle.arc_check.specs.Rules.{broken_unit}
+use Rattle.arc_judge.specs.Rules.{broken_unit}
 use Rattle.arc_family.specs.Rules as ownership
 use Rattle.arc_spec.specs.declared.event.Event.{Event}
 use Rattle.arc_spec.specs.Correct.{Stop}

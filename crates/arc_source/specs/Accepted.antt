@@ -6,8 +6,8 @@ use Rattle.arc_ast.specs.Tree.{UnitTree}
 use Rattle.arc_grammar.specs.Grammar.{these}
 use Rattle.arc_parse.specs.Refusal.{SpellsUnit}
 use Rattle.arc_class.specs.ClassRules.{broken}
-use Rattle.arc_check.specs.Rules.{broken_unit}
-use Rattle.arc_check.specs.Resolving.{resolved_unit}
+use Rattle.arc_judge.specs.Rules.{broken_unit}
+use Rattle.arc_resolve.specs.Resolving.{resolved_unit}
 use Rattle.arc_family.specs.Rules as ownership
 use Rattle.arc_spec.specs.Resolved as resolved
 use Rattle.arc_spec.specs.Meaning.{mean}

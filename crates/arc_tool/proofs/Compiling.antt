@@ -9,8 +9,8 @@ use Rattle.arc_ast.specs.Tree.{unit_tree}
 use Rattle.arc_class.specs.ClassRules.{broken}
 use Rattle.arc_checked.specs.declared.program.Checked.{Checked}
 use Rattle.arc_checked.specs.Checked.{program_of}
-use Rattle.arc_check.specs.Rules.{broken_unit}
-use Rattle.arc_check.specs.Resolving.{resolved_unit}
+use Rattle.arc_judge.specs.Rules.{broken_unit}
+use Rattle.arc_resolve.specs.Resolving.{resolved_unit}
 use Rattle.arc_family.specs.Rules as ownership
 use Rattle.arc_spec.specs.Resolved as resolved
 use Rattle.arc_spec.specs.Correct.{Refines, Steady}

@@ -14,8 +14,8 @@ use Rattle.arc_class.specs.ClassRules.{broken}
 use Rattle.arc_class.specs.Fault as building
 use Rattle.arc_fault.specs.declared.check.CheckFault.{CheckFault}
 use Rattle.arc_fault.specs.Check as check_fault
-use Rattle.arc_check.specs.Rules.{broken_unit}
-use Rattle.arc_check.specs.Fault as checking
+use Rattle.arc_judge.specs.Rules.{broken_unit}
+use Rattle.arc_judge.specs.Fault as checking
 use Rattle.arc_fault.specs.declared.own.OwnFault.{OwnFault}
 use Rattle.arc_fault.specs.Own as own_fault
 use Rattle.arc_family.specs.Fault as owning

@@ -1,7 +1,0 @@
-use Rattle.std.proofs.Common.{◌≡◌, drop}
-use Rattle.arc_check.specs.Formats.{conversions, parts, wanted}
-use Rattle.arc_check.proofs.format.next_conversion.Given as goal
-
--- no conversion is complete so far
-abbrev pub invariant-loop-index : goal.invariant-loop-index
-invariant-loop-index l = wanted l.format ≡ conversions (parts l.begun (drop l.index l.format))

@@ -1,4 +1,0 @@
-use Rattle.arc_check.proofs.resolution.field.Goals as goal
-
-pub returns-in-Some : goal.returns-in-Some
-returns-in-Some c = rw c.in-Some.is c.read_field.ensures

@@ -1,7 +1,0 @@
-use Rattle.std.proofs.Common.{sym, ap}
-use Rattle.arc_check.specs.private.Building.{resolution}
-use Rattle.arc_check.specs.Resolving.{object_in}
-use Rattle.arc_check.proofs.resolution.object_in.Goals as goal
-
-pub returns-in-Gives : goal.returns-in-Gives
-returns-in-Gives c = ap (λ r. object_in (resolution r)) (sym c.in-Gives.is)

@@ -1,7 +1,0 @@
-use Rattle.std.proofs.Common.{ap, ◌∙◌}
-use Rattle.std.proofs.lemmas.Result.{IfOk-weaker}
-use Rattle.arc_check.specs.Resolving.{converted}
-use Rattle.arc_check.proofs.resolve.number_as.Goals as goal
-
-pub returns : goal.returns
-returns c = IfOk-weaker c.converted.result _ _ (λ new h. h ∙ ap (converted c.args.kind) c.in_ok-typed.ensures.value) c.converted.ensures

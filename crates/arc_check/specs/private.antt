@@ -1,5 +1,0 @@
--- The vocabulary of private functions: no contract of a public call speaks of it.
-pub mod Building
-pub mod Judging
-pub mod Runs
-pub mod Views

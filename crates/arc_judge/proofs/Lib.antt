@@ -1,0 +1,7 @@
+mod Counting
+mod Judgements
+mod Walks
+mod Statements
+mod Methods
+mod Globals
+mod Reporting

@@ -1,0 +1,17 @@
+use Rattle.std.proofs.Common.{ℕ, [], ◌∷◌, Some, ap, option_map}
+use Rattle.arc_ast.specs.Tree.{expr_tree, place}
+use Rattle.arc_class.specs.Broken.{Broken}
+use Rattle.arc_class.proofs.Firsts.{first_both}
+use Rattle.arc_judge.specs.Fault.{reported}
+use Rattle.arc_judge.specs.Rules.{broken_whole}
+use Rattle.arc_scope.specs.Views.{seen}
+use Rattle.arc_judge.proofs.body.returned.Goals as goal
+
+abbrev mismatch : ℕ → Broken
+mismatch at = record { at = at; number = 43 }
+
+pub returns-then-gives_nothing : goal.returns-then-gives_nothing
+returns-then-gives_nothing c =
+    let s = seen c.args.table.now c.args.visible.now in
+    let a = expr_tree c.in-Some.expr in
+    rw (c.if-gives_nothing.true, c.in-Some.is) (first_both (broken_whole s a) (mismatch (place a) ∷ []) (option_map reported c.judge_whole-judged.result.fault) (Some (mismatch c.place.result)) (option_map reported c.earlier.result) c.judge_whole-judged.ensures.fault (ap (λ at. Some (mismatch at)) c.place.ensures) c.earlier.ensures)

@@ -1,0 +1,13 @@
+use Rattle.std.proofs.Common.{◌≡◌, option_map, drop}
+use Rattle.std.specs.List.{flat_map}
+use Rattle.arc_ast.specs.Tree.{implementation_trees}
+use Rattle.arc_class.specs.Broken.{first, earlier_of}
+use Rattle.arc_judge.specs.Fault.{reported}
+use Rattle.arc_judge.specs.Rules.{broken_implementation}
+use Rattle.arc_scope.specs.Views.{known_in}
+use Rattle.arc_judge.proofs.method.judge_implementations.Given as goal
+
+-- what is reported so far and what is reported of the rest is reported of all
+abbrev pub invariant-loop-one : goal.invariant-loop-one
+invariant-loop-one l =
+    first (flat_map (broken_implementation (known_in l.table)) (implementation_trees l.all)) ≡ earlier_of (option_map reported l.fault) (first (flat_map (broken_implementation (known_in l.table)) (implementation_trees (drop l.one-index l.all))))

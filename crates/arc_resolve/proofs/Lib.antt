@@ -1,0 +1,8 @@
+mod Readings
+mod Printing
+mod Buildings
+mod Messages
+mod Commands
+mod Appended
+mod Globals
+mod Units

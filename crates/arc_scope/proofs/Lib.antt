@@ -1,0 +1,5 @@
+pub mod Lists
+pub mod Scoping
+pub mod Leaving
+pub mod Declaring
+pub mod Knowing
