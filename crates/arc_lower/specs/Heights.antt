@@ -82,6 +82,11 @@ abbrev pub greatest : List Height → Height → Height
 greatest [] most = most
 greatest (h ∷ others) most = greatest others (highest most h)
 
+-- the same, where it is asked for
+abbrev pub raised : List Height → Option Height → Option Height
+raised hs None = None
+raised hs (Some most) = Some (greatest hs most)
+
 abbrev pub start_heights : Program → List Height
 start_heights P = heights P no_height no_height (start_orders P)
 

@@ -1,10 +1,10 @@
 //! How many numbers, references, temporaries and variables that name objects the running function has before each
 //! action, and the most.
-ghost use Rattle.std.specs.Prelude.{◌≡◌, IfOk, drop, get_or, reverse};
+ghost use Rattle.std.specs.Prelude.{◌≡◌, IfOk, OnOk, drop, get_or, reverse};
 ghost use Rattle.arc_code.specs.Effects.{no_height};
 ghost use Rattle.arc_checked.specs.Checked.{program_of};
 ghost use Rattle.arc_lower.specs.Order.{order, orders};
-ghost use Rattle.arc_lower.specs.Heights.{height, between, highest, after_effect, effect_in, walk, next_walk, heights, greatest};
+ghost use Rattle.arc_lower.specs.Heights.{height, between, highest, after_effect, effect_in, walk, next_walk, heights, greatest, raised};
 
 use crate::call::{parameters_of, slots_of};
 use crate::variable::add_operands;
@@ -149,7 +149,7 @@ fn next_height(
 
 /// The greatest height before one of these actions, of which the first is at the height `first`, or
 /// `so_far`, where that is greater. NoMemory: no stack has so many numbers, references or places.
-pub(crate) fn greatest(
+fn greatest(
     alloc: Global,
     program: &Checked,
     base: Height,
@@ -167,4 +167,22 @@ pub(crate) fn greatest(
         height = next_height(program, base, action, height, &mut pending)?;
     }
     Ok(most)
+}
+
+/// Raises the greatest height, where it is asked for, to that before one of these actions, of which the
+/// first is at the height `first`. NoMemory: no stack has so many numbers, references or places.
+pub(crate) fn raise(
+    alloc: Global,
+    program: &Checked,
+    base: Height,
+    first: Height,
+    actions: &[Action],
+    most: &mut Option<Height>,
+) -> Result<(), NoMemory>
+    ensures { OnOk result (most.new ≡ raised (heights (program_of program.now) base first (orders actions.now)) most.old) }
+{
+    if let Some(so_far) = *most {
+        *most = Some(greatest(alloc, program, base, first, actions, so_far)?);
+    }
+    Ok(())
 }

@@ -1,29 +1,15 @@
-//! From a program to its actions.
-ghost use Rattle.std.specs.Prelude.{◌≡◌, ◌+◌, ◌++◌, [], ◌∷◌, length, if◌then◌else◌, IfOk, OnOk};
+//! From a program to its actions, and the room that they need.
+ghost use Rattle.std.specs.Prelude.{◌≡◌, IfOk};
 ghost use Rattle.arc_code.specs.Effects.{room_for};
 ghost use Rattle.arc_ir.specs.Acting as acting;
-ghost use Rattle.arc_spec.specs.Meaning.{nothing_giving};
 ghost use Rattle.arc_checked.specs.Checked.{program_of};
-ghost use Rattle.arc_lower.specs.Entered.{function_of};
-ghost use Rattle.arc_lower.specs.Order.{orders};
-ghost use Rattle.arc_lower.specs.Lowered.{own_orders, opening_orders, body_orders, entry_of, function_orders, functions_orders, entries_from, start_orders, end_step_of, all_functions};
-ghost use Rattle.arc_lower.specs.Heights.{greatest, start_heights, function_heights, functions_heights};
 ghost use Rattle.arc_lower.specs.Promise.{Performs, IsLowered};
 
-use crate::call::{append_call, append_leave, function_places, object_parameters, owned_by};
-use crate::expression::append;
-use crate::frame::Body;
-use crate::height::{between, greatest, no_height, passed};
-use crate::place::{append_declares, append_own, append_takes};
-use crate::statement::append_commands;
-use crate::stub::append_classes;
-use crate::variable::{add_operands, one_more};
-use arc_checked::program::{Checked, Command};
-use arc_code::effect::Height;
-use arc_code::instr::{Instr, Op};
+use crate::height::no_height;
+use crate::list::list;
+use crate::variable::add_operands;
 use arc_family::owned::Owned;
-use arc_ir::action::{Action, Ir, Target};
-use arc_spec::class::Gives;
+use arc_ir::action::Ir;
 use arc_spec::event::NoMemory;
 use std::alloc::Global;
 
@@ -34,32 +20,23 @@ pub fn lower(alloc: Global, program: &Owned) -> Result<Ir, NoMemory>
     ensures performs { IfOk result (λ ir. Performs (program_of program.now.program.now) (acting.program_of ir)) }
     ensures exact { IfOk result (λ ir. IsLowered (program_of program.now.program.now) (acting.program_of ir)) }
 {
-    let mut actions = Vec::new(alloc);
-    let mut entries = Vec::new(alloc);
-    let mut most = no_height();
-    let end_step = append_start(alloc, &mut actions, program.program, &mut most)?;
-    append_functions(
-        alloc,
-        &mut actions,
-        &mut entries,
-        program.program,
-        &mut most,
-    )?;
-    let classes = append_classes(alloc, &mut actions, program.program, &entries, &mut most)?;
+    let mut most = Some(no_height());
+    let listed = list(alloc, program.program, &mut most)?;
+    let most = most.unwrap_or(no_height());
     let room = room_for(most.numbers)?;
     let names = room_for(most.names)?;
     let places = room_for(add_operands(most.temporaries, most.variables)?)?;
     let globals = Vec::from_slice(alloc, &program.program.globals)?;
     Ok(Ir {
-        actions,
-        entries,
-        end_step,
+        actions: listed.actions,
+        entries: listed.entries,
+        end_step: listed.end_step,
         room,
         names,
         places,
         globals,
         strong_globals: program.program.strong_globals,
-        classes,
+        classes: listed.classes,
     })
 }
 
@@ -76,187 +53,4 @@ fn room_for(most: usize) -> Result<usize, NoMemory>
         Some(room) => Ok(room),
         None => Err(NoMemory),
     }
-}
-
-/// Appends the actions that call `main`, and the one at which the ends of objects go on. Gives the
-/// number of that one.
-pub(crate) fn append_call_of_main(
-    actions: &mut Vec<Action>,
-    program: &Checked,
-) -> Result<usize, NoMemory>
-    ensures actions { OnOk result (orders actions.new.items ≡ orders actions.old.items ++ start_orders (program_of program.now)) }
-    ensures end_step { IfOk result (λ place. place ≡ length (orders actions.old.items) + end_step_of (program_of program.now)) }
-{
-    append_call(actions, program, Gives::Number, program.main, 0, 0)?;
-    append(actions, Instr::Return)?;
-    let end_step = actions.len();
-    append(actions, Instr::EndStep)?;
-    Ok(end_step)
-}
-
-/// Appends where the program begins, and raises the greatest height to its. Gives the number of the
-/// action at which the ends of objects go on.
-fn append_start(
-    alloc: Global,
-    actions: &mut Vec<Action>,
-    program: &Checked,
-    most: &mut Height,
-) -> Result<usize, NoMemory>
-    ensures actions { OnOk result (orders actions.new.items ≡ orders actions.old.items ++ start_orders (program_of program.now)) }
-    ensures end_step { IfOk result (λ place. place ≡ length (orders actions.old.items) + end_step_of (program_of program.now)) }
-    ensures most { OnOk result (most.new ≡ greatest (start_heights (program_of program.now)) most.old) }
-{
-    let begin = actions.len();
-    let end_step = append_call_of_main(actions, program)?;
-    let base = no_height();
-    *most = greatest(alloc, program, base, base, &actions[begin..], *most)?;
-    Ok(end_step)
-}
-
-/// Appends the actions of all functions, and where each one is entered. Raises the greatest height
-/// to theirs.
-fn append_functions(
-    alloc: Global,
-    actions: &mut Vec<Action>,
-    entries: &mut Vec<usize>,
-    program: &Checked,
-    most: &mut Height,
-) -> Result<(), NoMemory>
-    ensures actions { OnOk result (orders actions.new.items ≡ orders actions.old.items ++ functions_orders (program_of program.now) (length (orders actions.old.items)) (all_functions (program_of program.now))) }
-    ensures entries { OnOk result (entries.new.items ≡ entries.old.items ++ entries_from (program_of program.now) (length (orders actions.old.items)) (all_functions (program_of program.now))) }
-    ensures most { OnOk result (most.new ≡ greatest (functions_heights (program_of program.now) (length (orders actions.old.items)) (all_functions (program_of program.now))) most.old) }
-{
-    for function in &program.functions {
-        let function = Definition {
-            slots: function.slots,
-            names: function.names,
-            parameters: function.parameters,
-            gives: function.gives,
-            owns: function.owns,
-            body: &function.body,
-        };
-        append_function(alloc, actions, entries, program, function, most)?;
-    }
-    let number = nothing_giving(Gives::Number);
-    append_function(alloc, actions, entries, program, number, most)?;
-    let object = nothing_giving(Gives::Object);
-    append_function(alloc, actions, entries, program, object, most)?;
-    Ok(())
-}
-
-/// A function: how many variables it has that hold numbers and that name objects, how many objects it is passed, what it
-/// gives, whether it owns `self`, and what it does.
-#[derive(Clone, Copy)]
-pub(crate) struct Definition<'p> {
-    pub slots: usize,
-    pub names: usize,
-    pub parameters: usize,
-    pub gives: Gives,
-    pub owns: bool,
-    pub body: &'p [Command],
-}
-
-/// A function that does nothing, and gives 0 or nil.
-pub(crate) fn nothing_giving<'p>(gives: Gives) -> Definition<'p>
-    ensures { function_of result ≡ nothing_giving gives }
-{
-    Definition {
-        slots: 0,
-        names: 0,
-        parameters: 0,
-        gives,
-        owns: false,
-        body: &[],
-    }
-}
-
-/// Appends the actions of a function, and where it is entered. Raises the greatest height to theirs.
-fn append_function(
-    alloc: Global,
-    actions: &mut Vec<Action>,
-    entries: &mut Vec<usize>,
-    program: &Checked,
-    function: Definition<'_>,
-    most: &mut Height,
-) -> Result<(), NoMemory>
-    ensures actions { OnOk result (orders actions.new.items ≡ orders actions.old.items ++ function_orders (program_of program.now) (length (orders actions.old.items)) (function_of function.entry)) }
-    ensures entries { OnOk result (entries.new.items ≡ entries.old.items ++ entry_of (length (orders actions.old.items)) (function_of function.entry) ∷ []) }
-    ensures most { OnOk result (most.new ≡ greatest (function_heights (program_of program.now) (length (orders actions.old.items)) (function_of function.entry)) most.old) }
-{
-    let exit = actions.len();
-    let names = function_places(function.names, function.gives)?;
-    append_leave(actions, function.slots, function.names, function.gives)?;
-    let base = between(function.slots, names);
-    let left = between(one_more(function.slots)?, names);
-    *most = greatest(alloc, program, base, left, &actions[exit..], *most)?;
-    let entry = actions.len();
-    entries.push(entry)?;
-    append_body(alloc, actions, program, exit, function)?;
-    let given = object_parameters(
-        function.parameters,
-        function.names,
-        function.gives,
-        function.owns,
-    );
-    let entered = passed(function.slots, given);
-    *most = greatest(alloc, program, base, entered, &actions[entry..], *most)?;
-    Ok(())
-}
-
-/// Appends what a function begins with: its places of objects, of which the first take `self`, where it owns that, and
-/// what it is given.
-fn append_opening(actions: &mut Vec<Action>, function: Definition<'_>) -> Result<(), NoMemory>
-    ensures { OnOk result (orders actions.new.items ≡ orders actions.old.items ++ opening_orders (function_of function.entry)) }
-{
-    let names = function_places(function.names, function.gives)?;
-    append_declares(actions, names)?;
-    let given = object_parameters(
-        function.parameters,
-        function.names,
-        function.gives,
-        function.owns,
-    );
-    append_takes(actions, owned_by(function.owns), given)?;
-    append_owned(actions, function.owns, names)
-}
-
-/// Appends what takes `self`, where it is owned.
-fn append_owned(actions: &mut Vec<Action>, owns: bool, names: usize) -> Result<(), NoMemory>
-    ensures { OnOk result (orders actions.new.items ≡ orders actions.old.items ++ (if owns then own_orders names else [])) }
-{
-    if owns {
-        append_own(actions, names)
-    } else {
-        Ok(())
-    }
-}
-
-/// Appends what a function does from its entry on, which is left at this action.
-pub(crate) fn append_body(
-    alloc: Global,
-    actions: &mut Vec<Action>,
-    program: &Checked,
-    exit: usize,
-    function: Definition<'_>,
-) -> Result<(), NoMemory>
-    ensures { OnOk result (orders actions.new.items ≡ orders actions.old.items ++ body_orders (program_of program.now) exit (length (orders actions.old.items)) (function_of function.entry)) }
-{
-    let names = function_places(function.names, function.gives)?;
-    let body = Body {
-        slots: function.slots,
-        names,
-        exit,
-        turn: None,
-    };
-    append_opening(actions, function)?;
-    append_commands(
-        alloc,
-        actions,
-        program,
-        body,
-        &mut Vec::new(alloc),
-        function.body,
-    )?;
-    append(actions, Instr::Plain(Op::Num(0)))?;
-    append(actions, Instr::Jump(Target::At(exit)))
 }

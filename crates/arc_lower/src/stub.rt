@@ -4,12 +4,12 @@ ghost use Rattle.arc_spec.specs.Classes.{class_of, classes_of};
 ghost use Rattle.arc_checked.specs.Checked.{program_of};
 ghost use Rattle.arc_code.specs.Effects.{passes};
 ghost use Rattle.arc_lower.specs.Order.{orders};
-ghost use Rattle.arc_lower.specs.Heights.{greatest, stub_heights, methods_heights, dealloc_heights, class_heights, classes_heights};
+ghost use Rattle.arc_lower.specs.Heights.{raised, stub_heights, methods_heights, dealloc_heights, class_heights, classes_heights};
 ghost use Rattle.arc_lower.specs.Lowered.{stub_orders, methods_orders, dealloc_orders, class_orders, classes_orders, linked_methods, linked_dealloc, linked_class, linked_classes};
 
 use crate::call::{append_passing, number_of};
 use crate::expression::append;
-use crate::height::{greatest, no_height, passed};
+use crate::height::{no_height, passed, raise};
 use crate::variable::one_more;
 use arc_ast::tree::Sign;
 use arc_checked::program::Checked;
@@ -70,15 +70,15 @@ fn append_stub(
     count: usize,
     objects: usize,
     function: usize,
-    most: &mut Height,
+    most: &mut Option<Height>,
 ) -> Result<(), NoMemory>
     ensures actions { OnOk result (orders actions.new.items ≡ orders actions.old.items ++ stub_orders (program_of program.now) entries.now wanted count objects function) }
-    ensures most { OnOk result (most.new ≡ greatest (stub_heights (program_of program.now) entries.now wanted count objects function) most.old) }
+    ensures most { OnOk result (most.new ≡ raised (stub_heights (program_of program.now) entries.now wanted count objects function) most.old) }
 {
     let begin = actions.len();
     append_jump_to(actions, program, entries, wanted, count, objects, function)?;
     let first = passed(count, objects);
-    *most = greatest(alloc, program, no_height(), first, &actions[begin..], *most)?;
+    raise(alloc, program, no_height(), first, &actions[begin..], most)?;
     Ok(())
 }
 
@@ -90,11 +90,11 @@ fn append_methods(
     program: &Checked,
     entries: &[usize],
     methods: &[Method],
-    most: &mut Height,
+    most: &mut Option<Height>,
 ) -> Result<Vec<Method>, NoMemory>
     ensures actions { OnOk result (orders actions.new.items ≡ orders actions.old.items ++ methods_orders (program_of program.now) entries.now methods.now) }
     ensures linked { IfOk result (λ linked. linked.items ≡ linked_methods (program_of program.now) entries.now (length (orders actions.old.items)) methods.now) }
-    ensures most { OnOk result (most.new ≡ greatest (methods_heights (program_of program.now) entries.now methods.now) most.old) }
+    ensures most { OnOk result (most.new ≡ raised (methods_heights (program_of program.now) entries.now methods.now) most.old) }
 {
     let mut linked = Vec::new(alloc);
     for method in methods {
@@ -124,17 +124,18 @@ fn append_methods(
 
 /// Appends the stub of a dealloc, where there is one, and raises the greatest height to its. Gives
 /// its place.
+#[tactic(auto, using(crate::proofs::Laying::raised_nothing))]
 fn append_dealloc(
     alloc: Global,
     actions: &mut Vec<Action>,
     program: &Checked,
     entries: &[usize],
     dealloc: Option<usize>,
-    most: &mut Height,
+    most: &mut Option<Height>,
 ) -> Result<Option<usize>, NoMemory>
     ensures actions { OnOk result (orders actions.new.items ≡ orders actions.old.items ++ dealloc_orders (program_of program.now) entries.now dealloc) }
     ensures linked { IfOk result (λ linked. linked ≡ linked_dealloc (length (orders actions.old.items)) dealloc) }
-    ensures most { OnOk result (most.new ≡ greatest (dealloc_heights (program_of program.now) entries.now dealloc) most.old) }
+    ensures most { OnOk result (most.new ≡ raised (dealloc_heights (program_of program.now) entries.now dealloc) most.old) }
 {
     let Some(function) = dealloc else {
         return Ok(None);
@@ -161,11 +162,11 @@ fn append_class(
     program: &Checked,
     entries: &[usize],
     class: &Class,
-    most: &mut Height,
+    most: &mut Option<Height>,
 ) -> Result<Class, NoMemory>
     ensures actions { OnOk result (orders actions.new.items ≡ orders actions.old.items ++ class_orders (program_of program.now) entries.now (class_of class.now)) }
     ensures linked { IfOk result (λ linked. class_of linked ≡ linked_class (program_of program.now) entries.now (length (orders actions.old.items)) (class_of class.now)) }
-    ensures most { OnOk result (most.new ≡ greatest (class_heights (program_of program.now) entries.now (class_of class.now)) most.old) }
+    ensures most { OnOk result (most.new ≡ raised (class_heights (program_of program.now) entries.now (class_of class.now)) most.old) }
 {
     let dealloc = append_dealloc(alloc, actions, program, entries, class.dealloc, most)?;
     let methods = append_methods(alloc, actions, program, entries, &class.methods, most)?;
@@ -185,11 +186,11 @@ pub(crate) fn append_classes(
     actions: &mut Vec<Action>,
     program: &Checked,
     entries: &[usize],
-    most: &mut Height,
+    most: &mut Option<Height>,
 ) -> Result<Vec<Class>, NoMemory>
     ensures actions { OnOk result (orders actions.new.items ≡ orders actions.old.items ++ classes_orders (program_of program.now) entries.now (program_of program.now).classes) }
     ensures linked { IfOk result (λ linked. classes_of linked.items ≡ linked_classes (program_of program.now) entries.now (length (orders actions.old.items)) (program_of program.now).classes) }
-    ensures most { OnOk result (most.new ≡ greatest (classes_heights (program_of program.now) entries.now (program_of program.now).classes) most.old) }
+    ensures most { OnOk result (most.new ≡ raised (classes_heights (program_of program.now) entries.now (program_of program.now).classes) most.old) }
 {
     let mut linked = Vec::new(alloc);
     for class in &program.classes {

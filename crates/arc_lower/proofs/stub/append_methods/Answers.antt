@@ -6,7 +6,7 @@ use Rattle.arc_ast.specs.declared.tree.Sign.TheVariants as signs
 use Rattle.arc_checked.specs.Checked.{program_of}
 use Rattle.arc_lower.specs.Order.{order, orders}
 use Rattle.arc_lower.specs.Lowered.{stub_orders}
-use Rattle.arc_lower.specs.Heights.{greatest, stub_heights}
+use Rattle.arc_lower.specs.Heights.{raised, stub_heights}
 use Rattle.arc_lower.proofs.Stubbing.{MethodsLaid, methods_more}
 use Rattle.arc_lower.proofs.stub.append_methods.Goals as goal
 
@@ -23,5 +23,5 @@ loop-method-preserved c =
     let left = drop (i + 1) all in
     let before : MethodsLaid P entries start c.args.most.now all (orders old.items) c.loop-method.most c.loop-method.linked.items (m ∷ left) = subst (MethodsLaid P entries start c.args.most.now all (orders old.items) c.loop-method.most c.loop-method.linked.items) (drop_more all i none c.loop-method-test.true) c.loop-method.invariant in
     let laid = c.in_ok-append_stub.ensures.actions ∙ ap (λ n. orders old.items ++ stub_orders P entries m.gives n m.objects m.runs) c.in_ok-count.ensures in
-    let most = c.in_ok-append_stub.ensures.most ∙ ap (λ n. greatest (stub_heights P entries m.gives n m.objects m.runs) c.loop-method.most) c.in_ok-count.ensures in
+    let most = c.in_ok-append_stub.ensures.most ∙ ap (λ n. raised (stub_heights P entries m.gives n m.objects m.runs) c.loop-method.most) c.in_ok-count.ensures in
     methods_more P entries start c.args.most.now all (orders old.items) c.loop-method.most c.loop-method.linked.items m left (orders c.append_stub.new.actions.items) c.append_stub.new.most c.push.new.self.items c.len.result before laid (c.len.ensures ∙ old.ok.0 ∙ sym (length-map old.items order)) c.in_ok-push.ensures.items most

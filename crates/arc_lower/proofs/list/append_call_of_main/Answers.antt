@@ -6,7 +6,7 @@ use Rattle.arc_code.specs.declared.instr.Instr.TheVariants.{Return}
 use Rattle.arc_lower.specs.Order.{order, orders}
 use Rattle.arc_lower.specs.Lowered.{call_orders}
 use Rattle.arc_lower.proofs.Rows.{call_length}
-use Rattle.arc_lower.proofs.lower.append_call_of_main.Goals as goal
+use Rattle.arc_lower.proofs.list.append_call_of_main.Goals as goal
 
 pub returns-clause-end_step : goal.returns-clause-end_step
 returns-clause-end_step c =

@@ -8,9 +8,9 @@ use Rattle.arc_lower.specs.Order.{orders}
 use Rattle.arc_spec.specs.declared.class.Gives.TheVariants as gives
 use Rattle.arc_spec.specs.Meaning.{nothing_giving}
 use Rattle.arc_lower.specs.Lowered.{entry_of, function_orders}
-use Rattle.arc_lower.specs.Heights.{greatest, function_heights}
+use Rattle.arc_lower.specs.Heights.{raised, function_heights}
 use Rattle.arc_lower.proofs.Laying.{Laid, laid_more}
-use Rattle.arc_lower.proofs.lower.append_functions.Goals as goal
+use Rattle.arc_lower.proofs.list.append_functions.Goals as goal
 
 -- the functions that do nothing
 abbrev last_two : List Function
@@ -33,7 +33,7 @@ loop-function-preserved c =
     let before : Laid P start c.args.entries.now.items c.args.most.now whole o c.loop-function.entries.items c.loop-function.most (f ∷ left) = subst (λ l. Laid P start c.args.entries.now.items c.args.most.now whole o c.loop-function.entries.items c.loop-function.most (functions l ++ last_two)) split c.loop-function.invariant in
     let laid = c.in_ok-append_function.ensures.actions ∙ ap (λ l. o ++ function_orders P (length o) (record { slots = item.slots; names = item.names; parameters = item.parameters; gives = item.gives; owns = item.owns; body = l })) body in
     let entries = c.in_ok-append_function.ensures.entries ∙ ap (λ l. c.loop-function.entries.items ++ entry_of (length o) (record { slots = item.slots; names = item.names; parameters = item.parameters; gives = item.gives; owns = item.owns; body = l }) ∷ []) body in
-    let most = c.in_ok-append_function.ensures.most ∙ ap (λ l. greatest (function_heights P (length o) (record { slots = item.slots; names = item.names; parameters = item.parameters; gives = item.gives; owns = item.owns; body = l })) c.loop-function.most) body in
+    let most = c.in_ok-append_function.ensures.most ∙ ap (λ l. raised (function_heights P (length o) (record { slots = item.slots; names = item.names; parameters = item.parameters; gives = item.gives; owns = item.owns; body = l })) c.loop-function.most) body in
     laid_more P start c.args.entries.now.items c.args.most.now whole o c.loop-function.entries.items c.loop-function.most f left (orders c.append_function.new.actions.items) c.append_function.new.entries.items c.append_function.new.most before laid entries most
 
 -- after the last function
@@ -58,9 +58,9 @@ finished c =
     let none : drop c.loop-function.function-index all ≡ [] = drop_all c.loop-function.function-index all c.loop-function-test.false in
     let before : Laid P start c.args.entries.now.items c.args.most.now whole o e m last_two = subst (λ l. Laid P start c.args.entries.now.items c.args.most.now whole o e m (functions l ++ last_two)) none c.loop-function.invariant in
     let middle = laid_more P start c.args.entries.now.items c.args.most.now whole o e m number (object ∷ []) o2 e2 m2 before
-    (one.actions ∙ ap (λ (f : Function). o ++ function_orders P (length o) f) one_is) (one.entries ∙ ap (λ (f : Function). e ++ entry_of (length o) f ∷ []) one_is) (one.most ∙ ap (λ (f : Function). greatest (function_heights P (length o) f) m) one_is) in
+    (one.actions ∙ ap (λ (f : Function). o ++ function_orders P (length o) f) one_is) (one.entries ∙ ap (λ (f : Function). e ++ entry_of (length o) f ∷ []) one_is) (one.most ∙ ap (λ (f : Function). raised (function_heights P (length o) f) m) one_is) in
     laid_more P start c.args.entries.now.items c.args.most.now whole o2 e2 m2 object [] (orders c.append_function-3.new.actions.items) c.append_function-3.new.entries.items c.append_function-3.new.most middle
-    (two.actions ∙ ap (λ (f : Function). o2 ++ function_orders P (length o2) f) two_is) (two.entries ∙ ap (λ (f : Function). e2 ++ entry_of (length o2) f ∷ []) two_is) (two.most ∙ ap (λ (f : Function). greatest (function_heights P (length o2) f) m2) two_is)
+    (two.actions ∙ ap (λ (f : Function). o2 ++ function_orders P (length o2) f) two_is) (two.entries ∙ ap (λ (f : Function). e2 ++ entry_of (length o2) f ∷ []) two_is) (two.most ∙ ap (λ (f : Function). raised (function_heights P (length o2) f) m2) two_is)
 
 pub returns-clause-actions : goal.returns-clause-actions
 returns-clause-actions c = let all = finished c in grind (arith, common_steps, all)

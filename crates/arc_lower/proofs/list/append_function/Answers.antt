@@ -5,10 +5,10 @@ use Rattle.arc_spec.specs.Meaning.{function_places}
 use Rattle.arc_checked.specs.Checked.{commands, program_of}
 use Rattle.arc_lower.specs.Order.{order, orders}
 use Rattle.arc_lower.specs.Lowered.{leave_orders, body_orders, entry_of, object_parameters}
-use Rattle.arc_lower.specs.Heights.{height, between, heights, greatest}
+use Rattle.arc_lower.specs.Heights.{height, between, heights, raised}
 use Rattle.arc_lower.proofs.Appended.{slice_after}
-use Rattle.arc_lower.proofs.Laying.{greatest_append}
-use Rattle.arc_lower.proofs.lower.append_function.Goals as goal
+use Rattle.arc_lower.proofs.Laying.{raised_append}
+use Rattle.arc_lower.proofs.list.append_function.Goals as goal
 
 pub returns-clause-most : goal.returns-clause-most
 returns-clause-most c =
@@ -29,16 +29,16 @@ returns-clause-most c =
     let body_is = ap (λ n. body_orders P n (length (orders middle.items)) f) here ∙ ap (λ n. body_orders P place n f) there in
     let leaves = c.in_ok-append_leave.ensures in
     let base_is : c.between-base.result ≡ base = c.between-base.ensures ∙ ap (between f.slots) c.in_ok-names.ensures in
-    let first : c.in_ok-most.field-0 ≡ greatest (heights P base left leave) most =
-    c.in_ok-most.ensures
-    ∙ ap (λ l. greatest (heights P c.between-base.result c.between-left.result l) most)
+    let first : c.raise.new.most ≡ raised (heights P base left leave) most =
+    c.in_ok-raise.ensures
+    ∙ ap (λ l. raised (heights P c.between-base.result c.between-left.result l) most)
     (slice_after old.items middle.items c.deref.result.now c.len-exit.result leave (c.len-exit.ensures ∙ old.ok.0) c.deref.ensures.value leaves)
-    ∙ ap (λ b. greatest (heights P b c.between-left.result leave) most) base_is
-    ∙ ap (λ h. greatest (heights P base h leave) most) (c.between-left.ensures ∙ ap (between c.in_ok-one_more.field-0) c.in_ok-names.ensures ∙ ap (λ n. between n count) c.in_ok-one_more.ensures) in
-    let second : c.in_ok-most-2.field-0 ≡ greatest (heights P base entered body) c.in_ok-most.field-0 =
-    c.in_ok-most-2.ensures
-    ∙ ap (λ l. greatest (heights P c.between-base.result c.passed-entered.result l) c.in_ok-most.field-0)
+    ∙ ap (λ b. raised (heights P b c.between-left.result leave) most) base_is
+    ∙ ap (λ h. raised (heights P base h leave) most) (c.between-left.ensures ∙ ap (between c.in_ok-one_more.field-0) c.in_ok-names.ensures ∙ ap (λ n. between n count) c.in_ok-one_more.ensures) in
+    let second : c.raise-2.new.most ≡ raised (heights P base entered body) c.raise.new.most =
+    c.in_ok-raise-2.ensures
+    ∙ ap (λ l. raised (heights P c.between-base.result c.passed-entered.result l) c.raise.new.most)
     (slice_after middle.items c.append_body.new.actions.items c.deref-2.result.now c.len-entry.result body (c.len-entry.ensures ∙ middle.ok.0) c.deref-2.ensures.value (c.in_ok-append_body.ensures ∙ ap (λ l. orders middle.items ++ l) body_is))
-    ∙ ap (λ b. greatest (heights P b c.passed-entered.result body) c.in_ok-most.field-0) base_is
-    ∙ ap (λ h. greatest (heights P base h body) c.in_ok-most.field-0) (c.passed-entered.ensures ∙ ap (λ n. height f.slots n 0 0) c.object_parameters-given.ensures) in
-    second ∙ ap (greatest (heights P base entered body)) first ∙ sym (greatest_append (heights P base left leave) (heights P base entered body) most)
+    ∙ ap (λ b. raised (heights P b c.passed-entered.result body) c.raise.new.most) base_is
+    ∙ ap (λ h. raised (heights P base h body) c.raise.new.most) (c.passed-entered.ensures ∙ ap (λ n. height f.slots n 0 0) c.object_parameters-given.ensures) in
+    second ∙ ap (raised (heights P base entered body)) first ∙ sym (raised_append (heights P base left leave) (heights P base entered body) most)
