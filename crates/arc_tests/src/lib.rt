@@ -1,4 +1,5 @@
-//! Tests of the crates' public calls, one module for each crate: what a row of `arc_rows` can't show, and one call of each kind.
+//! Tests of the public calls of the crates below arc_tool and arc_machine, one module for each crate: what a row of `arc_rows` can't
+//! show, and one call of each kind.
 #![tactic(auto)]
 
 #[cfg(test)]
@@ -10,7 +11,7 @@ mod class;
 #[cfg(test)]
 mod code;
 #[cfg(test)]
-mod devices;
+mod emit;
 #[cfg(test)]
 mod family;
 #[cfg(test)]
@@ -18,12 +19,10 @@ mod heap;
 #[cfg(test)]
 mod lex;
 #[cfg(test)]
-mod machine;
+mod lower;
 #[cfg(test)]
 mod parse;
 #[cfg(test)]
 mod source;
 #[cfg(test)]
 mod spec;
-#[cfg(test)]
-mod tool;

@@ -1,6 +1,5 @@
 //! Sources of one byte, and as long as they may be.
 use arc_code::counted::Counted;
-use arc_emit::fault::EmitFault;
 use arc_machine::stop::Stop;
 use arc_tool::run::{ToolFault, run_text};
 use std::alloc::{AllocError, Global};
@@ -70,11 +69,4 @@ fn long_sources(rt: HostRuntime) -> Result<(), Fail> {
     assert_eq!(rt; writer.get_ref().len(), 87_000);
     assert!(rt; stop == Stop::Ended(0));
     Ok(())
-}
-
-/// No test makes a code that is too large, which takes more than 16,777,216 actions.
-#[test]
-fn too_large_a_code_is_reported(rt: HostRuntime) {
-    let fault = EmitFault::TooLarge;
-    assert_eq!(rt; (fault.number(), fault.name()), (71, "TooLarge"));
 }

@@ -1,0 +1,15 @@
+//! How many instructions code may have. No test makes a code that is too large, which takes more than 16,777,216 actions.
+use arc_emit::emit::fits;
+use arc_emit::fault::EmitFault;
+
+#[test]
+fn counts_instructions(rt: HostRuntime) {
+    assert_eq!(rt; fits(16_777_216), Ok(()));
+    assert_eq!(rt; fits(16_777_217), Err(EmitFault::TooLarge));
+}
+
+#[test]
+fn names_faults(rt: HostRuntime) {
+    let fault = EmitFault::TooLarge;
+    assert_eq!(rt; (fault.number(), fault.name()), (71, "TooLarge"));
+}
