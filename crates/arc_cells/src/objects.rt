@@ -24,11 +24,12 @@ use std::marker::Model;
 const MOST_LEVELS: usize = 2_000;
 
 /// A store with the blocks of objects, how many objects were made, the strong places, of which the
-/// last ones are the temporaries of the running function, and those before them its variables, how
-/// many of each it has, the references, `self` of the running function, what waits for it, the numbers
-/// that the variables of the whole program hold, what those of them name that name objects, and for each
-/// class the fields of its objects that name objects, in the order in which they are destroyed. A word names
-/// the object of a block by the block's place, and nil by 0. Only making an object takes memory.
+/// last ones are the temporaries of the running function, and those before them its variables, the
+/// references, `self` of the running function, how many temporaries and variables it has, what waits
+/// for it, the numbers that the variables of the whole program hold, what those of them name that name
+/// objects, and for each class the fields of its objects that name objects, in the order in which they
+/// are destroyed. A word names the object of a block by the block's place, and nil by 0. Only making an
+/// object takes memory.
 #[derive(Drop)]
 pub struct Objects<S: Store + Drop> {
     store: S,
