@@ -34,10 +34,10 @@ pub struct Objects<S: Store + Drop> {
     store: S,
     made: u64,
     places: Stack<u64>,
-    temporaries: usize,
-    variables: usize,
     names: Stack<u64>,
     receiver: u64,
+    temporaries: usize,
+    variables: usize,
     frames: Stack<Waiting>,
     globals: Vec<i64>,
     strong_globals: Vec<u64>,
@@ -80,10 +80,10 @@ impl<S: Store + Drop> Objects<S> {
             store,
             made: 0,
             places: Stack::with_room(alloc, code.places)?,
-            temporaries: 0,
-            variables: 0,
             names: Stack::with_room(alloc, code.names)?,
             receiver: 0,
+            temporaries: 0,
+            variables: 0,
             frames: Stack::with_room(alloc, MOST_LEVELS)?,
             globals: Vec::from_slice(alloc, &code.globals)?,
             strong_globals: vec![in alloc; 0; code.strong_globals]?,
@@ -390,11 +390,11 @@ impl<S: Store + Drop> Objects<S> {
         requires places { self.old.variables ≤ length self.old.places }
         ensures { self.new ≡ resuming (undeclaring self.old) waiter }
     {
-        self.undeclare();
         let _ = self.frames.pop();
+        self.places.forget(self.variables);
+        self.receiver = waiter.receiver;
         self.temporaries = waiter.temporaries;
         self.variables = waiter.variables;
-        self.receiver = waiter.receiver;
     }
 
     /// The running function is left with an object: its variables are gone but for the last one, its result. That is a
