@@ -24,14 +24,16 @@ use Rattle.arc_judge.specs.declared.judge.Judged.{Judged}
 use Rattle.arc_judge.specs.declared.taken.Taken.{Taken}
 use Rattle.arc_judge.specs.Fault.{reported}
 use Rattle.arc_scope.specs.Formats.{fits}
-use Rattle.arc_judge.specs.private.Judging.{Judges, JudgesCall, JudgesWhole, counted, none_counted, other_rule}
-use Rattle.arc_judge.specs.Rules.{all_taken, arrow_kind, at_if, binary_kind, broken, broken_arguments, broken_at, broken_field, call_rule, either_kind, is_assignable, is_updatable, kind_if, kind_of, kinds, message_kind, no_left, no_method, no_number, no_object, no_right, no_such, no_value, taken, unread, no_operand, unary_kind}
+use Rattle.arc_judge.specs.private.Judging.{Judges, JudgesCall, JudgesWhole, broken_at, broken_field, counted, is_updatable, none_counted, other_rule}
+use Rattle.arc_judge.specs.Rules.{all_taken, arrow_kind, at_if, binary_kind, broken, broken_arguments, call_rule, either_kind, is_assignable, kind_if, kind_of, kinds, message_kind, no_method, no_right, no_such, taken, unread, unary_kind, unmet}
 use Rattle.arc_scope.specs.Kinds.{is_object}
 use Rattle.arc_scope.specs.Passing.{first_wanted, wanted_by, receiver_sign}
-use Rattle.arc_scope.specs.Scopes.{Scope, callee, class_of, class_receiver, either_class, field_class, is_nil, is_printf, own_class, result_kind, sent_class, static_class, super_class, super_kind}
+use Rattle.arc_scope.specs.Scopes.{Scope, callee, class_of, class_receiver, either_class, field_class, is_nil, is_printf, own_class, result_kind, static_class}
+use Rattle.arc_scope.specs.Views.{sent_class, super_class, super_kind}
 use Rattle.arc_judge.proofs.Counting.{counted_both, past_is}
 use Rattle.arc_scope.proofs.Lists.{drop_turn}
 use Rattle.arc_ast.proofs.Trees.{call_tree, send_tree, send_super_tree}
+use Rattle.arc_sites.specs.Sites.{ANumber, AValue, AnObject, left_need, operand_need}
 use Rattle.arc_sites.specs.Violations.{violates}
 use Rattle.arc_judge.specs.declared.taken.TheConstants.{MOST_TAKEN}
 
@@ -105,11 +107,11 @@ itself_refused s before at judged number e m n c f t u = record {
 -- ---- operators, casts and fields
 
 pub judges_unary : (s : Scope) (before : Taken) (at : ℕ) (operator : UnaryOperator) (a : ExprTree) (judged new : Judged) (here : ℕ) → Judges s before a judged → here ≡ place a → new.kind ≡ unary_kind operator judged.kind → new.class ≡ None
-    → option_map reported new.fault ≡ earlier_of (option_map reported judged.fault) (first (no_operand operator judged.kind here)) → new.taken ≡ judged.taken → Judges s before (Unary at operator a) new
+    → option_map reported new.fault ≡ earlier_of (option_map reported judged.fault) (first (unmet (operand_need operator) judged.kind here)) → new.taken ≡ judged.taken → Judges s before (Unary at operator a) new
 judges_unary s before at operator a judged new here j p k c f t = record {
   kind = k ∙ ap (unary_kind operator) j.kind;
   class = ap (option_map number_of_class) c;
-  fault = with_rule s (broken s a) a (no_operand operator) (option_map reported judged.fault) (option_map reported new.fault) judged.kind here j.fault j.kind p f;
+  fault = with_rule s (broken s a) a (unmet (operand_need operator)) (option_map reported judged.fault) (option_map reported new.fault) judged.kind here j.fault j.kind p f;
   taken = t ∙ j.taken;
   unread = never;
 }
@@ -126,7 +128,7 @@ judges_cast s before at type a judged new here j p k c f t = record {
 
 pub judges_arrow : (s : Scope) (before : Taken) (at name_at : ℕ) (a : ExprTree) (name : List ℕ) (judged new : Judged) (here : ℕ) (found : _) → Judges s before a judged → here ≡ place a → found ≡ s.known.field (option_map number_of_class judged.class) name
     → new.kind ≡ arrow_kind s judged.kind found → option_map number_of_class new.class ≡ field_class found
-    → option_map reported new.fault ≡ earlier_of (earlier_of (option_map reported judged.fault) (first (no_object judged.kind here))) (first (broken_field s judged.kind found name_at))
+    → option_map reported new.fault ≡ earlier_of (earlier_of (option_map reported judged.fault) (first (unmet AnObject judged.kind here))) (first (broken_field s judged.kind found name_at))
     → new.taken ≡ counted judged.taken (at_if (is_object (arrow_kind s judged.kind found)) name_at) → new.unread ≡ judged.taken → Judges s before (Arrow at name_at a name) new
 judges_arrow s before at name_at a name judged new here found j p w k c f t u =
     let is = w ∙ ap (λ o. s.known.field o name) j.class in
@@ -136,8 +138,8 @@ judges_arrow s before at name_at a name judged new here found j p w k c f t u =
     record {
       kind = k ∙ same;
       class = c ∙ ap field_class is;
-      fault = first_both (broken s a ++ no_object (kind_of s a) (place a)) (broken_field s (kind_of s a) own name_at) (earlier_of (option_map reported judged.fault) (first (no_object judged.kind here))) (first (broken_field s judged.kind found name_at)) (option_map reported new.fault)
-          (with_rule s (broken s a) a no_object (option_map reported judged.fault) _ judged.kind here j.fault j.kind p refl)
+      fault = first_both (broken s a ++ unmet AnObject (kind_of s a) (place a)) (broken_field s (kind_of s a) own name_at) (earlier_of (option_map reported judged.fault) (first (unmet AnObject judged.kind here))) (first (broken_field s judged.kind found name_at)) (option_map reported new.fault)
+          (with_rule s (broken s a) a (unmet AnObject) (option_map reported judged.fault) _ judged.kind here j.fault j.kind p refl)
           (ap (λ o. first (broken_field s o found name_at)) j.kind ∙ ap (λ o. first (broken_field s (kind_of s a) o name_at)) is) f;
       taken = counted_both before judged.taken new.taken (taken s a) reads j.taken (t ∙ ap (λ o. counted judged.taken (at_if (is_object o) name_at)) same);
       unread = λ _. u ∙ j.taken;
@@ -145,36 +147,36 @@ judges_arrow s before at name_at a name judged new here found j p w k c f t u =
 
 pub judges_choice : (s : Scope) (before : Taken) (at : ℕ) (c a b : ExprTree) (test one other new : Judged) (test_at one_at other_at : ℕ) → Judges s before c test → Judges s test.taken a one → Judges s one.taken b other → test_at ≡ place c → one_at ≡ place a → other_at ≡ place b
     → new.kind ≡ either_kind one.kind other.kind → option_map number_of_class new.class ≡ either_class (is_nil a) (is_nil b) (option_map number_of_class one.class) (option_map number_of_class other.class)
-    → option_map reported new.fault ≡ earlier_of (earlier_of (option_map reported test.fault) (first (no_value test.kind test_at))) (earlier_of (earlier_of (option_map reported one.fault) (first (no_left Equality one.kind one_at))) (earlier_of (option_map reported other.fault) (first (no_right Equality one.kind other.kind other_at))))
+    → option_map reported new.fault ≡ earlier_of (earlier_of (option_map reported test.fault) (first (unmet AValue test.kind test_at))) (earlier_of (earlier_of (option_map reported one.fault) (first (unmet AValue one.kind one_at))) (earlier_of (option_map reported other.fault) (first (no_right Equality one.kind other.kind other_at))))
     → new.taken ≡ other.taken → Judges s before (Conditional at c a b) new
 judges_choice s before at c a b test one other new test_at one_at other_at x y z p q r k n f t =
-    let by_test = earlier_of (option_map reported test.fault) (first (no_value test.kind test_at)) in
-    let by_one = earlier_of (option_map reported one.fault) (first (no_left Equality one.kind one_at)) in
+    let by_test = earlier_of (option_map reported test.fault) (first (unmet AValue test.kind test_at)) in
+    let by_one = earlier_of (option_map reported one.fault) (first (unmet AValue one.kind one_at)) in
     let by_other = earlier_of (option_map reported other.fault) (first (no_right Equality one.kind other.kind other_at)) in
-    let broken_a = broken s a ++ no_left Equality (kind_of s a) (place a) in
+    let broken_a = broken s a ++ unmet AValue (kind_of s a) (place a) in
     let broken_b = broken s b ++ no_right Equality (kind_of s a) (kind_of s b) (place b) in
     record {
       kind = k ∙ ap (λ o. either_kind o other.kind) y.kind ∙ ap (either_kind (kind_of s a)) z.kind;
       class = n ∙ ap (λ o. either_class (is_nil a) (is_nil b) o (option_map number_of_class other.class)) y.class ∙ ap (either_class (is_nil a) (is_nil b) (class_of s a)) z.class;
-      fault = first_both (broken s c ++ no_value (kind_of s c) (place c)) (broken_a ++ broken_b) by_test (earlier_of by_one by_other) (option_map reported new.fault)
-          (with_rule s (broken s c) c no_value (option_map reported test.fault) by_test test.kind test_at x.fault x.kind p refl)
-          (first_both broken_a broken_b by_one by_other _ (with_rule s (broken s a) a (no_left Equality) (option_map reported one.fault) by_one one.kind one_at y.fault y.kind q refl)
+      fault = first_both (broken s c ++ unmet AValue (kind_of s c) (place c)) (broken_a ++ broken_b) by_test (earlier_of by_one by_other) (option_map reported new.fault)
+          (with_rule s (broken s c) c (unmet AValue) (option_map reported test.fault) by_test test.kind test_at x.fault x.kind p refl)
+          (first_both broken_a broken_b by_one by_other _ (with_rule s (broken s a) a (unmet AValue) (option_map reported one.fault) by_one one.kind one_at y.fault y.kind q refl)
           (with_rule s (broken s b) b (no_right Equality (kind_of s a)) (option_map reported other.fault) by_other other.kind other_at z.fault z.kind r (ap (λ o. earlier_of (option_map reported other.fault) (first (no_right Equality o other.kind other_at))) y.kind)) refl) f;
       taken = t ∙ counted_both before test.taken other.taken (taken s c) (taken s a ++ taken s b) x.taken (counted_both test.taken one.taken other.taken (taken s a) (taken s b) y.taken z.taken);
       unread = never;
     }
 
 pub judges_binary : (s : Scope) (before : Taken) (at : ℕ) (operator : BinaryOperator) (a b : ExprTree) (left right both : Judged) (left_at right_at : ℕ) → Judges s before a left → Judges s left.taken b right → left_at ≡ place a → right_at ≡ place b → both.kind ≡ binary_kind (sort_of operator) left.kind right.kind → both.class ≡ None
-    → option_map reported both.fault ≡ earlier_of (earlier_of (option_map reported left.fault) (first (no_left (sort_of operator) left.kind left_at))) (earlier_of (option_map reported right.fault) (first (no_right (sort_of operator) left.kind right.kind right_at))) → both.taken ≡ right.taken
+    → option_map reported both.fault ≡ earlier_of (earlier_of (option_map reported left.fault) (first (unmet (left_need (sort_of operator)) left.kind left_at))) (earlier_of (option_map reported right.fault) (first (no_right (sort_of operator) left.kind right.kind right_at))) → both.taken ≡ right.taken
     → Judges s before (Binary at operator a b) both
 judges_binary s before at operator a b left right both left_at right_at l r p q k c f t =
-    let one = earlier_of (option_map reported left.fault) (first (no_left (sort_of operator) left.kind left_at)) in
+    let one = earlier_of (option_map reported left.fault) (first (unmet (left_need (sort_of operator)) left.kind left_at)) in
     let two = earlier_of (option_map reported right.fault) (first (no_right (sort_of operator) left.kind right.kind right_at)) in
     record {
       kind = k ∙ ap (λ o. binary_kind (sort_of operator) o right.kind) l.kind ∙ ap (binary_kind (sort_of operator) (kind_of s a)) r.kind;
       class = ap (option_map number_of_class) c;
-      fault = first_both (broken s a ++ no_left (sort_of operator) (kind_of s a) (place a)) (broken s b ++ no_right (sort_of operator) (kind_of s a) (kind_of s b) (place b)) one two (option_map reported both.fault)
-          (with_rule s (broken s a) a (no_left (sort_of operator)) (option_map reported left.fault) one left.kind left_at l.fault l.kind p refl)
+      fault = first_both (broken s a ++ unmet (left_need (sort_of operator)) (kind_of s a) (place a)) (broken s b ++ no_right (sort_of operator) (kind_of s a) (kind_of s b) (place b)) one two (option_map reported both.fault)
+          (with_rule s (broken s a) a (unmet (left_need (sort_of operator))) (option_map reported left.fault) one left.kind left_at l.fault l.kind p refl)
           (with_rule s (broken s b) b (no_right (sort_of operator) (kind_of s a)) (option_map reported right.fault) two right.kind right_at r.fault r.kind q (ap (λ o. earlier_of (option_map reported right.fault) (first (no_right (sort_of operator) o right.kind right_at))) l.kind)) f;
       taken = t ∙ counted_both before left.taken right.taken (taken s a) (taken s b) l.taken r.taken;
       unread = never;
@@ -211,18 +213,18 @@ judges_assign s before between at sign a b assignable left right both right_at l
 
 pub judges_update : (s : Scope) (before : Taken) (at sign : ℕ) (moment : Moment) (operator : BinaryOperator) (a b : ExprTree) (updatable : Bool) (left right both : Judged) (right_at : ℕ) → Judges s before a left → Judges s left.taken b right → updatable ≡ is_updatable a left.kind → right_at ≡ place b
     → both.kind ≡ cond updatable left.kind None → both.class ≡ None
-    → option_map reported both.fault ≡ earlier_of (earlier_of (option_map reported left.fault) (first (broken_if (not updatable) sign 44))) (earlier_of (option_map reported right.fault) (first (no_number right.kind right_at))) → both.taken ≡ right.taken
+    → option_map reported both.fault ≡ earlier_of (earlier_of (option_map reported left.fault) (first (broken_if (not updatable) sign 44))) (earlier_of (option_map reported right.fault) (first (unmet ANumber right.kind right_at))) → both.taken ≡ right.taken
     → Judges s before (Update at sign moment operator a b) both
 judges_update s before at sign moment operator a b updatable left right both right_at l r v p k c f t =
     let is = v ∙ ap (is_updatable a) l.kind in
     let own = broken_if (not (is_updatable a (kind_of s a))) sign 44 in
-    let two = earlier_of (option_map reported right.fault) (first (no_number right.kind right_at)) in
+    let two = earlier_of (option_map reported right.fault) (first (unmet ANumber right.kind right_at)) in
     record {
       kind = k ∙ ap (λ o. cond updatable o None) l.kind ∙ ap (λ p. cond p (kind_of s a) None) is;
       class = ap (option_map number_of_class) c;
-      fault = first_both (broken s a ++ own) (broken s b ++ no_number (kind_of s b) (place b)) (earlier_of (option_map reported left.fault) (first (broken_if (not updatable) sign 44))) two (option_map reported both.fault)
+      fault = first_both (broken s a ++ own) (broken s b ++ unmet ANumber (kind_of s b) (place b)) (earlier_of (option_map reported left.fault) (first (broken_if (not updatable) sign 44))) two (option_map reported both.fault)
           (first_both (broken s a) own (option_map reported left.fault) (first (broken_if (not updatable) sign 44)) _ l.fault (ap (λ p. first (broken_if (not p) sign 44)) is) refl)
-          (with_rule s (broken s b) b no_number (option_map reported right.fault) two right.kind right_at r.fault r.kind p refl) f;
+          (with_rule s (broken s b) b (unmet ANumber) (option_map reported right.fault) two right.kind right_at r.fault r.kind p refl) f;
       taken = t ∙ counted_both before left.taken right.taken (taken s a) (taken s b) l.taken r.taken;
       unread = never;
     }
@@ -234,7 +236,7 @@ unless_class true own fault e = refl
 unless_class false own fault e = e
 
 pub judges_message : (s : Scope) (before between : Taken) (at part : ℕ) (r : ExprTree) (selector : List ℕ) (arguments : ExprTrees) (class : Option ℕ) (judged new : Judged) (passed : Arguments) (here : ℕ) (own unknown : Option Broken) → class ≡ class_receiver s r → Judges s before r judged → here ≡ place r
-    → new.kind ≡ message_kind s class judged.kind (option_map number_of_class judged.class) selector → own ≡ cond (is_some class) None (earlier_of (option_map reported judged.fault) (first (no_object judged.kind here)))
+    → new.kind ≡ message_kind s class judged.kind (option_map number_of_class judged.class) selector → own ≡ cond (is_some class) None (earlier_of (option_map reported judged.fault) (first (unmet AnObject judged.kind here)))
     → unknown ≡ first (no_method s class judged.kind (option_map number_of_class judged.class) selector part) → between ≡ counted judged.taken (at_if (is_object new.kind) part)
     → option_map reported passed.fault ≡ first (broken_arguments s (Some (s.known.passed (receiver_sign class) selector)) false arguments) → passed.taken ≡ counted between (all_taken s arguments) → option_map number_of_class new.class ≡ sent_class s.known class (option_map number_of_class judged.class) selector
     → option_map reported new.fault ≡ earlier_of (earlier_of own unknown) (option_map reported passed.fault) → new.taken ≡ passed.taken → Judges s before (Send at part r selector arguments) new
@@ -242,7 +244,7 @@ judges_message s before between at part r selector arguments class judged new pa
     let kind = message_kind s (class_receiver s r) (kind_of s r) (class_of s r) selector in
     let is : new.kind ≡ kind = k ∙ ap (λ x. message_kind s x judged.kind (option_map number_of_class judged.class) selector) e ∙ ap (λ x. message_kind s (class_receiver s r) x (option_map number_of_class judged.class) selector) j.kind
     ∙ ap (λ x. message_kind s (class_receiver s r) (kind_of s r) x selector) j.class in
-    let one = if is_some (class_receiver s r) then [] else broken s r ++ no_object (kind_of s r) (place r) in
+    let one = if is_some (class_receiver s r) then [] else broken s r ++ unmet AnObject (kind_of s r) (place r) in
     let two = no_method s (class_receiver s r) (kind_of s r) (class_of s r) selector part in
     let gives = at_if (is_object kind) part in
     record {
@@ -250,8 +252,8 @@ judges_message s before between at part r selector arguments class judged new pa
       class = c ∙ ap (λ x. sent_class s.known x (option_map number_of_class judged.class) selector) e ∙ ap (λ x. sent_class s.known (class_receiver s r) x selector) j.class;
       fault = first_both (one ++ two) (broken_arguments s (Some (s.known.passed (receiver_sign (class_receiver s r)) selector)) false arguments) (earlier_of own unknown) (option_map reported passed.fault) (option_map reported new.fault)
           (first_both one two own unknown _
-          (o ∙ ap (λ x. cond (is_some x) None (earlier_of (option_map reported judged.fault) (first (no_object judged.kind here)))) e
-          ∙ unless_class (is_some (class_receiver s r)) (broken s r ++ no_object (kind_of s r) (place r)) _ (with_rule s (broken s r) r no_object (option_map reported judged.fault) _ judged.kind here j.fault j.kind p refl))
+          (o ∙ ap (λ x. cond (is_some x) None (earlier_of (option_map reported judged.fault) (first (unmet AnObject judged.kind here)))) e
+          ∙ unless_class (is_some (class_receiver s r)) (broken s r ++ unmet AnObject (kind_of s r) (place r)) _ (with_rule s (broken s r) r (unmet AnObject) (option_map reported judged.fault) _ judged.kind here j.fault j.kind p refl))
           (u ∙ ap (λ x. first (no_method s x judged.kind (option_map number_of_class judged.class) selector part)) e ∙ ap (λ x. first (no_method s (class_receiver s r) x (option_map number_of_class judged.class) selector part)) j.kind
           ∙ ap (λ x. first (no_method s (class_receiver s r) (kind_of s r) x selector part)) j.class) refl)
           (i ∙ ap (λ x. first (broken_arguments s (Some (s.known.passed (receiver_sign x) selector)) false arguments)) e) f;

@@ -1,20 +1,19 @@
 -- What is reported of methods, and one more.
-use Rattle.std.proofs.Common.{◌≡◌, false, Some, ℕ, ◌+◌, ◌<◌, Bool, List, ◌++◌, length, get_or, drop, Option, refl, ap, ◌∙◌}
+use Rattle.std.proofs.Common.{◌≡◌, ℕ, ◌+◌, ◌<◌, List, length, get_or, drop, Option, refl, ap, ◌∙◌}
 use Rattle.std.specs.List.{flat_map}
 use Rattle.arc_ast.specs.declared.tree.Implementation.{Implementation}
 use Rattle.arc_ast.specs.declared.tree.Interface.{Interface}
-use Rattle.arc_ast.specs.declared.tree.Kind.{Kind}
 use Rattle.arc_ast.specs.declared.tree.Method.{Method}
 use Rattle.arc_ast.specs.declared.tree.MethodHead.{MethodHead}
 use Rattle.arc_ast.specs.declared.tree.Parameter.{Parameter}
 use Rattle.arc_ast.specs.declared.tree.Stmt.{Stmt}
 use Rattle.arc_ast.specs.Tree.{parameter_trees, stmt_trees, head_tree, head_trees, method_tree, method_trees, interface_trees, implementation_trees}
 use Rattle.arc_class.specs.Broken.{Broken, first, earlier_of}
-use Rattle.arc_class.specs.Classes.{result_of}
 use Rattle.arc_class.proofs.Firsts.{first_turn, first_both}
-use Rattle.arc_judge.specs.Rules.{broken_parameters, broken_stmts, is_nothing, broken_head, broken_interface, broken_method, broken_implementation}
+use Rattle.arc_judge.specs.Rules.{broken_body, broken_head, broken_method}
+use Rattle.arc_judge.specs.private.Judging.{broken_interface, broken_implementation}
 use Rattle.arc_scope.specs.Scopes.{of_method}
-use Rattle.arc_scope.specs.Scopes.{Known, Scope, with_parameters}
+use Rattle.arc_scope.specs.Scopes.{Known, Scope}
 use Rattle.arc_scope.proofs.Lists.{drop_turn}
 
 pub heads_turn : (xs : List MethodHead) (i : ℕ) (x : MethodHead) (so_far one now whole : Option Broken) → i < length xs → x ≡ get_or xs i x → one ≡ first (broken_head (head_tree x)) → now ≡ earlier_of so_far one
@@ -29,13 +28,10 @@ interfaces_turn xs i x items so_far one now whole l e m o n w =
     (w ∙ ap (λ us. earlier_of so_far (first (flat_map broken_interface (interface_trees us)))) (drop_turn xs i x l e))
 
 -- a method's parameters and its body stand in Vecs
-pub method_is : (known : Known) (class : Option ℕ) (m : Method) (s : Scope) (gives : Kind) (gives_nothing : Bool) (named : List Parameter) (body : List Stmt) (own inside both : Option Broken) → own ≡ first (broken_head (head_tree m.head)) → s ≡ of_method known class (head_tree m.head) → gives ≡ result_of (head_tree m.head) → gives_nothing ≡ is_nothing (Some gives)
-    → named ≡ m.head.parameters.items → body ≡ m.body.items → inside ≡ first (broken_parameters s (parameter_trees named) ++ broken_stmts gives_nothing false (with_parameters s (parameter_trees named)) (stmt_trees body)) → both ≡ earlier_of own inside
-    → both ≡ first (broken_method known class (method_tree m))
-method_is known class m s gives gives_nothing named body own inside both o p k g n b h e =
-    let start = of_method known class (head_tree m.head) in
-    let ps = parameter_trees m.head.parameters.items in
-    first_both (broken_head (head_tree m.head)) (broken_parameters start ps ++ broken_stmts (is_nothing (Some (result_of (head_tree m.head)))) false (with_parameters start ps) (stmt_trees m.body.items)) own inside both o (h ∙ rw (g, p, k, n, b) refl) e
+pub method_is : (known : Known) (class : Option ℕ) (m : Method) (s : Scope) (named : List Parameter) (body : List Stmt) (own inside both : Option Broken) → own ≡ first (broken_head (head_tree m.head)) → s ≡ of_method known class (head_tree m.head)
+    → named ≡ m.head.parameters.items → body ≡ m.body.items → inside ≡ first (broken_body s (parameter_trees named) (stmt_trees body)) → both ≡ earlier_of own inside → both ≡ first (broken_method known class (method_tree m))
+method_is known class m s named body own inside both o p n b h e =
+    first_both (broken_head (head_tree m.head)) (broken_body (of_method known class (head_tree m.head)) (parameter_trees m.head.parameters.items) (stmt_trees m.body.items)) own inside both o (h ∙ rw (p, n, b) refl) e
 
 pub methods_turn : (known : Known) (class : Option ℕ) (xs : List Method) (i : ℕ) (x : Method) (so_far one now whole : Option Broken) → i < length xs → x ≡ get_or xs i x → one ≡ first (broken_method known class (method_tree x)) → now ≡ earlier_of so_far one
     → whole ≡ earlier_of so_far (first (flat_map (broken_method known class) (method_trees (drop i xs)))) → whole ≡ earlier_of now (first (flat_map (broken_method known class) (method_trees (drop (i + 1) xs))))

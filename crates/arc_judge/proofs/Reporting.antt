@@ -6,7 +6,8 @@ use Rattle.arc_class.specs.declared.table.ClassTable.{ClassTable}
 use Rattle.arc_class.specs.Broken.{Broken, first, earlier_of}
 use Rattle.arc_class.specs.Table.{IsTableOf}
 use Rattle.arc_class.proofs.Firsts.{first_both}
-use Rattle.arc_judge.specs.Rules.{broken_function, broken_global, broken_interface, broken_implementation, broken_unit}
+use Rattle.arc_judge.specs.Rules.{broken_function, broken_global, broken_unit}
+use Rattle.arc_judge.specs.private.Judging.{broken_interface, broken_implementation}
 use Rattle.arc_scope.specs.Known.{known_of}
 use Rattle.arc_scope.specs.Views.{known_in}
 use Rattle.arc_scope.proofs.Knowing.{known_is}

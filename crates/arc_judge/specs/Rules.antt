@@ -7,25 +7,25 @@ use Rattle.arc_ast.specs.declared.tree.Kind.{Kind}
 use Rattle.arc_ast.specs.declared.tree.Kind.TheVariants as k
 use Rattle.arc_ast.specs.Operators.{sort_of}
 use Rattle.arc_ast.specs.declared.tree.OperatorSort.{OperatorSort}
-use Rattle.arc_ast.specs.declared.tree.OperatorSort.TheVariants.{Arithmetic, Shift, Relation, Equality, Logic}
+use Rattle.arc_ast.specs.declared.tree.OperatorSort.TheVariants.{Arithmetic, Shift, Equality}
 use Rattle.arc_ast.specs.Types.{type_kind}
 use Rattle.arc_ast.specs.Types as types
-use Rattle.arc_ast.specs.Tree.{TypeTree, ExprTree, ExprTrees, Integer, Text, Paren, Call, Nil, Itself, Name, Unary, Cast, Binary, Conditional, Arrow, Assign, Update, Send, SendSuper, no_exprs, and_expr, place, VariableTree, StmtTree, StmtTrees, Block, Empty, Simple, Return, Variables, If, IfElse, While, Do, For, Break, Continue, no_stmts, and_stmt, ParameterTree, FunctionTree, GlobalTree, HeadTree, MethodTree, InterfaceTree, ImplementationTree, UnitTree}
+use Rattle.arc_ast.specs.Tree.{TypeTree, ExprTree, ExprTrees, Integer, Text, Paren, Call, Nil, Itself, Name, Unary, Cast, Binary, Conditional, Arrow, Assign, Update, Send, SendSuper, no_exprs, and_expr, place, VariableTree, StmtTree, StmtTrees, Block, Empty, Simple, Return, Variables, If, IfElse, While, Do, For, Break, Continue, no_stmts, and_stmt, ParameterTree, FunctionTree, GlobalTree, HeadTree, MethodTree, UnitTree}
 use Rattle.arc_ast.specs.declared.tree.Constant.{Constant}
 use Rattle.arc_ast.specs.declared.tree.Constant.TheVariants as constants
 use Rattle.arc_class.specs.Broken.{broken_if, Broken}
-use Rattle.arc_sites.specs.Sites.{named_parameters}
+use Rattle.arc_class.specs.Functions.{same_kind}
+use Rattle.arc_sites.specs.Sites.{Need, AValue, ANumber, AnObject, operand_need, left_need, named_parameters}
 use Rattle.arc_class.specs.declared.table.FoundField.{FoundField}
-use Rattle.arc_class.specs.Names.{known}
 use Rattle.arc_sites.specs.Violations.{violates}
 use Rattle.arc_judge.specs.declared.body.TheConstants.{MOST_PARAMETERS}
 use Rattle.arc_judge.specs.declared.taken.TheConstants.{MOST_TAKEN}
 use Rattle.arc_scope.specs.declared.callee.Callee.{Callee}
 use Rattle.arc_scope.specs.declared.callee.Callee.TheVariants.{Printf, GetChar, Defined, Unknown}
 use Rattle.arc_scope.specs.Formats.{wanted, fits}
-use Rattle.arc_scope.specs.Kinds.{literal_kind, wider, is_object}
+use Rattle.arc_scope.specs.Kinds.{literal_kind, is_number, wider, is_object}
 use Rattle.arc_scope.specs.Passing.{first_wanted, wanted_by, receiver_sign}
-use Rattle.arc_scope.specs.Scopes.{Known, Local, Scope, is_full, declare, with_parameters, leave, scope_after, outermost, variable, callee, result_kind, is_printf, own_class, own_field, is_visible, class_receiver, sent_kind, super_kind, class_of, of_method}
+use Rattle.arc_scope.specs.Scopes.{Known, Local, Scope, has_place, declare, with_parameters, leave, scope_after, outermost, variable, callee, result_kind, is_printf, own_class, own_field, is_visible, class_receiver, kind_given, sent_result, super_result, class_of, of_method}
 use Rattle.arc_scope.specs.Known.{known_of}
 use Rattle.arc_scope.specs.Scopes as scopes
 
@@ -56,10 +56,7 @@ kind_if so kind = if so then Some kind else None
 
 -- the kind in which an operator computes with an operand: int for a BOOL (C99, section 6.3.1.1), and none, where it is no number
 abbrev pub number_kind : Option Kind → Option Kind
-number_kind (Some k.Bool) = Some k.Int
-number_kind (Some k.Int) = Some k.Int
-number_kind (Some k.Long) = Some k.Long
-number_kind _ = None
+number_kind a = option_and_then (λ kind. kind_if (is_number kind) (wider kind k.Int)) a
 
 -- the wider kind of two operands: none, where one has none
 abbrev pub both_kinds : Option Kind → Option Kind → Option Kind
@@ -75,9 +72,7 @@ unary_kind _ a = number_kind a
 abbrev pub binary_kind : OperatorSort → Option Kind → Option Kind → Option Kind
 binary_kind Arithmetic a b = both_kinds (number_kind a) (number_kind b)
 binary_kind Shift a b = number_kind a
-binary_kind Relation a b = Some k.Int
-binary_kind Equality a b = Some k.Int
-binary_kind Logic a b = Some k.Int
+binary_kind _ a b = Some k.Int
 
 -- the kind of one of two values, which are both objects or both numbers (C99, section 6.5.15)
 abbrev pub either_kind : Option Kind → Option Kind → Option Kind
@@ -99,7 +94,7 @@ arrow_kind s kind f = if is_object kind then field_kind s f else None
 
 -- the kind of a message to a class, or else to what has a kind and a static class
 abbrev pub message_kind : Scope → (class : Option ℕ) → Option Kind → (static : Option ℕ) → List ℕ → Option Kind
-message_kind s class kind static selector = if is_some class || is_object kind then sent_kind s.known class static selector else None
+message_kind s class kind static selector = if is_some class || is_object kind then kind_given (sent_result s.known class static selector) else None
 
 -- whether an assignment's left side is a name, a field or `self`, parentheses aside
 abbrev pub is_assignable : ExprTree → Bool
@@ -108,10 +103,6 @@ is_assignable (Itself at) = true
 is_assignable (Name at name) = true
 is_assignable (Arrow at name_at a name) = true
 is_assignable _ = false
-
--- whether an update's left side, which is of a kind, is a variable or a field that holds a number; what has no kind breaks another rule
-abbrev pub is_updatable : ExprTree → Option Kind → Bool
-is_updatable a kind = is_assignable a && not (is_object kind)
 
 -- The kind of an expression, where it has one: it breaks no rule itself, and those have one on whose kinds its own rests. An assignment and an update have their
 -- left side's kind (C99, section 6.5.16).
@@ -130,78 +121,50 @@ abbrev mutual
   kind_of s (Conditional at c a b) = either_kind (kind_of s a) (kind_of s b)
   kind_of s (Arrow at name_at a name) = arrow_kind s (kind_of s a) (s.known.field (class_of s a) name)
   kind_of s (Assign at sign a b) = if is_assignable a then kind_of s a else None
-  kind_of s (Update at sign moment operator a b) = if is_updatable a (kind_of s a) then kind_of s a else None
+  kind_of s (Update at sign moment operator a b) = if is_assignable a && not (is_object (kind_of s a)) then kind_of s a else None
   kind_of s (Send at part receiver selector arguments) = message_kind s (class_receiver s receiver) (kind_of s receiver) (class_of s receiver) selector
-  kind_of s (SendSuper at part super_at selector arguments) = super_kind s selector
+  kind_of s (SendSuper at part super_at selector arguments) = kind_given (super_result s selector)
 
   pub kinds : Scope → ExprTrees → List (Option Kind)
   kinds s no_exprs = []
   kinds s (and_expr a others) = kind_of s a ∷ kinds s others
 
--- whether an expression of a kind gives nothing
-abbrev pub is_nothing : Option Kind → Bool
-is_nothing (Some k.Void) = true
-is_nothing _ = false
+-- whether a value of a kind isn't what is needed: a value at all (C99, section 6.3.2.2), a number, or an object
+abbrev pub lacks : Need → Kind → Bool
+lacks AValue kind = same_kind kind k.Void
+lacks ANumber kind = not (is_number kind)
+lacks AnObject kind = not (same_kind kind k.Object)
+lacks _ kind = false
 
--- 43 KindMismatch, at an expression's place: it gives no value where one is needed (C99, section 6.3.2.2); what has no kind breaks another rule
-abbrev pub no_value : Option Kind → ℕ → List Broken
-no_value kind at = broken_if (is_nothing kind) at 43
-
--- the same where it gives no number and one is needed
-abbrev pub no_number : Option Kind → ℕ → List Broken
-no_number kind at = broken_if (is_nothing kind || is_object kind) at 43
-
--- and where it gives no object and one is needed
-abbrev pub no_object : Option Kind → ℕ → List Broken
-no_object kind at = broken_if (is_some kind && not (is_object kind)) at 43
+-- 43 KindMismatch, at an expression's place: its value isn't what is needed; what has no kind breaks another rule
+abbrev pub unmet : Need → Option Kind → ℕ → List Broken
+unmet need kind at = broken_if (option_map_or (lacks need) kind false) at 43
 
 -- An object is assigned to what names objects, and a number to any number (C99, section 6.5.16.1); the same goes for what is cast (section 6.5.4, and OPL, "Static
 -- Typing").
+abbrev pub need_of : Kind → Need
+need_of kind = if same_kind kind k.Object then AnObject else ANumber
+
 abbrev pub no_such : (wanted given : Option Kind) → ℕ → List Broken
-no_such wanted given at = if is_none wanted then [] else if is_object wanted then no_object given at else no_number given at
+no_such wanted given at = option_map_or (λ kind. unmet (need_of kind) given at) wanted []
 
--- `!` asks of a number or an object whether it is 0 or nil; the other operators before an operand compute with a number (C99, section 6.5.3.3).
-abbrev pub no_operand : UnaryOperator → Option Kind → ℕ → List Broken
-no_operand u.Not a at = no_value a at
-no_operand _ a at = no_number a at
-
--- An operator computes with numbers; `==` and `!=` compare two numbers or two objects, and report an object and a number at the second (C99, section 6.5.9). So are
--- the two values of `?:` reported (6.5.15). `&&` and `||` ask of numbers and objects (6.5.13, 6.5.14).
-abbrev pub no_left : OperatorSort → Option Kind → ℕ → List Broken
-no_left Equality a at = no_value a at
-no_left Logic a at = no_value a at
-no_left _ a at = no_number a at
-
+-- The right operand is needed for what the left one is (`left_need`), but that `==` and `!=` compare two numbers or two objects, and report an object and a number at
+-- the second (C99, section 6.5.9). So are the two values of `?:` reported (6.5.15).
 abbrev pub no_right : OperatorSort → Option Kind → Option Kind → ℕ → List Broken
-no_right Equality a b at = if is_object a then no_object b at else no_number b at
-no_right Logic a b at = no_value b at
-no_right _ a b at = no_number b at
+no_right Equality a b at = unmet (option_map_or need_of a ANumber) b at
+no_right sort a b at = unmet (left_need sort) b at
 
-abbrev pub broken_at : ℕ → Option ℕ → List Broken
-broken_at at rule = option_map_or (λ number. record { at = at; number = number } ∷ []) rule []
-
--- 41 UnknownName, at a field's name: there is no such field. 49 FieldHidden, there too: it may not be named here (OPL, "The Scope of Instance Variables").
+-- 41 UnknownName, at a field's name: there is no such field, or a name that means neither a variable nor a field of `self` (C99, section 6.5.1). 49 FieldHidden, there too: it may not be named here (OPL, "The Scope of Instance Variables").
 abbrev pub no_field : Scope → Option FoundField → ℕ → List Broken
 no_field s found at = option_map_or (λ f. broken_if (not (is_visible s f)) at 49) found (record { at = at; number = 41 } ∷ [])
-
--- 41 UnknownName: a name that means neither a variable nor a field of `self` (C99, section 6.5.1)
-abbrev pub broken_name : Scope → Option Local → List ℕ → ℕ → List Broken
-broken_name s local name at = if is_some local then [] else no_field s (own_field s name) at
-
--- `self` is known in methods alone, and in a class method it is only sent messages: 41 UnknownName, and 43 KindMismatch (this project's own choice)
-abbrev pub broken_itself : Scope → ℕ → List Broken
-broken_itself s at = if is_some (own_class s) then [] else record { at = at; number = if is_some s.class then 43 else 41 } ∷ []
-
--- the field of an expression of a kind, which has to be an object
-abbrev pub broken_field : Scope → Option Kind → Option FoundField → ℕ → List Broken
-broken_field s kind f at = if is_object kind then no_field s f at else []
 
 -- 42 NoSuchMethod, at the first part of the selector: no method is known for a message to a class, or else to what has a kind and a static class
 abbrev pub no_method : Scope → (class : Option ℕ) → Option Kind → (static : Option ℕ) → List ℕ → ℕ → List Broken
 no_method s class kind static selector part =
-    broken_if ((is_some class || is_object kind) && is_none (sent_kind s.known class static selector)) part 42
+    broken_if ((is_some class || is_object kind) && is_none (kind_given (sent_result s.known class static selector))) part 42
 
--- All that is wrong with an expression but for the number of objects that it takes. 43 KindMismatch: a text stands anywhere but as the first argument of printf
+-- All that is wrong with an expression but for the number of objects that it takes. `self` is known in methods alone, and in a class method it is only sent messages: 41
+-- UnknownName, and 43 KindMismatch (this project's own choice). 43 too: a text stands anywhere but as the first argument of printf
 -- (this project's own choice). 44 NotAssignable, at the `=`: the left side is no variable, no field and not `self` (C99, section 6.5.16); at the operator
 -- of an update: it is none of these, or an object (6.5.16.2; with objects nothing is computed). A receiver is a class or has to be an object.
 abbrev mutual
@@ -209,28 +172,28 @@ abbrev mutual
   broken s (Text at bytes) = record { at = at; number = 43 } ∷ []
   broken s (Paren at a) = broken s a
   broken s (Call at name arguments) =
-      broken_at at (call_rule (callee s.known name) arguments (kinds s arguments))
+      option_map_or (broken_if true at) (call_rule (callee s.known name) arguments (kinds s arguments)) []
       ++ broken_arguments s (wanted_by (callee s.known name) (s.known.parameters name)) (is_printf (callee s.known name)) arguments
-  broken s (Itself at) = broken_itself s at
-  broken s (Name at name) = broken_name s (variable s name) name at
-  broken s (Unary at operator a) = broken s a ++ no_operand operator (kind_of s a) (place a)
+  broken s (Itself at) = if is_some (own_class s) then [] else broken_if true at (if is_some s.class then 43 else 41)
+  broken s (Name at name) = if is_some (variable s name) then [] else no_field s (own_field s name) at
+  broken s (Unary at operator a) = broken s a ++ unmet (operand_need operator) (kind_of s a) (place a)
   broken s (Cast at type a) = broken s a ++ no_such (Some (type_kind type)) (kind_of s a) (place a)
   broken s (Binary at operator a b) =
-      (broken s a ++ no_left (sort_of operator) (kind_of s a) (place a)) ++ (broken s b ++ no_right (sort_of operator) (kind_of s a) (kind_of s b) (place b))
+      (broken s a ++ unmet (left_need (sort_of operator)) (kind_of s a) (place a)) ++ (broken s b ++ no_right (sort_of operator) (kind_of s a) (kind_of s b) (place b))
   broken s (Conditional at c a b) =
-      (broken s c ++ no_value (kind_of s c) (place c))
-      ++ ((broken s a ++ no_left Equality (kind_of s a) (place a)) ++ (broken s b ++ no_right Equality (kind_of s a) (kind_of s b) (place b)))
+      (broken s c ++ unmet AValue (kind_of s c) (place c))
+      ++ ((broken s a ++ unmet AValue (kind_of s a) (place a)) ++ (broken s b ++ no_right Equality (kind_of s a) (kind_of s b) (place b)))
   broken s (Arrow at name_at a name) =
-      (broken s a ++ no_object (kind_of s a) (place a)) ++ broken_field s (kind_of s a) (s.known.field (class_of s a) name) name_at
+      (broken s a ++ unmet AnObject (kind_of s a) (place a)) ++ (if is_object (kind_of s a) then no_field s (s.known.field (class_of s a) name) name_at else [])
   broken s (Assign at sign a b) = (broken s a ++ broken_if (not (is_assignable a)) sign 44) ++ (broken s b ++ no_such (kind_of s a) (kind_of s b) (place b))
   broken s (Update at sign moment operator a b) =
-      (broken s a ++ broken_if (not (is_updatable a (kind_of s a))) sign 44) ++ (broken s b ++ no_number (kind_of s b) (place b))
+      (broken s a ++ broken_if (not (is_assignable a && not (is_object (kind_of s a)))) sign 44) ++ (broken s b ++ unmet ANumber (kind_of s b) (place b))
   broken s (Send at part receiver selector arguments) =
-      ((if is_some (class_receiver s receiver) then [] else broken s receiver ++ no_object (kind_of s receiver) (place receiver))
+      ((if is_some (class_receiver s receiver) then [] else broken s receiver ++ unmet AnObject (kind_of s receiver) (place receiver))
       ++ no_method s (class_receiver s receiver) (kind_of s receiver) (class_of s receiver) selector part)
       ++ broken_arguments s (Some (s.known.passed (receiver_sign (class_receiver s receiver)) selector)) false arguments
   broken s (SendSuper at part super_at selector arguments) =
-      broken_if (is_none (super_kind s selector)) part 42 ++ broken_arguments s (Some (s.known.passed s.sign selector)) false arguments
+      broken_if (is_none (kind_given (super_result s selector))) part 42 ++ broken_arguments s (Some (s.known.passed s.sign selector)) false arguments
   broken s _ = []
 
   -- An argument has to be what its parameter is, an object or a number (C99, section 6.5.2.2, paragraph 7); what printf prints may be of any kind here, since a wrong
@@ -245,16 +208,9 @@ abbrev mutual
 abbrev pub at_if : Bool → ℕ → List ℕ
 at_if so at = if so then at ∷ [] else []
 
--- a name reads the variable that it means or `self`, whose field it means, and then that field
-abbrev pub name_taken : Scope → Option Local → List ℕ → ℕ → List ℕ
-name_taken s None name at = at_if (is_some (own_field s name)) at ++ at_if (is_object (field_kind s (own_field s name))) at
-name_taken s (Some (scopes.Number kind n)) name at = []
-name_taken s (Some (scopes.Object n class)) name at = at ∷ []
-
--- a name that is assigned to reads `self`, where it means a field of it, and no variable
+-- a name reads `self`, where it means a field of it, and no variable
 abbrev pub unread_name : Scope → Option Local → List ℕ → ℕ → List ℕ
-unread_name s None name at = at_if (is_some (own_field s name)) at
-unread_name s (Some local) name at = []
+unread_name s local name at = at_if (is_none local && is_some (own_field s name)) at
 
 -- The places at which an expression takes an object, in the order of the source: each read of a variable that names objects, and of `self` (by `super` and by
 -- the name of a field too), each read of a field that names one, at its name, each call that gives an object, at its function's name, each message that does, at its selector's first part, and each assignment
@@ -264,7 +220,7 @@ abbrev mutual
   taken s (Paren at a) = taken s a
   taken s (Call at name arguments) = at_if (is_object (kind_of s (Call at name arguments))) at ++ all_taken s arguments
   taken s (Itself at) = at_if (is_some (own_class s)) at
-  taken s (Name at name) = name_taken s (variable s name) name at
+  taken s (Name at name) = unread_name s (variable s name) name at ++ at_if (is_object (name_kind s (variable s name) name)) at
   taken s (Unary at operator a) = taken s a
   taken s (Cast at type a) = taken s a
   taken s (Binary at operator a b) = taken s a ++ taken s b
@@ -275,7 +231,7 @@ abbrev mutual
   taken s (Send at part receiver selector arguments) =
       (taken s receiver ++ at_if (is_object (message_kind s (class_receiver s receiver) (kind_of s receiver) (class_of s receiver) selector)) part) ++ all_taken s arguments
   taken s (SendSuper at part super_at selector arguments) =
-      (at_if (is_some (own_class s)) super_at ++ at_if (is_object (super_kind s selector)) part) ++ all_taken s arguments
+      (at_if (is_some (own_class s)) super_at ++ at_if (is_object (kind_given (super_result s selector))) part) ++ all_taken s arguments
   taken s _ = []
 
   -- what a variable, a field or `self` takes that isn't read, but assigned to: the object whose field it is
@@ -294,15 +250,11 @@ abbrev mutual
 abbrev pub broken_whole : Scope → ExprTree → List Broken
 broken_whole s a = broken s a ++ violates 50 (slice_get (taken s a) MOST_TAKEN)
 
--- and with one that has to give a number
-abbrev pub broken_number : Scope → ExprTree → List Broken
-broken_number s a = broken_whole s a ++ no_number (kind_of s a) (place a)
-
 -- ---- statements
 
 -- all that is wrong with a test, which is a number or an object (C99, section 6.8.4.1)
 abbrev pub broken_test : Scope → ExprTree → List Broken
-broken_test s a = broken_whole s a ++ no_value (kind_of s a) (place a)
+broken_test s a = broken_whole s a ++ unmet AValue (kind_of s a) (place a)
 
 abbrev pub broken_initial : Scope → TypeTree → Option ExprTree → List Broken
 broken_initial s type a = option_map_or (λ e. broken_whole s e ++ no_such (Some (type_kind type)) (kind_of s e) (place e)) a []
@@ -311,19 +263,18 @@ broken_initial s type a = option_map_or (λ e. broken_whole s e ++ no_such (Some
 abbrev pub broken_variables : TypeTree → Scope → List VariableTree → List Broken
 broken_variables type s [] = []
 broken_variables type s (v ∷ others) =
-    broken_if (is_full s) v.at 50 ++ (broken_initial (declare v.name type s) type v.initial ++ broken_variables type (declare v.name type s) others)
+    broken_if (not (has_place s)) v.at 50 ++ (broken_initial (declare v.name type s) type v.initial ++ broken_variables type (declare v.name type s) others)
 
 -- the same of parameters
 abbrev pub broken_parameters : Scope → List ParameterTree → List Broken
 broken_parameters s [] = []
-broken_parameters s (p ∷ others) = broken_if (is_full s) p.at 50 ++ broken_parameters (declare p.name p.type s) others
+broken_parameters s (p ∷ others) = broken_if (not (has_place s)) p.at 50 ++ broken_parameters (declare p.name p.type s) others
 
 -- 43 KindMismatch too: a value that a function without a result returns, an object that one returns which gives a number, and the reverse, at the value (C99, section
 -- 6.8.6.4)
-abbrev pub broken_result : (gives_nothing : Bool) → Scope → Option ExprTree → List Broken
-broken_result gives_nothing s None = []
-broken_result true s (Some a) = broken_whole s a ++ record { at = place a; number = 43 } ∷ []
-broken_result false s (Some a) = broken_whole s a ++ no_such (Some s.result) (kind_of s a) (place a)
+abbrev pub broken_result : Scope → Option ExprTree → List Broken
+broken_result s None = []
+broken_result s (Some a) = broken_whole s a ++ (if same_kind s.result k.Void then broken_if true (place a) 43 else no_such (Some s.result) (kind_of s a) (place a))
 
 -- all that is wrong with the test and the step of a `for`, if they are there (C99, section 6.8.5.3)
 abbrev pub broken_clauses : Scope → (test step : Option ExprTree) → List Broken
@@ -332,71 +283,57 @@ broken_clauses s test step = option_map_or (broken_test s) test [] ++ option_map
 -- All that is wrong with a statement, which is in the body of a loop or isn't. 48 OutsideLoop: a `break` or a `continue` in no such body, at its first byte (C99,
 -- sections 6.8.6.2 and 6.8.6.3).
 abbrev mutual
-  pub broken_stmt : (gives_nothing in_loop : Bool) → Scope → StmtTree → List Broken
-  broken_stmt gives_nothing in_loop s (Block at all) = broken_stmts gives_nothing in_loop s all
-  broken_stmt gives_nothing in_loop s (Empty at) = []
-  broken_stmt gives_nothing in_loop s (Simple a) = broken_whole s a
-  broken_stmt gives_nothing in_loop s (Return at a) = broken_result gives_nothing s a
-  broken_stmt gives_nothing in_loop s (Variables at qualifiers type all) = broken_variables type s all
-  broken_stmt gives_nothing in_loop s (If at c a) = broken_test s c ++ broken_stmt gives_nothing in_loop s a
-  broken_stmt gives_nothing in_loop s (IfElse at c a b) = broken_test s c ++ (broken_stmt gives_nothing in_loop s a ++ broken_stmt gives_nothing in_loop (leave s (scope_after s a)) b)
-  broken_stmt gives_nothing in_loop s (While at c a) = broken_test s c ++ broken_stmt gives_nothing true s a
-  broken_stmt gives_nothing in_loop s (Do at a c) = broken_test s c ++ broken_stmt gives_nothing true s a
-  broken_stmt gives_nothing in_loop s (For at a c e b) =
-      broken_stmt gives_nothing false s a ++ (broken_clauses (scope_after s a) c e ++ broken_stmt gives_nothing true (scope_after s a) b)
-  broken_stmt gives_nothing in_loop s (Break at) = broken_if (not in_loop) at 48
-  broken_stmt gives_nothing in_loop s (Continue at) = broken_if (not in_loop) at 48
+  pub broken_stmt : (in_loop : Bool) → Scope → StmtTree → List Broken
+  broken_stmt in_loop s (Block at all) = broken_stmts in_loop s all
+  broken_stmt in_loop s (Empty at) = []
+  broken_stmt in_loop s (Simple a) = broken_whole s a
+  broken_stmt in_loop s (Return at a) = broken_result s a
+  broken_stmt in_loop s (Variables at qualifiers type all) = broken_variables type s all
+  broken_stmt in_loop s (If at c a) = broken_test s c ++ broken_stmt in_loop s a
+  broken_stmt in_loop s (IfElse at c a b) = broken_test s c ++ (broken_stmt in_loop s a ++ broken_stmt in_loop (leave s (scope_after s a)) b)
+  broken_stmt in_loop s (While at c a) = broken_test s c ++ broken_stmt true s a
+  broken_stmt in_loop s (Do at a c) = broken_test s c ++ broken_stmt true s a
+  broken_stmt in_loop s (For at a c e b) =
+      broken_stmt false s a ++ (broken_clauses (scope_after s a) c e ++ broken_stmt true (scope_after s a) b)
+  broken_stmt in_loop s (Break at) = broken_if (not in_loop) at 48
+  broken_stmt in_loop s (Continue at) = broken_if (not in_loop) at 48
 
-  pub broken_stmts : (gives_nothing in_loop : Bool) → Scope → StmtTrees → List Broken
-  broken_stmts gives_nothing in_loop s no_stmts = []
-  broken_stmts gives_nothing in_loop s (and_stmt a others) = broken_stmt gives_nothing in_loop s a ++ broken_stmts gives_nothing in_loop (scope_after s a) others
+  pub broken_stmts : (in_loop : Bool) → Scope → StmtTrees → List Broken
+  broken_stmts in_loop s no_stmts = []
+  broken_stmts in_loop s (and_stmt a others) = broken_stmt in_loop s a ++ broken_stmts in_loop (scope_after s a) others
 
--- the parameters of a mere declaration are counted alone
-abbrev pub broken_body : (result : Kind) → Known → List ParameterTree → Option StmtTrees → List Broken
-broken_body result known parameters None = []
-broken_body result known parameters (Some body) =
-    broken_parameters (outermost known result) parameters ++ broken_stmts (is_nothing (Some result)) false (with_parameters (outermost known result) parameters) body
+-- and with a body and its parameters
+abbrev pub broken_body : Scope → List ParameterTree → StmtTrees → List Broken
+broken_body s parameters body = broken_parameters s parameters ++ broken_stmts false (with_parameters s parameters) body
 
 -- ---- variables of the whole program
 
--- A constant is a number, or `nil`.
-abbrev pub constant_kind : Constant → Kind
-constant_kind (constants.Number at n) = k.Int
-constant_kind (constants.Nil at) = k.Object
-
--- the place of its first byte
-abbrev pub constant_place : Constant → ℕ
-constant_place (constants.Number at n) = at
-constant_place (constants.Nil at) = at
-
 -- 43 KindMismatch too: a number with which a variable begins that names objects, or `nil` with which one begins that holds a number, at the constant's first byte
 -- (C99, section 6.7.8, paragraph 11)
+abbrev pub broken_constant : Need → Constant → List Broken
+broken_constant need (constants.Number at n) = unmet need (Some k.Int) at
+broken_constant need (constants.Nil at) = unmet need (Some k.Object) at
+
 abbrev pub broken_global : GlobalTree → List Broken
-broken_global g = option_map_or (λ c. no_such (Some (type_kind g.type)) (Some (constant_kind c)) (constant_place c)) g.initial []
+broken_global g = option_map_or (broken_constant (need_of (type_kind g.type))) g.initial []
 
 -- ---- functions, methods and classes
 
--- 45 ArgumentCount too: a function with more parameters than are allowed, at its name (this project's own choice)
+-- 45 ArgumentCount too: a function with more parameters than are allowed, at its name (this project's own choice); those of a mere declaration are counted alone
 abbrev pub broken_function : Known → FunctionTree → List Broken
 broken_function known f =
-    broken_if (nat_lt MOST_PARAMETERS (length (named_parameters f.parameters))) f.at 45 ++ broken_body (types.result_kind f.result) known (named_parameters f.parameters) f.body
+    broken_if (nat_lt MOST_PARAMETERS (length (named_parameters f.parameters))) f.at 45
+    ++ option_map_or (broken_body (outermost known (types.result_kind f.result)) (named_parameters f.parameters)) f.body []
 
 -- 45 ArgumentCount too: a method with more parameters, declared or defined, at its sign
 abbrev pub broken_head : HeadTree → List Broken
 broken_head h = broken_if (nat_lt MOST_PARAMETERS (length h.parameters)) h.at 45
 
-abbrev pub broken_interface : InterfaceTree → List Broken
-broken_interface i = flat_map broken_head i.methods
-
 abbrev pub broken_method : Known → (class : Option ℕ) → MethodTree → List Broken
-broken_method known class m = broken_head m.head
-    ++ (broken_parameters (of_method known class m.head) m.head.parameters
-    ++ broken_stmts (is_nothing (Some (types.result_kind m.head.result))) false (with_parameters (of_method known class m.head) m.head.parameters) m.body)
-
-abbrev pub broken_implementation : Known → ImplementationTree → List Broken
-broken_implementation known i = flat_map (broken_method known (known.class i.name)) i.methods
+broken_method known class m = broken_head m.head ++ broken_body (of_method known class m.head) m.head.parameters m.body
 
 -- all that is wrong in the functions and the methods of a source
 abbrev pub broken_unit : UnitTree → List Broken
 broken_unit u = flat_map (broken_function (known_of u)) u.functions
-    ++ (flat_map broken_global u.globals ++ (flat_map broken_interface u.interfaces ++ flat_map (broken_implementation (known_of u)) u.implementations))
+    ++ (flat_map broken_global u.globals
+    ++ (flat_map (λ i. flat_map broken_head i.methods) u.interfaces ++ flat_map (λ i. flat_map (broken_method (known_of u) ((known_of u).class i.name)) i.methods) u.implementations))

@@ -3,13 +3,13 @@ ghost use Rattle.std.specs.Prelude.{◌≡◌, true, false, [], ◌++◌, IfOk, 
 ghost use Rattle.std.specs.Option.{option_map_or};
 ghost use Rattle.std.specs.List.{flat_map};
 ghost use Rattle.arc_ast.specs.Tree.{expr_tree, type_tree, variable_trees, parameter_trees, stmt_tree, stmt_trees, function_tree, function_trees};
+ghost use Rattle.arc_class.specs.Functions.{same_kind};
 ghost use Rattle.arc_class.specs.Broken.{broken_if, first};
 ghost use Rattle.arc_class.specs.declared.table.ClassTable.{ClassTable};
 ghost use Rattle.arc_sites.specs.Sites as sites;
 ghost use Rattle.arc_judge.specs.Fault.{reported};
-ghost use Rattle.arc_judge.specs.Rules as rules;
 ghost use Rattle.arc_judge.specs.Rules.{broken_clauses, broken_test, broken_whole, broken_initial, broken_variables, broken_parameters, broken_result, broken_stmt, broken_stmts, broken_body, broken_function};
-ghost use Rattle.arc_scope.specs.Scopes.{is_full, leave, scope_after, scope_after_all, with_variables, with_parameters};
+ghost use Rattle.arc_scope.specs.Scopes.{has_place, leave, outermost, scope_after, scope_after_all, with_variables, with_parameters};
 ghost use Rattle.arc_scope.specs.Views.{known_in, seen};
 
 use crate::rule::place;
@@ -40,16 +40,15 @@ fn initial<'a>(
 /// The first rule that is broken in what a function returns.
 fn returned<'a>(
     table: &ClassTable<'a>,
-    gives_nothing: bool,
     visible: &Visible<'a>,
     expr: &'a Option<Expr>,
 ) -> Option<CheckFault>
-    ensures { option_map reported result ≡ first (broken_result gives_nothing (seen table.now visible.now) (option_map expr_tree expr.now)) }
+    ensures { option_map reported result ≡ first (broken_result (seen table.now visible.now) (option_map expr_tree expr.now)) }
 {
     let Some(expr) = expr else {
         return None;
     };
-    if gives_nothing {
+    if is_void(visible.result) {
         let judged = judge_whole(table, visible, expr);
         earlier(judged.fault, Some(CheckFault::KindMismatch(place(expr))))
     } else {
@@ -59,7 +58,7 @@ fn returned<'a>(
 
 /// The rule that one variable more breaks, whose name is at this place.
 fn place_fault(visible: &Visible, at: usize) -> Option<CheckFault>
-    ensures { (table : ClassTable) → option_map reported result ≡ first (broken_if (is_full (seen table visible.now)) at 50) }
+    ensures { (table : ClassTable) → option_map reported result ≡ first (broken_if (not (has_place (seen table visible.now))) at 50) }
 {
     if visible.is_full() {
         Some(CheckFault::TooManyLocals(at))
@@ -161,17 +160,16 @@ fn clauses<'a>(
 #[cycle(statements)]
 fn scoped<'a>(
     table: &ClassTable<'a>,
-    gives_nothing: bool,
     in_loop: bool,
     visible: &mut Visible<'a>,
     inner: &'a Stmt,
 ) -> Result<Option<CheckFault>, AllocError>
-    ensures fault { IfOk result (λ fault. option_map reported fault ≡ first (broken_stmt gives_nothing in_loop (seen table.now visible.old) (stmt_tree inner.now))) }
+    ensures fault { IfOk result (λ fault. option_map reported fault ≡ first (broken_stmt in_loop (seen table.now visible.old) (stmt_tree inner.now))) }
     ensures scope { OnOk result (seen table.now visible.new ≡ leave (seen table.now visible.old) (scope_after (seen table.now visible.old) (stmt_tree inner.now))) }
     ensures keeps { OnOk result (visible.new.bound.items ≡ visible.old.bound.items) }
 {
     let count = visible.bound.len();
-    let fault = statement(table, gives_nothing, in_loop, visible, inner)?;
+    let fault = statement(table, in_loop, visible, inner)?;
     visible.leave(count);
     Ok(fault)
 }
@@ -180,17 +178,16 @@ fn scoped<'a>(
 #[cycle(statements)]
 fn block<'a>(
     table: &ClassTable<'a>,
-    gives_nothing: bool,
     in_loop: bool,
     visible: &mut Visible<'a>,
     all: &'a [Stmt],
 ) -> Result<Option<CheckFault>, AllocError>
-    ensures fault { IfOk result (λ fault. option_map reported fault ≡ first (broken_stmts gives_nothing in_loop (seen table.now visible.old) (stmt_trees all.now))) }
+    ensures fault { IfOk result (λ fault. option_map reported fault ≡ first (broken_stmts in_loop (seen table.now visible.old) (stmt_trees all.now))) }
     ensures scope { OnOk result (seen table.now visible.new ≡ leave (seen table.now visible.old) (scope_after_all (seen table.now visible.old) (stmt_trees all.now))) }
     ensures keeps { OnOk result (visible.new.bound.items ≡ visible.old.bound.items) }
 {
     let count = visible.bound.len();
-    let fault = statements(table, gives_nothing, in_loop, visible, all)?;
+    let fault = statements(table, in_loop, visible, all)?;
     visible.leave(count);
     Ok(fault)
 }
@@ -199,44 +196,43 @@ fn block<'a>(
 #[cycle(statements)]
 fn statement<'a>(
     table: &ClassTable<'a>,
-    gives_nothing: bool,
     in_loop: bool,
     visible: &mut Visible<'a>,
     statement: &'a Stmt,
 ) -> Result<Option<CheckFault>, AllocError>
-    ensures fault { IfOk result (λ fault. option_map reported fault ≡ first (broken_stmt gives_nothing in_loop (seen table.now visible.old) (stmt_tree statement.now))) }
+    ensures fault { IfOk result (λ fault. option_map reported fault ≡ first (broken_stmt in_loop (seen table.now visible.old) (stmt_tree statement.now))) }
     ensures scope { OnOk result (seen table.now visible.new ≡ scope_after (seen table.now visible.old) (stmt_tree statement.now)) }
     ensures keeps { OnOk result (take (length visible.old.bound.items) visible.new.bound.items ≡ visible.old.bound.items) }
 {
     match statement {
-        Stmt::Block(_, all) => block(table, gives_nothing, in_loop, visible, all),
+        Stmt::Block(_, all) => block(table, in_loop, visible, all),
         Stmt::Empty(_) => Ok(None),
         Stmt::Expr(expr) => Ok(judge_whole(table, visible, expr).fault),
-        Stmt::Return(_, expr) => Ok(returned(table, gives_nothing, visible, expr)),
+        Stmt::Return(_, expr) => Ok(returned(table, visible, expr)),
         Stmt::Variables(_, _, type_name, all) => variables(table, visible, type_name, all),
         Stmt::If(_, test, then) => {
             let fault = test_fault(table, visible, test);
-            let inside = scoped(table, gives_nothing, in_loop, visible, then)?;
+            let inside = scoped(table, in_loop, visible, then)?;
             Ok(earlier(fault, inside))
         }
         Stmt::IfElse(_, test, then, other) => {
             let fault = test_fault(table, visible, test);
-            let first = scoped(table, gives_nothing, in_loop, visible, then)?;
-            let second = scoped(table, gives_nothing, in_loop, visible, other)?;
+            let first = scoped(table, in_loop, visible, then)?;
+            let second = scoped(table, in_loop, visible, other)?;
             Ok(earlier(fault, earlier(first, second)))
         }
         Stmt::While(_, test, body) => {
             let fault = test_fault(table, visible, test);
-            let inside = scoped(table, gives_nothing, true, visible, body)?;
+            let inside = scoped(table, true, visible, body)?;
             Ok(earlier(fault, inside))
         }
         Stmt::Do(_, body, test) => {
             let fault = test_fault(table, visible, test);
-            let inside = scoped(table, gives_nothing, true, visible, body)?;
+            let inside = scoped(table, true, visible, body)?;
             Ok(earlier(fault, inside))
         }
         Stmt::For(_, beginning, test, step, body) => {
-            stepped(table, gives_nothing, visible, beginning, test, step, body)
+            stepped(table, visible, beginning, test, step, body)
         }
         Stmt::Break(at) => Ok(loop_fault(in_loop, *at)),
         Stmt::Continue(at) => Ok(loop_fault(in_loop, *at)),
@@ -247,7 +243,6 @@ fn statement<'a>(
 #[cycle(statements)]
 fn stepped<'a>(
     table: &ClassTable<'a>,
-    gives_nothing: bool,
     visible: &mut Visible<'a>,
     beginning: &'a Stmt,
     test: &'a Option<Expr>,
@@ -255,15 +250,15 @@ fn stepped<'a>(
     body: &'a Stmt,
 ) -> Result<Option<CheckFault>, AllocError>
     ensures fault { let s = seen table.now visible.old in let own = scope_after s (stmt_tree beginning.now) in
-        IfOk result (λ fault. option_map reported fault ≡ first (broken_stmt gives_nothing false s (stmt_tree beginning.now)
-        ++ (broken_clauses own (option_map expr_tree test.now) (option_map expr_tree step.now) ++ broken_stmt gives_nothing true own (stmt_tree body.now)))) }
+        IfOk result (λ fault. option_map reported fault ≡ first (broken_stmt false s (stmt_tree beginning.now)
+        ++ (broken_clauses own (option_map expr_tree test.now) (option_map expr_tree step.now) ++ broken_stmt true own (stmt_tree body.now)))) }
     ensures scope { let s = seen table.now visible.old in OnOk result (seen table.now visible.new ≡ leave s (scope_after (scope_after s (stmt_tree beginning.now)) (stmt_tree body.now))) }
     ensures keeps { OnOk result (visible.new.bound.items ≡ visible.old.bound.items) }
 {
     let count = visible.bound.len();
-    let before = statement(table, gives_nothing, false, visible, beginning)?;
+    let before = statement(table, false, visible, beginning)?;
     let clauses = clauses(table, visible, test, step);
-    let inside = scoped(table, gives_nothing, true, visible, body)?;
+    let inside = scoped(table, true, visible, body)?;
     visible.leave(count);
     Ok(earlier(before, earlier(clauses, inside)))
 }
@@ -272,21 +267,17 @@ fn stepped<'a>(
 #[cycle(statements)]
 fn statements<'a>(
     table: &ClassTable<'a>,
-    gives_nothing: bool,
     in_loop: bool,
     visible: &mut Visible<'a>,
     all: &'a [Stmt],
 ) -> Result<Option<CheckFault>, AllocError>
-    ensures fault { IfOk result (λ fault. option_map reported fault ≡ first (broken_stmts gives_nothing in_loop (seen table.now visible.old) (stmt_trees all.now))) }
+    ensures fault { IfOk result (λ fault. option_map reported fault ≡ first (broken_stmts in_loop (seen table.now visible.old) (stmt_trees all.now))) }
     ensures scope { OnOk result (seen table.now visible.new ≡ scope_after_all (seen table.now visible.old) (stmt_trees all.now)) }
     ensures keeps { OnOk result (take (length visible.old.bound.items) visible.new.bound.items ≡ visible.old.bound.items) }
 {
     let mut fault = None;
     for one in all {
-        fault = earlier(
-            fault,
-            statement(table, gives_nothing, in_loop, visible, one)?,
-        );
+        fault = earlier(fault, statement(table, in_loop, visible, one)?);
     }
     Ok(fault)
 }
@@ -307,7 +298,7 @@ pub fn count_fault(at: usize, count: usize) -> Option<CheckFault>
 
 /// Whether nothing is of the kind.
 pub fn is_void(kind: Kind) -> bool
-    ensures { result ≡ rules.is_nothing (Some kind) }
+    ensures { result ≡ same_kind kind Kind.Void }
 {
     matches!(kind, Kind::Void)
 }
@@ -315,23 +306,17 @@ pub fn is_void(kind: Kind) -> bool
 /// The first rule that is broken in a body, its parameters among it, from what is visible before them.
 pub fn inside<'a>(
     table: &ClassTable<'a>,
-    gives_nothing: bool,
     mut visible: Visible<'a>,
     named: &'a [Parameter],
     all: &'a [Stmt],
 ) -> Result<Option<CheckFault>, AllocError>
-    ensures { IfOk result (λ fault. option_map reported fault
-        ≡ first (broken_parameters (seen table.now visible.entry) (parameter_trees named.now)
-        ++ broken_stmts gives_nothing false (with_parameters (seen table.now visible.entry) (parameter_trees named.now)) (stmt_trees all.now))) }
+    ensures { IfOk result (λ fault. option_map reported fault ≡ first (broken_body (seen table.now visible.entry) (parameter_trees named.now) (stmt_trees all.now))) }
 {
     let fault = parameters(table, &mut visible, named)?;
-    Ok(earlier(
-        fault,
-        statements(table, gives_nothing, false, &mut visible, all)?,
-    ))
+    Ok(earlier(fault, statements(table, false, &mut visible, all)?))
 }
 
-/// The first rule that is broken in the body of a function that gives a value of the kind.
+/// The first rule that is broken in the body of a function that gives a value of the kind, if it has one.
 fn body<'a>(
     alloc: Global,
     table: &ClassTable<'a>,
@@ -340,13 +325,13 @@ fn body<'a>(
     all: &'a Option<Vec<Stmt>>,
 ) -> Result<Option<CheckFault>, AllocError>
     ensures { IfOk result (λ fault. option_map reported fault
-        ≡ first (broken_body gives (known_in table.now) (parameter_trees named.now) (option_map (λ b. stmt_trees b.items) all.now))) }
+        ≡ first (option_map_or (broken_body (outermost (known_in table.now) gives) (parameter_trees named.now)) (option_map (λ b. stmt_trees b.items) all.now) [])) }
 {
     let Some(all) = all else {
         return Ok(None);
     };
     let visible = Visible::new(alloc, gives);
-    inside(table, is_void(gives), visible, named, all)
+    inside(table, visible, named, all)
 }
 
 /// The first rule that is broken in a function.

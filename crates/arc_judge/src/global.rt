@@ -4,6 +4,7 @@ ghost use Rattle.arc_ast.specs.Tree.{global_tree, global_trees};
 ghost use Rattle.arc_class.specs.Broken.{first};
 ghost use Rattle.arc_judge.specs.Fault.{reported};
 ghost use Rattle.arc_judge.specs.Rules as rules;
+ghost use Rattle.arc_judge.specs.Rules.{need_of};
 
 use crate::rule::no_such;
 use arc_ast::tree;
@@ -11,23 +12,13 @@ use arc_ast::tree::{Constant, Kind};
 use arc_fault::check::CheckFault;
 use arc_sites::violation::earlier;
 
-/// The kind of a constant, by which it may be what a variable begins with.
-fn constant_kind(constant: Constant) -> Kind
-    ensures { result ≡ rules.constant_kind constant }
+/// The rule that a constant breaks with which a variable of the kind begins.
+fn judge_constant(wanted: Kind, constant: Constant) -> Option<CheckFault>
+    ensures { option_map reported result ≡ first (rules.broken_constant (need_of wanted) constant) }
 {
     match constant {
-        Constant::Number(_, _) => Kind::Int,
-        Constant::Nil(_) => Kind::Object,
-    }
-}
-
-/// The place of a constant's first byte.
-fn constant_place(constant: Constant) -> usize
-    ensures { result ≡ rules.constant_place constant }
-{
-    match constant {
-        Constant::Number(at, _) => at,
-        Constant::Nil(at) => at,
+        Constant::Number(at, _) => no_such(Some(wanted), Some(Kind::Int), at),
+        Constant::Nil(at) => no_such(Some(wanted), Some(Kind::Object), at),
     }
 }
 
@@ -36,9 +27,7 @@ fn judge_global(global: &tree::Global) -> Option<CheckFault>
     ensures { option_map reported result ≡ first (rules.broken_global (global_tree global.now)) }
 {
     let constant = global.initial?;
-    let wanted = Some(global.type_name.kind());
-    let given = Some(constant_kind(constant));
-    no_such(wanted, given, constant_place(constant))
+    judge_constant(global.type_name.kind(), constant)
 }
 
 /// The first rule that variables break by what they begin with.

@@ -8,11 +8,12 @@ ghost use Rattle.arc_class.specs.declared.table.ClassTable.{ClassTable};
 ghost use Rattle.arc_class.specs.Table.{number_of_class};
 ghost use Rattle.arc_judge.specs.Fault.{reported};
 ghost use Rattle.arc_scope.specs.Formats.{wanted};
-ghost use Rattle.arc_judge.specs.private.Judging.{Judges, JudgesAll, JudgesCall, counted};
+ghost use Rattle.arc_judge.specs.private.Judging.{Judges, JudgesAll, JudgesCall, broken_field, counted};
 ghost use Rattle.arc_judge.specs.Rules as rules;
 ghost use Rattle.arc_ast.specs.Operators.{sort_of};
 ghost use Rattle.arc_ast.specs.declared.tree.Moment.{Moment};
-ghost use Rattle.arc_judge.specs.Rules.{kind_if, no_left, no_number, no_right, no_value};
+ghost use Rattle.arc_judge.specs.Rules.{kind_if, no_right, unmet};
+ghost use Rattle.arc_sites.specs.Sites.{ANumber, AValue, AnObject, left_need};
 ghost use Rattle.arc_scope.specs.Kinds as kinds;
 ghost use Rattle.arc_scope.specs.Scopes as scopes;
 ghost use Rattle.arc_scope.specs.declared.scope.Visible.{Visible};
@@ -73,15 +74,15 @@ fn number(kind: Option<Kind>, fault: Option<CheckFault>, taken: Taken) -> Judged
     }
 }
 
-/// An object, of a static class, which is read from a variable or `self` at this place.
-fn object_read(class: Option<ClassId>, before: Taken, at: usize) -> Judged
-    ensures { result ≡ (record { kind = Some Kind.Object; class = class; fault = None; taken = counted before (at ∷ []); unread = before }) }
+/// A value of the kind, and an object of a static class, which is read from a variable or `self` at this place.
+fn variable_read(kind: Kind, class: Option<ClassId>, before: Taken, at: usize) -> Judged
+    ensures { result ≡ (record { kind = Some kind; class = class; fault = None; taken = counted before (rules.at_if (kinds.is_object (Some kind)) at); unread = before }) }
 {
     Judged {
-        kind: Some(Kind::Object),
+        kind: Some(kind),
         class,
         fault: None,
-        taken: before.one_if(true, at),
+        taken: before.one_if(is_object(Some(kind)), at),
         unread: before,
     }
 }
@@ -112,7 +113,7 @@ fn combined(
     ensures class { result.class ≡ None }
     ensures taken { result.taken ≡ right.taken }
     ensures fault { option_map reported result.fault
-        ≡ earlier_of (earlier_of (option_map reported left.fault) (first (no_left (sort_of operator) left.kind left_at)))
+        ≡ earlier_of (earlier_of (option_map reported left.fault) (first (unmet (left_need (sort_of operator)) left.kind left_at)))
         (earlier_of (option_map reported right.fault) (first (no_right (sort_of operator) left.kind right.kind right_at))) }
 {
     let sort = operator_sort(operator);
@@ -159,7 +160,7 @@ fn judge_itself(visible: &Visible, before: Taken, at: usize) -> Judged
 {
     let class = visible.own_class();
     if class.is_some() {
-        object_read(class, before, at)
+        variable_read(Kind::Object, class, before, at)
     } else if visible.class.is_some() {
         number(None, Some(CheckFault::KindMismatch(at)), before)
     } else {
@@ -204,8 +205,8 @@ fn judge_name<'a>(
     ensures { Judges (seen table.now visible.now) before (Name at name.now) result }
 {
     match named_variable(table, visible, name) {
-        Some(Local::Number(kind, _)) => number(Some(kind), None, before),
-        Some(Local::Object(_, class)) => object_read(class, before, at),
+        Some(Local::Number(kind, _)) => variable_read(kind, None, before, at),
+        Some(Local::Object(_, class)) => variable_read(Kind::Object, class, before, at),
         None => judge_own_field(table, visible, before, at, own_field(table, visible, name)),
     }
 }
@@ -298,8 +299,8 @@ fn chosen(
     ensures class { result.class ≡ class }
     ensures taken { result.taken ≡ other.taken }
     ensures fault { option_map reported result.fault
-        ≡ earlier_of (earlier_of (option_map reported test.fault) (first (no_value test.kind test_at)))
-        (earlier_of (earlier_of (option_map reported one.fault) (first (no_left OperatorSort.Equality one.kind one_at)))
+        ≡ earlier_of (earlier_of (option_map reported test.fault) (first (unmet AValue test.kind test_at)))
+        (earlier_of (earlier_of (option_map reported one.fault) (first (unmet AValue one.kind one_at)))
         (earlier_of (option_map reported other.fault) (first (no_right OperatorSort.Equality one.kind other.kind other_at)))) }
 {
     let sort = OperatorSort::Equality;
@@ -376,8 +377,8 @@ fn field_of(
     ensures kind { result.kind ≡ rules.arrow_kind (seen table.now visible.now) base.kind found }
     ensures class { option_map number_of_class result.class ≡ scopes.field_class found }
     ensures fault { option_map reported result.fault
-        ≡ earlier_of (earlier_of (option_map reported base.fault) (first (rules.no_object base.kind base_at)))
-        (first (rules.broken_field (seen table.now visible.now) base.kind found name_at)) }
+        ≡ earlier_of (earlier_of (option_map reported base.fault) (first (unmet AnObject base.kind base_at)))
+        (first (broken_field (seen table.now visible.now) base.kind found name_at)) }
     ensures taken { result.taken ≡ counted base.taken (rules.at_if (kinds.is_object (rules.arrow_kind (seen table.now visible.now) base.kind found)) name_at) }
     ensures unread { result.unread ≡ base.taken }
 {
@@ -491,7 +492,7 @@ fn updated(is_updatable: bool, sign: usize, left: Judged, right: Judged, right_a
     ensures class { result.class ≡ None }
     ensures fault { option_map reported result.fault
         ≡ earlier_of (earlier_of (option_map reported left.fault) (first (broken_if (not is_updatable) sign 44)))
-        (earlier_of (option_map reported right.fault) (first (rules.no_number right.kind right_at))) }
+        (earlier_of (option_map reported right.fault) (first (unmet ANumber right.kind right_at))) }
     ensures taken { result.taken ≡ right.taken }
 {
     let other = earlier(right.fault, no_number(right.kind, right_at));
@@ -540,7 +541,7 @@ fn message_kind<'a>(
 /// The rule that a receiver breaks which is the class or, with none, on which this is the judgement.
 fn receiver_fault(class: Option<ClassId>, receiver: Judged, at: usize) -> Option<CheckFault>
     ensures { option_map reported result
-        ≡ (if is_some (option_map number_of_class class) then None else earlier_of (option_map reported receiver.fault) (first (rules.no_object receiver.kind at))) }
+        ≡ (if is_some (option_map number_of_class class) then None else earlier_of (option_map reported receiver.fault) (first (unmet AnObject receiver.kind at))) }
 {
     match class {
         Some(_) => None,

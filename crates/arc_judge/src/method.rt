@@ -5,10 +5,11 @@ ghost use Rattle.arc_ast.specs.Tree.{head_tree, head_trees, method_tree, method_
 ghost use Rattle.arc_class.specs.Broken.{first};
 ghost use Rattle.arc_class.specs.Table.{number_of_class};
 ghost use Rattle.arc_judge.specs.Fault.{reported};
-ghost use Rattle.arc_judge.specs.Rules.{broken_head, broken_interface, broken_method, broken_implementation};
+ghost use Rattle.arc_judge.specs.Rules.{broken_head, broken_method};
+ghost use Rattle.arc_judge.specs.private.Judging.{broken_interface, broken_implementation};
 ghost use Rattle.arc_scope.specs.Views.{known_in};
 
-use crate::body::{count_fault, inside, is_void};
+use crate::body::{count_fault, inside};
 use arc_ast::tree::{Implementation, Interface, Method, MethodHead};
 use arc_class::table::{ClassId, ClassTable};
 use arc_fault::check::CheckFault;
@@ -55,15 +56,8 @@ fn method<'a>(
     ensures { IfOk result (λ fault. option_map reported fault
         ≡ first (broken_method (known_in table.now) (option_map number_of_class class) (method_tree method.now))) }
 {
-    let gives = method.head.result.kind();
     let visible = Visible::in_method(alloc, class, &method.head);
-    let inside = inside(
-        table,
-        is_void(gives),
-        visible,
-        &method.head.parameters,
-        &method.body,
-    )?;
+    let inside = inside(table, visible, &method.head.parameters, &method.body)?;
     Ok(earlier(head(&method.head), inside))
 }
 

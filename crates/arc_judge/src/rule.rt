@@ -5,8 +5,9 @@ ghost use Rattle.arc_ast.specs.Tree.{expr_tree};
 ghost use Rattle.arc_class.specs.Broken.{first};
 ghost use Rattle.arc_judge.specs.Fault.{reported};
 ghost use Rattle.arc_judge.specs.Rules as rules;
-ghost use Rattle.arc_judge.specs.Rules.{broken_at, no_left, no_number, no_operand, no_right, no_value, number_kind, unary_kind};
-ghost use Rattle.arc_judge.specs.private.Judging.{other_rule};
+ghost use Rattle.arc_judge.specs.Rules.{no_right, number_kind, unary_kind, unmet};
+ghost use Rattle.arc_sites.specs.Sites.{ANumber, AValue, AnObject, left_need, operand_need};
+ghost use Rattle.arc_judge.specs.private.Judging.{broken_at, is_updatable, other_rule};
 
 use arc_ast::tree::{Expr, Kind, Moment, OperatorSort, UnaryOperator};
 use arc_fault::check::CheckFault;
@@ -52,7 +53,7 @@ pub fn is_assignable(expr: &Expr) -> bool
 
 /// Whether an update's left side, which is of a kind, is a variable or a field that holds a number.
 pub fn is_updatable(expr: &Expr, kind: Option<Kind>) -> bool
-    ensures { result ≡ rules.is_updatable (expr_tree expr.now) kind }
+    ensures { result ≡ is_updatable (expr_tree expr.now) kind }
 {
     is_assignable(expr) && !is_object(kind)
 }
@@ -114,7 +115,7 @@ pub fn binary_kind(sort: OperatorSort, a: Option<Kind>, b: Option<Kind>) -> Opti
 
 /// The rule that an expression of the kind breaks where a value is needed.
 pub fn no_value(kind: Option<Kind>, at: usize) -> Option<CheckFault>
-    ensures { option_map reported result ≡ first (no_value kind at) }
+    ensures { option_map reported result ≡ first (unmet AValue kind at) }
 {
     match kind {
         Some(Kind::Void) => Some(CheckFault::KindMismatch(at)),
@@ -124,7 +125,7 @@ pub fn no_value(kind: Option<Kind>, at: usize) -> Option<CheckFault>
 
 /// The rule that an expression of the kind breaks where a number is needed.
 pub fn no_number(kind: Option<Kind>, at: usize) -> Option<CheckFault>
-    ensures { option_map reported result ≡ first (no_number kind at) }
+    ensures { option_map reported result ≡ first (unmet ANumber kind at) }
 {
     match kind {
         Some(Kind::Void) | Some(Kind::Object) => Some(CheckFault::KindMismatch(at)),
@@ -134,7 +135,7 @@ pub fn no_number(kind: Option<Kind>, at: usize) -> Option<CheckFault>
 
 /// The rule that an expression of the kind breaks where an object is needed.
 pub fn no_object(kind: Option<Kind>, at: usize) -> Option<CheckFault>
-    ensures { option_map reported result ≡ first (rules.no_object kind at) }
+    ensures { option_map reported result ≡ first (unmet AnObject kind at) }
 {
     match kind {
         None | Some(Kind::Object) => None,
@@ -155,7 +156,7 @@ pub fn no_such(wanted: Option<Kind>, given: Option<Kind>, at: usize) -> Option<C
 
 /// The rule that an operand of the kind breaks which has an operator before it.
 pub fn no_operand(operator: UnaryOperator, kind: Option<Kind>, at: usize) -> Option<CheckFault>
-    ensures { option_map reported result ≡ first (no_operand operator kind at) }
+    ensures { option_map reported result ≡ first (unmet (operand_need operator) kind at) }
 {
     match operator {
         UnaryOperator::Not => no_value(kind, at),
@@ -167,7 +168,7 @@ pub fn no_operand(operator: UnaryOperator, kind: Option<Kind>, at: usize) -> Opt
 
 /// The rule that a left operand of the kind breaks.
 pub fn no_left(sort: OperatorSort, kind: Option<Kind>, at: usize) -> Option<CheckFault>
-    ensures { option_map reported result ≡ first (no_left sort kind at) }
+    ensures { option_map reported result ≡ first (unmet (left_need sort) kind at) }
 {
     match sort {
         OperatorSort::Equality | OperatorSort::Logic => no_value(kind, at),

@@ -1,5 +1,6 @@
 //! Finds the first rule that is broken in a full-expression: in itself, and in what is asked of its value.
-ghost use Rattle.std.specs.Prelude.{◌≡◌, Some, false, option_map};
+ghost use Rattle.std.specs.Prelude.{◌≡◌, ◌++◌, Some, option_map};
+ghost use Rattle.arc_ast.specs.Tree as tree;
 ghost use Rattle.arc_ast.specs.Tree.{expr_tree, type_tree};
 ghost use Rattle.arc_class.specs.Broken.{first};
 ghost use Rattle.arc_judge.specs.Fault.{reported};
@@ -33,7 +34,8 @@ pub fn result_fault<'a>(
     visible: &Visible<'a>,
     expr: &'a Expr,
 ) -> Option<CheckFault>
-    ensures { option_map reported result ≡ first (rules.broken_result false (seen table.now visible.now) (Some (expr_tree expr.now))) }
+    ensures { option_map reported result ≡ first (rules.broken_whole (seen table.now visible.now) (expr_tree expr.now)
+        ++ rules.no_such (Some visible.now.result) (rules.kind_of (seen table.now visible.now) (expr_tree expr.now)) (tree.place (expr_tree expr.now))) }
 {
     let judged = judge_whole(table, visible, expr);
     let wanted = Some(visible.result);

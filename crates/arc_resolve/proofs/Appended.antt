@@ -10,9 +10,9 @@ use Rattle.arc_spec.specs.declared.class.Class as declared
 use Rattle.arc_spec.specs.Classes.{Class, class_of, classes_of}
 use Rattle.arc_spec.specs.Resolved as resolved
 use Rattle.arc_checked.specs.declared.program.CheckedFunction.{CheckedFunction}
-use Rattle.arc_resolve.specs.private.Building.{function_of, functions_ahead}
+use Rattle.arc_resolve.specs.private.Building.{function_of, functions_ahead, resolved_methods}
 use Rattle.arc_checked.specs.Checked as checked
-use Rattle.arc_resolve.specs.Resolving.{resolved_body, resolved_method, resolved_methods}
+use Rattle.arc_resolve.specs.Resolving.{resolved_body, resolved_method}
 use Rattle.arc_scope.specs.Scopes.{of_method}
 use Rattle.arc_scope.specs.Scopes.{Known, Scope, with_parameters}
 use Rattle.arc_resolve.proofs.Commands.{functions_ahead-push}

@@ -1,9 +1,9 @@
 -- What is built of expressions and statements.
-use Rattle.std.proofs.Common.{◌≡◌, ℕ, ◌+◌, ◌<◌, ◌≤◌, true, false, List, [], ◌∷◌, ◌++◌, length, get_or, drop, Option, Some, None, option_map, refl, sym, ap, ◌∙◌, arith}
+use Rattle.std.proofs.Common.{◌≡◌, ℕ, ◌+◌, ◌<◌, ◌≤◌, List, [], ◌∷◌, ◌++◌, length, get_or, drop, Option, None, option_map, refl, sym, ap, ◌∙◌, arith}
 use Rattle.arc_ast.specs.declared.tree.Expr.{Expr}
 use Rattle.arc_ast.specs.declared.tree.Kind.{Kind}
 use Rattle.arc_ast.specs.declared.tree.Kind.TheVariants as k
-use Rattle.arc_ast.specs.Tree.{ExprTrees, Call, expr_tree, expr_trees}
+use Rattle.arc_ast.specs.Tree.{ExprTree, ExprTrees, Integer, Text, Paren, Call, Nil, Itself, Name, Unary, Cast, Binary, Conditional, Arrow, Assign, Update, Send, SendSuper, and_expr, expr_tree, expr_trees}
 use Rattle.arc_class.specs.Table.{number_of_class}
 use Rattle.arc_spec.specs.Resolved as resolved
 use Rattle.arc_checked.specs.declared.program.Piece.{Piece}
@@ -12,13 +12,12 @@ use Rattle.arc_scope.specs.Formats.{parts, printed}
 use Rattle.arc_spec.specs.Resolved.{Arguments, no_arguments}
 use Rattle.arc_checked.specs.declared.program.Argument.{Argument}
 use Rattle.arc_checked.specs.Checked as checked
-use Rattle.arc_resolve.specs.private.Building.{Resolves, resolution, in_front, printing}
+use Rattle.arc_resolve.specs.private.Building.{Resolves, resolution, in_front, printing, text_of}
 use Rattle.arc_scope.specs.declared.callee.Callee.{Callee}
 use Rattle.arc_resolve.specs.declared.resolution.Typed.{Typed}
 use Rattle.arc_resolve.specs.Resolving as resolving
 use Rattle.arc_scope.specs.Passing.{first_wanted, wanted_by}
-use Rattle.arc_resolve.specs.Resolving.{Gives, Refers, argument, called, resolved_all, text_of}
-use Rattle.arc_scope.specs.Kinds.{is_object}
+use Rattle.arc_resolve.specs.Resolving.{argument, called, resolved_all}
 use Rattle.arc_scope.specs.Scopes.{Scope, callee}
 use Rattle.arc_scope.proofs.Lists.{drop_turn, drop_end}
 
@@ -46,9 +45,28 @@ values_end s p xs i all whole l w = sym (w ∙ ap (λ us. in_front all (resolved
 
 -- ---- calls of printf
 
+-- a format is a text before the other arguments
+format_is : (a : ExprTree) (others : ExprTrees) → resolving.format (and_expr a others) ≡ text_of a
+format_is (Integer at n suffixed) others = refl
+format_is (Text at bytes) others = refl
+format_is (Paren at a) others = refl
+format_is (Call at name arguments) others = refl
+format_is (Nil at) others = refl
+format_is (Itself at) others = refl
+format_is (Name at name) others = refl
+format_is (Unary at operator a) others = refl
+format_is (Cast at type a) others = refl
+format_is (Binary at operator a b) others = refl
+format_is (Conditional at c a b) others = refl
+format_is (Arrow at name_at a name) others = refl
+format_is (Assign at sign a b) others = refl
+format_is (Update at sign moment operator a b) others = refl
+format_is (Send at part receiver selector arguments) others = refl
+format_is (SendSuper at part super_at selector arguments) others = refl
+
 pub printing_some : (s : Scope) (all : List Expr) (one : Expr) (others : List Expr) (format : List ℕ) (pieces : List Piece) (values : List Argument) → all ≡ one ∷ others → format ≡ text_of (expr_tree one)
     → checked.pieces pieces ≡ printed (parts Nothing format) → checked.arguments values ≡ resolved_all s None (expr_trees others) → resolved.Print (checked.pieces pieces) (checked.arguments values) ≡ printing s (expr_trees all)
-printing_some s all one others format pieces values e f p v = rw (p, v, e, f) refl
+printing_some s all one others format pieces values e f p v = rw (p, v, e, sym (format_is (expr_tree one) (expr_trees others)), f) refl
 
 pub printing_none : (s : Scope) (all : List Expr) (pieces : List Piece) (values : List Argument) → length all ≡ 0 → pieces ≡ [] → checked.arguments values ≡ resolved_all s None (expr_trees all)
     → resolved.Print (checked.pieces pieces) (checked.arguments values) ≡ printing s (expr_trees all)
@@ -56,21 +74,6 @@ printing_none s [] pieces values l p v = rw (p, v) refl
 printing_none s (a ∷ all) pieces values l p v = absurd (omega arith)
 
 -- ---- calls
-
--- a call that gives an object, or a number
-pub invoked_object : (kind : Kind) (f : ℕ) (all : Arguments) → is_object (Some kind) ≡ true → Refers (resolved.ObjectInvoked f all) ≡ resolving.invoked kind f all
-invoked_object k.Void f all e = absurd (cc)
-invoked_object k.Bool f all e = absurd (cc)
-invoked_object k.Int f all e = absurd (cc)
-invoked_object k.Long f all e = absurd (cc)
-invoked_object k.Object f all e = refl
-
-pub invoked_number : (kind : Kind) (f : ℕ) (all : Arguments) → is_object (Some kind) ≡ false → Gives kind (resolved.Invoked f all) ≡ resolving.invoked kind f all
-invoked_number k.Void f all e = refl
-invoked_number k.Bool f all e = refl
-invoked_number k.Int f all e = refl
-invoked_number k.Long f all e = refl
-invoked_number k.Object f all e = absurd (cc)
 
 pub resolves_call : (s : Scope) (at : ℕ) (name : List ℕ) (arguments : ExprTrees) (function : Callee) (typed : Typed) → callee s.known name ≡ function → option_map number_of_class typed.class ≡ s.known.function_class name
     → resolution typed.value ≡ called function arguments (resolved_all s (wanted_by function (s.known.parameters name)) arguments) → Resolves s (Call at name arguments) typed

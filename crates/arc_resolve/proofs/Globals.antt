@@ -3,7 +3,8 @@ use Rattle.std.proofs.Common.{◌≡◌, ℕ, ℤ, suc, ◌+◌, ◌<◌, ◌≤
 use Rattle.std.specs.List.{filter}
 use Rattle.arc_ast.specs.declared.tree.Global.{Global}
 use Rattle.arc_ast.specs.Tree.{GlobalTree, global_tree, global_trees}
-use Rattle.arc_resolve.specs.Resolving.{first_number, first_numbers, names_objects}
+use Rattle.arc_resolve.specs.Resolving.{first_number, names_objects}
+use Rattle.arc_resolve.specs.private.Building.{first_numbers}
 use Rattle.arc_scope.proofs.Lists.{drop_turn, drop_end}
 
 -- ---- what global variables hold first

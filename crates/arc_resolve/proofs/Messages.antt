@@ -11,7 +11,8 @@ use Rattle.arc_resolve.specs.declared.resolution.Typed.{Typed}
 use Rattle.arc_resolve.specs.private.Building.{Resolves, resolution}
 use Rattle.arc_scope.specs.Passing.{receiver_sign}
 use Rattle.arc_resolve.specs.Resolving.{Resolution, assigned, resolved, resolved_all, sent, sent_super, to_super}
-use Rattle.arc_scope.specs.Scopes.{Scope, class_of, class_receiver, sent_class, super_class, super_kind}
+use Rattle.arc_scope.specs.Scopes.{Scope, class_of, class_receiver}
+use Rattle.arc_scope.specs.Views.{sent_class, super_class, super_kind}
 
 -- a message to a class
 pub resolves_class : (s : Scope) (at part : ℕ) (r : ExprTree) (selector : List ℕ) (arguments : ExprTrees) (class : ℕ) (all : Arguments) (typed : Typed) → Some class ≡ class_receiver s r → all ≡ resolved_all s (Some (s.known.passed (receiver_sign (class_receiver s r)) selector)) arguments

@@ -8,7 +8,8 @@ use Rattle.arc_class.specs.Table.{IsTableOf}
 use Rattle.arc_checked.specs.declared.program.Checked.{Checked}
 use Rattle.arc_checked.specs.declared.program.CheckedFunction.{CheckedFunction}
 use Rattle.arc_checked.specs.Checked as checked
-use Rattle.arc_resolve.specs.Resolving.{resolved_function, resolved_methods, resolved_unit}
+use Rattle.arc_resolve.specs.Resolving.{resolved_function, resolved_unit}
+use Rattle.arc_resolve.specs.private.Building.{resolved_methods}
 use Rattle.arc_scope.specs.Views.{known_in}
 use Rattle.arc_scope.proofs.Knowing.{known_is}
 use Rattle.arc_spec.specs.Classes.{Class, classes_of}

@@ -1,5 +1,5 @@
 -- The resolved program of a source that breaks no rule.
-use Rattle.std.specs.Prelude.{ℕ, ◌-◌, ℤ, pos, Bool, not, codes, List, [], ◌∷◌, ◌++◌, length, drop, map, flat_map, filter_map, Option, Some, None, option_map, option_and_then, unwrap_or, if◌then◌else◌}
+use Rattle.std.specs.Prelude.{ℕ, ◌-◌, ℤ, pos, Bool, not, ◌&&◌, codes, List, [], ◌∷◌, ◌++◌, length, drop, map, flat_map, filter_map, Option, Some, None, option_map, option_and_then, unwrap_or, if◌then◌else◌}
 use Rattle.std.specs.List.{filter}
 use Rattle.std.specs.Option.{option_map_or}
 use Rattle.std.specs.Str.{bytes_eq}
@@ -20,12 +20,13 @@ use Rattle.arc_ast.specs.declared.tree.Kind.TheVariants as k
 use Rattle.arc_ast.specs.declared.tree.Sign.{Sign}
 use Rattle.arc_ast.specs.declared.tree.Sign.TheVariants as signs
 use Rattle.arc_ast.specs.Tree as tree
-use Rattle.arc_ast.specs.Tree.{TypeTree, GlobalTree, ExprTree, ExprTrees, Integer, Text, Paren, Call, Name, Unary, Cast, Binary, Conditional, Arrow, Assign, Update, Send, SendSuper, no_exprs, and_expr, VariableTree, StmtTree, StmtTrees, Block, Empty, Simple, Variables, If, IfElse, While, Do, For, no_stmts, and_stmt, FunctionTree, MethodTree, ImplementationTree, UnitTree}
+use Rattle.arc_ast.specs.Tree.{TypeTree, GlobalTree, ExprTree, ExprTrees, Integer, Text, Paren, Call, Name, Unary, Cast, Binary, Conditional, Arrow, Assign, Update, Send, SendSuper, no_exprs, and_expr, VariableTree, StmtTree, StmtTrees, Block, Empty, Simple, Variables, If, IfElse, While, Do, For, no_stmts, and_stmt, FunctionTree, MethodTree, UnitTree}
 use Rattle.arc_spec.specs.Classes.{gives_of}
 use Rattle.arc_spec.specs.declared.location.Location.TheVariants.{Local}
 use Rattle.arc_spec.specs.Number as number
 use Rattle.arc_spec.specs.Resolved.{Value, Reference, Number, ReadByte, Print, Applied, Combined, Choice, Converted, Read, Assigned, Updated, Invoked, Sent, Field, FieldAssigned, FieldUpdated, Differ, IsObject, Nil, Itself, Variable, Chosen, Stored, ObjectField, ObjectFieldStored, Made, New, ObjectInvoked, ObjectSent, Receiver, ClassValue, ClassSuper, ObjectValue, ObjectSuper, Arguments, no_arguments, number_argument, object_argument, Command, Sequence, Evaluate, EvaluateReference, Begin, Return, Give, Choose, Repeat, RepeatAfter, Break, Continue, Commands, no_commands, and_command, Function, Program}
 use Rattle.arc_sites.specs.Sites.{named_parameters}
+use Rattle.arc_class.specs.Functions.{same_kind}
 use Rattle.arc_class.specs.Running.{classes}
 use Rattle.arc_class.specs.Names.{number_of, is_main}
 use Rattle.arc_class.specs.Table.{number_of_class}
@@ -33,10 +34,10 @@ use Rattle.arc_class.specs.declared.table.FoundField.{FoundField}
 use Rattle.arc_scope.specs.declared.callee.Callee.{Callee}
 use Rattle.arc_scope.specs.declared.callee.Callee.TheVariants.{Printf, GetChar, Defined, Unknown}
 use Rattle.arc_scope.specs.declared.format.Begun.TheVariants.{Nothing}
-use Rattle.arc_scope.specs.Kinds.{literal_kind, wider, computing_kind, given_kind, is_object}
+use Rattle.arc_scope.specs.Kinds.{literal_kind, is_number, wider, computing_kind, given_kind, is_object}
 use Rattle.arc_scope.specs.Formats.{parts, printed}
 use Rattle.arc_scope.specs.Scopes as scopes
-use Rattle.arc_scope.specs.Scopes.{Known, Scope, declare, with_parameters, leave, scope_after, scope_after_all, outermost, owned_in, callee, own_field, variable, class_receiver, kind_given, object_result, super_kind, class_of, of_method}
+use Rattle.arc_scope.specs.Scopes.{Known, Scope, declare, with_parameters, leave, scope_after, scope_after_all, outermost, owned_in, callee, own_field, variable, class_receiver, kind_given, sent_result, super_result, class_of, of_method}
 use Rattle.arc_scope.specs.Known.{known_of}
 use Rattle.arc_scope.specs.Passing.{first_wanted, wanted_by, receiver_sign}
 
@@ -60,44 +61,24 @@ object_in (Refers r) = r
 
 -- a value of one kind as one of another (C99, section 6.3.1.8; for a cast section 6.5.4, for an assignment section 6.5.16.1, and for a returned value section 6.8.6.4)
 abbrev pub as_kind : Kind → Kind → Value → Value
-as_kind k.Long k.Bool a = Converted k.Long a
-as_kind k.Long k.Int a = Converted k.Long a
-as_kind k.Int k.Bool a = Converted k.Int a
-as_kind k.Int k.Long a = Converted k.Int a
-as_kind k.Bool k.Int a = Converted k.Bool a
-as_kind k.Bool k.Long a = Converted k.Bool a
-as_kind _ _ a = a
+as_kind wanted kind a = if is_number wanted && (is_number kind && not (same_kind wanted kind)) then Converted wanted a else a
 
--- a number as one of a kind, and as an int
+-- a number as one of a kind
 abbrev pub converted : Kind → Resolution → Value
 converted kind a = as_kind kind (kind_in a) (number_in a)
 
-abbrev pub int_in : Resolution → Value
-int_in = converted k.Int
-
 -- ---- operators and calls
 
--- the kind in which an operator before an operand of a kind computes: `!` asks of any kind, and the others compute with a BOOL as with an int (C99, section 6.5.3.3)
-abbrev pub unary_computing : UnaryOperator → Kind → Kind
-unary_computing u.Not kind = kind
-unary_computing _ kind = wider kind k.Int
-
--- the kind of what it gives
-abbrev pub unary_given : UnaryOperator → Kind → Kind
-unary_given u.Not kind = k.Int
-unary_given _ kind = kind
-
--- an operator before an operand that becomes a number of the kind in which it computes
-abbrev pub applied : UnaryOperator → Kind → Resolution → Resolution
-applied operator kind a = Gives (unary_given operator kind) (Applied operator kind (converted kind a))
-
+-- an operator before an operand: `!` asks of any kind, and the others compute with a BOOL as with an int (C99, section 6.5.3.3)
 abbrev pub unary : UnaryOperator → Resolution → Resolution
-unary operator a = applied operator (unary_computing operator (kind_in a)) a
+unary u.Not a = Gives k.Int (Applied u.Not (kind_in a) (number_in a))
+unary operator a =
+    let kind = wider (kind_in a) k.Int in
+    Gives kind (Applied operator kind (converted kind a))
 
 -- a cast: a number becomes one of the type's kind, and an object is the same (C99, section 6.5.4; OPL, "Static Typing")
 abbrev pub cast : Kind → Resolution → Resolution
-cast k.Object a = a
-cast kind a = Gives kind (converted kind a)
+cast kind a = if is_object (Some kind) then a else Gives kind (converted kind a)
 
 -- an operator whose operands become numbers of the kind in which it computes; the count of a shift too, which counts modulo the width of that kind
 abbrev pub combined : BinaryOperator → Kind → Resolution → Resolution → Resolution
@@ -118,52 +99,35 @@ abbrev pub logic : BinaryOperator → Value → Value → Value
 logic o.Or a b = Choice a (Number (pos 1)) (Converted k.Bool b)
 logic _ a b = Choice a (Converted k.Bool b) (Number (pos 0))
 
-abbrev pub binary_of : OperatorSort → BinaryOperator → Resolution → Resolution → Resolution
-binary_of Equality operator a b = equality operator a b
-binary_of Logic operator a b = Gives k.Int (logic operator (number_in a) (number_in b))
-binary_of sort operator a b = combined operator (computing_kind sort (kind_in a) (kind_in b)) a b
+abbrev pub binary : OperatorSort → BinaryOperator → Resolution → Resolution → Resolution
+binary Equality operator a b = equality operator a b
+binary Logic operator a b = Gives k.Int (logic operator (number_in a) (number_in b))
+binary sort operator a b = combined operator (computing_kind sort (kind_in a) (kind_in b)) a b
 
-abbrev pub binary : BinaryOperator → Resolution → Resolution → Resolution
-binary operator a b = binary_of (sort_of operator) operator a b
-
--- one of two numbers by a test, as numbers of the wider kind (C99, section 6.5.15)
-abbrev pub choice : Value → Resolution → Resolution → Resolution
-choice test a b =
+-- one of two objects by a test, or of two numbers, as numbers of the wider kind (C99, section 6.5.15)
+abbrev pub conditional : Value → Resolution → Resolution → Resolution
+conditional test (Refers a) (Refers b) = Refers (Chosen test a b)
+conditional test a b =
     let kind = wider (kind_in a) (kind_in b) in
     Gives kind (Choice test (converted kind a) (converted kind b))
 
--- one of two objects or numbers
-abbrev pub conditional : Value → Resolution → Resolution → Resolution
-conditional test (Refers a) (Refers b) = Refers (Chosen test a b)
-conditional test a b = choice test a b
-
--- the bytes of a text
-abbrev pub text_of : ExprTree → List ℕ
-text_of (Text at bytes) = bytes
-text_of _ = []
-
 -- the format of a call of printf, its first argument
 abbrev pub format : ExprTrees → List ℕ
-format no_exprs = []
-format (and_expr a others) = text_of a
+format (and_expr (Text at bytes) others) = bytes
+format _ = []
 
 abbrev pub but_first : Arguments → Arguments
 but_first no_arguments = no_arguments
 but_first (number_argument a others) = others
 but_first (object_argument a others) = others
 
--- a call of printf, from its arguments and their values
-abbrev pub printing : ExprTrees → Arguments → Value
-printing arguments all = Print (printed (parts Nothing (format arguments))) (but_first all)
-
 -- a call of the function with a number, which gives a value of a kind
 abbrev pub invoked : Kind → (function : ℕ) → Arguments → Resolution
-invoked k.Object function all = Refers (ObjectInvoked function all)
-invoked kind function all = Gives kind (Invoked function all)
+invoked kind function all = if is_object (Some kind) then Refers (ObjectInvoked function all) else Gives kind (Invoked function all)
 
 -- a call, from its arguments and their values
 abbrev pub called : Callee → ExprTrees → Arguments → Resolution
-called Printf arguments all = Gives k.Int (printing arguments all)
+called Printf arguments all = Gives k.Int (Print (printed (parts Nothing (format arguments))) (but_first all))
 called GetChar arguments all = Gives k.Int ReadByte
 called (Defined result count body) arguments all = invoked result (unwrap_or body 0) all
 called Unknown arguments all = Gives k.Int ReadByte
@@ -171,8 +135,7 @@ called Unknown arguments all = Gives k.Int ReadByte
 -- an argument before others: an object, or a number, which becomes one of its parameter's kind
 abbrev pub argument : (wanted : Option Kind) → Resolution → Arguments → Arguments
 argument None a others = number_argument (number_in a) others
-argument (Some k.Object) a others = object_argument (object_in a) others
-argument (Some kind) a others = number_argument (converted kind a) others
+argument (Some kind) a others = if is_object (Some kind) then object_argument (object_in a) others else number_argument (converted kind a) others
 
 -- ---- names, fields and assignments
 
@@ -196,10 +159,6 @@ field_assigned r found a = option_map_or (λ f. store_field r f a) found a
 -- `self`, which a method that owns it has as the first of its variables that name objects (ARC, "Semantics of init")
 abbrev pub itself : (owns : Bool) → Reference
 itself owns = if owns then Variable (Local 0) else Itself
-
--- an assignment to it, which the rules of ownership refuse elsewhere; there it stands here as what is assigned
-abbrev pub itself_assigned : (owns : Bool) → Resolution → Resolution
-itself_assigned owns a = if owns then Refers (Stored (Local 0) (object_in a)) else a
 
 -- what a name means: a variable, or else a field of `self`; and an assignment to it
 abbrev pub named : (owns : Bool) → Option scopes.Local → Option FoundField → Resolution
@@ -253,7 +212,7 @@ abbrev pub sent : Scope → ExprTree → (class static : Option ℕ) → Resolut
 sent s receiver (Some class) static a name all =
     let itself = class_value receiver class in
     to_class (kind_given (s.known.result (Some class) signs.Class name)) None itself name (ClassValue itself) (unwrap_or (s.known.selector name) 0) all
-sent s receiver None static a name all = sent_to (object_result s.known static name) (ObjectValue (object_in a)) (unwrap_or (s.known.selector name) 0) all
+sent s receiver None static a name all = sent_to (kind_given (sent_result s.known None static name)) (ObjectValue (object_in a)) (unwrap_or (s.known.selector name) 0) all
 
 -- a message to `super`: it goes to `self`, and its method is looked up from the superclass of the class whose method has it
 abbrev pub to_super : Sign → (owns : Bool) → Option Kind → (from : ℕ) → List ℕ → (selector : ℕ) → Arguments → Resolution
@@ -262,7 +221,7 @@ to_super signs.Instance owns kind from name selector all = sent_to kind (ObjectS
 
 abbrev pub sent_super : Scope → List ℕ → Arguments → Resolution
 sent_super s name all =
-    to_super s.sign s.owns (super_kind s name) (unwrap_or (option_and_then s.known.superclass s.class) 0) name (unwrap_or (s.known.selector name) 0) all
+    to_super s.sign s.owns (kind_given (super_result s name)) (unwrap_or (option_and_then s.known.superclass s.class) 0) name (unwrap_or (s.known.selector name) 0) all
 
 -- ---- expressions
 
@@ -279,7 +238,7 @@ abbrev mutual
   resolved s (Name at name) = named s.owns (variable s name) (own_field s name)
   resolved s (Unary at operator a) = unary operator (resolved s a)
   resolved s (Cast at type a) = cast (type_kind type) (resolved s a)
-  resolved s (Binary at operator a b) = binary operator (resolved s a) (resolved s b)
+  resolved s (Binary at operator a b) = binary (sort_of operator) operator (resolved s a) (resolved s b)
   resolved s (Conditional at c a b) = conditional (number_in (resolved s c)) (resolved s a) (resolved s b)
   resolved s (Arrow at name_at a name) = field (object_in (resolved s a)) (s.known.field (class_of s a) name)
   resolved s (Assign at sign a b) = assigned s a (resolved s b)
@@ -288,10 +247,10 @@ abbrev mutual
       sent s receiver (class_receiver s receiver) (class_of s receiver) (resolved s receiver) selector (resolved_all s (Some (s.known.passed (receiver_sign (class_receiver s receiver)) selector)) arguments)
   resolved s (SendSuper at part super_at selector arguments) = sent_super s selector (resolved_all s (Some (s.known.passed s.sign selector)) arguments)
 
-  -- an assignment to its left side
+  -- an assignment to its left side; one to a `self` that isn't owned, which the rules of ownership refuse, stands here as what is assigned
   pub assigned : Scope → ExprTree → Resolution → Resolution
   assigned s (Paren at a) b = assigned s a b
-  assigned s (tree.Itself at) b = itself_assigned s.owns b
+  assigned s (tree.Itself at) b = if s.owns then Refers (Stored (Local 0) (object_in b)) else b
   assigned s (Name at name) b = name_assigned s.owns (variable s name) (own_field s name) b
   assigned s (Arrow at name_at a name) b = field_assigned (object_in (resolved s a)) (s.known.field (class_of s a) name) b
   assigned s _ b = b
@@ -309,22 +268,15 @@ abbrev pub evaluated : Resolution → Command
 evaluated (Gives kind a) = Evaluate a
 evaluated (Refers r) = EvaluateReference r
 
--- an expression's value, as a number of a kind
-abbrev pub number_as : Kind → Scope → ExprTree → Value
-number_as kind s a = converted kind (resolved s a)
-
 -- a value is put into the variable of this number
 abbrev pub put : (n : ℕ) → Value → Command
 put n a = Evaluate (Assigned (Local n) a)
 
--- a number of a kind takes what is written, if something is (C99, section 6.7.8)
-abbrev pub initialized : Kind → Scope → (n : ℕ) → Option ExprTree → Commands → Commands
-initialized kind s n a others = option_map_or (λ e. and_command (put n (number_as kind s e)) others) a others
-
--- A number begins anew, with 0, each time that its declaration runs (this project's own choice); then it takes its value. It is in scope where that is written,
--- and is 0 there (C99, section 6.2.1).
+-- A number begins anew, with 0, each time that its declaration runs (this project's own choice); then it takes what is written, if something is, as a number of its kind
+-- (C99, section 6.7.8). It is in scope where that is written, and is 0 there (C99, section 6.2.1).
 abbrev pub begun_number : Kind → Scope → (n : ℕ) → Option ExprTree → Commands → Commands
-begun_number kind s n a others = and_command (put n (Number (pos 0))) (initialized kind s n a others)
+begun_number kind s n a others =
+    and_command (put n (Number (pos 0))) (option_map_or (λ e. and_command (put n (converted kind (resolved s e))) others) a others)
 
 -- A variable that names objects begins anew with nil, and then names what is written (ARC, "Ownership qualification"). No command is needed for the nil: its
 -- function begins with it, and each end of its block drops the variable.
@@ -333,10 +285,8 @@ begun_object s n a others = option_map_or (λ e. and_command (Begin n (object_in
 
 -- a declared variable, from the scope before it and the one after it
 abbrev pub declared : TypeTree → (before after : Scope) → Option ExprTree → Commands → Commands
-declared tree.Boolean before after a others = begun_number k.Bool after before.next a others
-declared tree.Int before after a others = begun_number k.Int after before.next a others
-declared tree.Long before after a others = begun_number k.Long after before.next a others
-declared _ before after a others = begun_object after before.names a others
+declared type before after a others =
+    if is_object (Some (type_kind type)) then begun_object after before.names a others else begun_number (type_kind type) after before.next a others
 
 -- a declaration gives its variables their values in turn, each time that it runs
 abbrev pub resolved_variables : TypeTree → Scope → List VariableTree → Commands
@@ -356,8 +306,7 @@ with_loop before inside first loop = Sequence before.names (inside.names - befor
 
 -- a return of a number of a kind, or of an object
 abbrev pub returned : Kind → Resolution → Command
-returned k.Object a = Give (object_in a)
-returned kind a = Return (Some (converted kind a))
+returned kind a = if is_object (Some kind) then Give (object_in a) else Return (Some (converted kind a))
 
 -- A statement. A block's own variables that name objects are those that got their numbers in it. A `while` is a loop whose step does nothing.
 abbrev mutual
@@ -399,9 +348,6 @@ resolved_function known f = option_map (resolved_body (with_parameters (outermos
 abbrev pub resolved_method : Known → (class : Option ℕ) → MethodTree → Function
 resolved_method known class m = resolved_body (with_parameters (of_method known class m.head) m.head.parameters) m.body
 
-abbrev pub resolved_methods : Known → ImplementationTree → List Function
-resolved_methods known i = map (resolved_method known (known.class i.name)) i.methods
-
 abbrev pub names_objects : GlobalTree → Bool
 names_objects g = is_object (Some (type_kind g.type))
 
@@ -414,15 +360,12 @@ number_written _ = pos 0
 abbrev pub first_number : GlobalTree → ℤ
 first_number g = number.converted (type_kind g.type) (number_written g.initial)
 
-abbrev pub first_numbers : List GlobalTree → List ℤ
-first_numbers globals = map first_number (filter (λ g. not (names_objects g)) globals)
-
 -- the program of a source: its functions with a body, and then its methods, in their order
 abbrev pub resolved_unit : UnitTree → Program
 resolved_unit u = record {
-  functions = filter_map (resolved_function (known_of u)) u.functions ++ flat_map (resolved_methods (known_of u)) u.implementations;
+  functions = filter_map (resolved_function (known_of u)) u.functions ++ flat_map (λ i. map (resolved_method (known_of u) ((known_of u).class i.name)) i.methods) u.implementations;
   main = unwrap_or (number_of is_main u.functions) 0;
-  globals = first_numbers u.globals;
+  globals = map first_number (filter (λ g. not (names_objects g)) u.globals);
   strong_globals = length (filter names_objects u.globals);
   classes = classes u;
 }

@@ -3,6 +3,7 @@ ghost use Rattle.std.specs.Prelude.{◌≡◌, length, IfOk};
 ghost use Rattle.std.specs.List.{filter};
 ghost use Rattle.arc_ast.specs.Tree.{global_tree, global_trees};
 ghost use Rattle.arc_resolve.specs.Resolving as resolving;
+ghost use Rattle.arc_resolve.specs.private.Building.{first_numbers};
 
 use arc_ast::tree;
 use arc_ast::tree::Constant;
@@ -30,7 +31,7 @@ fn first_number(global: &tree::Global) -> i64
 
 /// The same of those of these variables that hold numbers, in their order.
 pub fn first_numbers(alloc: Global, globals: &[tree::Global]) -> Result<Vec<i64>, AllocError>
-    ensures { IfOk result (λ all. all.items ≡ resolving.first_numbers (global_trees globals.now)) }
+    ensures { IfOk result (λ all. all.items ≡ first_numbers (global_trees globals.now)) }
 {
     let mut all = Vec::new(alloc);
     for global in globals {

@@ -6,10 +6,10 @@ ghost use Rattle.arc_ast.specs.Tree.{expr_tree, type_tree, variable_trees, param
 ghost use Rattle.arc_class.specs.Table.{number_of_class};
 ghost use Rattle.arc_spec.specs.Resolved.{Sequence, Choose, Repeat, RepeatAfter};
 ghost use Rattle.arc_spec.specs.Resolved as spec;
-ghost use Rattle.arc_resolve.specs.private.Building.{ahead_of, function_of, functions_ahead, resolution};
+ghost use Rattle.arc_resolve.specs.private.Building.{ahead_of, function_of, functions_ahead, resolution, resolved_methods};
 ghost use Rattle.arc_checked.specs.Checked as checked;
 ghost use Rattle.arc_resolve.specs.Resolving as resolving;
-ghost use Rattle.arc_resolve.specs.Resolving.{number_as, resolved_variables, resolved_stmt, resolved_stmts, resolved_body, resolved_function, resolved_method, resolved_methods};
+ghost use Rattle.arc_resolve.specs.Resolving.{resolved_variables, resolved_stmt, resolved_stmts, resolved_body, resolved_function, resolved_method};
 ghost use Rattle.arc_scope.specs.Scopes.{declare, leave, scope_after, scope_after_all, with_parameters, with_variables};
 ghost use Rattle.arc_scope.specs.Views.{known_in, seen};
 

@@ -1,6 +1,7 @@
 //! What an expression is resolved to, and how that is made of what its parts are resolved to.
-ghost use Rattle.std.specs.Prelude.{◌≡◌, Option, Some, None, option_map, IfOk};
+ghost use Rattle.std.specs.Prelude.{◌≡◌, Option, Some, None, option_map, IfOk, if◌then◌else◌};
 ghost use Rattle.std.specs.Option.{unwrap_or};
+ghost use Rattle.arc_ast.specs.Operators.{sort_of};
 ghost use Rattle.arc_ast.specs.Tree.{expr_tree, Name};
 ghost use Rattle.arc_class.specs.Table.{number_of_class, number_of_selector};
 ghost use Rattle.arc_resolve.specs.private.Building.{resolution, class_receiver_of};
@@ -136,42 +137,6 @@ fn given_kind(sort: OperatorSort, kind: Kind) -> Kind
     }
 }
 
-/// The kind in which an operator before an operand of this kind computes.
-fn unary_computing(operator: UnaryOperator, kind: Kind) -> Kind
-    ensures { result ≡ resolving.unary_computing operator kind }
-{
-    match operator {
-        UnaryOperator::Not => kind,
-        UnaryOperator::Plus | UnaryOperator::Negate | UnaryOperator::Complement => {
-            wider(kind, Kind::Int)
-        }
-    }
-}
-
-/// The kind of what an operator before its operand gives that computes in this kind.
-fn unary_given(operator: UnaryOperator, kind: Kind) -> Kind
-    ensures { result ≡ resolving.unary_given operator kind }
-{
-    match operator {
-        UnaryOperator::Not => Kind::Int,
-        UnaryOperator::Plus | UnaryOperator::Negate | UnaryOperator::Complement => kind,
-    }
-}
-
-/// An expression of an operator before its operand, which becomes a number of the kind.
-fn applied(
-    alloc: Global,
-    operator: UnaryOperator,
-    kind: Kind,
-    of: Resolution,
-) -> Result<Resolution, AllocError>
-    ensures { IfOk result (λ new. resolution new ≡ resolving.applied operator kind (resolution of)) }
-{
-    let value = converted_part(alloc, kind, of)?;
-    let given_kind = unary_given(operator, kind);
-    Ok(Resolution::Gives(given_kind, Value::Applied(operator, kind, value)))
-}
-
 /// An expression of an operator before its operand.
 pub fn unary(
     alloc: Global,
@@ -180,8 +145,18 @@ pub fn unary(
 ) -> Result<Resolution, AllocError>
     ensures { IfOk result (λ new. resolution new ≡ resolving.unary operator (resolution of)) }
 {
-    let kind = unary_computing(operator, kind_in(&of));
-    applied(alloc, operator, kind, of)
+    match operator {
+        UnaryOperator::Not => {
+            let kind = kind_in(&of);
+            let value = number_part(alloc, of)?;
+            Ok(Resolution::Gives(Kind::Int, Value::Applied(operator, kind, value)))
+        }
+        UnaryOperator::Plus | UnaryOperator::Negate | UnaryOperator::Complement => {
+            let kind = wider(kind_in(&of), Kind::Int);
+            let value = converted_part(alloc, kind, of)?;
+            Ok(Resolution::Gives(kind, Value::Applied(operator, kind, value)))
+        }
+    }
 }
 
 /// A cast to a type of the kind.
@@ -280,7 +255,7 @@ fn logic(
     left: Resolution,
     right: Resolution,
 ) -> Result<Resolution, AllocError>
-    ensures { IfOk result (λ new. resolution new ≡ resolving.binary_of OperatorSort.Logic operator (resolution left) (resolution right)) }
+    ensures { IfOk result (λ new. resolution new ≡ resolving.binary OperatorSort.Logic operator (resolution left) (resolution right)) }
 {
     let left = number_part(alloc, left)?;
     let right = number_part(alloc, right)?;
@@ -315,7 +290,8 @@ fn chosen_number(
     first: Resolution,
     second: Resolution,
 ) -> Result<Resolution, AllocError>
-    ensures { IfOk result (λ new. resolution new ≡ resolving.choice (checked.value test.value) (resolution first) (resolution second)) }
+    ensures { IfOk result (λ new. let kind = kinds.wider (resolving.kind_in (resolution first)) (resolving.kind_in (resolution second)) in
+        resolution new ≡ resolving.Gives kind (spec.Choice (checked.value test.value) (resolving.converted kind (resolution first)) (resolving.converted kind (resolution second)))) }
 {
     let kind = wider(kind_in(&first), kind_in(&second));
     let first = converted_part(alloc, kind, first)?;
@@ -331,7 +307,7 @@ pub fn binary(
     left: Resolution,
     right: Resolution,
 ) -> Result<Resolution, AllocError>
-    ensures { IfOk result (λ new. resolution new ≡ resolving.binary operator (resolution left) (resolution right)) }
+    ensures { IfOk result (λ new. resolution new ≡ resolving.binary (sort_of operator) operator (resolution left) (resolution right)) }
 {
     let sort = operator_sort(operator);
     match sort {
@@ -454,7 +430,7 @@ pub fn itself(owns: bool) -> Reference
 
 /// An assignment to `self`, in a method that owns it; in any other it breaks a rule, and what is assigned stands for it.
 pub fn itself_assigned(alloc: Global, owns: bool, of: Resolution) -> Result<Resolution, AllocError>
-    ensures { IfOk result (λ new. resolution new ≡ resolving.itself_assigned owns (resolution of)) }
+    ensures { IfOk result (λ new. resolution new ≡ (if owns then resolving.Refers (spec.Stored (Location.Local 0) (resolving.object_in (resolution of))) else resolution of)) }
 {
     if !owns {
         return Ok(of);

@@ -2,10 +2,10 @@
 ghost use Rattle.std.specs.Prelude.{◌≡◌, ℕ, List, Option, Some, None, option_map, IfOk};
 ghost use Rattle.arc_ast.specs.Tree.{ExprTree, type_tree, expr_tree, expr_trees, Integer, Text, Name, Unary, Cast, Binary, Conditional, Arrow, Assign, Update, Call, Send, SendSuper};
 ghost use Rattle.arc_class.specs.Table.{number_of_class};
-ghost use Rattle.arc_resolve.specs.private.Building.{Resolves, printing, resolution};
+ghost use Rattle.arc_resolve.specs.private.Building.{Resolves, printing, resolution, text_of};
 ghost use Rattle.arc_checked.specs.Checked as checked;
 ghost use Rattle.arc_resolve.specs.Resolving as resolving;
-ghost use Rattle.arc_resolve.specs.Resolving.{number_as, resolved, resolved_all};
+ghost use Rattle.arc_resolve.specs.Resolving.{resolved, resolved_all};
 ghost use Rattle.arc_scope.specs.Scopes as scopes;
 ghost use Rattle.arc_scope.specs.declared.scope.Visible.{Visible};
 ghost use Rattle.arc_scope.specs.Views.{kinds_wanted, seen};
@@ -338,7 +338,7 @@ pub fn number_as<'a>(
     kind: Kind,
     expr: &'a Expr,
 ) -> Result<Value, AllocError>
-    ensures { IfOk result (λ value. checked.value value ≡ number_as kind (seen table.now visible.now) (expr_tree expr.now)) }
+    ensures { IfOk result (λ value. checked.value value ≡ resolving.converted kind (resolved (seen table.now visible.now) (expr_tree expr.now))) }
 {
     let typed = expression(alloc, table, visible, expr)?;
     converted(alloc, kind, typed.value)
@@ -483,7 +483,7 @@ fn super_message<'a>(
 
 /// The bytes of a text, and none of any other expression.
 fn text_of(expr: &Expr) -> &[u8]
-    ensures { result.now ≡ resolving.text_of (expr_tree expr.now) }
+    ensures { result.now ≡ text_of (expr_tree expr.now) }
 {
     match expr {
         Expr::Text(_, bytes) => bytes,

@@ -9,6 +9,8 @@ use Rattle.arc_scope.specs.declared.format.Part.{Part}
 use Rattle.arc_scope.specs.declared.format.Part.TheVariants.{Plain, Decimal, Character, Unknown}
 use Rattle.arc_scope.specs.declared.format.Reading.{Reading}
 use Rattle.arc_scope.specs.declared.format.Reading.TheVariants.{Goes, Gives}
+use Rattle.arc_class.specs.Functions.{same_kind}
+use Rattle.arc_scope.specs.Kinds.{is_number, wider}
 use Rattle.arc_spec.specs.Resolved as resolved
 
 -- what the next byte makes of a conversion that has begun: `%%`, `%d`, `%i`, `%c`, `%ld` or `%lld`, or one that is unknown
@@ -45,10 +47,7 @@ wanted format = conversions (parts Nothing format)
 
 -- `%d` and `%i` print an int, as which a BOOL is passed (C99, section 6.5.2.2, paragraph 6), and `%ld` and `%lld` a long
 abbrev pub suits_kind : Kind → Kind → Bool
-suits_kind k.Int k.Bool = true
-suits_kind k.Int k.Int = true
-suits_kind k.Long k.Long = true
-suits_kind _ _ = false
+suits_kind wanted kind = is_number kind && same_kind wanted (wider kind k.Int)
 
 -- whether a conversion may print a value; one that has no kind breaks no rule about kinds
 abbrev pub suits : Part → Option Kind → Bool
@@ -60,16 +59,13 @@ suits Unknown kind = false
 -- whether there is a value for each conversion, which suits it, and no other value
 abbrev pub fits : List Part → List (Option Kind) → Bool
 fits [] [] = true
-fits [] (kind ∷ kinds) = false
-fits (part ∷ others) [] = false
 fits (part ∷ others) (kind ∷ kinds) = suits part kind && fits others kinds
+fits _ _ = false
 
 -- a byte in front of what a format prints
 abbrev pub put_byte : ℕ → List resolved.Piece → List resolved.Piece
 put_byte byte (resolved.Bytes bytes ∷ others) = resolved.Bytes (byte ∷ bytes) ∷ others
-put_byte byte (resolved.Decimal ∷ others) = resolved.Bytes (byte ∷ []) ∷ resolved.Decimal ∷ others
-put_byte byte (resolved.Character ∷ others) = resolved.Bytes (byte ∷ []) ∷ resolved.Character ∷ others
-put_byte byte [] = resolved.Bytes (byte ∷ []) ∷ []
+put_byte byte others = resolved.Bytes (byte ∷ []) ∷ others
 
 -- what the parts of a format print: plain bytes that follow one another are one piece. An unknown conversion, which breaks a rule, prints nothing
 abbrev pub printed : List Part → List resolved.Piece

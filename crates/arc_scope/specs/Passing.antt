@@ -1,5 +1,5 @@
 -- What the arguments of a call or a message are passed to.
-use Rattle.std.specs.Prelude.{ℕ, List, [], ◌∷◌, Option, Some, None, if◌then◌else◌}
+use Rattle.std.specs.Prelude.{ℕ, List, [], ◌∷◌, Option, Some, None, is_some, if◌then◌else◌}
 use Rattle.arc_ast.specs.declared.tree.Kind.{Kind}
 use Rattle.arc_ast.specs.declared.tree.Kind.TheVariants as k
 use Rattle.arc_ast.specs.declared.tree.Sign.{Sign}
@@ -20,5 +20,4 @@ wanted_by function kinds = if is_printf function then None else Some kinds
 
 -- the sign of the methods that a message goes to, by the class that its receiver is
 abbrev pub receiver_sign : Option ℕ → Sign
-receiver_sign None = signs.Instance
-receiver_sign (Some class) = signs.Class
+receiver_sign class = if is_some class then signs.Class else signs.Instance

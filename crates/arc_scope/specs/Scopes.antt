@@ -1,5 +1,5 @@
 -- What names mean at a place of a body.
-use Rattle.std.specs.Prelude.{ℕ, suc, ◌+◌, Bool, true, false, ◌||◌, not, nat_lt, nat_eq, List, fold, Option, Some, None, is_some, option_map, option_and_then, unwrap_or, codes, if◌then◌else◌}
+use Rattle.std.specs.Prelude.{ℕ, suc, ◌+◌, Bool, true, false, ◌||◌, nat_lt, nat_eq, List, fold, Option, Some, None, is_some, option_map, option_and_then, unwrap_or, codes, if◌then◌else◌}
 use Rattle.std.specs.Option.{option_map_or}
 use Rattle.std.specs.Str.{bytes_eq}
 use Rattle.arc_ast.specs.declared.tree.Kind.{Kind}
@@ -9,7 +9,7 @@ use Rattle.arc_ast.specs.declared.tree.Sign.TheVariants as signs
 use Rattle.arc_ast.specs.declared.tree.Visibility.{Visibility}
 use Rattle.arc_ast.specs.declared.tree.Visibility.TheVariants as v
 use Rattle.arc_ast.specs.Tree as tree
-use Rattle.arc_ast.specs.Tree.{TypeTree, ExprTree, Paren, Call, Nil, Cast, Conditional, Itself, Name, Arrow, Assign, Send, SendSuper, VariableTree, StmtTree, StmtTrees, Block, Empty, Simple, Return, Variables, If, IfElse, While, Do, For, Break, Continue, no_stmts, and_stmt, ParameterTree, HeadTree}
+use Rattle.arc_ast.specs.Tree.{TypeTree, ExprTree, Paren, Call, Nil, Cast, Conditional, Itself, Name, Arrow, Assign, Send, SendSuper, VariableTree, StmtTree, StmtTrees, Block, Variables, If, IfElse, While, Do, For, no_stmts, and_stmt, ParameterTree, HeadTree}
 use Rattle.arc_ast.specs.Types as types
 use Rattle.arc_spec.specs.Classes.{same_sign}
 use Rattle.arc_spec.specs.Families.{method_family, is_init}
@@ -20,7 +20,9 @@ use Rattle.arc_class.specs.declared.table.FoundField.{FoundField}
 use Rattle.arc_class.specs.declared.table.MethodResult.{MethodResult}
 use Rattle.arc_class.specs.declared.table.Variable.{Variable}
 use Rattle.arc_class.specs.Classes.{or_else}
+use Rattle.arc_class.specs.Functions.{same_number}
 use Rattle.arc_class.specs.Table.{number_of_class}
+use Rattle.arc_scope.specs.Kinds.{is_object}
 use Rattle.arc_scope.specs.declared.scope.TheConstants.{MOST_VARIABLES}
 use Rattle.arc_scope.specs.declared.callee.Callee.{Callee}
 use Rattle.arc_scope.specs.declared.callee.Callee.TheVariants.{Printf, GetChar, Defined, Unknown}
@@ -65,10 +67,6 @@ pub record Scope : Type 0 where
 abbrev pub has_place : Scope → Bool
 has_place s = nat_lt (s.next + s.names) (MOST_VARIABLES + s.hidden)
 
--- whether there is none
-abbrev pub is_full : Scope → Bool
-is_full s = not (has_place s)
-
 abbrev pub bound : List ℕ → Local → (List ℕ → Option Local) → List ℕ → Option Local
 bound one local variables name = if bytes_eq one name then Some local else variables name
 
@@ -84,11 +82,7 @@ static_class known (tree.Object at name) = known.class name
 static_class known _ = None
 
 abbrev pub with_variable : List ℕ → TypeTree → Scope → Scope
-with_variable name tree.Boolean s = with_number name k.Bool s
-with_variable name tree.Int s = with_number name k.Int s
-with_variable name tree.Long s = with_number name k.Long s
-with_variable name tree.Id s = with_object name None s
-with_variable name (tree.Object at class) s = with_object name (s.known.class class) s
+with_variable name type s = if is_object (Some (types.type_kind type)) then with_object name (static_class s.known type) s else with_number name (types.type_kind type) s
 
 -- A variable more, which hides an outer one of its name (C99, section 6.2.1). One past the 200th, which breaks a rule, gets no number and isn't in scope.
 abbrev pub declare : List ℕ → TypeTree → Scope → Scope
@@ -108,17 +102,13 @@ leave outer inner = record outer { next = inner.next; names = inner.names }
 abbrev mutual
   pub scope_after : Scope → StmtTree → Scope
   scope_after s (Block at all) = leave s (scope_after_all s all)
-  scope_after s (Empty at) = s
-  scope_after s (Simple a) = s
-  scope_after s (Return at a) = s
   scope_after s (Variables at qualifiers type all) = with_variables type s all
   scope_after s (If at c a) = leave s (scope_after s a)
   scope_after s (IfElse at c a b) = leave s (scope_after (leave s (scope_after s a)) b)
   scope_after s (While at c a) = leave s (scope_after s a)
   scope_after s (Do at a c) = leave s (scope_after s a)
   scope_after s (For at a c e b) = leave s (scope_after (scope_after s a) b)
-  scope_after s (Break at) = s
-  scope_after s (Continue at) = s
+  scope_after s _ = s
 
   pub scope_after_all : Scope → StmtTrees → Scope
   scope_after_all s no_stmts = s
@@ -132,30 +122,19 @@ outermost known result = record { known = known; class = None; sign = signs.Clas
 abbrev pub hidden_in : Sign → ℕ
 hidden_in sign = if same_sign sign signs.Class then 1 else 0
 
--- A method of init owns its `self`, which is the first of its variables that name objects (ARC, "Semantics of init").
-abbrev pub owns_self : Sign → (selector : List ℕ) → (result : Kind) → Bool
-owns_self sign selector result = is_init (method_family sign selector result)
-
 abbrev pub owned_in : (owns : Bool) → ℕ
 owned_in owns = if owns then 1 else 0
 
 -- before the parameters of a method of a class, which owns `self` or doesn't
-abbrev pub in_method_that : (owns : Bool) → Known → Option ℕ → Sign → (result : Kind) → Scope
-in_method_that owns known class sign result = record {
-  known = known;
-  class = class;
-  sign = sign;
-  result = result;
-  owns = owns;
-  hidden = hidden_in sign + owned_in owns;
-  variables = λ name. None;
-  next = hidden_in sign;
-  names = owned_in owns;
-}
+abbrev pub in_method : (owns : Bool) → Known → Option ℕ → Sign → (result : Kind) → Scope
+in_method owns known class sign result =
+    record (outermost known result) { class = class; sign = sign; owns = owns; hidden = hidden_in sign + owned_in owns; next = hidden_in sign; names = owned_in owns }
 
--- before the parameters of a method of a class
-abbrev pub in_method : Known → Option ℕ → Sign → (selector : List ℕ) → (result : Kind) → Scope
-in_method known class sign selector result = in_method_that (owns_self sign selector result) known class sign result
+-- the same from what is written of it: a method of init owns its `self`, which is the first of its variables that name objects (ARC, "Semantics of init")
+abbrev pub of_method : Known → (class : Option ℕ) → HeadTree → Scope
+of_method known class h =
+    let result = types.result_kind h.result in
+    in_method (is_init (method_family h.sign h.selector result)) known class h.sign result
 
 -- ---- functions
 
@@ -184,33 +163,17 @@ is_printf _ = false
 abbrev pub own_class : Scope → Option ℕ
 own_class s = if same_sign s.sign signs.Instance then s.class else None
 
--- the class whose method this is, in a class method: there it is `self`
-abbrev pub class_itself : Scope → Option ℕ
-class_itself s = if same_sign s.sign signs.Class then s.class else None
-
 -- the field of `self` that a name means which is no variable's, in a method of objects
 abbrev pub own_field : Scope → List ℕ → Option FoundField
 own_field s name = s.known.field (own_class s) name
 
-abbrev pub of_kind : Kind → Location → (class : Option ℕ) → Local
-of_kind k.Object n class = Object n class
-of_kind kind n class = Number kind n
-
 abbrev pub of_global : Variable → Local
-of_global v = of_kind v.kind (location.Global v.number) (option_map number_of_class v.class)
+of_global v = if is_object (Some v.kind) then Object (location.Global v.number) (option_map number_of_class v.class) else Number v.kind (location.Global v.number)
 
--- the variable of the whole program that a name means which no field of `self` has (C99, section 6.2.1; it is known in the whole source, which is this project's
--- own choice)
-abbrev pub global_variable : Scope → List ℕ → Option Local
-global_variable s name = if is_some (own_field s name) then None else option_map of_global (s.known.global name)
-
--- the variable that a name means: one of the body, or else one of the whole program
+-- the variable that a name means: one of the body, or else one of the whole program, where no field of `self` has the name (C99, section 6.2.1; it is known in the
+-- whole source, which is this project's own choice)
 abbrev pub variable : Scope → List ℕ → Option Local
-variable s name = or_else (s.variables name) (global_variable s name)
-
--- whether a name means a variable or a field of `self`
-abbrev pub is_variable : Scope → List ℕ → Bool
-is_variable s name = is_some (variable s name) || is_some (own_field s name)
+variable s name = or_else (s.variables name) (if is_some (own_field s name) then None else option_map of_global (s.known.global name))
 
 -- Where a field may be named (OPL, "The Scope of Instance Variables"): public ones everywhere, private ones in the methods of the class whose own they are, and
 -- protected ones in those of classes that come from it, too.
@@ -227,50 +190,35 @@ is_visible s f = may_name f.visibility s (number_of_class f.owner)
 -- the class that `self` is in a class method, also in parentheses
 abbrev pub itself_in : Scope → ExprTree → Option ℕ
 itself_in s (Paren at a) = itself_in s a
-itself_in s (Itself at) = class_itself s
+itself_in s (Itself at) = if same_sign s.sign signs.Class then s.class else None
 itself_in s _ = None
 
 -- The class that a receiver is, where it is one: a name that means no variable and no field (OPL, "Class Names in Source Code"), or `self` in a class method,
 -- also in parentheses.
 abbrev pub class_receiver : Scope → ExprTree → Option ℕ
-class_receiver s (Name at name) = if is_variable s name then None else s.known.class name
-class_receiver s (Paren at a) = itself_in s a
-class_receiver s (Itself at) = class_itself s
-class_receiver s _ = None
+class_receiver s (Name at name) = if is_some (variable s name) || is_some (own_field s name) then None else s.known.class name
+class_receiver s a = itself_in s a
 
 -- the kind of what a method gives that is known
 abbrev pub kind_given : Option MethodResult → Option Kind
 kind_given = option_map (λ r. r.kind)
 
--- what a method of objects gives that is known for a static class, of which `id` has none and knows all
-abbrev pub object_result : Known → (static : Option ℕ) → List ℕ → Option Kind
-object_result known static selector = option_map_or (λ class. kind_given (known.result (Some class) signs.Instance selector)) static (known.result_of_any selector)
-
--- what a message gives, where a method is known for it: to a class, or else to an object with a static class
-abbrev pub sent_kind : Known → (class static : Option ℕ) → List ℕ → Option Kind
-sent_kind known class static selector = option_map_or (λ c. kind_given (known.result (Some c) signs.Class selector)) class (object_result known static selector)
+-- what the method gives that is known for a message: to a class, or else to an object with a static class; of what `id` is sent, which has none, only the kind is known
+abbrev pub sent_result : Known → (class static : Option ℕ) → List ℕ → Option MethodResult
+sent_result known class static selector =
+    if is_some class then known.result class signs.Class selector
+    else if is_some static then known.result static signs.Instance selector
+    else option_map (λ kind. record { kind = kind; class = None; related = false }) (known.result_of_any selector)
 
 -- the same of a message to `super`, which has the methods of the superclass of the class whose method has it (OPL, "Messages to self and super")
 abbrev pub super_result : Scope → List ℕ → Option MethodResult
 super_result s selector = option_and_then (λ class. s.known.result (Some class) s.sign selector) (option_and_then s.known.superclass s.class)
-
-abbrev pub super_kind : Scope → List ℕ → Option Kind
-super_kind s selector = kind_given (super_result s selector)
 
 -- ---- static classes
 
 -- the static class of what a method gives that is known: that of what gets the message, or the one that its type names (ARC, "Related result types")
 abbrev pub class_given : (receiver : Option ℕ) → Option MethodResult → Option ℕ
 class_given receiver given = option_and_then (λ r. if r.related then receiver else option_map number_of_class r.class) given
-
--- the static class of what a message gives, to a class, or else to an object with a static class; what is sent to an `id` gives one
-abbrev pub sent_class : Known → (class static : Option ℕ) → List ℕ → Option ℕ
-sent_class known class static selector = option_map_or (λ c. class_given (Some c) (known.result (Some c) signs.Class selector)) class
-    (option_and_then (λ c. class_given (Some c) (known.result (Some c) signs.Instance selector)) static)
-
--- the same of a message to `super`, which goes to `self`
-abbrev pub super_class : Scope → List ℕ → Option ℕ
-super_class s selector = class_given s.class (super_result s selector)
 
 -- the static class of a field that names objects, and of what a name means: a variable, or else a field of `self`
 abbrev pub field_class : Option FoundField → Option ℕ
@@ -287,16 +235,9 @@ is_nil (Paren at a) = is_nil a
 is_nil (Nil at) = true
 is_nil _ = false
 
--- the one static class of two objects that have the same, and else none
-abbrev pub same_class : Option ℕ → Option ℕ → Option ℕ
-same_class (Some a) (Some b) = if nat_eq a b then Some a else None
-same_class _ _ = None
-
--- the static class of one of two objects, by whether they are `nil`: that of the other, where one is (this project's own choice)
+-- the static class of one of two objects, by whether they are `nil`: that of the other, where one is, and else the one that both have (this project's own choice)
 abbrev pub either_class : (first_nil second_nil : Bool) → Option ℕ → Option ℕ → Option ℕ
-either_class true _ a b = b
-either_class false true a b = a
-either_class false false a b = same_class a b
+either_class first_nil second_nil a b = if first_nil then b else if second_nil then a else if same_number a b then a else None
 
 -- The static class of an expression; what has none, or gives no object, is as `id`.
 abbrev pub class_of : Scope → ExprTree → Option ℕ
@@ -308,10 +249,7 @@ class_of s (Conditional at c a b) = either_class (is_nil a) (is_nil b) (class_of
 class_of s (Arrow at name_at a name) = field_class (s.known.field (class_of s a) name)
 class_of s (Assign at sign a b) = class_of s a
 class_of s (Call at name arguments) = s.known.function_class name
-class_of s (Send at part receiver selector arguments) = sent_class s.known (class_receiver s receiver) (class_of s receiver) selector
-class_of s (SendSuper at part super_at selector arguments) = super_class s selector
+class_of s (Send at part receiver selector arguments) =
+    class_given (or_else (class_receiver s receiver) (class_of s receiver)) (sent_result s.known (class_receiver s receiver) (class_of s receiver) selector)
+class_of s (SendSuper at part super_at selector arguments) = class_given s.class (super_result s selector)
 class_of s _ = None
-
--- before the parameters of a method
-abbrev pub of_method : Known → (class : Option ℕ) → HeadTree → Scope
-of_method known class h = in_method known class h.sign h.selector (types.result_kind h.result)

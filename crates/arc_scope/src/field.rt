@@ -1,9 +1,9 @@
 //! The variables and the fields that names mean.
-ghost use Rattle.std.specs.Prelude.{◌≡◌, false, option_map, nat_eq};
+ghost use Rattle.std.specs.Prelude.{◌≡◌, ◌||◌, false, is_some, option_map, nat_eq};
 ghost use Rattle.std.specs.Option.{option_map_or};
 ghost use Rattle.arc_class.specs.Table.{number_of_class};
 ghost use Rattle.arc_scope.specs.Scopes as scopes;
-ghost use Rattle.arc_scope.specs.Views.{known_in, local_of, seen};
+ghost use Rattle.arc_scope.specs.Views.{global_variable, known_in, local_of, seen};
 
 use crate::scope::{Local, Visible};
 use arc_ast::tree::{Kind, Visibility};
@@ -28,7 +28,7 @@ fn global_variable<'a>(
     visible: &Visible<'a>,
     name: &'a [u8],
 ) -> Option<Local>
-    ensures { option_map local_of result ≡ scopes.global_variable (seen table.now visible.now) name.now }
+    ensures { option_map local_of result ≡ global_variable (seen table.now visible.now) name.now }
 {
     if own_field(table, visible, name).is_some() {
         return None;
@@ -87,7 +87,7 @@ pub fn named_variable<'a>(
 
 /// Whether the name means a variable or a field of `self`.
 pub fn is_variable<'a>(table: &ClassTable<'a>, visible: &Visible<'a>, name: &'a [u8]) -> bool
-    ensures { result ≡ scopes.is_variable (seen table.now visible.now) name.now }
+    ensures { result ≡ (is_some (scopes.variable (seen table.now visible.now) name.now) || is_some (scopes.own_field (seen table.now visible.now) name.now)) }
 {
     named_variable(table, visible, name).is_some() || own_field(table, visible, name).is_some()
 }

@@ -1,10 +1,12 @@
 //! The methods that messages may have, and the static classes of what they give.
-ghost use Rattle.std.specs.Prelude.{◌≡◌, option_map};
+ghost use Rattle.std.specs.Prelude.{◌≡◌, None, false, option_map};
 ghost use Rattle.std.specs.Option.{option_and_then};
 ghost use Rattle.arc_ast.specs.Tree.{expr_tree, type_tree};
 ghost use Rattle.arc_class.specs.declared.table.ClassTable.{ClassTable};
 ghost use Rattle.arc_class.specs.Table.{number_of_class};
 ghost use Rattle.arc_scope.specs.Scopes as scopes;
+ghost use Rattle.arc_class.specs.Classes.{or_else};
+ghost use Rattle.arc_scope.specs.Views as views;
 ghost use Rattle.arc_scope.specs.Views.{known_in, seen};
 
 use crate::field::is_variable;
@@ -75,33 +77,46 @@ fn kind_given(given: Option<MethodResult>) -> Option<Kind>
     }
 }
 
-/// What the method of objects gives that is known for the static class, of which `id` has none.
-pub fn object_result<'a>(
+/// What the method gives that is known for a message: to the class or, with none, to an object with the static class.
+fn sent_result<'a>(
     table: &ClassTable<'a>,
+    class: Option<ClassId>,
     static_class: Option<ClassId>,
     selector: &'a [u8],
-) -> Option<Kind>
-    ensures { result ≡ scopes.object_result (known_in table.now) (option_map number_of_class static_class) selector.now }
+) -> Option<MethodResult>
+    ensures { result ≡ scopes.sent_result (known_in table.now) (option_map number_of_class class) (option_map number_of_class static_class) selector.now }
 {
-    match static_class {
-        None => table.result_of_any(selector),
-        Some(class) => kind_given(table.result(Some(class), Sign::Instance, selector)),
+    match (class, static_class) {
+        (Some(_), _) => table.result(class, Sign::Class, selector),
+        (None, Some(_)) => table.result(static_class, Sign::Instance, selector),
+        (None, None) => of_any(table.result_of_any(selector)),
     }
 }
 
-/// What a message gives, where a method is known for it: to the class or, with none, to an object with the static class.
+/// What a method gives of which the kind is known.
+fn of_any(kind: Option<Kind>) -> Option<MethodResult>
+    ensures { result ≡ option_map (λ kind. record { kind = kind; class = None; related = false }) kind }
+{
+    match kind {
+        None => None,
+        Some(kind) => Some(MethodResult {
+            kind,
+            class: None,
+            related: false,
+        }),
+    }
+}
+
+/// The kind of what a message gives, where a method is known for it: to the class or, with none, to an object with the static class.
 pub fn sent_kind<'a>(
     table: &ClassTable<'a>,
     class: Option<ClassId>,
     static_class: Option<ClassId>,
     selector: &'a [u8],
 ) -> Option<Kind>
-    ensures { result ≡ scopes.sent_kind (known_in table.now) (option_map number_of_class class) (option_map number_of_class static_class) selector.now }
+    ensures { result ≡ views.sent_kind (known_in table.now) (option_map number_of_class class) (option_map number_of_class static_class) selector.now }
 {
-    match class {
-        Some(class) => kind_given(table.result(Some(class), Sign::Class, selector)),
-        None => object_result(table, static_class, selector),
-    }
+    kind_given(sent_result(table, class, static_class, selector))
 }
 
 /// What a message to `super` gives, where a method is known for it.
@@ -124,7 +139,7 @@ pub fn super_kind<'a>(
     visible: &Visible<'a>,
     selector: &'a [u8],
 ) -> Option<Kind>
-    ensures { result ≡ scopes.super_kind (seen table.now visible.now) selector.now }
+    ensures { result ≡ views.super_kind (seen table.now visible.now) selector.now }
 {
     kind_given(super_result(table, visible, selector))
 }
@@ -139,6 +154,16 @@ fn class_given(receiver: Option<ClassId>, given: Option<MethodResult>) -> Option
     }
 }
 
+/// The class or, with none, the static class.
+fn given_to(class: Option<ClassId>, static_class: Option<ClassId>) -> Option<ClassId>
+    ensures { option_map number_of_class result ≡ or_else (option_map number_of_class class) (option_map number_of_class static_class) }
+{
+    match class {
+        None => static_class,
+        Some(_) => class,
+    }
+}
+
 /// The static class of what a message gives: to the class or, with none, to an object with the static class.
 pub fn sent_class<'a>(
     table: &ClassTable<'a>,
@@ -146,18 +171,10 @@ pub fn sent_class<'a>(
     static_class: Option<ClassId>,
     selector: &'a [u8],
 ) -> Option<ClassId>
-    ensures { option_map number_of_class result ≡ scopes.sent_class (known_in table.now) (option_map number_of_class class) (option_map number_of_class static_class) selector.now }
+    ensures { option_map number_of_class result ≡ views.sent_class (known_in table.now) (option_map number_of_class class) (option_map number_of_class static_class) selector.now }
 {
-    match (class, static_class) {
-        (Some(_), _) => class_given(class, table.result(class, Sign::Class, selector)),
-        (None, Some(_)) => {
-            class_given(
-                static_class,
-                table.result(static_class, Sign::Instance, selector),
-            )
-        }
-        (None, None) => None,
-    }
+    let result = sent_result(table, class, static_class, selector);
+    class_given(given_to(class, static_class), result)
 }
 
 /// The static class of what a message to `super` gives.
@@ -166,7 +183,7 @@ pub fn super_class<'a>(
     visible: &Visible<'a>,
     selector: &'a [u8],
 ) -> Option<ClassId>
-    ensures { option_map number_of_class result ≡ scopes.super_class (seen table.now visible.now) selector.now }
+    ensures { option_map number_of_class result ≡ views.super_class (seen table.now visible.now) selector.now }
 {
     class_given(visible.class, super_result(table, visible, selector))
 }

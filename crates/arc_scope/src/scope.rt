@@ -1,12 +1,12 @@
 //! The variables that are visible at a place of a body.
-ghost use Rattle.std.specs.Prelude.{◌≡◌, ◌+◌, ◌<◌, ◌≤◌, true, option_map, OnOk, take, length, if◌then◌else◌};
+ghost use Rattle.std.specs.Prelude.{◌≡◌, ◌+◌, ◌<◌, ◌≤◌, true, not, option_map, OnOk, take, length, if◌then◌else◌};
 ghost use Rattle.arc_class.specs.declared.table.ClassTable.{ClassTable};
 ghost use Rattle.arc_class.specs.Table.{number_of_class};
 ghost use Rattle.arc_ast.specs.Tree.{type_tree, parameter_trees, head_tree};
 ghost use Rattle.arc_spec.specs.Families as families;
 ghost use Rattle.arc_scope.specs.Scopes.{of_method};
 ghost use Rattle.arc_scope.specs.Scopes as scopes;
-ghost use Rattle.arc_scope.specs.Views.{local_of, local_in, known_in, seen};
+ghost use Rattle.arc_scope.specs.Views.{class_itself, local_of, local_in, known_in, seen};
 
 use arc_ast::tree::{Kind, MethodHead, Parameter, Sign, TypeName};
 use arc_class::table::{ClassId, ClassTable};
@@ -105,7 +105,7 @@ impl<'a> Visible<'a> {
 
     /// The class that `self` is in a class method.
     pub fn class_itself(&self) -> Option<ClassId>
-        ensures { (table : ClassTable) → option_map number_of_class result ≡ scopes.class_itself (seen table self.now) }
+        ensures { (table : ClassTable) → option_map number_of_class result ≡ class_itself (seen table self.now) }
     {
         match self.sign {
             Sign::Class => self.class,
@@ -124,7 +124,7 @@ impl<'a> Visible<'a> {
 
     /// Whether there is none.
     pub fn is_full(&self) -> bool
-        ensures { (table : ClassTable) → result ≡ scopes.is_full (seen table self.now) }
+        ensures { (table : ClassTable) → result ≡ not (scopes.has_place (seen table self.now)) }
     {
         !self.has_place()
     }

@@ -1,8 +1,10 @@
 -- The judgements on expressions: kinds, first broken rules, and how many objects are taken.
-use Rattle.std.specs.Prelude.{◌≡◌, ℕ, zero, suc, List, [], ◌∷◌, ◌++◌, Option, Some, None, true, false, is_none, option_map, nat_eq}
+use Rattle.std.specs.Prelude.{◌≡◌, ℕ, zero, suc, Bool, List, [], ◌∷◌, ◌++◌, flat_map, Option, Some, None, true, false, not, ◌&&◌, is_none, option_map, nat_eq, if◌then◌else◌}
+use Rattle.std.specs.Option.{option_map_or}
 use Rattle.arc_ast.specs.declared.tree.Kind.{Kind}
-use Rattle.arc_ast.specs.Tree.{ExprTree, ExprTrees}
-use Rattle.arc_class.specs.Broken.{first}
+use Rattle.arc_ast.specs.Tree.{ExprTree, ExprTrees, InterfaceTree, ImplementationTree}
+use Rattle.arc_class.specs.Broken.{Broken, broken_if, first}
+use Rattle.arc_class.specs.declared.table.FoundField.{FoundField}
 use Rattle.arc_class.specs.Table.{number_of_class}
 use Rattle.arc_scope.specs.declared.callee.Callee.{Callee}
 use Rattle.arc_scope.specs.declared.callee.Callee.TheVariants.{Printf, GetChar, Defined, Unknown}
@@ -13,9 +15,9 @@ use Rattle.arc_judge.specs.declared.taken.Taken.{Taken}
 use Rattle.arc_judge.specs.Fault.{reported}
 use Rattle.arc_scope.specs.Formats.{fits}
 use Rattle.arc_scope.specs.Passing.{wanted_by}
-use Rattle.arc_judge.specs.Rules.{at_if, call_rule, kind_if, kind_of, kinds, is_assignable, broken_at, broken, broken_whole, broken_arguments, taken, unread, all_taken, unless_so}
+use Rattle.arc_judge.specs.Rules.{at_if, call_rule, kind_if, kind_of, kinds, is_assignable, broken, broken_head, broken_method, no_field, broken_whole, broken_arguments, taken, unread, all_taken, unless_so}
 use Rattle.arc_scope.specs.Kinds.{is_object}
-use Rattle.arc_scope.specs.Scopes.{Scope, result_kind, is_printf, class_of}
+use Rattle.arc_scope.specs.Scopes.{Known, Scope, result_kind, is_printf, class_of}
 use Rattle.arc_judge.specs.declared.taken.TheConstants.{MOST_TAKEN}
 
 -- ---- counts of objects that are taken
@@ -38,6 +40,18 @@ abbrev pub none_counted : Taken
 none_counted = record { left = MOST_TAKEN; past = None }
 
 -- ---- expressions
+
+-- the violation of the rule with a number, if there is one, at a place
+abbrev pub broken_at : ℕ → Option ℕ → List Broken
+broken_at at rule = option_map_or (broken_if true at) rule []
+
+-- the field of an expression of a kind, which has to be an object
+abbrev pub broken_field : Scope → Option Kind → Option FoundField → ℕ → List Broken
+broken_field s kind f at = if is_object kind then no_field s f at else []
+
+-- whether an update's left side, which is of a kind, is a variable or a field that holds a number; what has no kind breaks another rule
+abbrev pub is_updatable : ExprTree → Option Kind → Bool
+is_updatable a kind = is_assignable a && not (is_object kind)
 
 -- the number of the rule that a call with so many arguments breaks, but for printf, for which this is never asked
 abbrev pub other_rule : Callee → (arguments : ℕ) → Option ℕ
@@ -74,3 +88,11 @@ pub record JudgesCall (s : Scope) (before : Taken) (at : ℕ) (callee : Callee) 
       ≡ first (broken_at at (call_rule callee arguments (kinds s arguments)) ++ broken_arguments s (wanted_by callee parameters) (is_printf callee) arguments)
   pub taken : judged.taken
       ≡ counted before (at_if (is_object (kind_if (is_none (call_rule callee arguments (kinds s arguments))) (result_kind callee))) at ++ all_taken s arguments)
+
+-- ---- classes
+
+abbrev pub broken_interface : InterfaceTree → List Broken
+broken_interface i = flat_map broken_head i.methods
+
+abbrev pub broken_implementation : Known → ImplementationTree → List Broken
+broken_implementation known i = flat_map (broken_method known (known.class i.name)) i.methods

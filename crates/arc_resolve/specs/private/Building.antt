@@ -1,6 +1,7 @@
 -- What is built of expressions and statements.
-use Rattle.std.specs.Prelude.{◌≡◌, ℕ, List, [], ◌∷◌, Option, Some, None, option_map}
-use Rattle.arc_ast.specs.Tree.{ExprTree, ExprTrees}
+use Rattle.std.specs.Prelude.{◌≡◌, ℕ, ℤ, not, List, [], ◌∷◌, map, Option, Some, None, option_map}
+use Rattle.std.specs.List.{filter}
+use Rattle.arc_ast.specs.Tree.{ExprTree, ExprTrees, GlobalTree, ImplementationTree, Text}
 use Rattle.arc_class.specs.Table.{number_of_class}
 use Rattle.arc_spec.specs.Resolved as spec
 use Rattle.arc_spec.specs.Resolved.{Arguments, Commands, and_command}
@@ -14,7 +15,9 @@ use Rattle.arc_resolve.specs.declared.resolution.Typed.{Typed}
 use Rattle.arc_checked.specs.Checked as checked
 use Rattle.arc_resolve.specs.Resolving as resolving
 use Rattle.arc_resolve.specs.Resolving.{Resolution, Gives, Refers, resolved, resolved_all}
-use Rattle.arc_scope.specs.Scopes.{Scope, class_of}
+use Rattle.arc_scope.specs.declared.format.Begun.TheVariants.{Nothing}
+use Rattle.arc_scope.specs.Formats.{parts, printed}
+use Rattle.arc_scope.specs.Scopes.{Known, Scope, class_of}
 
 -- what an expression is resolved to
 abbrev pub resolution : built.Resolution → Resolution
@@ -45,7 +48,20 @@ class_receiver_of to = receiver_from to.from (checked.value to.class)
 
 -- a call of printf with these arguments
 abbrev pub printing : Scope → ExprTrees → spec.Value
-printing s arguments = resolving.printing arguments (resolved_all s None arguments)
+printing s arguments = spec.Print (printed (parts Nothing (resolving.format arguments))) (resolving.but_first (resolved_all s None arguments))
+
+-- the bytes of a text
+abbrev pub text_of : ExprTree → List ℕ
+text_of (Text at bytes) = bytes
+text_of _ = []
+
+-- the methods of an implementation
+abbrev pub resolved_methods : Known → ImplementationTree → List spec.Function
+resolved_methods known i = map (resolving.resolved_method known (known.class i.name)) i.methods
+
+-- what those of these variables hold first that hold numbers
+abbrev pub first_numbers : List GlobalTree → List ℤ
+first_numbers globals = map resolving.first_number (filter (λ g. not (resolving.names_objects g)) globals)
 
 -- arguments in front of others
 abbrev pub in_front : List checked_argument.Argument → Arguments → Arguments

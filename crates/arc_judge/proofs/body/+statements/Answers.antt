@@ -29,7 +29,7 @@ scoped-returns-clause-scope t c =
 pub statement-returns-in-Block-clause-fault : goal.statement-returns-in-Block-clause-fault
 statement-returns-in-Block-clause-fault t c =
     let P : Option Broken → Type 0 = λ b. IfOk c.block.result (λ fault. option_map reported fault ≡ b) in
-    subst P (block_is c.args.statement.now c.in-Block.field-0 c.in-Block.all c.deref.result.now c.in-Block.is c.deref.ensures.value c.args.gives_nothing c.args.in_loop (seen c.args.table.now c.args.visible.now)) c.block.ensures.fault
+    subst P (block_is c.args.statement.now c.in-Block.field-0 c.in-Block.all c.deref.result.now c.in-Block.is c.deref.ensures.value c.args.in_loop (seen c.args.table.now c.args.visible.now)) c.block.ensures.fault
 
 pub statement-returns-in-Block-clause-scope : goal.statement-returns-in-Block-clause-scope
 statement-returns-in-Block-clause-scope t c =
@@ -39,7 +39,7 @@ statement-returns-in-Block-clause-scope t c =
 pub statement-returns-in_ok-inside-in-If-clause-fault : goal.statement-returns-in_ok-inside-in-If-clause-fault
 statement-returns-in_ok-inside-in-If-clause-fault t c =
     let s = seen c.args.table.now c.args.visible.now in
-    let A = broken_stmt c.args.gives_nothing c.args.in_loop s (stmt_tree c.in-If.then.value) in
+    let A = broken_stmt c.args.in_loop s (stmt_tree c.in-If.then.value) in
     let inside : option_map reported c.in_ok-inside-in-If.inside ≡ first A = rw c.deref-in-If.ensures at c.in_ok-inside-in-If.ensures.fault in
     rw c.in-If.is (first_both (broken_test s (expr_tree c.in-If.test)) A (option_map reported c.test_fault-fault.result) (option_map reported c.in_ok-inside-in-If.inside) (option_map reported c.earlier.result) c.test_fault-fault.ensures inside c.earlier.ensures)
 
@@ -48,27 +48,27 @@ statement-returns-in_ok-second-in-IfElse-clause-fault t c =
     let s = seen c.args.table.now c.args.visible.now in
     let then = stmt_tree c.in-IfElse.then.value in
     let mid = leave s (scope_after s then) in
-    let A = broken_stmt c.args.gives_nothing c.args.in_loop s then in
-    let B = broken_stmt c.args.gives_nothing c.args.in_loop mid (stmt_tree c.in-IfElse.other.value) in
+    let A = broken_stmt c.args.in_loop s then in
+    let B = broken_stmt c.args.in_loop mid (stmt_tree c.in-IfElse.other.value) in
     let one : option_map reported c.in_ok-first-in-IfElse.first ≡ first A = rw c.deref-in-IfElse.ensures at c.in_ok-first-in-IfElse.ensures.fault in
     let between : seen c.args.table.now c.scoped-in-IfElse.new.visible ≡ mid = rw c.deref-in-IfElse.ensures at c.in_ok-first-in-IfElse.ensures.scope in
-    let two : option_map reported c.in_ok-second-in-IfElse.second ≡ first (broken_stmt c.args.gives_nothing c.args.in_loop (seen c.args.table.now c.scoped-in-IfElse.new.visible) (stmt_tree c.in-IfElse.other.value)) =
+    let two : option_map reported c.in_ok-second-in-IfElse.second ≡ first (broken_stmt c.args.in_loop (seen c.args.table.now c.scoped-in-IfElse.new.visible) (stmt_tree c.in-IfElse.other.value)) =
     rw c.deref-in-IfElse-2.ensures at c.in_ok-second-in-IfElse.ensures.fault in
-    let other : option_map reported c.in_ok-second-in-IfElse.second ≡ first B = two ∙ ap (λ p. first (broken_stmt c.args.gives_nothing c.args.in_loop p (stmt_tree c.in-IfElse.other.value))) between in
+    let other : option_map reported c.in_ok-second-in-IfElse.second ≡ first B = two ∙ ap (λ p. first (broken_stmt c.args.in_loop p (stmt_tree c.in-IfElse.other.value))) between in
     rw c.in-IfElse.is (first_both (broken_test s (expr_tree c.in-IfElse.test)) _ (option_map reported c.test_fault-fault-in-IfElse.result) (option_map reported c.earlier-in-IfElse.result) (option_map reported c.earlier-in-IfElse-2.result) c.test_fault-fault-in-IfElse.ensures
     (first_both A B (option_map reported c.in_ok-first-in-IfElse.first) (option_map reported c.in_ok-second-in-IfElse.second) (option_map reported c.earlier-in-IfElse.result) one other c.earlier-in-IfElse.ensures) c.earlier-in-IfElse-2.ensures)
 
 pub statement-returns-in_ok-inside-in-While-clause-fault : goal.statement-returns-in_ok-inside-in-While-clause-fault
 statement-returns-in_ok-inside-in-While-clause-fault t c =
     let s = seen c.args.table.now c.args.visible.now in
-    let A = broken_stmt c.args.gives_nothing true s (stmt_tree c.in-While.body.value) in
+    let A = broken_stmt true s (stmt_tree c.in-While.body.value) in
     let inside : option_map reported c.in_ok-inside-in-While.inside ≡ first A = rw c.deref-in-While.ensures at c.in_ok-inside-in-While.ensures.fault in
     rw c.in-While.is (first_both (broken_test s (expr_tree c.in-While.test)) A (option_map reported c.test_fault-fault-in-While.result) (option_map reported c.in_ok-inside-in-While.inside) (option_map reported c.earlier-in-While.result) c.test_fault-fault-in-While.ensures inside c.earlier-in-While.ensures)
 
 pub statement-returns-in_ok-inside-in-Do-clause-fault : goal.statement-returns-in_ok-inside-in-Do-clause-fault
 statement-returns-in_ok-inside-in-Do-clause-fault t c =
     let s = seen c.args.table.now c.args.visible.now in
-    let A = broken_stmt c.args.gives_nothing true s (stmt_tree c.in-Do.body.value) in
+    let A = broken_stmt true s (stmt_tree c.in-Do.body.value) in
     let inside : option_map reported c.in_ok-inside-in-Do.inside ≡ first A = rw c.deref-in-Do.ensures at c.in_ok-inside-in-Do.ensures.fault in
     rw c.in-Do.is (first_both (broken_test s (expr_tree c.in-Do.test)) A (option_map reported c.test_fault-fault-in-Do.result) (option_map reported c.in_ok-inside-in-Do.inside) (option_map reported c.earlier-in-Do.result) c.test_fault-fault-in-Do.ensures inside c.earlier-in-Do.ensures)
 
@@ -89,11 +89,11 @@ stepped-returns-clause-fault t c =
     let own = scope_after s a in
     let test = option_map expr_tree c.args.test.now in
     let step = option_map expr_tree c.args.step.now in
-    let A = broken_stmt c.args.gives_nothing false s a in
+    let A = broken_stmt false s a in
     let C = broken_clauses own test step in
-    let B = broken_stmt c.args.gives_nothing true own b in
+    let B = broken_stmt true own b in
     let clauses : option_map reported c.clauses-clauses.result ≡ first C = c.clauses-clauses.ensures ∙ ap (λ p. first (broken_clauses p test step)) c.in_ok-before.ensures.scope in
-    let inside : option_map reported c.in_ok-inside.inside ≡ first B = c.in_ok-inside.ensures.fault ∙ ap (λ p. first (broken_stmt c.args.gives_nothing true p b)) c.in_ok-before.ensures.scope in
+    let inside : option_map reported c.in_ok-inside.inside ≡ first B = c.in_ok-inside.ensures.fault ∙ ap (λ p. first (broken_stmt true p b)) c.in_ok-before.ensures.scope in
     first_both A (C ++ B) _ _ _ c.in_ok-before.ensures.fault (first_both C B _ _ _ clauses inside c.earlier.ensures) c.earlier-2.ensures
 
 pub stepped-returns-clause-scope : goal.stepped-returns-clause-scope
@@ -123,7 +123,7 @@ statements-loop-one-preserved t c =
     let s = seen table c.loop-one.visible in
     let new = seen table c.statement.new.visible in
     record {
-      fault = statements_turn c.args.gives_nothing c.args.in_loop s new xs i x (option_map reported c.loop-one.fault) (option_map reported c.in_ok-statement.field-0) (option_map reported c.earlier-fault.result) _ c.loop-one-test.true c.one-item.is
+      fault = statements_turn c.args.in_loop s new xs i x (option_map reported c.loop-one.fault) (option_map reported c.in_ok-statement.field-0) (option_map reported c.earlier-fault.result) _ c.loop-one-test.true c.one-item.is
           c.in_ok-statement.ensures.fault c.in_ok-statement.ensures.scope c.earlier-fault.ensures c.loop-one.invariant.fault;
       scope = after_turn s new _ xs i x c.loop-one-test.true c.one-item.is c.in_ok-statement.ensures.scope c.loop-one.invariant.scope;
       keeps = keeps_turn c.args.visible.now.bound.items c.loop-one.visible.bound.items c.statement.new.visible.bound.items c.loop-one.invariant.keeps c.in_ok-statement.ensures.keeps;

@@ -27,7 +27,7 @@ decreases-stepped l = 4 * max (size-Stmt l.beginning.now) (size-Stmt l.body.now)
 -- what is reported so far and what is reported of the rest is reported of all, and the outer variables are there still
 abbrev pub invariant-statements-loop-one : goal.invariant-statements-loop-one
 invariant-statements-loop-one l = record {
-  fault : first (broken_stmts l.gives_nothing l.in_loop (seen l.table l.initial.visible) (stmt_trees l.all)) ≡ earlier_of (option_map reported l.fault) (first (broken_stmts l.gives_nothing l.in_loop (seen l.table l.visible) (stmt_trees (drop l.one-index l.all))));
+  fault : first (broken_stmts l.in_loop (seen l.table l.initial.visible) (stmt_trees l.all)) ≡ earlier_of (option_map reported l.fault) (first (broken_stmts l.in_loop (seen l.table l.visible) (stmt_trees (drop l.one-index l.all))));
   scope : scope_after_all (seen l.table l.initial.visible) (stmt_trees l.all) ≡ scope_after_all (seen l.table l.visible) (stmt_trees (drop l.one-index l.all));
   keeps : take (length l.initial.visible.bound.items) l.visible.bound.items ≡ l.initial.visible.bound.items;
 }

@@ -10,4 +10,4 @@ pub returns : goal.returns
 returns c =
     let table = c.args.table.now in
     let P : Option Broken → Type 0 = λ b. IfOk c.inside.result (λ fault. option_map reported fault ≡ b) in
-    subst P (body_is c.args.gives c.is_void.result (known_in table) (seen table c.new-visible.result) (parameter_trees c.args.named.now) c.args.all.now c.in-Some.all c.deref.result.now c.in-Some.is c.deref.ensures.value c.is_void.ensures (c.new-visible.ensures table)) c.inside.ensures
+    subst P (body_is c.args.gives (known_in table) (seen table c.new-visible.result) (parameter_trees c.args.named.now) c.args.all.now c.in-Some.all c.deref.result.now c.in-Some.is c.deref.ensures.value (c.new-visible.ensures table)) c.inside.ensures

@@ -13,5 +13,5 @@ returns c =
     let s = seen c.args.table.now c.args.visible in
     let named = parameter_trees c.args.named.now in
     let all = stmt_trees c.args.all.now in
-    first_both (broken_parameters s named) (broken_stmts c.args.gives_nothing false (with_parameters s named) all) (option_map reported c.in_ok-fault.fault) (option_map reported c.in_ok-statements.field-0) (option_map reported c.earlier.result)
-    c.in_ok-fault.ensures.fault (c.in_ok-statements.ensures.fault ∙ ap (λ q. first (broken_stmts c.args.gives_nothing false q all)) c.in_ok-fault.ensures.scope) c.earlier.ensures
+    first_both (broken_parameters s named) (broken_stmts false (with_parameters s named) all) (option_map reported c.in_ok-fault.fault) (option_map reported c.in_ok-statements.field-0) (option_map reported c.earlier.result)
+    c.in_ok-fault.ensures.fault (c.in_ok-statements.ensures.fault ∙ ap (λ q. first (broken_stmts false q all)) c.in_ok-fault.ensures.scope) c.earlier.ensures

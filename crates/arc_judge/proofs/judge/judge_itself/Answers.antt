@@ -10,8 +10,8 @@ pub returns-then-is_some : goal.returns-then-is_some
 returns-then-is_some c = λ table.
     let s = seen table c.args.visible.now in
     let own : option_map number_of_class c.own_class-class.result ≡ own_class s = c.own_class-class.ensures table in
-    itself_object s c.args.before c.args.at c.object_read.result (ap is_some (sym own) ∙ is_some-class c.own_class-class.result ∙ sym c.is_some.ensures ∙ c.if-is_some.true) (ap (λ j. j.kind) c.object_read.ensures) (ap (λ j. option_map number_of_class j.class) c.object_read.ensures ∙ own)
-    (ap (λ j. option_map reported j.fault) c.object_read.ensures) (ap (λ j. j.taken) c.object_read.ensures) (ap (λ j. j.unread) c.object_read.ensures)
+    itself_object s c.args.before c.args.at c.variable_read.result (ap is_some (sym own) ∙ is_some-class c.own_class-class.result ∙ sym c.is_some.ensures ∙ c.if-is_some.true) (ap (λ j. j.kind) c.variable_read.ensures) (ap (λ j. option_map number_of_class j.class) c.variable_read.ensures ∙ own)
+    (ap (λ j. option_map reported j.fault) c.variable_read.ensures) (ap (λ j. j.taken) c.variable_read.ensures) (ap (λ j. j.unread) c.variable_read.ensures)
 
 pub returns-then-is_some-2 : goal.returns-then-is_some-2
 returns-then-is_some-2 c = λ table.

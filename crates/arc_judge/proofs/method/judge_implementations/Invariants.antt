@@ -3,7 +3,7 @@ use Rattle.std.specs.List.{flat_map}
 use Rattle.arc_ast.specs.Tree.{implementation_trees}
 use Rattle.arc_class.specs.Broken.{first, earlier_of}
 use Rattle.arc_judge.specs.Fault.{reported}
-use Rattle.arc_judge.specs.Rules.{broken_implementation}
+use Rattle.arc_judge.specs.private.Judging.{broken_implementation}
 use Rattle.arc_scope.specs.Views.{known_in}
 use Rattle.arc_judge.proofs.method.judge_implementations.Given as goal
 

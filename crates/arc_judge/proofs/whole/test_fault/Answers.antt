@@ -2,7 +2,8 @@ use Rattle.std.proofs.Common.{ap, ◌∙◌, option_map}
 use Rattle.arc_ast.specs.Tree.{expr_tree}
 use Rattle.arc_class.specs.Broken.{earlier_of}
 use Rattle.arc_judge.specs.Fault.{reported}
-use Rattle.arc_judge.specs.Rules.{no_value, broken_whole}
+use Rattle.arc_judge.specs.Rules.{unmet, broken_whole}
+use Rattle.arc_sites.specs.Sites.{AValue}
 use Rattle.arc_scope.specs.Views.{seen}
 use Rattle.arc_judge.proofs.Judgements.{with_rule}
 use Rattle.arc_judge.proofs.whole.test_fault.Goals as goal
@@ -12,5 +13,5 @@ returns c =
     let s = seen c.args.table.now c.args.visible.now in
     let a = expr_tree c.args.expr.now in
     let j = c.judge_whole-judged.result in
-    with_rule s (broken_whole s a) a no_value (option_map reported j.fault) (option_map reported c.earlier.result) j.kind c.place.result c.judge_whole-judged.ensures.fault c.judge_whole-judged.ensures.kind c.place.ensures
+    with_rule s (broken_whole s a) a (unmet AValue) (option_map reported j.fault) (option_map reported c.earlier.result) j.kind c.place.result c.judge_whole-judged.ensures.fault c.judge_whole-judged.ensures.kind c.place.ensures
     (c.earlier.ensures ∙ ap (earlier_of (option_map reported j.fault)) c.no_value.ensures)

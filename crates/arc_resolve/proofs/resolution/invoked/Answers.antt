@@ -1,15 +1,13 @@
 use Rattle.std.proofs.Common.{sym, ap, ◌∙◌}
 use Rattle.arc_checked.specs.Checked as checked
 use Rattle.arc_resolve.specs.Resolving.{Gives, Refers}
-use Rattle.arc_resolve.proofs.Buildings.{invoked_object, invoked_number}
 use Rattle.arc_checked.proofs.Trees.{invoked_value, object_invoked_reference}
 use Rattle.arc_resolve.proofs.resolution.invoked.Goals as goal
 
 pub returns-then-is_object : goal.returns-then-is_object
 returns-then-is_object c =
-    ap Refers (object_invoked_reference c.args.function c.args.all) ∙ invoked_object c.args.kind c.args.function (checked.arguments c.args.all.items) (sym c.is_object.ensures ∙ c.if-is_object.true)
+    rw (sym c.is_object.ensures ∙ c.if-is_object.true) (ap Refers (object_invoked_reference c.args.function c.args.all))
 
 pub returns : goal.returns
 returns c =
-    ap (Gives c.args.kind) (invoked_value c.args.function c.args.all)
-    ∙ invoked_number c.args.kind c.args.function (checked.arguments c.args.all.items) (sym c.is_object.ensures ∙ c.if-is_object.false)
+    rw (sym c.is_object.ensures ∙ c.if-is_object.false) (ap (Gives c.args.kind) (invoked_value c.args.function c.args.all))

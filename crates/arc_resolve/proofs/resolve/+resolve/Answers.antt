@@ -9,6 +9,7 @@ use Rattle.arc_resolve.specs.private.Building.{resolution}
 use Rattle.arc_scope.specs.Passing as passing
 use Rattle.arc_checked.specs.Checked as checked
 use Rattle.arc_ast.specs.Tree.{expr_tree, expr_trees, type_tree}
+use Rattle.arc_ast.specs.Operators.{sort_of}
 use Rattle.arc_ast.specs.Types.{type_kind}
 use Rattle.arc_resolve.specs.Resolving as resolving
 use Rattle.arc_resolve.specs.Resolving.{Gives, unary, binary, updated, cast, conditional, invoked, resolved, resolved_all}
@@ -78,8 +79,8 @@ pub operation-returns : goal.operation-returns
 operation-returns t c = λ at.
     record {
       class = refl;
-      value = c.in_ok-value.ensures ∙ ap (λ a. binary c.args.operator a (resolution c.in_ok-right.right.value)) c.in_ok-left.ensures.value
-          ∙ ap (binary c.args.operator (resolved (seen c.args.table.now c.args.visible.now) (expr_tree c.args.left.now))) c.in_ok-right.ensures.value;
+      value = c.in_ok-value.ensures ∙ ap (λ a. binary (sort_of c.args.operator) c.args.operator a (resolution c.in_ok-right.right.value)) c.in_ok-left.ensures.value
+          ∙ ap (binary (sort_of c.args.operator) c.args.operator (resolved (seen c.args.table.now c.args.visible.now) (expr_tree c.args.left.now))) c.in_ok-right.ensures.value;
     }
 
 pub update-returns : goal.update-returns
