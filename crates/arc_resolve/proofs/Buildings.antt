@@ -66,7 +66,10 @@ format_is (SendSuper at part super_at selector arguments) others = refl
 
 pub printing_some : (s : Scope) (all : List Expr) (one : Expr) (others : List Expr) (format : List ℕ) (pieces : List Piece) (values : List Argument) → all ≡ one ∷ others → format ≡ text_of (expr_tree one)
     → checked.pieces pieces ≡ printed (parts Nothing format) → checked.arguments values ≡ resolved_all s None (expr_trees others) → resolved.Print (checked.pieces pieces) (checked.arguments values) ≡ printing s (expr_trees all)
-printing_some s all one others format pieces values e f p v = rw (p, v, e, sym (format_is (expr_tree one) (expr_trees others)), f) refl
+printing_some s all one others format pieces values e f p v =
+    let first = resolving.format (and_expr (expr_tree one) (expr_trees others)) in
+    ap (λ all. resolved.Print all (checked.arguments values)) (p ∙ ap (λ bytes. printed (parts Nothing bytes)) (f ∙ sym (format_is (expr_tree one) (expr_trees others))))
+    ∙ ap (resolved.Print (printed (parts Nothing first))) v ∙ sym (ap (λ us. printing s (expr_trees us)) e)
 
 pub printing_none : (s : Scope) (all : List Expr) (pieces : List Piece) (values : List Argument) → length all ≡ 0 → pieces ≡ [] → checked.arguments values ≡ resolved_all s None (expr_trees all)
     → resolved.Print (checked.pieces pieces) (checked.arguments values) ≡ printing s (expr_trees all)
