@@ -1,5 +1,4 @@
 use Rattle.std.proofs.Common.{sym, ap, ◌∙◌}
-use Rattle.arc_checked.specs.Checked as checked
 use Rattle.arc_resolve.specs.Resolving.{Gives, Refers}
 use Rattle.arc_checked.proofs.Trees.{invoked_value, object_invoked_reference}
 use Rattle.arc_resolve.proofs.resolution.invoked.Goals as goal
