@@ -1,23 +1,16 @@
-//! Sources, and what their tables are.
+//! A source's table, and a fault. Rows of `arc_rows` show the sources that are refused.
 use crate::source::tree;
 use arc_ast::tree::Sign;
 use arc_class::table::{ClassId, ClassTable, MethodId, Sel};
+use arc_fault::class::ClassFault;
 
 #[test]
 fn reports(rt: HostRuntime) {
-    let alloc = rt.alloc();
-    let unit = tree(alloc, b"int f(void); int f(int a) { } int main(void) { }").expect(
-        &rt, "no tree",
+    let fault = ClassFault::Duplicate(17);
+    assert_eq!(rt;
+        (fault.number(), fault.name(), fault.at()),
+        (21, "Duplicate", 17)
     );
-    match ClassTable::build(alloc, &unit) {
-        Ok(_table) => assert!(rt; false, "two kinds of function"),
-        Err(fault) => {
-            assert_eq!(rt;
-                (fault.number(), fault.name(), fault.at()),
-                (21, "Duplicate", 17)
-            );
-        }
-    }
 }
 
 /// `B` has a class method and its superclass `A` has one of its objects, both named `f`.

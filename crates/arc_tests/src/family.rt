@@ -1,55 +1,9 @@
-//! Methods with their families, a program that is kept and one that is refused. The program `arc_rows` has many more sources.
-ghost use Rattle.arc_ast.specs.Tree.{unit_tree};
-ghost use Rattle.arc_class.specs.Table.{IsTableOf};
-
-use crate::source::tree;
-use arc_ast::tree::{Kind, TranslationUnit};
-use arc_checked::program::Checked;
-use arc_class::table::ClassTable;
+//! Methods with their families, and a fault. `crate::lower` has a program that is kept; the program `arc_rows` has many more,
+//! and those that are refused.
+use arc_ast::tree::Kind;
 use arc_family::family::family;
-use arc_family::owned::own;
 use arc_family::signature::{Family, Signature};
 use arc_fault::own::OwnFault;
-use std::alloc::Global;
-
-/// The number and the place of the rule that a tree with this table breaks.
-fn fault<'a>(
-    alloc: Global,
-    unit: &'a TranslationUnit,
-    table: &ClassTable<'a>,
-) -> Option<(u8, usize)>
-    requires { IsTableOf (unit_tree unit.now) table.now }
-{
-    let program = Checked {
-        unit,
-        table,
-        functions: Vec::new(alloc),
-        main: 0,
-        globals: Vec::new(alloc),
-        strong_globals: 0,
-        classes: Vec::new(alloc),
-    };
-    match own(alloc, &program) {
-        Ok(_owned) => None,
-        Err(fault) => Some((fault.number(), fault.at())),
-    }
-}
-
-#[test]
-fn keeps(rt: HostRuntime) {
-    let alloc = rt.alloc();
-    let unit = tree(alloc, b"int main(void) { [a retain:1]; }").expect(&rt, "no tree");
-    let table = ClassTable::build(alloc, &unit).expect(&rt, "no table");
-    assert_eq!(rt; fault(alloc, &unit, &table), None);
-}
-
-#[test]
-fn refuses(rt: HostRuntime) {
-    let alloc = rt.alloc();
-    let unit = tree(alloc, b"int main(void) { [a retain]; }").expect(&rt, "no tree");
-    let table = ClassTable::build(alloc, &unit).expect(&rt, "no table");
-    assert_eq!(rt; fault(alloc, &unit, &table), Some((61, 20)));
-}
 
 #[test]
 fn reports(rt: HostRuntime) {

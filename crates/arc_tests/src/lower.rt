@@ -1,4 +1,4 @@
-//! The actions of a small program.
+//! A small program, checked and kept, and its actions.
 use crate::source::tree;
 use arc_check::check::check;
 use arc_class::table::ClassTable;

@@ -4,8 +4,13 @@ use arc_lex::lex::lex;
 use arc_parse::parse::parse;
 use std::alloc::Global;
 
-/// The tree of a source, if it has one.
+/// The tree of a source, if it has one. A tree that is held at a `?` takes long to prove.
 pub fn tree(alloc: Global, source: &[u8]) -> Option<TranslationUnit> {
-    let tokens = lex(alloc, source).ok()?;
-    parse(alloc, &tokens).ok()
+    match lex(alloc, source) {
+        Ok(tokens) => match parse(alloc, &tokens) {
+            Ok(unit) => Some(unit),
+            Err(_) => None,
+        },
+        Err(_) => None,
+    }
 }
