@@ -4,13 +4,8 @@ use arc_lex::lex::lex;
 use arc_parse::parse::parse;
 use std::alloc::Global;
 
-/// The tree of a source, if it has one. A tree that is held at a `?` takes long to prove.
+/// The tree of a source, if it has one.
 pub fn tree(alloc: Global, source: &[u8]) -> Option<TranslationUnit> {
-    match lex(alloc, source) {
-        Ok(tokens) => match parse(alloc, &tokens) {
-            Ok(unit) => Some(unit),
-            Err(_) => None,
-        },
-        Err(_) => None,
-    }
+    let tokens = lex(alloc, source).ok()?;
+    parse(alloc, &tokens).ok()
 }
