@@ -20,8 +20,7 @@ use Rattle.arc_code.specs.declared.instr.Instr.TheVariants.{Call, Jump, EndStep}
 use Rattle.arc_ir.specs.declared.action.Target.TheVariants as target
 use Rattle.arc_code.specs.Effects.{passes}
 use Rattle.arc_lower.specs.Lowered.{number_of, slots_of, parameters_of, entry_of, entries_of, passing_orders, leave_orders, body_orders}
-use Rattle.arc_lower.proofs.CountsPlaces.{no_one}
-use Rattle.arc_lower.proofs.CountsHeld.{there_fields}
+use Rattle.arc_lower.proofs.CountsPlaces.{no_one, there_fields, raised_count, field_moves}
 use Rattle.arc_lower.proofs.CountsThere.{set_here}
 use Rattle.arc_lower.proofs.Leading.{Leads, leads_same, leads_trans, leads_step, Runs, leads_runs, ends_here, then_runs, better_runs}
 use Rattle.arc_lower.proofs.Recounting.{recounted, recount, moves, at, counting, held_of, resumed_as}
@@ -30,7 +29,7 @@ use Rattle.arc_lower.proofs.Segments.{running, quiet}
 use Rattle.arc_lower.proofs.Stacking.{onto}
 use Rattle.arc_lower.proofs.Shaping.{then_twice}
 use Rattle.arc_lower.proofs.Fitting.{first_length, passing_leads}
-use Rattle.arc_lower.proofs.Releasing.{Kept, kept_trans, Ends, laid, dying_in, object_runs, there_runs, place_runs, same_test, field_count}
+use Rattle.arc_lower.proofs.Releasing.{Kept, kept_trans, Ends, laid, dying_in, object_runs, there_runs, place_runs, lets_runs}
 use Rattle.arc_lower.proofs.Running.{after_call, Returns, answered, Deep, past_end, same_put}
 use Rattle.arc_lower.proofs.Leaving.{leaving, Left, function_runs}
 use Rattle.arc_lower.proofs.Linking.{Begins, call_enters, function_gives}
@@ -99,10 +98,10 @@ turned_put : (phase : Phase) (objects : List Object) (o : ℕ) (ob : Object) →
 turned_put phase objects o ob found = rw found refl
 
 -- what a field named that is dropped
-dropped_count : (o : ℕ) (ob : Object) (index old k : ℕ) (w : World) → object_at w.objects o ≡ Some ob → is_there ob.phase ≡ true → slice_get ob.strong index ≡ Some old → old ≡ suc k
-    → (if nat_eq (suc k) 0 then suc (holders (suc k) (places w)) else holders (suc k) (places w)) ≡ suc (holders (suc k) (places (field_stores o ob index 0 w)))
-dropped_count zero ob index old k w found there named e = cc
-dropped_count (suc j) ob index old k w found there named e = field_count j ob index old 0 k w found there named e
+dropped_count : (o : ℕ) (ob : Object) (index old k : ℕ) (w : World) → object_at w.objects o ≡ Some ob → is_there ob.phase ≡ true → slice_get ob.strong index ≡ Some old
+    → (if nat_eq (suc k) 0 then suc (holders (suc k) (places w)) else holders (suc k) (places w)) ≡ holders (suc k) (old ∷ places (field_stores o ob index 0 w))
+dropped_count zero ob index old k w found there named = cc
+dropped_count (suc j) ob index old k w found there named = raised_count 0 (held_of [] w) (suc k) ∙ sym (field_moves (suc k) (held_of [] w) j ob index old 0 found there named)
 
 -- what waited is as it was
 resumed_is : (f : world.Frame) (waiting : List ℕ) (h : Held) → h.places ≡ frame_places f ++ waiting → resumed (waits_at f) h ≡ record h { temporaries = f.temporaries; variables = f.strong; self = f.self; places = waiting }
@@ -302,28 +301,17 @@ module _ (p : Program) (R : resolved.Program) (bound : ℕ) (begins : (wanted : 
       stays_run w c = leads_runs (moves p) bound _ (at_end rs inner o stack w) (Goes_on w) (Done finished w) (leads_same (moves p) _ _ (ap (λ t. Running (at inner p.end_step stack (ended_held rs o w)) w.input t) (append-nil w.trace)))
           (ends_here (moves p) bound (at_end rs inner o stack w) (Goes_on w) finished w (refl, record { frame = refl; waiting = refl }))
 
-      lets_by : (before : World) (k : ℕ) (ob : Object) (c : ℕ → ℕ) (w : World) → object_at w.objects (suc k) ≡ Some ob → (b : Bool)
-          → Runs (moves p) bound (follow (recount (if b then ends before (suc k) ob.class (dying_in rs (lay w) k ob c) else stays (counting rs (lay w) c))) w.input w.trace) (Goes_on w) (if b then (level R bound levels).end_of (suc k) w else Done finished w)
-      lets_by before k ob c w found false = stays_run w c
-      lets_by before k ob c w found true =
+      -- a field lets go of what it named
+      lets_run : (before : World) (old : ℕ) (c : ℕ → ℕ) (w : World) → ((k : ℕ) → c (suc k) ≡ holders (suc k) (old ∷ places w))
+          → Runs (moves p) bound (follow (recount (lets_go old (counting rs (lay w) c) stays (ends before))) w.input w.trace) (Goes_on w) (released (level R bound levels) old w)
+      lets_run before old c w count =
+          lets_runs p bound rs (level R bound levels) w own_frame (stacked w) (Goes_on w) (λ o. o) old c stays (ends before) count (λ less _. stays_run w less) (λ k ob less found.
           better_runs (moves p) bound _ (λ done w1 to. (to ≡ running inner rs p.end_step stack (laid w1 own_frame (stacked w))) × Kept w w1) (Goes_on w) ((level R bound levels).end_of (suc k) w)
-          ((deep (Clearing back waits o fields)).ends own_frame (stacked w) k ob c (ended_held rs o before) rs stack w p.end_step p.end_step refl found)
+          ((deep (Clearing back waits o fields)).ends own_frame (stacked w) k ob less (ended_held rs o before) rs stack w p.end_step p.end_step refl found)
           (λ done w1 to m. (
             m.0 ∙ ap (λ (f : world.Frame). running inner rs p.end_step stack (laid w1 own_frame (frame_places f ++ w.waiting))) (sym m.1.frame) ∙ ap (λ l. running inner rs p.end_step stack (laid w1 own_frame (frame_places w1.frame ++ l))) (sym m.1.waiting),
             m.1,
-          ))
-
-      -- a field lets go of what it named
-      lets_run : (before : World) (old : ℕ) (c : ℕ → ℕ) (w : World) → ((k : ℕ) → old ≡ suc k → c (suc k) ≡ suc (holders (suc k) (places w)))
-          → Runs (moves p) bound (follow (recount (lets_go old (counting rs (lay w) c) stays (ends before))) w.input w.trace) (Goes_on w) (released (level R bound levels) old w)
-      lets_run before zero c w count = stays_run w (λ k. if nat_eq k 0 then c k - 1 else c k)
-      lets_run before (suc k) c w count =
-          let D = level R bound levels in
-          let less = (lowered (suc k) (counting rs (lay w) c)).counts in
-          let test = is_live (object_at w.objects (suc k)) && not (names (suc k) (places w)) in
-          object_runs p bound w.input w.trace (Goes_on w) (released D (suc k) w) (object_at w.objects (suc k)) (λ x. if is_live (Some x) && nat_eq (c (suc k)) 1 then ends before (suc k) x.class (dying_in rs (lay w) k x less) else stays (counting rs (lay w) less)) (λ ob found.
-          subst (λ b. Runs (moves p) bound (follow (recount (if b then ends before (suc k) ob.class (dying_in rs (lay w) k ob less) else stays (counting rs (lay w) less))) w.input w.trace) (Goes_on w) (released D (suc k) w)) (sym (same_test p inner bound rs D (deep (Clearing back waits o fields)).ends k ob c w found (count k refl)))
-          (lets_by before k ob less w found test))
+          )))
 
       -- the next field
       field_run : (index : ℕ) (w : World) → Runs (moves p) bound (follow (recount (clears_next p (at inner p.end_step stack (ended_held rs o w)) o index)) w.input w.trace) (Goes_on w) (field_dropped (level R bound levels) o index (object_at w.objects o) w)
@@ -347,7 +335,7 @@ module _ (p : Program) (R : resolved.Program) (bound : ℕ) (begins : (wanted : 
           subst (λ q. Runs (moves p) bound
           (follow (recount (lets_go old (raised 0 (with_strong_field h o ob index 0)) stays (ends w))) w.input w.trace) (Goes_on w)
           (released D q w1)) (sym (get_or_from_slice_get ob.strong index old 0 named))
-          (better_runs (moves p) bound _ (Goes_on w1) (Goes_on w) (released D old w1) (lets_run w old (raised 0 h).counts w1 (λ k e. dropped_count o ob index old k w found there named e)) (λ done w2 to m. (m.0, record { frame = m.1.frame; waiting = m.1.waiting }))))))
+          (better_runs (moves p) bound _ (Goes_on w1) (Goes_on w) (released D old w1) (lets_run w old (raised 0 h).counts w1 (λ k. dropped_count o ob index old k w found there named)) (λ done w2 to m. (m.0, record { frame = m.1.frame; waiting = m.1.waiting }))))))
 
     -- ---- what is left of an end
 

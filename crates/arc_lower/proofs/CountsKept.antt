@@ -1,254 +1,245 @@
 -- Wherever objects and places change, the counts are right, what a place names is there, and each object has the fields of its class.
-use Rattle.std.proofs.Common.{◌≡◌, ℕ, zero, suc, ◌<◌, true, false, ◌&&◌, nat_eq, ℤ, List, [], ◌∷◌, ◌++◌, length, Some, slice_get, slice_set, refl, sym, ap, ◌∙◌, subst, ⊎_elim, arith}
-use Rattle.std.proofs.lemmas.Bool.{eqb-true, cases_eq}
+use Rattle.std.proofs.Common.{◌≡◌, ℕ, zero, suc, ◌+◌, ◌<◌, ◌≤◌, true, false, ◌&&◌, nat_eq, ℤ, List, [], ◌∷◌, ◌++◌, length, Option, Some, None, slice_get, slice_set, refl, sym, ap, ◌∙◌, subst, ⊎_elim, arith}
+use Rattle.std.proofs.lemmas.Bool.{eqb-true, cases_eq, eq-eqb, and_from, false≢true}
 use Rattle.std.proofs.lemmas.List.{length-set}
 use Rattle.arc_spec.specs.Classes.{Class, strong_count}
-use Rattle.arc_spec.specs.Objects.{Object, Dying, Emptying, Gone, nils, object_at, with_object, in_phase, with_fields, with_strong_fields, is_live, is_there, new_object, fields_of, field_places}
-use Rattle.arc_spec.specs.World.{name_at}
+use Rattle.arc_spec.specs.Objects.{Object, Live, Dying, Emptying, Gone, nils, object_at, with_object, in_phase, with_fields, with_strong_fields, is_live, is_there, new_object, fields_of, field_places}
 use Rattle.arc_spec.specs.Holding.{Held, nothing_held, Counted, holders, all_places, with_temporaries, with_variables, with_names, with_things, with_globals, with_strong_globals, raised, lowered, taken_by, makes, count_of, entered, stacked}
-use Rattle.arc_lower.proofs.CountsPlaces.{tally_same, holders_head, holders_nil, holders_set, holders_append}
-use Rattle.arc_lower.proofs.CountsHeld.{Dropped, all_holders, nothing_counted, taken_counted, declared_counted, stored_dropped, last_temporary, second_temporary, moved_counted, nil_dropped, last_dropped, other_dropped, makes_counted, field_counted, global_dropped, strong_field_dropped, emptying_counted, gone_counted, set_other, set_same, get_last, there_fields, fields_set, fields_made, same_fields, nils_holders}
-use Rattle.arc_lower.proofs.CountsThere.{IsThere, AllThere, fewer_there, rest_there, taken_there, place_there, changed_there, made_there}
+use Rattle.arc_lower.proofs.CountsPlaces.{tally, tally_nil, tally_same, tally_other, holders_head, holders_nil, holders_append, all_holders, raised_count, lowered_count, there_fields, fields_set, fields_made, nils_holders, same_fields, variable_moves, global_moves, field_moves, last_moves, second_moves}
+use Rattle.arc_lower.proofs.CountsThere.{IsThere, AllThere, set_here, set_other, get_new, get_other}
 
--- each object has so many fields that name objects as its class says
-abbrev pub Sized : List Class → List Object → Type 0
-Sized classes objects = (k : ℕ) (o : Object) → slice_get objects k ≡ Some o → length o.strong ≡ strong_count (slice_get classes o.class)
+-- ---- objects and their counts
+
+-- an object with this count: it is there where a place names it, one does where its dealloc hasn't begun, and it has so many fields that name objects as its class says
+pub record Fits (classes : List Class) (count : ℕ) (o : Object) : Type 0 where
+  pub there : 0 < count → is_there o.phase ≡ true
+  pub held : o.phase ≡ Live → 0 < count
+  pub sized : length o.strong ≡ strong_count (slice_get classes o.class)
+
+-- the same, where there may be no object
+abbrev pub Right : List Class → (count : ℕ) → Option Object → Type 0
+Right classes count None = count ≡ 0
+Right classes count (Some o) = Fits classes count o
+
+abbrev ThereAt : Option Object → Type 0
+ThereAt None = ⊥
+ThereAt (Some o) = is_there o.phase ≡ true
+
+-- each count is that of the places, and of these further ones
+pub record Keeps (classes : List Class) (also : List ℕ) (h : Held) : Type 0 where
+  pub counted : (k : ℕ) → h.counts (suc k) ≡ holders (suc k) (also ++ all_places h)
+  pub right : (k : ℕ) → Right classes (h.counts (suc k)) (slice_get h.objects k)
 
 -- the counts are right, what a place names is there, and each object has its fields
-pub record Sane (classes : List Class) (h : Held) : Type 0 where
-  pub counted : Counted h
-  pub there : AllThere h.objects (all_places h)
-  pub sized : Sized classes h.objects
+abbrev pub Sane : List Class → Held → Type 0
+Sane classes h = Keeps classes [] h
 
 -- the same but for a place that named this, and is dropped
-pub record Drops (classes : List Class) (r : ℕ) (h : Held) : Type 0 where
-  pub counted : Dropped r h
-  pub there : AllThere h.objects (r ∷ all_places h)
-  pub sized : Sized classes h.objects
-
--- ---- sizes
-
-changed_sized : (classes : List Class) (objects : List Object) (j : ℕ) (x : Object) → length x.strong ≡ strong_count (slice_get classes x.class) → Sized classes objects → Sized classes (slice_set objects j x)
-changed_sized classes objects j x size all k o found = ⊎_elim
-    (λ same.
-    let e : slice_get (slice_set objects j x) j ≡ Some o = subst (λ i. slice_get (slice_set objects j x) i ≡ Some o) same found in
-    subst (λ (ob : Object). length ob.strong ≡ strong_count (slice_get classes ob.class)) (set_same objects j x o e) size)
-    (λ ne. all k o (sym (set_other objects j k x ne) ∙ found))
-    (cases_eq k j)
-
-get_new : {A : Type 0} (all : List A) (x a : A) → slice_get (all ++ x ∷ []) (length all) ≡ Some a → x ≡ a
-get_new [] x a e = cc
-get_new (b ∷ all) x a e = get_new all x a e
-
-made_sized : (classes : List Class) (objects : List Object) (x : Object) → length x.strong ≡ strong_count (slice_get classes x.class) → Sized classes objects → Sized classes (objects ++ x ∷ [])
-made_sized classes objects x size all k o found = ⊎_elim
-    (λ same.
-    let e : slice_get (objects ++ x ∷ []) (length objects) ≡ Some o = subst (λ i. slice_get (objects ++ x ∷ []) i ≡ Some o) same found in
-    subst (λ (ob : Object). length ob.strong ≡ strong_count (slice_get classes ob.class)) (get_new objects x o e) size)
-    (λ ne. all k o (get_last objects k x o ne found))
-    (cases_eq k (length objects))
+abbrev pub Drops : List Class → ℕ → Held → Type 0
+Drops classes r h = Keeps classes (r ∷ []) h
 
 nils_length : (n : ℕ) → length (nils n) ≡ n
 nils_length zero = refl
 nils_length (suc n) = ap suc (nils_length n)
-
--- ---- what places name
 
 fields_few : (k : ℕ) (objects : List Object) (j : ℕ) (o : Object) → slice_get objects j ≡ Some o → 0 < holders k (fields_of o) → 0 < holders k (field_places objects)
 fields_few k [] j o e some = cc
 fields_few k (a ∷ objects) zero o e some = let same : a ≡ o = cc in omega (arith, holders_append k (fields_of a) (field_places objects), ap (λ (x : Object). holders k (fields_of x)) same, some)
 fields_few k (a ∷ objects) (suc j) o e some = omega (arith, holders_append k (fields_of a) (field_places objects), fields_few k objects j o e some)
 
-pub name_there : (objects : List Object) (places : List ℕ) (i : ℕ) → AllThere objects places → IsThere objects (name_at places i)
-name_there objects [] i all = tt
-name_there objects (r ∷ places) zero all = place_there objects 0 r (r ∷ places) refl all
-name_there objects (r ∷ places) (suc i) all = name_there objects places i (rest_there objects r places all)
+tally_there : (objects : List Object) (k r : ℕ) → IsThere objects r → 0 < tally (suc k) r → ThereAt (slice_get objects k)
+tally_there objects k zero there some = absurd (omega (arith, tally_nil k, some))
+tally_there objects k (suc j) there some = ⊎_elim
+    (λ same. subst (λ i. ThereAt (slice_get objects i)) (sym same) (subst ThereAt (sym there.1) there.2))
+    (λ ne. absurd (omega (arith, tally_other (suc k) (suc j) (λ e. ne (omega (arith, e))), some)))
+    (cases_eq k j)
 
 module _ {classes : List Class} where
-  pub nothing_sane : Sane classes nothing_held
-  nothing_sane = record { counted = nothing_counted; there = λ k some. absurd (omega (arith, some)); sized = λ k o found. cc }
+  right_there : (n : ℕ) (found : Option Object) → Right classes n found → 0 < n → (o : Object) × (found ≡ Some o) × (is_there o.phase ≡ true)
+  right_there n None right some = absurd (omega (arith, right, some))
+  right_there n (Some o) right some = (o, refl, right.there some)
 
-  -- the same places, of another function
-  pub sane_moved : (h h1 : Held) → h1.objects ≡ h.objects → h1.counts ≡ h.counts → ((k : ℕ) → holders (suc k) (all_places h1) ≡ holders (suc k) (all_places h)) → Sane classes h → Sane classes h1
-  sane_moved h h1 objects counts same c = record {
-    counted = moved_counted h h1 objects counts same c.counted;
-    there = subst (λ l. AllThere l (all_places h1)) (sym objects) (fewer_there h.objects (all_places h) (all_places h1) (λ k some. omega (arith, same k, some)) c.there);
-    sized = subst (Sized classes) (sym objects) c.sized;
-  }
+  right_more : (t n : ℕ) (found : Option Object) → (0 < t → ThereAt found) → Right classes n found → Right classes (t + n) found
+  right_more zero n found there right = right
+  right_more (suc t) n None there right = absurd (there (omega arith))
+  right_more (suc t) n (Some o) there right = record { there = λ some. there (omega arith); held = λ live. omega arith; sized = right.sized }
 
-  pub sane_names : (h : Held) (names : List ℕ) → Sane classes h → Sane classes (with_names h names)
-  sane_names h names c = sane_moved h (with_names h names) refl refl (λ k. refl) c
+  right_less : (m n : ℕ) (found : Option Object) → m ≤ n → ((o : Object) → found ≡ Some o → o.phase ≡ Live → 0 < m) → Right classes n found → Right classes m found
+  right_less m n None less live right = omega (arith, less, right)
+  right_less m n (Some o) less live right = record { there = λ some. right.there (omega (arith, less, some)); held = live o refl; sized = right.sized }
 
-  pub sane_globals : (h : Held) (globals : List ℤ) → Sane classes h → Sane classes (with_globals h globals)
-  sane_globals h globals c = sane_moved h (with_globals h globals) refl refl (λ k. refl) c
+  -- what is found fits its count
+  pub fits_at : {also : List ℕ} (h : Held) (k : ℕ) (o : Object) → slice_get h.objects k ≡ Some o → Keeps classes also h → Fits classes (h.counts (suc k)) o
+  fits_at h k o found c = subst (Right classes (h.counts (suc k))) found (c.right k)
 
-  -- at first all variables of the whole program are nil
-  pub sane_start : (h : Held) (n : ℕ) → h.strong_globals ≡ [] → Sane classes h → Sane classes (with_strong_globals h (nils n))
-  sane_start h n none c = sane_moved h (with_strong_globals h (nils n)) refl refl
-      (λ k. omega (arith, all_holders (suc k) h, all_holders (suc k) (with_strong_globals h (nils n)), nils_holders k n, ap (holders (suc k)) none)) c
-
-  pub sane_entered : (h : Held) (self : ℕ) → Sane classes h → Sane classes (entered self h)
-  sane_entered h self c = sane_moved h (entered self h) refl refl (λ k. refl) c
-
-  pub sane_take : (h : Held) (r : ℕ) → IsThere h.objects r → Sane classes h → Sane classes (taken_by r h)
-  sane_take h r there c = record { counted = taken_counted r h c.counted; there = taken_there h.objects r (all_places h) there c.there; sized = c.sized }
-
-  pub sane_declare : (h : Held) → Sane classes h → Sane classes (raised 0 (with_variables h (0 ∷ h.variables)))
-  sane_declare h c = record {
-    counted = declared_counted h c.counted;
-    there = fewer_there h.objects (all_places h) (all_places (with_variables h (0 ∷ h.variables))) (λ k some. omega (arith, all_holders (suc k) (with_variables h (0 ∷ h.variables)), all_holders (suc k) h, holders_nil k h.variables, some)) c.there;
-    sized = c.sized;
-  }
+  pub sane_counted : (h : Held) → Sane classes h → Counted h
+  sane_counted h c = record { counted = c.counted; held = λ k o found. (fits_at h k o found c).held }
 
   -- ---- what places name
 
-  -- what a variable names is there
-  pub variable_there : (h : Held) (i r : ℕ) → slice_get h.variables i ≡ Some r → Sane classes h → IsThere h.objects r
-  variable_there h i r found c = place_there h.objects i r h.variables found (fewer_there h.objects (all_places h) h.variables (λ k some. omega (arith, all_holders (suc k) h, some)) c.there)
+  named_there : (h : Held) (places : List ℕ) → ((k : ℕ) → 0 < holders (suc k) places → 0 < holders (suc k) (all_places h)) → Sane classes h → AllThere h.objects places
+  named_there h places few c k some = right_there (h.counts (suc k)) (slice_get h.objects k) (c.right k) (omega (arith, few k some, c.counted k))
 
-  -- what the places of those that wait name is there
+  -- what variables name is there, and what the places of those that wait, those of all functions, and the variables of the whole program do
+  pub variables_there : (h : Held) → Sane classes h → AllThere h.objects h.variables
+  variables_there h = named_there h h.variables (λ k some. omega (arith, all_holders (suc k) h, some))
+
   pub waiting_there : (h : Held) → Sane classes h → AllThere h.objects h.places
-  waiting_there h c = fewer_there h.objects (all_places h) h.places (λ k some. omega (arith, all_holders (suc k) h, some)) c.there
+  waiting_there h = named_there h h.places (λ k some. omega (arith, all_holders (suc k) h, some))
 
-  -- what the places of all functions name is there
   pub stacked_there : (h : Held) → Sane classes h → AllThere h.objects (stacked h)
-  stacked_there h c = fewer_there h.objects (all_places h) (stacked h) (λ k some. omega (arith, holders_append (suc k) (stacked h) (h.strong_globals ++ field_places h.objects), some)) c.there
+  stacked_there h = named_there h (stacked h) (λ k some. omega (arith, holders_append (suc k) (stacked h) (h.strong_globals ++ field_places h.objects), some))
 
-  -- what the variables of the whole program name is there
   pub globals_there : (h : Held) → Sane classes h → AllThere h.objects h.strong_globals
-  globals_there h c = fewer_there h.objects (all_places h) h.strong_globals (λ k some. omega (arith, all_holders (suc k) h, some)) c.there
+  globals_there h = named_there h h.strong_globals (λ k some. omega (arith, all_holders (suc k) h, some))
 
   -- what the fields of an object name is there
   pub fields_there : (h : Held) (j : ℕ) (o : Object) → object_at h.objects (suc j) ≡ Some o → is_there o.phase ≡ true → Sane classes h → AllThere h.objects o.strong
-  fields_there h j o found there c = fewer_there h.objects (all_places h) o.strong (λ k some.
+  fields_there h j o found there = named_there h o.strong (λ k some.
       let here = subst (λ l. 0 < holders (suc k) l) (sym (there_fields o there)) some in
-      let few = fields_few (suc k) h.objects j o found here in
-      omega (arith, all_holders (suc k) h, few)) c.there
+      omega (arith, all_holders (suc k) h, fields_few (suc k) h.objects j o found here))
 
-  -- ---- places that take another object
-
-  pub sane_store : (h : Held) (i old r : ℕ) → slice_get h.variables i ≡ Some old → IsThere h.objects r → Sane classes h → Drops classes old (raised r (with_variables h (slice_set h.variables i r)))
-  sane_store h i old r found there c = record {
-    counted = stored_dropped h i old r found c.counted;
-    there =
-        let h1 = with_variables h (slice_set h.variables i r) in
-        fewer_there h.objects (r ∷ all_places h) (old ∷ all_places h1) (λ k some. omega (arith, holders_head (suc k) old (all_places h1), all_holders (suc k) h1, all_holders (suc k) h, holders_set (suc k) i old r h.variables found, holders_head (suc k) r (all_places h), some))
-        (taken_there h.objects r (all_places h) there c.there);
-    sized = c.sized;
-  }
-
-  pub sane_store_global : (h : Held) (i old r : ℕ) → slice_get h.strong_globals i ≡ Some old → IsThere h.objects r → Sane classes h → Drops classes old (raised r (with_strong_globals h (slice_set h.strong_globals i r)))
-  sane_store_global h i old r found there c = record {
-    counted = global_dropped h i old r found c.counted;
-    there =
-        let h1 = with_strong_globals h (slice_set h.strong_globals i r) in
-        fewer_there h.objects (r ∷ all_places h) (old ∷ all_places h1) (λ k some. omega (arith, holders_head (suc k) old (all_places h1), all_holders (suc k) h1, all_holders (suc k) h, holders_set (suc k) i old r h.strong_globals found, holders_head (suc k) r (all_places h), some))
-        (taken_there h.objects r (all_places h) there c.there);
-    sized = c.sized;
-  }
-
-  pub sane_store_field : (h : Held) (j : ℕ) (o : Object) (index old r : ℕ) → object_at h.objects (suc j) ≡ Some o → is_there o.phase ≡ true → slice_get o.strong index ≡ Some old → IsThere h.objects r → Sane classes h
-      → Drops classes old (raised r (with_things h (with_object h.objects (suc j) (with_strong_fields o (slice_set o.strong index r)))))
-  sane_store_field h j o index old r found is_there_now e there c = record {
-    counted = strong_field_dropped h j o index old r found is_there_now e c.counted;
-    there =
-        let x = with_strong_fields o (slice_set o.strong index r) in
-        let h1 = with_things h (slice_set h.objects j x) in
-        fewer_there (slice_set h.objects j x) (r ∷ all_places h) (old ∷ all_places h1) (λ k some.
-        let before = ap (holders (suc k)) (there_fields o is_there_now) in
-        let after = ap (holders (suc k)) (there_fields x is_there_now) in
-        omega (arith, holders_head (suc k) old (all_places h1), all_holders (suc k) h1, all_holders (suc k) h, fields_set (suc k) h.objects j o x found, before, after, holders_set (suc k) index old r o.strong e, holders_head (suc k) r (all_places h), some))
-        (changed_there h.objects (r ∷ all_places h) j x (λ _. is_there_now) (taken_there h.objects r (all_places h) there c.there));
-    sized = changed_sized classes h.objects j (with_strong_fields o (slice_set o.strong index r)) (length-set o.strong index r ∙ c.sized j o found) c.sized;
-  }
-
-  pub sane_drop : (h : Held) (r : ℕ) (others : List ℕ) → h.temporaries ≡ r ∷ others → Sane classes h → Drops classes r (with_temporaries h others)
-  sane_drop h r others e c = record {
-    counted = last_temporary h r others e c.counted;
-    there =
-        let h1 = with_temporaries h others in
-        fewer_there h.objects (all_places h) (r ∷ all_places h1) (λ k some. omega (arith, holders_head (suc k) r (all_places h1), all_holders (suc k) h1, all_holders (suc k) h, ap (holders (suc k)) e, holders_head (suc k) r others, some)) c.there;
-    sized = c.sized;
-  }
-
-  pub sane_settle : (h : Held) (x r : ℕ) (others : List ℕ) → h.temporaries ≡ x ∷ r ∷ others → Sane classes h → Drops classes r (with_temporaries h (x ∷ others))
-  sane_settle h x r others e c = record {
-    counted = second_temporary h x r others e c.counted;
-    there =
-        let h1 = with_temporaries h (x ∷ others) in
-        fewer_there h.objects (all_places h) (r ∷ all_places h1) (λ k some. omega (arith, holders_head (suc k) r (all_places h1), all_holders (suc k) h1, all_holders (suc k) h, ap (holders (suc k)) e, holders_head (suc k) x (r ∷ others), holders_head (suc k) r others, holders_head (suc k) x others, some)) c.there;
-    sized = c.sized;
-  }
-
-  -- ---- what was dropped
-
+  -- what is dropped is there
   pub drops_there : (r : ℕ) (h : Held) → Drops classes r h → IsThere h.objects r
   drops_there zero h c = tt
-  drops_there (suc k) h c = c.there k (omega (arith, holders_head (suc k) (suc k) (all_places h), tally_same (suc k)))
+  drops_there (suc k) h c = right_there (h.counts (suc k)) (slice_get h.objects k) (c.right k) (omega (arith, c.counted k, holders_head (suc k) (suc k) (all_places h), tally_same (suc k)))
 
-  pub sane_nil : (h : Held) → Drops classes 0 h → Sane classes (lowered 0 h)
-  sane_nil h c = record { counted = nil_dropped h c.counted; there = rest_there h.objects 0 (all_places h) c.there; sized = c.sized }
+  -- ---- places, where no object changes
 
-  pub sane_last : (h : Held) (r : ℕ) (o : Object) → object_at h.objects (suc r) ≡ Some o → is_there o.phase ≡ true → Drops classes (suc r) h → Sane classes (with_things (lowered (suc r) h) (with_object h.objects (suc r) (in_phase Dying o)))
-  sane_last h r o found there c =
-      let x = in_phase Dying o in
-      let h1 = with_things (lowered (suc r) h) (slice_set h.objects r x) in
-      record {
-        counted = last_dropped r h o found there c.counted;
-        there = fewer_there (slice_set h.objects r x) (all_places h) (all_places h1) (λ k some. omega (arith, same_fields (suc k) (lowered (suc r) h) r o x found (sym (there_fields o there)), some))
-            (changed_there h.objects (all_places h) r x (λ _. refl) (rest_there h.objects (suc r) (all_places h) c.there));
-        sized = changed_sized classes h.objects r x (c.sized r o found) c.sized;
-      }
+  -- a place more names this
+  gains : {also also1 : List ℕ} (h h1 : Held) (r : ℕ) → h1.objects ≡ h.objects → IsThere h.objects r → ((k : ℕ) → h1.counts (suc k) ≡ tally (suc k) r + h.counts (suc k))
+      → ((k : ℕ) → holders (suc k) (also1 ++ all_places h1) ≡ tally (suc k) r + holders (suc k) (also ++ all_places h)) → Keeps classes also h → Keeps classes also1 h1
+  gains h h1 r objects there counts places c = record {
+    counted = λ k. omega (arith, counts k, places k, c.counted k);
+    right = λ k. subst (λ l. Right classes (h1.counts (suc k)) (slice_get l k)) (sym objects) (subst (λ n. Right classes n (slice_get h.objects k)) (sym (counts k)) (right_more (tally (suc k) r) (h.counts (suc k)) (slice_get h.objects k) (tally_there h.objects k r there) (c.right k)));
+  }
 
-  pub sane_other : (h : Held) (r : ℕ) (o : Object) → object_at h.objects (suc r) ≡ Some o → (is_live (Some o) && nat_eq (h.counts (suc r)) 1) ≡ false → Drops classes (suc r) h → Sane classes (lowered (suc r) h)
-  sane_other h r o found more c = record { counted = other_dropped r h o found more c.counted; there = rest_there h.objects (suc r) (all_places h) c.there; sized = c.sized }
+  -- the same places, of another function
+  pub sane_moved : {also also1 : List ℕ} (h h1 : Held) → h1.objects ≡ h.objects → h1.counts ≡ h.counts → ((k : ℕ) → holders (suc k) (also1 ++ all_places h1) ≡ holders (suc k) (also ++ all_places h)) → Keeps classes also h → Keeps classes also1 h1
+  sane_moved h h1 objects counts same = gains h h1 0 objects tt (λ k. omega (arith, tally_nil k, ap (λ (f : ℕ → ℕ). f (suc k)) counts)) (λ k. omega (arith, tally_nil k, same k))
 
-  -- ---- objects
+  pub nothing_sane : Sane classes nothing_held
+  nothing_sane = record { counted = λ k. refl; right = λ k. refl }
 
-  pub sane_make : (h : Held) (class : ℕ) → Sane classes h → Sane classes (makes classes class h)
-  sane_make h class c =
-      let n = strong_count (slice_get classes class) in
-      let x = new_object class (count_of (slice_get classes class)) n in
-      let made = makes classes class h in
-      record {
-        counted = makes_counted classes class h c.counted;
-        there = fewer_there (h.objects ++ x ∷ []) (suc (length h.objects) ∷ all_places h) (all_places made) (λ k some.
-            omega (arith, all_holders (suc k) h, all_holders (suc k) made, holders_head (suc k) (suc (length h.objects)) (all_places h), holders_head (suc k) (suc (length h.objects)) h.temporaries, fields_made (suc k) h.objects x, nils_holders k n, some))
-            (made_there h.objects (all_places h) x refl c.there);
-        sized = made_sized classes h.objects x (nils_length n) c.sized;
-      }
+  pub sane_names : (h : Held) (names : List ℕ) → Sane classes h → Sane classes (with_names h names)
+  sane_names h names = sane_moved h (with_names h names) refl refl (λ k. refl)
 
-  pub sane_field : (h : Held) (r : ℕ) (o : Object) (fields : List ℤ) → object_at h.objects (suc r) ≡ Some o → is_there o.phase ≡ true → Sane classes h → Sane classes (with_things h (with_object h.objects (suc r) (with_fields o fields)))
-  sane_field h r o fields found there c =
-      let x = with_fields o fields in
-      let h1 = with_things h (slice_set h.objects r x) in
-      record {
-        counted = field_counted h r o fields found c.counted;
-        there = fewer_there (slice_set h.objects r x) (all_places h) (all_places h1) (λ k some. omega (arith, same_fields (suc k) h r o x found refl, some)) (changed_there h.objects (all_places h) r x (λ _. there) c.there);
-        sized = changed_sized classes h.objects r x (c.sized r o found) c.sized;
-      }
+  pub sane_globals : (h : Held) (globals : List ℤ) → Sane classes h → Sane classes (with_globals h globals)
+  sane_globals h globals = sane_moved h (with_globals h globals) refl refl (λ k. refl)
+
+  -- at first all variables of the whole program are nil
+  pub sane_start : (h : Held) (n : ℕ) → h.strong_globals ≡ [] → Sane classes h → Sane classes (with_strong_globals h (nils n))
+  sane_start h n none = sane_moved h (with_strong_globals h (nils n)) refl refl
+      (λ k. omega (arith, all_holders (suc k) h, all_holders (suc k) (with_strong_globals h (nils n)), nils_holders k n, ap (holders (suc k)) none))
+
+  pub sane_entered : (h : Held) (self : ℕ) → Sane classes h → Sane classes (entered self h)
+  sane_entered h self = sane_moved h (entered self h) refl refl (λ k. refl)
+
+  pub sane_take : (h : Held) (r : ℕ) → IsThere h.objects r → Sane classes h → Sane classes (taken_by r h)
+  sane_take h r there = gains h (taken_by r h) r refl there (λ k. raised_count r h (suc k)) (λ k. holders_head (suc k) r (all_places h))
+
+  -- a further variable is nil
+  pub sane_declare : (h : Held) → Sane classes h → Sane classes (raised 0 (with_variables h (0 ∷ h.variables)))
+  sane_declare h =
+      let h1 = with_variables h (0 ∷ h.variables) in
+      gains h (raised 0 h1) 0 refl tt (λ k. raised_count 0 h (suc k)) (λ k. omega (arith, tally_nil k, all_holders (suc k) h1, all_holders (suc k) h, holders_nil k h.variables))
+
+  -- a place names another object, and what it named is dropped
+  pub sane_store : (h : Held) (i old r : ℕ) → slice_get h.variables i ≡ Some old → IsThere h.objects r → Sane classes h → Drops classes old (raised r (with_variables h (slice_set h.variables i r)))
+  sane_store h i old r found there = gains h (raised r (with_variables h (slice_set h.variables i r))) r refl there (λ k. raised_count r h (suc k)) (λ k. variable_moves (suc k) h i old r found)
+
+  pub sane_store_global : (h : Held) (i old r : ℕ) → slice_get h.strong_globals i ≡ Some old → IsThere h.objects r → Sane classes h → Drops classes old (raised r (with_strong_globals h (slice_set h.strong_globals i r)))
+  sane_store_global h i old r found there = gains h (raised r (with_strong_globals h (slice_set h.strong_globals i r))) r refl there (λ k. raised_count r h (suc k)) (λ k. global_moves (suc k) h i old r found)
+
+  pub sane_drop : (h : Held) (r : ℕ) (others : List ℕ) → h.temporaries ≡ r ∷ others → Sane classes h → Drops classes r (with_temporaries h others)
+  sane_drop h r others e = sane_moved h (with_temporaries h others) refl refl (λ k. last_moves (suc k) h r others e)
+
+  pub sane_settle : (h : Held) (x r : ℕ) (others : List ℕ) → h.temporaries ≡ x ∷ r ∷ others → Sane classes h → Drops classes r (with_temporaries h (x ∷ others))
+  sane_settle h x r others e = sane_moved h (with_temporaries h (x ∷ others)) refl refl (λ k. second_moves (suc k) h x r others e)
+
+  -- ---- an object that changes
+
+  changes : {also also1 : List ℕ} (h : Held) (j : ℕ) (o x : Object) → slice_get h.objects j ≡ Some o → ((k : ℕ) → holders (suc k) (also1 ++ all_places (with_things h (slice_set h.objects j x))) ≡ holders (suc k) (also ++ all_places h))
+      → (Fits classes (h.counts (suc j)) o → Fits classes (h.counts (suc j)) x) → Keeps classes also h → Keeps classes also1 (with_things h (slice_set h.objects j x))
+  changes h j o x found same fits c = record {
+    counted = λ k. c.counted k ∙ sym (same k);
+    right = λ k. ⊎_elim
+        (λ e. subst (λ i. Right classes (h.counts (suc i)) (slice_get (slice_set h.objects j x) i)) (sym e) (subst (Right classes (h.counts (suc j))) (sym (set_here h.objects j x o found)) (fits (fits_at h j o found c))))
+        (λ ne. subst (Right classes (h.counts (suc k))) (sym (set_other h.objects j k x ne)) (c.right k))
+        (cases_eq k j);
+  }
+
+  -- a field names another object, and what it named is dropped
+  pub sane_store_field : (h : Held) (j : ℕ) (o : Object) (index old r : ℕ) → object_at h.objects (suc j) ≡ Some o → is_there o.phase ≡ true → slice_get o.strong index ≡ Some old → IsThere h.objects r → Sane classes h
+      → Drops classes old (raised r (with_things h (with_object h.objects (suc j) (with_strong_fields o (slice_set o.strong index r)))))
+  sane_store_field h j o index old r found is_there_now named there c =
+      changes {also = r ∷ []} (raised r h) j o (with_strong_fields o (slice_set o.strong index r)) found (λ k. field_moves (suc k) h j o index old r found is_there_now named ∙ sym (holders_head (suc k) r (all_places h)))
+      (λ f. record { there = f.there; held = f.held; sized = length-set o.strong index r ∙ f.sized })
+      (gains h (raised r h) r refl there (λ k. raised_count r h (suc k)) (λ k. holders_head (suc k) r (all_places h)) c)
+
+  -- one that holds a number is set
+  pub sane_field : (h : Held) (r : ℕ) (o : Object) (fields : List ℤ) → object_at h.objects (suc r) ≡ Some o → Sane classes h → Sane classes (with_things h (with_object h.objects (suc r) (with_fields o fields)))
+  sane_field h r o fields found = changes h r o (with_fields o fields) found (λ k. same_fields (suc k) h r o (with_fields o fields) found refl) (λ f. record { there = f.there; held = f.held; sized = f.sized })
 
   -- the fields of an object are destroyed from now on
   pub sane_empty : (h : Held) (j : ℕ) (o : Object) → object_at h.objects (suc j) ≡ Some o → is_there o.phase ≡ true → Sane classes h → Sane classes (with_things h (with_object h.objects (suc j) (in_phase Emptying o)))
-  sane_empty h j o found there c =
-      let x = in_phase Emptying o in
-      let h1 = with_things h (slice_set h.objects j x) in
-      record {
-        counted = emptying_counted h j o found there c.counted;
-        there = fewer_there (slice_set h.objects j x) (all_places h) (all_places h1) (λ k some. omega (arith, same_fields (suc k) h j o x found (sym (there_fields o there)), some)) (changed_there h.objects (all_places h) j x (λ _. refl) c.there);
-        sized = changed_sized classes h.objects j x (c.sized j o found) c.sized;
-      }
+  sane_empty h j o found there = changes h j o (in_phase Emptying o) found (λ k. same_fields (suc k) h j o (in_phase Emptying o) found (sym (there_fields o there))) (λ f. record { there = λ some. refl; held = λ live. cc; sized = f.sized })
 
   -- an object is gone, which has no holder, and whose fields name nothing
   pub sane_gone : (h : Held) (j : ℕ) (o : Object) → object_at h.objects (suc j) ≡ Some o → ((k : ℕ) → holders (suc k) (fields_of o) ≡ 0) → nat_eq (h.counts (suc j)) 0 ≡ true → Sane classes h
       → Sane classes (with_things h (with_object h.objects (suc j) (in_phase Gone o)))
-  sane_gone h j o found empty none c =
+  sane_gone h j o found empty none =
       let x = in_phase Gone o in
-      let h1 = with_things h (slice_set h.objects j x) in
-      let no_holder : holders (suc j) (all_places h) ≡ 0 = omega (arith, c.counted.counted j, eqb-true (h.counts (suc j)) 0 none) in
+      changes h j o x found (λ k. omega (arith, all_holders (suc k) h, all_holders (suc k) (with_things h (slice_set h.objects j x)), fields_set (suc k) h.objects j o x found, empty k))
+      (λ f. record { there = λ some. absurd (omega (arith, some, eqb-true (h.counts (suc j)) 0 none)); held = λ live. cc; sized = f.sized })
+
+  -- an object is made, and a place takes it
+  pub sane_make : (h : Held) (class : ℕ) → Sane classes h → Sane classes (makes classes class h)
+  sane_make h class c =
+      let r = length h.objects in
+      let n = strong_count (slice_get classes class) in
+      let x = new_object class (count_of (slice_get classes class)) n in
+      let h1 = with_things h (h.objects ++ x ∷ []) in
+      let made = makes classes class h in
+      let new : Fits classes (made.counts (suc r)) x = record { there = λ some. refl; held = λ live. omega (arith, raised_count (suc r) h (suc r), tally_same (suc r)); sized = nils_length n } in
       record {
-        counted = gone_counted h j o found empty c.counted;
-        there = fewer_there (slice_set h.objects j x) (all_places h) (all_places h1) (λ k some. omega (arith, all_holders (suc k) h, all_holders (suc k) h1, fields_set (suc k) h.objects j o x found, some))
-            (changed_there h.objects (all_places h) j x (λ some. absurd (omega (arith, some, no_holder))) c.there);
-        sized = changed_sized classes h.objects j x (c.sized j o found) c.sized;
+        counted = λ k. omega (arith, raised_count (suc r) h (suc k), holders_head (suc k) (suc r) (all_places h1), all_holders (suc k) h, all_holders (suc k) h1, all_holders (suc k) made, holders_head (suc k) (suc r) h.temporaries, fields_made (suc k) h.objects x, nils_holders k n, c.counted k);
+        right = λ k. ⊎_elim
+            (λ same. subst (λ i. Right classes (made.counts (suc i)) (slice_get made.objects i)) (sym same) (subst (Right classes (made.counts (suc r))) (sym (get_new h.objects x)) new))
+            (λ ne. subst (Right classes (made.counts (suc k))) (sym (get_other h.objects k x ne)) (subst (λ m. Right classes m (slice_get h.objects k)) (omega (arith, raised_count (suc r) h (suc k), tally_other (suc k) (suc r) (λ e. ne (omega (arith, e))))) (c.right k)))
+            (cases_eq k r);
       }
+
+  -- ---- a place that was dropped is counted no more
+
+  lowers : (r : ℕ) (h : Held) → ((k : ℕ) (o : Object) → slice_get h.objects k ≡ Some o → o.phase ≡ Live → 0 < (lowered r h).counts (suc k)) → Drops classes r h → Sane classes (lowered r h)
+  lowers r h live c = record {
+    counted = λ k. omega (arith, lowered_count r h (suc k), holders_head (suc k) r (all_places h), c.counted k);
+    right = λ k. right_less ((lowered r h).counts (suc k)) (h.counts (suc k)) (slice_get h.objects k) (omega (arith, lowered_count r h (suc k))) (live k) (c.right k);
+  }
+
+  pub sane_nil : (h : Held) → Drops classes 0 h → Sane classes (lowered 0 h)
+  sane_nil h c = lowers 0 h (λ k o found live. omega (arith, lowered_count 0 h (suc k), tally_nil k, (fits_at h k o found c).held live)) c
+
+  -- it isn't the last place of an object whose dealloc hasn't begun
+  pub sane_other : (h : Held) (r : ℕ) (o : Object) → object_at h.objects (suc r) ≡ Some o → (is_live (Some o) && nat_eq (h.counts (suc r)) 1) ≡ false → Drops classes (suc r) h → Sane classes (lowered (suc r) h)
+  sane_other h r o found more c = lowers (suc r) h (λ k other at_k live. ⊎_elim
+      (λ same. subst (λ i. 0 < (lowered (suc r) h).counts (suc i)) (sym same) (this other (subst (λ i. slice_get h.objects i ≡ Some other) same at_k) live))
+      (λ ne. omega (arith, lowered_count (suc r) h (suc k), tally_other (suc k) (suc r) (λ e. ne (omega (arith, e))), (fits_at h k other at_k c).held live))
+      (cases_eq k r)) c
+    where
+      this : (other : Object) → slice_get h.objects r ≡ Some other → other.phase ≡ Live → 0 < (lowered (suc r) h).counts (suc r)
+      this other at_r live =
+          let same : other ≡ o = cc in
+          let seen : is_live (Some o) ≡ true = subst (λ phase. is_live (Some (in_phase phase o)) ≡ true) (sym (ap (λ (a : Object). a.phase) (sym same) ∙ live)) refl in
+          let many : h.counts (suc r) ≡ 1 → ⊥ = λ one. false≢true (sym more ∙ and_from (is_live (Some o)) (nat_eq (h.counts (suc r)) 1) seen (eq-eqb (h.counts (suc r)) 1 one)) in
+          omega (arith, lowered_count (suc r) h (suc r), tally_same (suc r), (fits_at h r other at_r c).held live, many)
+
+  -- it is, and the end of that object begins
+  pub sane_last : (h : Held) (r : ℕ) (o : Object) → object_at h.objects (suc r) ≡ Some o → is_there o.phase ≡ true → Drops classes (suc r) h → Sane classes (with_things (lowered (suc r) h) (with_object h.objects (suc r) (in_phase Dying o)))
+  sane_last h r o found there c =
+      let x = in_phase Dying o in
+      let h1 = with_things h (slice_set h.objects r x) in
+      sane_other h1 r x (set_here h.objects r x o found) refl
+      (changes {also1 = suc r ∷ []} h r o x found (λ k. omega (arith, holders_head (suc k) (suc r) (all_places h), holders_head (suc k) (suc r) (all_places h1), same_fields (suc k) h r o x found (sym (there_fields o there))))
+      (λ f. record { there = λ some. refl; held = λ live. cc; sized = f.sized }) c)

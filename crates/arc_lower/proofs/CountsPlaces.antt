@@ -1,9 +1,9 @@
--- How many places name an object.
-use Rattle.std.proofs.Common.{◌≡◌, ℕ, zero, suc, ◌+◌, ◌-◌, Bool, true, false, not, nat_eq, nat_lt, if◌then◌else◌, List, [], ◌∷◌, ◌++◌, Some, slice_get, slice_set, refl, sym, ap, ◌∙◌, arith}
+-- How many places name an object, and how many after a place or an object is changed.
+use Rattle.std.proofs.Common.{◌≡◌, ℕ, zero, suc, ◌+◌, ◌-◌, Bool, true, false, not, nat_eq, nat_lt, if◌then◌else◌, List, [], ◌∷◌, ◌++◌, length, Some, slice_get, slice_set, refl, sym, ap, ◌∙◌, arith}
 use Rattle.std.proofs.Math.Dec.{eqb-suc-zero}
 use Rattle.std.proofs.lemmas.Bool.{eq-eqb, ne_eqb, lt-ltb}
-use Rattle.arc_spec.specs.Objects.{names}
-use Rattle.arc_spec.specs.Holding.{holders}
+use Rattle.arc_spec.specs.Objects.{Object, Phase, Gone, nils, names, in_phase, with_strong_fields, is_live, is_there, fields_of, field_places}
+use Rattle.arc_spec.specs.Holding.{Held, holders, stacked, all_places, with_temporaries, with_variables, with_things, with_strong_globals, raised, lowered}
 
 -- 1 where the two are one object, else 0
 abbrev pub tally : (k o : ℕ) → ℕ
@@ -69,3 +69,105 @@ last_one o count places e = ap (λ n. nat_eq n 1) e ∙ one_left (holders o plac
 -- a count of the places is 0 where no place names the object
 pub no_one : (o count : ℕ) (places : List ℕ) → count ≡ holders o places → nat_eq count 0 ≡ not (names o places)
 no_one o count places e = ap (λ n. nat_eq n 0) e ∙ none_left (holders o places) ∙ sym (ap not (names_holders o places))
+
+-- ---- all places
+
+pub raised_count : (o : ℕ) (h : Held) (k : ℕ) → (raised o h).counts k ≡ tally k o + h.counts k
+raised_count o h k = one_more_if (nat_eq k o) (h.counts k)
+
+pub lowered_count : (o : ℕ) (h : Held) (k : ℕ) → (lowered o h).counts k ≡ h.counts k - tally k o
+lowered_count o h k = one_less_if (nat_eq k o) (h.counts k)
+
+-- how many of all places name an object
+pub all_holders : (k : ℕ) (h : Held) → holders k (all_places h) ≡ holders k h.temporaries + holders k h.variables + holders k h.places + holders k h.strong_globals + holders k (field_places h.objects)
+all_holders k h =
+    let whole = holders_append k (stacked h) (h.strong_globals ++ field_places h.objects) in
+    let rest = holders_append k h.strong_globals (field_places h.objects) in
+    let calls = holders_append k (h.temporaries ++ h.variables) h.places in
+    let own = holders_append k h.temporaries h.variables in
+    omega (arith, whole, rest, calls, own)
+
+-- ---- fields
+
+-- what an object has that is there
+pub there_fields : (o : Object) → is_there o.phase ≡ true → fields_of o ≡ o.strong
+there_fields o there = ap (λ b. if b then o.strong else []) there
+
+pub live_there : (o : Object) → is_live (Some o) ≡ true → is_there o.phase ≡ true
+live_there o live = by o.phase live
+  where
+    by : (phase : Phase) → is_live (Some (in_phase phase o)) ≡ true → is_there phase ≡ true
+    by Gone h = h
+    by _ h = refl
+
+-- one object is changed
+pub fields_set : (k : ℕ) (objects : List Object) (j : ℕ) (old x : Object) → slice_get objects j ≡ Some old
+    → holders k (fields_of old) + holders k (field_places (slice_set objects j x)) ≡ holders k (fields_of x) + holders k (field_places objects)
+fields_set k [] j old x e = cc
+fields_set k (a ∷ objects) zero old x e =
+    let same : a ≡ old = cc in
+    let one = holders_append k (fields_of x) (field_places objects) in
+    let other = holders_append k (fields_of a) (field_places objects) in
+    let fields = ap (λ o. holders k (fields_of o)) same in
+    omega (arith, one, other, fields)
+fields_set k (a ∷ objects) (suc j) old x e =
+    let deep = fields_set k objects j old x e in
+    let one = holders_append k (fields_of a) (field_places (slice_set objects j x)) in
+    let other = holders_append k (fields_of a) (field_places objects) in
+    omega (arith, deep, one, other)
+
+-- one object more
+pub fields_made : (k : ℕ) (objects : List Object) (x : Object) → holders k (field_places (objects ++ x ∷ [])) ≡ holders k (field_places objects) + holders k (fields_of x)
+fields_made k [] x = let one = holders_append k (fields_of x) [] in omega (arith, one)
+fields_made k (a ∷ objects) x =
+    let deep = fields_made k objects x in
+    let one = holders_append k (fields_of a) (field_places (objects ++ x ∷ [])) in
+    let other = holders_append k (fields_of a) (field_places objects) in
+    omega (arith, deep, one, other)
+
+pub nils_holders : (k n : ℕ) → holders (suc k) (nils n) ≡ 0
+nils_holders k zero = refl
+nils_holders k (suc n) = omega (arith, holders_nil k (nils n), nils_holders k n)
+
+-- an object is changed whose fields name the same
+pub same_fields : (k : ℕ) (h : Held) (j : ℕ) (old x : Object) → slice_get h.objects j ≡ Some old → fields_of x ≡ fields_of old
+    → holders k (all_places (with_things h (slice_set h.objects j x))) ≡ holders k (all_places h)
+same_fields k h j old x found same =
+    let h1 = with_things h (slice_set h.objects j x) in
+    let fields = ap (holders k) same in
+    omega (arith, all_holders k h, all_holders k h1, fields_set k h.objects j old x found, fields)
+
+-- ---- a place names another object, or is dropped
+
+-- a variable
+pub variable_moves : (k : ℕ) (h : Held) (i old r : ℕ) → slice_get h.variables i ≡ Some old → holders k (old ∷ all_places (with_variables h (slice_set h.variables i r))) ≡ tally k r + holders k (all_places h)
+variable_moves k h i old r found =
+    let h1 = with_variables h (slice_set h.variables i r) in
+    omega (arith, holders_head k old (all_places h1), all_holders k h1, all_holders k h, holders_set k i old r h.variables found)
+
+-- a variable of the whole program
+pub global_moves : (k : ℕ) (h : Held) (i old r : ℕ) → slice_get h.strong_globals i ≡ Some old → holders k (old ∷ all_places (with_strong_globals h (slice_set h.strong_globals i r))) ≡ tally k r + holders k (all_places h)
+global_moves k h i old r found =
+    let h1 = with_strong_globals h (slice_set h.strong_globals i r) in
+    omega (arith, holders_head k old (all_places h1), all_holders k h1, all_holders k h, holders_set k i old r h.strong_globals found)
+
+-- a field of an object that is there
+pub field_moves : (k : ℕ) (h : Held) (j : ℕ) (o : Object) (index old r : ℕ) → slice_get h.objects j ≡ Some o → is_there o.phase ≡ true → slice_get o.strong index ≡ Some old
+    → holders k (old ∷ all_places (with_things h (slice_set h.objects j (with_strong_fields o (slice_set o.strong index r))))) ≡ tally k r + holders k (all_places h)
+field_moves k h j o index old r found there named =
+    let x = with_strong_fields o (slice_set o.strong index r) in
+    let h1 = with_things h (slice_set h.objects j x) in
+    let before = ap (holders k) (there_fields o there) in
+    let after = ap (holders k) (there_fields x there) in
+    omega (arith, holders_head k old (all_places h1), all_holders k h1, all_holders k h, fields_set k h.objects j o x found, before, after, holders_set k index old r o.strong named)
+
+-- the last temporary, and the one before it
+pub last_moves : (k : ℕ) (h : Held) (r : ℕ) (others : List ℕ) → h.temporaries ≡ r ∷ others → holders k (r ∷ all_places (with_temporaries h others)) ≡ holders k (all_places h)
+last_moves k h r others e =
+    let h1 = with_temporaries h others in
+    omega (arith, holders_head k r (all_places h1), all_holders k h1, all_holders k h, ap (holders k) e, holders_head k r others)
+
+pub second_moves : (k : ℕ) (h : Held) (x r : ℕ) (others : List ℕ) → h.temporaries ≡ x ∷ r ∷ others → holders k (r ∷ all_places (with_temporaries h (x ∷ others))) ≡ holders k (all_places h)
+second_moves k h x r others e =
+    let h1 = with_temporaries h (x ∷ others) in
+    omega (arith, holders_head k r (all_places h1), all_holders k h1, all_holders k h, ap (holders k) e, holders_head k x (r ∷ others), holders_head k r others, holders_head k x others)

@@ -1,5 +1,4 @@
 mod CountsPlaces
-mod CountsHeld
 mod CountsThere
 mod CountsKept
 mod Recounting

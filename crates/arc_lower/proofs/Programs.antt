@@ -25,7 +25,7 @@ use Rattle.arc_lower.proofs.Finding.{answers_as}
 use Rattle.arc_lower.proofs.Typing.{heights_same, slots_same, parameters_same, number_there, Types, types_then, types_same, types_last, tested, keep_types, passing_types, declare_types, take_types, own_types, BlockTypes}
 use Rattle.arc_lower.proofs.HeightsEnd.{last_append, Keeps, block_ends}
 use Rattle.arc_lower.proofs.Forms.{nothing_types, commands_type}
-use Rattle.arc_lower.proofs.Stepping.{some_same, HasPart, part_front, part_back, has_whole, types_ordinary, Takes, Clears, Stands, Goes, Free, free_at, Steps, StepsAt, AllStep, step_then, IsLeave, leaves_keep, opens_goes, none_goes, Row, row_of, row_front, row_back, Follows, goes_here, typed_steps, AllTake, takes_stand, takes_step, block_ordinary, block_steps}
+use Rattle.arc_lower.proofs.Stepping.{some_same, HasPart, part_front, part_back, has_whole, Takes, Clears, Stands, Goes, Free, free_at, Steps, StepsAt, AllStep, step_then, IsLeave, leaves_keep, opens_goes, none_goes, Row, row_of, row_front, row_back, typed_steps, AllTake, takes_stand, takes_step, block_steps}
 
 heights_length : (R : resolved.Program) (base : Height) (w : Walk) (xs : List Order) → length (walk_heights R base w xs) ≡ length xs
 heights_length R base w [] = refl
@@ -196,16 +196,11 @@ module _ (R : resolved.Program) where
       last : Row R all table given base (start + length statements) (walk base ends.0) end
       last = subst (λ w. Row R all table given base (start + length statements) w end) ends.1 (row_back R all table given base start (walk base []) statements end rows)
 
-      statements_follow : Follows R all table given base start (walk base []) statements
-      statements_follow = row_front R all table given base start (walk base []) statements end (subst (λ w. Goes_to given (start + length statements) w.height) (sym ends.1) (opens_goes R all table given (start + length statements) base (Plain (Num (pos 0))) tt last.0 last.1)) rows
+      statements_go : Goes_to given start base × Step_all start statements
+      statements_go = block_steps R all table given slots names place exit_goes here no_turn false true (commands_block place none none cs) base base start [] (λ s. refl) (λ s. absurd (false≢true s)) (refl, tt, tt) statements_type (row_front R all table given base start (walk base []) statements end rows) (opens_goes R all table given (start + length statements) base (Plain (Num (pos 0))) tt last.0 last.1)
 
-      opening_follow : Follows R all table given base entered (walk begun []) opening
-      opening_follow =
-          row_front R all table given base entered (walk begun []) opening (statements ++ end)
-          (subst (λ w. Goes_to given start w.height) (sym (types_last R 0 0 base begun [] opening base opening_typed)) (goes_here R all table given base start (walk base []) statements (block_ordinary R all table given slots names place here false true (commands_block place none none cs) base base statements_type) statements_follow)) body_row
-
-      pub entry_goes : Goes_to given entered begun
-      entry_goes = goes_here R all table given base entered (walk begun []) opening (types_ordinary R begun opening base opening_typed) opening_follow
+      opening_goes : Goes_to given entered begun × Step_all entered opening
+      opening_goes = typed_steps R all table given base entered begun [] opening base opening_typed (row_front R all table given base entered (walk begun []) opening (statements ++ end) body_row) statements_go.0
 
       -- where its last order stands
       last_step : (pc : ℕ) (g : Gives) → given ≡ g → Steps R all table given (height 1 0 0 names) pc (leaving_order g)
@@ -220,15 +215,16 @@ module _ (R : resolved.Program) where
           step_then R all table place (emptied kept) (keep ++ last_order ∷ []) exit.0
           (step_then R all table q keep (last_order ∷ []) (takes_step R all table given base q leaving [] keep (height 1 0 0 names) last_order (leaving_is given) (keep_takes slots) keep_typed later) (((height 1 0 0 names, given), one.0, last_step (q + length keep) given refl), tt))
 
-      pub function_steps : Step_all place (leave ++ body)
+      -- a run may enter it, and each of its orders has what it needs
+      pub function_steps : Goes_to given entered begun × Step_all place (leave ++ body)
       function_steps =
           let up : next_height R (Plain (Num (pos 0))) base ≡ leaving = heights_same _ _ _ _ (suc slots) 0 0 names (omega arith) (omega arith) (omega arith) (omega arith) in
           let q = start + length statements in
-          let jump = opens_goes R all table given (q + 1) _ (Jump (At place)) tt last.2.0 last.2.1 in
-          step_then R all table place leave body leave_steps
-          (step_then R all table entered opening (statements ++ end) (typed_steps R all table given base entered begun [] opening base opening_typed opening_follow)
-          (step_then R all table start statements end (block_steps R all table given slots names place exit_goes here no_turn false true (commands_block place none none cs) base base start [] (λ s. refl) (λ s. absurd (false≢true s)) (refl, tt, tt) statements_type statements_follow)
-          (((base, given), last.0, (tt, (jump.0, λ k c. inr (jump.1 k c)), inl jump.2)), (((leaving, given), last.2.0 ∙ ap (λ h. Some (h, given)) up, (0, omega arith, exit_goes)), tt))))
+          let jump = opens_goes R all table given (q + 1) _ (Jump (At place)) tt last.2.0 last.2.1 in (
+            opening_goes.0,
+            step_then R all table place leave body leave_steps (step_then R all table entered opening (statements ++ end) opening_goes.1 (step_then R all table start statements end statements_go.1
+            (((base, given), last.0, (tt, (jump.0, λ k c. inr (jump.1 k c)), inl jump.2)), (((leaving, given), last.2.0 ∙ ap (λ h. Some (h, given)) up, (0, omega arith, exit_goes)), tt)))),
+          )
 
   -- ---- all functions
 
@@ -318,10 +314,7 @@ module _ (R : resolved.Program) where
     g_body_row : Row R all table g.gives g_base (entry_of place g) (walk g_entered []) g_body
     g_body_row = row g.gives g_base g_entered (entry_of place g) g_body (both_back place (g_marks g_first g_leave) (g_marks g_entered g_body) g_leave g_body leave_length both)
 
-    g_goes : Goes_to g.gives (entry_of place g) g_entered
-    g_goes = entry_goes place g.slots (function_places g) g.names (object_parameters g) g.gives (opening_orders g) (opening_types g) (places_same g) g.body g_leave_row g_body_row
-
-    g_steps : Step_all place (function_orders R place g)
+    g_steps : Goes_to g.gives (entry_of place g) g_entered × Step_all place (function_orders R place g)
     g_steps = function_steps place g.slots (function_places g) g.names (object_parameters g) g.gives (opening_orders g) (opening_types g) (places_same g) g.body g_leave_row g_body_row
 
   functions_begin : (fs : List Function) (place n : ℕ) (f : Function) → Both place (functions_marks R place fs) (functions_orders R place fs) → slice_get fs n ≡ Some f → Entered (entries_from R place fs) n f
@@ -330,7 +323,7 @@ module _ (R : resolved.Program) where
       let same : g ≡ f = cc in
       let xs = function_orders R place g in
       let here = both_front place (in_function g.gives (function_heights R place g)) (functions_marks R (place + length xs) fs) xs _ (function_length place g) has in
-      record { at = entry_of place g; is = refl; goes = subst (λ (h : Function). Goes_to h.gives (entry_of place g) (height h.slots (object_parameters h) 0 0)) same (g_goes place g here) }
+      record { at = entry_of place g; is = refl; goes = subst (λ (h : Function). Goes_to h.gives (entry_of place g) (height h.slots (object_parameters h) 0 0)) same (g_steps place g here).0 }
   functions_begin (g ∷ fs) place (suc n) f has e =
       let xs = function_orders R place g in
       let there = functions_begin fs (place + length xs) n f (both_back place (in_function g.gives (function_heights R place g)) (functions_marks R (place + length xs) fs) xs _ (function_length place g) has) e in
@@ -342,7 +335,7 @@ module _ (R : resolved.Program) where
       let xs = function_orders R place g in
       let marks = in_function g.gives (function_heights R place g) in
       let rest = functions_marks R (place + length xs) fs in
-      step_then R all table place xs (functions_orders R (place + length xs) fs) (g_steps place g (both_front place marks rest xs _ (function_length place g) has))
+      step_then R all table place xs (functions_orders R (place + length xs) fs) (g_steps place g (both_front place marks rest xs _ (function_length place g) has)).1
       (functions_step fs (place + length xs) (both_back place marks rest xs _ (function_length place g) has))
 
   functions_length : (fs : List Function) (place : ℕ) → length (functions_marks R place fs) ≡ length (functions_orders R place fs)
@@ -392,14 +385,11 @@ module _ (R : resolved.Program) where
     stub_last : Row R all table wanted zeroed (place + length fit) (walk ready []) (Jump (At to) ∷ [])
     stub_last = subst (λ w. Row R all table wanted zeroed (place + length fit) w (Jump (At to) ∷ [])) (types_last R 0 0 zeroed begin [] fit ready (fit_typed wanted values objects f)) (row_back R all table wanted zeroed place (walk begin []) fit (Jump (At to) ∷ []) stub_row)
 
-    stub_follows : Follows R all table wanted zeroed place (walk begin []) fit
-    stub_follows = row_front R all table wanted zeroed place (walk begin []) fit (Jump (At to) ∷ []) (subst (λ w. Goes_to wanted (place + length fit) w.height) (sym (types_last R 0 0 zeroed begin [] fit ready (fit_typed wanted values objects f))) (opens_goes R all table wanted (place + length fit) ready (Jump (At to)) tt stub_last.0 stub_last.1)) stub_row
-
-    pub stub_goes : Goes_to wanted place begin
-    stub_goes = goes_here R all table wanted zeroed place (walk begin []) fit (types_ordinary R begin fit ready (fit_typed wanted values objects f)) stub_follows
+    stub_starts : Goes_to wanted place begin × Step_all place fit
+    stub_starts = typed_steps R all table wanted zeroed place begin [] fit ready (fit_typed wanted values objects f) (row_front R all table wanted zeroed place (walk begin []) fit (Jump (At to) ∷ []) stub_row) (opens_goes R all table wanted (place + length fit) ready (Jump (At to)) tt stub_last.0 stub_last.1)
 
     stub_steps : Goes_to wanted to ready → Step_all place (stub wanted values objects f)
-    stub_steps goes = step_then R all table place fit (Jump (At to) ∷ []) (typed_steps R all table wanted zeroed place begin [] fit ready (fit_typed wanted values objects f) stub_follows) (((ready, wanted), stub_last.0, (0, omega arith, goes)), tt)
+    stub_steps goes = step_then R all table place fit (Jump (At to) ∷ []) stub_starts.1 (((ready, wanted), stub_last.0, (0, omega arith, goes)), tt)
 
   abbrev method_marks : Method → List (Height × Gives)
   method_marks m = stub_marks m.gives (passes m.sign m.takes) m.objects m.runs
@@ -474,7 +464,7 @@ module _ (R : resolved.Program) where
   found_goes [] place has sign selector takes objects wanted to e = cc
   found_goes (m ∷ others) place has sign selector takes objects wanted to e =
       by (found_goes others (place + length (method_stub m)) (other_methods place m others has) sign selector takes objects wanted to)
-      (stub_goes m.gives (passes m.sign m.takes) m.objects m.runs place (first_method place m others has)) (answers sign selector takes objects wanted m) refl e
+      (stub_starts m.gives (passes m.sign m.takes) m.objects m.runs place (first_method place m others has)).0 (answers sign selector takes objects wanted m) refl e
     where
       by : (found sign selector takes objects wanted (linked_methods R (entries_of R) (place + length (method_stub m)) others) ≡ Some to → Goes_to wanted to (height (passes sign takes) objects 0 0)) → Goes_to m.gives place (height (passes m.sign m.takes) m.objects 0 0) → (t : Bool) → answers sign selector takes objects wanted m ≡ t
           → (if t then Some place else found sign selector takes objects wanted (linked_methods R (entries_of R) (place + length (method_stub m)) others)) ≡ Some to → Goes_to wanted to (height (passes sign takes) objects 0 0)
@@ -492,7 +482,7 @@ module _ (R : resolved.Program) where
 
   stub_found : (d : Option ℕ) (place to : ℕ) → Both place (dealloc_marks d) (dealloc_orders R (entries_of R) d) → linked_dealloc place d ≡ Some to → Goes_to gives.Number to zeroed
   stub_found None place to has e = cc
-  stub_found (Some f) place to has e = subst (λ n. Goes_to gives.Number n zeroed) (some_same place to e) (stub_goes gives.Number 0 0 f place has)
+  stub_found (Some f) place to has e = subst (λ n. Goes_to gives.Number n zeroed) (some_same place to e) (stub_starts gives.Number 0 0 f place has).0
 
   class_finds : (cs : List Class) (place i : ℕ) (d : Class) → Classes place cs → slice_get (linked_classes R (entries_of R) place cs) i ≡ Some d → Finds d
   class_finds [] place i d has e = cc
@@ -597,11 +587,11 @@ module _ (R : resolved.Program) where
   call_row : Row R all table gives.Number zeroed (0 + length zeros) (walk main_ready []) call
   call_row = subst (λ w. Row R all table gives.Number zeroed (0 + length zeros) w call) (types_last R 0 0 zeroed zeroed [] zeros main_ready zeros_typed) (row_back R all table gives.Number zeroed 0 (walk zeroed []) zeros call start_row)
 
-  zeros_follow : Follows R all table gives.Number zeroed 0 (walk zeroed []) zeros
-  zeros_follow = row_front R all table gives.Number zeroed 0 (walk zeroed []) zeros call (subst (λ w. Goes_to gives.Number (0 + length zeros) w.height) (sym (types_last R 0 0 zeroed zeroed [] zeros main_ready zeros_typed)) (opens_goes R all table gives.Number (0 + length zeros) main_ready main_call tt call_row.0 call_row.1)) start_row
+  zeros_start : Goes_to gives.Number 0 zeroed × Step_all 0 zeros
+  zeros_start = typed_steps R all table gives.Number zeroed 0 zeroed [] zeros main_ready zeros_typed (row_front R all table gives.Number zeroed 0 (walk zeroed []) zeros call start_row) (opens_goes R all table gives.Number (0 + length zeros) main_ready main_call tt call_row.0 call_row.1)
 
   pub start_goes : Goes_to gives.Number 0 zeroed
-  start_goes = goes_here R all table gives.Number zeroed 0 (walk zeroed []) zeros (types_ordinary R zeroed zeros main_ready zeros_typed) zeros_follow
+  start_goes = zeros_start.0
 
   -- the order at which the ends of objects go on
   pub end_is : slice_get all (end_step_of R) ≡ Some EndStep
@@ -621,7 +611,7 @@ module _ (R : resolved.Program) where
       let one = rest.0 ∙ ap (λ h. Some (h, gives.Number)) called in
       let home : Stands R all table gives.Number (q + 1) (height 1 0 0 0) = record { height = one; order = Return; is = rest.1; no_end = λ same. subst IsLeave same tt } in
       let free = free_at R all table (q + 1) Return rest.1 (λ settles. settles) (λ message. absurd message) in
-      subst (Step_all 0) (sym start_is) (step_then R all table 0 zeros call (typed_steps R all table gives.Number zeroed 0 zeroed [] zeros main_ready zeros_typed zeros_follow) (
+      subst (Step_all 0) (sym start_is) (step_then R all table 0 zeros call zeros_start.1 (
         ((main_ready, gives.Number), call_row.0, ((omega (arith, same), number_there R gives.Number R.main, omega (arith, other)), subst (Goes_to gives.Number (q + 1)) (sym called) (none_goes R all table gives.Number (q + 1) (height 1 0 0 0) home refl free))),
         (((height 1 0 0 0, gives.Number), one, (refl, refl, refl, refl)), (((zeroed, gives.Number), rest.2.0, (refl, refl, refl, refl)), tt)),
       ))

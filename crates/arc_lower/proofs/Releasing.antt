@@ -9,15 +9,14 @@ use Rattle.arc_spec.specs.Objects.{Object, Dying, object_at, with_object, in_pha
 use Rattle.arc_spec.specs.World as world
 use Rattle.arc_spec.specs.World.{World, Outcome, Done, finished, Finished, then_do, places, stacked, with_temporaries, with_strong, stores, name_at}
 use Rattle.arc_spec.specs.Meaning.{Deeper, released, field_stores, temporaries_dropped, second_dropped, all_dropped, assigned, variables_dropped}
-use Rattle.arc_spec.specs.Holding.{Held, Frame, holders, is_there, on_object, on_named, with_things, with_variables, with_strong_globals, with_strong_field, on_place, raised, lowered}
+use Rattle.arc_spec.specs.Holding.{Held, Frame, holders, is_there, on_object, on_named, with_things, with_variables, with_strong_globals, with_strong_field, on_place, raised, lowered, lets_go}
 use Rattle.arc_spec.specs.Stepping.{Next, Reached, on_found, only_if, follow}
 use Rattle.arc_code.specs.Instructions as instructions
-use Rattle.arc_ir.specs.Acting.{Program, State, keeps, has_level, begins_end, releases}
+use Rattle.arc_ir.specs.Acting.{Program, State, keeps, has_level, begins_end, ends_after, releases}
 use Rattle.arc_code.specs.declared.instr.Instr.TheVariants.{DropAll, Settle, Empty}
 use Rattle.arc_lower.specs.Order.{Order}
 use Rattle.arc_lower.specs.Lowered.{empty_orders, all_empty_orders}
-use Rattle.arc_lower.proofs.CountsPlaces.{tally, one_more_if, one_less_if, tally_same, holders_head, holders_append, holders_set, last_one}
-use Rattle.arc_lower.proofs.CountsHeld.{there_fields, fields_set}
+use Rattle.arc_lower.proofs.CountsPlaces.{tally_same, holders_head, last_one, raised_count, lowered_count, variable_moves, global_moves, field_moves, second_moves}
 use Rattle.arc_lower.proofs.Leading.{Runs, stuck_runs, ends_here, then_at, better_runs}
 use Rattle.arc_lower.proofs.Recounting.{recount, moves, at, counting, held_of}
 use Rattle.arc_lower.proofs.Doing.{bare, HasAt, has_front, has_back}
@@ -88,53 +87,34 @@ module _ (p : Program) (bound : ℕ) {A : Type 0} (i : List ℕ) (t : List Event
   named_runs zero h next go = go
   named_runs (suc k) h next go = object_runs (object_at h.objects (suc k)) (λ _. next) (λ ob e. go)
 
--- ---- how many places name an object
+-- a place that named this is dropped: the actions test the count where the meaning looks at the places
+same_test : (k : ℕ) (ob : Object) (c : ℕ → ℕ) (w : World) → object_at w.objects (suc k) ≡ Some ob → c (suc k) ≡ suc (holders (suc k) (places w)) → (is_live (Some ob) && nat_eq (c (suc k)) 1) ≡ (is_live (object_at w.objects (suc k)) && not (names (suc k) (places w)))
+same_test k ob c w found count = ap (λ f. is_live f && nat_eq (c (suc k)) 1) (sym found) ∙ ap (λ b. is_live (object_at w.objects (suc k)) && b) (last_one (suc k) (c (suc k)) (places w) count)
 
-parts_holders : (k : ℕ) (w : World) → holders k (places w) ≡ holders k w.frame.temporaries + holders k w.frame.strong + holders k w.waiting + holders k w.strong_globals + holders k (field_places w.objects)
-parts_holders k w =
-    let whole = holders_append k (stacked w) (w.strong_globals ++ field_places w.objects) in
-    let rest = holders_append k w.strong_globals (field_places w.objects) in
-    let calls = holders_append k (w.frame.temporaries ++ w.frame.strong) w.waiting in
-    let own = holders_append k w.frame.temporaries w.frame.strong in
-    omega (arith, whole, rest, calls, own)
+module _ (p : Program) (bound : ℕ) (rs : List ℕ) (D : Deeper) (w : World) (f : world.Frame) (waiting : List ℕ) {A : Type 0} (end : A → World → Reached State → Type 0) (meant : Outcome Finished → Outcome A) where
+  abbrev Comes_to : Next State → Outcome Finished → Type 0
+  Comes_to next o = Runs (moves p) bound (follow (recount next) w.input w.trace) end (meant o)
 
--- the count of what a variable named that takes another object
-stored_count : (i old r k : ℕ) (w : World) → slice_get w.frame.strong i ≡ Some old → old ≡ suc k → (if nat_eq (suc k) r then suc (holders (suc k) (places w)) else holders (suc k) (places w)) ≡ suc (holders (suc k) (places (stores (Local i) r w)))
-stored_count i old r k w found e =
-    let one : tally (suc k) old ≡ 1 = ap (tally (suc k)) e ∙ tally_same (suc k) in
-    omega (arith, one_more_if (nat_eq (suc k) r) (holders (suc k) (places w)), parts_holders (suc k) w, parts_holders (suc k) (stores (Local i) r w), holders_set (suc k) i old r w.frame.strong found, one)
+  abbrev held_by : (ℕ → ℕ) → Held
+  held_by c = counting rs (laid w f waiting) c
 
--- the same of a variable of the whole program
-global_count : (i old r k : ℕ) (w : World) → slice_get w.strong_globals i ≡ Some old → old ≡ suc k → (if nat_eq (suc k) r then suc (holders (suc k) (places w)) else holders (suc k) (places w)) ≡ suc (holders (suc k) (places (stores (Global i) r w)))
-global_count i old r k w found e =
-    let one : tally (suc k) old ≡ 1 = ap (tally (suc k)) e ∙ tally_same (suc k) in
-    omega (arith, one_more_if (nat_eq (suc k) r) (holders (suc k) (places w)), parts_holders (suc k) w, parts_holders (suc k) (stores (Global i) r w), holders_set (suc k) i old r w.strong_globals found, one)
+  by_test : (b : Bool) (x y : Next State) (m n : Outcome Finished) → Comes_to x m → Comes_to y n → Comes_to (if b then x else y) (if b then m else n)
+  by_test true x y m n h g = h
+  by_test false x y m n h g = g
 
--- the same of a field of an object that is there
-pub field_count : (j : ℕ) (ob : Object) (index old r k : ℕ) (w : World) → object_at w.objects (suc j) ≡ Some ob → is_there ob.phase ≡ true → slice_get ob.strong index ≡ Some old → old ≡ suc k
-    → (if nat_eq (suc k) r then suc (holders (suc k) (places w)) else holders (suc k) (places w)) ≡ suc (holders (suc k) (places (field_stores (suc j) ob index r w)))
-field_count j ob index old r k w found there named e =
-    let one : tally (suc k) old ≡ 1 = ap (tally (suc k)) e ∙ tally_same (suc k) in
-    let x = with_strong_fields ob (slice_set ob.strong index r) in
-    let before = ap (holders (suc k)) (there_fields ob there) in
-    let after = ap (holders (suc k)) (there_fields x there) in
-    omega (arith, one_more_if (nat_eq (suc k) r) (holders (suc k) (places w)), parts_holders (suc k) w, parts_holders (suc k) (field_stores (suc j) ob index r w), fields_set (suc k) w.objects j ob x found, before, after, holders_set (suc k) index old r ob.strong named, one)
-
-dropped_count : (r k : ℕ) (rest : List ℕ) → r ≡ suc k → holders (suc k) (r ∷ rest) ≡ suc (holders (suc k) rest)
-dropped_count r k rest e =
-    let one : tally (suc k) r ≡ 1 = ap (tally (suc k)) e ∙ tally_same (suc k) in
-    omega (arith, holders_head (suc k) r rest, one)
-
--- the count of what the temporary before the last one named that is dropped
-settled_count : (x r k : ℕ) (ts : List ℕ) (w : World) → w.frame.temporaries ≡ x ∷ r ∷ ts → r ≡ suc k → holders (suc k) (places w) ≡ suc (holders (suc k) (places (with_temporaries w (x ∷ ts))))
-settled_count x r k ts w these e =
-    let one : tally (suc k) r ≡ 1 = ap (tally (suc k)) e ∙ tally_same (suc k) in
-    let all : holders (suc k) w.frame.temporaries ≡ holders (suc k) (x ∷ r ∷ ts) = ap (holders (suc k)) these in
-    omega (arith, parts_holders (suc k) w, parts_holders (suc k) (with_temporaries w (x ∷ ts)), all, holders_head (suc k) x (r ∷ ts), holders_head (suc k) r ts, holders_head (suc k) x ts, one)
-
--- once what was dropped is counted no more, the counts are those of the rest
-less_count : (c : ℕ → ℕ) (r j : ℕ) (rest : List ℕ) → c (suc j) ≡ holders (suc j) (r ∷ rest) → (if nat_eq (suc j) r then c (suc j) - 1 else c (suc j)) ≡ holders (suc j) rest
-less_count c r j rest e = omega (arith, one_less_if (nat_eq (suc j) r) (c (suc j)), e, holders_head (suc j) r rest)
+  pub lets_runs : (r : ℕ) (c : ℕ → ℕ) (stays : Held → Next State) (ends : (o class : ℕ) → Held → Next State) → ((k : ℕ) → c (suc k) ≡ holders (suc k) (r ∷ places w))
+      → ((less : ℕ → ℕ) → ((k : ℕ) → less (suc k) ≡ holders (suc k) (places w)) → Comes_to (stays (held_by less)) (Done finished w))
+      → ((k : ℕ) (ob : Object) (less : ℕ → ℕ) → object_at w.objects (suc k) ≡ Some ob → Comes_to (ends (suc k) ob.class (dying_in rs (laid w f waiting) k ob less)) (D.end_of (suc k) w))
+      → Comes_to (lets_go r (held_by c) stays ends) (released D r w)
+  lets_runs zero c stays ends count stay begin = stay (lowered 0 (held_by c)).counts (λ k. omega (arith, lowered_count 0 (held_by c) (suc k), count k, holders_head (suc k) 0 (places w)))
+  lets_runs (suc k) c stays ends count stay begin =
+      let less = (lowered (suc k) (held_by c)).counts in
+      let go : Object → Bool → Next State = λ ob b. if b then ends (suc k) ob.class (dying_in rs (laid w f waiting) k ob less) else stays (held_by less) in
+      let one : c (suc k) ≡ suc (holders (suc k) (places w)) = omega (arith, count k, holders_head (suc k) (suc k) (places w), tally_same (suc k)) in
+      object_runs p bound w.input w.trace end (meant (released D (suc k) w)) (object_at w.objects (suc k)) (λ ob. go ob (is_live (Some ob) && nat_eq (c (suc k)) 1)) (λ ob found.
+      subst (λ b. Comes_to (go ob b) (released D (suc k) w)) (sym (same_test k ob c w found one))
+      (by_test (is_live (object_at w.objects (suc k)) && not (names (suc k) (places w))) _ _ (D.end_of (suc k) w) (Done finished w) (begin k ob less found)
+      (stay less (λ j. omega (arith, lowered_count (suc k) (held_by c) (suc j), count j, holders_head (suc j) (suc k) (places w))))))
 
 -- variables that are emptied, from the first one on, the last one first
 abbrev pub empties : (first count : ℕ) → List ℕ → List ℕ
@@ -154,24 +134,11 @@ module _ (p : Program) (frames : List Frame) (bound : ℕ) (rs : List ℕ) (D : 
   keeps_runs : (stack : List ℤ) (w : World) (pc : ℕ) → Runs (moves p) bound (running frames rs pc stack w) (stays stack pc w) (Done finished w)
   keeps_runs stack w pc = ends_here (moves p) bound (running frames rs pc stack w) (stays stack pc w) finished w (refl, kept_same w)
 
-  by_test : (k : ℕ) (ob : Object) (c : ℕ → ℕ) (h0 : Held) (stack : List ℤ) (w : World) (pc : ℕ) → object_at w.objects (suc k) ≡ Some ob → (b : Bool) → Runs (moves p) bound (follow (recount (if b then begins_end p (at frames pc stack h0) (pc + 1) (suc k) ob.class (dying_in rs w k ob c) (has_level (at frames pc stack h0)) else keeps (at frames pc stack h0) stack (counting rs w c))) w.input w.trace) (stays stack (pc + 1) w) (if b then D.end_of (suc k) w else Done finished w)
-  by_test k ob c h0 stack w pc found true = ends k ob c h0 rs stack w pc (pc + 1) found
-  by_test k ob c h0 stack w pc found false = quiet_runs p frames bound rs (pc + 1) stack w (stays stack (pc + 1) w) (Done finished w) (keeps_runs stack w (pc + 1))
-
-  -- the machine tests the count where the meaning looks at the places
-  pub same_test : (k : ℕ) (ob : Object) (c : ℕ → ℕ) (w : World) → object_at w.objects (suc k) ≡ Some ob → c (suc k) ≡ suc (holders (suc k) (places w)) → (is_live (Some ob) && nat_eq (c (suc k)) 1) ≡ (is_live (object_at w.objects (suc k)) && not (names (suc k) (places w)))
-  same_test k ob c w found count = ap (λ f. is_live f && nat_eq (c (suc k)) 1) (sym found) ∙ ap (λ b. is_live (object_at w.objects (suc k)) && b) (last_one (suc k) (c (suc k)) (places w) count)
-
-  -- a variable that named this names it no more
-  pub release_runs : (r : ℕ) (c : ℕ → ℕ) (h0 : Held) (stack : List ℤ) (w : World) (pc : ℕ) → ((k : ℕ) → r ≡ suc k → c (suc k) ≡ suc (holders (suc k) (places w))) → Runs (moves p) bound (follow (recount (releases p (at frames pc stack h0) r (counting rs w c))) w.input w.trace) (stays stack (pc + 1) w) (released D r w)
-  release_runs zero c h0 stack w pc count = quiet_runs p frames bound rs (pc + 1) stack w (stays stack (pc + 1) w) (Done finished w) (keeps_runs stack w (pc + 1))
-  release_runs (suc k) c h0 stack w pc count =
-      let s = at frames pc stack h0 in
-      let less = (lowered (suc k) (counting rs w c)).counts in
-      let test = is_live (object_at w.objects (suc k)) && not (names (suc k) (places w)) in
-      object_runs p bound w.input w.trace (stays stack (pc + 1) w) (released D (suc k) w) (object_at w.objects (suc k)) (λ o. if is_live (Some o) && nat_eq (c (suc k)) 1 then begins_end p s (pc + 1) (suc k) o.class (dying_in rs w k o less) (has_level s) else keeps s stack (counting rs w less)) (λ ob found.
-      subst (λ b. Runs (moves p) bound (follow (recount (if b then begins_end p s (pc + 1) (suc k) ob.class (dying_in rs w k ob less) (has_level s) else keeps s stack (counting rs w less))) w.input w.trace) (stays stack (pc + 1) w) (released D (suc k) w)) (sym (same_test k ob c w found (count k refl)))
-      (by_test k ob less h0 stack w pc found test))
+  -- a place names this no more
+  pub release_runs : (r : ℕ) (c : ℕ → ℕ) (h0 : Held) (stack : List ℤ) (w : World) (pc : ℕ) → ((k : ℕ) → c (suc k) ≡ holders (suc k) (r ∷ places w)) → Runs (moves p) bound (follow (recount (releases p (at frames pc stack h0) r (counting rs w c))) w.input w.trace) (stays stack (pc + 1) w) (released D r w)
+  release_runs r c h0 stack w pc count =
+      lets_runs p bound rs D w w.frame w.waiting (stays stack (pc + 1) w) (λ o. o) r c (keeps (at frames pc stack h0) stack) (ends_after p (at frames pc stack h0)) count
+      (λ less _. quiet_runs p frames bound rs (pc + 1) stack w (stays stack (pc + 1) w) (Done finished w) (keeps_runs stack w (pc + 1))) (λ k ob less found. ends k ob less h0 rs stack w pc (pc + 1) found)
 
   -- ---- temporaries
 
@@ -190,36 +157,22 @@ module _ (p : Program) (frames : List Frame) (bound : ℕ) (rs : List ℕ) (D : 
       subst (λ (x : World). Runs (moves p) bound (running frames rs pc stack x) (stays stack (pc + 1) (with_temporaries w [])) (temporaries_dropped D ts x)) same
       (one_runs p frames bound rs DropAll pc stack w0 (stays stack (pc + 1) (with_temporaries w [])) (temporaries_dropped D ts w0) has (next (λ k. holders k (places w0)) (held_of rs w0) w (λ k. refl)))
 
-  drop_by : (k : ℕ) (others : List ℕ) (ob : Object) (less : ℕ → ℕ) (h0 : Held) (stack : List ℤ) (w : World) (pc : ℕ) → HasAt p pc (DropAll ∷ []) → Drops others stack pc → object_at w.objects (suc k) ≡ Some ob → ((j : ℕ) → less (suc j) ≡ holders (suc j) (places (with_temporaries w others))) → (b : Bool) → Runs (moves p) bound (follow (recount (if b then begins_end p (at frames pc stack h0) pc (suc k) ob.class (dying_in rs (with_temporaries w others) k ob less) (has_level (at frames pc stack h0)) else drops h0 stack pc others (counting rs (with_temporaries w others) less))) w.input w.trace) (stays stack (pc + 1) (with_temporaries w [])) (then_do (if b then D.end_of (suc k) (with_temporaries w others) else Done finished (with_temporaries w others)) (λ _ w2. temporaries_dropped D others w2))
-  drop_by k others ob less h0 stack w pc has next found count false = next less h0 w count
-  drop_by k others ob less h0 stack w pc has next found count true =
+  drops_run : (ts : List ℕ) (stack : List ℤ) (pc : ℕ) → HasAt p pc (DropAll ∷ []) → Drops ts stack pc
+  drops_run [] stack pc has c h0 w count = quiet_runs p frames bound rs (pc + 1) stack (with_temporaries w []) (stays stack (pc + 1) (with_temporaries w [])) (Done finished (with_temporaries w [])) (keeps_runs stack (with_temporaries w []) (pc + 1))
+  drops_run (r ∷ others) stack pc has c h0 w count =
       let w1 = with_temporaries w others in
       let none = with_temporaries w [] in
       let s = at frames pc stack h0 in
-      let from = follow (recount (begins_end p s pc (suc k) ob.class (dying_in rs w1 k ob less) (has_level s))) w.input w.trace in
-      then_at (moves p) bound from (λ (done : Finished) w2. Kept w1 w2) (λ done w2. running frames rs pc stack w2) (stays stack (pc + 1) none) (D.end_of (suc k) w1) (λ _ w2. temporaries_dropped D others w2) (ends k ob less h0 rs stack w1 pc pc found) (λ done w2 k2.
-      better_runs (moves p) bound (running frames rs pc stack w2) (stays stack (pc + 1) (with_temporaries w2 [])) (stays stack (pc + 1) none) (temporaries_dropped D others w2) (met_again others stack pc w2 has next (ap (λ (f : world.Frame). f.temporaries) k2.frame)) (λ done w3 to m. (
+      lets_runs p bound rs D w1 w1.frame w1.waiting (stays stack (pc + 1) none) (λ o. then_do o (λ _ w2. temporaries_dropped D others w2)) r c (drops h0 stack pc others) (λ o class h. begins_end p s pc o class h (has_level s)) count
+      (λ less left. drops_run others stack pc has less h0 w left) (λ k ob less found.
+      then_at (moves p) bound (follow (recount (begins_end p s pc (suc k) ob.class (dying_in rs w1 k ob less) (has_level s))) w.input w.trace) (λ (done : Finished) w2. Kept w1 w2) (λ done w2. running frames rs pc stack w2) (stays stack (pc + 1) none) (D.end_of (suc k) w1) (λ _ w2. temporaries_dropped D others w2) (ends k ob less h0 rs stack w1 pc pc found) (λ done w2 k2.
+      better_runs (moves p) bound (running frames rs pc stack w2) (stays stack (pc + 1) (with_temporaries w2 [])) (stays stack (pc + 1) none) (temporaries_dropped D others w2) (met_again others stack pc w2 has (drops_run others stack pc has) (ap (λ (f : world.Frame). f.temporaries) k2.frame)) (λ done w3 to m. (
         m.0,
         record {
           frame = m.1.frame ∙ ap (λ (f : world.Frame). (with_temporaries (record w2 { frame = f }) []).frame) k2.frame;
           waiting = m.1.waiting ∙ k2.waiting;
         },
-      )))
-
-  drops_run : (ts : List ℕ) (stack : List ℤ) (pc : ℕ) → HasAt p pc (DropAll ∷ []) → Drops ts stack pc
-  drops_run [] stack pc has c h0 w count = quiet_runs p frames bound rs (pc + 1) stack (with_temporaries w []) (stays stack (pc + 1) (with_temporaries w [])) (Done finished (with_temporaries w [])) (keeps_runs stack (with_temporaries w []) (pc + 1))
-  drops_run (zero ∷ others) stack pc has c h0 w count = drops_run others stack pc has (λ k. if nat_eq k 0 then c k - 1 else c k) h0 w (λ k. less_count c 0 k (places (with_temporaries w others)) (count k))
-  drops_run (suc k ∷ others) stack pc has c h0 w count =
-      let w0 = with_temporaries w (suc k ∷ others) in
-      let w1 = with_temporaries w others in
-      let s = at frames pc stack h0 in
-      let less = (lowered (suc k) (counting rs w1 c)).counts in
-      let one : c (suc k) ≡ suc (holders (suc k) (places w1)) = count k ∙ dropped_count (suc k) k (places w1) refl in
-      let end = stays stack (pc + 1) (with_temporaries w []) in
-      let o = temporaries_dropped D (suc k ∷ others) w0 in
-      object_runs p bound w.input w.trace end o (object_at w.objects (suc k)) (λ x. if is_live (Some x) && nat_eq (c (suc k)) 1 then begins_end p s pc (suc k) x.class (dying_in rs w1 k x less) (has_level s) else drops h0 stack pc others (counting rs w1 less)) (λ ob found.
-      subst (λ b. Runs (moves p) bound (follow (recount (if b then begins_end p s pc (suc k) ob.class (dying_in rs w1 k ob less) (has_level s) else drops h0 stack pc others (counting rs w1 less))) w.input w.trace) end o) (sym (same_test k ob c w1 found one))
-      (drop_by k others ob less h0 stack w pc has (drops_run others stack pc has) found (λ j. less_count c (suc k) j (places w1) (count j)) (is_live (object_at w.objects (suc k)) && not (names (suc k) (places w1)))))
+      ))))
 
   -- all temporaries
   pub dropped_runs : (stack : List ℤ) (w : World) (pc : ℕ) → HasAt p pc (DropAll ∷ []) → Runs (moves p) bound (running frames rs pc stack w) (stays stack (pc + 1) (with_temporaries w [])) (all_dropped D w)
@@ -233,7 +186,7 @@ module _ (p : Program) (frames : List Frame) (bound : ℕ) (rs : List ℕ) (D : 
       let end = stays stack (pc + 1) w1 in
       one_runs p frames bound rs Settle pc stack w end (second_dropped D w.frame.temporaries w) has
       (subst (λ l. Runs (moves p) bound (follow (recount (instructions.settles (bare p) s l)) w.input w.trace) end (second_dropped D l w)) (sym these)
-      (release_runs r (held_of rs w).counts (held_of rs w) stack w1 pc (λ k e. settled_count x r k ts w these e)))
+      (release_runs r (held_of rs w).counts (held_of rs w) stack w1 pc (λ k. sym (second_moves (suc k) (held_of rs w) x r ts these))))
 
   -- ---- variables
 
@@ -249,17 +202,17 @@ module _ (p : Program) (frames : List Frame) (bound : ℕ) (rs : List ℕ) (D : 
 
   -- a variable takes this
   pub changes_runs : (i r old : ℕ) (stack : List ℤ) (w : World) (pc : ℕ) → slice_get w.frame.strong i ≡ Some old → Runs (moves p) bound (follow (recount (releases p (at frames pc stack (held_of rs w)) old (raised r (with_variables (held_of rs w) (slice_set w.frame.strong i r))))) w.input w.trace) (stays stack (pc + 1) (stores (Local i) r w)) (released D old (stores (Local i) r w))
-  changes_runs i r old stack w pc found = release_runs old (raised r (held_of rs w)).counts (held_of rs w) stack (stores (Local i) r w) pc (λ k same. stored_count i old r k w found same)
+  changes_runs i r old stack w pc found = release_runs old (raised r (held_of rs w)).counts (held_of rs w) stack (stores (Local i) r w) pc (λ k. raised_count r (held_of rs w) (suc k) ∙ sym (variable_moves (suc k) (held_of rs w) i old r found))
 
   -- a variable of the whole program takes this
   pub global_runs : (i r old : ℕ) (stack : List ℤ) (w : World) (pc : ℕ) → slice_get w.strong_globals i ≡ Some old → Runs (moves p) bound (follow (recount (releases p (at frames pc stack (held_of rs w)) old (raised r (with_strong_globals (held_of rs w) (slice_set w.strong_globals i r))))) w.input w.trace) (stays stack (pc + 1) (stores (Global i) r w)) (released D old (stores (Global i) r w))
-  global_runs i r old stack w pc found = release_runs old (raised r (held_of rs w)).counts (held_of rs w) stack (stores (Global i) r w) pc (λ k same. global_count i old r k w found same)
+  global_runs i r old stack w pc found = release_runs old (raised r (held_of rs w)).counts (held_of rs w) stack (stores (Global i) r w) pc (λ k. raised_count r (held_of rs w) (suc k) ∙ sym (global_moves (suc k) (held_of rs w) i old r found))
 
   -- a field of an object that is there takes this
   pub strong_field_runs : (j : ℕ) (ob : Object) (index r old : ℕ) (h0 : Held) (stack : List ℤ) (w : World) (pc : ℕ) → object_at w.objects (suc j) ≡ Some ob → is_there ob.phase ≡ true → slice_get ob.strong index ≡ Some old
       → Runs (moves p) bound (follow (recount (releases p (at frames pc stack h0) old (raised r (with_strong_field (held_of rs w) (suc j) ob index r)))) w.input w.trace) (stays stack (pc + 1) (field_stores (suc j) ob index r w)) (released D old (field_stores (suc j) ob index r w))
   strong_field_runs j ob index r old h0 stack w pc found there named =
-      release_runs old (raised r (held_of rs w)).counts h0 stack (field_stores (suc j) ob index r w) pc (λ k same. field_count j ob index old r k w found there named same)
+      release_runs old (raised r (held_of rs w)).counts h0 stack (field_stores (suc j) ob index r w) pc (λ k. raised_count r (held_of rs w) (suc k) ∙ sym (field_moves (suc k) (held_of rs w) j ob index old r found there named))
 
   abbrev emptying : Bool → ℕ → List Order
   emptying b i = if b then Empty i ∷ [] else []

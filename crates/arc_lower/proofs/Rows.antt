@@ -1,13 +1,13 @@
 -- Rows of orders, and lists of a checked program as long as what they are of.
-use Rattle.std.proofs.Common.{◌≡◌, ℕ, zero, suc, ◌+◌, ◌-◌, ◌/◌, ◌<◌, arith, List, [], ◌∷◌, ◌++◌, length, take, drop, length-drop, length-append, refl, sym, ap, ◌∙◌}
+use Rattle.std.proofs.Common.{◌≡◌, ℕ, zero, suc, ◌+◌, ◌-◌, ◌/◌, ◌<◌, arith, List, [], ◌∷◌, ◌++◌, length, take, drop, length-drop, length-append, refl, sym, ap, ◌∙◌, pos}
 use Rattle.arc_checked.specs.declared.program.CheckedFunction.{CheckedFunction}
 use Rattle.arc_checked.specs.Checked.{functions}
 use Rattle.arc_spec.specs.declared.class.Gives.{Gives}
 use Rattle.arc_spec.specs.Resolved.{Program}
-use Rattle.arc_code.specs.declared.instr.Op.TheVariants.{Forget}
+use Rattle.arc_code.specs.declared.instr.Op.TheVariants.{Num, Pop, Declare, Nil, Forget}
 use Rattle.arc_code.specs.declared.instr.Instr.TheVariants.{Plain, PrintText, Call, StoreStrong}
 use Rattle.arc_lower.specs.Order.{Order}
-use Rattle.arc_lower.specs.Lowered.{part_orders, text_orders, pop_orders, zero_orders, empty_orders, all_empty_orders, forget_orders, nil_orders, take_orders, fit_orders, fit_object_orders, call_orders, number_of, slots_of, parameters_of}
+use Rattle.arc_lower.specs.Lowered.{part_orders, text_orders, pop_orders, zero_orders, empty_orders, all_empty_orders, forget_orders, nil_orders, declare_orders, take_orders, fit_orders, fit_object_orders, call_orders, number_of, slots_of, parameters_of}
 
 -- of more than 16 bytes the first 16 are one part
 pub text_more : (bytes : List ℕ) → 16 < length bytes → text_orders bytes ≡ PrintText (take 16 bytes) ∷ text_orders (drop 16 bytes)
@@ -16,12 +16,27 @@ text_more bytes long =
     ap (λ n. part_orders n bytes) e
 
 -- n times one order, and once more
-pub row_more : (row : ℕ → List Order) (a : Order) → row 0 ≡ [] → ((n : ℕ) → row (suc n) ≡ a ∷ row n)
+row_more : (row : ℕ → List Order) (a : Order) → row 0 ≡ [] → ((n : ℕ) → row (suc n) ≡ a ∷ row n)
     → (n : ℕ) → row (n + 1) ≡ row n ++ a ∷ []
 row_more row a none more zero = more 0 ∙ ap (λ l. a ∷ l) none ∙ ap (λ l. l ++ a ∷ []) (sym none)
 row_more row a none more (suc n) =
     let one : suc n + 1 ≡ suc (n + 1) = omega arith in
     ap row one ∙ more (n + 1) ∙ ap (λ l. a ∷ l) (row_more row a none more n) ∙ ap (λ l. l ++ a ∷ []) (sym (more n))
+
+pub nils_more : (n : ℕ) → nil_orders (n + 1) ≡ nil_orders n ++ Plain Nil ∷ []
+nils_more = row_more nil_orders (Plain Nil) refl (λ n. refl)
+
+pub forgets_more : (n : ℕ) → forget_orders (n + 1) ≡ forget_orders n ++ Plain Forget ∷ []
+forgets_more = row_more forget_orders (Plain Forget) refl (λ n. refl)
+
+pub declares_more : (n : ℕ) → declare_orders (n + 1) ≡ declare_orders n ++ Plain Declare ∷ []
+declares_more = row_more declare_orders (Plain Declare) refl (λ n. refl)
+
+pub pops_more : (n : ℕ) → pop_orders (n + 1) ≡ pop_orders n ++ Plain Pop ∷ []
+pops_more = row_more pop_orders (Plain Pop) refl (λ n. refl)
+
+pub zeros_more : (n : ℕ) → zero_orders (n + 1) ≡ zero_orders n ++ Plain (Num (pos 0)) ∷ []
+zeros_more = row_more zero_orders (Plain (Num (pos 0))) refl (λ n. refl)
 
 pub takes_more : (first count passed : ℕ) → passed < count → take_orders first (count - passed) ≡ StoreStrong (first + (count - 1 - passed)) ∷ Plain Forget ∷ take_orders first (count - (passed + 1))
 takes_more first count passed lt =

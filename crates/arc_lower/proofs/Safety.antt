@@ -1,8 +1,9 @@
 -- No action lacks what it takes, whatever is read, and the counts are right: what runs and what waits have as many numbers, references and places as the heights of a program say.
 use Rattle.std.proofs.Common.{◌≡◌, ◌⊎◌, inl, inr, ℕ, zero, suc, ◌+◌, ◌-◌, ◌<◌, ◌≤◌, ℤ, pos, Bool, true, false, ◌&&◌, nat_eq, if◌then◌else◌, List, [], ◌∷◌, ◌++◌, length, drop, is_some, Option, Some, None, ⊎_elim, refl, sym, ap, ◌∙◌, subst, arith, append_assoc, length-append, slice_get, slice_set, slice_index_or}
 use Rattle.std.proofs.Math.Seq.{take-append_seam, drop-append_seam}
-use Rattle.std.proofs.lemmas.Bool.{and_parts, eqb-true}
+use Rattle.std.proofs.lemmas.Bool.{and_parts, eqb-true, cases_eq}
 use Rattle.std.proofs.lemmas.List.{length-set}
+use Rattle.std.proofs.lemmas.Option.{slice_get_within}
 use Rattle.std.specs.Fmt.{signed_decimal}
 use Rattle.arc_ast.specs.declared.tree.Sign.{Sign}
 use Rattle.arc_ast.specs.declared.tree.Sign.TheVariants as signs
@@ -28,10 +29,9 @@ use Rattle.arc_code.specs.Instructions as instructions
 use Rattle.arc_lower.specs.Order.{Order, order, orders}
 use Rattle.arc_lower.specs.Lowered.{slots_of, parameters_of, entries_of, end_step_of, lowered as lowered_orders, classes_linked}
 use Rattle.arc_lower.specs.Heights.{height, next_height}
-use Rattle.arc_lower.proofs.CountsThere.{IsThere, AllThere, object_goes, named_goes, set_here}
-use Rattle.arc_lower.proofs.CountsKept.{Sane, Drops, nothing_sane, sane_moved, sane_names, sane_globals, sane_start, sane_entered, sane_take, sane_declare, variable_there, waiting_there, stacked_there, globals_there, fields_there, name_there, sane_store, sane_store_global, sane_store_field, sane_drop, sane_settle, drops_there, sane_nil, sane_last, sane_other, sane_make, sane_field, sane_empty, sane_gone}
-use Rattle.arc_lower.proofs.CountsHeld.{all_holders, live_there, there_fields}
-use Rattle.arc_lower.proofs.CountsPlaces.{holders_head, holders_nil, holders_append}
+use Rattle.arc_lower.proofs.CountsThere.{IsThere, AllThere, place_there, name_there, object_goes, named_goes, set_here, set_same, set_other}
+use Rattle.arc_lower.proofs.CountsKept.{Sane, Drops, nothing_sane, sane_moved, sane_names, sane_globals, sane_start, sane_entered, sane_take, sane_declare, fits_at, sane_counted, variables_there, waiting_there, stacked_there, globals_there, fields_there, sane_store, sane_store_global, sane_store_field, sane_drop, sane_settle, drops_there, sane_nil, sane_last, sane_other, sane_make, sane_field, sane_empty, sane_gone}
+use Rattle.arc_lower.proofs.CountsPlaces.{holders_head, holders_nil, holders_append, all_holders, live_there, there_fields}
 use Rattle.arc_lower.proofs.Recounting.{at, resumed_as}
 use Rattle.arc_lower.proofs.Doing.{bare, does, acts_does}
 use Rattle.arc_lower.proofs.Standing.{no_nil, ending, AllDying, IsDying, NilBut, Alive, nil_alive, ends_there, ending_alive, IsHeld, last_held, held_there, held_within, made_dying, changed_dying, IsApart, live_apart, apart_dying, stored_far, fields_far, one_nil, no_field, nil_named, all_in_order}
@@ -44,60 +44,21 @@ use Rattle.arc_lower.proofs.HeightsFit.{entry_goes}
 
 -- ---- variables that name nothing
 
-abbrev AllNil : List ℕ → Type 0
-AllNil [] = Unit {0}
-AllNil (r ∷ rest) = (r ≡ 0) × AllNil rest
-
--- none after the first n names an object
-abbrev NilFrom : ℕ → List ℕ → Type 0
-NilFrom zero variables = AllNil variables
-NilFrom (suc n) [] = Unit {0}
-NilFrom (suc n) (r ∷ rest) = NilFrom n rest
-
-nil_from_end : (variables : List ℕ) (n : ℕ) → length variables ≤ n → NilFrom n variables
-nil_from_end [] zero le = tt
-nil_from_end [] (suc n) le = tt
-nil_from_end (r ∷ rest) zero le = absurd (omega (arith, le))
-nil_from_end (r ∷ rest) (suc n) le = nil_from_end rest n (omega (arith, le))
-
-nil_from_set : (n : ℕ) (variables : List ℕ) → NilFrom (suc n) variables → NilFrom n (slice_set variables n 0)
-nil_from_set zero [] h = tt
-nil_from_set zero (r ∷ rest) h = (refl, h)
-nil_from_set (suc n) [] h = tt
-nil_from_set (suc n) (r ∷ rest) h = nil_from_set n rest h
-
--- none after the first n names an object, but for the last one
-abbrev NilLess : ℕ → List ℕ → Type 0
-NilLess n [] = Unit {0}
-NilLess n (r ∷ []) = Unit {0}
-NilLess zero (r ∷ q ∷ rest) = (r ≡ 0) × NilLess zero (q ∷ rest)
-NilLess (suc n) (r ∷ q ∷ rest) = NilLess n (q ∷ rest)
-
-nil_less_end : (variables : List ℕ) (n : ℕ) → length variables ≤ n + 1 → NilLess n variables
-nil_less_end (r ∷ q ∷ rest) zero le = absurd (omega (arith, le))
-nil_less_end (r ∷ q ∷ rest) (suc n) le = nil_less_end (q ∷ rest) n (omega (arith, le))
-nil_less_end _ n le = tt
-
-nil_less_set : (n : ℕ) (variables : List ℕ) → NilLess (suc n) variables → NilLess n (slice_set variables n 0)
-nil_less_set zero (r ∷ []) h = tt
-nil_less_set (suc n) (r ∷ []) h = tt
-nil_less_set zero (r ∷ q ∷ rest) h = (refl, h)
-nil_less_set (suc zero) (r ∷ q ∷ rest) h = nil_less_set zero (q ∷ rest) h
-nil_less_set (suc (suc n)) (r ∷ q ∷ rest) h = nil_less_set (suc n) (q ∷ rest) h
-nil_less_set _ _ h = tt
-
--- none after the first n names an object, but for the place of an object that is given
+-- none after the first n names an object, but for the place of an object that is given, which is the last one
 abbrev Shut : Gives → ℕ → List ℕ → Type 0
-Shut gives.Number n variables = NilFrom n variables
-Shut gives.Object n variables = NilLess n variables
+Shut given n variables = (i k : ℕ) → n ≤ i → i + as_object given < length variables → slice_get variables i ≡ Some (suc k) → ⊥
 
 shut_end : (mine : Gives) (variables : List ℕ) (n : ℕ) → length variables ≤ n + as_object mine → Shut mine n variables
-shut_end gives.Number variables n le = nil_from_end variables n (omega (arith, le))
-shut_end gives.Object variables n le = nil_less_end variables n le
+shut_end mine variables n le i k above lt named = omega (arith, le, above, lt)
 
 shut_set : (mine : Gives) (n : ℕ) (variables : List ℕ) → Shut mine (suc n) variables → Shut mine n (slice_set variables n 0)
-shut_set gives.Number n variables h = nil_from_set n variables h
-shut_set gives.Object n variables h = nil_less_set n variables h
+shut_set mine n variables h i k above lt named = ⊎_elim
+    (λ same. absurd (omega (arith, set_same variables n 0 (suc k) (subst (λ j. slice_get (slice_set variables n 0) j ≡ Some (suc k)) same named))))
+    (λ ne. h i k (omega (arith, above, ne)) (omega (arith, lt, length-set variables n 0)) (sym (set_other variables n i 0 ne) ∙ named))
+    (cases_eq i n)
+
+none_named : NilBut [] []
+none_named i k e = cc
 
 -- all but the last one are nil, and that names this
 abbrev LastIs : ℕ → List ℕ → Type 0
@@ -105,12 +66,13 @@ LastIs r [] = ⊥
 LastIs r (q ∷ []) = q ≡ r
 LastIs r (q ∷ next ∷ rest) = (q ≡ 0) × LastIs r (next ∷ rest)
 
-last_there : (variables : List ℕ) → 1 ≤ length variables → NilLess 0 variables → (r : ℕ) × LastIs r variables
+last_there : (variables : List ℕ) → 1 ≤ length variables → Shut gives.Object 0 variables → (r : ℕ) × LastIs r variables
 last_there [] some h = absurd (omega (arith, some))
 last_there (r ∷ []) some h = (r, refl)
-last_there (r ∷ q ∷ rest) some h =
-    let deep = last_there (q ∷ rest) (omega arith) h.1 in
-    (deep.0, (h.0, deep.1))
+last_there (suc k ∷ q ∷ rest) some h = absurd (h 0 k (omega arith) (omega arith) refl)
+last_there (zero ∷ q ∷ rest) some h =
+    let deep = last_there (q ∷ rest) (omega arith) (λ i k above lt. h (suc i) k (omega arith) (omega (arith, lt))) in
+    (deep.0, (refl, deep.1))
 
 last_goes : {S : Type 0} (r : ℕ) (variables : List ℕ) (go : ℕ → Next S) → LastIs r variables → on_last variables go ≡ go r
 last_goes r [] go h = absurd h
@@ -124,15 +86,10 @@ last_holders k r (q ∷ []) h = ap (λ x. holders (suc k) (x ∷ [])) h
 last_holders k r (zero ∷ q ∷ rest) h = omega (arith, holders_nil k (q ∷ rest), last_holders k r (q ∷ rest) h.1)
 last_holders k r (suc j ∷ q ∷ rest) h = absurd (omega (arith, h.0))
 
-nil_seen : (variables : List ℕ) → AllNil variables → all_nil variables ≡ true
+nil_seen : (variables : List ℕ) → NilBut [] variables → all_nil variables ≡ true
 nil_seen [] nil = refl
-nil_seen (zero ∷ rest) nil = nil_seen rest nil.1
-nil_seen (suc k ∷ rest) nil = absurd (omega (arith, nil.0))
-
-nil_holders : (k : ℕ) (variables : List ℕ) → AllNil variables → holders (suc k) variables ≡ 0
-nil_holders k [] nil = refl
-nil_holders k (zero ∷ rest) nil = omega (arith, holders_nil k rest, nil_holders k rest nil.1)
-nil_holders k (suc j ∷ rest) nil = absurd (omega (arith, nil.0))
+nil_seen (zero ∷ rest) nil = nil_seen rest (λ i. nil (suc i))
+nil_seen (suc k ∷ rest) nil = absurd (nil 0 k refl)
 
 -- ---- references, each of which a temporary holds, or which are nil
 
@@ -235,10 +192,10 @@ resumes_again : (w : Waiter) (h : Held) (s : Splits w h.places) → resumed w h 
 resumes_again w h s = resumed_as w h s.temporaries s.variables s.waiting s.is s.first s.next
 
 -- the function that is left has no temporary, and its variables are nil
-again_sane : {classes : List Class} (w : Waiter) (h : Held) (s : Splits w h.places) → h.temporaries ≡ [] → AllNil h.variables → Sane classes h → Sane classes (again w s h)
+again_sane : {classes : List Class} (w : Waiter) (h : Held) (s : Splits w h.places) → h.temporaries ≡ [] → NilBut [] h.variables → Sane classes h → Sane classes (again w s h)
 again_sane w h s none nil sane = sane_moved h (again w s h) refl refl (λ k.
     let h1 = again w s h in
-    omega (arith, ap (holders (suc k)) s.is, holders_append (suc k) (s.temporaries ++ s.variables) s.waiting, holders_append (suc k) s.temporaries s.variables, all_holders (suc k) h1, all_holders (suc k) h, nil_holders k h.variables nil, ap (holders (suc k)) none)) sane
+    omega (arith, ap (holders (suc k)) s.is, holders_append (suc k) (s.temporaries ++ s.variables) s.waiting, holders_append (suc k) s.temporaries s.variables, all_holders (suc k) h1, all_holders (suc k) h, nil_named h.variables nil k, ap (holders (suc k)) none)) sane
 
 -- the function that is left has no temporary, and of its variables the last one alone names something: that is a temporary of the one that runs again
 given_sane : {classes : List Class} (w : Waiter) (h : Held) (s : Splits w h.places) (r : ℕ) → h.temporaries ≡ [] → LastIs r h.variables → Sane classes h → Sane classes (given_back r (again w s (with_variables h [])))
@@ -247,8 +204,8 @@ given_sane w h s r none last sane =
     sane_moved h h1 refl refl (λ k.
     omega (arith, ap (holders (suc k)) s.is, holders_append (suc k) (s.temporaries ++ s.variables) s.waiting, holders_append (suc k) s.temporaries s.variables, all_holders (suc k) h1, all_holders (suc k) h, last_holders k r h.variables last, holders_head (suc k) r s.temporaries, holders_head (suc k) r [], ap (holders (suc k)) none)) sane
 
-left_sane : {classes : List Class} (h : Held) → h.temporaries ≡ [] → AllNil h.variables → Sane classes h → Sane classes (with_variables h [])
-left_sane h none nil sane = sane_moved h (with_variables h []) refl refl (λ k. omega (arith, all_holders (suc k) (with_variables h []), all_holders (suc k) h, nil_holders k h.variables nil)) sane
+left_sane : {classes : List Class} (h : Held) → h.temporaries ≡ [] → NilBut [] h.variables → Sane classes h → Sane classes (with_variables h [])
+left_sane h none nil sane = sane_moved h (with_variables h []) refl refl (λ k. omega (arith, all_holders (suc k) (with_variables h []), all_holders (suc k) h, nil_named h.variables nil k)) sane
 
 module _ (p : Program) (R : resolved.Program) where
   -- in a function that gives this
@@ -383,7 +340,7 @@ module _ (p : Program) (R : resolved.Program) where
   place_leads None none go h g = h refl
   place_leads (Some old) none go h g = g old refl
 
-  left_leads : (temporaries : List ℕ) (held : Held) (go : Held → Next State) → temporaries ≡ [] → AllNil held.variables → Leads (go (with_variables held [])) → Leads (on_left temporaries held go)
+  left_leads : (temporaries : List ℕ) (held : Held) (go : Held → Next State) → temporaries ≡ [] → NilBut [] held.variables → Leads (go (with_variables held [])) → Leads (on_left temporaries held go)
   left_leads [] held go none nil h = subst (λ b. Leads (only_if b (go (with_variables held [])))) (sym (nil_seen held.variables nil)) h
   left_leads (r ∷ others) held go none nil h = cc
 
@@ -409,7 +366,7 @@ module _ (p : Program) (R : resolved.Program) where
   last_leads r (q ∷ others) held go none last h = cc
 
   -- a function is left that gives a number
-  leaves_lead : (frames : List Frame) (below : ℕ) (deeper : List ℕ) (pc : ℕ) (v : ℤ) (stack rest : List ℤ) (held : Held) → Waits gives.Number frames below deeper held.places → Alive frames held.places held.self → length stack ≡ suc (length rest) → below ≡ length rest → held.names ≡ deeper → held.temporaries ≡ [] → AllNil held.variables → AllDying held.objects (ending frames) → Sane p.classes held → Runs frames
+  leaves_lead : (frames : List Frame) (below : ℕ) (deeper : List ℕ) (pc : ℕ) (v : ℤ) (stack rest : List ℤ) (held : Held) → Waits gives.Number frames below deeper held.places → Alive frames held.places held.self → length stack ≡ suc (length rest) → below ≡ length rest → held.names ≡ deeper → held.temporaries ≡ [] → NilBut [] held.variables → AllDying held.objects (ending frames) → Sane p.classes held → Runs frames
       → Leads (leaves p (at frames pc stack held) frames v rest (with_variables held []))
   leaves_lead [] below deeper pc v stack rest held waits alive size e f none nil dying sane running = tt
   leaves_lead (Calling back w ∷ others) below deeper pc v stack rest held waits alive size e f none nil dying sane running =
@@ -419,7 +376,7 @@ module _ (p : Program) (R : resolved.Program) where
       let more : below + 1 ≡ length stack = omega (arith, size, e) in
       let resumes = subst (λ l. Resumes mine back w.self others (length stack) waits.1 l waits.2 s.temporaries s.variables s.waiting) (sym f) (subst (λ n. Resumes mine back w.self others n waits.1 deeper waits.2 s.temporaries s.variables s.waiting) more waits.4) in
       subst (λ h1. Good (at others back stack h1)) (sym (resumes_again w h s))
-      (inl (record { mine = mine; below = waits.1; deeper = waits.2; resumes = resumes; waits = waits.5 }), dying, again_sane w h s none tt (left_sane held none nil sane))
+      (inl (record { mine = mine; below = waits.1; deeper = waits.2; resumes = resumes; waits = waits.5 }), dying, again_sane w h s none none_named (left_sane held none nil sane))
   leaves_lead (Ending back w o next left ∷ others) below deeper pc v stack rest held waits alive size e f none nil dying sane running =
       let frames = Ending back w o next left ∷ others in
       (inr (record { at_end = refl; is_ending = tt; none = none; empty = refl; alive = alive; waits = subst (λ l. Waits gives.Number frames (length rest) l held.places) (sym f) (subst (λ n. Waits gives.Number frames n deeper held.places) e waits) }), dying, left_sane held none nil sane)
@@ -656,7 +613,7 @@ module _ (p : Program) (R : resolved.Program) where
           let r = held.self in
           named_leads r _ _ self_there (takes nil ReadSelf g free (λ same. cc) r (r ∷ held.names) (r ∷ own) (ap (λ l. r ∷ l) o.is) self_there (last_held r (held.temporaries ++ waiting), all_more r own (held.temporaries ++ waiting) o.keeps) (omega arith) (omega (arith, size)) (omega arith) (omega arith))
       operation_leads (ReadRef i) is nil needs g free = found_leads held.variables i _ (omega (arith, many, needs)) (λ r found.
-          let there = variable_there held i r found o.sane in
+          let there = place_there held.objects i r held.variables found (variables_there held o.sane) in
           named_leads r _ _ there (takes nil (ReadRef i) g free (λ same. cc) r (r ∷ held.names) (r ∷ own) (ap (λ l. r ∷ l) o.is) there (last_held r (held.temporaries ++ waiting), all_more r own (held.temporaries ++ waiting) o.keeps) (omega arith) (omega (arith, size)) (omega arith) (omega arith)))
       operation_leads (ReadGlobal i) is nil needs g free =
           let r = name_at held.strong_globals i in
@@ -694,7 +651,7 @@ module _ (p : Program) (R : resolved.Program) where
           let shorter = ap length f.2 in
           reference_leads r held.names (f.1 ++ deeper) _ (top_is r f.1 f.2) (top_leads stack _ (omega (arith, count, needs.0)) (λ v rest e. field_leads class r held _ (is_held r (keeps_of r f.1 f.2).0) (λ j ob same found there.
           let fields = slice_set ob.fields index v in
-          let set : Sane p.classes (with_field held r ob index v) = subst (λ q. Sane p.classes (with_things held (with_object held.objects q (with_fields ob fields)))) (sym same) (sane_field held j ob fields found there o.sane) in
+          let set : Sane p.classes (with_field held r ob index v) = subst (λ q. Sane p.classes (with_things held (with_object held.objects q (with_fields ob fields)))) (sym same) (sane_field held j ob fields found o.sane) in
           refers nil (SetField class index) g free stack (with_names (with_field held r ob index v) (f.1 ++ deeper)) f.1 refl refl refl refl refl (keeps_of r f.1 f.2).1 (field_dies j ob fields r same found) (sane_names (with_field held r ob index v) (f.1 ++ deeper) set) (omega (arith, count, needs.0)) (omega (arith, size, shorter)) (omega arith) (omega arith))))
       operation_leads Differ is nil needs g free =
           let f = first_of own (omega (arith, needs, size)) in
@@ -972,7 +929,8 @@ module _ (p : Program) (R : resolved.Program) where
       order_leads Return is stands no_end nil ready st =
           let none = none_of held.temporaries (omega (arith, few, st.2)) in
           let clears : Clear 0 pc = (0, (Return, is, tt)) in
-          let empty = subst (λ g. Shut g 0 held.variables) st.3 (nil 0 clears) in
+          let shut = subst (λ g. Shut g 0 held.variables) st.3 (nil 0 clears) in
+          let empty : NilBut [] held.variables = λ i k named. shut i k (omega arith) (omega (arith, slice_get_within held.variables i (suc k) named)) named in
           top_leads stack _ (omega (arith, count, st.0)) (λ v rest e. left_leads held.temporaries held _ none empty
           (leaves_lead frames below deeper pc v stack rest held (subst (λ g. Waits g frames below deeper held.places) st.3 (subst (Waits mine frames below deeper) (sym o.places) waits)) (subst (λ l. Alive frames l held.self) (sym o.places) (subst (Alive frames waiting) (sym o.itself) alive)) e (omega (arith, count, st.0, e)) (o.is ∙ ap (λ l. l ++ deeper) (none_of own (omega (arith, size, st.1)))) none empty o.dying o.sane running))
       order_leads EndStep is stands no_end nil ready st = absurd (no_end refl)
@@ -980,8 +938,8 @@ module _ (p : Program) (R : resolved.Program) where
   -- ---- the end of an object
 
   module _ (classes : p.classes ≡ classes_linked R) (stack : List ℤ) (held : Held) (none : held.temporaries ≡ []) (empty : held.variables ≡ []) (sane : Sane p.classes held) where
-    no_variables : AllNil held.variables
-    no_variables = subst AllNil (sym empty) tt
+    no_variables : NilBut [] held.variables
+    no_variables = subst (NilBut []) (sym empty) none_named
 
     -- what waits for the end of this object
     abbrev Later : (back : ℕ) → Waiter → ℕ → List Frame → Type 0
@@ -1002,7 +960,7 @@ module _ (p : Program) (R : resolved.Program) where
         let h1 = with_things held objects in
         let h = with_variables h1 [] in
         let split = later.1 in
-        let sane1 = again_sane w h split none tt (left_sane h1 none no_variables (sane_gone held k ob found none_named e sane)) in
+        let sane1 = again_sane w h split none none_named (left_sane h1 none no_variables (sane_gone held k ob found none_named e sane)) in
         left_leads held.temporaries held _ none no_variables
         (subst (λ l. Good (at others back stack (resumed w (with_things (with_variables held []) l)))) (sym gone_is)
         (subst (λ q. Good (at others back stack q)) (sym (resumes_again w h split))
@@ -1033,7 +991,7 @@ module _ (p : Program) (R : resolved.Program) where
     after_lead back w (suc k) others frames dies dying alive later =
         let ob = dies.0 in
         subst Leads (sym (object_goes (object_at held.objects (suc k)) ob (λ x. clears p (at frames p.end_step stack held) back w (suc k) (field_order p.classes x.class) others) dies.1 (ap is_there dies.2)))
-        (clears_lead back w (suc k) others frames (field_order p.classes ob.class) ob dies.1 dies.2 (all_in_order p.classes ob (sane.sized k ob dies.1)) dying alive later)
+        (clears_lead back w (suc k) others frames (field_order p.classes ob.class) ob dies.1 dies.2 (all_in_order p.classes ob ((fits_at held k ob dies.1 sane).sized)) dying alive later)
 
     -- the next field lets go of what it names
     next_lead : (back : ℕ) (w : Waiter) (o index : ℕ) (fields : List ℕ) (others : List Frame) → IsDying held.objects o (Some (index ∷ fields)) → AllDying held.objects (ending others) → Alive (Clearing back w o (index ∷ fields) ∷ others) held.places held.self → Later back w o others
@@ -1075,7 +1033,7 @@ module _ (p : Program) (R : resolved.Program) where
               mine = gives.Number;
               below = length stack;
               deeper = held.names;
-              resumes = record { high = height 0 0 0 0; stands = g.0; count = omega arith; own = []; is = refl; size = refl; few = omega (arith, few); many = many; held = tt; nil = λ k c. nil_from_end held.variables k (omega (arith, many)); ready = inl g.2; alive = alive next left; running = tt };
+              resumes = record { high = height 0 0 0 0; stands = g.0; count = omega arith; own = []; is = refl; size = refl; few = omega (arith, few); many = many; held = tt; nil = λ k c. shut_end gives.Number held.variables k (omega (arith, many)); ready = inl g.2; alive = alive next left; running = tt };
               waits = later;
             }),
             dying next left,
@@ -1122,11 +1080,11 @@ module _ (p : Program) (R : resolved.Program) where
     step_leads s good = ⊎_elim (λ f. function_leads s f good.1 good.2) (λ f. end_leads s f good.1 good.2) good.0
 
     safe : (n : ℕ) (s : State) → Good s → Safe (step p) (λ t. Counted t.held) n s
-    safe zero s good = good.2.counted
+    safe zero s good = sane_counted s.held good.2
     safe (suc n) s good = along_map Good (Safe (step p) (λ t. Counted t.held) n) (safe n) (step p s) (step_leads s good)
 
     pub start_good : Good (start p)
-    start_good = (inl (record { mine = gives.Number; below = 0; deeper = []; resumes = record { high = height 0 0 0 0; stands = (start_goes R).0; count = refl; own = []; is = refl; size = refl; few = omega arith; many = refl; held = tt; nil = λ k c. nil_from_end [] k (omega arith); ready = inl (start_goes R).2; alive = nil_alive [] []; running = tt }; waits = tt }), tt, sane_start (with_globals nothing_held p.globals) p.strong_globals refl (sane_globals nothing_held p.globals nothing_sane))
+    start_good = (inl (record { mine = gives.Number; below = 0; deeper = []; resumes = record { high = height 0 0 0 0; stands = (start_goes R).0; count = refl; own = []; is = refl; size = refl; few = omega arith; many = refl; held = tt; nil = λ k c. shut_end gives.Number [] k (omega arith); ready = inl (start_goes R).2; alive = nil_alive [] []; running = tt }; waits = tt }), tt, sane_start (with_globals nothing_held p.globals) p.strong_globals refl (sane_globals nothing_held p.globals nothing_sane))
 
     -- the actions of a lowered program are never stuck, and their counts are right
     pub lowered_never_stuck : Sound (step p) (λ s. Counted s.held) (start p)

@@ -10,6 +10,7 @@ use Rattle.arc_lower.specs.Lowered.{lowered, entries_of, end_step_of, classes_li
 use Rattle.arc_lower.proofs.Safety.{Good, step_leads, start_good}
 use Rattle.arc_lower.proofs.Recounting.{fresh, recount, moves}
 use Rattle.arc_lower.proofs.Agreeing.{acts_agree}
+use Rattle.arc_lower.proofs.CountsKept.{sane_counted}
 
 abbrev pub freshened : Reached State → Reached State
 freshened (Running s i t) = Running (fresh s) i t
@@ -52,7 +53,7 @@ module _ (p : Program) (R : resolved.Program) (is : orders p.actions ≡ lowered
   steps_kept (suc n) r k = further_kept (after_steps (step p) n r) (steps_kept n r k)
 
   further_fresh : (r : Reached State) → Kept r → further (moves p) (freshened r) ≡ freshened (further (step p) r)
-  further_fresh (Running s i t) k = ap (λ next. follow next i t) (sym (acts_agree p s k.2.counted (slice_get p.actions s.at) k.1)) ∙ follow_fresh (step p s) i t
+  further_fresh (Running s i t) k = ap (λ next. follow next i t) (sym (acts_agree p s (sane_counted s.held k.2) (slice_get p.actions s.at) k.1)) ∙ follow_fresh (step p s) i t
   further_fresh _ k = refl
 
   steps_fresh : (n : ℕ) (r : Reached State) → Kept r → after_steps (moves p) n (freshened r) ≡ freshened (after_steps (step p) n r)

@@ -114,6 +114,7 @@ pub(crate) fn number_of(program: &Checked, wanted: Gives, function: usize) -> us
 }
 
 /// The number of the function that does nothing, and gives this.
+#[tactic(auto, using(crate::proofs::Rows::functions_length, std::proofs::lemmas::Grind::common_steps))]
 fn number_of_nothing(program: &Checked, wanted: Gives) -> usize
     ensures { result ≡ number_of_nothing (program_of program.now) wanted }
 {

@@ -17,6 +17,7 @@ use arc_spec::event::NoMemory;
 use arc_spec::location::Location;
 
 /// Appends actions that declare `count` variables that name objects.
+#[tactic(auto, using(crate::proofs::Rows::declares_more, std::proofs::lemmas::Grind::common_steps))]
 pub(crate) fn append_declares(actions: &mut Vec<Action>, count: usize) -> Result<(), NoMemory>
     ensures { OnOk result (orders actions.new.items ≡ orders actions.old.items ++ declare_orders count) }
 {
@@ -27,6 +28,7 @@ pub(crate) fn append_declares(actions: &mut Vec<Action>, count: usize) -> Result
 }
 
 /// Appends actions that take `count` references.
+#[tactic(auto, using(crate::proofs::Rows::forgets_more, std::proofs::lemmas::Grind::common_steps))]
 pub(crate) fn append_forgets(actions: &mut Vec<Action>, count: usize) -> Result<(), NoMemory>
     ensures { OnOk result (orders actions.new.items ≡ orders actions.old.items ++ forget_orders count) }
 {
@@ -37,6 +39,7 @@ pub(crate) fn append_forgets(actions: &mut Vec<Action>, count: usize) -> Result<
 }
 
 /// Appends actions that give `count` references to nil.
+#[tactic(auto, using(crate::proofs::Rows::nils_more, std::proofs::lemmas::Grind::common_steps))]
 pub(crate) fn append_nils(actions: &mut Vec<Action>, count: usize) -> Result<(), NoMemory>
     ensures { OnOk result (orders actions.new.items ≡ orders actions.old.items ++ nil_orders count) }
 {

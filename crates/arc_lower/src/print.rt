@@ -122,6 +122,7 @@ pub(crate) fn append_keep(actions: &mut Vec<Action>, count: usize) -> Result<(),
 }
 
 /// Appends actions that take `count` numbers.
+#[tactic(auto, using(crate::proofs::Rows::pops_more, std::proofs::lemmas::Grind::common_steps))]
 pub(crate) fn append_pops(actions: &mut Vec<Action>, count: usize) -> Result<(), NoMemory>
     ensures { OnOk result (orders actions.new.items ≡ orders actions.old.items ++ pop_orders count) }
 {

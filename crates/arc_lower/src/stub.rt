@@ -61,6 +61,7 @@ pub(crate) fn append_jump_to(
 
 /// Appends the stub of a function that is passed `count` numbers and `objects` objects, and raises the
 /// greatest height to its.
+#[tactic(auto, using(crate::proofs::Appended::slice_after, std::proofs::lemmas::Grind::common_steps))]
 fn append_stub(
     alloc: Global,
     actions: &mut Vec<Action>,
@@ -156,6 +157,7 @@ fn append_dealloc(
 }
 
 /// Appends the stubs of a class, and raises the greatest height to theirs. Gives the class, whose dealloc and methods run their stubs.
+#[tactic(auto, using(crate::proofs::Laying::raised_append, std::proofs::lemmas::Grind::common_steps))]
 fn append_class(
     alloc: Global,
     actions: &mut Vec<Action>,

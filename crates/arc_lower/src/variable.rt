@@ -102,6 +102,7 @@ fn append_set_local(
 }
 
 /// Appends actions that put 0 on the stack `count` times.
+#[tactic(auto, using(crate::proofs::Rows::zeros_more, std::proofs::lemmas::Grind::common_steps))]
 pub(crate) fn append_zeros(actions: &mut Vec<Action>, count: usize) -> Result<(), NoMemory>
     ensures { OnOk result (orders actions.new.items ≡ orders actions.old.items ++ zero_orders count) }
 {
