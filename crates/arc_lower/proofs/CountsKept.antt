@@ -54,20 +54,20 @@ tally_there objects k (suc j) there some = ⊎_elim
     (λ ne. absurd (omega (arith, tally_other (suc k) (suc j) (λ e. ne (omega (arith, e))), some)))
     (cases_eq k j)
 
+right_there : (classes : List Class) (n : ℕ) (found : Option Object) → Right classes n found → 0 < n → (o : Object) × (found ≡ Some o) × (is_there o.phase ≡ true)
+right_there classes n None right some = absurd (omega (arith, right, some))
+right_there classes n (Some o) right some = (o, refl, right.there some)
+
+right_more : (classes : List Class) (t n : ℕ) (found : Option Object) → (0 < t → ThereAt found) → Right classes n found → Right classes (t + n) found
+right_more classes zero n found there right = let e : n ≡ 0 + n = omega arith in subst (λ m. Right classes m found) e right
+right_more classes (suc t) n None there right = absurd (there (omega arith))
+right_more classes (suc t) n (Some o) there right = record { there = λ some. there (omega arith); held = λ live. omega arith; sized = right.sized }
+
+right_less : (classes : List Class) (m n : ℕ) (found : Option Object) → m ≤ n → ((o : Object) → found ≡ Some o → o.phase ≡ Live → 0 < m) → Right classes n found → Right classes m found
+right_less classes m n None less live right = omega (arith, less, right)
+right_less classes m n (Some o) less live right = record { there = λ some. right.there (omega (arith, less, some)); held = live o refl; sized = right.sized }
+
 module _ {classes : List Class} where
-  right_there : (n : ℕ) (found : Option Object) → Right classes n found → 0 < n → (o : Object) × (found ≡ Some o) × (is_there o.phase ≡ true)
-  right_there n None right some = absurd (omega (arith, right, some))
-  right_there n (Some o) right some = (o, refl, right.there some)
-
-  right_more : (t n : ℕ) (found : Option Object) → (0 < t → ThereAt found) → Right classes n found → Right classes (t + n) found
-  right_more zero n found there right = right
-  right_more (suc t) n None there right = absurd (there (omega arith))
-  right_more (suc t) n (Some o) there right = record { there = λ some. there (omega arith); held = λ live. omega arith; sized = right.sized }
-
-  right_less : (m n : ℕ) (found : Option Object) → m ≤ n → ((o : Object) → found ≡ Some o → o.phase ≡ Live → 0 < m) → Right classes n found → Right classes m found
-  right_less m n None less live right = omega (arith, less, right)
-  right_less m n (Some o) less live right = record { there = λ some. right.there (omega (arith, less, some)); held = live o refl; sized = right.sized }
-
   -- what is found fits its count
   pub fits_at : {also : List ℕ} (h : Held) (k : ℕ) (o : Object) → slice_get h.objects k ≡ Some o → Keeps classes also h → Fits classes (h.counts (suc k)) o
   fits_at h k o found c = subst (Right classes (h.counts (suc k))) found (c.right k)
@@ -78,7 +78,7 @@ module _ {classes : List Class} where
   -- ---- what places name
 
   named_there : (h : Held) (places : List ℕ) → ((k : ℕ) → 0 < holders (suc k) places → 0 < holders (suc k) (all_places h)) → Sane classes h → AllThere h.objects places
-  named_there h places few c k some = right_there (h.counts (suc k)) (slice_get h.objects k) (c.right k) (omega (arith, few k some, c.counted k))
+  named_there h places few c k some = right_there classes (h.counts (suc k)) (slice_get h.objects k) (c.right k) (omega (arith, few k some, c.counted k))
 
   -- what variables name is there, and what the places of those that wait, those of all functions, and the variables of the whole program do
   pub variables_there : (h : Held) → Sane classes h → AllThere h.objects h.variables
@@ -102,7 +102,7 @@ module _ {classes : List Class} where
   -- what is dropped is there
   pub drops_there : (r : ℕ) (h : Held) → Drops classes r h → IsThere h.objects r
   drops_there zero h c = tt
-  drops_there (suc k) h c = right_there (h.counts (suc k)) (slice_get h.objects k) (c.right k) (omega (arith, c.counted k, holders_head (suc k) (suc k) (all_places h), tally_same (suc k)))
+  drops_there (suc k) h c = right_there classes (h.counts (suc k)) (slice_get h.objects k) (c.right k) (omega (arith, c.counted k, holders_head (suc k) (suc k) (all_places h), tally_same (suc k)))
 
   -- ---- places, where no object changes
 
@@ -111,7 +111,7 @@ module _ {classes : List Class} where
       → ((k : ℕ) → holders (suc k) (also1 ++ all_places h1) ≡ tally (suc k) r + holders (suc k) (also ++ all_places h)) → Keeps classes also h → Keeps classes also1 h1
   gains h h1 r objects there counts places c = record {
     counted = λ k. omega (arith, counts k, places k, c.counted k);
-    right = λ k. subst (λ l. Right classes (h1.counts (suc k)) (slice_get l k)) (sym objects) (subst (λ n. Right classes n (slice_get h.objects k)) (sym (counts k)) (right_more (tally (suc k) r) (h.counts (suc k)) (slice_get h.objects k) (tally_there h.objects k r there) (c.right k)));
+    right = λ k. subst (λ l. Right classes (h1.counts (suc k)) (slice_get l k)) (sym objects) (subst (λ n. Right classes n (slice_get h.objects k)) (sym (counts k)) (right_more classes (tally (suc k) r) (h.counts (suc k)) (slice_get h.objects k) (tally_there h.objects k r there) (c.right k)));
   }
 
   -- the same places, of another function
@@ -215,7 +215,7 @@ module _ {classes : List Class} where
   lowers : (r : ℕ) (h : Held) → ((k : ℕ) (o : Object) → slice_get h.objects k ≡ Some o → o.phase ≡ Live → 0 < (lowered r h).counts (suc k)) → Drops classes r h → Sane classes (lowered r h)
   lowers r h live c = record {
     counted = λ k. omega (arith, lowered_count r h (suc k), holders_head (suc k) r (all_places h), c.counted k);
-    right = λ k. right_less ((lowered r h).counts (suc k)) (h.counts (suc k)) (slice_get h.objects k) (omega (arith, lowered_count r h (suc k))) (live k) (c.right k);
+    right = λ k. right_less classes ((lowered r h).counts (suc k)) (h.counts (suc k)) (slice_get h.objects k) (omega (arith, lowered_count r h (suc k))) (live k) (c.right k);
   }
 
   pub sane_nil : (h : Held) → Drops classes 0 h → Sane classes (lowered 0 h)

@@ -57,8 +57,8 @@ shut_set mine n variables h i k above lt named = ⊎_elim
     (λ ne. h i k (omega (arith, above, ne)) (omega (arith, lt, length-set variables n 0)) (sym (set_other variables n i 0 ne) ∙ named))
     (cases_eq i n)
 
-none_named : NilBut [] []
-none_named i k e = cc
+no_names : NilBut [] []
+no_names i k e = cc
 
 -- all but the last one are nil, and that names this
 abbrev LastIs : ℕ → List ℕ → Type 0
@@ -376,7 +376,7 @@ module _ (p : Program) (R : resolved.Program) where
       let more : below + 1 ≡ length stack = omega (arith, size, e) in
       let resumes = subst (λ l. Resumes mine back w.self others (length stack) waits.1 l waits.2 s.temporaries s.variables s.waiting) (sym f) (subst (λ n. Resumes mine back w.self others n waits.1 deeper waits.2 s.temporaries s.variables s.waiting) more waits.4) in
       subst (λ h1. Good (at others back stack h1)) (sym (resumes_again w h s))
-      (inl (record { mine = mine; below = waits.1; deeper = waits.2; resumes = resumes; waits = waits.5 }), dying, again_sane w h s none none_named (left_sane held none nil sane))
+      (inl (record { mine = mine; below = waits.1; deeper = waits.2; resumes = resumes; waits = waits.5 }), dying, again_sane w h s none no_names (left_sane held none nil sane))
   leaves_lead (Ending back w o next left ∷ others) below deeper pc v stack rest held waits alive size e f none nil dying sane running =
       let frames = Ending back w o next left ∷ others in
       (inr (record { at_end = refl; is_ending = tt; none = none; empty = refl; alive = alive; waits = subst (λ l. Waits gives.Number frames (length rest) l held.places) (sym f) (subst (λ n. Waits gives.Number frames n deeper held.places) e waits) }), dying, left_sane held none nil sane)
@@ -939,7 +939,7 @@ module _ (p : Program) (R : resolved.Program) where
 
   module _ (classes : p.classes ≡ classes_linked R) (stack : List ℤ) (held : Held) (none : held.temporaries ≡ []) (empty : held.variables ≡ []) (sane : Sane p.classes held) where
     no_variables : NilBut [] held.variables
-    no_variables = subst (NilBut []) (sym empty) none_named
+    no_variables = subst (NilBut []) (sym empty) no_names
 
     -- what waits for the end of this object
     abbrev Later : (back : ℕ) → Waiter → ℕ → List Frame → Type 0
@@ -960,7 +960,7 @@ module _ (p : Program) (R : resolved.Program) where
         let h1 = with_things held objects in
         let h = with_variables h1 [] in
         let split = later.1 in
-        let sane1 = again_sane w h split none none_named (left_sane h1 none no_variables (sane_gone held k ob found none_named e sane)) in
+        let sane1 = again_sane w h split none no_names (left_sane h1 none no_variables (sane_gone held k ob found none_named e sane)) in
         left_leads held.temporaries held _ none no_variables
         (subst (λ l. Good (at others back stack (resumed w (with_things (with_variables held []) l)))) (sym gone_is)
         (subst (λ q. Good (at others back stack q)) (sym (resumes_again w h split))

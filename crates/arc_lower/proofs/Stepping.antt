@@ -407,16 +407,15 @@ module _ (R : resolved.Program) (all : List Order) (table : List (Height × Give
             let at_message : Stands given (pc + 1) one = record { height = f.2.0; order = message; is = f.2.1; no_end = λ same. subst IsMessage same tt } in
             let at_settle : Stands given (pc + 1 + 1) two = record { height = f.2.2.0; order = Settle; is = f.2.2.1; no_end = λ same. subst IsSettle same tt } in (
               opens_goes pc h (Plain Alloc) tt f.0 f.1,
-              ((h, given), f.0, (t.0, (at_message, λ k c. absurd (message_clears (pc + 1) f.2.1 k c)), inr (refl, λ y e settles. subst IsSettle (some_same y message (sym e ∙ f.2.1)) settles))),
-              (((one, given), f.2.0, ((omega arith, omega arith), (at_settle, λ k c. absurd (settle_clears (pc + 1 + 1) f.2.2.1 k c)), inr (refl, refl, refl, f.2.2.1))), (((two, given), f.2.2.0, subst (Goes given (pc + 1 + 1 + 1)) (sym t.1) (subst (λ n. Goes given n g) size end)), tt)),
+              (((h, given), f.0, (t.0, (at_message, λ k c. absurd (message_clears (pc + 1) f.2.1 k c)), inr (refl, λ y e settles. subst IsSettle (some_same y message (sym e ∙ f.2.1)) settles))),
+              (((one, given), f.2.0, ((omega arith, omega arith), (at_settle, λ k c. absurd (settle_clears (pc + 1 + 1) f.2.2.1 k c)), inr (refl, refl, refl, f.2.2.1))), (((two, given), f.2.2.0, subst (Goes given (pc + 1 + 1 + 1)) (sym t.1) (subst (λ n. Goes given n g) size end)), tt))),
             )
         block_steps e turn l statement (IfNew class x y) h g pc pending here ways keeps t f end = either (has_new R class) (block_steps e turn l statement x h g pc pending here ways keeps) (block_steps e turn l statement y h g pc pending here ways keeps) t f end
           where
-            abbrev Of : Block → Type 0
-            Of z = Block_types l statement h z g → Row base pc (walk h pending) (orders e z) → Goes given (pc + length (orders e z)) g → Goes given pc h × AllStep pc (orders e z)
-
-            either : (b : Bool) → Of x → Of y → ByTest b (Block_types l statement h x g) (Block_types l statement h y g) → Row base pc (walk h pending) (if b then orders e x else orders e y)
-                → Goes given (pc + length (if b then orders e x else orders e y)) g → Goes given pc h × AllStep pc (if b then orders e x else orders e y)
+            either : (b : Bool) → (Block_types l statement h x g → Row base pc (walk h pending) (orders e x) → Goes given (pc + length (orders e x)) g → Goes given pc h × AllStep pc (orders e x))
+                → (Block_types l statement h y g → Row base pc (walk h pending) (orders e y) → Goes given (pc + length (orders e y)) g → Goes given pc h × AllStep pc (orders e y))
+                → ByTest b (Block_types l statement h x g) (Block_types l statement h y g) → Row base pc (walk h pending) (if b then orders e x else orders e y) → Goes given (pc + length (if b then orders e x else orders e y)) g
+                → Goes given pc h × AllStep pc (if b then orders e x else orders e y)
             either true first second u = first u
             either false first second u = second u
         block_steps e turn l statement (Then x y) h g pc pending here ways keeps t f end =
@@ -454,8 +453,7 @@ module _ (R : resolved.Program) (all : List Order) (table : List (Height × Give
             let first = block_steps inner turn l statement x i m one (i ∷ pending) (λ s. ap (past 1) (here s)) ways more t.4 (row_front base one (walk i (i ∷ pending)) xs rest inside) (opens_goes (one + length xs) m over tt after.2.0 after.2.1) in
             let chosen = subst (λ n. Goes given one n × Leads given (lands pc to) n) (sym t.2.left) (first.0, (t.1, t.2.first, subst (λ q. Goes given q j) there second.0)) in (
               opens_goes pc h (JumpZero to) tt f.0 f.1,
-              ((h, given), f.0, (t.2.some, chosen.0, chosen.1)),
-              step_then one xs rest first.1 (((m, given), after.2.0, (g.temporaries, t.2.next, last)), second.1),
+              (((h, given), f.0, (t.2.some, chosen.0, chosen.1)), step_then one xs rest first.1 (((m, given), after.2.0, (g.temporaries, t.2.next, last)), second.1)),
             )
         block_steps e turn l true (Loop entry z x y) h g pc pending here ways keeps t f end =
             let begin = past (enter_size entry) e in
@@ -505,11 +503,11 @@ module _ (R : resolved.Program) (all : List Order) (table : List (Height × Give
             let goes = subst (λ n. Goes given n test) (sym (ap (λ e. (turn_at e).out) (here refl))) (ways t.1).0 in
             let up : next_height R (Plain (Num (pos 0))) base ≡ test = heights_same _ _ _ _ (suc slots) 0 0 names (omega arith) (omega arith) (omega arith) (omega arith) in
             let next = opens_goes (pc + 1) _ (Jump (At (turn_at e).out)) tt f.2.0 f.2.1 in
-            (opens_goes pc h (Plain (Num (pos 0))) tt f.0 f.1, ((h, given), f.0, (tt, (next.0, λ k c. inr (next.1 k c)), inl next.2)), (((next_height R (Plain (Num (pos 0))) h, given), f.2.0, subst (λ n. Leads given (turn_at e).out n) (sym (ap (next_height R (Plain (Num (pos 0)))) t.2 ∙ up)) (0, omega arith, goes)), tt))
+            (opens_goes pc h (Plain (Num (pos 0))) tt f.0 f.1, (((h, given), f.0, (tt, (next.0, λ k c. inr (next.1 k c)), inl next.2)), (((next_height R (Plain (Num (pos 0))) h, given), f.2.0, subst (λ n. Leads given (turn_at e).out n) (sym (ap (next_height R (Plain (Num (pos 0)))) t.2 ∙ up)) (0, omega arith, goes)), tt)))
         block_steps e turn l true Advance h g pc pending here ways keeps t f end =
             let goes = subst (λ n. Goes given n base) (sym (ap (λ e. (turn_at e).begin) (here refl))) (ways t.1).1 in
-            (opens_goes pc h (Jump (At (turn_at e).begin)) tt f.0 f.1, ((h, given), f.0, subst (λ n. Leads given (turn_at e).begin n) (sym t.2) (0, omega arith, goes)), tt)
-        block_steps e turn l true (Leave to) h g pc pending here ways keeps t f end = (opens_goes pc h (Jump (At to)) tt f.0 f.1, ((h, given), f.0, subst (λ n. Leads given to n) (sym t.2) (0, omega arith, subst (λ q. Goes given q test) (sym t.1) leaves)), tt)
+            (opens_goes pc h (Jump (At (turn_at e).begin)) tt f.0 f.1, (((h, given), f.0, subst (λ n. Leads given (turn_at e).begin n) (sym t.2) (0, omega arith, goes)), tt))
+        block_steps e turn l true (Leave to) h g pc pending here ways keeps t f end = (opens_goes pc h (Jump (At to)) tt f.0 f.1, (((h, given), f.0, subst (λ n. Leads given to n) (sym t.2) (0, omega arith, subst (λ q. Goes given q test) (sym t.1) leaves)), tt))
         block_steps e turn l false (Loop entry z x y) h g pc pending here ways keeps t f end = absurd (true≢false (sym t.0))
         block_steps e turn l false Quit h g pc pending here ways keeps t f end = absurd (true≢false (sym t.0))
         block_steps e turn l false Advance h g pc pending here ways keeps t f end = absurd (true≢false (sym t.0))
