@@ -20,20 +20,15 @@ use Rattle.arc_code.specs.declared.instr.Instr.TheVariants.{Call, Jump, EndStep}
 use Rattle.arc_ir.specs.declared.action.Target.TheVariants as target
 use Rattle.arc_code.specs.Effects.{passes}
 use Rattle.arc_lower.specs.Lowered.{number_of, slots_of, parameters_of, entry_of, entries_of, passing_orders, leave_orders, body_orders}
-use Rattle.arc_lower.proofs.CountsPlaces.{no_one, there_fields, raised_count, field_moves}
-use Rattle.arc_lower.proofs.CountsThere.{set_here}
-use Rattle.arc_lower.proofs.Leading.{Leads, leads_same, leads_trans, leads_step, Runs, leads_runs, ends_here, then_runs, better_runs}
-use Rattle.arc_lower.proofs.Recounting.{recounted, recount, moves, at, counting, held_of, resumed_as}
-use Rattle.arc_lower.proofs.Doing.{HasAt, has_front, has_back}
-use Rattle.arc_lower.proofs.Segments.{running, quiet}
-use Rattle.arc_lower.proofs.Stacking.{onto}
+use Rattle.arc_lower.proofs.CountsPlaces.{no_one, there_fields, raised_count, field_moves, set_here}
+use Rattle.arc_lower.proofs.Leading.{Leads, leads_same, leads_trans, leads_step, Runs, leads_runs, ends_here, then_runs, better_runs, running, quiet}
+use Rattle.arc_lower.proofs.Doing.{recounted, recount, moves, at, counting, held_of, resumed_as, HasAt, has_front, has_back}
+use Rattle.arc_lower.proofs.Stacking.{onto, first_length, passing_leads}
 use Rattle.arc_lower.proofs.Shaping.{then_twice}
-use Rattle.arc_lower.proofs.Fitting.{first_length, passing_leads}
 use Rattle.arc_lower.proofs.Releasing.{Kept, kept_trans, Ends, laid, dying_in, object_runs, there_runs, place_runs, lets_runs}
 use Rattle.arc_lower.proofs.Running.{after_call, Returns, answered, Deep, past_end, same_put}
 use Rattle.arc_lower.proofs.Leaving.{leaving, Left, function_runs}
-use Rattle.arc_lower.proofs.Linking.{Begins, call_enters, function_gives}
-use Rattle.arc_lower.proofs.Finding.{Stub, Meets, Same, Linked, lookup_meets, descent_same, fields_same, strong_fields_same, order_same, found_same}
+use Rattle.arc_lower.proofs.Linking.{Begins, call_enters, function_gives, Stub, Meets, Same, Linked, lookup_meets, descent_same, fields_same, strong_fields_same, order_same, found_same}
 
 then_thrice : {A B C E : Type 0} (o : Outcome A) (f : A → World → Outcome B) (g : B → World → Outcome C) (h : C → World → Outcome E) → then_do o (λ a w. then_do (then_do (f a w) g) h) ≡ then_do (then_do (then_do o f) g) h
 then_thrice (Done a w) f g h = refl

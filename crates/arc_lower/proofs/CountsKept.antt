@@ -5,8 +5,7 @@ use Rattle.std.proofs.lemmas.List.{length-set}
 use Rattle.arc_spec.specs.Classes.{Class, strong_count}
 use Rattle.arc_spec.specs.Objects.{Object, Live, Dying, Emptying, Gone, nils, object_at, with_object, in_phase, with_fields, with_strong_fields, is_live, is_there, new_object, fields_of, field_places}
 use Rattle.arc_spec.specs.Holding.{Held, nothing_held, Counted, holders, all_places, with_temporaries, with_variables, with_names, with_things, with_globals, with_strong_globals, raised, lowered, taken_by, makes, count_of, entered, stacked}
-use Rattle.arc_lower.proofs.CountsPlaces.{tally, tally_nil, tally_same, tally_other, holders_head, holders_nil, holders_append, all_holders, raised_count, lowered_count, there_fields, fields_set, fields_made, nils_holders, same_fields, variable_moves, global_moves, field_moves, last_moves, second_moves}
-use Rattle.arc_lower.proofs.CountsThere.{IsThere, AllThere, set_here, set_other, get_new, get_other}
+use Rattle.arc_lower.proofs.CountsPlaces.{tally, tally_nil, tally_same, tally_other, holders_head, holders_nil, holders_append, all_holders, raised_count, lowered_count, there_fields, fields_set, fields_made, nils_holders, same_fields, variable_moves, global_moves, field_moves, last_moves, second_moves, IsThere, AllThere, set_here, set_other, get_new, get_other}
 
 -- ---- objects and their counts
 

@@ -17,10 +17,8 @@ use Rattle.arc_code.specs.declared.instr.Instr.TheVariants.{DropAll, Settle, Emp
 use Rattle.arc_lower.specs.Order.{Order}
 use Rattle.arc_lower.specs.Lowered.{empty_orders, all_empty_orders}
 use Rattle.arc_lower.proofs.CountsPlaces.{tally_same, holders_head, last_one, raised_count, lowered_count, variable_moves, global_moves, field_moves, second_moves}
-use Rattle.arc_lower.proofs.Leading.{Runs, stuck_runs, ends_here, then_at, better_runs}
-use Rattle.arc_lower.proofs.Recounting.{recount, moves, at, counting, held_of}
-use Rattle.arc_lower.proofs.Doing.{bare, HasAt, has_front, has_back}
-use Rattle.arc_lower.proofs.Segments.{running, one_runs, quiet_runs}
+use Rattle.arc_lower.proofs.Leading.{Runs, stuck_runs, ends_here, then_at, better_runs, running, one_runs, quiet_runs}
+use Rattle.arc_lower.proofs.Doing.{recount, moves, at, counting, held_of, bare, HasAt, has_front, has_back}
 
 -- the places of the functions are as they were
 pub record Kept (w w1 : World) : Type 0 where

@@ -29,11 +29,9 @@ use Rattle.arc_code.specs.Instructions as instructions
 use Rattle.arc_lower.specs.Order.{Order, order, orders}
 use Rattle.arc_lower.specs.Lowered.{slots_of, parameters_of, entries_of, end_step_of, lowered as lowered_orders, classes_linked}
 use Rattle.arc_lower.specs.Heights.{height, next_height}
-use Rattle.arc_lower.proofs.CountsThere.{IsThere, AllThere, place_there, name_there, object_goes, named_goes, set_here, set_same, set_other}
+use Rattle.arc_lower.proofs.CountsPlaces.{IsThere, AllThere, place_there, name_there, object_goes, named_goes, set_here, set_same, set_other, holders_head, holders_nil, holders_append, all_holders, live_there, there_fields}
 use Rattle.arc_lower.proofs.CountsKept.{Sane, Drops, nothing_sane, sane_moved, sane_names, sane_globals, sane_start, sane_entered, sane_take, sane_declare, fits_at, sane_counted, variables_there, waiting_there, stacked_there, globals_there, fields_there, sane_store, sane_store_global, sane_store_field, sane_drop, sane_settle, drops_there, sane_nil, sane_last, sane_other, sane_make, sane_field, sane_empty, sane_gone}
-use Rattle.arc_lower.proofs.CountsPlaces.{holders_head, holders_nil, holders_append, all_holders, live_there, there_fields}
-use Rattle.arc_lower.proofs.Recounting.{at, resumed_as}
-use Rattle.arc_lower.proofs.Doing.{bare, does, acts_does}
+use Rattle.arc_lower.proofs.Doing.{at, resumed_as, bare, does, acts_does}
 use Rattle.arc_lower.proofs.Standing.{no_nil, ending, AllDying, IsDying, NilBut, Alive, nil_alive, ends_there, ending_alive, IsHeld, last_held, held_there, held_within, made_dying, changed_dying, IsApart, live_apart, apart_dying, stored_far, fields_far, one_nil, no_field, nil_named, all_in_order}
 use Rattle.arc_lower.proofs.Typing.{Reaches, IsCalled}
 use Rattle.arc_lower.proofs.Stacking.{after_one}

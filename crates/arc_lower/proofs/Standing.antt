@@ -5,8 +5,7 @@ use Rattle.std.proofs.lemmas.Option.{none-some, slice_get_within}
 use Rattle.arc_spec.specs.Classes.{Class, lesser, numbers_from, order_of_fields, strong_count, strong_counts, ancestry, superclasses, above_class, field_order}
 use Rattle.arc_spec.specs.Objects.{Object, Phase, Dying, Emptying, object_at, in_phase, with_fields, with_strong_fields, is_live, is_emptying}
 use Rattle.arc_spec.specs.Holding.{Frame, Calling, Ending, Clearing, Waiter, holders, is_there}
-use Rattle.arc_lower.proofs.CountsPlaces.{tally_same, holders_head, holders_append, holders_nil}
-use Rattle.arc_lower.proofs.CountsThere.{IsThere, AllThere, set_other, set_same, set_here, get_first}
+use Rattle.arc_lower.proofs.CountsPlaces.{tally_same, holders_head, holders_append, holders_nil, IsThere, AllThere, set_other, set_same, set_here, get_first}
 
 -- an end that is running: of this object, and which fields are still to be destroyed, where they are being
 pub record End : Type 0 where

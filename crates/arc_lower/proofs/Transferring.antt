@@ -1,16 +1,302 @@
--- Runs of a lowered program show what they show where each count is the number of places.
-use Rattle.std.proofs.Common.{◌≡◌, ℕ, zero, suc, List, [], ◌∷◌, Option, Some, None, slice_get, refl, sym, ap, ◌∙◌}
-use Rattle.arc_spec.specs.declared.event.Event.{Event}
-use Rattle.arc_spec.specs.Stepping.{Next, Asks, Ends, Faults, Reached, Running, Ended, Faulted, Wedged, Along, fed, follow, further, after_steps}
-use Rattle.arc_spec.specs.Correct.{run_seen}
+-- A step shows the same and leads to the same, whatever is counted for nil, where each count is the number of places.
+use Rattle.std.proofs.Common.{◌≡◌, ℕ, zero, suc, ◌+◌, ◌-◌, Bool, true, false, ◌&&◌, nat_eq, if◌then◌else◌, ℤ, List, [], ◌∷◌, ◌++◌, take, drop, Option, Some, None, slice_get, slice_set, refl, ap, ◌∙◌, ◌≤◌, sym}
+use Rattle.arc_ast.specs.declared.tree.Sign.TheVariants as signs
+use Rattle.arc_spec.specs.declared.event.Fault.TheVariants.{Resurrected}
+use Rattle.arc_spec.specs.declared.class.Gives.{Gives}
+use Rattle.arc_spec.specs.declared.class.Gives.TheVariants as gives
+use Rattle.arc_spec.specs.Classes.{Class, class_at, lookup, is_root_init, descends, field_order}
+use Rattle.arc_spec.specs.World.{name_at}
+use Rattle.arc_spec.specs.Number.{combined, is_zero}
+use Rattle.arc_spec.specs.Meaning.{chosen}
+use Rattle.arc_spec.specs.Objects.{Object, Dying, object_at, with_object, in_phase, is_live, is_emptying}
+use Rattle.arc_spec.specs.Stepping.{Next, Goes, Faults, on_top, on_two, on_found, only_if, Asks, Ends, Reached, Running, Ended, Faulted, Wedged, Along, fed, follow, further, after_steps}
+use Rattle.arc_spec.specs.Holding.{Held, Frame, Calling, Ending, Clearing, Waiter, with_strong_globals, with_strong_field, on_place, Counted, holders, all_places, is_there, all_nil, with_things, with_temporaries, with_variables, on_object, on_named, on_reference, named, declares, lets_go, on_left, on_last, on_result, on_field, with_names, resumed, gone_in}
+use Rattle.arc_ir.specs.Acting.{Action, linked, Program, State, entry, or_fault, keeps, has_level, enters, answers, taken, sends, begins_end, releases, drops_all, ends_object, runs_dealloc, clears, after_deallocs, clears_next, ends_class, end_goes_on, leaves, allocates, executes, IsSound, start, step, seen}
+use Rattle.arc_code.specs.Instructions as instructions
+use Rattle.arc_code.specs.declared.instr.Op.TheVariants as ops
+use Rattle.arc_code.specs.declared.instr.Op.TheVariants.{Bin, Un, Narrow, Pop, Get, Set, PrintNum, PrintByte, Declare, ReadSelf, ReadRef, ReadGlobal, ReadField, Hold, Forget, Alloc, Finds, GetField, SetField, Differ, IsObject}
+use Rattle.arc_code.specs.declared.instr.Instr.TheVariants.{Plain, PrintText, JumpZero, Call, Send, SendSuper, SendTo, SendToSuper, StoreStrong, StoreGlobal, StoreField, Empty, DropAll, Settle, Give, Return, EndStep}
+use Rattle.arc_lower.proofs.Standing.{ending, AllDying, no_nil}
+use Rattle.arc_lower.proofs.Doing.{fresh, recount, at, moves}
 use Rattle.arc_spec.specs.Resolved as resolved
-use Rattle.arc_ir.specs.Acting.{Program, State, start, step, seen}
+use Rattle.arc_code.specs.Effects.{room_for, NeverHasMore}
+use Rattle.arc_code.proofs.HeightsKept.{never_more, sound_with_room}
 use Rattle.arc_lower.specs.Order.{orders}
 use Rattle.arc_lower.specs.Lowered.{lowered, entries_of, end_step_of, classes_linked}
-use Rattle.arc_lower.proofs.Safety.{Good, step_leads, start_good}
-use Rattle.arc_lower.proofs.Recounting.{fresh, recount, moves}
-use Rattle.arc_lower.proofs.Agreeing.{acts_agree}
+use Rattle.arc_lower.specs.Heights.{greatest_height, places_in, height_at, result_at}
+use Rattle.arc_lower.proofs.HeightsFit.{heights_fit}
+use Rattle.arc_lower.proofs.Safety.{lowered_never_stuck, Good, step_leads, start_good}
+use Rattle.arc_spec.specs.declared.event.Event.{Event}
+use Rattle.arc_spec.specs.Correct.{run_seen}
 use Rattle.arc_lower.proofs.CountsKept.{sane_counted}
+
+-- two steps lead to the same but for counts
+abbrev Agree : Next State → Next State → Type 0
+Agree a b = recount a ≡ recount b
+
+-- what is held, with other counts
+abbrev counted_by : Held → (ℕ → ℕ) → Held
+counted_by h counts = record h { counts = counts }
+
+-- no object is counted otherwise
+abbrev Same : (ℕ → ℕ) → (ℕ → ℕ) → Type 0
+Same c d = (k : ℕ) → c (suc k) ≡ d (suc k)
+
+top_agrees : (stack : List ℤ) (go go' : ℤ → List ℤ → Next State) → ((v : ℤ) (rest : List ℤ) → Agree (go v rest) (go' v rest)) → Agree (on_top stack go) (on_top stack go')
+top_agrees [] go go' h = refl
+top_agrees (v ∷ rest) go go' h = h v rest
+
+two_agree : (stack : List ℤ) (go go' : ℤ → ℤ → List ℤ → Next State) → ((v u : ℤ) (rest : List ℤ) → Agree (go v u rest) (go' v u rest)) → Agree (on_two stack go) (on_two stack go')
+two_agree (v ∷ u ∷ rest) go go' h = h v u rest
+two_agree _ go go' h = refl
+
+found_agrees : {A : Type 0} (found : Option A) (go go' : A → Next State) → ((a : A) → found ≡ Some a → Agree (go a) (go' a)) → Agree (on_found found go) (on_found found go')
+found_agrees None go go' h = refl
+found_agrees (Some a) go go' h = h a refl
+
+only_agrees : (b : Bool) (a a' : Next State) → Agree a a' → Agree (only_if b a) (only_if b a')
+only_agrees true a a' h = h
+only_agrees false a a' h = refl
+
+object_agrees : (found : Option Object) (go go' : Object → Next State) → ((o : Object) → Agree (go o) (go' o)) → Agree (on_object found go) (on_object found go')
+object_agrees None go go' h = refl
+object_agrees (Some o) go go' h = only_agrees (is_there o.phase) (go o) (go' o) (h o)
+
+reference_agrees : (names : List ℕ) (go go' : ℕ → List ℕ → Next State) → ((r : ℕ) (rest : List ℕ) → Agree (go r rest) (go' r rest)) → Agree (on_reference names go) (on_reference names go')
+reference_agrees [] go go' h = refl
+reference_agrees (r ∷ rest) go go' h = h r rest
+
+if_agrees : (b : Bool) (x y x' y' : Next State) → Agree x x' → Agree y y' → Agree (if b then x else y) (if b then x' else y')
+if_agrees true x y x' y' h g = h
+if_agrees false x y x' y' h g = g
+
+chosen_agrees : (b : Bool) (x y x' y' : Next State) → Agree x x' → Agree y y' → Agree (chosen b x y) (chosen b x' y')
+chosen_agrees true x y x' y' h g = g
+chosen_agrees false x y x' y' h g = h
+
+taken_agrees : (n : ℕ) (stack : List ℤ) (go go' : List ℤ → Next State) → ((rest : List ℤ) → Agree (go rest) (go' rest)) → Agree (taken n stack go) (taken n stack go')
+taken_agrees zero stack go go' h = h stack
+taken_agrees (suc n) [] go go' h = refl
+taken_agrees (suc n) (v ∷ rest) go go' h = taken_agrees n rest go go' h
+
+named_agrees : (r : ℕ) (h : Held) (c : ℕ → ℕ) (next next' : Next State) → Agree next next' → Agree (on_named r h next) (on_named r (counted_by h c) next')
+named_agrees zero h c next next' same = same
+named_agrees (suc k) h c next next' same = object_agrees (object_at h.objects (suc k)) _ _ (λ o. same)
+
+declares_agree : (temporaries : List ℕ) (h : Held) (c : ℕ → ℕ) (s : State) (stack : List ℤ) → Agree (declares temporaries h (keeps s stack)) (declares temporaries (counted_by h c) (keeps s stack))
+declares_agree [] h c s stack = refl
+declares_agree (r ∷ others) h c s stack = refl
+
+left_agrees : (temporaries : List ℕ) (h : Held) (c : ℕ → ℕ) (go go' : Held → Next State) → Agree (go (with_variables h [])) (go' (with_variables (counted_by h c) [])) → Agree (on_left temporaries h go) (on_left temporaries (counted_by h c) go')
+left_agrees [] h c go go' same = only_agrees (all_nil h.variables) _ _ same
+left_agrees (r ∷ others) h c go go' same = refl
+
+last_agrees : (variables : List ℕ) (go go' : ℕ → Next State) → ((r : ℕ) → Agree (go r) (go' r)) → Agree (on_last variables go) (on_last variables go')
+last_agrees (r ∷ []) go go' h = h r
+last_agrees (zero ∷ q ∷ others) go go' h = last_agrees (q ∷ others) go go' h
+last_agrees _ go go' h = refl
+
+result_agrees : (temporaries : List ℕ) (h : Held) (c : ℕ → ℕ) (go go' : ℕ → Held → Next State) → ((r : ℕ) → Agree (go r (with_variables h [])) (go' r (with_variables (counted_by h c) []))) → Agree (on_result temporaries h go) (on_result temporaries (counted_by h c) go')
+result_agrees [] h c go go' same = last_agrees h.variables (λ r. go r (with_variables h [])) (λ r. go' r (with_variables (counted_by h c) [])) same
+result_agrees (r ∷ others) h c go go' same = refl
+
+less_same : (r : ℕ) (c d : ℕ → ℕ) → Same c d → Same (λ i. if nat_eq i r then c i - 1 else c i) (λ i. if nat_eq i r then d i - 1 else d i)
+less_same r c d same k = ap (λ n. if nat_eq (suc k) r then n - 1 else n) (same k)
+
+more_same : (r : ℕ) (c d : ℕ → ℕ) → Same c d → Same (λ i. if nat_eq i r then suc (c i) else c i) (λ i. if nat_eq i r then suc (d i) else d i)
+more_same r c d same k = ap (λ n. if nat_eq (suc k) r then suc n else n) (same k)
+
+-- a place lets go of what it named
+module _ (h : Held) (stays stays' : Held → Next State) (ends ends' : ℕ → ℕ → Held → Next State) (on : (c d : ℕ → ℕ) → Same c d → Agree (stays (counted_by h c)) (stays' (counted_by h d))) (over : (o class : ℕ) (objects : List Object) (c d : ℕ → ℕ) → Agree (ends o class (counted_by (with_things h objects) c)) (ends' o class (counted_by (with_things h objects) d))) where
+  abbrev lets : (k : ℕ) → (stay : Held → Next State) → (end : ℕ → ℕ → Held → Next State) → (c : ℕ → ℕ) → Object → (count : ℕ) → Next State
+  lets k stay end c o count = if is_live (Some o) && nat_eq count 1 then end (suc k) o.class (counted_by (with_things h (with_object h.objects (suc k) (in_phase Dying o))) (λ i. if nat_eq i (suc k) then c i - 1 else c i)) else stay (counted_by h (λ i. if nat_eq i (suc k) then c i - 1 else c i))
+
+  lets_agree : (r : ℕ) (c d : ℕ → ℕ) → Same c d → Agree (lets_go r (counted_by h c) stays ends) (lets_go r (counted_by h d) stays' ends')
+  lets_agree zero c d same = on (λ i. if nat_eq i 0 then c i - 1 else c i) (λ i. if nat_eq i 0 then d i - 1 else d i) (less_same 0 c d same)
+  lets_agree (suc k) c d same = object_agrees (object_at h.objects (suc k)) (λ o. lets k stays ends c o (c (suc k))) (λ o. lets k stays' ends' d o (d (suc k))) (λ o.
+      ap (λ n. recount (lets k stays ends c o n)) (same k)
+      ∙ if_agrees (is_live (Some o) && nat_eq (d (suc k)) 1) _ _ _ _ (over (suc k) o.class (with_object h.objects (suc k) (in_phase Dying o)) (λ i. if nat_eq i (suc k) then c i - 1 else c i) (λ i. if nat_eq i (suc k) then d i - 1 else d i)) (on (λ i. if nat_eq i (suc k) then c i - 1 else c i) (λ i. if nat_eq i (suc k) then d i - 1 else d i) (less_same (suc k) c d same)))
+
+place_agrees : (found : Option ℕ) (none none' : Next State) (go go' : ℕ → Next State) → Agree none none' → ((old : ℕ) → Agree (go old) (go' old)) → Agree (on_place found none go) (on_place found none' go')
+place_agrees None none none' go go' same h = same
+place_agrees (Some old) none none' go go' same h = h old
+
+-- the end of an object begins, whatever was held before
+begins_agree : (p : Program) (fs : List Frame) (pc : ℕ) (stack : List ℤ) (before other h : Held) (back o class : ℕ) (c d : ℕ → ℕ) (b b' : Bool) → b ≡ b' → Agree (begins_end p (at fs pc stack before) back o class (counted_by h c) b) (begins_end p (at fs pc stack other) back o class (counted_by h d) b')
+begins_agree p fs pc stack before other h back o class c d true b' e = ap (λ b. recount (begins_end p (at fs pc stack other) back o class (counted_by h d) b)) e
+begins_agree p fs pc stack before other h back o class c d false b' e = ap (λ b. recount (begins_end p (at fs pc stack other) back o class (counted_by h d) b)) e
+
+enters_agree : (s : State) (c : ℕ → ℕ) (to self : ℕ) (b : Bool) → Agree (enters s to self b) (enters (record s { held = counted_by s.held c }) to self b)
+enters_agree s c to self true = refl
+enters_agree s c to self false = refl
+
+answers_agree : (s : State) (c : ℕ → ℕ) (self : ℕ) (found : Option ℕ) → Agree (answers s self found) (answers (record s { held = counted_by s.held c }) self found)
+answers_agree s c self None = refl
+answers_agree s c self (Some to) = enters_agree s c to self (has_level s)
+
+at_once_agrees : (p : Program) (s : State) (c : ℕ → ℕ) (wanted : Gives) (object : ℕ) (stack : List ℤ) (names : List ℕ) → Agree (instructions.gives_at_once (linked p) s wanted object stack names) (instructions.gives_at_once (linked p) (record s { held = counted_by s.held c }) wanted object stack names)
+at_once_agrees p s c gives.Number object stack names = refl
+at_once_agrees p s c gives.Object object stack names = named_agrees object (with_names s.held (object ∷ names)) c _ _ refl
+
+object_answers_agree : (p : Program) (s : State) (c : ℕ → ℕ) (wanted : Gives) (self selector takes objects : ℕ) (found : Option ℕ) → Agree (instructions.answers_object (linked p) s wanted self selector takes objects found) (instructions.answers_object (linked p) (record s { held = counted_by s.held c }) wanted self selector takes objects found)
+object_answers_agree p s c wanted self selector takes objects (Some to) = enters_agree s c to self (has_level s)
+object_answers_agree p s c wanted self selector takes objects None = if_agrees (is_root_init selector takes objects wanted) _ _ _ _ (at_once_agrees p s c wanted self s.stack s.held.names) refl
+
+module _ (p : Program) (s : State) (right : Counted s.held) where
+  abbrev t : State
+  t = fresh s
+
+  abbrev places : ℕ → ℕ
+  places k = holders k (all_places s.held)
+
+  or_fault_agrees : (v : Option ℤ) (rest : List ℤ) → Agree (or_fault v s rest) (or_fault v t rest)
+  or_fault_agrees None rest = refl
+  or_fault_agrees (Some v) rest = refl
+
+  sends_agree : (wanted : Gives) (from : Object → ℕ) (self selector takes objects : ℕ) (names : List ℕ) → Agree (sends p s wanted from self selector takes objects names) (sends p t wanted from self selector takes objects names)
+  sends_agree wanted from zero selector takes objects names = taken_agrees takes s.stack _ _ (λ rest. at_once_agrees p s places wanted 0 rest (drop objects names))
+  sends_agree wanted from (suc k) selector takes objects names = object_agrees (object_at s.held.objects (suc k)) _ _ (λ o.
+      object_answers_agree p (record s { held = with_names s.held names }) places wanted (suc k) selector takes objects (lookup p.classes (Some (from o)) signs.Instance selector takes objects wanted))
+
+  begins_end_agrees : (back o class : ℕ) (h : Held) (c d : ℕ → ℕ) (b : Bool) → Agree (begins_end p s back o class (counted_by h c) b) (begins_end p t back o class (counted_by h d) b)
+  begins_end_agrees back o class h c d true = refl
+  begins_end_agrees back o class h c d false = refl
+
+  releases_agree : (r : ℕ) (h : Held) (c d : ℕ → ℕ) → Same c d → Agree (releases p s r (counted_by h c)) (releases p t r (counted_by h d))
+  releases_agree r h c d same = lets_agree h (keeps s s.stack) (keeps t s.stack) (λ o class h1. begins_end p s (s.at + 1) o class h1 (has_level s)) (λ o class h1. begins_end p t (s.at + 1) o class h1 (has_level s)) (λ c1 d1 same1. refl) (λ o class objects c1 d1. begins_end_agrees (s.at + 1) o class (with_things h objects) c1 d1 (has_level s)) r c d same
+
+  drops_agree : (ts : List ℕ) (h : Held) (c d : ℕ → ℕ) → Same c d → Agree (drops_all p s ts (counted_by h c)) (drops_all p t ts (counted_by h d))
+  drops_agree [] h c d same = refl
+  drops_agree (r ∷ others) h c d same = lets_agree (with_temporaries h others) (drops_all p s others) (drops_all p t others) (λ o class h1. begins_end p s s.at o class h1 (has_level s)) (λ o class h1. begins_end p t s.at o class h1 (has_level s)) (λ c1 d1 same1. drops_agree others (with_temporaries h others) c1 d1 same1) (λ o class objects c1 d1. begins_end_agrees s.at o class (with_things (with_temporaries h others) objects) c1 d1 (has_level s)) r c d same
+
+  -- the temporary before the last one
+  settles_agree : (ts : List ℕ) → Agree (instructions.settles (linked p) s ts) (instructions.settles (linked p) t ts)
+  settles_agree (r ∷ before ∷ others) = releases_agree before (with_temporaries s.held (r ∷ others)) s.held.counts places right.counted
+  settles_agree _ = refl
+
+  -- a function is left with an object
+  hands_agree : (frames : List Frame) (r : ℕ) (rest : List ℤ) (h : Held) (c : ℕ → ℕ) → Agree (instructions.hands_over (linked p) s frames r rest h) (instructions.hands_over (linked p) t frames r rest (counted_by h c))
+  hands_agree (Calling back w ∷ others) r rest h c = refl
+  hands_agree _ r rest h c = refl
+
+  -- an object is gone
+  abbrev goes_back : (back : ℕ) → Waiter → (k : ℕ) → List Frame → Held → Next State
+  goes_back back waits k others h = Goes (record { at = back; stack = s.stack; frames = others; held = resumed waits (with_things h (gone_in h.objects (suc k))) }) []
+
+  ends_object_agrees : (back : ℕ) (waits : Waiter) (k : ℕ) (others : List Frame) → Agree (ends_object s back waits (suc k) others) (ends_object t back waits (suc k) others)
+  ends_object_agrees back waits k others =
+      ap (λ n. recount (if nat_eq n 0 then on_left s.held.temporaries s.held (goes_back back waits k others) else Faults Resurrected)) (right.counted k)
+      ∙ if_agrees (nat_eq (places (suc k)) 0) _ _ _ _ (left_agrees s.held.temporaries s.held places (goes_back back waits k others) (goes_back back waits k others) refl) refl
+
+  runs_dealloc_agrees : (body : Option ℕ) (frames : List Frame) → Agree (runs_dealloc body s frames) (runs_dealloc body t frames)
+  runs_dealloc_agrees None frames = refl
+  runs_dealloc_agrees (Some to) frames = refl
+
+  clears_agree : (back : ℕ) (waits : Waiter) (k : ℕ) (fields : List ℕ) (others : List Frame) → Agree (clears p s back waits (suc k) fields others) (clears p t back waits (suc k) fields others)
+  clears_agree back waits k [] others = ends_object_agrees back waits k others
+  clears_agree back waits k (index ∷ fields) others = refl
+
+  after_agrees : (back : ℕ) (waits : Waiter) (k : ℕ) (others : List Frame) → Agree (after_deallocs p s back waits (suc k) others) (after_deallocs p t back waits (suc k) others)
+  after_agrees back waits k others = object_agrees (object_at s.held.objects (suc k)) _ _ (λ ob. clears_agree back waits k (field_order p.classes ob.class) others)
+
+  -- the next field lets go of what it names
+  next_agrees : (fs : List Frame) (o index : ℕ) → Agree (clears_next p (record s { frames = fs }) o index) (clears_next p (record t { frames = fs }) o index)
+  next_agrees fs o index =
+      let stays : Held → Next State = λ h. Goes (at fs s.at s.stack h) [] in
+      let level = has_level (record s { frames = fs }) in
+      object_agrees (object_at s.held.objects o) _ _ (λ ob. place_agrees (slice_get ob.strong index) _ _ _ _ refl (λ old.
+      lets_agree (with_strong_field s.held o ob index 0) stays stays (λ other class h. begins_end p (at fs s.at s.stack s.held) s.at other class h level) (λ other class h. begins_end p (at fs s.at s.stack t.held) s.at other class h level)
+      (λ c d same. refl) (λ other class objects c d. begins_agree p fs s.at s.stack s.held t.held (with_things (with_strong_field s.held o ob index 0) objects) s.at other class c d level level refl)
+      old _ _ (more_same 0 s.held.counts places right.counted)))
+
+  ends_class_agrees : (back : ℕ) (waits : Waiter) (k : ℕ) (class : Option Class) (left : ℕ) (others : List Frame) → Agree (ends_class p s back waits (suc k) class left others) (ends_class p t back waits (suc k) class left others)
+  ends_class_agrees back waits k None left others = after_agrees back waits k others
+  ends_class_agrees back waits k (Some class) left others = runs_dealloc_agrees class.dealloc _
+
+  end_goes_on_agrees : (frames : List Frame) → AllDying s.held.objects (ending frames) → Agree (end_goes_on p s frames) (end_goes_on p t frames)
+  end_goes_on_agrees (Ending back waits zero next left ∷ others) dying = absurd (no_nil s.held.objects None dying.0)
+  end_goes_on_agrees (Ending back waits (suc k) None left ∷ others) dying = after_agrees back waits k others
+  end_goes_on_agrees (Ending back waits (suc k) (Some class) zero ∷ others) dying = after_agrees back waits k others
+  end_goes_on_agrees (Ending back waits (suc k) (Some class) (suc left) ∷ others) dying = ends_class_agrees back waits k (slice_get p.classes class) left others
+  end_goes_on_agrees (Clearing back waits zero [] ∷ others) dying = absurd (no_nil s.held.objects (Some []) dying.0)
+  end_goes_on_agrees (Clearing back waits (suc k) [] ∷ others) dying = ends_object_agrees back waits k others
+  end_goes_on_agrees (Clearing back waits o (index ∷ fields) ∷ others) dying = next_agrees (Clearing back waits o fields ∷ others) o index
+  end_goes_on_agrees _ dying = refl
+
+  leaves_agree : (frames : List Frame) (v : ℤ) (rest : List ℤ) (h : Held) (c : ℕ → ℕ) → Agree (leaves p s frames v rest h) (leaves p t frames v rest (counted_by h c))
+  leaves_agree (Calling back waits ∷ others) v rest h c = refl
+  leaves_agree _ v rest h c = refl
+
+  allocates_agree : (rest : List ℤ) (class : Option ℕ) → Agree (allocates p.classes s rest class) (allocates p.classes t rest class)
+  allocates_agree rest None = refl
+  allocates_agree rest (Some class) = refl
+
+  field_agrees : (class r : ℕ) (go go' : Object → Next State) → ((o : Object) → Agree (go o) (go' o)) → Agree (on_field p.classes class r s.held go) (on_field p.classes class r t.held go')
+  field_agrees class zero go go' h = refl
+  field_agrees class (suc k) go go' h = object_agrees (object_at s.held.objects (suc k)) _ _ (λ o. if_agrees (descends p.classes (Some o.class) class) _ _ _ _ (h o) refl)
+
+  -- a variable takes this
+  stored_agrees : (i r old : ℕ) → Agree (releases p s old (counted_by (with_variables s.held (slice_set s.held.variables i r)) (λ k. if nat_eq k r then suc (s.held.counts k) else s.held.counts k))) (releases p t old (counted_by (with_variables s.held (slice_set s.held.variables i r)) (λ k. if nat_eq k r then suc (places k) else places k)))
+  stored_agrees i r old = releases_agree old (with_variables s.held (slice_set s.held.variables i r)) _ _ (more_same r s.held.counts places right.counted)
+
+  pub acts_agree : (action : Option Action) → AllDying s.held.objects (ending s.frames) → Agree (executes p action s) (executes p action t)
+  acts_agree (Some (Plain (Bin operator kind))) dying = two_agree s.stack _ _ (λ y x rest. or_fault_agrees (combined operator kind x y) rest)
+  acts_agree (Some (Plain (Un operator kind))) dying = top_agrees s.stack _ _ (λ x rest. refl)
+  acts_agree (Some (Plain (Narrow kind))) dying = top_agrees s.stack _ _ (λ x rest. refl)
+  acts_agree (Some (Plain Pop)) dying = top_agrees s.stack _ _ (λ x rest. refl)
+  acts_agree (Some (Plain (Get depth))) dying = found_agrees (slice_get s.stack depth) _ _ (λ v _. refl)
+  acts_agree (Some (Plain (Set depth))) dying = top_agrees s.stack _ _ (λ v rest. found_agrees (slice_get rest depth) _ _ (λ _ _. refl))
+  acts_agree (Some (Plain (ops.SetGlobal i))) dying = top_agrees s.stack _ _ (λ v rest. refl)
+  acts_agree (Some (Plain PrintNum)) dying = two_agree s.stack _ _ (λ v count rest. refl)
+  acts_agree (Some (Plain PrintByte)) dying = two_agree s.stack _ _ (λ v count rest. refl)
+  acts_agree (Some (Plain Declare)) dying = declares_agree s.held.temporaries s.held places s s.stack
+  acts_agree (Some (Plain ReadSelf)) dying = named_agrees s.held.self (named s.held.self s.held) places _ _ refl
+  acts_agree (Some (Plain (ReadRef i))) dying = found_agrees (slice_get s.held.variables i) _ _ (λ r _. named_agrees r (named r s.held) places _ _ refl)
+  acts_agree (Some (Plain (ReadGlobal i))) dying = named_agrees (name_at s.held.strong_globals i) (named (name_at s.held.strong_globals i) s.held) places _ _ refl
+  acts_agree (Some (Plain (ReadField class index))) dying = reference_agrees s.held.names _ _ (λ r rest. field_agrees class r _ _ (λ o. named_agrees (name_at o.strong index) (with_names s.held (name_at o.strong index ∷ rest)) places _ _ refl))
+  acts_agree (Some (Plain Hold)) dying = reference_agrees s.held.names _ _ (λ r rest. named_agrees r s.held places _ _ refl)
+  acts_agree (Some (Plain ops.Again)) dying = reference_agrees s.held.names _ _ (λ r rest. refl)
+  acts_agree (Some (Plain Forget)) dying = reference_agrees s.held.names _ _ (λ r rest. refl)
+  acts_agree (Some (Plain Alloc)) dying = top_agrees s.stack _ _ (λ v rest. allocates_agree rest (class_at v))
+  acts_agree (Some (Plain (Finds selector))) dying = top_agrees s.stack _ _ (λ v rest. refl)
+  acts_agree (Some (Plain (GetField class index))) dying = reference_agrees s.held.names _ _ (λ r rest. field_agrees class r _ _ (λ o. refl))
+  acts_agree (Some (Plain (SetField class index))) dying = reference_agrees s.held.names _ _ (λ r rest. top_agrees s.stack _ _ (λ v _. field_agrees class r _ _ (λ o. refl)))
+  acts_agree (Some (Plain Differ)) dying = reference_agrees s.held.names _ _ (λ r names. reference_agrees names _ _ (λ other rest. named_agrees r s.held places _ _ (named_agrees other s.held places _ _ refl)))
+  acts_agree (Some (Plain IsObject)) dying = reference_agrees s.held.names _ _ (λ r rest. named_agrees r s.held places _ _ refl)
+  acts_agree (Some (PrintText bytes)) dying = top_agrees s.stack _ _ (λ count rest. refl)
+  acts_agree (Some (JumpZero to)) dying = top_agrees s.stack _ _ (λ v rest. chosen_agrees (is_zero v) _ _ _ _ refl refl)
+  acts_agree (Some (Call f wanted)) dying = enters_agree s places (entry p f) 0 (has_level s)
+  acts_agree (Some (Send selector takes objects wanted)) dying = found_agrees (slice_get s.stack takes) _ _ (λ self _. answers_agree s places 0 (lookup p.classes (class_at self) signs.Class selector takes objects wanted))
+  acts_agree (Some (SendSuper from selector takes objects wanted)) dying = answers_agree s places 0 (lookup p.classes (Some from) signs.Class selector takes objects wanted)
+  acts_agree (Some (SendTo selector takes objects wanted)) dying = found_agrees (slice_get s.held.names objects) _ _ (λ r _. sends_agree wanted (λ o. o.class) r selector takes objects (take objects s.held.names ++ drop (suc objects) s.held.names))
+  acts_agree (Some (SendToSuper from selector takes objects wanted)) dying = found_agrees (slice_get s.held.names objects) _ _ (λ r _. sends_agree wanted (λ o. from) r selector takes objects (take objects s.held.names ++ drop (suc objects) s.held.names))
+  acts_agree (Some (StoreStrong i)) dying = reference_agrees s.held.names _ _ (λ r rest. found_agrees (slice_get s.held.variables i) _ _ (λ old _. named_agrees r s.held places _ _ (stored_agrees i r old)))
+  acts_agree (Some (StoreGlobal i)) dying = reference_agrees s.held.names _ _ (λ r rest. named_agrees r s.held places _ _ (place_agrees (slice_get s.held.strong_globals i) _ _ _ _ refl (λ old.
+      releases_agree old (with_strong_globals s.held (slice_set s.held.strong_globals i r)) _ _ (more_same r s.held.counts places right.counted))))
+  acts_agree (Some (StoreField class index)) dying = reference_agrees s.held.names _ _ (λ r rest. reference_agrees rest _ _ (λ x below. named_agrees r s.held places _ _ (field_agrees class x _ _ (λ o.
+      if_agrees (is_emptying o.phase) _ _ _ _ refl (place_agrees (slice_get o.strong index) _ _ _ _ refl (λ old.
+      releases_agree old (with_strong_field (with_names s.held (r ∷ below)) x o index r) _ _ (more_same r s.held.counts places right.counted)))))))
+  acts_agree (Some (Empty i)) dying = found_agrees (slice_get s.held.variables i) _ _ (λ old _. stored_agrees i 0 old)
+  acts_agree (Some DropAll) dying = drops_agree s.held.temporaries s.held s.held.counts places right.counted
+  acts_agree (Some Settle) dying = settles_agree s.held.temporaries
+  acts_agree (Some Give) dying = top_agrees s.stack _ _ (λ v rest. result_agrees s.held.temporaries s.held places _ _ (λ r. hands_agree s.frames r rest (with_variables s.held []) places))
+  acts_agree (Some Return) dying = top_agrees s.stack _ _ (λ v rest. left_agrees s.held.temporaries s.held places _ _ (leaves_agree s.frames v rest (with_variables s.held []) places))
+  acts_agree (Some EndStep) dying = end_goes_on_agrees s.frames dying
+  acts_agree _ dying = refl
+
+-- ---- No run of a program has more numbers, references and places than the heights of its actions say; with room for these it is sound.
+
+module _ (p : Program) (R : resolved.Program) (is : orders p.actions ≡ lowered R) (entries : p.entries ≡ entries_of R) (classes : p.classes ≡ classes_linked R) where
+  -- no run has more numbers, references and places than the greatest heights on all levels
+  pub lowered_bounded : NeverHasMore (linked p) (room_for (greatest_height R).numbers) (room_for (greatest_height R).names) (room_for (places_in (greatest_height R)))
+  lowered_bounded = never_more (linked p) (height_at R) (result_at R) (greatest_height R).numbers (greatest_height R).names (places_in (greatest_height R)) (heights_fit p R is entries classes)
+
+  -- sound with these rooms
+  pub room_suffices : p.end_step ≡ end_step_of R → room_for (greatest_height R).numbers ≤ p.room → room_for (greatest_height R).names ≤ p.names → room_for (places_in (greatest_height R)) ≤ p.places → IsSound p
+  room_suffices end numbers_room names_room places_room =
+      sound_with_room (linked p) (height_at R) (result_at R) (greatest_height R).numbers (greatest_height R).names (places_in (greatest_height R)) (heights_fit p R is entries classes) numbers_room names_room places_room (lowered_never_stuck p R is entries classes end)
+
+-- ---- Runs of a lowered program show what they show where each count is the number of places.
 
 abbrev pub freshened : Reached State → Reached State
 freshened (Running s i t) = Running (fresh s) i t

@@ -1,17 +1,80 @@
--- What the functions that write loops and choices write is what these are.
-use Rattle.std.proofs.Common.{◌≡◌, ℕ, suc, ◌+◌, ◌-◌, Bool, true, false, if◌then◌else◌, List, [], ◌∷◌, ◌++◌, length, Option, Some, None, refl, sym, ap, ◌∙◌, arith, append_assoc, length-append, slice_set}
-use Rattle.std.proofs.lemmas.List.{append-nil}
-use Rattle.arc_spec.specs.Resolved.{Value, Command, Choose, Repeat, RepeatAfter, Program}
-use Rattle.arc_code.specs.declared.instr.Instr.TheVariants.{Jump, JumpZero}
-use Rattle.arc_ir.specs.declared.action.Target.TheVariants.{Skip, Back}
+-- Jumps are written once it is known how many actions they skip.
+use Rattle.std.proofs.Common.{◌≡◌, ℕ, suc, ◌-◌, List, [], ◌∷◌, ◌++◌, length, sym, ap, ◌∙◌, arith, append_assoc, length-append, slice_set, ◌+◌, pos, Option, Some, None, refl, Bool, true, false, if◌then◌else◌}
+use Rattle.std.proofs.Math.Seq.{set-append_seam}
+use Rattle.arc_ir.specs.declared.action.Target.TheVariants.{Skip, At, Back}
+use Rattle.arc_code.specs.declared.instr.Instr.TheVariants.{Jump, JumpZero, Plain}
+use Rattle.arc_lower.specs.Order.{Order}
+use Rattle.arc_spec.specs.Resolved.{Program, Break, Continue, Value, Command, Choose, Repeat, RepeatAfter}
+use Rattle.arc_code.specs.declared.instr.Op.TheVariants.{Num}
 use Rattle.arc_lower.specs.declared.frame.Turn.{Turn}
 use Rattle.arc_lower.specs.declared.frame.Scope.{Scope}
+use Rattle.arc_lower.specs.Lowered.{Block, Quit, Advance, past, flat, all_empty_orders, nothing_given, spot, within_scopes, scopes_orders, Surroundings, command_orders, Entry, AtStep, AtTest, AtBody, enter_orders, enter_size, turn_orders, Between, body_spot, Idle, Then, Fork, Loop, whole_block, whole_orders, does_nothing, loop_block, command_block, breaking, continuing}
+use Rattle.std.proofs.lemmas.List.{append-nil}
 use Rattle.arc_lower.specs.declared.frame.Body.{Body}
-use Rattle.arc_lower.specs.Order.{Order}
-use Rattle.arc_lower.specs.Lowered.{Entry, AtStep, AtTest, AtBody, enter_orders, enter_size, turn_orders, Between, past, body_spot, Block, Idle, Then, Fork, Loop, Quit, Advance, flat, whole_block, whole_orders, does_nothing, loop_block, command_block, spot, Surroundings, breaking, continuing, command_orders}
 use Rattle.arc_lower.specs.Surroundings.{surroundings, step_begin, step_orders, turn_orders_of, with_turn}
-use Rattle.arc_lower.proofs.Patching.{patched}
-use Rattle.arc_lower.proofs.Surrounding.{past_spot}
+
+-- the jump that was written first, before some others, is another one
+pub patched : (o1 o2 rest : List Order) (branch : ℕ) (first last : Order) → o2 ≡ o1 ++ first ∷ rest → branch ≡ length o1 → slice_set o2 branch last ≡ o1 ++ last ∷ rest
+patched o1 o2 rest branch first last e b = ap (λ l. slice_set l branch last) e ∙ ap (λ n. slice_set (o1 ++ first ∷ rest) n last) b ∙ set-append_seam o1 first rest last
+
+pub patch_fork : (old o1 o2 o3 o4 o5 test one two : List Order) (branch skip other first second end : ℕ) → o1 ≡ old ++ test → branch ≡ length o1 → o2 ≡ o1 ++ JumpZero (Skip 0) ∷ [] → o3 ≡ o2 ++ one → skip ≡ length o3 → o4 ≡ o3 ++ Jump (Skip 0) ∷ [] → other ≡ length o4 → o5 ≡ o4 ++ two → end ≡ length o5 → first ≡ skip - branch → second ≡ end - other
+    → slice_set (slice_set o5 branch (JumpZero (Skip first))) skip (Jump (Skip second)) ≡ old ++ (test ++ (JumpZero (Skip (suc (length one))) ∷ (one ++ Jump (Skip (length two)) ∷ two)))
+patch_fork old o1 o2 o3 o4 o5 test one two branch skip other first second end e1 b1 e2 e3 b3 e4 b4 e5 b5 s0 s1 =
+    let l2 = ap length e2 ∙ length-append o1 (JumpZero (Skip 0) ∷ []) in
+    let l3 = ap length e3 ∙ length-append o2 one in
+    let l4 = ap length e4 ∙ length-append o3 (Jump (Skip 0) ∷ []) in
+    let l5 = ap length e5 ∙ length-append o4 two in
+    let over : first ≡ suc (length one) = omega (arith, s0, b1, b3, l2, l3) in
+    let past : second ≡ length two = omega (arith, s1, b4, b5, l5) in
+    let rest : List Order = Jump (Skip 0) ∷ two in
+    let pre : List Order = o1 ++ JumpZero (Skip first) ∷ one in
+    let f3 : o5 ≡ o3 ++ rest = e5 ∙ ap (λ l. l ++ two) e4 ∙ append_assoc o3 (Jump (Skip 0) ∷ []) two in
+    let f4 : o5 ≡ o1 ++ JumpZero (Skip 0) ∷ (one ++ rest) = f3 ∙ ap (λ l. l ++ rest) (e3 ∙ ap (λ l. l ++ one) e2) ∙ append_assoc (o1 ++ JumpZero (Skip 0) ∷ []) one rest ∙ append_assoc o1 (JumpZero (Skip 0) ∷ []) (one ++ rest) in
+    let place : skip ≡ length pre = omega (arith, b3, l3, l2, length-append o1 (JumpZero (Skip first) ∷ one)) in
+    let once : slice_set o5 branch (JumpZero (Skip first)) ≡ pre ++ rest = patched o1 o5 (one ++ rest) branch (JumpZero (Skip 0)) (JumpZero (Skip first)) f4 b1 ∙ sym (append_assoc o1 (JumpZero (Skip first) ∷ one) rest) in
+    patched pre (slice_set o5 branch (JumpZero (Skip first))) two skip (Jump (Skip 0)) (Jump (Skip second)) once place
+    ∙ append_assoc o1 (JumpZero (Skip first) ∷ one) (Jump (Skip second) ∷ two)
+    ∙ ap (λ n. o1 ++ JumpZero (Skip n) ∷ (one ++ Jump (Skip second) ∷ two)) over
+    ∙ ap (λ n. o1 ++ JumpZero (Skip (suc (length one))) ∷ (one ++ Jump (Skip n) ∷ two)) past
+    ∙ ap (λ l. l ++ JumpZero (Skip (suc (length one))) ∷ (one ++ Jump (Skip (length two)) ∷ two)) e1
+    ∙ append_assoc old test (JumpZero (Skip (suc (length one))) ∷ (one ++ Jump (Skip (length two)) ∷ two))
+
+-- ---- Where statements stand, and the actions of what leaves them.
+
+pub past_spot : (n here : ℕ) (turn : Option Turn) → past n (spot here turn) ≡ spot (here + n) turn
+past_spot n here None = refl
+past_spot n here (Some turn) = refl
+
+module _ (P : Program) (slots names : ℕ) where
+  scopes_flat : (here : ℕ) (turn : Option Turn) (scopes : List Scope) (b : Block) (xs : List Order) → ((n : ℕ) → flat P slots names (spot n turn) b ≡ xs) → flat P slots names (spot here turn) (within_scopes scopes b) ≡ scopes_orders names scopes ++ xs
+  scopes_flat here turn [] b xs h = h here
+  scopes_flat here turn (s ∷ others) b xs h =
+      let cs = all_empty_orders names s.first s.count in
+      ap (λ e. cs ++ flat P slots names e (within_scopes others b)) (past_spot (length cs) here turn)
+      ∙ ap (λ l. cs ++ l) (scopes_flat (here + length cs) turn others b xs h)
+      ∙ sym (append_assoc cs (scopes_orders names others) xs)
+
+  module _ (here exit : ℕ) (scopes : List Scope) where
+    abbrev within : Option Turn → Surroundings
+    within turn = record { exit = exit; turn = turn; scopes = scopes }
+
+    -- what leaves a function with 0
+    abbrev gives_nothing : List Order
+    gives_nothing = Plain (Num (pos 0)) ∷ Jump (At exit) ∷ []
+
+    pub break_in : (turn : Turn) → command_orders P slots names here (within (Some turn)) Break ≡ scopes_orders names scopes ++ (Plain (Num (pos 0)) ∷ Jump (At turn.out) ∷ [])
+    break_in turn = scopes_flat here (Some turn) scopes Quit _ (λ n. refl)
+
+    pub break_out : command_orders P slots names here (within None) Break ≡ scopes_orders names scopes ++ gives_nothing
+    break_out = scopes_flat here None scopes (nothing_given exit) _ (λ n. refl)
+
+    pub continue_in : (turn : Turn) → command_orders P slots names here (within (Some turn)) Continue ≡ scopes_orders names scopes ++ Jump (At turn.begin) ∷ []
+    continue_in turn = scopes_flat here (Some turn) scopes Advance _ (λ n. refl)
+
+    pub continue_out : command_orders P slots names here (within None) Continue ≡ scopes_orders names scopes ++ gives_nothing
+    continue_out = scopes_flat here None scopes (nothing_given exit) _ (λ n. refl)
+
+-- ---- What the functions that write loops and choices write is what these are.
 
 body_at : (n m here : ℕ) (turn : Option Turn) → body_spot n m (spot here turn) ≡ Between (here + n + m + 1) (record { begin = here; out = here + n + m })
 body_at n m here None = refl

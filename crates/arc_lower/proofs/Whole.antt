@@ -1,5 +1,8 @@
--- The actions of a checked program perform it.
-use Rattle.std.proofs.Common.{◌≡◌, ℕ, ◌+◌, ◌≤◌, ℤ, List, [], ◌∷◌, ◌++◌, length, length-append, ap, sym, ◌∙◌, arith, refl, subst, inl, inr}
+-- When steps that show what is meant behave as it is meant.
+use Rattle.std.proofs.Common.{◌≡◌, ℕ, ◌≤◌, ◌<◌, List, Option, Some, None, refl, sym, ap, ◌∙◌, subst, arith, ⊎_elim, ◌+◌, ℤ, [], ◌∷◌, ◌++◌, length, length-append, inl, inr}
+use Rattle.std.proofs.lemmas.Bool.{cases_lt}
+use Rattle.arc_spec.specs.Correct.{IsPrefix, Stop, Sight, Behaves, Steady, meaning_seen, run_seen}
+use Rattle.arc_spec.proofs.Steadiness.{prefix_refl, steady}
 use Rattle.arc_ast.specs.declared.tree.Kind.TheVariants as k
 use Rattle.arc_spec.specs.declared.class.Gives.TheVariants as gives
 use Rattle.arc_spec.specs.Number.{converted}
@@ -9,26 +12,62 @@ use Rattle.arc_spec.specs.World.{World, Outcome, Done, Faulted, Cut, first_frame
 use Rattle.arc_spec.specs.Meaning.{level, most_levels, mean}
 use Rattle.arc_spec.specs.Holding.{all_nil, on_left}
 use Rattle.arc_spec.specs.Stepping.{Next, Reached, Running, Ends, Ended, only_if, after_steps}
-use Rattle.arc_spec.specs.Correct.{meaning_seen, run_seen}
-use Rattle.arc_spec.proofs.Steadiness.{steady}
 use Rattle.arc_ir.specs.Acting.{Program, State, step, start, seen}
 use Rattle.arc_code.specs.declared.instr.Instr.TheVariants.{Call, Return, EndStep}
 use Rattle.arc_lower.specs.Order.{orders}
 use Rattle.arc_lower.specs.Lowered.{number_of, slots_of, parameters_of, passing_orders, lowered, entries_of, end_step_of, classes_linked}
 use Rattle.arc_lower.specs.Promise.{Performs, IsLowered}
-use Rattle.arc_lower.proofs.Leading.{leads_same, leads_step, Comes, Runs, leads_runs, then_runs}
-use Rattle.arc_lower.proofs.Behaving.{Shows, behaves}
-use Rattle.arc_lower.proofs.Recounting.{fresh, recount, moves, at, held_of}
-use Rattle.arc_lower.proofs.Doing.{HasAt, has_front, has_back}
-use Rattle.arc_lower.proofs.Segments.{running}
-use Rattle.arc_lower.proofs.Stacking.{onto}
-use Rattle.arc_lower.proofs.Fitting.{passing_leads}
+use Rattle.arc_lower.proofs.Leading.{leads_same, leads_step, Comes, Runs, leads_runs, then_runs, running}
+use Rattle.arc_lower.proofs.Doing.{fresh, recount, moves, at, held_of, HasAt, has_front, has_back}
+use Rattle.arc_lower.proofs.Stacking.{onto, passing_leads}
 use Rattle.arc_lower.proofs.Running.{Returns}
-use Rattle.arc_lower.proofs.Linking.{has_start, has_end, has_stubs, begins}
-use Rattle.arc_lower.proofs.Finding.{Linked, linked}
+use Rattle.arc_lower.proofs.Linking.{has_start, has_end, has_stubs, begins, Linked, linked}
 use Rattle.arc_lower.proofs.Calling.{calls_run}
-use Rattle.arc_lower.proofs.RoomSuffices.{room_suffices}
-use Rattle.arc_lower.proofs.Transferring.{seen_moves, never_wedged}
+use Rattle.arc_lower.proofs.Transferring.{room_suffices, seen_moves, never_wedged}
+
+-- some steps show what is meant, and no fewer than the bound where that isn't over
+pub record Shows (seen : ℕ → Sight) (bound : ℕ) (meant : Sight) : Type 0 where
+  pub steps : ℕ
+  pub same : seen steps ≡ meant
+  pub enough : meant.stop ≡ None → bound ≤ steps
+
+module _ (meant seen : List ℕ → ℕ → Sight) (steady : Steady seen) (shows : (input : List ℕ) (n : ℕ) → Shows (seen input) n (meant input n)) where
+  -- after the steps that show it nothing changes
+  over_at : (input : List ℕ) (k : ℕ) (x : Option Stop) → (meant input k).stop ≡ x → (shows input k).steps < k → meant input k ≡ seen input k
+  over_at input k None e lt = let s = shows input k in absurd (omega (arith, s.enough e))
+  over_at input k (Some stop) e lt =
+      let s = shows input k in
+      sym s.same ∙ sym (steady.stays input s.steps k stop (omega arith) (ap (λ (x : Sight). x.stop) s.same ∙ e))
+
+  follows_at : (input : List ℕ) (k : ℕ) → IsPrefix (seen input k).trace (meant input k).trace
+  follows_at input k =
+      let s = shows input k in
+      ⊎_elim
+      (λ lt. subst (λ (x : Sight). IsPrefix (seen input k).trace x.trace) (sym (over_at input k (meant input k).stop refl lt)) (prefix_refl (seen input k).trace))
+      (λ le. subst (λ (x : Sight). IsPrefix (seen input k).trace x.trace) s.same (steady.grows input k s.steps (omega arith)))
+      (cases_lt s.steps k)
+
+  stops_at : (input : List ℕ) (k : ℕ) (stop : Stop) → (seen input k).stop ≡ Some stop → meant input k ≡ seen input k
+  stops_at input k stop over =
+      let s = shows input k in
+      ⊎_elim
+      (λ lt. over_at input k (meant input k).stop refl lt)
+      (λ le. sym s.same ∙ steady.stays input k s.steps stop (omega arith) over)
+      (cases_lt s.steps k)
+
+  pub behaves : Behaves meant seen
+  behaves = record {
+    follows = follows_at;
+    stops = stops_at;
+    comes = λ input n.
+        let s = shows input n in (
+          s.steps,
+          subst (λ (x : Sight). IsPrefix (meant input n).trace x.trace) (sym s.same) (prefix_refl (meant input n).trace),
+          λ stop over. s.same,
+        );
+  }
+
+-- ---- The actions of a checked program perform it.
 
 -- what is seen of a run that does what is meant
 abbrev Ends_with : ℤ → World → Reached State → Type 0

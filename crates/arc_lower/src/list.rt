@@ -84,7 +84,7 @@ fn append_call_of_main(actions: &mut Vec<Action>, program: &Checked) -> Result<u
 
 /// Appends where the program begins, and raises the greatest height to its. Gives the number of the
 /// action at which the ends of objects go on.
-#[tactic(auto, using(crate::proofs::Appended::slice_after, std::proofs::lemmas::Grind::common_steps))]
+#[tactic(auto, using(crate::proofs::Rows::slice_after, std::proofs::lemmas::Grind::common_steps))]
 fn append_start(
     alloc: Global,
     actions: &mut Vec<Action>,

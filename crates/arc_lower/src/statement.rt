@@ -21,7 +21,7 @@ use arc_spec::location::Location;
 use std::alloc::Global;
 
 /// Appends the actions of a full-expression that gives a number.
-#[tactic(auto, using(crate::proofs::Appended::slice_after, std::proofs::lemmas::Grind::common_steps))]
+#[tactic(auto, using(crate::proofs::Rows::slice_after, std::proofs::lemmas::Grind::common_steps))]
 fn append_whole(
     alloc: Global,
     actions: &mut Vec<Action>,
@@ -43,7 +43,7 @@ fn append_whole(
 }
 
 /// Appends the actions of a full-expression whose number nobody uses, and the one that takes it.
-#[tactic(auto, using(crate::proofs::Appended::slice_after, std::proofs::lemmas::Grind::common_steps))]
+#[tactic(auto, using(crate::proofs::Rows::slice_after, std::proofs::lemmas::Grind::common_steps))]
 fn append_evaluated(
     alloc: Global,
     actions: &mut Vec<Action>,
@@ -66,7 +66,7 @@ fn append_evaluated(
 }
 
 /// Appends the actions of a full-expression that gives an object or nil.
-#[tactic(auto, using(crate::proofs::Appended::slice_after, std::proofs::lemmas::Grind::common_steps))]
+#[tactic(auto, using(crate::proofs::Rows::slice_after, std::proofs::lemmas::Grind::common_steps))]
 fn append_whole_reference(
     alloc: Global,
     actions: &mut Vec<Action>,
@@ -88,7 +88,7 @@ fn append_whole_reference(
 }
 
 /// Appends the actions by which a variable begins with an object or nil.
-#[tactic(auto, using(crate::proofs::Appended::slice_after, std::proofs::lemmas::Grind::common_steps))]
+#[tactic(auto, using(crate::proofs::Rows::slice_after, std::proofs::lemmas::Grind::common_steps))]
 fn append_begin(
     alloc: Global,
     actions: &mut Vec<Action>,

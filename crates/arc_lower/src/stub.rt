@@ -61,7 +61,7 @@ pub(crate) fn append_jump_to(
 
 /// Appends the stub of a function that is passed `count` numbers and `objects` objects, and raises the
 /// greatest height to its.
-#[tactic(auto, using(crate::proofs::Appended::slice_after, std::proofs::lemmas::Grind::common_steps))]
+#[tactic(auto, using(crate::proofs::Rows::slice_after, std::proofs::lemmas::Grind::common_steps))]
 fn append_stub(
     alloc: Global,
     actions: &mut Vec<Action>,
@@ -125,7 +125,7 @@ fn append_methods(
 
 /// Appends the stub of a dealloc, where there is one, and raises the greatest height to its. Gives
 /// its place.
-#[tactic(auto, using(crate::proofs::Laying::raised_nothing))]
+#[tactic(auto, using(crate::proofs::Rows::raised_nothing))]
 fn append_dealloc(
     alloc: Global,
     actions: &mut Vec<Action>,
@@ -157,7 +157,7 @@ fn append_dealloc(
 }
 
 /// Appends the stubs of a class, and raises the greatest height to theirs. Gives the class, whose dealloc and methods run their stubs.
-#[tactic(auto, using(crate::proofs::Laying::raised_append, std::proofs::lemmas::Grind::common_steps))]
+#[tactic(auto, using(crate::proofs::Rows::raised_append, std::proofs::lemmas::Grind::common_steps))]
 fn append_class(
     alloc: Global,
     actions: &mut Vec<Action>,

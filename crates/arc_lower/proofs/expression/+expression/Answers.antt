@@ -4,7 +4,7 @@ use Rattle.std.proofs.lemmas.List.{length-map}
 use Rattle.arc_checked.specs.Checked.{value, reference, program_of}
 use Rattle.arc_lower.specs.Order.{order, orders}
 use Rattle.arc_lower.specs.Lowered.{value_orders, reference_orders}
-use Rattle.arc_lower.proofs.Patching.{patch_fork}
+use Rattle.arc_lower.proofs.Turning.{patch_fork}
 use Rattle.arc_checked.proofs.Trees.{is_print, is_invoked, is_sent, is_object_invoked, is_object_sent}
 use Rattle.arc_lower.proofs.Weights.{argument_in}
 use Rattle.arc_lower.proofs.expression.+expression.Goals as goal

@@ -9,7 +9,7 @@ use Rattle.arc_spec.specs.declared.class.Gives.TheVariants as gives
 use Rattle.arc_spec.specs.Meaning.{nothing_giving}
 use Rattle.arc_lower.specs.Lowered.{entry_of, function_orders}
 use Rattle.arc_lower.specs.Heights.{raised, function_heights}
-use Rattle.arc_lower.proofs.Laying.{Laid, laid_more}
+use Rattle.arc_lower.proofs.Rows.{Laid, laid_more}
 use Rattle.arc_lower.proofs.list.append_functions.Goals as goal
 
 -- the functions that do nothing

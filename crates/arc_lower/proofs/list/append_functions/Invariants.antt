@@ -3,7 +3,7 @@ use Rattle.arc_checked.specs.Checked.{functions, program_of}
 use Rattle.arc_lower.specs.Order.{orders}
 use Rattle.arc_spec.specs.declared.class.Gives.TheVariants as gives
 use Rattle.arc_spec.specs.Meaning.{nothing_giving}
-use Rattle.arc_lower.proofs.Laying.{Laid}
+use Rattle.arc_lower.proofs.Rows.{Laid}
 use Rattle.arc_lower.proofs.list.append_functions.Given as goal
 
 abbrev pub invariant-loop-function : goal.invariant-loop-function

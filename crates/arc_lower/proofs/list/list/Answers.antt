@@ -3,7 +3,7 @@ use Rattle.arc_checked.specs.Checked.{program_of}
 use Rattle.arc_lower.specs.Order.{orders}
 use Rattle.arc_lower.specs.Lowered.{all_functions, functions_orders, entries_from, start_orders, end_step_of, running_orders, entries_of, classes_orders, linked_classes}
 use Rattle.arc_lower.specs.Heights.{raised, start_heights, functions_heights, classes_heights, lowered_heights}
-use Rattle.arc_lower.proofs.Laying.{raised_append}
+use Rattle.arc_lower.proofs.Rows.{raised_append}
 use Rattle.arc_lower.proofs.list.list.Goals as goal
 
 pub returns : goal.returns

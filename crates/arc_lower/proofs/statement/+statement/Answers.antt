@@ -8,8 +8,7 @@ use Rattle.arc_lower.specs.Order.{order, orders}
 use Rattle.arc_lower.specs.Lowered.{whole_orders, command_orders}
 use Rattle.arc_lower.specs.Surroundings.{surroundings}
 use Rattle.arc_checked.proofs.Trees.{sequence_command}
-use Rattle.arc_lower.proofs.Patching.{patch_fork}
-use Rattle.arc_lower.proofs.Turning.{choice_written, repeat_written, repeat_after_written, step_written}
+use Rattle.arc_lower.proofs.Turning.{patch_fork, choice_written, repeat_written, repeat_after_written, step_written}
 use Rattle.arc_lower.proofs.statement.+statement.Goals as goal
 
 pub append_command-returns-in-Sequence-clause-actions : goal.append_command-returns-in-Sequence-clause-actions

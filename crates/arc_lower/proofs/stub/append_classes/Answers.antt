@@ -4,7 +4,7 @@ use Rattle.arc_spec.specs.declared.class.Class as declared
 use Rattle.arc_spec.specs.Classes.{class_of, classes_of}
 use Rattle.arc_checked.specs.Checked.{program_of}
 use Rattle.arc_lower.specs.Order.{orders}
-use Rattle.arc_lower.proofs.Stubbing.{ClassesLaid, classes_more}
+use Rattle.arc_lower.proofs.Rows.{ClassesLaid, classes_more}
 use Rattle.arc_lower.proofs.stub.append_classes.Goals as goal
 
 pub loop-class-preserved : goal.loop-class-preserved

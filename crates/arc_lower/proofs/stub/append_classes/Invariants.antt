@@ -2,7 +2,7 @@ use Rattle.std.proofs.Common.{drop}
 use Rattle.arc_spec.specs.Classes.{classes_of}
 use Rattle.arc_checked.specs.Checked.{program_of}
 use Rattle.arc_lower.specs.Order.{orders}
-use Rattle.arc_lower.proofs.Stubbing.{ClassesLaid}
+use Rattle.arc_lower.proofs.Rows.{ClassesLaid}
 use Rattle.arc_lower.proofs.stub.append_classes.Given as goal
 
 abbrev pub invariant-loop-class : goal.invariant-loop-class

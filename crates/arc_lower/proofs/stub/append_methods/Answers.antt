@@ -7,7 +7,7 @@ use Rattle.arc_checked.specs.Checked.{program_of}
 use Rattle.arc_lower.specs.Order.{order, orders}
 use Rattle.arc_lower.specs.Lowered.{stub_orders}
 use Rattle.arc_lower.specs.Heights.{raised, stub_heights}
-use Rattle.arc_lower.proofs.Stubbing.{MethodsLaid, methods_more}
+use Rattle.arc_lower.proofs.Rows.{MethodsLaid, methods_more}
 use Rattle.arc_lower.proofs.stub.append_methods.Goals as goal
 
 pub loop-method-preserved : goal.loop-method-preserved

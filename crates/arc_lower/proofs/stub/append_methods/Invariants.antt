@@ -1,7 +1,7 @@
 use Rattle.std.proofs.Common.{drop}
 use Rattle.arc_checked.specs.Checked.{program_of}
 use Rattle.arc_lower.specs.Order.{orders}
-use Rattle.arc_lower.proofs.Stubbing.{MethodsLaid}
+use Rattle.arc_lower.proofs.Rows.{MethodsLaid}
 use Rattle.arc_lower.proofs.stub.append_methods.Given as goal
 
 abbrev pub invariant-loop-method : goal.invariant-loop-method
