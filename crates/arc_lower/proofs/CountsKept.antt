@@ -43,8 +43,8 @@ nils_length (suc n) = ap suc (nils_length n)
 
 fields_few : (k : ℕ) (objects : List Object) (j : ℕ) (o : Object) → slice_get objects j ≡ Some o → 0 < holders k (fields_of o) → 0 < holders k (field_places objects)
 fields_few k [] j o e some = cc
-fields_few k (a ∷ objects) zero o e some = let same : a ≡ o = cc in omega (arith, holders_append k (fields_of a) (field_places objects), ap (λ (x : Object). holders k (fields_of x)) same, some)
-fields_few k (a ∷ objects) (suc j) o e some = omega (arith, holders_append k (fields_of a) (field_places objects), fields_few k objects j o e some)
+fields_few k (a ∷ objects) zero o e some = let same : a ≡ o = cc in omega (arith, holders_append, ap (λ (x : Object). holders k (fields_of x)) same, some)
+fields_few k (a ∷ objects) (suc j) o e some = omega (arith, holders_append, fields_few k objects j o e some)
 
 tally_there : (objects : List Object) (k r : ℕ) → IsThere objects r → 0 < tally (suc k) r → ThereAt (slice_get objects k)
 tally_there objects k zero there some = absurd (omega (arith, tally_nil k, some))

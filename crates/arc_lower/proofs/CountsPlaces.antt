@@ -82,12 +82,7 @@ lowered_count o h k = one_less_if (nat_eq k o) (h.counts k)
 
 -- how many of all places name an object
 pub all_holders : (k : ℕ) (h : Held) → holders k (all_places h) ≡ holders k h.temporaries + holders k h.variables + holders k h.places + holders k h.strong_globals + holders k (field_places h.objects)
-all_holders k h =
-    let whole = holders_append k (stacked h) (h.strong_globals ++ field_places h.objects) in
-    let rest = holders_append k h.strong_globals (field_places h.objects) in
-    let calls = holders_append k (h.temporaries ++ h.variables) h.places in
-    let own = holders_append k h.temporaries h.variables in
-    omega (arith, whole, rest, calls, own)
+all_holders k h = omega (arith, holders_append)
 
 -- ---- fields
 
@@ -106,26 +101,13 @@ live_there o live = by o.phase live
 pub fields_set : (k : ℕ) (objects : List Object) (j : ℕ) (old x : Object) → slice_get objects j ≡ Some old
     → holders k (fields_of old) + holders k (field_places (slice_set objects j x)) ≡ holders k (fields_of x) + holders k (field_places objects)
 fields_set k [] j old x e = cc
-fields_set k (a ∷ objects) zero old x e =
-    let same : a ≡ old = cc in
-    let one = holders_append k (fields_of x) (field_places objects) in
-    let other = holders_append k (fields_of a) (field_places objects) in
-    let fields = ap (λ o. holders k (fields_of o)) same in
-    omega (arith, one, other, fields)
-fields_set k (a ∷ objects) (suc j) old x e =
-    let deep = fields_set k objects j old x e in
-    let one = holders_append k (fields_of a) (field_places (slice_set objects j x)) in
-    let other = holders_append k (fields_of a) (field_places objects) in
-    omega (arith, deep, one, other)
+fields_set k (a ∷ objects) zero old x e = let same : a ≡ old = cc in omega (arith, holders_append, ap (λ o. holders k (fields_of o)) same)
+fields_set k (a ∷ objects) (suc j) old x e = omega (arith, holders_append, fields_set k objects j old x e)
 
 -- one object more
 pub fields_made : (k : ℕ) (objects : List Object) (x : Object) → holders k (field_places (objects ++ x ∷ [])) ≡ holders k (field_places objects) + holders k (fields_of x)
-fields_made k [] x = let one = holders_append k (fields_of x) [] in omega (arith, one)
-fields_made k (a ∷ objects) x =
-    let deep = fields_made k objects x in
-    let one = holders_append k (fields_of a) (field_places (objects ++ x ∷ [])) in
-    let other = holders_append k (fields_of a) (field_places objects) in
-    omega (arith, deep, one, other)
+fields_made k [] x = omega (arith, holders_append)
+fields_made k (a ∷ objects) x = omega (arith, holders_append, fields_made k objects x)
 
 pub nils_holders : (k n : ℕ) → holders (suc k) (nils n) ≡ 0
 nils_holders k zero = refl
@@ -134,10 +116,7 @@ nils_holders k (suc n) = omega (arith, holders_nil k (nils n), nils_holders k n)
 -- an object is changed whose fields name the same
 pub same_fields : (k : ℕ) (h : Held) (j : ℕ) (old x : Object) → slice_get h.objects j ≡ Some old → fields_of x ≡ fields_of old
     → holders k (all_places (with_things h (slice_set h.objects j x))) ≡ holders k (all_places h)
-same_fields k h j old x found same =
-    let h1 = with_things h (slice_set h.objects j x) in
-    let fields = ap (holders k) same in
-    omega (arith, all_holders k h, all_holders k h1, fields_set k h.objects j old x found, fields)
+same_fields k h j old x found same = omega (arith, all_holders k h, all_holders k (with_things h (slice_set h.objects j x)), fields_set k h.objects j old x found, ap (holders k) same)
 
 -- ---- a place names another object, or is dropped
 

@@ -238,17 +238,7 @@ module _ (R : resolved.Program) where
   g_first_height g = between (suc g.slots) (function_places g)
 
   function_length : (place : ℕ) (g : Function) → length (in_function g.gives (function_heights R place g)) ≡ length (function_orders R place g)
-  function_length place g =
-      let leave = leave_orders g in
-      let body = body_orders R place (entry_of place g) g in
-      let base = between g.slots (function_places g) in
-      let first = g_first_height g in
-      let entered = height g.slots (object_parameters g) 0 0 in
-      let one = heights_length R base (walk first []) leave in
-      let other = heights_length R base (walk entered []) body in
-      let orders = length-append leave body in
-      let heights_too = length-append (heights R base first leave) (heights R base entered body) in
-      omega (arith, one, other, orders, heights_too, in_length g.gives (function_heights R place g))
+  function_length place g = omega (arith, in_length g.gives (function_heights R place g), length-append {A = Height}, length-append {A = Order}, heights_length)
 
   pub record Entered (entries : List ℕ) (n : ℕ) (f : Function) : Type 0 where
     pub at : ℕ
@@ -339,9 +329,7 @@ module _ (R : resolved.Program) where
 
   functions_length : (fs : List Function) (place : ℕ) → length (functions_marks R place fs) ≡ length (functions_orders R place fs)
   functions_length [] place = refl
-  functions_length (g ∷ fs) place =
-      let xs = function_orders R place g in
-      omega (arith, length-append (in_function g.gives (function_heights R place g)) (functions_marks R (place + length xs) fs), length-append xs (functions_orders R (place + length xs) fs), function_length place g, functions_length fs (place + length xs))
+  functions_length (g ∷ fs) place = omega (arith, length-append {A = Height × Gives}, length-append {A = Order}, function_length place g, functions_length fs (place + length (function_orders R place g)))
 
   -- ---- stubs
 

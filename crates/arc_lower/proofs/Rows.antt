@@ -77,12 +77,7 @@ pops_length zero = refl
 pops_length (suc n) = ap suc (pops_length n)
 
 fits_from_nothing : (slots parameters number : ℕ) (wanted : Gives) → length ((fit_orders 0 slots ++ fit_object_orders 0 parameters) ++ Call number wanted ∷ []) ≡ slots + parameters + 1
-fits_from_nothing slots parameters number wanted =
-    let whole = length-append (fit_orders 0 slots ++ fit_object_orders 0 parameters) (Call number wanted ∷ []) in
-    let both = length-append (fit_orders 0 slots) (fit_object_orders 0 parameters) in
-    let numbers = length-append (pop_orders (0 - slots)) (zero_orders (slots - 0)) in
-    let objects = length-append (forget_orders (0 - parameters)) (nil_orders (parameters - 0)) in
-    omega (arith, whole, both, numbers, objects, pops_length (0 - slots), zeros_length (slots - 0), forgets_length (0 - parameters), nils_length (parameters - 0))
+fits_from_nothing slots parameters number wanted = omega (arith, length-append {A = Order}, pops_length, zeros_length, forgets_length, nils_length)
 
 -- how many actions a call is that passes nothing
 pub call_length : (P : Program) (wanted : Gives) (f : ℕ) → length (call_orders P wanted f 0 0) ≡ slots_of P wanted f + parameters_of P wanted f + 1
