@@ -18,6 +18,7 @@ use Rattle.arc_spec.specs.World.{World, Outcome, Done, Faulted, then_do}
 use Rattle.arc_spec.specs.Meaning.{Deeper, chosen, formatted, in_object, or_fault, evaluated, referred, all_evaluated}
 use Rattle.arc_lower.specs.Known.{width, is_within, wider, narrower, number_kind, applied_kind, combined_kind, known_kind}
 use Rattle.arc_lower.proofs.Shaping.{Holds}
+use Rattle.arc_lower.proofs.Cases.{by_test}
 
 -- ---- numbers of kinds
 
@@ -26,11 +27,9 @@ abbrev pub IsOf : Kind → ℤ → Type 0
 IsOf kind v = converted kind v ≡ v
 
 low_of : (n : ℕ) → n < 4294967296 → cast_unsigned w64 (cast_signed w32 n) % 4294967296 ≡ n
-low_of n h = by (nat_lt n 2147483648) refl
-  where
-    by : (t : Bool) → nat_lt n 2147483648 ≡ t → cast_unsigned w64 (if t then pos n else negsuc (4294967296 - suc n)) % 4294967296 ≡ n
-    by true e = omega (arith, h)
-    by false e = let le = ltb-false n 2147483648 e in omega (arith, h, le)
+low_of n h = by_test (λ t. cast_unsigned w64 (if t then pos n else negsuc (4294967296 - suc n)) % 4294967296 ≡ n) (nat_lt n 2147483648)
+    (λ e. omega (arith, h))
+    (λ e. let le = ltb-false n 2147483648 e in omega (arith, h, le))
 
 low_again : (z : ℤ) → low_32 (low_32 z) ≡ low_32 z
 low_again z =
@@ -65,26 +64,20 @@ other_way : (n m : ℕ) → nat_le n m ≡ false → nat_le m n ≡ true
 other_way n m e = let lt = leb-false n m e in grind (arith, nat_tests, lt)
 
 first_of_two : (a b : Kind) (v : ℤ) → IsOf a v → IsOf (wider a b) v
-first_of_two a b v h = by (is_within a b) refl
-  where
-    by : (t : Bool) → is_within a b ≡ t → IsOf (if t then b else a) v
-    by true e = within_keeps a b v e h
-    by false e = h
+first_of_two a b v h = by_test (λ t. IsOf (if t then b else a) v) (is_within a b)
+    (λ e. within_keeps a b v e h)
+    (λ e. h)
 
 second_of_two : (a b : Kind) (v : ℤ) → IsOf b v → IsOf (wider a b) v
-second_of_two a b v h = by (is_within a b) refl
-  where
-    by : (t : Bool) → is_within a b ≡ t → IsOf (if t then b else a) v
-    by true e = h
-    by false e = within_keeps b a v (other_way (width a) (width b) e) h
+second_of_two a b v h = by_test (λ t. IsOf (if t then b else a) v) (is_within a b)
+    (λ e. h)
+    (λ e. within_keeps b a v (other_way (width a) (width b) e) h)
 
 -- what a conversion gives
 both_kinds : (a b : Kind) (v : ℤ) → IsOf a v → IsOf (narrower a b) (converted b v)
-both_kinds a b v h = by (is_within a b) refl
-  where
-    by : (t : Bool) → is_within a b ≡ t → IsOf (if t then a else b) (converted b v)
-    by true e = subst (IsOf a) (sym (within_keeps a b v e h)) h
-    by false e = again b v
+both_kinds a b v h = by_test (λ t. IsOf (if t then a else b) (converted b v)) (is_within a b)
+    (λ e. subst (IsOf a) (sym (within_keeps a b v e h)) h)
+    (λ e. again b v)
 
 same_true : (x y : ℤ) → is_same x y ≡ true → x ≡ y
 same_true (pos n) (pos m) e = ap pos (eqb-true n m e)
@@ -149,11 +142,9 @@ combined_good _ kind x y w = answered _
 module _ (D : Deeper) where
   set_holds : (P : ℤ → Type 0) (class : ℕ) (found : Option Object) (v : ℤ) (go : Object → World) (w : World) → P v → Holds P (in_object D class found (λ o. Done v (go o)) w)
   set_holds P class None v go w h = tt
-  set_holds P class (Some o) v go w h = by (descends D.classes (Some o.class) class)
-    where
-      by : (b : Bool) → Holds P (if b then Done v (go o) else Faulted FieldClass w)
-      by true = h
-      by false = tt
+  set_holds P class (Some o) v go w h = by_test (λ b. Holds P (if b then Done v (go o) else Faulted FieldClass w)) (descends D.classes (Some o.class) class)
+      (λ e. h)
+      (λ e. tt)
 
   pub known_good : (a : Value) (w : World) → Holds (IsOf (known_kind a)) (evaluated D a w)
   known_good (Number n) w = number_good n

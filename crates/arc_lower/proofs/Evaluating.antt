@@ -23,6 +23,7 @@ use Rattle.arc_lower.specs.Known.{is_within, combined_kind, known_kind}
 use Rattle.arc_lower.proofs.Converting.{IsOf, within_keeps, combined_good, known_good, any_holds}
 use Rattle.arc_lower.specs.Lowered.{Message, ToClass, ToSuperClass, ToObject, ToSuper, Block, Idle, One, Store, Format, Calls, SendsMessage, Making, Then, Fork, number_count, object_count, given_block, below_new, narrow_block, update_block, message_to, below_arguments, value_block, reference_block, receiver_block, arguments_block}
 use Rattle.arc_lower.proofs.Shaping.{Operands, push, name, pushed, Way, On, Lost, left_by, and_then, pushes, passes_by, answers_left, message_sent, block, after, chosen_by, same_depth, on_pushed, Holds, after_known, then_twice}
+use Rattle.arc_lower.proofs.Cases.{by_test}
 
 module _ (D : Deeper) (bound place : ℕ) where
   abbrev run : Block → Operands → World → Outcome Way
@@ -146,11 +147,9 @@ module _ (D : Deeper) (bound place : ℕ) where
   -- ---- conversions
 
   narrow_is : (known kind : Kind) (v : ℤ) (s : Operands) (w : World) → IsOf known v → run (narrow_block known kind) (push v s) w ≡ Done (above s (converted kind v)) w
-  narrow_is known kind v s w g = by (is_within known kind) refl
-    where
-      by : (b : Bool) → is_within known kind ≡ b → run (if b then Idle else One (Narrow kind)) (push v s) w ≡ Done (above s (converted kind v)) w
-      by true e = ap (λ x. Done (above s x) w) (sym (within_keeps known kind v e g))
-      by false e = refl
+  narrow_is known kind v s w g = by_test (λ b. run (if b then Idle else One (Narrow kind)) (push v s) w ≡ Done (above s (converted kind v)) w) (is_within known kind)
+      (λ e. ap (λ x. Done (above s x) w) (sym (within_keeps known kind v e g)))
+      (λ e. refl)
 
   -- ---- updates
 
@@ -192,11 +191,9 @@ module _ (D : Deeper) (bound place : ℕ) where
   -- a field that is set gives what it is set to
   set_gives : (class : ℕ) (found : Option Object) (new : ℤ) (t : Operands) (go : Object → World) (w : World) → pushes t (in_object D class found (λ o. Done new (go o)) w) ≡ left_by (λ _. On (push new t)) (in_object D class found (λ o. Done new (go o)) w)
   set_gives class None new t go w = refl
-  set_gives class (Some o) new t go w = by (descends D.classes (Some o.class) class)
-    where
-      by : (b : Bool) → pushes t (if b then Done new (go o) else Faulted FieldClass w) ≡ left_by (λ _. On (push new t)) (if b then Done new (go o) else Faulted FieldClass w)
-      by true = refl
-      by false = refl
+  set_gives class (Some o) new t go w = by_test (λ b. pushes t (if b then Done new (go o) else Faulted FieldClass w) ≡ left_by (λ _. On (push new t)) (if b then Done new (go o) else Faulted FieldClass w)) (descends D.classes (Some o.class) class)
+      (λ e. refl)
+      (λ e. refl)
 
   field_stores : (moment : Moment) (old : ℤ) (r class index : ℕ) (s : Operands) → Stores (One (SetField class index)) (kept_below moment old (name r s)) (kept_below moment old s) (field_set D r class index)
   field_stores Before old r class index s new w = set_gives class (object_at w.objects r) new (push old s) _ w

@@ -24,6 +24,7 @@ use Rattle.arc_lower.specs.Heights.{height, between, after_effect, walk, last_wa
 use Rattle.arc_lower.specs.Lowered.{whole_orders, whole_reference_orders}
 use Rattle.arc_lower.proofs.Typing.{heights_same, Reaches, types_then, forgets_type, print_types, get_types, set_types, call_types, store_types, read_types, all_empty_type, drop_types, tested, Forks, ByTest, BlockTypes}
 use Rattle.arc_lower.proofs.HeightsEnd.{within_ends, quiet_types}
+use Rattle.arc_lower.proofs.Cases.{by_test}
 
 module _ (P : Program) (r s slots names exit d : ℕ) (room : names ≤ d + s) where
   abbrev Within : Height → Block → Height → Type 0
@@ -124,11 +125,9 @@ module _ (P : Program) (r s slots names exit d : ℕ) (room : names ≤ d + s) w
 
   -- a conversion
   narrow_types : (known kind : Kind) (a b c : ℕ) → Comes (suc a) b c (narrow_block known kind) (suc a) b
-  narrow_types known kind a b c = by (is_within known kind)
-    where
-      by : (t : Bool) → Comes (suc a) b c (if t then Idle else One (Narrow kind)) (suc a) b
-      by true = plain refl
-      by false = op (Narrow kind) (omega arith) (omega arith) (omega arith) refl
+  narrow_types known kind a b c = by_test (λ t. Comes (suc a) b c (if t then Idle else One (Narrow kind)) (suc a) b) (is_within known kind)
+      (λ e. plain refl)
+      (λ e. op (Narrow kind) (omega arith) (omega arith) (omega arith) refl)
 
   -- what follows the old number of an update
   update_types : (moment : Moment) (operator : BinaryOperator) (computed kept : Kind) (right store : Block) (a b c m : ℕ)

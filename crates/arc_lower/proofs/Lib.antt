@@ -1,3 +1,4 @@
+mod Cases
 mod CountsPlaces
 mod CountsKept
 mod Standing

@@ -23,6 +23,7 @@ use Rattle.arc_lower.specs.Lowered.{conversion_orders, part_orders, piece_orders
 use Rattle.arc_lower.specs.Heights.{height, between, after_effect, next_height, Walk, walk, next_walk, last_walk}
 use Rattle.arc_lower.proofs.Callees.{with_functions}
 use Rattle.arc_lower.proofs.Linking.{out_of_list}
+use Rattle.arc_lower.proofs.Cases.{by_test}
 
 -- ---- the function that is called
 
@@ -226,23 +227,19 @@ module _ (P : Program) (r s : ℕ) where
 
     pub get_types : (slots depth : ℕ) (i : Location) (a : ℕ) → depth + slots ≤ a + r → Counts a (get_orders slots depth i) (suc a)
     get_types slots depth (Global i) a h = one 0 1 a (ops.GetGlobal i) (suc a) refl tt (omega arith)
-    get_types slots depth (Local i) a h = by (nat_lt i slots) refl
-      where
-        by : (t : Bool) → nat_lt i slots ≡ t → Counts a (if t then Plain (Get (depth + (slots - suc i))) ∷ [] else Plain (Num (pos 0)) ∷ []) (suc a)
-        by true e = let lt = ltb-true i slots e in one 0 1 a (Get (depth + (slots - suc i))) (suc a) refl (omega (arith, lt, h)) (omega arith)
-        by false e = one 0 1 a (Num (pos 0)) (suc a) refl tt (omega arith)
+    get_types slots depth (Local i) a h = by_test (λ t. Counts a (if t then Plain (Get (depth + (slots - suc i))) ∷ [] else Plain (Num (pos 0)) ∷ []) (suc a)) (nat_lt i slots)
+        (λ e. let lt = ltb-true i slots e in one 0 1 a (Get (depth + (slots - suc i))) (suc a) refl (omega (arith, lt, h)) (omega arith))
+        (λ e. one 0 1 a (Num (pos 0)) (suc a) refl tt (omega arith))
 
     pub set_types : (slots depth : ℕ) (i : Location) (a : ℕ) → depth + slots ≤ a + r → Counts (suc a) (set_orders slots depth i) (suc a)
     set_types slots depth (Global i) a h =
         op 0 1 (suc a) (Get 0) (Plain (ops.SetGlobal i) ∷ []) (suc (suc a)) (suc a) refl (omega arith) (omega arith) (one 1 0 (suc (suc a)) (ops.SetGlobal i) (suc a) refl (omega arith) (omega arith))
-    set_types slots depth (Local i) a h = by (nat_lt i slots) refl
-      where
-        by : (t : Bool) → nat_lt i slots ≡ t → Counts (suc a) (if t then Plain (Get 0) ∷ Plain (Set (suc depth + (slots - suc i))) ∷ [] else []) (suc a)
-        by true e =
+    set_types slots depth (Local i) a h = by_test (λ t. Counts (suc a) (if t then Plain (Get 0) ∷ Plain (Set (suc depth + (slots - suc i))) ∷ [] else []) (suc a)) (nat_lt i slots)
+        (λ e.
             let lt = ltb-true i slots e in
             let set = suc depth + (slots - suc i) in
-            op 0 1 (suc a) (Get 0) (Plain (Set set) ∷ []) (suc (suc a)) (suc a) refl (omega arith) (omega arith) (one 1 0 (suc (suc a)) (Set set) (suc a) refl (omega (arith, lt, h)) (omega arith))
-        by false e = refl
+            op 0 1 (suc a) (Get 0) (Plain (Set set) ∷ []) (suc (suc a)) (suc a) refl (omega arith) (omega arith) (one 1 0 (suc (suc a)) (Set set) (suc a) refl (omega (arith, lt, h)) (omega arith)))
+        (λ e. refl)
 
   -- ---- references, and calls
 
@@ -301,11 +298,9 @@ module _ (P : Program) (r s : ℕ) where
     stays = height a b c d
 
     empty_types : (i : ℕ) → Types stays (empty_orders names i) stays
-    empty_types i = by (nat_lt i names) refl
-      where
-        by : (t : Bool) → nat_lt i names ≡ t → Types stays (if t then Empty i ∷ [] else []) stays
-        by true e = let lt = ltb-true i names e in (omega (arith, lt, room), heights_same _ _ _ _ a b c d (omega arith) (omega arith) (omega arith) (omega arith))
-        by false e = refl
+    empty_types i = by_test (λ t. Types stays (if t then Empty i ∷ [] else []) stays) (nat_lt i names)
+        (λ e. let lt = ltb-true i names e in (omega (arith, lt, room), heights_same _ _ _ _ a b c d (omega arith) (omega arith) (omega arith) (omega arith)))
+        (λ e. refl)
 
     pub all_empty_type : (first count : ℕ) → Types stays (all_empty_orders names first count) stays
     all_empty_type first zero = refl
@@ -313,11 +308,9 @@ module _ (P : Program) (r s : ℕ) where
 
     pub store_types : (i : Location) → 1 ≤ b → Types stays (store_orders names i) stays
     store_types (Global i) some = (some, heights_same _ _ _ _ a b c d (omega arith) (omega (arith, some)) (omega arith) (omega arith))
-    store_types (Local i) some = by (nat_lt i names) refl
-      where
-        by : (t : Bool) → nat_lt i names ≡ t → Types stays (if t then StoreStrong i ∷ [] else []) stays
-        by true e = let lt = ltb-true i names e in ((some, omega (arith, lt, room)), heights_same _ _ _ _ a b c d (omega arith) (omega (arith, some)) (omega arith) (omega arith))
-        by false e = refl
+    store_types (Local i) some = by_test (λ t. Types stays (if t then StoreStrong i ∷ [] else []) stays) (nat_lt i names)
+        (λ e. let lt = ltb-true i names e in ((some, omega (arith, lt, room)), heights_same _ _ _ _ a b c d (omega arith) (omega (arith, some)) (omega arith) (omega arith)))
+        (λ e. refl)
 
   -- so many variables, from the first one on, take what the last references name
   pub take_types : (first n a b c d : ℕ) → n ≤ d + s - first → Types (height a (n + b) c d) (take_orders first n) (height a b c d)
@@ -337,11 +330,9 @@ module _ (P : Program) (r s : ℕ) where
 
   pub read_types : (names : ℕ) (i : Location) (a b c d : ℕ) → names ≤ d + s → Types (height a b c d) (read_orders names i) (height a (suc b) (c + 1) d)
   read_types names (Global i) a b c d room = (tt, heights_same _ _ _ _ a (suc b) (c + 1) d (omega arith) (omega arith) (omega arith) (omega arith))
-  read_types names (Local i) a b c d room = by (nat_lt i names) refl
-    where
-      by : (t : Bool) → nat_lt i names ≡ t → Types (height a b c d) (if t then Plain (ReadRef i) ∷ [] else Plain Nil ∷ Plain Hold ∷ []) (height a (suc b) (c + 1) d)
-      by true e = let lt = ltb-true i names e in (omega (arith, lt, room), heights_same _ _ _ _ a (suc b) (c + 1) d (omega arith) (omega arith) (omega arith) (omega arith))
-      by false e = (tt, (omega arith, heights_same _ _ _ _ a (suc b) (c + 1) d (omega arith) (omega arith) (omega arith) (omega arith)))
+  read_types names (Local i) a b c d room = by_test (λ t. Types (height a b c d) (if t then Plain (ReadRef i) ∷ [] else Plain Nil ∷ Plain Hold ∷ []) (height a (suc b) (c + 1) d)) (nat_lt i names)
+      (λ e. let lt = ltb-true i names e in (omega (arith, lt, room), heights_same _ _ _ _ a (suc b) (c + 1) d (omega arith) (omega arith) (omega arith) (omega arith)))
+      (λ e. (tt, (omega arith, heights_same _ _ _ _ a (suc b) (c + 1) d (omega arith) (omega arith) (omega arith) (omega arith))))
 
   pub drop_types : (takes : Bool) (a c d : ℕ) → (takes ≡ false → c ≡ 0) → Types (height a 0 c d) (if takes then DropAll ∷ [] else []) (height a 0 0 d)
   drop_types true a c d none = (refl, refl)
