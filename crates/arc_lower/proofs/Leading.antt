@@ -56,54 +56,40 @@ module _ {S : Type 0} (step : S → Next S) where
   pub ends_here : {A : Type 0} (bound : ℕ) (r : Reached S) (end : A → World → Reached S → Type 0) (a : A) (w : World) → end a w r → Runs bound r end (Done a w)
   ends_here bound r end a w e = inr (r, leads_same r r refl, e)
 
-  comes_from : {A : Type 0} (bound : ℕ) (r r' : Reached S) (end : A → World → Reached S → Type 0) (o : Outcome A) → Leads r r' → Comes bound r' end o → Comes bound r end o
-  comes_from bound r r' end (Done a w) p q = (q.0, leads_trans r r' q.0 p q.1, q.2)
-  comes_from bound r r' end (Faulted f w) p q = leads_trans r r' (stepping.Faulted f w.input w.trace) p q
-  comes_from bound r r' end (Cut w) p q = (q.0 + p.steps, q.1, omega (arith, q.2), steps_more q.0 p.steps r ∙ ap (after_steps step q.0) p.there ∙ q.3)
+  comes_by : {A : Type 0} (least bound : ℕ) (r r' : Reached S) (end : A → World → Reached S → Type 0) (o : Outcome A) (p : Leads r r') → least ≤ p.steps + bound → Comes bound r' end o → Comes least r end o
+  comes_by least bound r r' end (Done a w) p le q = (q.0, leads_trans r r' q.0 p q.1, q.2)
+  comes_by least bound r r' end (Faulted f w) p le q = leads_trans r r' (stepping.Faulted f w.input w.trace) p q
+  comes_by least bound r r' end (Cut w) p le q = (q.0 + p.steps, q.1, omega (arith, le, q.2), steps_more q.0 p.steps r ∙ ap (after_steps step q.0) p.there ∙ q.3)
+
+  runs_by : {A : Type 0} (least bound : ℕ) (r r' : Reached S) (end : A → World → Reached S → Type 0) (o : Outcome A) (p : Leads r r') → least ≤ p.steps + bound → Runs bound r' end o → Runs least r end o
+  runs_by least bound r r' end o p le (inl q) = inl (wedges_from r r' p q)
+  runs_by least bound r r' end o p le (inr q) = inr (comes_by least bound r r' end o p le q)
 
   pub leads_runs : {A : Type 0} (bound : ℕ) (r r' : Reached S) (end : A → World → Reached S → Type 0) (o : Outcome A) → Leads r r' → Runs bound r' end o → Runs bound r end o
-  leads_runs bound r r' end o p (inl q) = inl (wedges_from r r' p q)
-  leads_runs bound r r' end o p (inr q) = inr (comes_from bound r r' end o p q)
-
-  comes_later : {A : Type 0} (bound : ℕ) (r r' : Reached S) (end : A → World → Reached S → Type 0) (o : Outcome A) → (p : Leads r r') → 1 ≤ p.steps → Comes bound r' end o → Comes (suc bound) r end o
-  comes_later bound r r' end (Done a w) p one q = (q.0, leads_trans r r' q.0 p q.1, q.2)
-  comes_later bound r r' end (Faulted f w) p one q = leads_trans r r' (stepping.Faulted f w.input w.trace) p q
-  comes_later bound r r' end (Cut w) p one q = (q.0 + p.steps, q.1, omega (arith, q.2), steps_more q.0 p.steps r ∙ ap (after_steps step q.0) p.there ∙ q.3)
+  leads_runs bound r r' end o p = runs_by bound bound r r' end o p (omega arith)
 
   -- after a step or more there is one more
   pub later_runs : {A : Type 0} (bound : ℕ) (r r' : Reached S) (end : A → World → Reached S → Type 0) (o : Outcome A) → (p : Leads r r') → 1 ≤ p.steps → Runs bound r' end o → Runs (suc bound) r end o
-  later_runs bound r r' end o p one (inl q) = inl (wedges_from r r' p q)
-  later_runs bound r r' end o p one (inr q) = inr (comes_later bound r r' end o p one q)
-
-  comes_fewer : {A : Type 0} (fewer bound : ℕ) (r : Reached S) (end : A → World → Reached S → Type 0) (o : Outcome A) → fewer ≤ bound → Comes bound r end o → Comes fewer r end o
-  comes_fewer fewer bound r end (Cut w) le q = (q.0, q.1, omega (arith, q.2), q.3)
-  comes_fewer fewer bound r end _ le q = q
+  later_runs bound r r' end o p one = runs_by (suc bound) bound r r' end o p (omega (arith, one))
 
   pub fewer_runs : {A : Type 0} (fewer bound : ℕ) (r : Reached S) (end : A → World → Reached S → Type 0) (o : Outcome A) → fewer ≤ bound → Runs bound r end o → Runs fewer r end o
-  fewer_runs fewer bound r end o le (inl q) = inl q
-  fewer_runs fewer bound r end o le (inr q) = inr (comes_fewer fewer bound r end o le q)
-
-  then_comes : {A B : Type 0} (bound : ℕ) (r : Reached S) (middle : A → World → Reached S → Type 0) (end : B → World → Reached S → Type 0) (o : Outcome A) (go : A → World → Outcome B) → Comes bound r middle o → ((a : A) (w : World) (to : Reached S) → middle a w to → Runs bound to end (go a w)) → Runs bound r end (then_do o go)
-  then_comes bound r middle end (Done a w) go p next = leads_runs bound r p.0 end (go a w) p.1 (next a w p.0 p.2)
-  then_comes bound r middle end _ go p next = inr p
+  fewer_runs fewer bound r end o le = runs_by fewer bound r r end o (leads_same r r refl) (omega (arith, le))
 
   -- one part after another
   pub then_runs : {A B : Type 0} (bound : ℕ) (r : Reached S) (middle : A → World → Reached S → Type 0) (end : B → World → Reached S → Type 0) (o : Outcome A) (go : A → World → Outcome B) → Runs bound r middle o → ((a : A) (w : World) (to : Reached S) → middle a w to → Runs bound to end (go a w)) → Runs bound r end (then_do o go)
-  then_runs bound r middle end o go (inl p) next = inl p
-  then_runs bound r middle end o go (inr p) next = then_comes bound r middle end o go p next
+  then_runs bound r middle end (Done a w) go (inr p) next = leads_runs bound r p.0 end (go a w) p.1 (next a w p.0 p.2)
+  then_runs bound r middle end _ go (inr p) next = inr p
+  then_runs bound r middle end _ go (inl p) next = inl p
 
   -- the same after one place
   pub then_at : {A B : Type 0} (bound : ℕ) (r : Reached S) (good : A → World → Type 0) (exit : A → World → Reached S) (end : B → World → Reached S → Type 0) (o : Outcome A) (go : A → World → Outcome B) → Runs bound r (At good exit) o → ((a : A) (w : World) → good a w → Runs bound (exit a w) end (go a w)) → Runs bound r end (then_do o go)
   then_at bound r good exit end o go p next = then_runs bound r (At good exit) end o go p (λ a w to m. subst (λ q. Runs bound q end (go a w)) (sym m.0) (next a w m.1))
 
-  comes_on : {A : Type 0} (bound : ℕ) (r : Reached S) (middle end : A → World → Reached S → Type 0) (o : Outcome A) → Comes bound r middle o → ((a : A) (w : World) (to : Reached S) → middle a w to → end a w to) → Comes bound r end o
-  comes_on bound r middle end (Done a w) p f = (p.0, p.1, f a w p.0 p.2)
-  comes_on bound r middle end _ p f = p
-
   -- the same run, by what follows of its ends
   pub better_runs : {A : Type 0} (bound : ℕ) (r : Reached S) (middle end : A → World → Reached S → Type 0) (o : Outcome A) → Runs bound r middle o → ((a : A) (w : World) (to : Reached S) → middle a w to → end a w to) → Runs bound r end o
-  better_runs bound r middle end o (inl p) f = inl p
-  better_runs bound r middle end o (inr p) f = inr (comes_on bound r middle end o p f)
+  better_runs bound r middle end (Done a w) (inr p) f = inr (p.0, p.1, f a w p.0 p.2)
+  better_runs bound r middle end _ (inr p) f = inr p
+  better_runs bound r middle end _ (inl p) f = inl p
 
 -- ---- What a run does at orders that stand one after the other.
 
