@@ -62,9 +62,6 @@ firsts_in : (given : Gives) (hs : List Height) → firsts (in_function given hs)
 firsts_in given [] = refl
 firsts_in given (h ∷ hs) = ap (λ l. h ∷ l) (firsts_in given hs)
 
-both_firsts : (a b : List (Height × Gives)) (hs gs : List Height) → firsts a ≡ hs → firsts b ≡ gs → firsts (a ++ b) ≡ hs ++ gs
-both_firsts a b hs gs e f = firsts_append a b ∙ ap (λ l. l ++ firsts b) e ∙ ap (λ l. hs ++ l) f
-
 first_there : (ms : List (Height × Gives)) (pc : ℕ) (m : Height × Gives) → slice_get ms pc ≡ Some m → slice_get (firsts ms) pc ≡ Some m.0
 first_there [] pc m e = cc
 first_there (n ∷ ms) zero m e = ap (λ (x : Height × Gives). Some x.0) (some_same n m e)
@@ -73,29 +70,18 @@ first_there (n ∷ ms) (suc pc) m e = first_there ms pc m e
 module _ (R : resolved.Program) where
   functions_firsts : (fs : List Function) (place : ℕ) → firsts (functions_marks R place fs) ≡ functions_heights R place fs
   functions_firsts [] place = refl
-  functions_firsts (f ∷ fs) place =
-      let later = place + length (function_orders R place f) in
-      both_firsts (in_function f.gives (function_heights R place f)) (functions_marks R later fs) _ _ (firsts_in f.gives (function_heights R place f)) (functions_firsts fs later)
+  functions_firsts (f ∷ fs) place = simp (firsts_append, firsts_in, functions_firsts fs (place + length (function_orders R place f)))
 
   methods_firsts : (ms : List Method) → firsts (methods_marks R (entries_of R) ms) ≡ methods_heights R (entries_of R) ms
   methods_firsts [] = refl
-  methods_firsts (m ∷ ms) =
-      let hs = stub_heights R (entries_of R) m.gives (passes m.sign m.takes) m.objects m.runs in
-      both_firsts (in_function m.gives hs) (methods_marks R (entries_of R) ms) _ _ (firsts_in m.gives hs) (methods_firsts ms)
+  methods_firsts (m ∷ ms) = simp (firsts_append, firsts_in, methods_firsts ms)
 
   classes_firsts : (cs : List Class) → firsts (classes_marks R (entries_of R) cs) ≡ classes_heights R (entries_of R) cs
   classes_firsts [] = refl
-  classes_firsts (c ∷ cs) =
-      let hs = dealloc_heights R (entries_of R) c.dealloc in
-      both_firsts (class_marks R (entries_of R) c) (classes_marks R (entries_of R) cs) _ _
-      (both_firsts (in_function gives.Number hs) (methods_marks R (entries_of R) c.methods) _ _ (firsts_in gives.Number hs) (methods_firsts c.methods)) (classes_firsts cs)
+  classes_firsts (c ∷ cs) = simp (firsts_append, firsts_in, methods_firsts, classes_firsts cs)
 
   marks_firsts : firsts (lowered_marks R) ≡ lowered_heights R
-  marks_firsts =
-      let starts = in_function gives.Number (start_heights R) in
-      let functions = functions_marks R (length (start_orders R)) (all_functions R) in
-      both_firsts (starts ++ functions) (classes_marks R (entries_of R) R.classes) _ _
-      (both_firsts starts functions _ _ (firsts_in gives.Number (start_heights R)) (functions_firsts (all_functions R) (length (start_orders R)))) (classes_firsts R.classes)
+  marks_firsts = simp (firsts_append, firsts_in, functions_firsts, classes_firsts)
 
 -- ---- the program
 

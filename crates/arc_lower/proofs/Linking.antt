@@ -14,6 +14,7 @@ use Rattle.arc_spec.specs.Resolved as resolved
 use Rattle.arc_ir.specs.Acting.{Program, has_level, enters, step}
 use Rattle.arc_code.specs.Effects.{passes}
 use Rattle.arc_lower.specs.Lowered.{entries_of, stub_orders, dealloc_orders, methods_orders, class_orders, classes_orders, linked_methods, linked_dealloc, linked_classes, running_orders, classes_linked, all_functions, gives_at, number_of_nothing, number_of, call_orders, end_step_of, entry_of, function_orders, functions_orders, entries_from, start_orders, lowered}
+use Rattle.arc_lower.proofs.Cases.{by_test}
 use Rattle.arc_lower.proofs.Doing.{HasAt, has_front, has_back, at, has_all}
 use Rattle.std.proofs.lemmas.Option.{get_or_from_slice_get}
 use Rattle.arc_spec.specs.Resolved.{Function}
@@ -272,12 +273,10 @@ nothing_numbered : (R : resolved.Program) (wanted : Gives) → slice_get (all_fu
 nothing_numbered R gives.Number = last_first R.functions
 nothing_numbered R gives.Object = last_second R.functions
 
-numbered_by : (R : resolved.Program) (wanted : Gives) (f : ℕ) (b : Bool) → gives_at R wanted f ≡ b → slice_get (all_functions R) (if b then f else number_of_nothing R wanted) ≡ Some (function_at R wanted f)
-numbered_by R wanted f true e = in_list R wanted R.functions f e
-numbered_by R wanted f false e = nothing_numbered R wanted ∙ ap Some (out_of_list R wanted R.functions f e)
-
 pub numbered : (R : resolved.Program) (wanted : Gives) (f : ℕ) → slice_get (all_functions R) (number_of R wanted f) ≡ Some (function_at R wanted f)
-numbered R wanted f = numbered_by R wanted f (gives_at R wanted f) refl
+numbered R wanted f = by_test (λ b. slice_get (all_functions R) (if b then f else number_of_nothing R wanted) ≡ Some (function_at R wanted f)) (gives_at R wanted f)
+    (λ e. in_list R wanted R.functions f e)
+    (λ e. nothing_numbered R wanted ∙ ap Some (out_of_list R wanted R.functions f e))
 
 module _ (p : Program) (R : resolved.Program) (is : orders p.actions ≡ lowered R) (entries : p.entries ≡ entries_of R) where
   abbrev stubs : List Order

@@ -60,24 +60,16 @@ emptied_more names first count passed lt =
     let f : left ≡ count - 1 - passed = omega arith in
     ap (all_empty_orders names first) e ∙ ap (λ n. empty_orders names (first + n) ++ all_empty_orders names first left) f
 
-pub zeros_length : (n : ℕ) → length (zero_orders n) ≡ n
-zeros_length zero = refl
-zeros_length (suc n) = ap suc (zeros_length n)
-
-pub forgets_length : (n : ℕ) → length (forget_orders n) ≡ n
-forgets_length zero = refl
-forgets_length (suc n) = ap suc (forgets_length n)
-
-pub nils_length : (n : ℕ) → length (nil_orders n) ≡ n
-nils_length zero = refl
-nils_length (suc n) = ap suc (nils_length n)
-
-pub pops_length : (n : ℕ) → length (pop_orders n) ≡ n
-pops_length zero = refl
-pops_length (suc n) = ap suc (pops_length n)
+row_length : (row : ℕ → List Order) (a : Order) → row 0 ≡ [] → ((n : ℕ) → row (suc n) ≡ a ∷ row n) → (n : ℕ) → length (row n) ≡ n
+row_length row a none more zero = ap length none
+row_length row a none more (suc n) = ap length (more n) ∙ ap suc (row_length row a none more n)
 
 fits_from_nothing : (slots parameters number : ℕ) (wanted : Gives) → length ((fit_orders 0 slots ++ fit_object_orders 0 parameters) ++ Call number wanted ∷ []) ≡ slots + parameters + 1
-fits_from_nothing slots parameters number wanted = omega (arith, length-append {A = Order}, pops_length, zeros_length, forgets_length, nils_length)
+fits_from_nothing slots parameters number wanted =
+    let numbers = row_length zero_orders (Plain (Num (pos 0))) refl (λ n. refl) (slots - 0) in
+    let objects = row_length nil_orders (Plain Nil) refl (λ n. refl) (parameters - 0) in
+    let none = row_length pop_orders (Plain Pop) refl (λ n. refl) (0 - slots) in
+    omega (arith, length-append {A = Order}, numbers, objects, none, row_length forget_orders (Plain Forget) refl (λ n. refl) (0 - parameters))
 
 -- how many actions a call is that passes nothing
 pub call_length : (P : Program) (wanted : Gives) (f : ℕ) → length (call_orders P wanted f 0 0) ≡ slots_of P wanted f + parameters_of P wanted f + 1

@@ -35,6 +35,7 @@ use Rattle.arc_lower.specs.Lowered.{Message, ToClass, ToSuperClass, ToObject, To
 use Rattle.std.specs.List.{list_any}
 use Rattle.std.proofs.lemmas.Option.{get_or_from_slice_get, none-some, slice_get-get_or}
 use Rattle.arc_lower.proofs.Leading.{Leads, leads_same, leads_trans, leads_step, Runs, leads_runs, later_runs, fewer_runs, ends_here, then_runs, running, one_runs, quiet, quiet_runs, Passes, then_passes, one_passes, no_passes}
+use Rattle.arc_lower.proofs.Cases.{by_test}
 use Rattle.arc_lower.proofs.Doing.{fresh, recount, moves, at, held_of, bare, does, HasAt, has_front, has_back}
 use Rattle.arc_lower.proofs.Stacking.{onto, Peels, peels_onto, drop_onto, without_below, get_onto, get_local, set_local, get_below, set_below, print_passes, forgets_shift, passing_leads}
 use Rattle.arc_lower.proofs.Releasing.{Kept, kept_same, Ends, Stays, object_runs, there_runs, place_runs, named_runs, global_runs, strong_field_runs, emptied, empties, dropped_runs, settled_runs, no_variable, changes_runs, empties_run}
@@ -281,14 +282,11 @@ module _ (p : Program) (frames : List Frame) (bound : ℕ) (R : resolved.Program
   abbrev loads : Operands → ℕ → World → List Order → Type 0
   loads s i w xs = Passes p frames bound s.names xs (s.numbers ++ vars w) w (local_at w.frame.locals i ∷ (s.numbers ++ vars w)) w
 
-  local_by : (s : Operands) (i : ℕ) (w : World) (b : Bool) → nat_lt i (length w.frame.locals) ≡ b → loads s i w (if b then Plain (Get (length s.numbers + (length w.frame.locals - suc i))) ∷ [] else Plain (Num (pos 0)) ∷ [])
-  local_by s i w true e = get_passes s i w (ltb-true i (length w.frame.locals) e)
-  local_by s i w false e =
-      let none : local_at w.frame.locals i ≡ pos 0 = get_or_past w.frame.locals i (pos 0) (ltb-false i (length w.frame.locals) e) in
-      subst (λ v. Passes p frames bound s.names (Plain (Num (pos 0)) ∷ []) (s.numbers ++ vars w) w (v ∷ (s.numbers ++ vars w)) w) (sym none) (num_passes s.names (pos 0) (s.numbers ++ vars w) w)
-
   local_passes : (s : Operands) (i : ℕ) (w : World) (depth : ℕ) → length w.frame.locals ≡ slots → depth ≡ length s.numbers → loads s i w (get_orders slots depth (Local i))
-  local_passes s i w depth size e = subst (λ n. loads s i w (get_orders n depth (Local i))) size (subst (λ d. loads s i w (get_orders (length w.frame.locals) d (Local i))) (sym e) (local_by s i w (nat_lt i (length w.frame.locals)) refl))
+  local_passes s i w depth size e = subst (λ n. loads s i w (get_orders n depth (Local i))) size (subst (λ d. loads s i w (get_orders (length w.frame.locals) d (Local i))) (sym e) (by_test (λ b. loads s i w (if b then Plain (Get (length s.numbers + (length w.frame.locals - suc i))) ∷ [] else Plain (Num (pos 0)) ∷ [])) (nat_lt i (length w.frame.locals))
+      (λ e. get_passes s i w (ltb-true i (length w.frame.locals) e)) (λ e.
+      let none : local_at w.frame.locals i ≡ pos 0 = get_or_past w.frame.locals i (pos 0) (ltb-false i (length w.frame.locals) e) in
+      subst (λ v. Passes p frames bound s.names (Plain (Num (pos 0)) ∷ []) (s.numbers ++ vars w) w (v ∷ (s.numbers ++ vars w)) w) (sym none) (num_passes s.names (pos 0) (s.numbers ++ vars w) w))))
 
   abbrev set_in : ℕ → ℤ → World → World
   set_in i v w = with_locals w (slice_set w.frame.locals i v)
@@ -859,17 +857,13 @@ module _ (p : Program) (frames : List Frame) (bound : ℕ) (R : resolved.Program
   set_good calm (Local i) v w g = (record { locals = length-set w.frame.locals i v ∙ g.0.locals; strong = g.0.strong; itself = g.0.itself; waits = g.0.waits }, g.1)
   set_good calm (Global i) v w g = (record { locals = g.0.locals; strong = g.0.strong; itself = g.0.itself; waits = g.0.waits }, g.1)
 
-  load_by : (turn : Turn) (calm : Bool) (depth : ℕ) (i : Location) (pc : ℕ) (s : Operands) (w : World) (b : Bool) → nat_eq depth (length s.numbers) ≡ b → Good calm w → HasAt p pc (get_orders slots depth i) → Goes_on turn calm (standing pc s w) (pc + length (get_orders slots depth i)) (if b then Done (On (push (held_at i w) s)) w else Done Lost w)
-  load_by turn calm depth i pc s w true e g has = passing turn calm (get_orders slots depth i) pc s (push (held_at i w) s) w w refl g has (loading i s w depth g.0.locals (eqb-true depth (length s.numbers) e))
-  load_by turn calm depth i pc s w false e g has = lost turn calm (standing pc s w) (pc + length (get_orders slots depth i)) w
-
-  store_by : (turn : Turn) (calm : Bool) (depth : ℕ) (i : Location) (pc : ℕ) (v : ℤ) (s : Operands) (w : World) (b : Bool) → nat_eq depth (length s.numbers) ≡ b → Good calm w → HasAt p pc (set_orders slots depth i) → Goes_on turn calm (standing pc (push v s) w) (pc + length (set_orders slots depth i)) (if b then Done (On (push v s)) (holds i v w) else Done Lost w)
-  store_by turn calm depth i pc v s w true e g has = passing turn calm (set_orders slots depth i) pc (push v s) (push v s) w (holds i v w) refl (set_good calm i v w g) has (storing i s v w depth g.0.locals (eqb-true depth (length s.numbers) e))
-  store_by turn calm depth i pc v s w false e g has = lost turn calm (standing pc (push v s) w) (pc + length (set_orders slots depth i)) w
-
   store_runs : (turn : Turn) (calm : Bool) (depth : ℕ) (i : Location) (pc : ℕ) (numbers : List ℤ) (rs : List ℕ) (w : World) → Good calm w → HasAt p pc (set_orders slots depth i) → Goes_on turn calm (standing pc (record { numbers = numbers; names = rs }) w) (pc + length (set_orders slots depth i)) (block D bound 0 false (Store depth i) (record { numbers = numbers; names = rs }) w)
   store_runs turn calm depth i pc [] rs w g has = lost turn calm _ (pc + length (set_orders slots depth i)) w
-  store_runs turn calm depth i pc (v ∷ numbers) rs w g has = store_by turn calm depth i pc v (record { numbers = numbers; names = rs }) w (nat_eq depth (length numbers)) refl g has
+  store_runs turn calm depth i pc (v ∷ numbers) rs w g has =
+      let s : Operands = record { numbers = numbers; names = rs } in
+      by_test (λ b. Goes_on turn calm (standing pc (push v s) w) (pc + length (set_orders slots depth i)) (if b then Done (On (push v s)) (holds i v w) else Done Lost w)) (nat_eq depth (length numbers))
+      (λ e. passing turn calm (set_orders slots depth i) pc (push v s) (push v s) w (holds i v w) refl (set_good calm i v w g) has (storing i s v w depth g.0.locals (eqb-true depth (length numbers) e)))
+      (λ e. lost turn calm (standing pc (push v s) w) (pc + length (set_orders slots depth i)) w)
 
   read_runs : (turn : Turn) (calm : Bool) (i : Location) (pc : ℕ) (s : Operands) (w : World) → (calm ≡ true → false ≡ true) → Good calm w → HasAt p pc (read_orders names i) → Goes_on turn calm (standing pc s w) (pc + length (read_orders names i)) (Done (On (name (named_at i w) s)) (takes (named_at i w) w))
   read_runs turn true i pc s w free g has = absurd (false≢true (free refl))
@@ -938,7 +932,10 @@ module _ (p : Program) (frames : List Frame) (bound : ℕ) (R : resolved.Program
   pub block_runs : (place : ℕ) (e : Spot) (turn : Turn) (calm between : Bool) → (between ≡ true → calm ≡ true) → (between ≡ false → place ≡ names - 1) → (b : Block) → (calm ≡ true → takes_none R b ≡ true) → (pc : ℕ) → Stands between e pc turn → (s : Operands) (w : World) → Good calm w → HasAt p pc (actions e b) → Goes_on turn calm (standing pc s w) (pc + length (actions e b)) (block D bound place between b s w)
   block_runs place e turn calm m h placed Idle free pc stands s w g has = let same : pc ≡ pc + 0 = omega arith in ends_at turn calm pc (pc + 0) (standing pc s w) (Done (On s) w) same (here turn calm pc s w g)
   block_runs place e turn calm m h placed (One o) free pc stands s w g has = one_runs p frames bound s.names (Plain o) pc (s.numbers ++ vars w) w (Leaves turn calm (pc + 1)) (operation D o s w) has (operation_runs turn calm o pc s.numbers s.names w free g)
-  block_runs place e turn calm m h placed (Load depth i) free pc stands s w g has = load_by turn calm depth i pc s w (nat_eq depth (length s.numbers)) refl g has
+  block_runs place e turn calm m h placed (Load depth i) free pc stands s w g has =
+      by_test (λ b. Goes_on turn calm (standing pc s w) (pc + length (get_orders slots depth i)) (if b then Done (On (push (held_at i w) s)) w else Done Lost w)) (nat_eq depth (length s.numbers))
+      (λ e. passing turn calm (get_orders slots depth i) pc s (push (held_at i w) s) w w refl g has (loading i s w depth g.0.locals (eqb-true depth (length s.numbers) e)))
+      (λ e. lost turn calm (standing pc s w) (pc + length (get_orders slots depth i)) w)
   block_runs place e turn calm m h placed (Store depth i) free pc stands s w g has = store_runs turn calm depth i pc s.numbers s.names w g has
   block_runs place e turn calm m h placed (Read i) free pc stands s w g has = read_runs turn calm i pc s w free g has
   block_runs place e turn calm m h placed (Assign i) free pc stands s w g has = assign_runs turn calm i pc s.numbers s.names w g has

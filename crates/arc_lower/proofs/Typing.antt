@@ -41,24 +41,16 @@ past_all P gives.Object = omega arith
 abbrev pub IsCalled : Program → Gives → ℕ → Type 0
 IsCalled P wanted f = number_of P wanted f ≡ f
 
-called_by : (P : Program) (wanted : Gives) (f : ℕ) (b : Bool) → gives_at P wanted f ≡ b → IsCalled P wanted (if b then f else number_of_nothing P wanted)
-called_by P wanted f true e = ap (λ c. if c then f else number_of_nothing P wanted) e
-called_by P wanted f false e =
-    let n = number_of_nothing P wanted in
-    ap (λ c. if c then n else n) (none_gives P wanted P.functions n (past_all P wanted))
-
 pub number_there : (P : Program) (wanted : Gives) (f : ℕ) → IsCalled P wanted (number_of P wanted f)
-number_there P wanted f = called_by P wanted f (gives_at P wanted f) refl
-
-same_by : (P : Program) (wanted : Gives) (f : ℕ) (b : Bool) → gives_at P wanted f ≡ b → function_at P wanted (if b then f else number_of_nothing P wanted) ≡ function_at P wanted f
-same_by P wanted f true e = refl
-same_by P wanted f false e =
-    let n = number_of_nothing P wanted in
-    sym (out_of_list P wanted P.functions n (none_gives P wanted P.functions n (past_all P wanted))) ∙ out_of_list P wanted P.functions f e
+number_there P wanted f = by_test (λ b. IsCalled P wanted (if b then f else number_of_nothing P wanted)) (gives_at P wanted f)
+    (λ e. ap (λ c. if c then f else number_of_nothing P wanted) e)
+    (λ e. let n = number_of_nothing P wanted in ap (λ c. if c then n else n) (none_gives P wanted P.functions n (past_all P wanted)))
 
 -- a function that there isn't is as the one that is called for it
 pub function_same : (P : Program) (wanted : Gives) (f : ℕ) → function_at P wanted (number_of P wanted f) ≡ function_at P wanted f
-function_same P wanted f = same_by P wanted f (gives_at P wanted f) refl
+function_same P wanted f = by_test (λ b. function_at P wanted (if b then f else number_of_nothing P wanted) ≡ function_at P wanted f) (gives_at P wanted f) (λ e. refl) (λ e.
+    let n = number_of_nothing P wanted in
+    sym (out_of_list P wanted P.functions n (none_gives P wanted P.functions n (past_all P wanted))) ∙ out_of_list P wanted P.functions f e)
 
 pub slots_same : (P : Program) (wanted : Gives) (f : ℕ) → slots_of P wanted (number_of P wanted f) ≡ slots_of P wanted f
 slots_same P wanted f = ap (λ (g : Function). g.slots) (function_same P wanted f)
