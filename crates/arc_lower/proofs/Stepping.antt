@@ -407,8 +407,10 @@ module _ (R : resolved.Program) (all : List Order) (table : List (Height × Give
             let at_message : Stands given (pc + 1) one = record { height = f.2.0; order = message; is = f.2.1; no_end = λ same. subst IsMessage same tt } in
             let at_settle : Stands given (pc + 1 + 1) two = record { height = f.2.2.0; order = Settle; is = f.2.2.1; no_end = λ same. subst IsSettle same tt } in (
               opens_goes pc h (Plain Alloc) tt f.0 f.1,
-              (((h, given), f.0, (t.0, (at_message, λ k c. absurd (message_clears (pc + 1) f.2.1 k c)), inr (refl, λ y e settles. subst IsSettle (some_same y message (sym e ∙ f.2.1)) settles))),
-              (((one, given), f.2.0, ((omega arith, omega arith), (at_settle, λ k c. absurd (settle_clears (pc + 1 + 1) f.2.2.1 k c)), inr (refl, refl, refl, f.2.2.1))), (((two, given), f.2.2.0, subst (Goes given (pc + 1 + 1 + 1)) (sym t.1) (subst (λ n. Goes given n g) size end)), tt))),
+              (
+                ((h, given), f.0, (t.0, (at_message, λ k c. absurd (message_clears (pc + 1) f.2.1 k c)), inr (refl, λ y e settles. subst IsSettle (some_same y message (sym e ∙ f.2.1)) settles))),
+                (((one, given), f.2.0, ((omega arith, omega arith), (at_settle, λ k c. absurd (settle_clears (pc + 1 + 1) f.2.2.1 k c)), inr (refl, refl, refl, f.2.2.1))), (((two, given), f.2.2.0, subst (Goes given (pc + 1 + 1 + 1)) (sym t.1) (subst (λ n. Goes given n g) size end)), tt)),
+              ),
             )
         block_steps e turn l statement (IfNew class x y) h g pc pending here ways keeps t f end = either (has_new R class) (block_steps e turn l statement x h g pc pending here ways keeps) (block_steps e turn l statement y h g pc pending here ways keeps) t f end
           where

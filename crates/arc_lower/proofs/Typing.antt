@@ -228,9 +228,9 @@ module _ (P : Program) (r s : ℕ) where
         op 0 1 (suc a) (Get 0) (Plain (ops.SetGlobal i) ∷ []) (suc (suc a)) (suc a) refl (omega arith) (omega arith) (one 1 0 (suc (suc a)) (ops.SetGlobal i) (suc a) refl (omega arith) (omega arith))
     set_types slots depth (Local i) a h = by_test (λ t. Counts (suc a) (if t then Plain (Get 0) ∷ Plain (Set (suc depth + (slots - suc i))) ∷ [] else []) (suc a)) (nat_lt i slots)
         (λ e.
-            let lt = ltb-true i slots e in
-            let set = suc depth + (slots - suc i) in
-            op 0 1 (suc a) (Get 0) (Plain (Set set) ∷ []) (suc (suc a)) (suc a) refl (omega arith) (omega arith) (one 1 0 (suc (suc a)) (Set set) (suc a) refl (omega (arith, lt, h)) (omega arith)))
+        let lt = ltb-true i slots e in
+        let set = suc depth + (slots - suc i) in
+        op 0 1 (suc a) (Get 0) (Plain (Set set) ∷ []) (suc (suc a)) (suc a) refl (omega arith) (omega arith) (one 1 0 (suc (suc a)) (Set set) (suc a) refl (omega (arith, lt, h)) (omega arith)))
         (λ e. refl)
 
   -- ---- references, and calls
