@@ -25,8 +25,8 @@ use Rattle.arc_lower.proofs.Leading.{Leads, leads_same, leads_trans, leads_step,
 use Rattle.arc_lower.proofs.Doing.{recounted, recount, moves, at, counting, held_of, resumed_as, HasAt, has_front, has_back}
 use Rattle.arc_lower.proofs.Stacking.{onto, first_length, passing_leads}
 use Rattle.arc_lower.proofs.Shaping.{then_twice}
-use Rattle.arc_lower.proofs.Releasing.{Kept, kept_trans, Ends, laid, dying_in, object_runs, there_runs, place_runs, lets_runs}
-use Rattle.arc_lower.proofs.Running.{after_call, Returns, answered, Deep, past_end, same_put}
+use Rattle.arc_lower.proofs.Releasing.{Kept, kept_trans, Ends, laid, dying_in, object_runs, there_runs, place_takes, lets_runs}
+use Rattle.arc_lower.proofs.Running.{after_call, Returns, answered, Deep, same_put}
 use Rattle.arc_lower.proofs.Leaving.{leaving, Left, function_runs}
 use Rattle.arc_lower.proofs.Linking.{Begins, call_enters, function_gives, Stub, Meets, Same, Linked, lookup_meets, descent_same, fields_same, strong_fields_same, order_same, found_same}
 
@@ -317,20 +317,10 @@ module _ (p : Program) (R : resolved.Program) (bound : ℕ) (begins : (wanted : 
           let go : Object → Next State = λ ob. on_place (slice_get ob.strong index) (stays h) (λ old. lets_go old (raised 0 (with_strong_field h o ob index 0)) stays (ends w)) in
           there_runs p bound w.input w.trace (Goes_on w) (meant (object_at w.objects o)) (object_at w.objects o) go (λ ob found there.
           subst (λ f. Runs (moves p) bound (follow (recount (go ob)) w.input w.trace) (Goes_on w) (meant f)) (sym found)
-          (place_runs p bound w.input w.trace (Goes_on w) (meant (Some ob)) (slice_get ob.strong index) (stays h) (λ old. lets_go old (raised 0 (with_strong_field h o ob index 0)) stays (ends w))
-          (λ none.
-          let le = past_end ob.strong index none in
-          let same : slice_set ob.strong index 0 ≡ ob.strong = set_past ob.strong index 0 le in
-          let nil : name_at ob.strong index ≡ 0 = get_or_past ob.strong index 0 le in
-          let is : meant (Some ob) ≡ Done finished w =
-          ap (λ q. released D q (field_stores o ob index 0 w)) nil ∙ ap (λ l. Done finished (with_objects w (with_object w.objects o (with_strong_fields ob l)))) same ∙ ap (λ l. Done finished (with_objects w l)) (put_same w.objects o ob found) in
-          subst (Runs (moves p) bound (follow (recount (stays h)) w.input w.trace) (Goes_on w)) (sym is) (stays_run w h.counts))
-          (λ old named.
+          (place_takes p bound rs D w own_frame (stacked w) (Goes_on w) (λ x. x) ob.strong index 0 (stays h) (λ old. lets_go old (raised 0 (with_strong_field h o ob index 0)) stays (ends w))
+          (λ l. with_objects w (with_object w.objects o (with_strong_fields ob l))) (ap (with_objects w) (put_same w.objects o ob found)) (stays_run w h.counts) (λ old named.
           let w1 = field_stores o ob index 0 w in
-          subst (λ q. Runs (moves p) bound
-          (follow (recount (lets_go old (raised 0 (with_strong_field h o ob index 0)) stays (ends w))) w.input w.trace) (Goes_on w)
-          (released D q w1)) (sym (get_or_from_slice_get ob.strong index old 0 named))
-          (better_runs (moves p) bound _ (Goes_on w1) (Goes_on w) (released D old w1) (lets_run w old (raised 0 h).counts w1 (λ k. dropped_count o ob index old k w found there named)) (λ done w2 to m. (m.0, record { frame = m.1.frame; waiting = m.1.waiting }))))))
+          better_runs (moves p) bound _ (Goes_on w1) (Goes_on w) (released D old w1) (lets_run w old (raised 0 h).counts w1 (λ k. dropped_count o ob index old k w found there named)) (λ done w2 to m. (m.0, record { frame = m.1.frame; waiting = m.1.waiting })))))
 
     -- ---- what is left of an end
 

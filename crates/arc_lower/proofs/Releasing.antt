@@ -2,7 +2,7 @@
 use Rattle.std.proofs.Common.{◌≡◌, ℕ, zero, suc, ◌+◌, ◌-◌, ◌≤◌, ℤ, Bool, true, false, not, ◌&&◌, nat_eq, nat_lt, if◌then◌else◌, List, [], ◌∷◌, ◌++◌, length, Option, Some, None, slice_get, slice_set, refl, sym, ap, ◌∙◌, subst, arith, length-append}
 use Rattle.std.proofs.lemmas.Bool.{ltb-true, ltb-false}
 use Rattle.std.proofs.lemmas.List.{length-set, get_or_past, set_past}
-use Rattle.std.proofs.lemmas.Option.{slice_get-get_or}
+use Rattle.std.proofs.lemmas.Option.{get_or_from_slice_get, none-some, slice_get-get_or}
 use Rattle.arc_spec.specs.declared.event.Event.{Event}
 use Rattle.arc_spec.specs.declared.location.Location.TheVariants.{Local, Global}
 use Rattle.arc_spec.specs.Objects.{Object, Dying, object_at, with_object, in_phase, with_strong_fields, is_live, names, field_places}
@@ -85,6 +85,11 @@ module _ (p : Program) (bound : ℕ) {A : Type 0} (i : List ℕ) (t : List Event
   named_runs zero h next go = go
   named_runs (suc k) h next go = object_runs (object_at h.objects (suc k)) (λ _. next) (λ ob e. go)
 
+past_end : (names : List ℕ) (i : ℕ) → slice_get names i ≡ None → length names ≤ i
+past_end [] i e = omega arith
+past_end (q ∷ names) zero e = absurd (none-some q (sym e))
+past_end (q ∷ names) (suc i) e = omega (arith, past_end names i e)
+
 -- a place that named this is dropped: the actions test the count where the meaning looks at the places
 same_test : (k : ℕ) (ob : Object) (c : ℕ → ℕ) (w : World) → object_at w.objects (suc k) ≡ Some ob → c (suc k) ≡ suc (holders (suc k) (places w)) → (is_live (Some ob) && nat_eq (c (suc k)) 1) ≡ (is_live (object_at w.objects (suc k)) && not (names (suc k) (places w)))
 same_test k ob c w found count = ap (λ f. is_live f && nat_eq (c (suc k)) 1) (sym found) ∙ ap (λ b. is_live (object_at w.objects (suc k)) && b) (last_one (suc k) (c (suc k)) (places w) count)
@@ -113,6 +118,16 @@ module _ (p : Program) (bound : ℕ) (rs : List ℕ) (D : Deeper) (w : World) (f
       subst (λ b. Comes_to (go ob b) (released D (suc k) w)) (sym (same_test k ob c w found one))
       (by_test (is_live (object_at w.objects (suc k)) && not (names (suc k) (places w))) _ _ (D.end_of (suc k) w) (Done finished w) (begin k ob less found)
       (stay less (λ j. omega (arith, lowered_count (suc k) (held_by c) (suc j), count j, holders_head (suc j) (suc k) (places w))))))
+
+  -- a place of some takes another object, where there is such a place
+  pub place_takes : (places' : List ℕ) (i r : ℕ) (none : Next State) (go : ℕ → Next State) (with : List ℕ → World) → with places' ≡ w → Comes_to none (Done finished w)
+      → ((old : ℕ) → slice_get places' i ≡ Some old → Comes_to (go old) (released D old (with (slice_set places' i r)))) → Comes_to (on_place (slice_get places' i) none go) (released D (name_at places' i) (with (slice_set places' i r)))
+  place_takes places' i r none go with is stay release =
+      let after = with (slice_set places' i r) in
+      place_runs p bound w.input w.trace end (meant (released D (name_at places' i) after)) (slice_get places' i) none go (λ e.
+      let le = past_end places' i e in
+      subst (λ q. Comes_to none (released D q after)) (sym (get_or_past places' i 0 le)) (subst (λ x. Comes_to none (Done finished x)) (sym (ap with (set_past places' i r le) ∙ is)) stay))
+      (λ old found. subst (λ q. Comes_to (go old) (released D q after)) (sym (get_or_from_slice_get places' i old 0 found)) (release old found))
 
 -- variables that are emptied, from the first one on, the last one first
 abbrev pub empties : (first count : ℕ) → List ℕ → List ℕ

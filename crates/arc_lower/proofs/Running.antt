@@ -38,7 +38,7 @@ use Rattle.arc_lower.proofs.Leading.{Leads, leads_same, leads_trans, leads_step,
 use Rattle.arc_lower.proofs.Cases.{by_test}
 use Rattle.arc_lower.proofs.Doing.{fresh, recount, moves, at, held_of, bare, does, HasAt, has_front, has_back}
 use Rattle.arc_lower.proofs.Stacking.{onto, Peels, peels_onto, drop_onto, without_below, get_onto, get_local, set_local, get_below, set_below, print_passes, forgets_shift, passing_leads}
-use Rattle.arc_lower.proofs.Releasing.{Kept, kept_same, Ends, Stays, object_runs, there_runs, place_runs, named_runs, global_runs, strong_field_runs, emptied, empties, dropped_runs, settled_runs, no_variable, changes_runs, empties_run}
+use Rattle.arc_lower.proofs.Releasing.{Kept, kept_same, Ends, Stays, object_runs, there_runs, place_takes, named_runs, global_runs, strong_field_runs, emptied, empties, dropped_runs, settled_runs, no_variable, changes_runs, empties_run}
 use Rattle.arc_lower.proofs.Shaping.{Operands, push, name, Way, On, Out, Quits, Turns, Lost, left_by, on_way, and_then, only_on, after_turn, on_test, top_of, taken_of, on_given, pushes, answers_left, passes_by, operation, message_sent, block_turns, loop_entered, block}
 use Rattle.arc_lower.proofs.Quiet.{takes_none, quiet_flat}
 
@@ -81,11 +81,6 @@ pub record Deep (p : Program) (frames : List Frame) (bound : ℕ) (R : resolved.
   pub same_descent : (from : Option ℕ) (other : ℕ) → descends p.classes from other ≡ descends D.classes from other
   pub same_fields : (class : ℕ) → count_of (slice_get p.classes class) ≡ field_count (slice_get D.classes class)
   pub same_strong : (class : ℕ) → strong_count (slice_get p.classes class) ≡ strong_count (slice_get D.classes class)
-
-pub past_end : (names : List ℕ) (i : ℕ) → slice_get names i ≡ None → length names ≤ i
-past_end [] i e = omega arith
-past_end (q ∷ names) zero e = absurd (none-some q (sym e))
-past_end (q ∷ names) (suc i) e = omega (arith, past_end names i e)
 
 -- an object that is put in its own place
 pub same_put : (objects : List Object) (k : ℕ) (o : Object) → slice_get objects k ≡ Some o → slice_set objects k o ≡ objects
@@ -630,17 +625,9 @@ module _ (p : Program) (frames : List Frame) (bound : ℕ) (R : resolved.Program
       let end = Stays frames rs stack (pc + 1) (stores (Global i) r w) in
       let o = assigned D (Global i) r w in
       one_runs p frames bound rs (StoreGlobal i) pc stack w end o has
-      (named_runs p bound w.input w.trace end o r h _ (place_runs p bound w.input w.trace end o (slice_get w.strong_globals i) (keeps st stack h) (λ old. releases p st old after)
-      (λ none.
-      let le = past_end w.strong_globals i none in
-      let same : slice_set w.strong_globals i r ≡ w.strong_globals = set_past w.strong_globals i r le in
-      let nil : name_at w.strong_globals i ≡ 0 = get_or_past w.strong_globals i 0 le in
-      let is : o ≡ Done finished w = ap (λ q. released D q (stores (Global i) r w)) nil ∙ ap (λ l. Done finished (with_strong_globals w l)) same in
-      subst (λ x. Runs (moves p) bound (next_of (keeps st stack h) w) end x) (sym is)
-      (quiet_runs p frames bound rs (pc + 1) stack w end (Done finished w) (ends_here (moves p) bound (running frames rs (pc + 1) stack w) end finished w (refl, record { frame = refl; waiting = refl }))))
-      (λ old found. subst (λ q. Runs (moves p) bound (next_of (releases p st old after) w) end (released D q (stores (Global i) r w)))
-      (sym (get_or_from_slice_get w.strong_globals i old 0 found))
-      (global_runs p frames bound rs D deep.ends i r old stack w pc found))))
+      (named_runs p bound w.input w.trace end o r h _ (place_takes p bound rs D w w.frame w.waiting end (λ x. x) w.strong_globals i r (keeps st stack h) (λ old. releases p st old after) (with_strong_globals w) refl
+      (quiet_runs p frames bound rs (pc + 1) stack w end (Done finished w) (ends_here (moves p) bound (running frames rs (pc + 1) stack w) end finished w (refl, record { frame = refl; waiting = refl })))
+      (λ old found. global_runs p frames bound rs D deep.ends i r old stack w pc found)))
 
   stored_good : (calm : Bool) (i : Location) (r : ℕ) (w : World) → Good calm w → Good calm (stores i r w)
   stored_good calm (Local i) r w g = (record { locals = g.0.locals; strong = length-set w.frame.strong i r ∙ g.0.strong; itself = g.0.itself; waits = g.0.waits }, g.1)
@@ -668,20 +655,11 @@ module _ (p : Program) (frames : List Frame) (bound : ℕ) (R : resolved.Program
       let meant : ℕ → Outcome Way = λ q. passes_by (name r s) (released D (name_at o.strong index) (field_stores q o index r w)) in
       let end = Leaves turn calm (pc + 1) in
       subst (λ q. Goes_on turn calm (next_of (on_place (slice_get o.strong index) (keeps st stack (held_of rs w)) (λ old. releases p st old (raised r (with_strong_field (held_of rs w) q o index r)))) w) (pc + 1) (meant q)) (sym e)
-      (place_runs p bound w.input w.trace end (meant (suc k)) (slice_get o.strong index) (keeps st stack (held_of rs w)) (λ old. releases p st old (raised r (with_strong_field (held_of rs w) (suc k) o index r)))
-      (λ none.
-      let le = past_end o.strong index none in
-      let same : slice_set o.strong index r ≡ o.strong = set_past o.strong index r le in
-      let nil : name_at o.strong index ≡ 0 = get_or_past o.strong index 0 le in
-      let is : released D (name_at o.strong index) (field_stores (suc k) o index r w) ≡ Done finished w =
-      ap (λ q. released D q (field_stores (suc k) o index r w)) nil ∙ ap (λ l. Done finished (with_objects w (slice_set w.objects k (with_strong_fields o l)))) same ∙ ap (λ l. Done finished (with_objects w l)) (same_put w.objects k o found) in
-      subst (λ m. Goes_on turn calm (next_of (keeps st stack (held_of rs w)) w) (pc + 1) (passes_by (name r s) m)) (sym is) (quietly turn calm (pc + 1) (name r s) w g))
-      (λ old named.
+      (place_takes p bound rs D w w.frame w.waiting end (passes_by (name r s)) o.strong index r (keeps st stack (held_of rs w)) (λ old. releases p st old (raised r (with_strong_field (held_of rs w) (suc k) o index r)))
+      (λ l. with_objects w (slice_set w.objects k (with_strong_fields o l))) (ap (with_objects w) (same_put w.objects k o found)) (quietly turn calm (pc + 1) (name r s) w g) (λ old named.
       let w1 = field_stores (suc k) o index r w in
       let good : Good calm w1 = (record { locals = g.0.locals; strong = g.0.strong; itself = g.0.itself; waits = g.0.waits }, g.1) in
-      subst (λ q. Goes_on turn calm (next_of (releases p st old (raised r (with_strong_field (held_of rs w) (suc k) o index r))) w)
-      (pc + 1) (passes_by (name r s) (released D q w1))) (sym (get_or_from_slice_get o.strong index old 0 named))
-      (stayed turn calm (pc + 1) (pc + 1) (name r s) w w1 (next_of (releases p st old (raised r (with_strong_field (held_of rs w) (suc k) o index r))) w) (released D old w1) refl good (strong_field_runs p frames bound rs D deep.ends k o index r old (held_of before w) stack w pc found there named) refl)))
+      stayed turn calm (pc + 1) (pc + 1) (name r s) w w1 (next_of (releases p st old (raised r (with_strong_field (held_of rs w) (suc k) o index r))) w) (released D old w1) refl good (strong_field_runs p frames bound rs D deep.ends k o index r old (held_of before w) stack w pc found there named) refl))
 
   assign_field_runs : (turn : Turn) (calm : Bool) (class index pc : ℕ) (numbers : List ℤ) (rs : List ℕ) (w : World) → Good calm w → HasAt p pc (StoreField class index ∷ []) → Goes_on turn calm (standing pc (record { numbers = numbers; names = rs }) w) (pc + 1) (block D bound 0 false (AssignField class index) (record { numbers = numbers; names = rs }) w)
   assign_field_runs turn calm class index pc numbers (r ∷ x ∷ rs) w g has =
