@@ -1,6 +1,7 @@
 -- A run does what a function does, and leaves it.
-use Rattle.std.proofs.Common.{◌≡◌, ℕ, zero, suc, ◌+◌, ◌-◌, ◌≤◌, ℤ, Bool, true, false, not, ◌&&◌, inl, inr, nat_lt, if◌then◌else◌, List, [], ◌∷◌, ◌++◌, length, take, Some, None, slice_get, slice_set, refl, sym, ap, ◌∙◌, subst, arith, append_assoc, length-append}
+use Rattle.std.proofs.Common.{◌≡◌, ℕ, zero, suc, ◌+◌, ◌-◌, ◌≤◌, ◌<◌, ℤ, Bool, true, false, not, ◌&&◌, inl, inr, nat_lt, if◌then◌else◌, List, [], ◌∷◌, ◌++◌, length, take, Some, None, slice_get, slice_set, refl, sym, ap, ◌∙◌, subst, arith, append_assoc, length-append}
 use Rattle.std.proofs.lemmas.Bool.{ltb-true, ltb-false, true≢false}
+use Rattle.std.proofs.Math.Seq.{take-nil}
 use Rattle.std.proofs.lemmas.List.{append-nil}
 use Rattle.std.proofs.lemmas.Bool.Decides.{nat_tests}
 use Rattle.arc_spec.specs.declared.class.Gives.{Gives}
@@ -42,8 +43,11 @@ nils_split zero b n le e = let same : n ≡ b = omega (arith, e) in ap nils same
 nils_split (suc a) b zero le e = absurd (omega (arith, le))
 nils_split (suc a) b (suc n) le e = ap (λ l. 0 ∷ l) (nils_split a b n (omega (arith, le)) (omega (arith, e)))
 
+fewest : (a b : ℕ) → (lesser a b ≤ a) × (lesser a b ≤ b) × (lesser a b < b → a ≡ lesser a b)
+fewest a b = (grind (arith, nat_tests), grind (arith, nat_tests), grind (arith, nat_tests))
+
 few_of : (a b : ℕ) → lesser a b ≤ b
-few_of a b = grind (arith, nat_tests)
+few_of a b = (fewest a b).1
 
 nil_there : (n : ℕ) (tail : List ℕ) → slice_get (nils (suc n) ++ tail) n ≡ Some 0
 nil_there zero tail = refl
@@ -296,40 +300,30 @@ module _ (p : Program) (frames : List Frame) (bound : ℕ) (R : resolved.Program
       one_runs p frames bound rs (Plain ReadSelf) pc stack w end o (has.0, tt)
       (named_runs p bound w.input w.trace end o self (named self (held_of rs w)) _ (quiet_runs p frames bound names1 (pc + 1) stack w1 end o stored))
 
+  rest_nil : (k : ℕ) → nils k ≡ first_names k []
+  rest_nil zero = refl
+  rest_nil (suc k) = ap (λ l. 0 ∷ l) (rest_nil k)
+
   -- what the first variables took, and nil for all others
+  firsts_are : (n more parameters : ℕ) (objects : List ℕ) → n ≤ parameters → (1 ≤ more → parameters ≡ n) → first_names n objects ++ nils more ≡ first_names (n + more) (take parameters objects)
+  firsts_are zero zero parameters objects le only = refl
+  firsts_are zero (suc more) parameters objects le only =
+      let none = only (omega arith) in
+      let size : suc more ≡ 0 + suc more = omega arith in
+      rest_nil (suc more) ∙ ap (λ k. first_names k (take 0 objects)) size ∙ ap (λ k. first_names (0 + suc more) (take k objects)) (sym none)
+  firsts_are (suc n) more zero objects le only = absurd (omega (arith, le))
+  firsts_are (suc n) more (suc parameters) [] le only =
+      let size : suc (n + more) ≡ suc n + more = omega arith in
+      ap (λ l. 0 ∷ l) (firsts_are n more parameters [] (omega (arith, le)) (λ some. let same = only some in omega (arith, same))) ∙ ap (λ l. first_names (suc (n + more)) (0 ∷ l)) (take-nil {A = ℕ} parameters) ∙ ap (λ k. first_names k []) size
+  firsts_are (suc n) more (suc parameters) (x ∷ objects) le only =
+      let size : suc (n + more) ≡ suc n + more = omega arith in
+      ap (λ l. x ∷ l) (firsts_are n more parameters objects (omega (arith, le)) (λ some. let same = only some in omega (arith, same))) ∙ ap (λ k. first_names k (x ∷ take parameters objects)) size
+
   first_are : (n count parameters : ℕ) (objects : List ℕ) → n ≡ lesser parameters count → first_names n objects ++ nils (count - n) ≡ first_names count (take parameters objects)
-  first_are n count parameters objects e = by (nat_lt parameters count) refl
-    where
-      rest_nil : (k : ℕ) → nils k ≡ first_names k []
-      rest_nil zero = refl
-      rest_nil (suc k) = ap (λ l. 0 ∷ l) (rest_nil k)
-
-      none_more : (a b : ℕ) → first_names a [] ++ nils b ≡ first_names (a + b) []
-      none_more zero b = let same : 0 + b ≡ b = omega arith in rest_nil b ∙ ap (λ k. first_names k []) (sym same)
-      none_more (suc a) b = let same : suc a + b ≡ suc (a + b) = omega arith in ap (λ l. 0 ∷ l) (none_more a b) ∙ ap (λ k. first_names k []) (sym same)
-
-      few : (a b : ℕ) (xs : List ℕ) → first_names a xs ++ nils b ≡ first_names (a + b) (take a xs)
-      few zero b xs = let same : 0 + b ≡ b = omega arith in rest_nil b ∙ ap (λ k. first_names k (take 0 xs)) (sym same)
-      few (suc a) b [] = none_more (suc a) b
-      few (suc a) b (x ∷ xs) = let same : suc a + b ≡ suc (a + b) = omega arith in ap (λ l. x ∷ l) (few a b xs) ∙ ap (λ k. first_names k (x ∷ take a xs)) (sym same)
-
-      all : (a b : ℕ) (xs : List ℕ) → a ≤ b → first_names a xs ++ [] ≡ first_names a (take b xs)
-      all zero b xs le = refl
-      all (suc a) zero xs le = absurd (omega (arith, le))
-      all (suc a) (suc b) [] le = ap (λ l. 0 ∷ l) (append-nil (first_names a []))
-      all (suc a) (suc b) (x ∷ xs) le = ap (λ l. x ∷ l) (all a b xs (omega (arith, le)))
-
-      by : (b : Bool) → nat_lt parameters count ≡ b → first_names n objects ++ nils (count - n) ≡ first_names count (take parameters objects)
-      by true lt =
-          let less = ltb-true parameters count lt in
-          let is : n ≡ parameters = e ∙ ap (λ t. if t then parameters else count) lt in
-          let whole : parameters + (count - parameters) ≡ count = omega (arith, less) in
-          ap (λ k. first_names k objects ++ nils (count - k)) is ∙ few parameters (count - parameters) objects ∙ ap (λ k. first_names k (take parameters objects)) whole
-      by false ge =
-          let most = ltb-false parameters count ge in
-          let is : n ≡ count = e ∙ ap (λ t. if t then parameters else count) ge in
-          let none : count - count ≡ 0 = omega arith in
-          ap (λ k. first_names k objects ++ nils (count - k)) is ∙ ap (λ k. first_names count objects ++ nils k) none ∙ all count parameters objects most
+  first_are n count parameters objects e =
+      let parts = fewest parameters count in
+      let size : n + (count - n) ≡ count = omega (arith, e, parts.1) in
+      firsts_are n (count - n) parameters objects (omega (arith, e, parts.0)) (λ some. omega (arith, e, parts.2, some)) ∙ ap (λ k. first_names k (take parameters objects)) size
 
   -- what a function begins with, where it owns `self` and where it doesn't
   abbrev opens : (owns : Bool) → (count few : ℕ) → List Order
