@@ -18,6 +18,7 @@ use Rattle.arc_lower.specs.Order.{Order}
 use Rattle.arc_lower.specs.Lowered.{empty_orders, all_empty_orders}
 use Rattle.arc_lower.proofs.CountsPlaces.{tally_same, holders_head, last_one, raised_count, lowered_count, variable_moves, global_moves, field_moves, second_moves}
 use Rattle.arc_lower.proofs.Leading.{Runs, stuck_runs, ends_here, then_at, better_runs, running, one_runs, quiet_runs}
+use Rattle.arc_lower.proofs.Cases.{by_test}
 use Rattle.arc_lower.proofs.Doing.{recount, moves, at, counting, held_of, bare, HasAt, has_front, has_back}
 
 -- the places of the functions are as they were
@@ -101,10 +102,6 @@ module _ (p : Program) (bound : ℕ) (rs : List ℕ) (D : Deeper) (w : World) (f
   abbrev held_by : (ℕ → ℕ) → Held
   held_by c = counting rs (laid w f waiting) c
 
-  by_test : (b : Bool) (x y : Next State) (m n : Outcome Finished) → Comes_to x m → Comes_to y n → Comes_to (if b then x else y) (if b then m else n)
-  by_test true x y m n h g = h
-  by_test false x y m n h g = g
-
   pub lets_runs : (r : ℕ) (c : ℕ → ℕ) (stays : Held → Next State) (ends : (o class : ℕ) → Held → Next State) → ((k : ℕ) → c (suc k) ≡ holders (suc k) (r ∷ places w))
       → ((less : ℕ → ℕ) → ((k : ℕ) → less (suc k) ≡ holders (suc k) (places w)) → Comes_to (stays (held_by less)) (Done finished w))
       → ((k : ℕ) (ob : Object) (less : ℕ → ℕ) → object_at w.objects (suc k) ≡ Some ob → Comes_to (ends (suc k) ob.class (dying_in rs (laid w f waiting) k ob less)) (D.end_of (suc k) w))
@@ -116,8 +113,8 @@ module _ (p : Program) (bound : ℕ) (rs : List ℕ) (D : Deeper) (w : World) (f
       let one : c (suc k) ≡ suc (holders (suc k) (places w)) = omega (arith, count k, holders_head (suc k) (suc k) (places w), tally_same (suc k)) in
       object_runs p bound w.input w.trace end (meant (released D (suc k) w)) (object_at w.objects (suc k)) (λ ob. go ob (is_live (Some ob) && nat_eq (c (suc k)) 1)) (λ ob found.
       subst (λ b. Comes_to (go ob b) (released D (suc k) w)) (sym (same_test k ob c w found one))
-      (by_test (is_live (object_at w.objects (suc k)) && not (names (suc k) (places w))) _ _ (D.end_of (suc k) w) (Done finished w) (begin k ob less found)
-      (stay less (λ j. omega (arith, lowered_count (suc k) (held_by c) (suc j), count j, holders_head (suc j) (suc k) (places w))))))
+      (by_test (λ b. Comes_to (go ob b) (if b then D.end_of (suc k) w else Done finished w)) (is_live (object_at w.objects (suc k)) && not (names (suc k) (places w))) (λ e. begin k ob less found)
+      (λ e. stay less (λ j. omega (arith, lowered_count (suc k) (held_by c) (suc j), count j, holders_head (suc j) (suc k) (places w))))))
 
   -- a place of some takes another object, where there is such a place
   pub place_takes : (places' : List ℕ) (i r : ℕ) (none : Next State) (go : ℕ → Next State) (with : List ℕ → World) → with places' ≡ w → Comes_to none (Done finished w)
@@ -227,20 +224,16 @@ module _ (p : Program) (frames : List Frame) (bound : ℕ) (rs : List ℕ) (D : 
   strong_field_runs j ob index r old h0 stack w pc found there named =
       release_runs old (raised r (held_of rs w)).counts h0 stack (field_stores (suc j) ob index r w) pc (λ k. raised_count r (held_of rs w) (suc k) ∙ sym (field_moves (suc k) (held_of rs w) j ob index old r found there named))
 
-  abbrev emptying : Bool → ℕ → List Order
-  emptying b i = if b then Empty i ∷ [] else []
-
-  empty_by : (b : Bool) (i : ℕ) (stack : List ℤ) (w : World) (pc : ℕ) → nat_lt i (length w.frame.strong) ≡ b → HasAt p pc (emptying b i) → Runs (moves p) bound (running frames rs pc stack w) (stays stack (pc + length (emptying b i)) (stores (Local i) 0 w)) (assigned D (Local i) 0 w)
-  empty_by true i stack w pc e has =
+  empty_runs : (count i : ℕ) (stack : List ℤ) (w : World) (pc : ℕ) → length w.frame.strong ≡ count → HasAt p pc (empty_orders count i) → Runs (moves p) bound (running frames rs pc stack w) (stays stack (pc + length (empty_orders count i)) (stores (Local i) 0 w)) (assigned D (Local i) 0 w)
+  empty_runs count i stack w pc size =
       let h = held_of rs w in
-      let s = at frames pc stack h in
+      let empties1 : Bool → List Order = λ b. if b then Empty i ∷ [] else [] in
+      let Does : List Order → Type 0 = λ xs. HasAt p pc xs → Runs (moves p) bound (running frames rs pc stack w) (stays stack (pc + length xs) (stores (Local i) 0 w)) (assigned D (Local i) 0 w) in
+      subst (λ m. Does (empty_orders m i)) size (by_test (λ b. Does (empties1 b)) (nat_lt i (length w.frame.strong)) (λ e has.
       let found = slice_get-get_or w.frame.strong i 0 (ltb-true i (length w.frame.strong) e) in
       one_runs p frames bound rs (Empty i) pc stack w (stays stack (pc + 1) (stores (Local i) 0 w)) (assigned D (Local i) 0 w) has
-      (subst (λ f. Runs (moves p) bound (follow (recount (on_found f (λ q. releases p s q (raised 0 (with_variables h (slice_set w.frame.strong i 0)))))) w.input w.trace) (stays stack (pc + 1) (stores (Local i) 0 w)) (assigned D (Local i) 0 w)) (sym found) (changes_runs i 0 (name_at w.frame.strong i) stack w pc found))
-  empty_by false i stack w pc e has = no_variable i 0 stack w pc (ltb-false i (length w.frame.strong) e)
-
-  empty_runs : (count i : ℕ) (stack : List ℤ) (w : World) (pc : ℕ) → length w.frame.strong ≡ count → HasAt p pc (empty_orders count i) → Runs (moves p) bound (running frames rs pc stack w) (stays stack (pc + length (empty_orders count i)) (stores (Local i) 0 w)) (assigned D (Local i) 0 w)
-  empty_runs count i stack w pc size = subst (λ m. HasAt p pc (empty_orders m i) → Runs (moves p) bound (running frames rs pc stack w) (stays stack (pc + length (empty_orders m i)) (stores (Local i) 0 w)) (assigned D (Local i) 0 w)) size (λ has. empty_by (nat_lt i (length w.frame.strong)) i stack w pc refl has)
+      (subst (λ f. Runs (moves p) bound (follow (recount (on_found f (λ q. releases p (at frames pc stack h) q (raised 0 (with_variables h (slice_set w.frame.strong i 0)))))) w.input w.trace) (stays stack (pc + 1) (stores (Local i) 0 w)) (assigned D (Local i) 0 w)) (sym found) (changes_runs i 0 (name_at w.frame.strong i) stack w pc found)))
+      (λ e has. no_variable i 0 stack w pc (ltb-false i (length w.frame.strong) e)))
 
   -- variables from the first one on, the last one first
   pub empties_run : (names' first count : ℕ) (stack : List ℤ) (w : World) (pc : ℕ) → length w.frame.strong ≡ names' → HasAt p pc (all_empty_orders names' first count) → Runs (moves p) bound (running frames rs pc stack w) (stays stack (pc + length (all_empty_orders names' first count)) (emptied first count w)) (variables_dropped D first count w)

@@ -573,10 +573,7 @@ module _ (p : Program) (frames : List Frame) (bound : ℕ) (R : resolved.Program
 
   -- ---- variables that name objects
 
-  abbrev reading_orders : Bool → ℕ → List Order
-  reading_orders b i = if b then Plain (ReadRef i) ∷ [] else Plain Nil ∷ Plain Hold ∷ []
-
-  read_by : (turn : Turn) (b : Bool) (i pc : ℕ) (s : Operands) (w : World) → nat_lt i (length w.frame.strong) ≡ b → Good false w → HasAt p pc (reading_orders b i) → Goes_on turn false (standing pc s w) (pc + length (reading_orders b i)) (Done (On (name (name_at w.frame.strong i) s)) (takes (name_at w.frame.strong i) w))
+  read_by : (turn : Turn) (b : Bool) (i pc : ℕ) (s : Operands) (w : World) → nat_lt i (length w.frame.strong) ≡ b → Good false w → HasAt p pc (if b then Plain (ReadRef i) ∷ [] else Plain Nil ∷ Plain Hold ∷ []) → Goes_on turn false (standing pc s w) (pc + length {A = Order} (if b then Plain (ReadRef i) ∷ [] else Plain Nil ∷ Plain Hold ∷ [])) (Done (On (name (name_at w.frame.strong i) s)) (takes (name_at w.frame.strong i) w))
   read_by turn true i pc s w e g has =
       let r = name_at w.frame.strong i in
       let found = slice_get-get_or w.frame.strong i 0 (ltb-true i (length w.frame.strong) e) in
@@ -596,10 +593,7 @@ module _ (p : Program) (frames : List Frame) (bound : ℕ) (R : resolved.Program
       (one_runs p frames bound (0 ∷ s.names) (Plain Hold) (pc + 1) (s.numbers ++ vars w) w (Leaves turn false (pc + 2)) o has.1
       (subst (λ n. Goes_on turn false (follow (Goes (state n (name 0 s) (takes 0 w)) []) w.input w.trace) (pc + 2) o) (sym e2) (holding turn false 0 (pc + 2) s w (λ x. x) g)))))
 
-  abbrev storing_orders : Bool → ℕ → List Order
-  storing_orders b i = if b then StoreStrong i ∷ [] else []
-
-  assign_by : (calm : Bool) (b : Bool) (i r pc : ℕ) (s : Operands) (w : World) → nat_lt i (length w.frame.strong) ≡ b → HasAt p pc (storing_orders b i) → Runs (moves p) bound (running frames (r ∷ s.names) pc (s.numbers ++ vars w) w) (Stays frames (r ∷ s.names) (s.numbers ++ vars w) (pc + length (storing_orders b i)) (stores (Local i) r w)) (assigned D (Local i) r w)
+  assign_by : (calm : Bool) (b : Bool) (i r pc : ℕ) (s : Operands) (w : World) → nat_lt i (length w.frame.strong) ≡ b → HasAt p pc (if b then StoreStrong i ∷ [] else []) → Runs (moves p) bound (running frames (r ∷ s.names) pc (s.numbers ++ vars w) w) (Stays frames (r ∷ s.names) (s.numbers ++ vars w) (pc + length {A = Order} (if b then StoreStrong i ∷ [] else [])) (stores (Local i) r w)) (assigned D (Local i) r w)
   assign_by calm true i r pc s w e has =
       let rs = r ∷ s.names in
       let h = held_of rs w in
@@ -854,10 +848,7 @@ module _ (p : Program) (frames : List Frame) (bound : ℕ) (R : resolved.Program
   read_runs turn false (Local i) pc s w free g has = subst (λ n. HasAt p pc (read_orders n (Local i)) → Goes_on turn false (standing pc s w) (pc + length (read_orders n (Local i))) (Done (On (name (name_at w.frame.strong i) s)) (takes (name_at w.frame.strong i) w))) g.0.strong (read_by turn (nat_lt i (length w.frame.strong)) i pc s w refl g) has
 
   -- temporaries are dropped, where some may be taken
-  abbrev dropping : Bool → List Order
-  dropping some = if some then DropAll ∷ [] else []
-
-  drops_by : (turn : Turn) (some : Bool) (pc : ℕ) (s : Operands) (w : World) → Good (not some) w → HasAt p pc (dropping some) → Goes_on turn true (standing pc s w) (pc + length (dropping some)) (passes_by s (all_dropped D w))
+  drops_by : (turn : Turn) (some : Bool) (pc : ℕ) (s : Operands) (w : World) → Good (not some) w → HasAt p pc (if some then DropAll ∷ [] else []) → Goes_on turn true (standing pc s w) (pc + length {A = Order} (if some then DropAll ∷ [] else [])) (passes_by s (all_dropped D w))
   drops_by turn true pc s w g has =
       let w1 = with_temporaries w [] in
       let good : Good true w1 = (record { locals = g.0.locals; strong = g.0.strong; itself = g.0.itself; waits = g.0.waits }, λ e. refl) in
@@ -1011,7 +1002,7 @@ module _ (p : Program) (frames : List Frame) (bound : ℕ) (R : resolved.Program
       let xs = actions Inside a in
       let ys = actions Inside b in
       let some = list_any order_takes xs in
-      let zs = dropping some in
+      let zs : List Order = if some then DropAll ∷ [] else [] in
       let q = pc + length xs in
       let r = q + length ys in
       let size : r + length zs ≡ pc + length (xs ++ (ys ++ zs)) = omega (arith, length-append xs (ys ++ zs), length-append ys zs) in
