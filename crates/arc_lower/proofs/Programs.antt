@@ -62,11 +62,11 @@ module _ (R : resolved.Program) where
   abbrev Both : ℕ → List (Height × Gives) → List Order → Type 0
   Both pc hs xs = HasPart table pc hs × HasPart all pc xs × (length hs ≡ length xs)
 
-  both_front : (pc : ℕ) (a b : List (Height × Gives)) (xs ys : List Order) → length a ≡ length xs → Both pc (a ++ b) (xs ++ ys) → Both pc a xs
-  both_front pc a b xs ys e f = (part_front table pc a b f.0, part_front all pc xs ys f.1, e)
-
-  both_back : (pc : ℕ) (a b : List (Height × Gives)) (xs ys : List Order) → length a ≡ length xs → Both pc (a ++ b) (xs ++ ys) → Both (pc + length xs) b ys
-  both_back pc a b xs ys e f = (subst (λ n. HasPart table (pc + n) b) e (part_back table pc a b f.0), part_back all pc xs ys f.1, omega (arith, e, f.2, length-append a b, length-append xs ys))
+  both_split : (pc : ℕ) (a b : List (Height × Gives)) (xs ys : List Order) → length a ≡ length xs → Both pc (a ++ b) (xs ++ ys) → Both pc a xs × Both (pc + length xs) b ys
+  both_split pc a b xs ys e f = (
+    (part_front table pc a b f.0, part_front all pc xs ys f.1, e),
+    (subst (λ n. HasPart table (pc + n) b) e (part_back table pc a b f.0), part_back all pc xs ys f.1, omega (arith, e, f.2, length-append a b, length-append xs ys)),
+  )
 
   abbrev Goes_to : Gives → ℕ → Height → Type 0
   Goes_to = Goes R all table
@@ -298,10 +298,10 @@ module _ (R : resolved.Program) where
     leave_length = marks_length g.gives g_base (walk g_first []) g_leave
 
     g_leave_row : Row R all table g.gives g_base place (walk g_first []) g_leave
-    g_leave_row = row g.gives g_base g_first place g_leave (both_front place (g_marks g_first g_leave) (g_marks g_entered g_body) g_leave g_body leave_length both)
+    g_leave_row = row g.gives g_base g_first place g_leave (both_split place (g_marks g_first g_leave) (g_marks g_entered g_body) g_leave g_body leave_length both).0
 
     g_body_row : Row R all table g.gives g_base (entry_of place g) (walk g_entered []) g_body
-    g_body_row = row g.gives g_base g_entered (entry_of place g) g_body (both_back place (g_marks g_first g_leave) (g_marks g_entered g_body) g_leave g_body leave_length both)
+    g_body_row = row g.gives g_base g_entered (entry_of place g) g_body (both_split place (g_marks g_first g_leave) (g_marks g_entered g_body) g_leave g_body leave_length both).1
 
     g_steps : Goes_to g.gives (entry_of place g) g_entered × Step_all place (function_orders R place g)
     g_steps = function_steps place g.slots (function_places g) g.names (object_parameters g) g.gives (opening_orders g) (opening_types g) (places_same g) g.body g_leave_row g_body_row
@@ -311,11 +311,11 @@ module _ (R : resolved.Program) where
   functions_begin (g ∷ fs) place zero f has e =
       let same : g ≡ f = cc in
       let xs = function_orders R place g in
-      let here = both_front place (in_function g.gives (function_heights R place g)) (functions_marks R (place + length xs) fs) xs _ (function_length place g) has in
+      let here = (both_split place (in_function g.gives (function_heights R place g)) (functions_marks R (place + length xs) fs) xs _ (function_length place g) has).0 in
       record { at = entry_of place g; is = refl; goes = subst (λ (h : Function). Goes_to h.gives (entry_of place g) (height h.slots (object_parameters h) 0 0)) same (g_steps place g here).0 }
   functions_begin (g ∷ fs) place (suc n) f has e =
       let xs = function_orders R place g in
-      let there = functions_begin fs (place + length xs) n f (both_back place (in_function g.gives (function_heights R place g)) (functions_marks R (place + length xs) fs) xs _ (function_length place g) has) e in
+      let there = functions_begin fs (place + length xs) n f (both_split place (in_function g.gives (function_heights R place g)) (functions_marks R (place + length xs) fs) xs _ (function_length place g) has).1 e in
       record { at = there.at; is = there.is; goes = there.goes }
 
   functions_step : (fs : List Function) (place : ℕ) → Both place (functions_marks R place fs) (functions_orders R place fs) → Step_all place (functions_orders R place fs)
@@ -324,8 +324,8 @@ module _ (R : resolved.Program) where
       let xs = function_orders R place g in
       let marks = in_function g.gives (function_heights R place g) in
       let rest = functions_marks R (place + length xs) fs in
-      step_then R all table place xs (functions_orders R (place + length xs) fs) (g_steps place g (both_front place marks rest xs _ (function_length place g) has)).1
-      (functions_step fs (place + length xs) (both_back place marks rest xs _ (function_length place g) has))
+      step_then R all table place xs (functions_orders R (place + length xs) fs) (g_steps place g (both_split place marks rest xs _ (function_length place g) has).0).1
+      (functions_step fs (place + length xs) (both_split place marks rest xs _ (function_length place g) has).1)
 
   functions_length : (fs : List Function) (place : ℕ) → length (functions_marks R place fs) ≡ length (functions_orders R place fs)
   functions_length [] place = refl
@@ -408,29 +408,21 @@ module _ (R : resolved.Program) where
   abbrev Classes : ℕ → List Class → Type 0
   Classes place cs = Both place (classes_marks R (entries_of R) cs) (classes_orders R (entries_of R) cs)
 
-  first_method : (place : ℕ) (m : Method) (others : List Method) → Methods place (m ∷ others) → Both place (method_marks m) (method_stub m)
-  first_method place m others has = both_front place (method_marks m) (methods_marks R (entries_of R) others) _ _ (method_length m) has
+  methods_split : (place : ℕ) (m : Method) (others : List Method) → Methods place (m ∷ others) → Both place (method_marks m) (method_stub m) × Methods (place + length (method_stub m)) others
+  methods_split place m others has = both_split place (method_marks m) (methods_marks R (entries_of R) others) _ _ (method_length m) has
 
-  other_methods : (place : ℕ) (m : Method) (others : List Method) → Methods place (m ∷ others) → Methods (place + length (method_stub m)) others
-  other_methods place m others has = both_back place (method_marks m) _ (method_stub m) _ (method_length m) has
+  classes_split : (place : ℕ) (c : Class) (others : List Class) → Classes place (c ∷ others) → Both place (class_marks R (entries_of R) c) (class_orders R (entries_of R) c) × Classes (place + length (class_orders R (entries_of R) c)) others
+  classes_split place c others has = both_split place (class_marks R (entries_of R) c) (classes_marks R (entries_of R) others) _ _ (class_length c) has
 
-  first_class : (place : ℕ) (c : Class) (others : List Class) → Classes place (c ∷ others) → Both place (class_marks R (entries_of R) c) (class_orders R (entries_of R) c)
-  first_class place c others has = both_front place (class_marks R (entries_of R) c) (classes_marks R (entries_of R) others) _ _ (class_length c) has
-
-  other_classes : (place : ℕ) (c : Class) (others : List Class) → Classes place (c ∷ others) → Classes (place + length (class_orders R (entries_of R) c)) others
-  other_classes place c others has = both_back place (class_marks R (entries_of R) c) _ (class_orders R (entries_of R) c) _ (class_length c) has
-
-  class_dealloc : (place : ℕ) (c : Class) → Both place (class_marks R (entries_of R) c) (class_orders R (entries_of R) c) → Both place (dealloc_marks c.dealloc) (dealloc_orders R (entries_of R) c.dealloc)
-  class_dealloc place c has = both_front place (dealloc_marks c.dealloc) (methods_marks R (entries_of R) c.methods) _ _ (dealloc_length c.dealloc) has
-
-  class_methods : (place : ℕ) (c : Class) → Both place (class_marks R (entries_of R) c) (class_orders R (entries_of R) c) → Methods (place + length (dealloc_orders R (entries_of R) c.dealloc)) c.methods
-  class_methods place c has = both_back place (dealloc_marks c.dealloc) _ (dealloc_orders R (entries_of R) c.dealloc) _ (dealloc_length c.dealloc) has
+  class_split : (place : ℕ) (c : Class) → Both place (class_marks R (entries_of R) c) (class_orders R (entries_of R) c)
+      → Both place (dealloc_marks c.dealloc) (dealloc_orders R (entries_of R) c.dealloc) × Methods (place + length (dealloc_orders R (entries_of R) c.dealloc)) c.methods
+  class_split place c has = both_split place (dealloc_marks c.dealloc) (methods_marks R (entries_of R) c.methods) _ _ (dealloc_length c.dealloc) has
 
   module _ (target : (wanted : Gives) (f : ℕ) → Goes_to wanted (slice_index_or (entries_of R) (number_of R wanted f) 0) (height (slots_of R wanted f) (parameters_of R wanted f) 0 0)) where
     methods_step : (ms : List Method) (place : ℕ) → Methods place ms → Step_all place (methods_orders R (entries_of R) ms)
     methods_step [] place has = tt
     methods_step (m ∷ others) place has =
-        step_then R all table place (method_stub m) (methods_orders R (entries_of R) others) (stub_steps m.gives (passes m.sign m.takes) m.objects m.runs place (first_method place m others has) (target m.gives m.runs)) (methods_step others (place + length (method_stub m)) (other_methods place m others has))
+        step_then R all table place (method_stub m) (methods_orders R (entries_of R) others) (stub_steps m.gives (passes m.sign m.takes) m.objects m.runs place (methods_split place m others has).0 (target m.gives m.runs)) (methods_step others (place + length (method_stub m)) (methods_split place m others has).1)
 
     dealloc_steps : (d : Option ℕ) (place : ℕ) → Both place (dealloc_marks d) (dealloc_orders R (entries_of R) d) → Step_all place (dealloc_orders R (entries_of R) d)
     dealloc_steps None place has = tt
@@ -439,19 +431,19 @@ module _ (R : resolved.Program) where
     classes_step : (cs : List Class) (place : ℕ) → Classes place cs → Step_all place (classes_orders R (entries_of R) cs)
     classes_step [] place has = tt
     classes_step (c ∷ others) place has =
-        let here = first_class place c others has in
+        let here = (classes_split place c others has).0 in
         let first = dealloc_orders R (entries_of R) c.dealloc in
         step_then R all table place (class_orders R (entries_of R) c) (classes_orders R (entries_of R) others)
-        (step_then R all table place first (methods_orders R (entries_of R) c.methods) (dealloc_steps c.dealloc place (class_dealloc place c here)) (methods_step c.methods (place + length first) (class_methods place c here)))
-        (classes_step others (place + length (class_orders R (entries_of R) c)) (other_classes place c others has))
+        (step_then R all table place first (methods_orders R (entries_of R) c.methods) (dealloc_steps c.dealloc place (class_split place c here).0) (methods_step c.methods (place + length first) (class_split place c here).1))
+        (classes_step others (place + length (class_orders R (entries_of R) c)) (classes_split place c others has).1)
 
   -- ---- what messages and ends of objects find
 
   found_goes : (ms : List Method) (place : ℕ) → Methods place ms → (sign : Sign) (selector takes objects : ℕ) (wanted : Gives) (to : ℕ) → found sign selector takes objects wanted (linked_methods R (entries_of R) place ms) ≡ Some to → Goes_to wanted to (height (passes sign takes) objects 0 0)
   found_goes [] place has sign selector takes objects wanted to e = cc
   found_goes (m ∷ others) place has sign selector takes objects wanted to e =
-      by (found_goes others (place + length (method_stub m)) (other_methods place m others has) sign selector takes objects wanted to)
-      (stub_starts m.gives (passes m.sign m.takes) m.objects m.runs place (first_method place m others has)).0 (answers sign selector takes objects wanted m) refl e
+      by (found_goes others (place + length (method_stub m)) (methods_split place m others has).1 sign selector takes objects wanted to)
+      (stub_starts m.gives (passes m.sign m.takes) m.objects m.runs place (methods_split place m others has).0).0 (answers sign selector takes objects wanted m) refl e
     where
       by : (found sign selector takes objects wanted (linked_methods R (entries_of R) (place + length (method_stub m)) others) ≡ Some to → Goes_to wanted to (height (passes sign takes) objects 0 0)) → Goes_to m.gives place (height (passes m.sign m.takes) m.objects 0 0) → (t : Bool) → answers sign selector takes objects wanted m ≡ t
           → (if t then Some place else found sign selector takes objects wanted (linked_methods R (entries_of R) (place + length (method_stub m)) others)) ≡ Some to → Goes_to wanted to (height (passes sign takes) objects 0 0)
@@ -474,10 +466,10 @@ module _ (R : resolved.Program) where
   class_finds : (cs : List Class) (place i : ℕ) (d : Class) → Classes place cs → slice_get (linked_classes R (entries_of R) place cs) i ≡ Some d → Finds d
   class_finds [] place i d has e = cc
   class_finds (c ∷ others) place zero d has e =
-      let here = first_class place c others has in
+      let here = (classes_split place c others has).0 in
       let q = place + length (dealloc_orders R (entries_of R) c.dealloc) in
-      subst Finds (some_same _ d e) (record { methods = λ sign selector takes objects wanted to e. found_goes c.methods q (class_methods place c here) sign selector takes objects wanted to e; dealloc = λ to e. stub_found c.dealloc place to (class_dealloc place c here) e })
-  class_finds (c ∷ others) place (suc i) d has e = class_finds others (place + length (class_orders R (entries_of R) c)) i d (other_classes place c others has) e
+      subst Finds (some_same _ d e) (record { methods = λ sign selector takes objects wanted to e. found_goes c.methods q (class_split place c here).1 sign selector takes objects wanted to e; dealloc = λ to e. stub_found c.dealloc place to (class_split place c here).0 e })
+  class_finds (c ∷ others) place (suc i) d has e = class_finds others (place + length (class_orders R (entries_of R) c)) i d (classes_split place c others has).1 e
 
   own_goes : (o : Option Class) → ((d : Class) → o ≡ Some d → Finds d) → (sign : Sign) (selector takes objects : ℕ) (wanted : Gives) (to : ℕ) → found sign selector takes objects wanted (own_methods o) ≡ Some to → Goes_to wanted to (height (passes sign takes) objects 0 0)
   own_goes None finds sign selector takes objects wanted to e = cc
@@ -516,19 +508,19 @@ module _ (R : resolved.Program) where
   has_all = (has_whole table, has_whole all, omega (arith, length-append (first ++ functions) (classes_marks R (entries_of R) R.classes), length-append (running_orders R) (classes_orders R (entries_of R) R.classes), running_length, classes_length R.classes))
 
   has_running : Both 0 (first ++ functions) (running_orders R)
-  has_running = both_front 0 (first ++ functions) (classes_marks R (entries_of R) R.classes) (running_orders R) (classes_orders R (entries_of R) R.classes) running_length has_all
+  has_running = (both_split 0 (first ++ functions) (classes_marks R (entries_of R) R.classes) (running_orders R) (classes_orders R (entries_of R) R.classes) running_length has_all).0
 
   none_more : (n : ℕ) → 0 + n ≡ n
   none_more n = omega arith
 
   has_start : Both 0 first (start_orders R)
-  has_start = both_front 0 first functions (start_orders R) function_list start_length has_running
+  has_start = (both_split 0 first functions (start_orders R) function_list start_length has_running).0
 
   has_functions : Both (length (start_orders R)) functions function_list
-  has_functions = subst (λ n. Both n functions function_list) (none_more (length (start_orders R))) (both_back 0 first functions (start_orders R) function_list start_length has_running)
+  has_functions = subst (λ n. Both n functions function_list) (none_more (length (start_orders R))) (both_split 0 first functions (start_orders R) function_list start_length has_running).1
 
   has_stubs : Classes (length (running_orders R)) R.classes
-  has_stubs = subst (λ n. Classes n R.classes) (none_more (length (running_orders R))) (both_back 0 (first ++ functions) (classes_marks R (entries_of R) R.classes) (running_orders R) (classes_orders R (entries_of R) R.classes) running_length has_all)
+  has_stubs = subst (λ n. Classes n R.classes) (none_more (length (running_orders R))) (both_split 0 (first ++ functions) (classes_marks R (entries_of R) R.classes) (running_orders R) (classes_orders R (entries_of R) R.classes) running_length has_all).1
 
   -- a function is entered with its variables
   pub entered_at : (wanted : Gives) (f : ℕ) → Entered (entries_of R) (number_of R wanted f) (function_at R wanted f)
