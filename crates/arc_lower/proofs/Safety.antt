@@ -29,6 +29,7 @@ use Rattle.arc_code.specs.Instructions as instructions
 use Rattle.arc_lower.specs.Order.{Order, order, orders}
 use Rattle.arc_lower.specs.Lowered.{slots_of, parameters_of, entries_of, end_step_of, lowered as lowered_orders, classes_linked}
 use Rattle.arc_lower.specs.Heights.{height, next_height}
+use Rattle.arc_lower.proofs.Cases.{by_test}
 use Rattle.arc_lower.proofs.CountsPlaces.{IsThere, AllThere, place_there, name_there, object_goes, named_goes, set_here, set_same, set_other, holders_head, holders_nil, holders_append, all_holders, live_there, there_fields}
 use Rattle.arc_lower.proofs.CountsKept.{Sane, Drops, nothing_sane, sane_moved, sane_names, sane_globals, sane_start, sane_entered, sane_take, sane_declare, fits_at, sane_counted, variables_there, waiting_there, stacked_there, globals_there, fields_there, sane_store, sane_store_global, sane_store_field, sane_drop, sane_settle, drops_there, sane_nil, sane_last, sane_other, sane_make, sane_field, sane_empty, sane_gone}
 use Rattle.arc_lower.proofs.Doing.{at, resumed_as, bare, does, acts_does}
@@ -323,16 +324,12 @@ module _ (p : Program) (R : resolved.Program) where
   taken_leads (suc takes) [] go le h = absurd (omega (arith, le))
   taken_leads (suc takes) (v ∷ rest) go le h = taken_leads takes rest go (omega (arith, le)) (λ rest1 e. h rest1 (omega (arith, e)))
 
-  if_leads : (b : Bool) (x y : Next State) → Leads x → Leads y → Leads (if b then x else y)
-  if_leads true x y h i = h
-  if_leads false x y h i = i
-
   field_leads : (class r : ℕ) (held : Held) (go : Object → Next State) → IsThere held.objects r → ((j : ℕ) (o : Object) → r ≡ suc j → object_at held.objects (suc j) ≡ Some o → is_there o.phase ≡ true → Leads (go o)) → Leads (on_field p.classes class r held go)
   field_leads class zero held go there h = tt
   field_leads class (suc j) held go there h =
       let o = there.0 in
       subst Leads (sym (object_goes (object_at held.objects (suc j)) o (λ x. if descends p.classes (Some x.class) class then go x else Faults FieldClass) there.1 there.2))
-      (if_leads (descends p.classes (Some o.class) class) (go o) (Faults FieldClass) (h j o refl there.1 there.2) tt)
+      (by_test (λ b. Leads (if b then go o else Faults FieldClass)) (descends p.classes (Some o.class) class) (λ e. h j o refl there.1 there.2) (λ e. tt))
 
   place_leads : (found : Option ℕ) (none : Next State) (go : ℕ → Next State) → (found ≡ None → Leads none) → ((old : ℕ) → found ≡ Some old → Leads (go old)) → Leads (on_place found none go)
   place_leads None none go h g = h refl
@@ -349,15 +346,11 @@ module _ (p : Program) (R : resolved.Program) where
   lets_go_leads (suc k) held stays ends drops h e =
       let there = drops_there (suc k) held drops in
       let ob = there.0 in
-      let go : Object → Next State = λ x. if is_live (Some x) && nat_eq (held.counts (suc k)) 1 then ends (suc k) x.class (with_things (lowered (suc k) held) (with_object held.objects (suc k) (in_phase Dying x))) else stays (lowered (suc k) held) in
-      subst Leads (sym (object_goes (object_at held.objects (suc k)) ob go there.1 there.2)) (by (is_live (Some ob) && nat_eq (held.counts (suc k)) 1) refl)
-    where
-      there : IsThere held.objects (suc k)
-      there = drops_there (suc k) held drops
-
-      by : (b : Bool) → (is_live (Some there.0) && nat_eq (held.counts (suc k)) 1) ≡ b → Leads (if b then ends (suc k) there.0.class (with_things (lowered (suc k) held) (with_object held.objects (suc k) (in_phase Dying there.0))) else stays (lowered (suc k) held))
-      by true t = e k there.0 refl there.1 (and_parts (is_live (Some there.0)) (nat_eq (held.counts (suc k)) 1) t).0
-      by false t = h (sane_other held k there.0 there.1 t drops)
+      let go : Object → Bool → Next State = λ x b. if b then ends (suc k) x.class (with_things (lowered (suc k) held) (with_object held.objects (suc k) (in_phase Dying x))) else stays (lowered (suc k) held) in
+      subst Leads (sym (object_goes (object_at held.objects (suc k)) ob (λ x. go x (is_live (Some x) && nat_eq (held.counts (suc k)) 1)) there.1 there.2))
+      (by_test (λ b. Leads (go ob b)) (is_live (Some ob) && nat_eq (held.counts (suc k)) 1)
+      (λ t. e k ob refl there.1 (and_parts (is_live (Some ob)) (nat_eq (held.counts (suc k)) 1) t).0)
+      (λ t. h (sane_other held k ob there.1 t drops)))
 
   last_leads : (r : ℕ) (temporaries : List ℕ) (held : Held) (go : ℕ → Held → Next State) → temporaries ≡ [] → LastIs r held.variables → Leads (go r (with_variables held [])) → Leads (on_result temporaries held go)
   last_leads r [] held go none last h = subst Leads (sym (last_goes r held.variables (λ q. go q (with_variables held [])) last)) h
@@ -806,10 +799,6 @@ module _ (p : Program) (R : resolved.Program) where
           λ r1. inr (inr (q.3, record { given = r1; made = m.made; rest = rest; others = m.others; names_are = refl; places_are = ap (λ l. r1 ∷ l) m.places_are; kept = subst (λ l. AllHeld l (m.others ++ waiting)) rest_same m.kept })))
           (λ over. absurd (message_stays selector takes objects wanted (SendTo selector takes objects wanted) refl (sym is ∙ over.0))) more) ready)
 
-      chosen_leads : (b : Bool) (x y : Next State) → Leads x → Leads y → Leads (chosen b x y)
-      chosen_leads false x y f g = f
-      chosen_leads true x y f g = g
-
       -- a field of an object takes what a reference names
       stored : (b : Bool) (j : ℕ) (ob : Object) {q : ℕ} → q ≡ suc j → object_at held.objects (suc j) ≡ Some ob → is_there ob.phase ≡ true → (index r : ℕ) → IsThere held.objects r → (own1 : List ℕ) → AllHeld own1 (held.temporaries ++ waiting) → (x : Height) → Goes_to mine (pc + 1) x
           → length stack ≡ x.numbers + below → length own1 ≡ x.names → x.temporaries ≡ h.temporaries → x.variables ≡ h.variables → is_emptying ob.phase ≡ b
@@ -832,9 +821,10 @@ module _ (p : Program) (R : resolved.Program) where
       order_leads (Plain x) is stands no_end nil ready st = operation_leads x is nil st.0 st.1 st.2
       order_leads (PrintText bytes) is stands no_end nil ready st = top_leads stack _ (omega (arith, count, st.0)) (λ c rest e. go_on (pc + 1) _ st.1 (counted c bytes ∷ rest) held own (omega (arith, count, st.0, e)) (omega (arith, size)) (omega (arith, few)) (omega (arith, many)) o)
       order_leads (Jump to) is stands no_end nil ready st = go_on (lands pc to) _ st.2 stack held own count size (omega (arith, few, st.1)) many o
-      order_leads (JumpZero to) is stands no_end nil ready st = top_leads stack _ (omega (arith, count, st.0)) (λ v rest e. chosen_leads (is_zero v) _ _
-          (go_on (pc + 1) _ st.1 rest held own (omega (arith, count, st.0, e)) (omega (arith, size)) (omega (arith, few)) (omega (arith, many)) o)
-          (go_on (lands pc to) _ st.2.2 rest held own (omega (arith, count, st.0, e)) (omega (arith, size)) (omega (arith, few, st.2.1)) (omega (arith, many)) o))
+      order_leads (JumpZero to) is stands no_end nil ready st = top_leads stack _ (omega (arith, count, st.0)) (λ v rest e.
+          by_test (λ b. Leads (chosen b (goes s rest) (Goes (at frames (lands pc to) rest held) []))) (is_zero v)
+          (λ _. go_on (lands pc to) _ st.2.2 rest held own (omega (arith, count, st.0, e)) (omega (arith, size)) (omega (arith, few, st.2.1)) (omega (arith, many)) o)
+          (λ _. go_on (pc + 1) _ st.1 rest held own (omega (arith, count, st.0, e)) (omega (arith, size)) (omega (arith, few)) (omega (arith, many)) o))
       order_leads (Call f wanted) is stands no_end nil ready st =
           let n = parameters_of R wanted f in
           let x = next_height R (Call f wanted) h in
