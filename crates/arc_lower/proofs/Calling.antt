@@ -89,9 +89,6 @@ places_put : (o : ℕ) (ob x : Object) (w : World) → object_at w.objects o ≡
 places_put zero ob x w found same = refl
 places_put (suc k) ob x w found same = ap (λ l. stacked w ++ (w.strong_globals ++ l)) (fields_put w.objects k ob x found same)
 
-turned_put : (phase : Phase) (objects : List Object) (o : ℕ) (ob : Object) → object_at objects o ≡ Some ob → turned_in phase objects o ≡ with_object objects o (in_phase phase ob)
-turned_put phase objects o ob found = rw found refl
-
 -- what a field named that is dropped
 dropped_count : (o : ℕ) (ob : Object) (index old k : ℕ) (w : World) → object_at w.objects o ≡ Some ob → is_there ob.phase ≡ true → slice_get ob.strong index ≡ Some old
     → (if nat_eq (suc k) 0 then suc (holders (suc k) (places w)) else holders (suc k) (places w)) ≡ holders (suc k) (old ∷ places (field_stores o ob index 0 w))
@@ -398,7 +395,7 @@ module _ (p : Program) (R : resolved.Program) (bound : ℕ) (begins : (wanted : 
           let from = follow (recount (clears p (at (frame ∷ frames) p.end_step stack (ended_held rs o w)) back waits o fields frames)) w.input w.trace in
           let path : from ≡ at_end rs inner1 o stack w1 =
           ap (λ t. Running (at inner1 p.end_step stack (recounted (with_things (ended_held rs o w) (turned_in Emptying w.objects o)))) w.input t) (append-nil w.trace)
-          ∙ ap (λ l. Running (at inner1 p.end_step stack (recounted (with_things (ended_held rs o w) l))) w.input w.trace) (turned_put Emptying w.objects o ob found)
+          ∙ ap (λ l. Running (at inner1 p.end_step stack (recounted (with_things (ended_held rs o w) l))) w.input w.trace) (rw found refl)
           in
           leads_runs (moves p) bound from (at_end rs inner1 o stack w1) (Back w) meant (leads_same (moves p) _ _ path)
           (back_from w w1 (at_end rs inner1 o stack w1) meant (record { frame = refl; waiting = refl }) (fields_run fields w1 still))

@@ -60,9 +60,6 @@ within_keeps a k.Object v e h = refl
 within_keeps a k.Void v e h = refl
 within_keeps _ _ v e h = absurd (false≢true e)
 
-other_way : (n m : ℕ) → nat_le n m ≡ false → nat_le m n ≡ true
-other_way n m e = let lt = leb-false n m e in grind (arith, nat_tests, lt)
-
 first_of_two : (a b : Kind) (v : ℤ) → IsOf a v → IsOf (wider a b) v
 first_of_two a b v h = by_test (λ t. IsOf (if t then b else a) v) (is_within a b)
     (λ e. within_keeps a b v e h)
@@ -71,7 +68,7 @@ first_of_two a b v h = by_test (λ t. IsOf (if t then b else a) v) (is_within a 
 second_of_two : (a b : Kind) (v : ℤ) → IsOf b v → IsOf (wider a b) v
 second_of_two a b v h = by_test (λ t. IsOf (if t then b else a) v) (is_within a b)
     (λ e. h)
-    (λ e. within_keeps b a v (other_way (width a) (width b) e) h)
+    (λ e. within_keeps b a v (let lt = leb-false (width a) (width b) e in grind (arith, nat_tests, lt)) h)
 
 -- what a conversion gives
 both_kinds : (a b : Kind) (v : ℤ) → IsOf a v → IsOf (narrower a b) (converted b v)

@@ -56,10 +56,6 @@ module _ (P : Program) (r s slots names exit d : ℕ) (room : names ≤ d + s) w
       let forks : Forks P (height (suc a) b c d) (height a b c d) first.more (height n m rest.more d) = record { some = omega arith; left = heights_same _ _ _ _ a b c d (omega arith) (omega arith) (omega arith) (omega arith); first = first.most; next = rest.most } in
       record { more = rest.more; most = omega (arith, first.most, rest.most); types = (height a b c d, first.more, forks, tt, first.types, rest.types) }
 
-  -- what a message leaves
-  class_left : (g : Gives) (n m a b c : ℕ) → after_effect (height (n + suc a) (m + b) c d) (giving g (suc n) m) ≡ height (as_number g + a) (as_object g + b) (c + as_object g) d
-  class_left g n m a b c = heights_same _ _ _ _ (as_number g + a) (as_object g + b) (c + as_object g) d (omega arith) (omega arith) (omega arith) (omega arith)
-
   object_left : (g : Gives) (n m a b c : ℕ) → after_effect (height (n + a) (m + suc b) c d) (giving g n (suc m)) ≡ height (as_number g + a) (as_object g + b) (c + as_object g) d
   object_left g n m a b c = heights_same _ _ _ _ (as_number g + a) (as_object g + b) (c + as_object g) d (omega arith) (omega arith) (omega arith) (omega arith)
 
@@ -81,7 +77,7 @@ module _ (P : Program) (r s slots names exit d : ℕ) (room : names ≤ d + s) w
     more = c + as_object g;
     most = omega arith;
     types =
-        ((omega arith, omega arith), class_left g n m a b c);
+        ((omega arith, omega arith), (heights_same _ _ _ _ (as_number g + a) (as_object g + b) (c + as_object g) d (omega arith) (omega arith) (omega arith) (omega arith)));
   }
 
   called : (g : Gives) (f n m a b c : ℕ) → Comes (n + a) (m + b) c (Calls g f n m) (as_number g + a) (as_object g + b)
@@ -94,9 +90,6 @@ module _ (P : Program) (r s slots names exit d : ℕ) (room : names ≤ d + s) w
   reported_types : (a b c : ℕ) → Comes (suc a) b c (SendsMessage gives.Object (ToClass new_selector) 0 0) a (suc b)
   reported_types a b c = record { more = c + 1; most = omega arith; types = ((omega arith, omega arith), heights_same _ _ _ _ a (suc b) (c + 1) d (omega arith) (omega arith) (omega arith) (omega arith)) }
 
-  reported_super_types : (from a b c : ℕ) → Comes (suc a) b c (SendsMessage gives.Object (ToSuperClass from new_selector) 0 0) a (suc b)
-  reported_super_types from a b c = record { more = c + 1; most = omega arith; types = ((omega arith, omega arith), heights_same _ _ _ _ a (suc b) (c + 1) d (omega arith) (omega arith) (omega arith) (omega arith)) }
-
   if_new : (class : ℕ) (x y : Block) (a b c n m : ℕ) → Comes a b c x n m → Comes a b c y n m → Comes a b c (IfNew class x y) n m
   if_new class x y a b c n m first other = either (has_new P class) refl
     where
@@ -104,13 +97,10 @@ module _ (P : Program) (r s slots names exit d : ℕ) (room : names ≤ d + s) w
       either true e = record { more = first.more; most = first.most; types = subst (λ t. ByTest t (Within (height a b c d) x (height n m first.more d)) (Within (height a b c d) y (height n m first.more d))) (sym e) first.types }
       either false e = record { more = other.more; most = other.most; types = subst (λ t. ByTest t (Within (height a b c d) x (height n m other.more d)) (Within (height a b c d) y (height n m other.more d))) (sym e) other.types }
 
-  either_new : (a b c : ℕ) → Comes (suc a) b c (Then (One (Finds new_selector)) (Fork (SendsMessage gives.Object (ToClass new_selector) 0 0) Making)) a (suc b)
-  either_new a b c = next {n = suc (suc a)} {m = b} (op (Finds new_selector) (omega arith) (omega arith) (omega arith) refl) (λ t. choice (reported_types a b t) (λ q. made_types a b q))
-
   new_types : (from : Option ℕ) (e : Value) (a b c : ℕ) → Comes (suc a) b c (new_block from e) a (suc b)
-  new_types (Some from) e a b c = if_new from _ Making (suc a) b c a (suc b) (reported_super_types from a b c) (made_types a b c)
+  new_types (Some from) e a b c = if_new from _ Making (suc a) b c a (suc b) (record { more = c + 1; most = omega arith; types = ((omega arith, omega arith), heights_same _ _ _ _ a (suc b) (c + 1) d (omega arith) (omega arith) (omega arith) (omega arith)) }) (made_types a b c)
   new_types None (Number (pos n)) a b c = if_new n _ Making (suc a) b c a (suc b) (reported_types a b c) (made_types a b c)
-  new_types None _ a b c = either_new a b c
+  new_types None _ a b c = next {n = suc (suc a)} {m = b} (op (Finds new_selector) (omega arith) (omega arith) (omega arith) refl) (λ t. choice (reported_types a b t) (λ q. made_types a b q))
 
   ends_with : {a b c n m u v : ℕ} {x : Block} → n ≡ u → m ≡ v → Comes a b c x n m → Comes a b c x u v
   ends_with {a = a} {b = b} {c = c} {n = n} {m = m} {u = u} {v = v} {x = x} e f first = subst (λ k. Comes a b c x u k) f (subst (λ k. Comes a b c x k m) e first)

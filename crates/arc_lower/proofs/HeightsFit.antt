@@ -36,16 +36,13 @@ at_most_then a b c first next = (omega (arith, first.0, next.0), omega (arith, f
 highest_left : (a b : Height) → AtMost a (highest a b)
 highest_left a b = (omega arith, omega arith, omega arith, omega arith)
 
-highest_right : (a b : Height) → AtMost b (highest a b)
-highest_right a b = (omega arith, omega arith, omega arith, omega arith)
-
 greatest_more : (hs : List Height) (most : Height) → AtMost most (greatest hs most)
 greatest_more [] most = (omega arith, omega arith, omega arith, omega arith)
 greatest_more (h ∷ hs) most = at_most_then most (highest most h) (greatest hs (highest most h)) (highest_left most h) (greatest_more hs (highest most h))
 
 none_greater : (hs : List Height) (most none : Height) (pc : ℕ) → AtMost none most → AtMost (get_or hs pc none) (greatest hs most)
 none_greater [] most none pc low = low
-none_greater (h ∷ hs) most none zero low = at_most_then h (highest most h) (greatest hs (highest most h)) (highest_right most h) (greatest_more hs (highest most h))
+none_greater (h ∷ hs) most none zero low = at_most_then h (highest most h) (greatest hs (highest most h)) ((omega arith, omega arith, omega arith, omega arith)) (greatest_more hs (highest most h))
 none_greater (h ∷ hs) most none (suc pc) low = none_greater hs (highest most h) none pc (at_most_then none most (highest most h) low (highest_left most h))
 
 -- ---- heights with what functions give

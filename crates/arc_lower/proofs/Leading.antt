@@ -47,9 +47,6 @@ module _ {S : Type 0} (step : S → Next S) where
   abbrev pub At : {A : Type 0} → (good : A → World → Type 0) → (exit : A → World → Reached S) → A → World → Reached S → Type 0
   At good exit a w to = (to ≡ exit a w) × good a w
 
-  pub wedges_from : (r r' : Reached S) → Leads r r' → Wedges r' → Wedges r
-  wedges_from r r' p q = (q.0, q.1, leads_trans r r' (Wedged q.0 q.1) p q.2)
-
   pub stuck_runs : {A : Type 0} (bound : ℕ) (i : List ℕ) (t : List Event) (end : A → World → Reached S → Type 0) (o : Outcome A) → Runs bound (Wedged i t) end o
   stuck_runs bound i t end o = inl (i, t, leads_same (Wedged i t) (Wedged i t) refl)
 
@@ -62,7 +59,7 @@ module _ {S : Type 0} (step : S → Next S) where
   comes_by least bound r r' end (Cut w) p le q = (q.0 + p.steps, q.1, omega (arith, le, q.2), steps_more q.0 p.steps r ∙ ap (after_steps step q.0) p.there ∙ q.3)
 
   runs_by : {A : Type 0} (least bound : ℕ) (r r' : Reached S) (end : A → World → Reached S → Type 0) (o : Outcome A) (p : Leads r r') → least ≤ p.steps + bound → Runs bound r' end o → Runs least r end o
-  runs_by least bound r r' end o p le (inl q) = inl (wedges_from r r' p q)
+  runs_by least bound r r' end o p le (inl q) = inl ((q.0, q.1, leads_trans r r' (Wedged q.0 q.1) p q.2))
   runs_by least bound r r' end o p le (inr q) = inr (comes_by least bound r r' end o p le q)
 
   pub leads_runs : {A : Type 0} (bound : ℕ) (r r' : Reached S) (end : A → World → Reached S → Type 0) (o : Outcome A) → Leads r r' → Runs bound r' end o → Runs bound r end o

@@ -157,16 +157,13 @@ module _ (R : resolved.Program) where
     same_place : (i j : ℕ) (x y : Order) → x ≡ Empty i → y ≡ Empty j → x ≡ y → i ≡ j
     same_place i j x y e f same = cc
 
-    other_order : (i : ℕ) (x y : Order) → Takes y → x ≡ Empty i → x ≡ y → ⊥
-    other_order i x y takes e same = subst Takes (sym same ∙ e) takes
-
     emptying : (n pc : ℕ) → n ≤ names → Rows pc leaving (emptied n ++ (keep ++ last_order ∷ [])) → Emptying n pc
     emptying zero pc le f = let there = takes_stand R all table given base pc (walk leaving []) keep last_order (leaving_is given) (keep_takes slots) f in (tt, there.0, there.1, there.2)
     emptying (suc n) pc le f = by (nat_lt (0 + n) names) refl (λ rest. emptying n (pc + 1) (omega (arith, le)) rest) f
       where
         only : slice_get all pc ≡ Some (Empty (0 + n)) → (k : ℕ) → Clears R all table k pc → k ≡ suc n
         only is zero (zero, y) = absurd (leaves_keep y.0 (0 + n) y.2 (some_same {A = Order} y.0 (Empty (0 + n)) (sym y.1 ∙ is)))
-        only is zero (suc m, y) = absurd (other_order (0 + n) (Empty (0 + n)) y.0 y.2 refl (some_same {A = Order} (Empty (0 + n)) y.0 (sym is ∙ y.1)))
+        only is zero (suc m, y) = absurd (subst Takes (sym (some_same {A = Order} (Empty (0 + n)) y.0 (sym is ∙ y.1)) ∙ refl) y.2)
         only is (suc j) c = let i = same_place j (0 + n) (Empty j) (Empty (0 + n)) refl refl (some_same {A = Order} (Empty j) (Empty (0 + n)) (sym c.0 ∙ is)) in omega (arith, i)
 
         by : (b : Bool) → nat_lt (0 + n) names ≡ b → (Rows (pc + 1) leaving (emptied n ++ (keep ++ last_order ∷ [])) → Emptying n (pc + 1)) → Rows pc leaving (((if b then Empty (0 + n) ∷ [] else []) ++ emptied n) ++ (keep ++ last_order ∷ [])) → Step_all pc ((if b then Empty (0 + n) ∷ [] else []) ++ emptied n) × Stands R all table given pc leaving × ((k : ℕ) → Clears R all table k pc → k ≡ suc n) × Free R all table pc
@@ -248,9 +245,6 @@ module _ (R : resolved.Program) where
   objects_few : (a b : ℕ) → lesser a b ≤ b
   objects_few a b = grind (arith, nat_tests)
 
-  places_same : (g : Function) → function_places g ≡ g.names + as_object g.gives
-  places_same g = places_by g.gives g.names
-
   own_typed : (b : Bool) (slots places : ℕ) → Types R 0 0 (height slots 0 0 places) (if b then own_orders places else []) (height slots 0 0 places)
   own_typed true slots places = own_types R 0 0 places slots places (omega arith)
   own_typed false slots places = refl
@@ -304,7 +298,7 @@ module _ (R : resolved.Program) where
     g_body_row = row g.gives g_base g_entered (entry_of place g) g_body (both_split place (g_marks g_first g_leave) (g_marks g_entered g_body) g_leave g_body leave_length both).1
 
     g_steps : Goes_to g.gives (entry_of place g) g_entered × Step_all place (function_orders R place g)
-    g_steps = function_steps place g.slots (function_places g) g.names (object_parameters g) g.gives (opening_orders g) (opening_types g) (places_same g) g.body g_leave_row g_body_row
+    g_steps = function_steps place g.slots (function_places g) g.names (object_parameters g) g.gives (opening_orders g) (opening_types g) (places_by g.gives g.names) g.body g_leave_row g_body_row
 
   functions_begin : (fs : List Function) (place n : ℕ) (f : Function) → Both place (functions_marks R place fs) (functions_orders R place fs) → slice_get fs n ≡ Some f → Entered (entries_from R place fs) n f
   functions_begin [] place n f has e = cc

@@ -91,10 +91,6 @@ past_end [] i e = omega arith
 past_end (q ∷ names) zero e = absurd (none-some q (sym e))
 past_end (q ∷ names) (suc i) e = omega (arith, past_end names i e)
 
--- a place that named this is dropped: the actions test the count where the meaning looks at the places
-same_test : (k : ℕ) (ob : Object) (c : ℕ → ℕ) (w : World) → object_at w.objects (suc k) ≡ Some ob → c (suc k) ≡ suc (holders (suc k) (places w)) → (is_live (Some ob) && nat_eq (c (suc k)) 1) ≡ (is_live (object_at w.objects (suc k)) && not (names (suc k) (places w)))
-same_test k ob c w found count = ap (λ f. is_live f && nat_eq (c (suc k)) 1) (sym found) ∙ ap (λ b. is_live (object_at w.objects (suc k)) && b) (last_one (suc k) (c (suc k)) (places w) count)
-
 module _ (p : Program) (bound : ℕ) (rs : List ℕ) (D : Deeper) (w : World) (f : world.Frame) (waiting : List ℕ) {A : Type 0} (end : A → World → Reached State → Type 0) (meant : Outcome Finished → Outcome A) where
   abbrev Comes_to : Next State → Outcome Finished → Type 0
   Comes_to next o = Runs (moves p) bound (follow (recount next) w.input w.trace) end (meant o)
@@ -112,7 +108,7 @@ module _ (p : Program) (bound : ℕ) (rs : List ℕ) (D : Deeper) (w : World) (f
       let go : Object → Bool → Next State = λ ob b. if b then ends (suc k) ob.class (dying_in rs (laid w f waiting) k ob less) else stays (held_by less) in
       let one : c (suc k) ≡ suc (holders (suc k) (places w)) = omega (arith, count k, holders_head (suc k) (suc k) (places w), tally_same (suc k)) in
       object_runs p bound w.input w.trace end (meant (released D (suc k) w)) (object_at w.objects (suc k)) (λ ob. go ob (is_live (Some ob) && nat_eq (c (suc k)) 1)) (λ ob found.
-      subst (λ b. Comes_to (go ob b) (released D (suc k) w)) (sym (same_test k ob c w found one))
+      subst (λ b. Comes_to (go ob b) (released D (suc k) w)) (sym (ap (λ f. is_live f && nat_eq (c (suc k)) 1) (sym found) ∙ ap (λ b. is_live (object_at w.objects (suc k)) && b) (last_one (suc k) (c (suc k)) (places w) one)))
       (by_test (λ b. Comes_to (go ob b) (if b then D.end_of (suc k) w else Done finished w)) (is_live (object_at w.objects (suc k)) && not (names (suc k) (places w))) (λ e. begin k ob less found)
       (λ e. stay less (λ j. omega (arith, lowered_count (suc k) (held_by c) (suc j), count j, holders_head (suc j) (suc k) (places w))))))
 

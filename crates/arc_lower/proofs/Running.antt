@@ -271,9 +271,6 @@ module _ (p : Program) (frames : List Frame) (bound : ℕ) (R : resolved.Program
       one_passes p frames bound rs (Plain (Get (length s.numbers + n))) stack w (v ∷ stack) w (λ pc.
       subst (λ o. Leads (moves p) (follow (recount (on_found o (λ u. goes (at frames pc stack (held_of rs w)) (u ∷ stack)))) w.input w.trace) (running frames rs (pc + 1) (v ∷ stack) w)) (sym found) (quiet p frames bound rs (pc + 1) (v ∷ stack) w))
 
-  num_passes : (rs : List ℕ) (n : ℤ) (stack : List ℤ) (w : World) → Passes p frames bound rs (Plain (Num n) ∷ []) stack w (n ∷ stack) w
-  num_passes rs n stack w = one_passes p frames bound rs (Plain (Num n)) stack w (n ∷ stack) w (λ pc. quiet p frames bound rs (pc + 1) (n ∷ stack) w)
-
   abbrev loads : Operands → ℕ → World → List Order → Type 0
   loads s i w xs = Passes p frames bound s.names xs (s.numbers ++ vars w) w (local_at w.frame.locals i ∷ (s.numbers ++ vars w)) w
 
@@ -281,7 +278,7 @@ module _ (p : Program) (frames : List Frame) (bound : ℕ) (R : resolved.Program
   local_passes s i w depth size e = subst (λ n. loads s i w (get_orders n depth (Local i))) size (subst (λ d. loads s i w (get_orders (length w.frame.locals) d (Local i))) (sym e) (by_test (λ b. loads s i w (if b then Plain (Get (length s.numbers + (length w.frame.locals - suc i))) ∷ [] else Plain (Num (pos 0)) ∷ [])) (nat_lt i (length w.frame.locals))
       (λ e. get_passes s i w (ltb-true i (length w.frame.locals) e)) (λ e.
       let none : local_at w.frame.locals i ≡ pos 0 = get_or_past w.frame.locals i (pos 0) (ltb-false i (length w.frame.locals) e) in
-      subst (λ v. Passes p frames bound s.names (Plain (Num (pos 0)) ∷ []) (s.numbers ++ vars w) w (v ∷ (s.numbers ++ vars w)) w) (sym none) (num_passes s.names (pos 0) (s.numbers ++ vars w) w))))
+      subst (λ v. Passes p frames bound s.names (Plain (Num (pos 0)) ∷ []) (s.numbers ++ vars w) w (v ∷ (s.numbers ++ vars w)) w) (sym none) (one_passes p frames bound s.names (Plain (Num (pos 0))) (s.numbers ++ vars w) w ((pos 0) ∷ (s.numbers ++ vars w)) w (λ pc. quiet p frames bound s.names (pc + 1) ((pos 0) ∷ (s.numbers ++ vars w)) w)))))
 
   abbrev set_in : ℕ → ℤ → World → World
   set_in i v w = with_locals w (slice_set w.frame.locals i v)

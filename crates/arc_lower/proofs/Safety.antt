@@ -169,10 +169,6 @@ executes_at p [] pc x s e = cc
 executes_at p (y ∷ xs) zero x s e = acts_does p y s ∙ ap (λ z. does p z s) (some_same (order y) x e)
 executes_at p (y ∷ xs) (suc pc) x s e = executes_at p xs pc x s e
 
--- a message drops no temporary
-message_stays : (selector takes objects : ℕ) (wanted : Gives) (x : Order) → x ≡ SendTo selector takes objects wanted → Some x ≡ Some Settle → ⊥
-message_stays selector takes objects wanted x is same = cc
-
 -- ---- the places of a function that waits
 
 pub record Splits (w : Waiter) (places : List ℕ) : Type 0 where
@@ -797,7 +793,7 @@ module _ (p : Program) (R : resolved.Program) where
           let names_same : r ∷ rest ≡ m.made ∷ m.rest = ap (λ l. l ++ r ∷ rest) (sym none) ∙ sym e ∙ m.names_are in
           let rest_same : m.rest ≡ rest = cc in
           λ r1. inr (inr (q.3, record { given = r1; made = m.made; rest = rest; others = m.others; names_are = refl; places_are = ap (λ l. r1 ∷ l) m.places_are; kept = subst (λ l. AllHeld l (m.others ++ waiting)) rest_same m.kept })))
-          (λ over. absurd (message_stays selector takes objects wanted (SendTo selector takes objects wanted) refl (sym is ∙ over.0))) more) ready)
+          (λ over. absurd (cc)) more) ready)
 
       -- a field of an object takes what a reference names
       stored : (b : Bool) (j : ℕ) (ob : Object) {q : ℕ} → q ≡ suc j → object_at held.objects (suc j) ≡ Some ob → is_there ob.phase ≡ true → (index r : ℕ) → IsThere held.objects r → (own1 : List ℕ) → AllHeld own1 (held.temporaries ++ waiting) → (x : Height) → Goes_to mine (pc + 1) x

@@ -90,12 +90,6 @@ kept_counted n bytes = ap pos (ap (λ x. (x + length bytes) % 2 ^ 32) (mod-mod n
 pub kept_count : (bytes : List ℕ) → converted k.Int (kept (length bytes)) ≡ byte_count bytes
 kept_count bytes = ap (cast_signed w32) (mod-mod (length bytes) (2 ^ 32))
 
-pub prints_none : (w : World) → w ≡ prints [] w
-prints_none w = ap (λ t. record w { trace = t }) (sym (append-nil w.trace))
-
-pub prints_both : (a b : List ℕ) (w : World) → prints b (prints a w) ≡ prints (a ++ b) w
-prints_both a b w = ap (λ t. record w { trace = t }) (append_assoc w.trace (map Byte a) (map Byte b) ∙ ap (λ l. w.trace ++ l) (sym (map-append Byte a b)))
-
 -- ---- what lies on others, as one list before them
 
 pub record Front {A : Type 0} (values : List A) : Type 0 where
@@ -142,7 +136,7 @@ module _ (p : Program) (frames : List Frame) (bound : ℕ) (rs : List ℕ) where
       let e : n + length a + length b ≡ n + length (a ++ b) = omega (arith, length-append a b) in
       let both = then_passes p frames bound rs xs ys (kept n ∷ stack) w (kept (n + length a) ∷ stack) (prints a w) (kept (n + length a + length b) ∷ stack) (prints b (prints a w)) first next in
       subst (λ m. Passes p frames bound rs (xs ++ ys) (kept n ∷ stack) w (kept m ∷ stack) (prints (a ++ b) w)) e
-      (subst (λ (w' : World). Passes p frames bound rs (xs ++ ys) (kept n ∷ stack) w (kept (n + length a + length b) ∷ stack) w') (prints_both a b w) both)
+      (subst (λ (w' : World). Passes p frames bound rs (xs ++ ys) (kept n ∷ stack) w (kept (n + length a + length b) ∷ stack) w') (ap (λ t. record w { trace = t }) (append_assoc w.trace (map Byte a) (map Byte b) ∙ ap (λ l. w.trace ++ l) (sym (map-append Byte a b)))) both)
 
   print_more : (xs ys : List Order) (stack : List ℤ) (n : ℕ) (a b : List ℕ) (w : World) → Passes p frames bound rs xs (kept n ∷ stack) w (counted (kept n) a ∷ stack) (prints a w) → Prints ys stack (n + length a) b (prints a w) → Prints (xs ++ ys) stack n (a ++ b) w
   print_more xs ys stack n a b w first next =
@@ -178,7 +172,7 @@ module _ (p : Program) (frames : List Frame) (bound : ℕ) (rs : List ℕ) where
 
   -- n bytes are printed already
   format_passes : (pieces : List Piece) (left stack : List ℤ) (n : ℕ) (w : World) → Prints (format_orders pieces (length left)) (onto left stack) n (formatted pieces left) w
-  format_passes [] left stack n w = let e : n ≡ n + 0 = omega arith in no_passes p frames bound rs (kept n ∷ onto left stack) w (kept (n + 0) ∷ onto left stack) (prints [] w) (ap (λ m. kept m ∷ onto left stack) e) (prints_none w)
+  format_passes [] left stack n w = let e : n ≡ n + 0 = omega arith in no_passes p frames bound rs (kept n ∷ onto left stack) w (kept (n + 0) ∷ onto left stack) (prints [] w) (ap (λ m. kept m ∷ onto left stack) e) (ap (λ t. record w { trace = t }) (sym (append-nil w.trace)))
   format_passes (Bytes bytes ∷ others) left stack n w =
       print_both (text_orders bytes) (format_orders others (length left)) (onto left stack) n bytes (formatted others left) w (parts_print ((length bytes - 1) / 16) bytes (onto left stack) n w) (format_passes others left stack (n + length bytes) (prints bytes w))
   format_passes (Decimal ∷ others) [] stack n w = format_passes others [] stack n w
@@ -270,9 +264,6 @@ module _ (p : Program) (frames : List Frame) where
       (subst (λ m. Shifts p frames (nil_orders m) rs stack w (onto (first_names (suc n) []) rs)) n2 (nils_shift (suc n) rs stack w))
   objects_by (suc n) (r ∷ given) rs stack w forgets nils e1 e2 = objects_by n given (r ∷ rs) stack w forgets nils (omega arith) (omega arith)
 
-  pub fit_objects_shift : (parameters : ℕ) (given rs : List ℕ) (stack : List ℤ) (w : World) → Shifts p frames (fit_object_orders (length given) parameters) (onto given rs) stack w (onto (first_names parameters given) rs)
-  fit_objects_shift parameters given rs stack w = objects_by parameters given rs stack w (length given - parameters) (parameters - length given) refl refl
-
   -- numbers and references become what a function takes
   pub passing_leads : (slots parameters n m : ℕ) (given : Given) (stack : List ℤ) (rs : List ℕ) (w : World) (pc : ℕ) → length given.numbers ≡ n → length given.objects ≡ m → HasAt p pc (fit_orders n slots ++ fit_object_orders m parameters)
       → Leads (moves p) (running frames (onto given.objects rs) pc (onto given.numbers stack) w) (running frames (onto (first_names parameters given.objects) rs) (pc + length (fit_orders n slots ++ fit_object_orders m parameters)) (onto (first_locals slots given.numbers) stack) w)
@@ -284,7 +275,7 @@ module _ (p : Program) (frames : List Frame) where
       let size : pc + length xs + length ys ≡ pc + length (xs ++ ys) = omega (arith, length-append xs ys) in
       let first = subst (λ k. HasAt p pc (fit_orders k slots) → Leads (moves p) (running frames names pc (onto given.numbers stack) w) (running frames names (pc + length (fit_orders k slots)) s w)) e (fit_passes p frames 0 names slots given.numbers stack w pc) (has_front p pc xs ys has) in
       let next = subst (λ k. HasAt p (pc + length xs) (fit_object_orders k parameters) → Leads (moves p) (running frames names (pc + length xs) s w) (running frames (onto (first_names parameters given.objects) rs) (pc + length xs + length (fit_object_orders k parameters)) s w)) f
-      (fit_objects_shift parameters given.objects rs s w (pc + length xs)) (has_back p pc xs ys has) in
+      ((objects_by parameters given.objects rs s w (length given.objects - parameters) (parameters - length given.objects) refl refl) (pc + length xs)) (has_back p pc xs ys has) in
       leads_trans (moves p) (running frames names pc (onto given.numbers stack) w) (running frames names (pc + length xs) s w) (running frames (onto (first_names parameters given.objects) rs) (pc + length (xs ++ ys)) s w) first
       (subst (λ q. Leads (moves p) (running frames names (pc + length xs) s w) (running frames (onto (first_names parameters given.objects) rs) q s w)) size next)
 

@@ -254,9 +254,6 @@ module _ (P : Program) (r s : ℕ) where
       (subst (λ n. Types (height a n c d) (forget_orders forgets) (height a rest c d)) (omega (arith, e)) (forgets_type forgets a rest c d))
       (subst (λ n. Types (height a rest c d) (nil_orders nils) (height a n c d)) (omega (arith, e, f)) (nils_type nils a rest c d))
 
-  pub fit_object_types : (objects parameters a b c d : ℕ) → Types (height a (objects + b) c d) (fit_object_orders objects parameters) (height a (parameters + b) c d)
-  fit_object_types objects parameters a b c d = fit_objects_by objects parameters a b c d (objects - parameters) (parameters - objects) refl refl
-
   -- so many numbers and references become what a function takes
   pub passing_types : (wanted : Gives) (f values objects a b c d : ℕ) → Types (height (values + a) (objects + b) c d) (passing_orders P wanted f values objects) (height (slots_of P wanted f + a) (parameters_of P wanted f + b) c d)
   passing_types wanted f values objects a b c d =
@@ -264,7 +261,7 @@ module _ (P : Program) (r s : ℕ) where
       let parameters = parameters_of P wanted f in
       types_then (height (values + a) (objects + b) c d) (fit_orders values slots) (height (slots + a) (objects + b) c d) (fit_object_orders objects parameters) (height (slots + a) (parameters + b) c d)
       (fit_types (objects + b) c d values slots a)
-      (fit_object_types objects parameters (slots + a) b c d)
+      (fit_objects_by objects parameters (slots + a) b c d (objects - parameters) (parameters - objects) refl refl)
 
   -- a call leaves a number, or a reference and a temporary
   pub call_types : (wanted : Gives) (b c d f values objects a : ℕ) → Types (height (values + a) (objects + b) c d) (call_orders P wanted f values objects) (height (as_number wanted + a) (as_object wanted + b) (c + as_object wanted) d)
