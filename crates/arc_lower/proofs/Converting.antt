@@ -1,5 +1,5 @@
 -- A number is of the kind that the form of its expression shows.
-use Rattle.std.proofs.Common.{◌%◌, ◌≡◌, ℕ, suc, ℤ, pos, negsuc, Bool, true, false, nat_eq, nat_lt, nat_le, if◌then◌else◌, length, Option, Some, None, ◌-◌, ◌<◌, refl, sym, ap, subst, arith}
+use Rattle.std.proofs.Common.{◌%◌, ◌≡◌, ℕ, suc, ℤ, pos, negsuc, Bool, true, false, nat_eq, nat_lt, if◌then◌else◌, length, Option, Some, None, ◌-◌, ◌<◌, refl, sym, ap, subst, arith}
 use Rattle.std.proofs.lemmas.Bool.{false≢true, eqb-true, ltb-false, leb-false}
 use Rattle.std.proofs.lemmas.Bool.Decides.{nat_tests}
 use Rattle.std.specs.Int.{w32, w64, cast_signed, cast_unsigned}

@@ -3,7 +3,7 @@ use Rattle.std.proofs.Common.{◌≡◌, ℕ, zero, suc, ◌+◌, ◌-◌, Bool,
 use Rattle.std.proofs.Math.Dec.{eqb-suc-zero}
 use Rattle.std.proofs.lemmas.Bool.{eq-eqb, ne_eqb, lt-ltb}
 use Rattle.arc_spec.specs.Objects.{Object, Phase, Gone, nils, names, in_phase, with_strong_fields, is_live, is_there, fields_of, field_places, object_at}
-use Rattle.arc_spec.specs.Holding.{Held, holders, stacked, all_places, with_temporaries, with_variables, with_things, with_strong_globals, raised, lowered, on_object, on_named}
+use Rattle.arc_spec.specs.Holding.{Held, holders, all_places, with_temporaries, with_variables, with_things, with_strong_globals, raised, lowered, on_object, on_named}
 use Rattle.arc_spec.specs.World.{name_at}
 use Rattle.arc_spec.specs.Stepping.{Next, only_if}
 

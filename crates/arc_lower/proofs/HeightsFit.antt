@@ -2,7 +2,6 @@
 use Rattle.std.proofs.Common.{◌≡◌, ℕ, zero, suc, ◌+◌, ◌-◌, ◌≤◌, List, [], ◌∷◌, ◌++◌, length, get_or, Some, refl, sym, ap, ◌∙◌, subst, arith, slice_get}
 use Rattle.std.proofs.lemmas.Option.{get_or_from_slice_get}
 use Rattle.arc_spec.specs.declared.class.Gives.{Gives}
-use Rattle.arc_spec.specs.declared.class.Gives.TheVariants as gives
 use Rattle.arc_spec.specs.declared.class.Method.{Method}
 use Rattle.arc_spec.specs.Classes.{Class, lookup}
 use Rattle.arc_spec.specs.Resolved.{Function}
@@ -14,8 +13,8 @@ use Rattle.arc_code.specs.declared.effect.Height.{Height}
 use Rattle.arc_code.specs.Effects.{effect, operation_effect, on_numbers, as_number, as_object, giving, no_height, FitsBetween, FitsAt, SameResult, GivesAt, HeightsFit, passes}
 use Rattle.arc_ir.specs.Acting.{Action, Program, lands, entry, linked}
 use Rattle.arc_lower.specs.Order.{Order, order, orders}
-use Rattle.arc_lower.specs.Lowered.{all_functions, number_of, slots_of, parameters_of, start_orders, function_orders, entries_of, lowered, classes_linked}
-use Rattle.arc_lower.specs.Heights.{height, highest, greatest, start_heights, function_heights, functions_heights, stub_heights, methods_heights, dealloc_heights, classes_heights, lowered_heights, greatest_height, places_in, height_at, in_function, functions_marks, methods_marks, class_marks, classes_marks, lowered_marks, no_mark, result_at}
+use Rattle.arc_lower.specs.Lowered.{number_of, slots_of, parameters_of, function_orders, entries_of, lowered, classes_linked}
+use Rattle.arc_lower.specs.Heights.{height, highest, greatest, functions_heights, methods_heights, classes_heights, lowered_heights, greatest_height, places_in, height_at, in_function, functions_marks, methods_marks, classes_marks, lowered_marks, no_mark, result_at}
 use Rattle.arc_lower.proofs.Doing.{bare}
 use Rattle.arc_lower.proofs.Linking.{function_gives}
 use Rattle.arc_lower.proofs.Typing.{IsCalled}

@@ -15,7 +15,7 @@ use Rattle.arc_lower.specs.Order.{Order}
 use Rattle.arc_lower.specs.Lowered.{drop_orders, Entry, AtStep, AtTest, AtBody, enter_orders, enter_size, Spot, Inside, Between, past, turn_at, body_spot, Block, Making, IfNew, has_new, Then, Fork, Loop, Quit, Advance, Full, Leave, flat}
 use Rattle.arc_lower.specs.declared.frame.Turn.{Turn}
 use Rattle.arc_lower.specs.Heights.{between, next_height, Walk, walk, next_walk, walk_heights, last_walk, in_function}
-use Rattle.arc_lower.proofs.Typing.{heights_same, tested, over, over_none, Reaches, Needs, Types, next_same, with_temporaries, ByTest, BlockTypes}
+use Rattle.arc_lower.proofs.Typing.{heights_same, tested, over_none, Reaches, Needs, Types, next_same, with_temporaries, ByTest, BlockTypes}
 use Rattle.arc_lower.proofs.HeightsEnd.{chosen_same, AllBase, entered, enter_keeps, enter_ends, Keeps, keeps_on, keeps_test, keeps_rest, part_same, block_ends}
 
 pub some_same : {A : Type 0} (a b : A) → Some a ≡ Some b → a ≡ b
