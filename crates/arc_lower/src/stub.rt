@@ -85,6 +85,7 @@ fn append_stub(
 
 /// Appends the stubs of methods, and raises the greatest height to theirs. Gives the methods, each
 /// of which runs its stub.
+#[tactic(auto, using(crate::proofs::Rows::raised_append, crate::proofs::Rows::raised_nothing, std::proofs::lemmas::Grind::common_steps))]
 fn append_methods(
     alloc: Global,
     actions: &mut Vec<Action>,
@@ -183,6 +184,7 @@ fn append_class(
 
 /// Appends the stubs of the program's classes, and raises the greatest height to theirs. Gives the
 /// classes, whose methods and deallocs run their stubs.
+#[tactic(auto, using(crate::proofs::Rows::raised_append, crate::proofs::Rows::raised_nothing, std::proofs::lemmas::Grind::common_steps))]
 pub(crate) fn append_classes(
     alloc: Global,
     actions: &mut Vec<Action>,
