@@ -104,6 +104,7 @@ fn append_start(
 
 /// Appends the actions of all functions, and where each one is entered. Raises the greatest height
 /// to theirs.
+#[tactic(auto, using(crate::proofs::Rows::raised_append, crate::proofs::Rows::raised_nothing, std::proofs::lemmas::Grind::common_steps))]
 fn append_functions(
     alloc: Global,
     actions: &mut Vec<Action>,
