@@ -45,6 +45,7 @@ pub(crate) struct Listed {
 }
 
 /// Lists what a program becomes, and raises the greatest height to that of its actions.
+#[tactic(auto, using(crate::proofs::Rows::raised_append, std::proofs::lemmas::Grind::common_steps))]
 pub(crate) fn list(
     alloc: Global,
     program: &Checked,
@@ -71,6 +72,7 @@ pub(crate) fn list(
 
 /// Appends the actions that call `main`, and the one at which the ends of objects go on. Gives the
 /// number of that one.
+#[tactic(auto, using(crate::proofs::Rows::call_length, std::proofs::lemmas::Grind::common_steps))]
 fn append_call_of_main(actions: &mut Vec<Action>, program: &Checked) -> Result<usize, NoMemory>
     ensures actions { OnOk result (orders actions.new.items ≡ orders actions.old.items ++ start_orders (program_of program.now)) }
     ensures end_step { IfOk result (λ place. place ≡ length (orders actions.old.items) + end_step_of (program_of program.now)) }
@@ -161,6 +163,7 @@ fn nothing_giving<'p>(gives: Gives) -> Definition<'p>
 }
 
 /// Appends the actions of a function, and where it is entered. Raises the greatest height to theirs.
+#[tactic(auto, using(crate::proofs::Rows::slice_after, crate::proofs::Rows::raised_append, std::proofs::lemmas::Grind::common_steps))]
 fn append_function(
     alloc: Global,
     actions: &mut Vec<Action>,
