@@ -145,6 +145,7 @@ unmet need kind at = broken_if (option_map_or (lacks need) kind false) at 43
 abbrev pub need_of : Kind → Need
 need_of kind = if same_kind kind k.Object then AnObject else ANumber
 
+-- what is given isn't what is needed where a value of a kind is wanted; where the kind isn't known, another rule is broken
 abbrev pub no_such : (wanted given : Option Kind) → ℕ → List Broken
 no_such wanted given at = option_map_or (λ kind. unmet (need_of kind) given at) wanted []
 
@@ -154,7 +155,8 @@ abbrev pub no_right : OperatorSort → Option Kind → Option Kind → ℕ → L
 no_right Equality a b at = unmet (option_map_or need_of a ANumber) b at
 no_right sort a b at = unmet (left_need sort) b at
 
--- 41 UnknownName, at a field's name: there is no such field, or a name that means neither a variable nor a field of `self` (C99, section 6.5.1). 49 FieldHidden, there too: it may not be named here (OPL, "The Scope of Instance Variables").
+-- 41 UnknownName, at a field's name: there is no such field; so it is for a name that means neither a variable nor a field of `self` (C99, section 6.5.1).
+-- 49 FieldHidden, there too: it may not be named here (OPL, "The Scope of Instance Variables").
 abbrev pub no_field : Scope → Option FoundField → ℕ → List Broken
 no_field s found at = option_map_or (λ f. broken_if (not (is_visible s f)) at 49) found (record { at = at; number = 41 } ∷ [])
 
@@ -208,7 +210,7 @@ abbrev mutual
 abbrev pub at_if : Bool → ℕ → List ℕ
 at_if so at = if so then at ∷ [] else []
 
--- a name reads `self`, where it means a field of it, and no variable
+-- a name reads `self`, where it means a field of it and no variable, whether that is read or assigned to
 abbrev pub unread_name : Scope → Option Local → List ℕ → ℕ → List ℕ
 unread_name s local name at = at_if (is_none local && is_some (own_field s name)) at
 
