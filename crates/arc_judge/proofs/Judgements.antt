@@ -24,8 +24,8 @@ use Rattle.arc_judge.specs.declared.judge.Judged.{Judged}
 use Rattle.arc_judge.specs.declared.taken.Taken.{Taken}
 use Rattle.arc_judge.specs.Fault.{reported}
 use Rattle.arc_scope.specs.Formats.{fits}
-use Rattle.arc_judge.specs.private.Judging.{Judges, JudgesCall, JudgesWhole, broken_at, broken_field, counted, is_updatable, none_counted, other_rule}
-use Rattle.arc_judge.specs.Rules.{all_taken, arrow_kind, at_if, binary_kind, broken, broken_arguments, call_rule, either_kind, is_assignable, kind_if, kind_of, kinds, message_kind, no_method, no_right, no_such, taken, unread, unary_kind, unmet}
+use Rattle.arc_judge.specs.private.Judging.{Judges, JudgesCall, JudgesWhole, broken_at, broken_field, counted, none_counted, other_rule}
+use Rattle.arc_judge.specs.Rules.{all_taken, arrow_kind, at_if, binary_kind, broken, broken_arguments, call_rule, either_kind, is_assignable, is_updatable, kind_if, kind_of, kinds, message_kind, no_method, no_right, no_such, taken, unread, unary_kind, unmet}
 use Rattle.arc_scope.specs.Kinds.{is_object}
 use Rattle.arc_scope.specs.Passing.{first_wanted, wanted_by, receiver_sign}
 use Rattle.arc_scope.specs.Scopes.{Scope, callee, class_of, class_receiver, either_class, field_class, is_nil, is_printf, own_class, result_kind, static_class}

@@ -104,6 +104,10 @@ is_assignable (Name at name) = true
 is_assignable (Arrow at name_at a name) = true
 is_assignable _ = false
 
+-- whether an update's left side, which is of a kind, is a variable or a field that holds a number; what has no kind breaks another rule
+abbrev pub is_updatable : ExprTree → Option Kind → Bool
+is_updatable a kind = is_assignable a && not (is_object kind)
+
 -- The kind of an expression, where it has one: it breaks no rule itself, and those have one on whose kinds its own rests. An assignment and an update have their
 -- left side's kind (C99, section 6.5.16).
 abbrev mutual
@@ -121,7 +125,7 @@ abbrev mutual
   kind_of s (Conditional at c a b) = either_kind (kind_of s a) (kind_of s b)
   kind_of s (Arrow at name_at a name) = arrow_kind s (kind_of s a) (s.known.field (class_of s a) name)
   kind_of s (Assign at sign a b) = if is_assignable a then kind_of s a else None
-  kind_of s (Update at sign moment operator a b) = if is_assignable a && not (is_object (kind_of s a)) then kind_of s a else None
+  kind_of s (Update at sign moment operator a b) = if is_updatable a (kind_of s a) then kind_of s a else None
   kind_of s (Send at part receiver selector arguments) = message_kind s (class_receiver s receiver) (kind_of s receiver) (class_of s receiver) selector
   kind_of s (SendSuper at part super_at selector arguments) = kind_given (super_result s selector)
 
@@ -189,7 +193,7 @@ abbrev mutual
       (broken s a ++ unmet AnObject (kind_of s a) (place a)) ++ (if is_object (kind_of s a) then no_field s (s.known.field (class_of s a) name) name_at else [])
   broken s (Assign at sign a b) = (broken s a ++ broken_if (not (is_assignable a)) sign 44) ++ (broken s b ++ no_such (kind_of s a) (kind_of s b) (place b))
   broken s (Update at sign moment operator a b) =
-      (broken s a ++ broken_if (not (is_assignable a && not (is_object (kind_of s a)))) sign 44) ++ (broken s b ++ unmet ANumber (kind_of s b) (place b))
+      (broken s a ++ broken_if (not (is_updatable a (kind_of s a))) sign 44) ++ (broken s b ++ unmet ANumber (kind_of s b) (place b))
   broken s (Send at part receiver selector arguments) =
       ((if is_some (class_receiver s receiver) then [] else broken s receiver ++ unmet AnObject (kind_of s receiver) (place receiver))
       ++ no_method s (class_receiver s receiver) (kind_of s receiver) (class_of s receiver) selector part)

@@ -5,9 +5,9 @@ ghost use Rattle.arc_ast.specs.Tree.{expr_tree};
 ghost use Rattle.arc_class.specs.Broken.{first};
 ghost use Rattle.arc_judge.specs.Fault.{reported};
 ghost use Rattle.arc_judge.specs.Rules as rules;
-ghost use Rattle.arc_judge.specs.Rules.{no_right, number_kind, unary_kind, unmet};
+ghost use Rattle.arc_judge.specs.Rules.{is_updatable, no_right, number_kind, unary_kind, unmet};
 ghost use Rattle.arc_sites.specs.Sites.{ANumber, AValue, AnObject, left_need, operand_need};
-ghost use Rattle.arc_judge.specs.private.Judging.{broken_at, is_updatable, other_rule};
+ghost use Rattle.arc_judge.specs.private.Judging.{broken_at, other_rule};
 
 use arc_ast::tree::{Expr, Kind, Moment, OperatorSort, UnaryOperator};
 use arc_fault::check::CheckFault;

@@ -1,5 +1,5 @@
 -- The judgements on expressions: kinds, first broken rules, and how many objects are taken.
-use Rattle.std.specs.Prelude.{◌≡◌, ℕ, zero, suc, Bool, List, [], ◌∷◌, ◌++◌, flat_map, Option, Some, None, true, false, not, ◌&&◌, is_none, option_map, nat_eq, if◌then◌else◌}
+use Rattle.std.specs.Prelude.{◌≡◌, ℕ, zero, suc, Bool, List, [], ◌∷◌, ◌++◌, flat_map, Option, Some, None, true, false, is_none, option_map, nat_eq, if◌then◌else◌}
 use Rattle.std.specs.Option.{option_map_or}
 use Rattle.arc_ast.specs.declared.tree.Kind.{Kind}
 use Rattle.arc_ast.specs.Tree.{ExprTree, ExprTrees, InterfaceTree, ImplementationTree}
@@ -48,10 +48,6 @@ broken_at at rule = option_map_or (broken_if true at) rule []
 -- the field of an expression of a kind, which has to be an object
 abbrev pub broken_field : Scope → Option Kind → Option FoundField → ℕ → List Broken
 broken_field s kind f at = if is_object kind then no_field s f at else []
-
--- whether an update's left side, which is of a kind, is a variable or a field that holds a number; what has no kind breaks another rule
-abbrev pub is_updatable : ExprTree → Option Kind → Bool
-is_updatable a kind = is_assignable a && not (is_object kind)
 
 -- the number of the rule that a call with so many arguments breaks, but for printf, for which this is never asked
 abbrev pub other_rule : Callee → (arguments : ℕ) → Option ℕ
