@@ -2,3 +2,4 @@ pub mod Alterations
 pub mod Making
 pub mod Patterning
 pub mod Piles
+pub mod Rows
