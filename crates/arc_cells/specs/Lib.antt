@@ -1,3 +1,4 @@
+pub mod Accesses
 pub mod Cells
 pub mod Found
 pub mod Patterns

@@ -1,6 +1,7 @@
 //! What a machine keeps: objects in blocks of a store, numbers, and what is found of code before it runs.
 #![tactic(auto)]
 
+pub mod access;
 pub mod cell;
 pub mod decoded;
 pub mod found;
