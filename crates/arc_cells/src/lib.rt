@@ -4,6 +4,7 @@
 pub mod access;
 pub mod cell;
 pub mod decoded;
+pub mod ends;
 pub mod found;
 pub mod number_ending;
 pub mod objects;
