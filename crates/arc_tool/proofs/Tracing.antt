@@ -1,5 +1,5 @@
 -- What the text of a run says of the source.
-use Rattle.std.proofs.Common.{◌≡◌, ℕ, suc, ◌+◌, List, ◌++◌, Bool, false, inl, inr, Option, Some, Result, Ok, Err, sym, ap, subst, ◌∙◌, arith, ⊎_elim}
+use Rattle.std.proofs.Common.{◌≡◌, ℕ, suc, ◌+◌, List, ◌++◌, Bool, false, inl, inr, Option, Some, None, Result, Ok, Err, sym, ap, subst, ◌∙◌, arith, ⊎_elim}
 use Rattle.arc_spec.specs.declared.event.Event.{Event}
 use Rattle.arc_spec.specs.Correct as correct
 use Rattle.arc_spec.specs.Correct.{IsPrefix, Sight}
@@ -23,7 +23,6 @@ use Rattle.arc_tool.specs.Lines.{trace_text, events_text, end_text}
 use Rattle.arc_tool.specs.Ran.{Becomes, Untouched}
 use Rattle.arc_tool.specs.Refused.{IsRefusal}
 use Rattle.arc_tool.specs.Traced.{Follows, Followed, Interrupted, Means, Traced, BrokenOff, AnsweredTrace, Blames, EndsTrace, stop_seen}
-use Rattle.arc_tool.proofs.Lining.{whole_text}
 
 -- ---- the meaning
 
@@ -40,12 +39,9 @@ module _ (source : List ℕ) (p : Program) (compiled : Compiles source p) (made 
   on_way h = subst (λ t. IsPrefix t (meant compiled.program input (suc made)).trace) h
       (prefix_trans (seen p input made).trace (seen p input (suc made)).trace (meant compiled.program input (suc made)).trace (compiled.steady.grows input made (suc made) (omega arith)) (compiled.behaves.follows input (suc made)))
 
-  means_so : (left : Left) → seen p input made ≡ record { trace = events; stop = stop_seen left } → Means left events (meant compiled.program input (suc made))
-  means_so (Stopped (stop.Ended n)) h = over (correct.Ends n) h
-  means_so (Stopped (stop.Fault f)) h = over (correct.Faults f) h
-  means_so (Stopped stop.StepsUsed) h = on_way (ap (λ (x : Sight). x.trace) h)
-  means_so (Stopped stop.NoHeap) h = on_way (ap (λ (x : Sight). x.trace) h)
-  means_so Unread h = on_way (ap (λ (x : Sight). x.trace) h)
+  means_so : (s : Option correct.Stop) → seen p input made ≡ record { trace = events; stop = s } → Means s events (meant compiled.program input (suc made))
+  means_so (Some s) h = over s h
+  means_so None h = on_way (ap (λ (x : Sight). x.trace) h)
 
 module _ (source : List ℕ) (p : Program) (names : List (List ℕ)) (compiled : CompilesNamed source p names) (steps : ℕ) (i0 i1 : Option (List ℕ)) where
   traced : (made : ℕ) (left : Left) (events : List Event) → Follows p made left i0 i1 events → Traced source made left i0 i1 (trace_text names events left)
@@ -54,7 +50,7 @@ module _ (source : List ℕ) (p : Program) (names : List (List ℕ)) (compiled :
     compiled = compiled.compiled;
     events = events;
     follows = run;
-    means = λ rest l. means_so source p compiled.compiled made (run.taken ++ rest) events left (run.shown rest l);
+    means = λ rest l. means_so source p compiled.compiled made (run.taken ++ rest) events (stop_seen left) (run.shown rest l);
     lines = ap (λ n. trace_text n events left) compiled.named;
   }
 
@@ -64,7 +60,7 @@ module _ (source : List ℕ) (p : Program) (names : List (List ℕ)) (compiled :
     abbrev Meaning : List (List ℕ) → Type 0
     Meaning names =
         (run : Interrupted p names steps Write i0 i1 o0 o1 w0 w1 W)
-        × ((rest : List ℕ) → Leaves i1 rest → Means run.left (run.earlier ++ run.last) (meant compiled.compiled.program (run.follows.taken ++ rest) (suc (suc run.made))))
+        × ((rest : List ℕ) → Leaves i1 rest → Means (stop_seen run.left) (run.earlier ++ run.last) (meant compiled.compiled.program (run.follows.taken ++ rest) (suc (suc run.made))))
 
     broken_off : Meaning (class_names compiled.compiled.program.tree) → BrokenOff source steps i0 i1 o0 o1 w0 w1 W
     broken_off m = record { code = p; compiled = compiled.compiled; run = m.0; means = m.1 }
@@ -73,7 +69,7 @@ module _ (source : List ℕ) (p : Program) (names : List (List ℕ)) (compiled :
     was_interrupted Read run = absurd (let no = run.part.0 in cc)
     was_interrupted Write run =
         let means = λ (rest : List ℕ) (l : Leaves i1 rest).
-        means_so source p compiled.compiled (suc run.made) (run.follows.taken ++ rest) (run.earlier ++ run.last) run.left (run.follows.shown rest l) in
+        means_so source p compiled.compiled (suc run.made) (run.follows.taken ++ rest) (run.earlier ++ run.last) (stop_seen run.left) (run.follows.shown rest l) in
         inl (broken_off (subst Meaning compiled.named (run, means)))
 
     -- a writer's failure is reported as its own
@@ -92,7 +88,7 @@ module _ (source : List ℕ) (p : Program) (names : List (List ℕ)) (compiled :
       front = events_text names false run.events
 
       same_text : front ++ end_text begun left ≡ text
-      same_text = ap (λ b. front ++ end_text b left) run.opens ∙ sym (whole_text names run.events left)
+      same_text = ap (λ b. front ++ end_text b left) run.opens
 
       all_text : (r : Result (Unit {0}) IoFault) → Written r (end_text begun left) o1 o2 w1 w2 W → Written r text o0 o2 w0 w2 W
       all_text r end = subst (λ t. Written r t o0 o2 w0 w2 W) same_text (then_written r o0 o1 o2 w0 w1 w2 W front (end_text begun left) run.written end)

@@ -91,13 +91,10 @@ pub record Interrupted (code : Program) (names : List (List ℕ)) (steps : ℕ) 
   pub whole : Written (Ok tt) (events_text names false earlier) out0 held writes0 writes ⊤
   pub part : Written (Err fault) (events_text names (open_after false earlier) last) held out1 writes writes1 writer_failed
 
--- what a run showed is what the program means to show, with its stop; of a program that goes on these are its first events
-abbrev pub Means : Left → List Event → Sight → Type 0
-Means (Stopped (Ended n)) events m = m ≡ record { trace = events; stop = Some (correct.Ends n) }
-Means (Stopped (Fault f)) events m = m ≡ record { trace = events; stop = Some (correct.Faults f) }
-Means (Stopped StepsUsed) events m = IsPrefix events m.trace
-Means (Stopped NoHeap) events m = IsPrefix events m.trace
-Means Unread events m = IsPrefix events m.trace
+-- what a run showed, with its stop, is what the program means to show; where it had none, these are the first events
+abbrev pub Means : Option correct.Stop → List Event → Sight → Type 0
+Means (Some s) events m = m ≡ record { trace = events; stop = Some s }
+Means None events m = IsPrefix events m.trace
 
 -- A run of the source's code, of so many steps, that was left so; whatever comes after the bytes that it took, its events and its stop are those of the
 -- program's meaning on that input, or the first ones. This is the text of them.
@@ -106,7 +103,7 @@ pub record Traced (source : List ℕ) (made : ℕ) (left : Left) (in0 in1 : Opti
   pub compiled : Compiles source code
   pub events : List Event
   pub follows : Follows code made left in0 in1 events
-  pub means : (rest : List ℕ) → Leaves in1 rest → Means left events (meant compiled.program (follows.taken ++ rest) (suc made))
+  pub means : (rest : List ℕ) → Leaves in1 rest → Means (stop_seen left) events (meant compiled.program (follows.taken ++ rest) (suc made))
   pub lines : text ≡ trace_text (class_names compiled.program.tree) events left
 
 -- A run of the source's code, of at most so many steps, in which the writer failed within the lines of the last step's events, with what the program means.
@@ -114,7 +111,7 @@ pub record BrokenOff (source : List ℕ) (steps : ℕ) (in0 in1 out0 out1 : Opti
   pub code : Program
   pub compiled : Compiles source code
   pub run : Interrupted code (class_names compiled.program.tree) steps Write in0 in1 out0 out1 writes0 writes1 writer_failed
-  pub means : (rest : List ℕ) → Leaves in1 rest → Means run.left (run.earlier ++ run.last) (meant compiled.program (run.follows.taken ++ rest) (suc (suc run.made)))
+  pub means : (rest : List ℕ) → Leaves in1 rest → Means (stop_seen run.left) (run.earlier ++ run.last) (meant compiled.program (run.follows.taken ++ rest) (suc (suc run.made)))
 
 -- a text was written, or where the writer failed some first bytes of it
 abbrev pub Reports : List ℕ → (out0 out1 : Option (List ℕ)) → (writes0 writes1 : ℕ) → (writer_failed : Type 0) → Type 0

@@ -5,7 +5,7 @@ ghost use Rattle.arc_code.specs.Attempts.{HasFailedToWrite};
 ghost use Rattle.arc_code.specs.Counting.{failures_of, inner_of, held_by};
 ghost use Rattle.arc_code.specs.Written.{Written};
 ghost use Rattle.arc_tool.specs.Compiled.{bytes_of_name};
-ghost use Rattle.arc_tool.specs.Lines.{Ended, digit, two_digits, name_at, line_text, left_text, opening, closing, event_text, leaves_open, events_text, open_after, end_text};
+ghost use Rattle.arc_tool.specs.Lines.{digit, two_digits, name_at, dealloc_line, left_text, opening, closing, event_text, leaves_open, events_text, open_after, end_text};
 
 use crate::report::{put, put_broken, put_fault, put_named};
 use arc_code::code::IoFault;
@@ -148,7 +148,7 @@ fn put_dealloc<W: Output>(
     writer: &mut Counted<W>,
 ) -> Result<(), IoFault>
     requires { failures_of writer.old < 2 ^ 64 - 1 }
-    ensures { Written result (line_text (map bytes_of_name classes.now) (Ended object class))
+    ensures { Written result (dealloc_line (map bytes_of_name classes.now) object class)
         (held_by W.contents writer.old) (held_by W.contents writer.new)
         (failures_of writer.old) (failures_of writer.new)
         (HasFailedToWrite W.writes W.flushes (inner_of writer.new)) }
