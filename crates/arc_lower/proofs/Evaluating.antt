@@ -21,7 +21,8 @@ use Rattle.arc_code.specs.Instructions.{one_if}
 use Rattle.arc_code.specs.declared.instr.Op.TheVariants.{Narrow, SetField, Hold, Finds}
 use Rattle.arc_lower.specs.Known.{is_within, combined_kind, known_kind}
 use Rattle.arc_lower.proofs.Converting.{IsOf, within_keeps, combined_good, known_good, any_holds}
-use Rattle.arc_lower.specs.Lowered.{Message, ToClass, ToSuperClass, ToObject, ToSuper, Block, Idle, One, Store, Format, Calls, SendsMessage, Making, Then, Fork, number_count, object_count, given_block, below_new, narrow_block, update_block, message_to, below_arguments, value_block, reference_block, receiver_block, arguments_block}
+use Rattle.arc_lower.specs.Lowered.{Message, ToClass, ToSuperClass, ToObject, ToSuper, Block, Idle, One, Store, Format, Calls, SendsMessage, Making, Then, Fork, given_block, below_new, narrow_block, update_block, message_to, below_arguments, value_block, reference_block, receiver_block, arguments_block}
+use Rattle.arc_lower.specs.Size.{number_count, object_count}
 use Rattle.arc_lower.proofs.Shaping.{Operands, push, name, pushed, Way, On, Lost, left_by, and_then, pushes, passes_by, answers_left, message_sent, block, after, chosen_by, same_depth, on_pushed, Holds, after_known, then_twice}
 use Rattle.arc_lower.proofs.Cases.{by_test}
 

@@ -8,7 +8,8 @@ use Rattle.arc_spec.specs.declared.location.Location.{Location}
 use Rattle.arc_spec.specs.Resolved.{Value, Reference, Updated, FieldUpdated, Command, Sequence, Evaluate, EvaluateReference, Begin, Give, Choose, Repeat, RepeatAfter, Commands, no_commands, and_command}
 use Rattle.arc_spec.specs.World.{World, Outcome, Done, Finished, finished, then_do, Faulted, Cut}
 use Rattle.arc_spec.specs.Meaning.{Deeper, Normal, held_at, holds, updated, field_read, field_set, all_dropped, evaluated, referred, whole, Flow, Broken, Continued, Returned, given, chosen, if_normal, in_turn, after_body, turns, turns_after, normally, assigned, variables_dropped, scope_left, whole_reference, begun, result_place, executed, all_executed}
-use Rattle.arc_lower.specs.Lowered.{unused, Block, Idle, One, Clear, Then, Quit, Advance, nothing_given, does_nothing, loop_block, whole_block, whole_reference_block, begin_block, answer_block, command_block, commands_block, body_block}
+use Rattle.arc_lower.specs.Lowered.{Block, Idle, One, Clear, Then, Quit, Advance, nothing_given, loop_block, whole_block, whole_reference_block, begin_block, answer_block, command_block, commands_block, body_block}
+use Rattle.arc_lower.specs.Size.{unused, does_nothing}
 use Rattle.arc_spec.specs.Number.{is_zero}
 use Rattle.arc_spec.specs.declared.location.Location.TheVariants.{Local}
 use Rattle.arc_spec.specs.Resolved as resolved

@@ -19,7 +19,8 @@ use Rattle.arc_code.specs.Effects.{on_numbers, as_number, as_object, giving, ope
 use Rattle.arc_lower.specs.Known.{is_within, combined_kind, known_kind}
 use Rattle.arc_lower.specs.declared.frame.Turn.{Turn}
 use Rattle.arc_lower.specs.declared.frame.Scope.{Scope}
-use Rattle.arc_lower.specs.Lowered.{number_count, object_count, forget_orders, print_orders, order_takes, Inside, Block, Idle, One, Clear, Calls, SendsMessage, Making, IfNew, Answer, ToClass, message_to, below_arguments, new_block, receiver_block, answer_block, has_new, Then, Fork, Quit, Advance, Full, Assign, flat, old_block, given_block, below_new, narrow_block, update_block, value_block, reference_block, arguments_block, whole_block, whole_reference_block, begin_block, unused, nothing_given, does_nothing, loop_block, command_block, commands_block, Surroundings, within_scopes, leaving, breaking, continuing}
+use Rattle.arc_lower.specs.Lowered.{forget_orders, print_orders, order_takes, Inside, Block, Idle, One, Clear, Calls, SendsMessage, Making, IfNew, Answer, ToClass, message_to, below_arguments, new_block, receiver_block, answer_block, Then, Fork, Quit, Advance, Full, Assign, flat, old_block, given_block, below_new, narrow_block, update_block, value_block, reference_block, arguments_block, whole_block, whole_reference_block, begin_block, nothing_given, loop_block, command_block, commands_block, Surroundings, within_scopes, leaving, breaking, continuing}
+use Rattle.arc_lower.specs.Size.{number_count, object_count, has_new, unused, does_nothing}
 use Rattle.arc_lower.specs.Heights.{height, between, after_effect, walk, last_walk}
 use Rattle.arc_lower.specs.Lowered.{whole_orders, whole_reference_orders}
 use Rattle.arc_lower.proofs.Typing.{heights_same, Reaches, types_then, forgets_type, print_types, get_types, set_types, call_types, store_types, read_types, all_empty_type, drop_types, tested, Forks, ByTest, BlockTypes}

@@ -9,7 +9,8 @@ use Rattle.arc_code.specs.Effects.{effect}
 use Rattle.arc_ir.specs.declared.action.Target.{Target}
 use Rattle.arc_ir.specs.declared.action.Target.TheVariants.{Skip, Back, At}
 use Rattle.arc_lower.specs.Order.{Order}
-use Rattle.arc_lower.specs.Lowered.{order_takes, drop_orders, Entry, AtStep, enter_orders, enter_size, Spot, Inside, past, body_spot, Block, Making, IfNew, has_new, Then, Fork, Loop, Quit, Advance, Full, Leave, flat}
+use Rattle.arc_lower.specs.Lowered.{order_takes, drop_orders, Entry, AtStep, enter_orders, enter_size, Spot, Inside, past, body_spot, Block, Making, IfNew, Then, Fork, Loop, Quit, Advance, Full, Leave, flat}
+use Rattle.arc_lower.specs.Size.{has_new}
 use Rattle.arc_lower.specs.Heights.{between, next_height, Walk, walk, other_part, next_walk, last_walk}
 use Rattle.arc_lower.proofs.Quiet.{or_first, or_second}
 use Rattle.arc_lower.proofs.Typing.{heights_same, tested, types_last, with_temporaries, Leaves, ByTest, BlockTypes}

@@ -21,7 +21,8 @@ use Rattle.arc_code.specs.declared.instr.Op.TheVariants.{Declare, Forget, ReadSe
 use Rattle.arc_code.specs.declared.instr.Instr.TheVariants.{Plain, StoreStrong, DropAll, Return}
 use Rattle.arc_code.specs.declared.instr.Instr.TheVariants as instrs
 use Rattle.arc_lower.specs.Order.{Order}
-use Rattle.arc_lower.specs.Lowered.{all_empty_orders, keep_orders, leaving_order, leave_orders, declare_orders, take_orders, own_orders, object_parameters, opening_orders, no_turn, Between, Block, Clear, Then, Quit, Advance, flat, whole_block, nothing_given, does_nothing, loop_block, command_block, commands_block, body_block, body_orders}
+use Rattle.arc_lower.specs.Lowered.{all_empty_orders, keep_orders, leaving_order, leave_orders, declare_orders, take_orders, own_orders, opening_orders, no_turn, Between, Block, Clear, Then, Quit, Advance, flat, whole_block, nothing_given, loop_block, command_block, commands_block, body_block, body_orders}
+use Rattle.arc_lower.specs.Size.{object_parameters, does_nothing}
 use Rattle.arc_lower.proofs.Leading as leading
 use Rattle.arc_lower.proofs.Leading.{Runs, leads_runs, stuck_runs, ends_here, then_runs, then_at, running, one_runs, quiet, quiet_runs, Passes, then_passes, one_passes, no_passes}
 use Rattle.arc_lower.proofs.Doing.{recount, moves, at, held_of, bare, HasAt, has_front, has_back}

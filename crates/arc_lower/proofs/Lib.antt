@@ -28,3 +28,4 @@ mod HeightsFit
 mod Safety
 mod Transferring
 mod Whole
+pub mod Sizes

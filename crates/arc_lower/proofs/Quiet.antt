@@ -12,7 +12,8 @@ use Rattle.arc_code.specs.declared.instr.Instr.TheVariants.{Plain, Call, Jump, J
 use Rattle.arc_code.specs.Effects.{operation_effect}
 use Rattle.arc_ir.specs.declared.action.Target.TheVariants.{Skip, Back}
 use Rattle.arc_lower.specs.Order.{Order}
-use Rattle.arc_lower.specs.Lowered.{Entry, AtStep, enter_orders, Inside, Block, One, Read, Calls, SendsMessage, Making, IfNew, Then, Fork, Loop, Full, ToClass, ToSuperClass, ToObject, ToSuper, has_new, flat, number_of, passing_orders, order_takes, drop_orders}
+use Rattle.arc_lower.specs.Lowered.{Entry, AtStep, enter_orders, Inside, Block, One, Read, Calls, SendsMessage, Making, IfNew, Then, Fork, Loop, Full, ToClass, ToSuperClass, ToObject, ToSuper, flat, number_of, passing_orders, order_takes, drop_orders}
+use Rattle.arc_lower.specs.Size.{has_new}
 
 -- whether no temporary of a block is there after it
 abbrev pub takes_none : Program → Block → Bool

@@ -12,7 +12,6 @@ use Rattle.std.proofs.lemmas.List.{take_all}
 use Rattle.arc_ir.specs.Acting.{Action}
 use Rattle.arc_code.specs.declared.effect.Height.{Height}
 use Rattle.arc_lower.specs.Heights.{highest, greatest, raised}
-use Rattle.arc_code.specs.Effects.{passes}
 
 -- of more than 16 bytes the first 16 are one part
 pub text_more : (bytes : List ℕ) → 16 < length bytes → text_orders bytes ≡ PrintText (take 16 bytes) ∷ text_orders (drop 16 bytes)

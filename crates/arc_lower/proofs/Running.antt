@@ -31,7 +31,8 @@ use Rattle.arc_code.specs.declared.instr.Instr.TheVariants.{Plain, Jump, JumpZer
 use Rattle.arc_code.specs.Effects.{passes}
 use Rattle.arc_lower.specs.Order.{Order}
 use Rattle.arc_lower.specs.declared.frame.Turn.{Turn}
-use Rattle.arc_lower.specs.Lowered.{Message, ToClass, ToSuperClass, ToObject, ToSuper, message_order, Block, Idle, One, Load, Store, Read, Assign, AssignField, Clear, Format, Calls, SendsMessage, Making, IfNew, Answer, Then, Fork, Loop, Quit, Advance, Full, Leave, making_orders, has_new, Entry, AtStep, AtTest, AtBody, enter_orders, enter_size, no_turn, Spot, Inside, Between, past, turn_at, body_spot, flat, print_orders, get_orders, set_orders, read_orders, store_orders, all_empty_orders, order_takes, forget_orders, passing_orders, number_of, slots_of, parameters_of, call_orders}
+use Rattle.arc_lower.specs.Lowered.{Message, ToClass, ToSuperClass, ToObject, ToSuper, message_order, Block, Idle, One, Load, Store, Read, Assign, AssignField, Clear, Format, Calls, SendsMessage, Making, IfNew, Answer, Then, Fork, Loop, Quit, Advance, Full, Leave, making_orders, Entry, AtStep, AtTest, AtBody, enter_orders, enter_size, no_turn, Spot, Inside, Between, past, turn_at, body_spot, flat, print_orders, get_orders, set_orders, read_orders, store_orders, all_empty_orders, order_takes, forget_orders, passing_orders, number_of, slots_of, parameters_of, call_orders}
+use Rattle.arc_lower.specs.Size.{has_new}
 use Rattle.std.specs.List.{list_any}
 use Rattle.std.proofs.lemmas.Option.{get_or_from_slice_get, slice_get-get_or}
 use Rattle.arc_lower.proofs.Leading.{Leads, leads_same, leads_trans, leads_step, Runs, leads_runs, later_runs, fewer_runs, ends_here, then_runs, running, one_runs, quiet, quiet_runs, Passes, then_passes, one_passes, no_passes}

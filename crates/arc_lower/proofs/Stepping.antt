@@ -12,7 +12,8 @@ use Rattle.arc_code.specs.declared.instr.Instr.TheVariants.{Plain, Jump, JumpZer
 use Rattle.arc_ir.specs.declared.action.Target.TheVariants.{Skip, Back, At}
 use Rattle.arc_ir.specs.Acting.{lands}
 use Rattle.arc_lower.specs.Order.{Order}
-use Rattle.arc_lower.specs.Lowered.{drop_orders, Entry, AtStep, AtTest, AtBody, enter_orders, enter_size, Spot, Inside, Between, past, turn_at, body_spot, Block, Making, IfNew, has_new, Then, Fork, Loop, Quit, Advance, Full, Leave, flat}
+use Rattle.arc_lower.specs.Lowered.{drop_orders, Entry, AtStep, AtTest, AtBody, enter_orders, enter_size, Spot, Inside, Between, past, turn_at, body_spot, Block, Making, IfNew, Then, Fork, Loop, Quit, Advance, Full, Leave, flat}
+use Rattle.arc_lower.specs.Size.{has_new}
 use Rattle.arc_lower.specs.declared.frame.Turn.{Turn}
 use Rattle.arc_lower.specs.Heights.{between, next_height, Walk, walk, next_walk, walk_heights, last_walk, in_function}
 use Rattle.arc_lower.proofs.Typing.{heights_same, tested, over_none, Reaches, Needs, Types, next_same, with_temporaries, ByTest, BlockTypes}

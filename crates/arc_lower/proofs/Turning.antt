@@ -8,7 +8,8 @@ use Rattle.arc_spec.specs.Resolved.{Program, Break, Continue, Value, Command, Ch
 use Rattle.arc_code.specs.declared.instr.Op.TheVariants.{Num}
 use Rattle.arc_lower.specs.declared.frame.Turn.{Turn}
 use Rattle.arc_lower.specs.declared.frame.Scope.{Scope}
-use Rattle.arc_lower.specs.Lowered.{Block, Quit, Advance, past, flat, all_empty_orders, nothing_given, spot, within_scopes, scopes_orders, Surroundings, command_orders, Entry, AtStep, AtTest, AtBody, enter_orders, enter_size, turn_orders, Between, body_spot, Idle, Then, Fork, Loop, whole_block, whole_orders, does_nothing, loop_block, command_block, breaking, continuing}
+use Rattle.arc_lower.specs.Lowered.{Block, Quit, Advance, past, flat, all_empty_orders, nothing_given, spot, within_scopes, scopes_orders, Surroundings, command_orders, Entry, AtStep, AtTest, AtBody, enter_orders, enter_size, turn_orders, Between, body_spot, Idle, Then, Fork, Loop, whole_block, whole_orders, loop_block, command_block, breaking, continuing}
+use Rattle.arc_lower.specs.Size.{does_nothing}
 use Rattle.std.proofs.lemmas.List.{append-nil}
 use Rattle.arc_lower.specs.declared.frame.Body.{Body}
 use Rattle.arc_lower.specs.Surroundings.{surroundings, step_begin, step_orders, turn_orders_of, with_turn}

@@ -11,7 +11,8 @@ use Rattle.arc_code.specs.declared.effect.Effect.{Effect}
 use Rattle.arc_code.specs.declared.effect.Height.{Height}
 use Rattle.arc_code.specs.Effects.{effect, giving, passes, no_height, room_for}
 use Rattle.arc_lower.specs.Order.{Order}
-use Rattle.arc_lower.specs.Lowered.{all_functions, slots_of, parameters_of, object_parameters, start_orders, leave_orders, entry_of, body_orders, function_orders, stub_orders, entries_of}
+use Rattle.arc_lower.specs.Lowered.{all_functions, slots_of, parameters_of, start_orders, leave_orders, entry_of, body_orders, function_orders, stub_orders, entries_of}
+use Rattle.arc_lower.specs.Size.{object_parameters}
 
 abbrev pub height : (numbers names temporaries variables : ℕ) → Height
 height numbers names temporaries variables = record { numbers = numbers; names = names; temporaries = temporaries; variables = variables }

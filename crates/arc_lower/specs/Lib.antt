@@ -1,5 +1,6 @@
 pub mod Order
 pub mod Known
+pub mod Size
 pub mod Lowered
 pub mod Surroundings
 pub mod Heights

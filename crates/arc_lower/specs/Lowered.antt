@@ -1,7 +1,7 @@
 -- Which actions a checked program becomes. A function's variables lie on the stack, the first one deepest, and its operands above them. An expression leaves one
 -- number more on the stack, or one reference more, and a statement leaves both as they were. Temporaries hold what references name, and are dropped together, at
 -- the end of the full-expression.
-use Rattle.std.specs.Prelude.{ℕ, zero, suc, pred, ◌+◌, ◌-◌, ◌/◌, Bool, true, false, nat_lt, if◌then◌else◌, pos, List, [], ◌∷◌, ◌++◌, length, take, drop, slice_get, slice_index_or, is_some, Option, Some, None}
+use Rattle.std.specs.Prelude.{ℕ, zero, suc, pred, ◌+◌, ◌-◌, ◌/◌, Bool, true, false, nat_lt, if◌then◌else◌, pos, List, [], ◌∷◌, ◌++◌, length, take, drop, slice_get, slice_index_or, Option, Some, None}
 use Rattle.std.specs.List.{list_any}
 use Rattle.arc_ast.specs.declared.tree.BinaryOperator.{BinaryOperator}
 use Rattle.arc_ast.specs.declared.tree.Kind.{Kind}
@@ -15,9 +15,8 @@ use Rattle.arc_spec.specs.Resolved as resolved
 use Rattle.arc_spec.specs.declared.class.Method.{Method}
 use Rattle.arc_spec.specs.declared.class.Gives.{Gives}
 use Rattle.arc_spec.specs.declared.class.Gives.TheVariants as gives
-use Rattle.arc_spec.specs.Classes.{Class, lookup, lesser, same_gives, new_selector, init_selector}
+use Rattle.arc_spec.specs.Classes.{Class, same_gives, new_selector, init_selector}
 use Rattle.arc_spec.specs.Meaning.{function_at, nothing_giving, function_places}
-use Rattle.arc_ast.specs.declared.tree.Sign.TheVariants as signs
 use Rattle.arc_code.specs.declared.instr.Op.{Op}
 use Rattle.arc_code.specs.declared.instr.Op.TheVariants.{Num, Bin, Un, Narrow, Pop, Get, Set, PrintNum, PrintByte, GetChar, Declare, Nil, ReadSelf, ReadRef, ReadGlobal, ReadField, Hold, Forget, Alloc, Finds, GetField, SetField, Differ, IsObject}
 use Rattle.arc_code.specs.declared.instr.Op.TheVariants as ops
@@ -29,17 +28,7 @@ use Rattle.arc_lower.specs.declared.frame.Turn.{Turn}
 use Rattle.arc_lower.specs.declared.frame.Scope.{Scope}
 use Rattle.arc_lower.specs.Order.{Order}
 use Rattle.arc_lower.specs.Known.{is_within, combined_kind, known_kind}
-
--- how many of the arguments are numbers, and how many objects
-abbrev pub number_count : Arguments → ℕ
-number_count no_arguments = 0
-number_count (number_argument a others) = suc (number_count others)
-number_count (object_argument a others) = number_count others
-
-abbrev pub object_count : Arguments → ℕ
-object_count no_arguments = 0
-object_count (number_argument a others) = object_count others
-object_count (object_argument a others) = suc (object_count others)
+use Rattle.arc_lower.specs.Size.{number_count, object_count, owned_by, object_parameters, has_new, unused, does_nothing}
 
 -- prints the first of so many values that lie below the count of bytes, the first one deepest; nothing where there is none
 abbrev pub conversion_orders : Order → (left : ℕ) → List Order
@@ -181,14 +170,6 @@ number_of P wanted f = if gives_at P wanted f then f else number_of_nothing P wa
 abbrev pub slots_of : Program → (wanted : Gives) → (f : ℕ) → ℕ
 slots_of P wanted f = (function_at P wanted f).slots
 
--- how many of the variables of a function that name objects come before its parameters
-abbrev pub owned_by : Function → ℕ
-owned_by f = if f.owns then 1 else 0
-
--- how many objects a function takes: it has no more parameters than places after `self`
-abbrev pub object_parameters : Function → ℕ
-object_parameters f = lesser f.parameters (function_places f - owned_by f)
-
 abbrev pub parameters_of : Program → (wanted : Gives) → (f : ℕ) → ℕ
 parameters_of P wanted f = object_parameters (function_at P wanted f)
 
@@ -263,10 +244,6 @@ message_order wanted (ToClass selector) n m = Send selector n m wanted
 message_order wanted (ToSuperClass from selector) n m = SendSuper from selector n m wanted
 message_order wanted (ToObject selector) n m = SendTo selector n m wanted
 message_order wanted (ToSuper from selector) n m = SendToSuper from selector n m wanted
-
--- whether a class has a `new` of its own, or one above it has
-abbrev pub has_new : Program → (class : ℕ) → Bool
-has_new P class = is_some (lookup P.classes (Some class) signs.Class new_selector 0 0 gives.Object)
 
 -- where no loop's turn is
 abbrev pub no_turn : Turn
@@ -460,20 +437,9 @@ begin_block i a = Full (reference_block 0 a) (Then (Assign (Local i)) (One Forge
 abbrev pub answer_block : Reference → Block
 answer_block a = Full (reference_block 0 a) (Then Answer (One Forget))
 
--- An expression that does the same, where nobody uses the number that it gives: an update gives the new number then, for which no copy of the old one is kept.
-abbrev pub unused : Value → Value
-unused (Updated moment i operator computed kept a) = Updated After i operator computed kept a
-unused (FieldUpdated moment a class index operator computed kept b) = FieldUpdated After a class index operator computed kept b
-unused a = a
-
 -- leaves a function with 0
 abbrev pub nothing_given : (exit : ℕ) → Block
 nothing_given exit = Then (One (Num (pos 0))) (Leave exit)
-
--- whether a statement is one that does nothing
-abbrev pub does_nothing : Command → Bool
-does_nothing (Sequence first zero no_commands) = true
-does_nothing _ = false
 
 -- a loop that begins with its test
 abbrev pub loop_block : (without_step : Bool) → (step test body : Block) → Block

@@ -7,7 +7,8 @@ use Rattle.arc_lower.specs.declared.frame.Turn.{Turn}
 use Rattle.arc_lower.specs.declared.frame.Scope.{Scope}
 use Rattle.arc_lower.specs.declared.frame.Body.{Body}
 use Rattle.arc_lower.specs.Order.{Order}
-use Rattle.arc_lower.specs.Lowered.{Surroundings, does_nothing, command_orders}
+use Rattle.arc_lower.specs.Lowered.{Surroundings, command_orders}
+use Rattle.arc_lower.specs.Size.{does_nothing}
 
 -- where a statement of a body stands, within these scopes, of which the last one is the innermost
 abbrev pub surroundings : Body → (scopes : List Scope) → Surroundings

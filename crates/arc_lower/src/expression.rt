@@ -7,7 +7,8 @@ ghost use Rattle.arc_lower.specs.Order.{order, orders};
 ghost use Rattle.arc_lower.specs.Known.{combined_kind};
 ghost use Rattle.arc_code.specs.declared.instr.Op.TheVariants.{Bin};
 ghost use Rattle.arc_code.specs.declared.instr.Instr.TheVariants.{Plain};
-ghost use Rattle.arc_lower.specs.Lowered.{old_orders, narrow_orders, unused, value_orders, reference_orders, receiver_orders, argument_orders, number_count, object_count, below_arguments, message_to, message_order, invoked_orders, sent_orders, has_new, making_orders, new_found_orders};
+ghost use Rattle.arc_lower.specs.Lowered.{old_orders, narrow_orders, value_orders, reference_orders, receiver_orders, argument_orders, below_arguments, message_to, message_order, invoked_orders, sent_orders, making_orders, new_found_orders};
+ghost use Rattle.arc_lower.specs.Size.{unused, number_count, object_count, has_new};
 
 use crate::call::append_call;
 use crate::frame::Frame;

@@ -1,10 +1,11 @@
-//! What follows from the heights of actions. Nothing here is run.
-ghost use Rattle.std.specs.Prelude.{◌≡◌, ◌≤◌, ℕ, suc, List};
+//! What follows from the heights of actions, and how many actions there are. Nothing here is run.
+ghost use Rattle.std.specs.Prelude.{◌≡◌, ◌≤◌, ℕ, suc, List, length};
 ghost use Rattle.arc_spec.specs.Resolved.{Value, Reference, Command, Program};
 ghost use Rattle.arc_code.specs.Effects.{HeightsFit, NeverHasMore, room_for};
 ghost use Rattle.arc_ir.specs.Acting as acting;
 ghost use Rattle.arc_lower.specs.Order.{orders};
 ghost use Rattle.arc_lower.specs.Lowered.{whole_orders, whole_reference_orders, Surroundings, command_orders, lowered, entries_of, end_step_of, classes_linked};
+ghost use Rattle.arc_lower.specs.Size.{program_size};
 ghost use Rattle.arc_code.specs.declared.effect.Height.{Height};
 ghost use Rattle.arc_lower.specs.Heights.{between, walk, last_walk, last_height, greatest_height, places_in, height_at, result_at};
 
@@ -26,4 +27,9 @@ pub fn heights_fit()
     ensures fit { (p : acting.Program) (P : Program) → orders p.actions ≡ lowered P → p.entries ≡ entries_of P → p.classes ≡ classes_linked P → HeightsFit (acting.linked p) (height_at P) (result_at P) (greatest_height P).numbers (greatest_height P).names (places_in (greatest_height P)) }
     ensures bounded { (p : acting.Program) (P : Program) → orders p.actions ≡ lowered P → p.entries ≡ entries_of P → p.classes ≡ classes_linked P → NeverHasMore (acting.linked p) (room_for (greatest_height P).numbers) (room_for (greatest_height P).names) (room_for (places_in (greatest_height P))) }
     ensures sound { (p : acting.Program) (P : Program) → orders p.actions ≡ lowered P → p.entries ≡ entries_of P → p.classes ≡ classes_linked P → p.end_step ≡ end_step_of P → room_for (greatest_height P).numbers ≤ p.room → room_for (greatest_height P).names ≤ p.names → room_for (places_in (greatest_height P)) ≤ p.places → acting.IsSound p }
+{}
+
+/// A program becomes exactly as many actions as its forms say.
+pub fn actions_counted()
+    ensures { (P : Program) → length (lowered P) ≡ program_size P }
 {}

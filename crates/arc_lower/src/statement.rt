@@ -6,7 +6,8 @@ ghost use Rattle.arc_code.specs.declared.instr.Op.TheVariants.{Pop};
 ghost use Rattle.arc_code.specs.declared.instr.Instr.TheVariants.{Plain, Jump, JumpZero};
 ghost use Rattle.arc_ir.specs.declared.action.Target.TheVariants.{At, Skip};
 ghost use Rattle.arc_lower.specs.Order.{order, orders};
-ghost use Rattle.arc_lower.specs.Lowered.{whole_orders, whole_reference_orders, begin_orders, answer_orders, unused, scopes_orders, does_nothing, command_orders, commands_orders};
+ghost use Rattle.arc_lower.specs.Lowered.{whole_orders, whole_reference_orders, begin_orders, answer_orders, scopes_orders, command_orders, commands_orders};
+ghost use Rattle.arc_lower.specs.Size.{unused, does_nothing};
 ghost use Rattle.arc_lower.specs.Surroundings.{surroundings, step_begin, step_orders, turn_orders_of, with_turn};
 
 use crate::expression::{append, append_reference, append_unused, append_value};

@@ -1,5 +1,5 @@
 -- The stages one after another.
-use Rattle.std.proofs.Common.{◌≡◌, ℕ, ◌<◌, List, [], length, refl, sym, ap, subst, ◌∙◌, arith}
+use Rattle.std.proofs.Common.{◌≡◌, ℕ, ◌<◌, List, [], length, refl, sym, ap, subst, ◌∙◌}
 use Rattle.std.proofs.lemmas.List.{length-map}
 use Rattle.arc_lex.specs.declared.token.Token.{Token}
 use Rattle.arc_lex.specs.Tokens.{toks}
@@ -20,6 +20,7 @@ use Rattle.arc_lower.specs.Order as order
 use Rattle.arc_lower.specs.Order.{orders}
 use Rattle.arc_lower.specs.Lowered.{lowered}
 use Rattle.arc_lower.specs.Promise.{Performs, IsLowered}
+use Rattle.arc_lower.proofs.Sizes.{actions_counted}
 use Rattle.arc_emit.specs.declared.fault.EmitFault.{EmitFault}
 use Rattle.arc_emit.specs.declared.fault.EmitFault.TheVariants as f
 use Rattle.arc_emit.specs.Faults as emitting
@@ -38,14 +39,12 @@ passed source items these_tokens same h = subst (λ ts. Tokens source (toks ts))
 -- ---- how large a program is
 
 too_many : (P : resolved.Program) (actions : acting.Program) → orders actions.actions ≡ lowered P → IsLarge actions → IsTooLarge P
-too_many P actions is large =
-    let many : length (lowered P) ≡ length actions.actions = ap length (sym is) ∙ length-map actions.actions order.order in
-    omega (arith, many, large)
+too_many P actions is large = subst (λ n. most_instrs < n) (sym (length-map actions.actions order.order) ∙ ap length is ∙ actions_counted P) large
 
 -- a program that becomes so many actions, where there is no room for them
 pub too_long : (source : List ℕ) (program : Accepted source) (count : ℕ) → count ≡ length (lowered (program_meant program)) → (e : EmitFault) (r : Refusal)
     → (e ≡ f.TooLarge) × (most_instrs < count) → Reports (emitting.fault_number e) (emitting.fault_name e) 0 r → IsRefusal source r
-too_long source program count is f.TooLarge r large reports = too_large program (subst (λ n. most_instrs < n) is large.1) reports
+too_long source program count is f.TooLarge r large reports = too_large program (subst (λ n. most_instrs < n) (is ∙ actions_counted (program_meant program)) large.1) reports
 too_long source program count is f.Memory r large reports = no_memory program reports
 
 -- ---- the stages

@@ -1,6 +1,6 @@
 use Rattle.std.proofs.Common.{◌≡◌, ◌+◌, ◌≤◌, drop}
 use Rattle.arc_checked.specs.Checked.{arguments}
-use Rattle.arc_lower.specs.Lowered.{number_count}
+use Rattle.arc_lower.specs.Size.{number_count}
 use Rattle.arc_lower.proofs.expression.count_numbers.Given as goal
 
 abbrev pub invariant-loop-argument : goal.invariant-loop-argument

@@ -4,7 +4,8 @@ use Rattle.arc_spec.specs.Resolved.{Function}
 use Rattle.arc_spec.specs.Meaning.{function_places}
 use Rattle.arc_checked.specs.Checked.{commands, program_of}
 use Rattle.arc_lower.specs.Order.{order, orders}
-use Rattle.arc_lower.specs.Lowered.{leave_orders, body_orders, entry_of, object_parameters}
+use Rattle.arc_lower.specs.Lowered.{leave_orders, body_orders, entry_of}
+use Rattle.arc_lower.specs.Size.{object_parameters}
 use Rattle.arc_lower.specs.Heights.{height, between, heights, raised}
 use Rattle.arc_lower.proofs.Rows.{slice_after, raised_append}
 use Rattle.arc_lower.proofs.list.append_function.Goals as goal

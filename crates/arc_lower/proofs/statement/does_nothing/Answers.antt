@@ -4,7 +4,7 @@ use Rattle.std.specs.Bool.{◌==◌}
 use Rattle.arc_spec.specs.Resolved.{Sequence}
 use Rattle.arc_checked.specs.declared.program.Command.{Command}
 use Rattle.arc_checked.specs.Checked.{command, commands}
-use Rattle.arc_lower.specs.Lowered.{does_nothing}
+use Rattle.arc_lower.specs.Size.{does_nothing}
 use Rattle.arc_checked.proofs.Trees.{sequence_command}
 use Rattle.arc_lower.proofs.statement.does_nothing.Goals as goal
 

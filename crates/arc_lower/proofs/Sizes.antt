@@ -1,0 +1,438 @@
+-- A program becomes exactly as many actions as its forms say.
+use Rattle.std.proofs.Common.{◌≡◌, ℕ, zero, suc, ◌+◌, ◌-◌, ◌*◌, ◌/◌, ◌<◌, ◌≤◌, Bool, true, false, ◌||◌, nat_lt, if◌then◌else◌, List, [], ◌∷◌, ◌++◌, length, drop, pos, Option, Some, None, refl, sym, ap, subst, ◌∙◌, arith, length-append}
+use Rattle.std.proofs.lemmas.Bool.{true≢false, ltb-true, ltb-false}
+use Rattle.std.proofs.lemmas.Bool.Decides.{nat_tests}
+use Rattle.std.specs.List.{list_any, sum_by}
+use Rattle.std.proofs.lemmas.List.Folds.{list_any-append}
+use Rattle.std.proofs.lemmas.List.Sums.{sum_by-append, sum_by-cons}
+use Rattle.arc_ast.specs.declared.tree.BinaryOperator.{BinaryOperator}
+use Rattle.arc_ast.specs.declared.tree.Kind.{Kind}
+use Rattle.arc_ast.specs.declared.tree.Moment.{Moment}
+use Rattle.arc_ast.specs.declared.tree.Moment.TheVariants.{Before, After}
+use Rattle.arc_spec.specs.declared.location.Location.{Location}
+use Rattle.arc_spec.specs.declared.location.Location.TheVariants.{Local, Global}
+use Rattle.arc_spec.specs.declared.class.Method.{Method}
+use Rattle.arc_spec.specs.declared.class.Gives.{Gives}
+use Rattle.arc_spec.specs.declared.class.Gives.TheVariants as gives
+use Rattle.arc_spec.specs.Classes.{Class, lesser, same_gives}
+use Rattle.arc_spec.specs.Meaning.{function_at, function_places, nothing_giving}
+use Rattle.arc_spec.specs.Resolved.{Piece, Bytes, Decimal, Character, Value, Number, ReadByte, Print, Applied, Combined, Choice, Converted, Assigned, Updated, Invoked, Sent, Receiver, ClassValue, ClassSuper, ObjectValue, ObjectSuper, Field, FieldAssigned, FieldUpdated, Differ, IsObject, Reference, Nil, Itself, Variable, Chosen, Stored, ObjectField, ObjectFieldStored, Made, New, ObjectInvoked, ObjectSent, Arguments, no_arguments, number_argument, object_argument, Command, Sequence, Evaluate, EvaluateReference, Begin, Return, Give, Choose, Repeat, RepeatAfter, Break, Continue, Commands, no_commands, and_command, Function, Program}
+use Rattle.arc_spec.specs.Resolved as resolved
+use Rattle.arc_code.specs.declared.instr.Op.{Op}
+use Rattle.arc_code.specs.declared.instr.Op.TheVariants as ops
+use Rattle.arc_code.specs.declared.instr.Instr.TheVariants.{Plain, Jump, Empty, DropAll}
+use Rattle.arc_code.specs.Effects.{as_object, passes}
+use Rattle.arc_ir.specs.declared.action.Target.TheVariants.{Skip}
+use Rattle.arc_lower.specs.Order.{Order}
+use Rattle.arc_lower.specs.Known.{is_within, combined_kind, known_kind}
+use Rattle.arc_lower.specs.Size.{Size, plain, taking, ◌and◌, by_variable, conversion_size, copy_size, number_count, object_count, format_size, print_size, owned_by, object_parameters, distance, entering_size, has_new, new_size, value_size, reference_size, receiver_size, arguments_size, full_size, unused, does_nothing, scope_size, command_size, commands_size, function_size, method_size, dealloc_size, class_size, program_size}
+use Rattle.arc_lower.specs.Lowered as orders
+use Rattle.arc_lower.proofs.Cases.{by_test}
+use Rattle.arc_lower.specs.Lowered.{ToClass, ToSuperClass, ToObject, ToSuper, Entry, AtStep, AtTest, AtBody, Block, Idle, One, Load, Store, Read, Assign, AssignField, Clear, Format, Calls, SendsMessage, Making, IfNew, Answer, Then, Fork, Loop, Quit, Advance, Full, Leave, Spot, past, narrow_block, update_block, below_new, below_arguments, message_to, new_block, value_block, reference_block, receiver_block, arguments_block, whole_block, nothing_given, loop_block, command_block, commands_block, Inside, Between, no_turn}
+
+-- ---- orders
+
+-- orders are so many, and one of them has a temporary take an object, or none has
+record Sized (s : Size) (xs : List Order) : Type 0 where
+  many : length xs ≡ s.actions
+  takes : list_any orders.order_takes xs ≡ s.takes
+
+exact : {xs : List Order} → Sized (record { actions = length xs; takes = list_any orders.order_takes xs }) xs
+exact = record { many = refl; takes = refl }
+
+either_takes : {t u : Bool} (xs ys : List Order) → list_any orders.order_takes xs ≡ t → list_any orders.order_takes ys ≡ u → list_any orders.order_takes (xs ++ ys) ≡ (t || u)
+either_takes {t} xs ys e h = list_any-append orders.order_takes xs ys ∙ ap (λ b. b || list_any orders.order_takes ys) e ∙ ap (λ b. t || b) h
+
+appended : {s t : Size} {xs ys : List Order} → Sized s xs → Sized t ys → Sized (s and t) (xs ++ ys)
+appended {xs} {ys} a b = record { many = omega (arith, length-append xs ys, a.many, b.many); takes = either_takes xs ys a.takes b.takes }
+
+if_sized : {n m : ℕ} {t : Bool} {xs ys : List Order} (b : Bool) → Sized (record { actions = n; takes = t }) xs → Sized (record { actions = m; takes = t }) ys
+    → Sized (record { actions = if b then n else m; takes = t }) (if b then xs else ys)
+if_sized true first second = first
+if_sized false first second = second
+
+-- the same order so many times
+repeated : (o : Order) (g : ℕ → List Order) → orders.order_takes o ≡ false → g 0 ≡ [] → ((n : ℕ) → g (suc n) ≡ o ∷ g n) → (n : ℕ) → Sized (plain n) (g n)
+repeated o g quiet first next zero = subst (Sized (plain 0)) (sym first) exact
+repeated o g quiet first next (suc n) =
+    let others = repeated o g quiet first next n in
+    subst (Sized (plain (suc n))) (sym (next n)) (record { many = ap suc others.many; takes = ap (λ b. b || list_any orders.order_takes (g n)) quiet ∙ others.takes })
+
+pops : (n : ℕ) → Sized (plain n) (orders.pop_orders n)
+pops = repeated (Plain ops.Pop) orders.pop_orders refl refl (λ n. refl)
+
+forgets : (n : ℕ) → Sized (plain n) (orders.forget_orders n)
+forgets = repeated (Plain ops.Forget) orders.forget_orders refl refl (λ n. refl)
+
+declares : (n : ℕ) → Sized (plain n) (orders.declare_orders n)
+declares = repeated (Plain ops.Declare) orders.declare_orders refl refl (λ n. refl)
+
+kept : (n : ℕ) → Sized (plain n) (orders.keep_orders n)
+kept zero = exact
+kept (suc n) = record { many = ap suc (pops n).many; takes = (pops n).takes }
+
+stored : (first n : ℕ) → length (orders.take_orders first n) ≡ 2 * n
+stored first zero = refl
+stored first (suc n) = omega (arith, stored first n)
+
+owned : (b : Bool) (n : ℕ) → length (if b then orders.own_orders n else []) ≡ 4 * lesser (if b then 1 else 0) n
+owned true zero = refl
+owned true (suc n) = grind (arith, nat_tests)
+owned false n = grind (arith, nat_tests)
+
+cleared : (names first n : ℕ) → length (orders.all_empty_orders names first n) ≡ lesser n (names - first)
+cleared names first zero = grind (arith, nat_tests)
+cleared names first (suc n) = one (cleared names first n) (nat_lt (first + n) names) (ltb-true (first + n) names) (ltb-false (first + n) names)
+  where
+    more : (n m : ℕ) → (n < m → lesser (suc n) m ≡ suc (lesser n m)) × (m ≤ n → lesser (suc n) m ≡ lesser n m)
+    more n m = (grind (arith, nat_tests), grind (arith, nat_tests))
+
+    one : length (orders.all_empty_orders names first n) ≡ lesser n (names - first) → (b : Bool) → (b ≡ true → first + n < names) → (b ≡ false → names ≤ first + n)
+        → length ((if b then Empty (first + n) ∷ [] else []) ++ orders.all_empty_orders names first n) ≡ lesser (suc n) (names - first)
+    one others true h k = ap suc others ∙ sym ((more n (names - first)).0 (let lt = h refl in omega arith))
+    one others false h k = others ∙ sym ((more n (names - first)).1 (let le = k refl in omega arith))
+
+all_cleared : (b : Bool) (n : ℕ) → lesser n ((if b then suc n else n) - 0) ≡ n
+all_cleared true n = grind (arith, nat_tests)
+all_cleared false n = grind (arith, nat_tests)
+
+abbrev drops : Bool → List Order
+drops b = if b then DropAll ∷ [] else []
+
+dropped : (b : Bool) → length (drops b) ≡ (if b then 1 else 0)
+dropped true = refl
+dropped false = refl
+
+-- ---- formats
+
+parts : (n : ℕ) (bytes : List ℕ) → Sized (plain (suc n)) (orders.part_orders n bytes)
+parts zero bytes = exact
+parts (suc n) bytes = let others = parts n (drop 16 bytes) in record { many = ap suc others.many; takes = others.takes }
+
+formats : (pieces : List Piece) (n : ℕ) → Sized (plain (format_size pieces n)) (orders.format_orders pieces n)
+formats [] n = exact
+formats (Bytes bytes ∷ pieces) n = appended (parts ((length bytes - 1) / 16) bytes) (formats pieces n)
+formats (Decimal ∷ pieces) zero = formats pieces zero
+formats (Character ∷ pieces) zero = formats pieces zero
+formats (Decimal ∷ pieces) (suc n) = let others = formats pieces n in record { many = omega (arith, others.many); takes = others.takes }
+formats (Character ∷ pieces) (suc n) = let others = formats pieces n in record { many = omega (arith, others.many); takes = others.takes }
+
+prints : (pieces : List Piece) (n m : ℕ) → Sized (plain (print_size pieces n m)) (orders.forget_orders m ++ orders.print_orders pieces n)
+prints pieces n m =
+    let after = kept n in
+    let rest = appended (formats pieces n) (record { many = ap suc after.many; takes = after.takes }) in
+    let all = appended (forgets m) (record { many = ap suc rest.many; takes = rest.takes }) in
+    record { many = omega (arith, all.many); takes = all.takes }
+
+-- ---- where functions are entered
+
+-- so many actions, one of which takes an object where one is wanted
+abbrev giving_size : (wanted : Gives) → ℕ → Size
+giving_size wanted k = record { actions = k; takes = nat_lt 0 (as_object wanted) || false }
+
+module _ (P : Program) (wanted : Gives) (g n m : ℕ) where
+  passed : Sized (plain (distance n (function_at P wanted g).slots + distance m (object_parameters (function_at P wanted g)))) (orders.passing_orders P wanted g n m)
+  passed =
+      let slots = orders.slots_of P wanted g in
+      let parameters = orders.parameters_of P wanted g in
+      appended (appended (pops (n - slots)) (repeated (Plain (ops.Num (pos 0))) orders.zero_orders refl refl (λ k. refl) (slots - n)))
+      (appended (forgets (m - parameters)) (repeated (Plain ops.Nil) orders.nil_orders refl refl (λ k. refl) (parameters - m)))
+
+  called : Sized (giving_size wanted (entering_size P wanted g n m)) (orders.call_orders P wanted g n m)
+  called = appended passed exact
+
+  stubbed : (entries : List ℕ) → length (orders.stub_orders P entries wanted n m g) ≡ entering_size P wanted g n m
+  stubbed entries = omega (arith, length-append {A = Order}, passed.many)
+
+-- ---- blocks
+
+module _ (P : Program) (f : Function) where
+  abbrev flat : Spot → Block → List Order
+  flat = orders.flat P f.slots (function_places f)
+
+  -- a block becomes orders of this size, or so many, wherever it stands
+  record Is (x : Block) (s : Size) : Type 0 where
+    at : (e : Spot) → Sized s (flat e x)
+
+  record Long (x : Block) (n : ℕ) : Type 0 where
+    at : (e : Spot) → length (flat e x) ≡ n
+
+  long : {x : Block} {s : Size} → Is x s → Long x s.actions
+  long a = record { at = λ e. (a.at e).many }
+
+  idle : Is Idle (plain 0)
+  idle = record { at = λ e. exact }
+
+  op : {o : Op} → Is (One o) (record { actions = 1; takes = orders.order_takes (Plain o) || false })
+  op = record { at = λ e. exact }
+
+  next : {x y : Block} {s t : Size} → Is x s → Is y t → Is (Then x y) (s and t)
+  next {x} a b = record { at = λ e. appended (a.at e) (b.at (past (length (flat e x)) e)) }
+
+  after : {x y : Block} {n m : ℕ} → Long x n → Long y m → Long (Then x y) (n + m)
+  after {x} {y} a b = record {
+    at = λ e. let other = past (length (flat e x)) e in omega (arith, length-append (flat e x) (flat other y), a.at e, b.at other);
+  }
+
+  moved : {x : Block} {s t : Size} → s.actions ≡ t.actions → s.takes ≡ t.takes → Is x s → Is x t
+  moved h k a = record { at = λ e. let is = a.at e in record { many = is.many ∙ h; takes = is.takes ∙ k } }
+
+  same : {x : Block} {n m : ℕ} → n ≡ m → Long x n → Long x m
+  same h a = record { at = λ e. a.at e ∙ h }
+
+  forks : {x y : Block} {n m : ℕ} → Long x n → Long y m → Long (Fork x y) (n + (m + 2))
+  forks {x} {y} a b = record {
+    at = λ e.
+        let xs = flat (past 1 e) x in
+        let other = past 1 (past (length xs) (past 1 e)) in
+        let jump : Order = Jump (Skip (length (flat other y))) in
+        omega (arith, length-append xs (jump ∷ flat other y), a.at (past 1 e), b.at other);
+  }
+
+  choice : {x y : Block} {s t : Size} → Is x s → Is y t → Is (Fork x y) (s and t and plain 2)
+  choice {x} {y} {s} {t} a b = record {
+    at = λ e.
+        let xs = flat (past 1 e) x in
+        let other = past 1 (past (length xs) (past 1 e)) in
+        let jump : Order = Jump (Skip (length (flat other y))) in
+        record { many = (forks (long a) (long b)).at e; takes = either_takes xs (jump ∷ flat other y) (a.at (past 1 e)).takes ((b.at other).takes ∙ or_none t.takes) };
+  }
+    where
+      or_none : (b : Bool) → b ≡ (b || false)
+      or_none true = refl
+      or_none false = refl
+
+  loops : (entry : Entry) {x y z : Block} {n m k : ℕ} → Long x n → Long y m → Long z k → Long (Loop entry x y z) (orders.enter_size entry + n + m + k + 2)
+  loops entry {x} {y} {z} a b c = record {
+    at = λ e.
+        let begin = past (orders.enter_size entry) e in
+        let xs = flat begin x in
+        let test = past (length xs) begin in
+        let ys = flat test y in
+        let body = orders.body_spot (length xs) (length ys) begin in
+        omega (arith, length-append {A = Order}, enters entry (length xs) (length ys), a.at begin, b.at test, c.at body);
+  }
+    where
+      enters : (entry : Entry) (n m : ℕ) → length (orders.enter_orders entry n m) ≡ orders.enter_size entry
+      enters AtStep n m = refl
+      enters AtTest n m = refl
+      enters AtBody n m = refl
+
+  fulls : {x y : Block} {s : Size} {n : ℕ} → Is x s → Long y n → Long (Full x y) (full_size s + n)
+  fulls {s} a b = record {
+    at = λ e.
+        let is = a.at Inside in
+        omega (arith, length-append {A = Order}, is.many, b.at Inside, ap (λ t. length (drops t)) is.takes ∙ dropped s.takes);
+  }
+
+  -- ---- what expressions are made of
+
+  loads : (depth : ℕ) (i : Location) → Is (Load depth i) (plain 1)
+  loads depth (Global i) = record { at = λ e. exact }
+  loads depth (Local i) = record {
+    at = λ e. by_test (λ b. Sized (plain 1) (if b then Plain (ops.Get (depth + (f.slots - suc i))) ∷ [] else Plain (ops.Num (pos 0)) ∷ [])) (nat_lt i f.slots) (λ _. exact) (λ _. exact);
+  }
+
+  stores : (depth : ℕ) (i : Location) → Is (Store depth i) (plain (by_variable i f.slots 2 0))
+  stores depth (Global i) = record { at = λ e. exact }
+  stores depth (Local i) = record { at = λ e. if_sized (nat_lt i f.slots) exact exact }
+
+  reads : (i : Location) → Is (Read i) (taking (by_variable i (function_places f) 1 2))
+  reads (Global i) = record { at = λ e. exact }
+  reads (Local i) = record { at = λ e. if_sized (nat_lt i (function_places f)) exact exact }
+
+  assigns : (i : Location) → Is (Assign i) (plain (by_variable i (function_places f) 1 0))
+  assigns (Global i) = record { at = λ e. exact }
+  assigns (Local i) = record { at = λ e. if_sized (nat_lt i (function_places f)) exact exact }
+
+  converts : (known kind : Kind) → Is (narrow_block known kind) (plain (conversion_size known kind))
+  converts known kind = by_test (λ b. Is (if b then Idle else One (ops.Narrow kind)) (plain (if b then 0 else 1))) (is_within known kind) (λ _. idle) (λ _. op)
+
+  -- the right operand of an update and what follows it
+  updates : (moment : Moment) (operator : BinaryOperator) (computed kept : Kind) {x store : Block} {s : Size} (n : ℕ) → Is x s → Is store (plain n)
+      → Is (update_block moment x operator computed kept store) (s and plain (1 + copy_size moment + conversion_size (combined_kind operator computed) kept + n))
+  updates Before operator computed kept n right store = moved (omega arith) refl (next op (next right (next op (next (converts (combined_kind operator computed) kept) (next store op)))))
+  updates After operator computed kept n right store = moved (omega arith) refl (next idle (next right (next op (next (converts (combined_kind operator computed) kept) (next store idle)))))
+
+  formatted : (pieces : List Piece) (n m : ℕ) → Is (Format pieces n m) (plain (print_size pieces n m))
+  formatted pieces n m = record { at = λ e. prints pieces n m }
+
+  calls : (wanted : Gives) (g n m : ℕ) → Is (Calls wanted g n m) (giving_size wanted (entering_size P wanted g n m))
+  calls wanted g n m = record { at = λ e. called P wanted g n m }
+
+  sends : (wanted : Gives) (message : orders.Message) (n m : ℕ) → Is (SendsMessage wanted message n m) (giving_size wanted 1)
+  sends wanted (ToClass selector) n m = record { at = λ e. exact }
+  sends wanted (ToSuperClass from selector) n m = record { at = λ e. exact }
+  sends wanted (ToObject selector) n m = record { at = λ e. exact }
+  sends wanted (ToSuper from selector) n m = record { at = λ e. exact }
+
+  makes : Is Making (taking 3)
+  makes = record { at = λ e. exact }
+
+  news : (from : Option ℕ) (a : Value) → Is (new_block from a) (taking (new_size P from a))
+  news (Some class) a = record { at = λ e. if_sized (has_new P class) exact exact }
+  news None (Number (pos class)) = record { at = λ e. if_sized (has_new P class) exact exact }
+  news None _ = next op (choice (sends gives.Object (ToClass _) 0 0) makes)
+
+  -- ---- expressions
+
+  mutual
+    value_is : (depth : ℕ) (a : Value) → Is (value_block depth a) (value_size P f a)
+    value_is depth (Number n) = op
+    value_is depth ReadByte = op
+    value_is depth (Print pieces given) = next (arguments_are depth given) (formatted pieces (number_count given) (object_count given))
+    value_is depth (Applied operator kind a) = next (value_is depth a) op
+    value_is depth (Combined operator kind a b) = next (value_is depth a) (next (value_is (suc depth) b) op)
+    value_is depth (Choice c a b) = next (value_is depth c) (choice (value_is depth a) (value_is depth b))
+    value_is depth (Converted kind a) = next (value_is depth a) (converts (known_kind a) kind)
+    value_is depth (resolved.Read i) = loads depth i
+    value_is depth (Assigned i a) = next (value_is depth a) (stores depth i)
+    value_is depth (Updated moment i operator computed kept a) =
+        moved (omega arith) refl (next (loads depth i) (updates moment operator computed kept (by_variable i f.slots 2 0) (value_is (suc (below_new moment depth)) a) (stores (below_new moment depth) i)))
+    value_is depth (Invoked g given) = next (arguments_are depth given) (calls gives.Number g (number_count given) (object_count given))
+    value_is depth (Sent receiver selector given) =
+        next (receiver_is depth receiver) (next (arguments_are (below_arguments receiver depth) given) (sends gives.Number (message_to receiver selector) (number_count given) (object_count given)))
+    value_is depth (Field a class index) = next (reference_is depth a) op
+    value_is depth (FieldAssigned a class index b) = next (reference_is depth a) (next (value_is depth b) op)
+    value_is depth (FieldUpdated moment a class index operator computed kept b) =
+        moved (omega arith) refl (next (reference_is depth a) (next op (next op (updates moment operator computed kept 1 (value_is (suc (below_new moment depth)) b) op))))
+    value_is depth (Differ a b) = next (reference_is depth a) (next (reference_is depth b) op)
+    value_is depth (IsObject a) = next (reference_is depth a) op
+
+    reference_is : (depth : ℕ) (a : Reference) → Is (reference_block depth a) (reference_size P f a)
+    reference_is depth Nil = op
+    reference_is depth Itself = op
+    reference_is depth (Variable i) = reads i
+    reference_is depth (Chosen c a b) = next (value_is depth c) (choice (reference_is depth a) (reference_is depth b))
+    reference_is depth (Stored i a) = next (reference_is depth a) (next (assigns i) op)
+    reference_is depth (ObjectField a class index) = next (reference_is depth a) op
+    reference_is depth (ObjectFieldStored a class index b) =
+        next (reference_is depth a) (next (reference_is depth b) (next (record { at = λ e. exact }) op))
+    reference_is depth (Made a) = next (value_is depth a) op
+    reference_is depth (New from a) = next (value_is depth a) (news from a)
+    reference_is depth (ObjectInvoked g given) = next (arguments_are depth given) (calls gives.Object g (number_count given) (object_count given))
+    reference_is depth (ObjectSent receiver selector given) =
+        next (receiver_is depth receiver) (next (arguments_are (below_arguments receiver depth) given) (sends gives.Object (message_to receiver selector) (number_count given) (object_count given)))
+
+    receiver_is : (depth : ℕ) (receiver : Receiver) → Is (receiver_block depth receiver) (receiver_size P f receiver)
+    receiver_is depth (ClassValue a) = value_is depth a
+    receiver_is depth (ClassSuper from) = loads depth (Local 0)
+    receiver_is depth (ObjectValue a) = reference_is depth a
+    receiver_is depth (ObjectSuper a from) = reference_is depth a
+
+    arguments_are : (depth : ℕ) (given : Arguments) → Is (arguments_block depth given) (arguments_size P f given)
+    arguments_are depth no_arguments = idle
+    arguments_are depth (number_argument a others) = next (value_is depth a) (arguments_are (suc depth) others)
+    arguments_are depth (object_argument a others) = next (reference_is depth a) (arguments_are depth others)
+
+  -- ---- statements
+
+  one : {o : Op} → Long (One o) 1
+  one = record { at = λ e. refl }
+
+  leaves : (exit : ℕ) → Long (Leave exit) 1
+  leaves exit = record { at = λ e. refl }
+
+  wholes : (a : Value) → Long (whole_block a) (full_size (value_size P f a))
+  wholes a = same (omega arith) (fulls (value_is 0 a) (long idle))
+
+  nothing : (exit : ℕ) → Long (nothing_given exit) 2
+  nothing exit = after one (leaves exit)
+
+  -- the last place takes an object, where there is one
+  answers : Long Answer (lesser 1 (function_places f))
+  answers = record { at = λ e. ((assigns (Local (function_places f - 1))).at e).many ∙ last (function_places f) }
+    where
+      last : (n : ℕ) → (if nat_lt (n - 1) n then 1 else 0) ≡ lesser 1 n
+      last n = grind (arith, nat_tests)
+
+  empty : (step : Command) (b c : ℕ) → does_nothing step ≡ true → command_size P f b c step ≡ 0
+  empty (Sequence first zero no_commands) b c e = none (function_places f - first)
+    where
+      none : (n : ℕ) → 0 + lesser 0 n ≡ 0
+      none n = grind (arith, nat_tests)
+  empty _ b c e = absurd (true≢false (sym e))
+
+  repeats : (without : Bool) {step test body : Block} {n m k : ℕ} → (without ≡ true → n ≡ 0) → Long step n → Long test m → Long body k
+      → Long (loop_block without step test body) ((if without then 2 else 3) + n + m + k)
+  repeats true none a b c = same (omega (arith, none refl)) (loops AtStep (long idle) b c)
+  repeats false none a b c = same (omega arith) (loops AtTest a b c)
+
+  mutual
+    command_is : (exit : ℕ) (breaks continues : Block) (b c : ℕ) → Long breaks b → Long continues c → (x : Command)
+        → Long (command_block exit breaks continues x) (command_size P f b c x)
+    command_is exit breaks continues b c h k (Sequence first count all) =
+        let ends : Long (Clear first count) (scope_size f first count) = record { at = λ e. cleared (function_places f) first count } in
+        after (commands_are exit _ _ _ _ (after ends h) (after ends k) all) ends
+    command_is exit breaks continues b c h k (Evaluate a) = after (wholes (unused a)) one
+    command_is exit breaks continues b c h k (EvaluateReference a) = fulls (reference_is 0 a) one
+    command_is exit breaks continues b c h k (Begin i a) = same (omega arith) (fulls (reference_is 0 a) (after (long (assigns (Local i))) one))
+    command_is exit breaks continues b c h k (Return None) = nothing exit
+    command_is exit breaks continues b c h k (Return (Some a)) = after (wholes a) (leaves exit)
+    command_is exit breaks continues b c h k (Give a) =
+        same (omega arith) (after (fulls (reference_is 0 a) (after answers one)) (nothing exit))
+    command_is exit breaks continues b c h k (Choose test x y) =
+        same (omega arith) (after (wholes test) (forks (command_is exit breaks continues b c h k x) (command_is exit breaks continues b c h k y)))
+    command_is exit breaks continues b c h k (Repeat test step body) =
+        repeats (does_nothing step) (empty step b c) (command_is exit breaks continues b c h k step) (wholes test)
+        (command_is exit Quit Advance 2 1 (record { at = λ e. refl }) (record { at = λ e. refl }) body)
+    command_is exit breaks continues b c h k (RepeatAfter body test) =
+        same (omega arith) (loops AtBody (long idle) (wholes test) (command_is exit Quit Advance 2 1 (record { at = λ e. refl }) (record { at = λ e. refl }) body))
+    command_is exit breaks continues b c h k Break = h
+    command_is exit breaks continues b c h k Continue = k
+
+    commands_are : (exit : ℕ) (breaks continues : Block) (b c : ℕ) → Long breaks b → Long continues c → (all : Commands)
+        → Long (commands_block exit breaks continues all) (commands_size P f b c all)
+    commands_are exit breaks continues b c h k no_commands = record { at = λ e. refl }
+    commands_are exit breaks continues b c h k (and_command x others) = after (command_is exit breaks continues b c h k x) (commands_are exit breaks continues b c h k others)
+
+  function_is : (place : ℕ) → length (orders.function_orders P place f) ≡ function_size P f
+  function_is place =
+      let body = after (commands_are place _ _ 2 2 (nothing place) (nothing place) f.body) (nothing place) in
+      omega (
+        arith,
+        length-append {A = Order},
+        cleared (function_places f) 0 f.names,
+        all_cleared (same_gives f.gives gives.Object) f.names,
+        (kept f.slots).many,
+        (declares (function_places f)).many,
+        stored (owned_by f) (object_parameters f),
+        owned f.owns (function_places f),
+        body.at (Between (orders.entry_of place f + length (orders.opening_orders f)) no_turn),
+      )
+
+-- ---- the program
+
+module _ (P : Program) where
+  functions_are : (place : ℕ) (fs : List Function) → length (orders.functions_orders P place fs) ≡ sum_by (function_size P) fs
+  functions_are place [] = refl
+  functions_are place (f ∷ others) =
+      let first = length (orders.function_orders P place f) in
+      omega (arith, length-append {A = Order}, sum_by-cons (function_size P) f others, function_is P f place, functions_are (place + first) others)
+
+  module _ (entries : List ℕ) where
+    methods_are : (ms : List Method) → length (orders.methods_orders P entries ms) ≡ sum_by (method_size P) ms
+    methods_are [] = refl
+    methods_are (m ∷ others) =
+        let first = stubbed P m.gives m.runs (passes m.sign m.takes) m.objects entries in
+        omega (arith, length-append {A = Order}, sum_by-cons (method_size P) m others, first, methods_are others)
+
+    dealloc_is : (d : Option ℕ) → length (orders.dealloc_orders P entries d) ≡ dealloc_size P d
+    dealloc_is None = refl
+    dealloc_is (Some g) = stubbed P gives.Number g 0 0 entries
+
+    classes_are : (cs : List Class) → length (orders.classes_orders P entries cs) ≡ sum_by (class_size P) cs
+    classes_are [] = refl
+    classes_are (c ∷ others) =
+        omega (arith, length-append {A = Order}, sum_by-cons (class_size P) c others, dealloc_is c.dealloc, methods_are c.methods, classes_are others)
+
+  pub actions_counted : length (orders.lowered P) ≡ program_size P
+  actions_counted =
+      omega (
+        arith,
+        length-append {A = Order},
+        (called P gives.Number P.main 0 0).many,
+        functions_are (length (orders.start_orders P)) (orders.all_functions P),
+        sum_by-append (function_size P) P.functions (nothing_giving gives.Number ∷ nothing_giving gives.Object ∷ []),
+        classes_are (orders.entries_of P) P.classes,
+      )
