@@ -5,6 +5,9 @@ import tempfile
 from expressions import CLASSES, FUNCTIONS, MOST_TOKENS, NUMBERS
 from running import MOST_SOURCE, Ended, Refused, Shown, StepsUsed, filled, names, padded
 
+# the most actions that a program may become
+MOST_ACTIONS = 16_777_216
+
 MAIN = b"int main(void) { printf(\"e\"); return 3; }"
 END = dict(shown=Shown(b"e"), stop=Ended(3))
 
@@ -375,11 +378,23 @@ def address_cases(runner):
     runner.case("1 MiB of statements in 1 GiB of addresses", source, stop=Ended(3), addresses=1 << 30)
 
 
+def size_cases(runner):
+    """Code of as many actions as there may be, and of more."""
+    head = b"void f(void){%s}int main(void){" % b"".join(b"int v%d;" % n for n in range(200))
+    # A variable begins with 0 by four actions. A function takes its variables and goes back, and gives 0 at its end before. Ten actions are the start's
+    # and those of the functions that give nothing. A call puts a 0 for each variable, and its number is dropped.
+    calls, rest = divmod(MOST_ACTIONS - (200 * 4 + 200 + 3 + 3 + 10), 200 + 2)
+    body = head + b"f();" * calls + b"0;" * (rest // 2)
+    runner.case(f"code of {MOST_ACTIONS} actions", body + b"}", commands=("check",))
+    runner.case(f"code of {MOST_ACTIONS + 2} actions", body + b"0;}", stop=Refused(71, 0), commands=("check",))
+
+
 def run(runner):
     blank_cases(runner)
     top_cases(runner)
     chain_cases(runner)
     body_cases(runner)
+    size_cases(runner)
     expression_cases(runner)
     limit_cases(runner)
     text_cases(runner)
