@@ -3,3 +3,4 @@ pub mod Making
 pub mod Patterning
 pub mod Piles
 pub mod Rows
+pub mod Spanning

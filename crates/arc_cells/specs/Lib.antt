@@ -4,5 +4,6 @@ pub mod Found
 pub mod Patterns
 pub mod Refusing
 pub mod Rows
+pub mod Spans
 pub mod Standing
 pub mod Words

@@ -10,5 +10,6 @@ pub mod objects;
 pub mod order;
 pub mod pattern;
 pub mod shape;
+pub mod span;
 pub mod stack;
 pub mod waiting;

@@ -1,6 +1,7 @@
 //! The instructions by which variables of the whole program and fields take objects.
 ghost use Rattle.std.specs.Prelude.{◌≡◌, ◌+◌, ◌-◌, ◌^◌, ◌<◌, ◌≤◌, IsTrue, IfNone, length, slice_get};
 ghost use Rattle.arc_spec.specs.Classes.{classes_of};
+ghost use Rattle.arc_cells.specs.Spans.{Descend};
 ghost use Rattle.arc_code.specs.Running.{program_of};
 ghost use Rattle.arc_steps.specs.Places.{Ready, CanHold, Executes, Follows, spot, shown, HasPlaces};
 ghost use Rattle.arc_steps.specs.Storing.{CanReplace, Replaces, FieldReady, FindsField, LastGlobal, LastStored};
@@ -37,10 +38,12 @@ pub fn replace<S: Store + Drop>(before: u64, object: u64, objects: &mut Objects<
 fn find_field<S: Store + Drop>(
     class: usize,
     index: usize,
+    end: usize,
     code: &Code,
     objects: &Objects<S>,
 ) -> Result<Option<usize>, Fault>
-    requires { FieldReady S.out objects.now }
+    requires end { Descend (classes_of code.now.classes.items) class end }
+    requires ready { FieldReady S.out objects.now }
     ensures { FindsField S.out (classes_of code.now.classes.items) objects.now class index result }
 {
     let holder = objects.reference_below(1);
@@ -48,7 +51,7 @@ fn find_field<S: Store + Drop>(
         return Err(Fault::NilField);
     }
     let own = objects.class(holder) as usize;
-    if !is_of(&code.classes, own, class) {
+    if !is_of(&code.classes, own, class, end) {
         return Err(Fault::FieldClass);
     }
     if objects.is_emptying(holder) {
@@ -129,9 +132,11 @@ impl Place {
         &mut self,
         class: usize,
         index: usize,
+        end: usize,
         code: &Code,
         objects: &mut Objects<S>,
     ) -> Option<Answer>
+        requires end { Descend (program_of code.now).classes class end }
         requires ready { Ready S.out (program_of code.now) (Instr.StoreField class index) (spot self.old objects.old) }
         requires few { CanHold S.out (program_of code.now) (Instr.StoreField class index) (spot self.old objects.old) }
         requires place { self.old.at < 2 ^ 64 - 1 }
@@ -144,7 +149,7 @@ impl Place {
     {
         // There are no more places than the code asks for, whose number fits a word.
         let _places = code.places;
-        match find_field(class, index, code, objects) {
+        match find_field(class, index, end, code, objects) {
             Err(fault) => return Some(Answer::Faulted(fault)),
             Ok(Some(slot)) => {
                 let object = objects.reference();
@@ -169,9 +174,11 @@ impl Place {
         &mut self,
         class: usize,
         index: usize,
+        end: usize,
         code: &Code,
         objects: &mut Objects<S>,
     ) -> Turn
+        requires end { Descend (program_of code.now).classes class end }
         requires ready { Ready S.out (program_of code.now) (Instr.StoreField class index) (spot self.old objects.old) }
         requires few { CanHold S.out (program_of code.now) (Instr.StoreField class index) (spot self.old objects.old) }
         requires place { self.old.at < 2 ^ 64 - 1 }
@@ -181,7 +188,7 @@ impl Place {
             (spot self.old objects.old) (spot self.new objects.new) }
         ensures room { self.new.stack.room ≡ self.old.stack.room }
     {
-        if let Some(answer) = self.store_field_soon(class, index, code, objects) {
+        if let Some(answer) = self.store_field_soon(class, index, end, code, objects) {
             return calm(answer);
         }
         if !objects.have_level() {
@@ -189,7 +196,7 @@ impl Place {
         }
         let object = objects.reference();
         let holder = objects.reference_below(1);
-        let Ok(Some(slot)) = find_field(class, index, code, objects) else {
+        let Ok(Some(slot)) = find_field(class, index, end, code, objects) else {
             unreachable!()
         };
         let before = objects.field_name(holder, slot);

@@ -20,8 +20,10 @@ returns-then-not-have_level-clause-went g c =
     (subst (λ e. Executes out p (StoreField c.args.class c.args.index) (Faulted Depth) (shown e) old m) (sym said.event) depth)
 
 pub find_field-requires : goal.find_field-requires
-find_field-requires g c =
-    after_ready g.S.Store.out (program_of c.args.code.now) (spot c.args.self.now c.args.objects.now) (spot c.store_field_soon.new.self c.store_field_soon.new.objects) c.args.class c.args.index c.in_default.ensures.went.1 c.requires.few c.in_default.ensures.last
+find_field-requires g c = record {
+  end = c.requires.end;
+  ready = after_ready g.S.Store.out (program_of c.args.code.now) (spot c.args.self.now c.args.objects.now) (spot c.store_field_soon.new.self c.store_field_soon.new.objects) c.args.class c.args.index c.in_default.ensures.went.1 c.requires.few c.in_default.ensures.last;
+}
 
 pub unreachable-requires : goal.unreachable-requires
 unreachable-requires g c =

@@ -10,7 +10,10 @@ use Rattle.arc_steps.proofs.place.Place.store_field_soon.Goals as goal
 use Rattle.arc_steps.proofs.place.Place.store_field_soon.Goals.{in-Ok-Some+else-not-replace, in-Ok-None}
 
 pub find_field-requires : goal.find_field-requires
-find_field-requires g c = store_ready g.S.Store.out (program_of c.args.code.now) (spot c.args.self.now c.args.objects.now) c.args.class c.args.index c.requires.ready
+find_field-requires g c = record {
+  end = c.requires.end;
+  ready = store_ready g.S.Store.out (program_of c.args.code.now) (spot c.args.self.now c.args.objects.now) c.args.class c.args.index c.requires.ready;
+}
 
 pub returns-in-Err-clause-went : goal.returns-in-Err-clause-went
 returns-in-Err-clause-went g c = store_fault g.S.Store.out (program_of c.args.code.now) (spot c.args.self.now c.args.objects.now) c.args.class c.args.index c.find_field.result c.in-Err.fault c.find_field.ensures (cc)
