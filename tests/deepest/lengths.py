@@ -140,11 +140,13 @@ def chain_cases(runner):
     runner.case(f"a chain of {count} classes with a method each: {times} messages to nil", whole)
     whole, times = filled(source + b"int main(void){%s*a=nil;" % last, lambda n: b"[a %s];" % known[n % count], b"}")
     runner.case(f"a chain of {count} classes with a method each: {times} messages of each to nil", whole)
-    fields = b"@interface R:NSObject{@public int _f;}@end@implementation R@end "
-    source, count = filled(fields, lambda n: b"@interface %s_:%s@end@implementation %s_@end" % (known[n], b"R" if n == 0 else known[n - 1] + b"_", known[n]), b"", MOST_SOURCE // 2)
-    source, last = source.rstrip(), known[count - 1] + b"_"
-    whole, times = filled(source + b"int main(void){%s*a=[%s new];" % (last, last), b"a->_f=1;", b"}")
-    runner.case(f"a chain of {count} classes: {times} fields", whole, Shown((1, last)))
+    fields = b"@interface R:NSObject{@public int _f;R*_o;}@end@implementation R@end "
+    for chains, name in (1, "a chain"), (2, "two chains that take turns"):
+        source, count = filled(fields, lambda n: b"@interface %s_:%s@end@implementation %s_@end" % (known[n], b"R" if n < chains else known[n - chains] + b"_", known[n]), b"", MOST_SOURCE // 2)
+        source, last = source.rstrip(), known[count - 1] + b"_"
+        for sort, statement in ("fields", b"a->_f=1;"), ("fields that name objects", b"a->_o=nil;"):
+            whole, times = filled(source + b"int main(void){%s*a=[%s new];" % (last, last), statement, b"}")
+            runner.case(f"{name} of {count} classes: {times} {sort}", whole, Shown((1, last)))
     source, count = filled(b"@interface A:NSObject@end@implementation A ", lambda n: b"+(int)%s{}" % known[n], b"@end ", MOST_SOURCE // 2)
     source = source.rstrip()
     whole, times = filled(source + b" int main(void){", b"[A %s];" % known[count - 1], b"}")
