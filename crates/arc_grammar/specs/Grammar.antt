@@ -505,9 +505,9 @@ abbrev pub stmts : List StmtTree → StmtTrees
 stmts [] = no_stmts
 stmts (a ∷ others) = and_stmt a (stmts others)
 
--- an expression and `;` (6.8.3), which does not begin with a name and `*`, since these declare (this project's own choice, since a name may be a class's)
+-- an expression and `;` (6.8.3), which does not begin with a name and `*` or `<`, since these declare (this project's own choice, since a name may be a class's)
 unfoldable pub simple : Part StmtTree
-simple = avoid name (mark m.Star) (map (λ (e, end). Simple e) (full ⨾ the m.Semicolon))
+simple = avoid name (mark m.Star ∪ mark m.Less) (map (λ (e, end). Simple e) (full ⨾ the m.Semicolon))
 
 unfoldable pub empty : Part StmtTree
 empty = map Empty (the m.Semicolon)

@@ -25,13 +25,13 @@ pub fn empty(reader: &mut Reader) -> Read<Stmt>
     Ok(Stmt::Empty(at))
 }
 
-/// An expression and `;`. What begins with a name and `*` is refused at the `*`: it would be a declaration.
+/// An expression and `;`. What begins with a name and `*` or `<` is refused at the mark: it would be a declaration.
 #[tactic(auto, unfolding(arc_grammar::specs::Grammar::simple))]
 pub fn simple(alloc: Global, reader: &mut Reader) -> Read<Stmt>
     ensures gives { Gives stmt_tree result (toks reader.new.rest.now) (reads grammar.simple (toks reader.old.rest.now)) }
     ensures shorter { IfOk result (λ _. length reader.new.rest.now < length reader.old.rest.now) }
 {
-    if reader.sees_name_and(Mark::Star) {
+    if reader.sees_name_and(Mark::Star) || reader.sees_name_and(Mark::Less) {
         reader.rest = after_first(reader.rest);
         return Err(Fail::Unexpected);
     }
