@@ -1,17 +1,18 @@
 -- What an answer says: a value is spelled by the tokens that were taken; those before a refused token go on to something that
 -- is spelled; a limit is passed where a token is too deep; and without limits a form stops at every other place, too.
-use Rattle.std.proofs.Common.{◌≡◌, inl, inr, ℕ, suc, ◌<◌, ◌≤◌, ◌+◌, List, [], ◌∷◌, ◌++◌, length, length-append, append_assoc, append-nil, take, drop, nat_lt, Ok, Err, Bool, true, false, cond, ◌&&◌, ◌||◌, Option, Some, None, refl, sym, ap, subst, ◌∙◌, arith}
+use Rattle.std.proofs.Common.{◌≡◌, ◌⊎◌, inl, inr, ℕ, suc, ◌<◌, ◌≤◌, ◌+◌, List, [], ◌∷◌, ◌++◌, length, length-append, append_assoc, append-nil, take, drop, nat_lt, Ok, Err, Bool, true, false, cond, ◌&&◌, ◌||◌, Option, Some, None, refl, sym, ap, subst, ◌∙◌, arith}
 use Rattle.std.proofs.lemmas.Bool.{ltb-true, ltb-false}
 use Rattle.std.proofs.lemmas.List.{take-append-drop, take-append-le, drop-append-le, length-take-le}
 use Rattle.arc_lex.specs.Tokens.{Tok}
 use Rattle.arc_form.specs.Kinds.{Kinds, is}
-use Rattle.arc_form.specs.Reader.{Read, Reader, misfit, too_deep, bind, ret, second_unexpected, first, if_sees, if_sees_two, sees, sees_two, taken, take_one, is_above, goes_over, cut, up_to}
-use Rattle.arc_form.specs.Form.{Limits, unlimited, Form, Bodies, token, give, call, map, ◌⨾◌, choose, many, or_none, nest, bounded, two_ahead, avoid, run, read}
+use Rattle.arc_form.specs.Reader.{Read, Reader, misfit, too_deep, bind, ◌>>=◌, ret, second_unexpected, first, if_sees, if_sees_two, sees, sees_two, taken, take_one, is_above, past, allowed, goes_over, cut, up_to}
+use Rattle.arc_form.specs.Form.{Limits, unlimited, Form, Bodies, token, give, call, map, ◌⨾◌, into, choose, many, or_none, nest, bounded, two_ahead, avoid, run, read}
 use Rattle.arc_form.specs.Meaning.{AtMost, Spelling, SpellsBy, Spells}
 use Rattle.arc_form.specs.Places.{Place, Begun, OneTooMany, PassesBy, PassesWithin, Passes}
-use Rattle.arc_form.proofs.Sets.{both, two_less, two_alike, apart, sees_among, sees_alike, sees_none}
+use Rattle.arc_form.proofs.Sets.{both, two_less, two_alike, apart, apart_nothing, sees_among, sees_alike, sees_none}
 use Rattle.arc_form.proofs.Static.{Facts, nullable, begins, bars, Decided, Fits}
-use Rattle.arc_form.proofs.Local.{rest_of, fault_of, put, loop_turn, nested_is}
+use Rattle.arc_form.proofs.Local.{rest_of, fault_of, put, loop_turn, allowed_then, nested_is}
+use Rattle.arc_form.proofs.Binding.{bind_twice, bind_alike}
 use Rattle.arc_form.proofs.FormLocal.{read_is, some_front, Property, PartsOf, under, reading, by_reading}
 use Rattle.arc_form.proofs.FormBegins.{second_taken, form_idle, form_takes}
 use Rattle.arc_form.proofs.FormStarts.{spells_body, form_free, form_alone, Has, join, not_barred, some_example, avoided_example, goes_on_so, with_head}
@@ -272,6 +273,45 @@ module _ {N : Type 0} {Node : N → Type 0} (facts : N → Facts) (body : Bodies
       go true q false s = reported_none (Err (misfit, ts)) refl refl begun (λ more e. form_idle facts body sure f d h.0 more (sees_none (begins facts f) T more h.1.0 (sees_alike T more ts e ∙ s)))
       go false q c s = reported_as (λ a r xs z c x. (at_most (under o).depth m q, x)) (λ xs r c b. (b.0, b.1, (tt, b.2))) (λ xs r c p. deep_as o f (nest m T f) xs xs r r (λ of y. inl (at_most (under o).depth m q, y)) p) x
 
+  none_after : (o : Option Limits) {A : Type 0} (f : Form N Node A) (a : A) (r xs ys : List Tok) → ys ≡ [] → SpellsBy (Spells body) (under o) f a (ys ++ r) xs → SpellsBy (Spells body) (under o) f a r (xs ++ ys)
+  none_after o f a r xs [] z m = subst (SpellsBy (Spells body) (under o) f a r) (sym (append-nil xs)) m
+  none_after o f a r xs (t ∷ ys) z m = cc
+
+  -- what a second part spells, where its depth is allowed
+  abbrev Second : Option Limits → ℕ → {A : Type 0} → Form N Node A → Spelling A
+  Second o m g a r xs = AtMost (under o).depth m × SpellsBy (Spells body) (under o) g a r xs
+
+  -- and where it passes limits
+  abbrev Entered : Option Limits → ℕ → {A : Type 0} → Form N Node A → Place
+  Entered o m g ys r = ((is_above (under o).depth m ≡ true) × (1 ≤ length r) × (ys ≡ [])) ⊎ (AtMost (under o).depth m × Deep o g ys r)
+
+  entered : (o : Option Limits) (m : ℕ) {A B : Type 0} (f : Form N Node A) (g : Form N Node B) (a : A) (r xs ys : List Tok) → SpellsBy (Spells body) (under o) f a (ys ++ r) xs → Entered o m g ys r → Deep o (into m f g) (xs ++ ys) r
+  entered None m f g a r xs ys x (inl p) = cc
+  entered None m f g a r xs ys x (inr p) = p.1
+  entered (Some limits) m f g a r xs ys x (inl (q, l, e)) = (0, inr (inl (q, l, a, none_after (Some limits) f a r xs ys e x)))
+  entered (Some limits) m f g a r xs ys x (inr (p, (h, y))) = (h, inr (inr (p, a, xs, ys, refl, x, y)))
+
+  reported_allowed : (o : Option Limits) (m : ℕ) {A : Type 0} (g : Form N Node A) → Decided facts g → nullable facts g ≡ false → (ts : List Tok) → ReportedAt o A g ts
+      → Reported (Second o m g) (Begun body g) (Entered o m g) (plain g) ts (cond (is_above (under o).depth m) (past ts) (reading body o g ts))
+  reported_allowed o m {A} g d n ts x = go (is_above (under o).depth m) refl ts x
+    where
+      go : (b : Bool) → is_above (under o).depth m ≡ b → (ts : List Tok) → ReportedAt o A g ts
+          → Reported (Second o m g) (Begun body g) (Entered o m g) (plain g) ts (cond b (past ts) (reading body o g ts))
+      go true q [] x = reported_none (Err (misfit, [])) refl refl (begun_none g d) (λ more e. form_idle facts body sure g d n more (sees_alike (begins facts g) more [] e))
+      go true q (t ∷ ts) x = record { taken = []; cut = refl; good = begun_none g d; same = λ q. cc; deep = λ z. inl (q, omega arith, refl) }
+      go false q ts x = reported_as (λ a r xs z c y. (at_most (under o).depth m q, y)) (λ xs r c b. b) (λ xs r c p. inr (at_most (under o).depth m q, p)) x
+
+  reported_into : (o : Option Limits) (m : ℕ) (A B : Type 0) (f : Form N Node A) (g : Form N Node B) → Decided facts (into m f g) → (ts : List Tok) → PartsOf body ReportedAt o (A × B) (into m f g) ts → ReportedAt o (A × B) (into m f g) ts
+  unfolding allowed
+  reported_into o m A B f g (d, (d', (n, (n', (w, b))))) ts (x, y) =
+      let of_second : Reader B = λ s. bind (allowed (under o).depth m s) (λ u. reading body o g) in
+      let bars_none : (nullable facts g || apart (bars facts f) (begins facts g)) ≡ true = grind (arith, apart_nothing (bars facts f) (begins facts g) b) in
+      let begun : (xs : List Tok) → Begun body (f ⨾ g) xs → Begun body (into m f g) xs = λ xs z. (z.0, z.1, (tt, z.2)) in
+      rw (bind_alike {A = A} {B = A × B} (reading body o f ts) (λ a. allowed (under o).depth m >>= (λ u. reading body o g >>= (λ c. ret (a, c)))) (λ a. of_second >>= (λ c. ret (a, c))) (λ a us. sym (bind_twice (allowed (under o).depth m us) (λ u. reading body o g) (λ c. ret (a, c)))))
+      (reported_then {O = Second o m g} {L = Begun body g} {F = Entered o m g} {h' = plain g} {g = of_second} (λ a c. (a, c)) (λ a c r xs ys p q. (q.0, (xs, ys, refl, p, q.1))) (λ xs z. begun xs (begun_first f g d d' bars_none xs z)) (λ a r xs ys p z. begun (xs ++ ys) (begun_second o f g d d' bars_none a r xs ys p z))
+      (λ xs r p. deep_as o f (into m f g) xs xs r r (λ of z. inl z) p) (λ a r xs ys p z. entered o m f g a r xs ys p z) x
+      (λ a s e. rw (allowed_then (under o).depth m (reading body o g) s) (reported_allowed o m g d' n' s (y a s e))))
+
   -- the first two tokens are not those that may not come
   begun_two : {A : Type 0} (T U : Kinds) (g K : Form N Node A) (ts : List Tok) → sees_two T U ts ≡ false → Begun body K [] → ((t : Tok) → is T t ≡ true → (a : A) × (others : List Tok) × Has facts body sure K a [] (t ∷ others))
       → ((a : A) (xs : List Tok) → Has facts body sure g a [] xs → sees_two T U (xs ++ []) ≡ false → Has facts body sure K a [] xs) → (xs r : List Tok) → ts ≡ xs ++ r → Begun body g xs → Begun body K xs
@@ -283,10 +323,6 @@ module _ {N : Type 0} {Node : N → Type 0} (facts : N → Facts) (body : Bodies
   second_refused : (T U : Kinds) (A : Type 0) (f : Form N Node A) (M : Spelling A) (D : Place) → Decided facts (avoid T U f) → (ts : List Tok) → sees_two T U ts ≡ true → Reported M (Begun body (avoid T U f)) D second_unexpected ts (second_unexpected ts)
   second_refused T U A f M D d [] seen = cc
   second_refused T U A f M D d (t ∷ ts) seen = record { taken = t ∷ []; cut = refl; good = goes_on_so facts body sure T U A f d t (both (is T t) (sees U ts) seen).0; same = λ q more e. refl; deep = λ q. cc }
-
-  none_after : (o : Option Limits) {A : Type 0} (f : Form N Node A) (a : A) (r xs ys : List Tok) → ys ≡ [] → SpellsBy (Spells body) (under o) f a (ys ++ r) xs → SpellsBy (Spells body) (under o) f a r (xs ++ ys)
-  none_after o f a r xs [] z m = subst (SpellsBy (Spells body) (under o) f a r) (sym (append-nil xs)) m
-  none_after o f a r xs (t ∷ ys) z m = cc
 
   reported : (o : Option Limits) (A : Type 0) (f : Form N Node A) → Decided facts f → (ts : List Tok) → PartsOf body ReportedAt o A f ts → ReportedAt o A f ts
   reported o A (token T g) d ts x = go ts (sees T ts) refl
@@ -303,6 +339,7 @@ module _ {N : Type 0} {Node : N → Type 0} (facts : N → Facts) (body : Bodies
       reported_then {O = λ (u : Unit {0}) r ys. ys ≡ []} {L = λ ys. ⊥} {F = λ ys r. ⊥} {h' = ret tt} {g = ret tt} (λ a u. h a) (λ a u r xs ys m z. (a, refl, none_after o f a r xs ys z m)) (λ xs b. (h b.0, b.1, (b.0, refl, b.2))) (λ a r xs ys m no. absurd no)
       (λ xs r p. deep_as o f (map h f) xs xs r r (λ of y. y) p) (λ a r xs ys m no. absurd no) x (λ a s e. reported_none (ret tt s) refl refl refl (λ more f. refl))
   reported o A (◌⨾◌ {A = B} {B = C} f g) (d, (d', (p, q))) ts (x, y) = reported_pair (λ b c. (b, c)) (SpellsBy (Spells body) (under o) (f ⨾ g)) o f g d d' q ts (λ a b r xs m. m) x y
+  reported o A (into {A = B} {B = C} m f g) d ts x = reported_into o m B C f g d ts x
   reported o A (choose T f g) d ts (x, y) =
       reported_first T (λ q. reported_as (λ a r xs q c m. inl m) (λ xs r c b. (b.0, b.1, inl b.2)) (λ xs r c p. deep_as o f (choose T f g) xs xs r r (λ of x. inl x) p) x)
       (λ q. reported_as (λ a r xs q c m. inr m) (λ xs r c b. (b.0, b.1, inr b.2)) (λ xs r c p. deep_as o g (choose T f g) xs xs r r (λ of x. inr x) p) y)

@@ -3,8 +3,8 @@ use Rattle.std.proofs.Common.{◌≡◌, ℕ, suc, ◌<◌, ◌≤◌, ◌+◌, 
 use Rattle.std.proofs.lemmas.Bool.Decides.{nat_tests}
 use Rattle.arc_lex.specs.Tokens.{Tok}
 use Rattle.arc_form.specs.Kinds.{Kinds, ◌∪◌, is}
-use Rattle.arc_form.specs.Reader.{Read, Reader, Fault, misfit, too_deep, is_above, bind, ◌>>=◌, ret, second_unexpected, sees, sees_second, taken, loop, cut, up_to}
-use Rattle.arc_form.specs.Form.{Limits, unlimited, Form, Bodies, token, give, call, map, ◌⨾◌, choose, many, or_none, nest, bounded, two_ahead, avoid, run, read}
+use Rattle.arc_form.specs.Reader.{Read, Reader, Fault, misfit, too_deep, is_above, allowed, bind, ◌>>=◌, ret, second_unexpected, sees, sees_second, taken, loop, cut, up_to}
+use Rattle.arc_form.specs.Form.{Limits, unlimited, Form, Bodies, token, give, call, map, ◌⨾◌, into, choose, many, or_none, nest, bounded, two_ahead, avoid, run, read}
 use Rattle.arc_form.proofs.Sets.{among, sees_among, sees_or}
 use Rattle.arc_form.proofs.Static.{Facts, if_so, nullable, begins, Decided, Holds, Heads, second, Fits}
 use Rattle.arc_form.proofs.Local.{rest_of, fault_of, loop_turn, nested_is}
@@ -57,6 +57,11 @@ front_then : {A B : Type 0} (o : Option Limits) (b c n m : Bool) (x : Read A) (g
 front_then o true c n m x g ts k p q = more_then o x g ts k p
 front_then o false c true m x g ts k (a, e) q = subst (λ y. Front o c m (bind y g) ts) (sym e) (q a e)
 front_then o false c false m x g ts k e q = ap (λ y. bind y g) e
+
+-- what comes after some token
+front_some : {A B : Type 0} (o : Option Limits) (b : Bool) (x : Read A) (g : A → Reader B) (ts : List Tok) → (o ≡ None → (a : A) (s : List Tok) → length (rest_of (g a s)) ≤ length s) → Front o b false x ts → Front o b false (bind x g) ts
+front_some o true x g ts k p = more_then o x g ts k p
+front_some o false x g ts k e = ap (λ y. bind y g) e
 
 front_if : {A : Type 0} (o : Option Limits) (b c m : Bool) (x y : Read A) (ts : List Tok) → Front o b false x ts → Front o c m y ts → Front o (b || c) m (cond b x y) ts
 front_if o true c m x y ts p q = p
@@ -127,6 +132,11 @@ module _ {N : Type 0} {Node : N → Type 0} (facts : N → Facts) (body : Bodies
       let few = left o (many T f) d in
       more_then o (reading body o f ts) (λ a. reading body o (many T f) >>= (λ others. ret (a ∷ others))) r (λ n a s. omega (arith, ret_left (reading body o (many T f) s) (λ others. a ∷ others), few n s)) m
 
+  left_into : (o : Option Limits) (m : ℕ) {A B : Type 0} (g : Form N Node B) → Decided facts g → o ≡ None → (a : A) (s : List Tok) → length (rest_of (bind {B = A × B} (allowed (under o).depth m s) (λ u. reading body o g >>= (λ b. ret (a, b))))) ≤ length s
+  unfolding allowed
+  left_into None m {A} {B} g d z a s = omega (arith, ret_left {B = A × B} (reading body None g s) (λ b. (a, b)), left None g d z s)
+  left_into (Some limits) m g d z a s = cc
+
   front : (o : Option Limits) (A : Type 0) (f : Form N Node A) → Decided facts f → (ts : List Tok) → PartsOf body FrontAt o A f ts → FrontAt o A f ts
   unfolding up_to
   front o A (token T g) d ts x z = go o ts
@@ -145,6 +155,8 @@ module _ {N : Type 0} {Node : N → Type 0} (facts : N → Facts) (body : Bodies
   front o A (◌⨾◌ {A = B} {B = C} f g) (d, (d', p)) ts (x, y) z =
       rw (sees_then (begins facts f) (begins facts g) (nullable facts f) ts) (front_then {B = B × C} o (sees (begins facts f) ts) (sees (begins facts g) ts) (nullable facts f) (nullable facts g) (reading body o f ts) (λ a. reading body o g >>= (λ c. ret (a, c))) ts
       (λ n a s. omega (arith, ret_left {B = B × C} (reading body o g s) (λ (c : C). (a, c)), left o g d' n s)) (x z) (λ a e. front_map {B = B × C} o (sees (begins facts g) ts) (nullable facts g) (reading body o g ts) (λ c. (a, c)) ts (y a ts e z)))
+  front o A (into {A = B} {B = C} m f g) (d, (d', (n, p))) ts (x, y) z =
+      front_some {B = B × C} o (sees (begins facts f) ts) (reading body o f ts) (λ a. allowed (under o).depth m >>= (λ u. reading body o g >>= (λ c. ret (a, c)))) ts (left_into o m g d') (some o f n ts x z)
   front o A (choose T f g) (d, (d', (h, p))) ts (x, y) z =
       rw (sees_or (begins facts f) (begins facts g) ts, sees_same (begins facts f) T ts h.1.0 h.1.1) (front_if o (sees T ts) (sees (begins facts g) ts) (nullable facts g) (reading body o f ts) (reading body o g ts) ts (headed o T f h ts x z) (y z))
   front o A (many {A = B} T f) (d, (h, p)) ts (x, y) z =

@@ -2,11 +2,11 @@
 use Rattle.std.proofs.Common.{◌≡◌, ◌⊎◌, inl, inr, ℕ, zero, suc, ◌≤◌, ◌+◌, List, [], ◌∷◌, ◌++◌, length, length-append, append-nil, append_assoc, Ok, Bool, true, false, cond, not, Option, Some, None, refl, sym, ap, subst, ◌∙◌, arith}
 use Rattle.std.proofs.lemmas.Bool.{le-ltb}
 use Rattle.arc_lex.specs.Tokens.{Tok}
-use Rattle.arc_form.specs.Kinds.{none, Kinds, ◌∪◌, is}
-use Rattle.arc_form.specs.Reader.{Read, Reader, bind, ◌>>=◌, ret, sees, sees_two, nested, up_to}
-use Rattle.arc_form.specs.Form.{run, Limits, Form, Bodies, token, give, call, map, ◌⨾◌, choose, many, or_none, nest, bounded, two_ahead, avoid, read}
+use Rattle.arc_form.specs.Kinds.{Kinds, ◌∪◌, is}
+use Rattle.arc_form.specs.Reader.{Read, Reader, bind, ◌>>=◌, ret, sees, sees_two, allowed, nested, up_to}
+use Rattle.arc_form.specs.Form.{run, Limits, Form, Bodies, token, give, call, map, ◌⨾◌, into, choose, many, or_none, nest, bounded, two_ahead, avoid, read}
 use Rattle.arc_form.specs.Meaning.{AtMost, SpellsAll, SpellsBy, Within, Spells}
-use Rattle.arc_form.proofs.Sets.{sees_neither, apart, both, sees_among, sees_none, sees_apart, sees_other, sees_more, second_more}
+use Rattle.arc_form.proofs.Sets.{sees_neither, apart, both, none_seen, sees_among, sees_none, apart_nothing, sees_apart, sees_other, sees_more, second_more}
 use Rattle.arc_form.proofs.Static.{Facts, if_so, nullable, begins, goes_on, bars, long, second, Decided, Heads, Holds, Fits}
 use Rattle.arc_form.proofs.Local.{rest_of, loop_turn}
 use Rattle.arc_form.proofs.FormLocal.{read_is, some_front, under, reading}
@@ -53,14 +53,15 @@ firm_then {A} {B} {D} make o b G K T E F h g a c xs ys zs rest r line s p of_fir
     go (inl e) = subst (λ (y : Read A). Firm {A = D} o (both_of make y g) (make a c) E r) (sym e) (firm_map o (g (zs ++ r)) (make a) c E r (firm_less o (g (zs ++ r)) c E F r of_second second))
     go {x} (inr (n, k)) = inr (λ e. n (after b G T zs r s p (of_first e).0, fair_after b K T zs rest r s (of_first e).1), more x zs s n k)
 
+pub allowed_fits : (most : Option ℕ) (d : ℕ) → AtMost most d → allowed most d ≡ ret tt
+unfolding allowed
+allowed_fits None d p = refl
+allowed_fits (Some n) d p = rw (le-ltb n d p) refl
+
 pub nested_fits : {A : Type 0} (most : Option ℕ) (d : ℕ) (T : Kinds) (f : Reader A) (ts : List Tok) → AtMost most d → nested most d T f ts ≡ f ts
 unfolding nested
 nested_fits None d T f ts p = refl
 nested_fits (Some n) d T f ts p = rw (le-ltb n d p) refl
-
-none_seen : (ts : List Tok) → sees none ts ≡ false
-none_seen [] = refl
-none_seen (t ∷ ts) = refl
 
 firm_up_to : {A : Type 0} (o : Option Limits) (f : Reader A) (a : A) (E : Type 0) (r xs : List Tok) → AtMost (under o).tokens (length xs) → Firm None (f (xs ++ r)) a E r → Firm o (up_to (under o).tokens f (xs ++ r)) a E r
 unfolding up_to
@@ -134,6 +135,11 @@ module _ {N : Type 0} {Node : N → Type 0} (facts : N → Facts) (body : Bodies
         firm_then {D = B × C} (λ b c. (b, c)) o (nullable facts g) (goes_on facts f) (bars facts f) (begins facts g) (Ends (f ⨾ g) rest r) (Ends g rest r) (reading body o f) (reading body o g) a.0 a.1 xs ys zs rest r e
         (starts facts L s (under o) g d' a.1 rest zs y) p (λ e. (none_right (goes_on facts g) further r e.0, fair_right (bars facts g) barred rest r e.1))
         (λ e. (none_left (goes_on facts g) further r e.0, fair_left (bars facts g) barred rest r e.1)) (left facts body sure o g d') (firm o B f d a.0 (zs ++ rest) ys (zs ++ r) x) (firm o C g d' a.1 rest zs r y)
+    firm o A (into {A = B} {B = C} m f g) (d, (d', (n, (n', (w, b))))) a rest xs r (p, (ys, zs, e, x, y)) =
+        rw (allowed_fits (under o).depth m p)
+        (firm_then {D = B × C} (λ b c. (b, c)) o (nullable facts g) (goes_on facts f) (bars facts f) (begins facts g) (Ends g rest r) (Ends g rest r) (reading body o f) (reading body o g) a.0 a.1 xs ys zs rest r e
+        (starts facts L s (under o) g d' a.1 rest zs y) (apart_nothing (goes_on facts f) (begins facts g) w) (λ e. rw n' (none_seen r, inl (none_seen r))) (λ e. e) (left facts body sure o g d')
+        (firm o B f d a.0 (zs ++ rest) ys (zs ++ r) x) (firm o C g d' a.1 rest zs r y))
     firm o A (choose T f g) (d, (d', (h, p))) a rest xs r (inl x) =
         rw (ahead o T f d h a rest xs r x) (firm_less o (reading body o f (xs ++ r)) a _ _ r (λ e. (both_ends f g rest r (none_left (goes_on facts f ∪ goes_on facts g) (if_so (nullable facts g) T) r e.0) e.1).0) (firm o A f d a rest xs r x))
     firm o A (choose T f g) (d, (d', (h, p))) a rest xs r (inr x) =

@@ -1,10 +1,10 @@
 -- What holds of each form whose parts it holds of, where they are read, holds of all forms; and a rule is its right side.
 use Rattle.std.proofs.Common.{subst, ◌≡◌, ◌⊎◌, inl, inr, ℕ, zero, suc, ◌<◌, ◌≤◌, ◌+◌, List, length, drop, length-drop, Ok, Bool, true, false, not, ◌&&◌, ◌||◌, Option, Some, None, sym, arith}
 use Rattle.arc_lex.specs.Tokens.{Tok}
-use Rattle.arc_form.specs.Reader.{Read, Reader, loop, up_to, misfit, too_deep, ◌>>=◌, ret, sees, sees_two, is_above}
-use Rattle.arc_form.specs.Form.{Limits, unlimited, Form, Rules, Bodies, token, give, call, map, ◌⨾◌, choose, many, or_none, nest, bounded, two_ahead, avoid, run, deep, read}
+use Rattle.arc_form.specs.Reader.{Read, Reader, loop, up_to, misfit, too_deep, allowed, ◌>>=◌, ret, sees, sees_two, is_above}
+use Rattle.arc_form.specs.Form.{Limits, unlimited, Form, Rules, Bodies, token, give, call, map, ◌⨾◌, into, choose, many, or_none, nest, bounded, two_ahead, avoid, run, deep, read}
 use Rattle.arc_form.proofs.Static.{Facts, nullable, guarded, Decided, Fits}
-use Rattle.arc_form.proofs.Local.{Alike, Takes, alike_less, alike_ret, alike_err, alike_then, alike_if, alike_token, alike_cut, turns_alike, nested_is, ok_left, all_left, rest_of}
+use Rattle.arc_form.proofs.Local.{Alike, Takes, alike_less, alike_ret, alike_err, alike_then, alike_if, alike_token, alike_cut, turns_alike, alike_past, allowed_then, nested_is, ok_left, all_left, rest_of}
 
 -- these limits, or none
 abbrev pub under : Option Limits → Limits
@@ -34,6 +34,10 @@ room_both k b c ts p = grind arith
 room_next : (k : ℕ) (b n : Bool) (ts s : List Tok) → Room k (not n || b) ts → need n + length s ≤ length ts → Room k b s
 room_next k b n ts s p le = grind arith
 
+-- after a part that is some token
+room_after : (k : ℕ) (b c : Bool) (ts s : List Tok) → Room k b ts → 1 + length s ≤ length ts → Room k c s
+room_after k b c ts s p le = grind arith
+
 fewer : (k : ℕ) (b : Bool) (ts us : List Tok) → length us ≤ length ts → Room k b ts → Room k b us
 fewer k b ts us le p = grind arith
 
@@ -44,6 +48,7 @@ OfParts of C P o A (give a) ts = Unit {0}
 OfParts of C P o A (call n) ts = C o n ts
 OfParts of C P o A (map {A = B} h f) ts = P o B f ts
 OfParts of C P o A (◌⨾◌ {A = B} {B = D} f g) ts = P o B f ts × ((a : B) (s : List Tok) → run of (under o) f ts ≡ Ok (a, s) → P o D g s)
+OfParts of C P o A (into {A = B} {B = D} m f g) ts = P o B f ts × ((a : B) (s : List Tok) → run of (under o) f ts ≡ Ok (a, s) → P o D g s)
 OfParts of C P o A (choose T f g) ts = P o A f ts × P o A g ts
 OfParts of C P o A (many {A = B} T f) ts = ((us : List Tok) → length us ≤ length ts → P o B f us) × ((a : B) (s : List Tok) → run of (under o) f ts ≡ Ok (a, s) → P o A (many T f) s)
 OfParts of C P o A (or_none T f a) ts = P o A f ts
@@ -75,6 +80,9 @@ module _ {N : Type 0} {Node : N → Type 0} (facts : N → Facts) where
         let room = room_both k (guarded facts f) (not (nullable facts f) || guarded facts g) ts p in
         let first = each o B f d ts room.0 in
         step o A (f ⨾ g) (d, (d', q)) ts (first, λ a s e. each o D g d' s (room_next k (guarded facts g) (nullable facts f) ts s room.1 (left o B f d ts first a s e)))
+    each o A (into {A = B} {B = D} m f g) (d, (d', (n, q))) ts p =
+        let first = each o B f d ts p in
+        step o A (into m f g) (d, (d', (n, q))) ts (first, λ a s e. each o D g d' s (room_after k (guarded facts f) (guarded facts g) ts s p (subst (λ n. need n + length s ≤ length ts) n (left o B f d ts first a s e))))
     each o A (choose T f g) (d, (d', q)) ts p = let room = room_both k (guarded facts f) (guarded facts g) ts p in step o A (choose T f g) (d, (d', q)) ts (each o A f d ts room.0, each o A g d' ts room.1)
     each o A (many {A = B} T f) (d, (h, q)) ts p = all (each o B f d) (suc (length ts)) ts (omega arith) p
       where
@@ -110,6 +118,10 @@ module _ {N : Type 0} {Node : N → Type 0} (facts : N → Facts) where
     alike o A (map v f) d ts x = alike_less (need (nullable facts f)) (omega arith) (alike_then (λ a. ret (v a)) (λ a. ret (v a)) x (λ a s e. alike_ret s (v a)))
     alike o A (◌⨾◌ {A = B} {B = D} f f') d ts (x, y) =
         alike_less (need (nullable facts (f ⨾ f'))) (grind arith) (alike_then (λ a. run g (under o) f' >>= (λ b. ret (a, b))) (λ a. run h (under o) f' >>= (λ b. ret (a, b))) x (λ a s e. alike_then (λ b. ret (a, b)) (λ b. ret (a, b)) (y a s e) (λ b r q. alike_ret r (a, b))))
+    alike o A (into {A = B} {B = D} m f f') (d, (d', (n, q))) ts (x, y) =
+        alike_less 1 (omega arith) (alike_then {d = 1} {e = 0} (λ a. allowed (under o).depth m >>= (λ u. run g (under o) f' >>= (λ b. ret (a, b)))) (λ a. allowed (under o).depth m >>= (λ u. run h (under o) f' >>= (λ b. ret (a, b))))
+        (some_need (nullable facts f) n x) (λ a s e. rw (allowed_then {A = B × D} (under o).depth m (run g (under o) f' >>= (λ b. ret (a, b))) s, allowed_then {A = B × D} (under o).depth m (run h (under o) f' >>= (λ b. ret (a, b))) s)
+        (alike_if (is_above (under o).depth m) (alike_past s) (alike_less 0 (omega arith) (alike_then (λ b. ret (a, b)) (λ b. ret (a, b)) (y a s e) (λ b r q. alike_ret r (a, b)))))))
     alike o A (choose T f f') (d, (d', (n, q))) ts (x, y) = alike_if (sees T ts) (alike_less (need (nullable facts f')) (grind arith) (some_need (nullable facts f) n.0 x)) y
     alike o A (many T f) (d, (n, q)) ts (x, y) = turns_alike T (suc (length ts)) (suc (length ts)) ts (omega arith) (omega arith) (λ us p. some_need (nullable facts f) n.0 (x us p))
     alike o A (or_none T f a) d ts x = alike_if (sees T ts) (alike_less 0 (omega arith) x) (alike_ret ts a)

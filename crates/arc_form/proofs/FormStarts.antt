@@ -4,9 +4,9 @@ use Rattle.std.proofs.Common.{arith, ◌≤◌, length, length-append, ◌≡◌
 use Rattle.arc_lex.specs.Tokens.{Tok}
 use Rattle.arc_form.specs.Kinds.{Kinds, ◌∪◌, is}
 use Rattle.arc_form.specs.Reader.{first, sees, sees_second, sees_two}
-use Rattle.arc_form.specs.Form.{Limits, unlimited, Form, Bodies, token, give, call, map, ◌⨾◌, choose, many, or_none, nest, bounded, two_ahead, avoid}
+use Rattle.arc_form.specs.Form.{Limits, unlimited, Form, Bodies, token, give, call, map, ◌⨾◌, into, choose, many, or_none, nest, bounded, two_ahead, avoid}
 use Rattle.arc_form.specs.Meaning.{Spelling, SpellsAll, SpellsBy, Spells, AtMost, Within}
-use Rattle.arc_form.proofs.Sets.{and_no, both, sees_among, sees_none, sees_left, sees_right, sees_neither, sees_alike, sees_more, apart, sees_other}
+use Rattle.arc_form.proofs.Sets.{and_no, both, sees_among, sees_none, sees_nothing, sees_left, sees_right, sees_neither, sees_alike, sees_more, apart, sees_other}
 use Rattle.arc_form.proofs.Static.{Facts, if_so, nullable, begins, bars, long, Decided, Heads, Holds, second, Fits, simple, alone, parts}
 use Rattle.arc_form.proofs.Samples.{sample}
 
@@ -47,6 +47,10 @@ module _ {N : Type 0} {Node : N → Type 0} (body : Bodies N Node) where
         let u = settle L k limits f a.0 (zs ++ r) ys x in
         let v = settle L k limits g a.1 r zs y in
         (u.0 + v.0, λ m p. (ys, zs, e, u.1 m (omega (arith, p)), v.1 m (omega (arith, p))))
+    settle L k limits (into d f g) a r xs (q, (ys, zs, e, x, y)) =
+        let u = settle L k limits f a.0 (zs ++ r) ys x in
+        let v = settle L k limits g a.1 r zs y in
+        (u.0 + v.0, λ m p. (depth limits d q, (ys, zs, e, u.1 m (omega (arith, p)), v.1 m (omega (arith, p)))))
     settle L k limits (choose T f g) a r xs (inl x) = let y = settle L k limits f a r xs x in (y.0, λ m p. inl (y.1 m p))
     settle L k limits (choose T f g) a r xs (inr x) = let y = settle L k limits g a r xs x in (y.0, λ m p. inr (y.1 m p))
     settle L k limits (many T f) all r xs x = settle_all (SpellsBy L limits f) (λ m. SpellsBy (O m) (to limits) f) (settle L k limits f) all r xs x
@@ -177,6 +181,8 @@ module _ {N : Type 0} {Node : N → Type 0} (facts : N → Facts) where
     starts limits (f ⨾ g) (d, (d', o)) a rest xs (ys, zs, c, x, y) =
         subst (Starts (nullable facts f && nullable facts g) (begins facts f ∪ if_so (nullable facts f) (begins facts g))) (sym c)
         (starts_then (nullable facts f) (nullable facts g) (begins facts f) (begins facts g) ys zs (starts limits f d a.0 (zs ++ rest) ys x) (starts limits g d' a.1 rest zs y))
+    starts limits (into m f g) (d, (d', (n, o))) a rest xs (p, (ys, zs, c, x, y)) =
+        inr (ap (sees (begins facts f)) c ∙ sees_more (begins facts f) ys zs (starts_some (nullable facts f) (begins facts f) ys n (starts limits f d a.0 (zs ++ rest) ys x)))
     starts limits (choose T f g) (d, (d', ((n, o), q))) a rest xs (inl x) = inr (sees_left (begins facts f) (begins facts g) xs (starts_some (nullable facts f) (begins facts f) xs n (starts limits f d a rest xs x)))
     starts limits (choose T f g) (d, (d', o)) a rest xs (inr x) =
         elim (starts limits g d' a rest xs x) as (λ s. Starts (nullable facts g) (begins facts f ∪ begins facts g) xs) [ inl e ↦ inl e | inr e ↦ inr (sees_right (begins facts f) (begins facts g) xs e) ]
@@ -226,6 +232,8 @@ module _ {N : Type 0} {Node : N → Type 0} (facts : N → Facts) where
         let further = if_so (nullable facts g) (bars facts f) in
         let ahead = fair_after (nullable facts g) (bars facts f) (begins facts g) zs r r' (starts limits g d' a.1 r zs y) (fair_right (bars facts g) further r r' q) in
         (ys, zs, e, fair O c limits f d a.0 (zs ++ r) (zs ++ r') ys x ahead, fair O c limits g d' a.1 r r' zs y (fair_left (bars facts g) further r r' q))
+    fair O c limits (into m f g) (d, (d', (n, (n', (w, b))))) a r r' xs (p, (ys, zs, e, x, y)) q =
+        (p, (ys, zs, e, fair O c limits f d a.0 (zs ++ r) (zs ++ r') ys x (inl (sees_nothing (bars facts f) (zs ++ r') b)), fair O c limits g d' a.1 r r' zs y q))
     fair O c limits (choose T f g) (d, o) a r r' xs (inl x) q = inl (fair O c limits f d a r r' xs x (fair_left (bars facts f) (bars facts g) r r' q))
     fair O c limits (choose T f g) (d, (d', o)) a r r' xs (inr x) q = inr (fair O c limits g d' a r r' xs x (fair_right (bars facts f) (bars facts g) r r' q))
     fair O c limits (many T f) (d, o) all r r' xs x q = fair_all (SpellsBy L limits f) (SpellsBy O limits f) (bars facts f) (fair O c limits f d) all r r' xs x q
@@ -304,6 +312,11 @@ module _ {N : Type 0} {Node : N → Type 0} (facts : N → Facts) (body : Bodies
       let x = example b k B f d t.0 in
       let y = example b k C g d' t.1 in
       ((x.0, y.0), x.1 ++ y.1, λ z. let u = both (nullable facts f) (nullable facts g) z in ap (λ v. v ++ y.1) (x.2 u.0) ∙ y.2 u.1, join f g d x.0 y.0 [] x.1 y.1 x.3 (not_barred f g d' p [] y) y.3)
+  example b k A (into {A = B} {B = C} m f g) (d, (d', (n, (n', (w, c))))) e =
+      let t : ((b || simple facts f) ≡ true) × ((b || simple facts g) ≡ true) = grind (arith, e) in
+      let x = example b k B f d t.0 in
+      let y = example b k C g d' t.1 in
+      ((x.0, y.0), x.1 ++ y.1, λ z. cc, (tt, join f g d x.0 y.0 [] x.1 y.1 x.3 (inl (sees_nothing (bars facts f) y.1 c)) y.3))
   example b k A (choose T f g) (d, (d', o)) e =
       let of_f = example b k A f d in
       let of_g = example b k A g d' in

@@ -6,18 +6,18 @@ use Rattle.std.proofs.lemmas.List.{take-append-drop, take-append-le, drop-append
 use Rattle.std.proofs.Math.Seq.{take-append_seam, drop-append_seam}
 use Rattle.arc_lex.specs.Tokens.{Tok}
 use Rattle.arc_form.specs.Kinds.{Kinds}
-use Rattle.arc_form.specs.Reader.{Read, Reader, Fault, misfit, too_deep, bind, ◌>>=◌, ret, first, sees, loop, nested, goes_over, up_to}
-use Rattle.arc_form.specs.Form.{Limits, unlimited, Form, Bodies, token, give, call, map, ◌⨾◌, choose, many, or_none, nest, bounded, two_ahead, avoid, run, read}
+use Rattle.arc_form.specs.Reader.{Read, Reader, Fault, misfit, too_deep, bind, ◌>>=◌, ret, first, sees, loop, allowed, nested, goes_over, up_to}
+use Rattle.arc_form.specs.Form.{Limits, unlimited, Form, Bodies, token, give, call, map, ◌⨾◌, into, choose, many, or_none, nest, bounded, two_ahead, avoid, run, read}
 use Rattle.arc_form.specs.Meaning.{SpellsAll, SpellsBy, Spells}
 use Rattle.arc_form.specs.Places.{Begun, OneTooMany, PassesBy, PassesWithin, Passes}
 use Rattle.arc_form.specs.Whole.{SpellsWhole, end, read_whole, FitsNone}
-use Rattle.arc_form.proofs.Sets.{sees_among, sees_apart, sees_other, sees_more}
+use Rattle.arc_form.proofs.Sets.{sees_among, sees_nothing, sees_apart, sees_other, sees_more}
 use Rattle.arc_form.proofs.Static.{Facts, begins, goes_on, Decided, Heads, Fits}
-use Rattle.arc_form.proofs.Local.{rest_of, fault_of, loop_more, nested_is, loop_turn}
+use Rattle.arc_form.proofs.Local.{rest_of, fault_of, loop_more, past_some, allowed_then, nested_is, loop_turn}
 use Rattle.arc_form.proofs.FormLocal.{read_is, some_front}
 use Rattle.arc_form.proofs.FormBegins.{Positive, deep_begins, deep_second}
 use Rattle.arc_form.proofs.FormStarts.{form_free, form_alone, head_starts, spells_starts}
-use Rattle.arc_form.proofs.FormFirm.{nested_fits, form_complete}
+use Rattle.arc_form.proofs.FormFirm.{allowed_fits, nested_fits, form_complete}
 use Rattle.arc_form.proofs.FormAnswers.{Reported, Same, reported_begun, form_reported, stays}
 
 -- of two fronts of a list, the longer one goes on from the other
@@ -168,6 +168,15 @@ module _ {N : Type 0} {Node : N → Type 0} (facts : N → Facts) (body : Bodies
         let there = answers C g d' zs r x in
         let first_part = form_complete facts body sure limits f d a (zs ++ r) ys m (sees_other (goes_on facts f) (begins facts g) (zs ++ r) o (deep_begins facts body sure limits positive C g d' (zs ++ r) r there)) in
         rw (line, first_part, there) refl
+    answers A (into {A = B} {B = C} m f g) (d, o) before r (inl x) = ap (λ y. bind y (λ a. allowed limits.depth m >>= (λ u. run (read body) limits g >>= (λ b. ret (a, b))))) (answers B f d before r x)
+    answers A (into {A = B} {B = C} m f g) (d, (d', (n, (n', (w, o))))) before r (inr (inl (p, l, a, x))) =
+        let first_part = form_complete facts body sure limits f d a r before x (sees_nothing (goes_on facts f) r w) in
+        rw (first_part, allowed_then {A = B × C} limits.depth m (run (read body) limits g >>= (λ b. ret (a, b))) r, p) (past_some r l)
+    answers A (into {A = B} {B = C} m f g) (d, (d', (n, (n', (w, o))))) before r (inr (inr (p, a, ys, zs, e, s, x))) =
+        let line : before ++ r ≡ ys ++ (zs ++ r) = ap (λ v. v ++ r) e ∙ append_assoc ys zs r in
+        let there = answers C g d' zs r x in
+        let first_part = form_complete facts body sure limits f d a (zs ++ r) ys s (sees_nothing (goes_on facts f) (zs ++ r) w) in
+        rw (line, first_part, allowed_fits limits.depth m p, there) refl
     answers A (choose T f g) (d, (d', (h, o))) before r (inl x) = let there = answers A f d before r x in rw (head A f d T h before r there) there
     answers A (choose T f g) (d, (d', (h, o))) before r (inr x) =
         let there = answers A g d' before r x in

@@ -1,8 +1,9 @@
 -- How many tokens a reader leaves, and readers that read alike.
-use Rattle.std.proofs.Common.{◌≡◌, ℕ, zero, suc, ◌<◌, ◌≤◌, ◌+◌, List, [], ◌∷◌, length, length-drop, drop, Ok, Err, Bool, true, false, cond, Option, Some, None, refl, ap, subst, ◌∙◌, arith}
+use Rattle.std.proofs.Common.{◌≡◌, ℕ, zero, suc, ◌<◌, ◌≤◌, ◌+◌, List, [], ◌∷◌, length, length-drop, drop, Ok, Err, Bool, true, false, cond, Option, Some, None, nat_lt, refl, ap, subst, ◌∙◌, arith}
+use Rattle.std.proofs.lemmas.Bool.Decides.{nat_tests}
 use Rattle.arc_lex.specs.Tokens.{Tok}
 use Rattle.arc_form.specs.Kinds.{Kinds, is}
-use Rattle.arc_form.specs.Reader.{Read, Reader, Fault, misfit, too_deep, bind, ◌>>=◌, ret, sees, take_one, taken, turns, loop, is_above, nested, goes_over, cut}
+use Rattle.arc_form.specs.Reader.{Read, Reader, Fault, misfit, too_deep, bind, ◌>>=◌, ret, sees, take_one, taken, turns, loop, is_above, past, allowed, nested, goes_over, cut}
 
 -- the tokens that a reader leaves
 abbrev pub rest_of : {A : Type 0} → Read A → List Tok
@@ -86,6 +87,29 @@ pub takes_ret : {A : Type 0} (a : A) → Takes 0 (ret a)
 takes_ret a = record { each = λ ts. alike_ret ts a }
 
 -- ---- limits and loops
+
+pub past_some : {A : Type 0} (ts : List Tok) → 1 ≤ length ts → past {A = A} ts ≡ Err (too_deep, ts)
+past_some [] l = absurd (omega arith)
+past_some (t ∷ ts) l = refl
+
+pub alike_past : {A : Type 0} (ts : List Tok) → Alike {A = A} 0 ts (past ts) (past ts)
+alike_past [] = alike_err 0 [] [] misfit (omega arith)
+alike_past (t ∷ ts) = alike_err 0 (t ∷ ts) (t ∷ ts) too_deep (omega arith)
+
+-- what is read where a depth has to be allowed
+pub allowed_then : {A : Type 0} (most : Option ℕ) (d : ℕ) (f : Reader A) (ts : List Tok) → bind (allowed most d ts) (λ u. f) ≡ cond (is_above most d) (past ts) (f ts)
+unfolding allowed
+allowed_then {A} most d f ts = go (is_above most d) ts
+  where
+    go : (b : Bool) (ts : List Tok) → bind {A = Unit {0}} (cond b past (ret tt) ts) (λ u. f) ≡ cond b (past ts) (f ts)
+    go true [] = refl
+    go true (t ∷ ts) = refl
+    go false ts = refl
+
+-- where a depth is not allowed, the first token is refused
+pub allowed_past : (n d : ℕ) (ts : List Tok) → n < d → allowed (Some n) d ts ≡ past ts
+unfolding allowed
+allowed_past n d ts p = let deep : nat_lt n d ≡ true = grind (arith, nat_tests) in rw deep refl
 
 pub nested_is : {A : Type 0} (most : Option ℕ) (d : ℕ) (T : Kinds) (f : Reader A) (ts : List Tok) → nested most d T f ts ≡ cond (is_above most d) (cond (sees T ts) (Err (too_deep, ts)) (Err (misfit, ts))) (f ts)
 unfolding nested

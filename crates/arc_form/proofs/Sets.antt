@@ -65,6 +65,19 @@ sees_apart A B (t ∷ ts) e h = apart_has A B (kind t.sort) e h
 pub sees_none : (A B : Kinds) (ts : List Tok) → among A B ≡ true → sees B ts ≡ false → sees A ts ≡ false
 sees_none A B ts e h = grind (arith, sees_among A B ts e)
 
+pub none_seen : (ts : List Tok) → sees none ts ≡ false
+none_seen [] = refl
+none_seen (t ∷ ts) = refl
+
+-- a set without kinds
+pub sees_nothing : (A : Kinds) (ts : List Tok) → among A none ≡ true → sees A ts ≡ false
+sees_nothing A ts e = sees_none A none ts e (none_seen ts)
+
+pub apart_nothing : (A B : Kinds) → among A none ≡ true → apart A B ≡ true
+apart_nothing none B e = refl
+apart_nothing (one a) B e = cc
+apart_nothing (A ∪ C) B e = let p = both (among A none) (among C none) e in and_of (apart A B) (apart C B) (apart_nothing A B p.0) (apart_nothing C B p.1)
+
 -- what is one of these is none of others
 pub sees_other : (A B : Kinds) (ts : List Tok) → apart A B ≡ true → sees B ts ≡ true → sees A ts ≡ false
 sees_other A B ts p e = grind (arith, sees_apart A B ts p)

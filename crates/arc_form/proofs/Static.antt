@@ -1,7 +1,7 @@
 -- What is read off a form without any tokens, and the test that each rule of a grammar must pass.
 use Rattle.std.proofs.Common.{◌≡◌, Bool, true, false, not, ◌&&◌, ◌||◌, arith}
 use Rattle.arc_form.specs.Kinds.{Kinds, none, ◌∪◌, is}
-use Rattle.arc_form.specs.Form.{Form, Bodies, token, give, call, map, ◌⨾◌, choose, many, or_none, nest, bounded, two_ahead, avoid}
+use Rattle.arc_form.specs.Form.{Form, Bodies, token, give, call, map, ◌⨾◌, into, choose, many, or_none, nest, bounded, two_ahead, avoid}
 use Rattle.arc_form.proofs.Sets.{among, apart, both}
 use Rattle.arc_form.proofs.Samples.{sample}
 
@@ -55,6 +55,7 @@ module _ {N : Type 0} {Node : N → Type 0} (facts : N → Facts) where
   begins (call n) = (facts n).begins
   begins (map h f) = begins f
   begins (f ⨾ g) = begins f ∪ if_so (nullable f) (begins g)
+  begins (into d f g) = begins f
   begins (choose T f g) = begins f ∪ begins g
   begins (many T f) = begins f
   begins (or_none T f a) = begins f
@@ -67,6 +68,7 @@ module _ {N : Type 0} {Node : N → Type 0} (facts : N → Facts) where
   goes_on (call n) = (facts n).goes_on
   goes_on (map h f) = goes_on f
   goes_on (f ⨾ g) = goes_on g ∪ if_so (nullable g) (goes_on f)
+  goes_on (into d f g) = goes_on g
   goes_on (choose T f g) = (goes_on f ∪ goes_on g) ∪ if_so (nullable g) T
   goes_on (many T f) = T ∪ goes_on f
   goes_on (or_none T f a) = goes_on f
@@ -86,6 +88,7 @@ module _ {N : Type 0} {Node : N → Type 0} (facts : N → Facts) where
   bars (call n) = (facts n).bars
   bars (map h f) = bars f
   bars (f ⨾ g) = bars g ∪ if_so (nullable g) (bars f)
+  bars (into d f g) = bars g
   bars (choose T f g) = bars f ∪ bars g
   bars (many T f) = bars f
   bars (or_none T f a) = T ∪ bars f
@@ -100,6 +103,7 @@ module _ {N : Type 0} {Node : N → Type 0} (facts : N → Facts) where
   guarded (call n) = false
   guarded (map h f) = guarded f
   guarded (f ⨾ g) = guarded f && (not (nullable f) || guarded g)
+  guarded (into d f g) = guarded f
   guarded (choose T f g) = guarded f && guarded g
   guarded (many T f) = guarded f
   guarded (or_none T f a) = guarded f
@@ -118,6 +122,7 @@ module _ {N : Type 0} {Node : N → Type 0} (facts : N → Facts) where
   simple (token T g) = is T (sample T)
   simple (map h f) = simple f
   simple (f ⨾ g) = simple f && simple g
+  simple (into d f g) = simple f && simple g
   simple (choose T f g) = simple g || (not (nullable g) && simple f)
   simple (nest d T f) = simple f
   simple (bounded f) = simple f
@@ -152,6 +157,7 @@ module _ {N : Type 0} {Node : N → Type 0} (facts : N → Facts) where
   decided (token T g) = yes (is T (sample T))
   decided (map h f) = decided f
   decided (f ⨾ g) = decided f and decided g and yes (apart (goes_on f) (begins g)) and yes (nullable g || apart (bars f) (begins g))
+  decided (into d f g) = decided f and decided g and no (nullable f) and no (nullable g) and yes (among (goes_on f) none) and yes (among (bars f) none)
   decided (choose T f g) = decided f and decided g and heads T f and yes (apart (begins g) T)
   decided (many T f) = decided f and heads T f and yes (apart (goes_on f) T) and yes (apart (bars f) T)
   decided (or_none T f a) = decided f and heads T f

@@ -2,7 +2,7 @@
 use Rattle.std.specs.Prelude.{ℕ, zero, suc, List, length, Option, None}
 use Rattle.arc_lex.specs.Tokens.{Tok}
 use Rattle.arc_form.specs.Kinds.{Kinds}
-use Rattle.arc_form.specs.Reader.{Reader, ◌>>=◌, ret, unexpected, second_unexpected, if_sees, if_sees_two, take_one, loop, nested, up_to}
+use Rattle.arc_form.specs.Reader.{Reader, ◌>>=◌, ret, unexpected, second_unexpected, if_sees, if_sees_two, take_one, loop, allowed, nested, up_to}
 
 -- How deep something nests, and how many tokens a bounded part has, at most. None is no limit.
 pub record Limits : Type 0 where
@@ -25,6 +25,8 @@ pub data Form (N : Type 0) (Node : N → Type 0) : Type 0 → Type 1 where
   map : {A B : Type 0} → (A → B) → Form N Node A → Form N Node B
   -- one after the other
   ◌⨾◌ : {A B : Type 0} → Form N Node A → Form N Node B → Form N Node (A × B)
+  -- one after the other, and the second is nested so deep, whatever token it begins with
+  into : {A B : Type 0} → ℕ → Form N Node A → Form N Node B → Form N Node (A × B)
   -- one of the two: the first, where a token of these kinds is ahead
   choose : {A : Type 0} → Kinds → Form N Node A → Form N Node A → Form N Node A
   -- as many as there are: one more, where a token of these kinds is ahead
@@ -50,6 +52,7 @@ run of limits (give a) = ret a
 run of limits (call n) = of limits n
 run of limits (map h f) = run of limits f >>= (λ a. ret (h a))
 run of limits (f ⨾ g) = run of limits f >>= (λ a. run of limits g >>= (λ b. ret (a, b)))
+run of limits (into d f g) = run of limits f >>= (λ a. allowed limits.depth d >>= (λ u. run of limits g >>= (λ b. ret (a, b))))
 run of limits (choose T f g) = if_sees T (run of limits f) (run of limits g)
 run of limits (many T f) = loop T (run of limits f)
 run of limits (or_none T f a) = if_sees T (run of limits f) (ret a)

@@ -3,7 +3,7 @@ use Rattle.std.specs.Prelude.{◌≡◌, ◌⊎◌, ◌≤◌, ℕ, zero, suc, L
 use Rattle.arc_lex.specs.Tokens.{Tok}
 use Rattle.arc_form.specs.Kinds.{is}
 use Rattle.arc_form.specs.Reader.{sees, sees_two}
-use Rattle.arc_form.specs.Form.{Limits, unlimited, Form, Bodies, token, give, call, map, ◌⨾◌, choose, many, or_none, nest, bounded, two_ahead, avoid}
+use Rattle.arc_form.specs.Form.{Limits, unlimited, Form, Bodies, token, give, call, map, ◌⨾◌, into, choose, many, or_none, nest, bounded, two_ahead, avoid}
 
 abbrev pub AtMost : Option ℕ → ℕ → Type 0
 AtMost None n = Unit {0}
@@ -24,6 +24,8 @@ SpellsBy of limits (give b) a rest xs = (xs ≡ []) × (a ≡ b)
 SpellsBy of limits (call n) a rest xs = of limits n a rest xs
 SpellsBy of limits (map {A} h f) b rest xs = (a : A) × (b ≡ h a) × SpellsBy of limits f a rest xs
 SpellsBy of limits (f ⨾ g) a rest xs = (ys zs : List Tok) × (xs ≡ ys ++ zs) × SpellsBy of limits f a.0 (zs ++ rest) ys × SpellsBy of limits g a.1 rest zs
+SpellsBy of limits (into d f g) a rest xs = AtMost limits.depth d
+    × ((ys zs : List Tok) × (xs ≡ ys ++ zs) × SpellsBy of limits f a.0 (zs ++ rest) ys × SpellsBy of limits g a.1 rest zs)
 SpellsBy of limits (choose T f g) a rest xs = SpellsBy of limits f a rest xs ⊎ SpellsBy of limits g a rest xs
 SpellsBy of limits (many T f) all rest xs = SpellsAll (SpellsBy of limits f) all rest xs
 SpellsBy of limits (or_none T f b) a rest xs = SpellsBy of limits f a rest xs ⊎ ((xs ≡ []) × (a ≡ b) × (sees T rest ≡ false))

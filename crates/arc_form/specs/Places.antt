@@ -1,8 +1,8 @@
 -- Where a limit is passed.
-use Rattle.std.specs.Prelude.{◌≡◌, ◌⊎◌, ℕ, zero, suc, List, [], ◌∷◌, ◌++◌, length, Option, Some, None, true, false}
+use Rattle.std.specs.Prelude.{◌≡◌, ◌⊎◌, ◌≤◌, ℕ, zero, suc, List, [], ◌∷◌, ◌++◌, length, Option, Some, None, true, false}
 use Rattle.arc_lex.specs.Tokens.{Tok}
 use Rattle.arc_form.specs.Reader.{sees, sees_two, is_above}
-use Rattle.arc_form.specs.Form.{Limits, unlimited, Form, Bodies, token, give, call, map, ◌⨾◌, choose, many, or_none, nest, bounded, two_ahead, avoid}
+use Rattle.arc_form.specs.Form.{Limits, unlimited, Form, Bodies, token, give, call, map, ◌⨾◌, into, choose, many, or_none, nest, bounded, two_ahead, avoid}
 use Rattle.arc_form.specs.Meaning.{AtMost, SpellsAll, SpellsBy, Spells}
 
 -- tokens, and those that come after them: the first of the second ones is meant
@@ -29,6 +29,10 @@ PassesBy body of limits (call n) before rest = of limits n before rest
 PassesBy body of limits (map h f) before rest = PassesBy body of limits f before rest
 PassesBy body of limits (◌⨾◌ {A} {B} f g) before rest = PassesBy body of limits f before rest
     ⊎ ((a : A) × (ys zs : List Tok) × (before ≡ ys ++ zs) × SpellsBy (Spells body) limits f a (zs ++ rest) ys × PassesBy body of limits g zs rest)
+PassesBy body of limits (into {A} {B} d f g) before rest = PassesBy body of limits f before rest
+    ⊎ ((is_above limits.depth d ≡ true) × (1 ≤ length rest) × (a : A) × SpellsBy (Spells body) limits f a rest before)
+    ⊎ (AtMost limits.depth d × (a : A) × (ys zs : List Tok) × (before ≡ ys ++ zs)
+    × SpellsBy (Spells body) limits f a (zs ++ rest) ys × PassesBy body of limits g zs rest)
 PassesBy body of limits (choose T f g) before rest = PassesBy body of limits f before rest ⊎ PassesBy body of limits g before rest
 PassesBy body of limits (many {A} T f) before rest = (all : List A) × (ys zs : List Tok) × (before ≡ ys ++ zs)
     × SpellsAll (SpellsBy (Spells body) limits f) all (zs ++ rest) ys × PassesBy body of limits f zs rest

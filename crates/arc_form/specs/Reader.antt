@@ -108,6 +108,15 @@ abbrev pub is_above : Option ℕ → ℕ → Bool
 is_above None n = false
 is_above (Some most) n = nat_lt most n
 
+-- the token ahead passes a limit; the end doesn't
+abbrev pub past : {A : Type 0} → Reader A
+past [] = Err (misfit, [])
+past (t ∷ ts) = Err (too_deep, t ∷ ts)
+
+-- nothing, where this depth is allowed; otherwise any token passes the limit
+unfoldable pub allowed : Option ℕ → ℕ → Reader (Unit {0})
+allowed most depth = if is_above most depth then past else ret tt
+
 -- f, where this depth is allowed; otherwise a token of these kinds passes the limit
 unfoldable pub nested : {A : Type 0} → Option ℕ → ℕ → Kinds → Reader A → Reader A
 nested most depth T f = if is_above most depth then if_sees T too_deep_here unexpected else f

@@ -32,7 +32,7 @@ use Rattle.arc_form.specs.Kinds.{Kinds, none, ◌∪◌, mark, word, at, name, m
 use Rattle.arc_form.specs.Reader.{Reader, ◌>>=◌, ret, from}
 use Rattle.arc_form.specs.Reader as readers
 use Rattle.arc_form.specs.Operators.{Row, marks_at, placed_operator, fold}
-use Rattle.arc_form.specs.Form.{Limits, unlimited, Form, Rules, Bodies, token, give, call, map, ◌⨾◌, choose, many, or_none, nest, bounded, two_ahead, avoid, run, read}
+use Rattle.arc_form.specs.Form.{Limits, unlimited, Form, Rules, Bodies, token, give, call, map, ◌⨾◌, into, choose, many, or_none, nest, bounded, two_ahead, avoid, run, read}
 
 -- What is recursive: an expression, a unary one, one whose operators are of a level or tighter, one that is no assignment, and a statement that is nested so deep.
 pub data Rule : Type 0 where
@@ -528,13 +528,13 @@ conditional at c a (Some b) = IfElse at c a b
 
 -- an `else` belongs to the nearest `if` that it may belong to (6.8.4.1)
 unfoldable pub otherwise : ℕ → Part (Option StmtTree)
-otherwise d = or_none (word w.Else) (map (λ (other, b). Some b) (key w.Else ⨾ call (stmt (d + 1)))) None
+otherwise d = or_none (word w.Else) (map (λ (other, b). Some b) (into (d + 1) (key w.Else) (call (stmt (d + 1))))) None
 
 unfoldable pub if_else : ℕ → Part StmtTree
-if_else d = map (λ (at, (c, (a, b))). conditional at c a b) (key w.If ⨾ controlling ⨾ call (stmt (d + 1)) ⨾ otherwise d)
+if_else d = map (λ (at, (c, (a, b))). conditional at c a b) (key w.If ⨾ into (d + 1) controlling (call (stmt (d + 1)) ⨾ otherwise d))
 
 unfoldable pub while_do : ℕ → Part StmtTree
-while_do d = map (λ (at, (c, a)). While at c a) (key w.While ⨾ controlling ⨾ call (stmt (d + 1)))
+while_do d = map (λ (at, (c, a)). While at c a) (key w.While ⨾ into (d + 1) controlling (call (stmt (d + 1))))
 
 -- what is after the body of a `do`
 unfoldable pub test_after : Part ExprTree
@@ -542,7 +542,7 @@ test_after = map (λ (again, (c, end)). c) (key w.While ⨾ controlling ⨾ the 
 
 -- a body, and the test after it (6.8.5.2)
 unfoldable pub do_while : ℕ → Part StmtTree
-do_while d = map (λ (at, (a, c)). Do at a c) (key w.Do ⨾ call (stmt (d + 1)) ⨾ test_after)
+do_while d = map (λ (at, (a, c)). Do at a c) (into (d + 1) (key w.Do) (call (stmt (d + 1)) ⨾ test_after))
 
 -- what comes before a `for`: a declaration, an expression or nothing, and `;` (6.8.5.3)
 unfoldable pub beginning : Part StmtTree
@@ -558,7 +558,7 @@ unfoldable pub clauses : Part (StmtTree × (Option ExprTree × Option ExprTree))
 clauses = map (λ (start, all). all) (the m.OpenParen ⨾ beginning ⨾ value ⨾ step)
 
 unfoldable pub for_do : ℕ → Part StmtTree
-for_do d = map (λ (at, ((a, (c, e)), b)). For at a c e b) (key w.For ⨾ clauses ⨾ call (stmt (d + 1)))
+for_do d = map (λ (at, ((a, (c, e)), b)). For at a c e b) (key w.For ⨾ into (d + 1) clauses (call (stmt (d + 1))))
 
 -- `break` and `continue` (6.8.6.2 and 6.8.6.3)
 unfoldable pub breaking : Part StmtTree

@@ -1,7 +1,7 @@
 //! Reads statements.
 ghost use Rattle.std.specs.Prelude.{◌≡◌, ◌<◌, ◌≤◌, length, option_map, IfOk};
 ghost use Rattle.arc_lex.specs.Tokens.{toks};
-ghost use Rattle.arc_form.specs.Reader.{Gives};
+ghost use Rattle.arc_form.specs.Reader.{Gives, allowed, bind};
 ghost use Rattle.arc_form.specs.Views.{all};
 ghost use Rattle.arc_ast.specs.Tree.{expr_tree, stmt_tree};
 ghost use Rattle.arc_grammar.specs.Grammar.{reads, rules, these};
@@ -158,12 +158,28 @@ fn stepped(alloc: Global, depth: usize, reader: &mut Reader) -> Read<Stmt>
     ))
 }
 
-/// A statement in a box.
+/// Nothing, where statements may be nested so deep. Otherwise any token is too deep, and the end is unexpected.
+#[tactic(auto, unfolding(arc_form::specs::Reader::allowed))]
+fn allowed(depth: usize, reader: &mut Reader) -> Read<()>
+    ensures gives { Gives (λ _. tt) result (toks reader.new.rest.now) (allowed these.depth depth (toks reader.old.rest.now)) }
+    ensures kept { reader.new.rest ≡ reader.old.rest }
+{
+    if depth > DEEPEST {
+        return match reader.rest.first() {
+            None => Err(Fail::Unexpected),
+            Some(_) => Err(Fail::TooDeep),
+        };
+    }
+    Ok(())
+}
+
+/// A statement in a box, where one has to come that is nested so deep.
 #[cycle(stmts)]
 fn branch(alloc: Global, depth: usize, reader: &mut Reader) -> Read<Box<Stmt>>
-    ensures gives { Gives (λ x. stmt_tree x.value) result (toks reader.new.rest.now) (rules these (grammar.stmt depth) (toks reader.old.rest.now)) }
+    ensures gives { Gives (λ x. stmt_tree x.value) result (toks reader.new.rest.now) (bind (allowed these.depth depth (toks reader.old.rest.now)) (λ _. rules these (grammar.stmt depth))) }
     ensures shorter { IfOk result (λ _. length reader.new.rest.now < length reader.old.rest.now) }
 {
+    allowed(depth, reader)?;
     let read = stmt(alloc, depth, reader)?;
     boxed_stmt(alloc, read)
 }
