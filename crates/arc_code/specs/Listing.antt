@@ -51,94 +51,68 @@ kind_number k.Int = 2
 kind_number k.Long = 3
 kind_number k.Object = 4
 
-abbrev pub op_name : Op → List ℕ
-op_name (Num n) = codes "Num"
-op_name (Bin operator kind) = codes "Bin"
-op_name (Un operator kind) = codes "Un"
-op_name (Narrow kind) = codes "Narrow"
-op_name Pop = codes "Pop"
-op_name (Get depth) = codes "Get"
-op_name (Set depth) = codes "Set"
-op_name (GetGlobal i) = codes "GetGlobal"
-op_name (SetGlobal i) = codes "SetGlobal"
-op_name PrintNum = codes "PrintNum"
-op_name PrintByte = codes "PrintByte"
-op_name GetChar = codes "GetChar"
-op_name Declare = codes "Declare"
-op_name Nil = codes "Nil"
-op_name ReadSelf = codes "ReadSelf"
-op_name (ReadRef i) = codes "ReadRef"
-op_name (ReadGlobal i) = codes "ReadGlobal"
-op_name (ReadField class index) = codes "ReadField"
-op_name Hold = codes "Hold"
-op_name Again = codes "Again"
-op_name Forget = codes "Forget"
-op_name Alloc = codes "Alloc"
-op_name (Finds selector) = codes "Finds"
-op_name (GetField class index) = codes "GetField"
-op_name (SetField class index) = codes "SetField"
-op_name Differ = codes "Differ"
-op_name IsObject = codes "IsObject"
-
-abbrev pub name : Instruction → List ℕ
-name (Plain op) = op_name op
-name (PrintText piece) = codes "PrintText"
-name (Jump to) = codes "Jump"
-name (JumpZero to) = codes "JumpZero"
-name (Call to gives) = codes "Call"
-name (Send selector takes objects gives) = codes "Send"
-name (SendSuper from selector takes objects gives) = codes "SendSuper"
-name (SendTo selector takes objects gives) = codes "SendTo"
-name (SendToSuper from selector takes objects gives) = codes "SendToSuper"
-name (StoreStrong i) = codes "StoreStrong"
-name (StoreGlobal i) = codes "StoreGlobal"
-name (StoreField class index) = codes "StoreField"
-name (Empty i) = codes "Empty"
-name DropAll = codes "DropAll"
-name Settle = codes "Settle"
-name Give = codes "Give"
-name Return = codes "Return"
-name EndStep = codes "EndStep"
-
 -- a space, and a number
 abbrev pub operand : ℕ → List ℕ
 operand n = codes " " ++ decimal n
 
-abbrev pub op_operands : Op → List ℕ
-op_operands (Num n) = codes " " ++ signed_decimal n
-op_operands (Bin operator kind) = operand (operator_number operator) ++ operand (kind_number kind)
-op_operands (Un operator kind) = operand (unary_number operator) ++ operand (kind_number kind)
-op_operands (Narrow kind) = operand (kind_number kind)
-op_operands (Get depth) = operand depth
-op_operands (Set depth) = operand depth
-op_operands (GetGlobal i) = operand i
-op_operands (SetGlobal i) = operand i
-op_operands (ReadRef i) = operand i
-op_operands (Finds selector) = operand selector
-op_operands (ReadGlobal i) = operand i
-op_operands (ReadField class index) = operand class ++ operand index
-op_operands (GetField class index) = operand class ++ operand index
-op_operands (SetField class index) = operand class ++ operand index
-op_operands _ = []
+-- an instruction's name, and its operands
+abbrev pub op_parts : Op → List ℕ × List ℕ
+op_parts (Num n) = (codes "Num", codes " " ++ signed_decimal n)
+op_parts (Bin operator kind) = (codes "Bin", operand (operator_number operator) ++ operand (kind_number kind))
+op_parts (Un operator kind) = (codes "Un", operand (unary_number operator) ++ operand (kind_number kind))
+op_parts (Narrow kind) = (codes "Narrow", operand (kind_number kind))
+op_parts Pop = (codes "Pop", [])
+op_parts (Get depth) = (codes "Get", operand depth)
+op_parts (Set depth) = (codes "Set", operand depth)
+op_parts (GetGlobal i) = (codes "GetGlobal", operand i)
+op_parts (SetGlobal i) = (codes "SetGlobal", operand i)
+op_parts PrintNum = (codes "PrintNum", [])
+op_parts PrintByte = (codes "PrintByte", [])
+op_parts GetChar = (codes "GetChar", [])
+op_parts Declare = (codes "Declare", [])
+op_parts Nil = (codes "Nil", [])
+op_parts ReadSelf = (codes "ReadSelf", [])
+op_parts (ReadRef i) = (codes "ReadRef", operand i)
+op_parts (ReadGlobal i) = (codes "ReadGlobal", operand i)
+op_parts (ReadField class index) = (codes "ReadField", operand class ++ operand index)
+op_parts Hold = (codes "Hold", [])
+op_parts Again = (codes "Again", [])
+op_parts Forget = (codes "Forget", [])
+op_parts Alloc = (codes "Alloc", [])
+op_parts (Finds selector) = (codes "Finds", operand selector)
+op_parts (GetField class index) = (codes "GetField", operand class ++ operand index)
+op_parts (SetField class index) = (codes "SetField", operand class ++ operand index)
+op_parts Differ = (codes "Differ", [])
+op_parts IsObject = (codes "IsObject", [])
 
 abbrev pub message_operands : (selector takes objects : ℕ) → Gives → List ℕ
 message_operands selector takes objects gives = operand selector ++ (operand takes ++ (operand objects ++ operand (gives_number gives)))
 
+abbrev pub parts : Instruction → List ℕ × List ℕ
+parts (Plain op) = op_parts op
+parts (PrintText piece) = (codes "PrintText", operand piece.from ++ operand piece.len)
+parts (Jump to) = (codes "Jump", operand to)
+parts (JumpZero to) = (codes "JumpZero", operand to)
+parts (Call to gives) = (codes "Call", operand to ++ operand (gives_number gives))
+parts (Send selector takes objects gives) = (codes "Send", message_operands selector takes objects gives)
+parts (SendSuper from selector takes objects gives) = (codes "SendSuper", operand from ++ message_operands selector takes objects gives)
+parts (SendTo selector takes objects gives) = (codes "SendTo", message_operands selector takes objects gives)
+parts (SendToSuper from selector takes objects gives) = (codes "SendToSuper", operand from ++ message_operands selector takes objects gives)
+parts (StoreStrong i) = (codes "StoreStrong", operand i)
+parts (StoreGlobal i) = (codes "StoreGlobal", operand i)
+parts (StoreField class index) = (codes "StoreField", operand class ++ operand index)
+parts (Empty i) = (codes "Empty", operand i)
+parts DropAll = (codes "DropAll", [])
+parts Settle = (codes "Settle", [])
+parts Give = (codes "Give", [])
+parts Return = (codes "Return", [])
+parts EndStep = (codes "EndStep", [])
+
+abbrev pub name : Instruction → List ℕ
+name instr = (parts instr).0
+
 abbrev pub operands : Instruction → List ℕ
-operands (Plain op) = op_operands op
-operands (PrintText piece) = operand piece.from ++ operand piece.len
-operands (Jump to) = operand to
-operands (JumpZero to) = operand to
-operands (Call to gives) = operand to ++ operand (gives_number gives)
-operands (Send selector takes objects gives) = message_operands selector takes objects gives
-operands (SendSuper from selector takes objects gives) = operand from ++ message_operands selector takes objects gives
-operands (SendTo selector takes objects gives) = message_operands selector takes objects gives
-operands (SendToSuper from selector takes objects gives) = operand from ++ message_operands selector takes objects gives
-operands (StoreStrong i) = operand i
-operands (StoreGlobal i) = operand i
-operands (StoreField class index) = operand class ++ operand index
-operands (Empty i) = operand i
-operands _ = []
+operands instr = (parts instr).1
 
 -- the instruction with this number
 abbrev pub line : ℕ → Instruction → List ℕ

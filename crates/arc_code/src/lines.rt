@@ -4,7 +4,7 @@ ghost use Rattle.std.specs.Fmt.{signed_decimal};
 ghost use Rattle.arc_code.specs.Attempts.{HasFailedToWrite};
 ghost use Rattle.arc_code.specs.Counting.{failures_of, inner_of, held_by};
 ghost use Rattle.arc_code.specs.Written.{Written};
-ghost use Rattle.arc_code.specs.Listing.{gives_number, unary_number, operator_number, kind_number, op_name, name, operand, op_operands, operands, line, listing};
+ghost use Rattle.arc_code.specs.Listing.{gives_number, unary_number, operator_number, kind_number, op_parts, name, operand, operands, line, listing};
 
 use crate::code::{Code, Instruction, IoFault};
 use crate::counted::Counted;
@@ -92,7 +92,7 @@ fn put_operands<W: Output>(instr: Instruction, writer: &mut Counted<W>) -> Resul
 
 fn put_op_operands<W: Output>(op: Op, writer: &mut Counted<W>) -> Result<(), IoFault>
     requires { failures_of writer.old < 2 ^ 64 - 1 }
-    ensures { Written result (op_operands op)
+    ensures { Written result (op_parts op).1
         (held_by W.contents writer.old) (held_by W.contents writer.new)
         (failures_of writer.old) (failures_of writer.new)
         (HasFailedToWrite W.writes W.flushes (inner_of writer.new)) }
@@ -278,7 +278,7 @@ fn name_of(instr: Instruction) -> &'static str
 }
 
 fn name_of_op(op: Op) -> &'static str
-    ensures { result.now ≡ op_name op }
+    ensures { result.now ≡ (op_parts op).0 }
 {
     match op {
         Op::Num(_) => "Num",
