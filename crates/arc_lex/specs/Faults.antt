@@ -7,34 +7,24 @@ use Rattle.arc_lex.specs.declared.piece.Rule.TheVariants as rules
 use Rattle.arc_lex.specs.Source.{FaultAt, Tokens, most_bytes}
 use Rattle.arc_lex.specs.Tokens.{Tok}
 
--- the number of a fault, under which the compiler's users know it
+-- a fault's number and its name, by which the compiler's users know it, and the byte that it names, counted from 0
+abbrev pub report : LexFault → ℕ × List ℕ × ℕ
+report (f.BadByte at) = (1, codes "BadByte", at)
+report (f.OpenComment at) = (2, codes "OpenComment", at)
+report (f.OpenLiteral at) = (3, codes "OpenLiteral", at)
+report (f.Literal at) = (4, codes "Literal", at)
+report (f.Directive at) = (5, codes "Directive", at)
+report f.TooLong = (6, codes "TooLong", most_bytes)
+report f.Memory = (7, codes "Memory", 0)
+
 abbrev pub fault_number : LexFault → ℕ
-fault_number (f.BadByte at) = 1
-fault_number (f.OpenComment at) = 2
-fault_number (f.OpenLiteral at) = 3
-fault_number (f.Literal at) = 4
-fault_number (f.Directive at) = 5
-fault_number f.TooLong = 6
-fault_number f.Memory = 7
+fault_number fault = (report fault).0
 
 abbrev pub fault_name : LexFault → List ℕ
-fault_name (f.BadByte at) = codes "BadByte"
-fault_name (f.OpenComment at) = codes "OpenComment"
-fault_name (f.OpenLiteral at) = codes "OpenLiteral"
-fault_name (f.Literal at) = codes "Literal"
-fault_name (f.Directive at) = codes "Directive"
-fault_name f.TooLong = codes "TooLong"
-fault_name f.Memory = codes "Memory"
+fault_name fault = (report fault).1
 
--- the byte that a fault names, counted from 0
 abbrev pub fault_at : LexFault → ℕ
-fault_at (f.BadByte at) = at
-fault_at (f.OpenComment at) = at
-fault_at (f.OpenLiteral at) = at
-fault_at (f.Literal at) = at
-fault_at (f.Directive at) = at
-fault_at f.TooLong = most_bytes
-fault_at f.Memory = 0
+fault_at fault = (report fault).2
 
 -- the fault of a broken rule at a place
 abbrev pub fault_of : Rule → ℕ → LexFault

@@ -3,18 +3,16 @@ use Rattle.std.specs.Prelude.{ℕ, List, codes}
 use Rattle.arc_spec.specs.declared.event.Fault.{Fault}
 use Rattle.arc_spec.specs.declared.event.Fault.TheVariants.{Arithmetic, Unrecognized, NilField, FieldClass, Depth, Resurrected}
 
+abbrev pub report : Fault → ℕ × List ℕ
+report Arithmetic = (81, codes "Arithmetic")
+report Unrecognized = (82, codes "Unrecognized")
+report NilField = (83, codes "NilField")
+report FieldClass = (84, codes "FieldClass")
+report Depth = (85, codes "Depth")
+report Resurrected = (86, codes "Resurrected")
+
 abbrev pub number_of : Fault → ℕ
-number_of Arithmetic = 81
-number_of Unrecognized = 82
-number_of NilField = 83
-number_of FieldClass = 84
-number_of Depth = 85
-number_of Resurrected = 86
+number_of fault = (report fault).0
 
 abbrev pub name_of : Fault → List ℕ
-name_of Arithmetic = codes "Arithmetic"
-name_of Unrecognized = codes "Unrecognized"
-name_of NilField = codes "NilField"
-name_of FieldClass = codes "FieldClass"
-name_of Depth = codes "Depth"
-name_of Resurrected = codes "Resurrected"
+name_of fault = (report fault).1

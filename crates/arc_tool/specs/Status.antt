@@ -9,29 +9,25 @@ use Rattle.arc_tool.specs.Reports.{Names}
 use Rattle.arc_tool.specs.declared.report.Trouble.{Trouble}
 use Rattle.arc_tool.specs.declared.report.Trouble.TheVariants.{Usage, Refused, Memory, Fault, NoHeap, StepsUsed, Io, File}
 
-abbrev pub status_of : Trouble → ℕ
-status_of Usage = 101
-status_of (Refused refusal) = 102
-status_of Memory = 102
-status_of (Fault fault) = 103
-status_of NoHeap = 104
-status_of StepsUsed = 105
-status_of (Io fault) = 106
-status_of File = 106
-
 -- the kind of trouble, its number and its name
 abbrev pub named : (kind : List ℕ) (number : ℕ) (name : List ℕ) → List ℕ
 named kind number name = kind ++ decimal number ++ codes " " ++ name
 
+abbrev pub report : Trouble → ℕ × List ℕ
+report Usage = (101, codes "usage: check, run, trace or code, and FILE")
+report (Refused refusal) = (102, named (codes "refused ") refusal.number refusal.name.now ++ codes " at " ++ decimal refusal.at)
+report Memory = (102, codes "no memory")
+report (Fault fault) = (103, named (codes "fault ") (stopped.number_of fault) (stopped.name_of fault))
+report NoHeap = (104, codes "no heap")
+report StepsUsed = (105, codes "steps used")
+report (Io fault) = (106, named (codes "io ") (faulty.fault_number fault) (faulty.fault_name fault))
+report File = (106, named (codes "io ") 93 (codes "File"))
+
+abbrev pub status_of : Trouble → ℕ
+status_of trouble = (report trouble).0
+
 abbrev pub message_of : Trouble → List ℕ
-message_of Usage = codes "usage: check, run, trace or code, and FILE"
-message_of (Refused refusal) = named (codes "refused ") refusal.number refusal.name.now ++ codes " at " ++ decimal refusal.at
-message_of Memory = codes "no memory"
-message_of (Fault fault) = named (codes "fault ") (stopped.number_of fault) (stopped.name_of fault)
-message_of NoHeap = codes "no heap"
-message_of StepsUsed = codes "steps used"
-message_of (Io fault) = named (codes "io ") (faulty.fault_number fault) (faulty.fault_name fault)
-message_of File = named (codes "io ") 93 (codes "File")
+message_of trouble = (report trouble).1
 
 abbrev pub line_of : Trouble → List ℕ
 line_of trouble = codes "arcc: " ++ message_of trouble ++ codes "\n"
