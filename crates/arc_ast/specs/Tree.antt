@@ -193,23 +193,12 @@ begins (SendSuper at _ _ _ _) = at
 -- the place at which an expression is reported that breaks a rule: an assignment's `=`, a field's name, a message's first selector part, and else the first byte
 -- (this project's own choice)
 abbrev pub place : ExprTree → ℕ
-place (Integer at _ _) = at
-place (Text at _) = at
-place (Paren at _) = at
-place (Call at _ _) = at
-place (Nil at) = at
-place (Itself at) = at
-place (Name at _) = at
-place (Unary at _ _) = at
-place (Cast at _ _) = at
-place (Binary at _ _ _) = at
-place (Conditional at _ _ _) = at
 place (Arrow _ name _ _) = name
 place (Assign _ sign _ _) = sign
-place (Update at _ Before _ _ _) = at
 place (Update _ sign After _ _ _) = sign
 place (Send _ part _ _ _) = part
 place (SendSuper _ part _ _ _) = part
+place a = begins a
 
 abbrev pub type_tree : TypeName → TypeTree
 type_tree t.Bool = Boolean
