@@ -80,6 +80,12 @@ pub is_some-class : (o : Option ClassId) → is_some (option_map number_of_class
 is_some-class None = refl
 is_some-class (Some class) = refl
 
+pub is_none-class : (o : Option ClassId) (none : Bool) → is_some o ≡ not none → none ≡ is_none (option_map number_of_class o)
+is_none-class None true e = refl
+is_none-class None false e = absurd (cc)
+is_none-class (Some class) true e = absurd (cc)
+is_none-class (Some class) false e = refl
+
 none_of : (o : Option ℕ) → is_some o ≡ false → o ≡ None
 none_of None e = refl
 none_of (Some n) e = absurd (cc)
@@ -211,13 +217,13 @@ judges_assign s before between at sign a b assignable left right both right_at l
       unread = never;
     }
 
-pub judges_update : (s : Scope) (before : Taken) (at sign : ℕ) (moment : Moment) (operator : BinaryOperator) (a b : ExprTree) (updatable : Bool) (left right both : Judged) (right_at : ℕ) → Judges s before a left → Judges s left.taken b right → updatable ≡ is_updatable a left.kind → right_at ≡ place b
+pub judges_update : (s : Scope) (before : Taken) (at sign : ℕ) (moment : Moment) (operator : BinaryOperator) (a b : ExprTree) (updatable : Bool) (left right both : Judged) (right_at : ℕ) → Judges s before a left → Judges s left.taken b right → updatable ≡ is_updatable s a left.kind → right_at ≡ place b
     → both.kind ≡ cond updatable left.kind None → both.class ≡ None
     → option_map reported both.fault ≡ earlier_of (earlier_of (option_map reported left.fault) (first (broken_if (not updatable) sign 44))) (earlier_of (option_map reported right.fault) (first (unmet ANumber right.kind right_at))) → both.taken ≡ right.taken
     → Judges s before (Update at sign moment operator a b) both
 judges_update s before at sign moment operator a b updatable left right both right_at l r v p k c f t =
-    let is = v ∙ ap (is_updatable a) l.kind in
-    let own = broken_if (not (is_updatable a (kind_of s a))) sign 44 in
+    let is = v ∙ ap (is_updatable s a) l.kind in
+    let own = broken_if (not (is_updatable s a (kind_of s a))) sign 44 in
     let two = earlier_of (option_map reported right.fault) (first (unmet ANumber right.kind right_at)) in
     record {
       kind = k ∙ ap (λ o. cond updatable o None) l.kind ∙ ap (λ p. cond p (kind_of s a) None) is;

@@ -25,7 +25,7 @@ use Rattle.arc_scope.specs.declared.callee.Callee.TheVariants.{Printf, GetChar, 
 use Rattle.arc_scope.specs.Formats.{wanted, fits}
 use Rattle.arc_scope.specs.Kinds.{literal_kind, is_number, wider, is_object}
 use Rattle.arc_scope.specs.Passing.{first_wanted, wanted_by, receiver_sign}
-use Rattle.arc_scope.specs.Scopes.{Known, Local, Scope, has_place, declare, with_parameters, leave, scope_after, outermost, variable, callee, result_kind, is_printf, own_class, own_field, is_visible, class_receiver, kind_given, sent_result, super_result, class_of, of_method}
+use Rattle.arc_scope.specs.Scopes.{Known, Local, Scope, has_place, declare, with_parameters, leave, scope_after, outermost, variable, callee, result_kind, is_printf, own_class, own_field, is_visible, itself_in, class_receiver, kind_given, sent_result, super_result, class_of, of_method}
 use Rattle.arc_scope.specs.Known.{known_of}
 use Rattle.arc_scope.specs.Scopes as scopes
 
@@ -104,9 +104,10 @@ is_assignable (Name at name) = true
 is_assignable (Arrow at name_at a name) = true
 is_assignable _ = false
 
--- whether an update's left side, which is of a kind, is a variable or a field that holds a number; what has no kind breaks another rule
-abbrev pub is_updatable : ExprTree → Option Kind → Bool
-is_updatable a kind = is_assignable a && not (is_object kind)
+-- whether an update's left side, which is of a kind, is a variable or a field that holds a number; one without a kind breaks another rule, and `self` of a class
+-- method is no variable
+abbrev pub is_updatable : Scope → ExprTree → Option Kind → Bool
+is_updatable s a kind = (is_assignable a && is_none (itself_in s a)) && not (is_object kind)
 
 -- The kind of an expression, where it has one: it breaks no rule itself, and those have one on whose kinds its own rests. An assignment and an update have their
 -- left side's kind (C99, section 6.5.16).
@@ -125,7 +126,7 @@ abbrev mutual
   kind_of s (Conditional at c a b) = either_kind (kind_of s a) (kind_of s b)
   kind_of s (Arrow at name_at a name) = arrow_kind s (kind_of s a) (s.known.field (class_of s a) name)
   kind_of s (Assign at sign a b) = if is_assignable a then kind_of s a else None
-  kind_of s (Update at sign moment operator a b) = if is_updatable a (kind_of s a) then kind_of s a else None
+  kind_of s (Update at sign moment operator a b) = if is_updatable s a (kind_of s a) then kind_of s a else None
   kind_of s (Send at part receiver selector arguments) = message_kind s (class_receiver s receiver) (kind_of s receiver) (class_of s receiver) selector
   kind_of s (SendSuper at part super_at selector arguments) = kind_given (super_result s selector)
 
@@ -172,7 +173,7 @@ no_method s class kind static selector part =
 -- All that is wrong with an expression but for the number of objects that it takes. `self` is known in methods alone, and in a class method it is only sent messages: 41
 -- UnknownName, and 43 KindMismatch (this project's own choice). 43 too: a text stands anywhere but as the first argument of printf
 -- (this project's own choice). 44 NotAssignable, at the `=`: the left side is no variable, no field and not `self` (C99, section 6.5.16); at the operator
--- of an update: it is none of these, or an object (6.5.16.2; with objects nothing is computed). A receiver is a class or has to be an object.
+-- of an update: it is none of these, `self` of a class method, or an object (6.5.16.2; with objects nothing is computed). A receiver is a class or has to be an object.
 abbrev mutual
   pub broken : Scope → ExprTree → List Broken
   broken s (Text at bytes) = record { at = at; number = 43 } ∷ []
@@ -193,7 +194,7 @@ abbrev mutual
       (broken s a ++ unmet AnObject (kind_of s a) (place a)) ++ (if is_object (kind_of s a) then no_field s (s.known.field (class_of s a) name) name_at else [])
   broken s (Assign at sign a b) = (broken s a ++ broken_if (not (is_assignable a)) sign 44) ++ (broken s b ++ no_such (kind_of s a) (kind_of s b) (place b))
   broken s (Update at sign moment operator a b) =
-      (broken s a ++ broken_if (not (is_updatable a (kind_of s a))) sign 44) ++ (broken s b ++ unmet ANumber (kind_of s b) (place b))
+      (broken s a ++ broken_if (not (is_updatable s a (kind_of s a))) sign 44) ++ (broken s b ++ unmet ANumber (kind_of s b) (place b))
   broken s (Send at part receiver selector arguments) =
       ((if is_some (class_receiver s receiver) then [] else broken s receiver ++ unmet AnObject (kind_of s receiver) (place receiver))
       ++ no_method s (class_receiver s receiver) (kind_of s receiver) (class_of s receiver) selector part)

@@ -517,7 +517,7 @@ fn judge_update<'a>(
 {
     let first = judge(table, visible, before, left);
     let second = judge(table, visible, first.taken, right);
-    let is_updatable = is_updatable(left, first.kind);
+    let is_updatable = is_updatable(visible, left, first.kind);
     updated(is_updatable, sign, first, second, place(right))
 }
 

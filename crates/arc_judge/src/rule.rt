@@ -3,9 +3,11 @@ ghost use Rattle.std.specs.Prelude.{◌≡◌, option_map};
 ghost use Rattle.arc_ast.specs.Tree as tree;
 ghost use Rattle.arc_ast.specs.Tree.{expr_tree};
 ghost use Rattle.arc_class.specs.Broken.{first};
+ghost use Rattle.arc_class.specs.declared.table.ClassTable.{ClassTable};
 ghost use Rattle.arc_judge.specs.Fault.{reported};
 ghost use Rattle.arc_judge.specs.Rules as rules;
 ghost use Rattle.arc_judge.specs.Rules.{is_updatable, no_right, number_kind, unary_kind, unmet};
+ghost use Rattle.arc_scope.specs.Views.{seen};
 ghost use Rattle.arc_sites.specs.Sites.{ANumber, AValue, AnObject, left_need, operand_need};
 ghost use Rattle.arc_judge.specs.private.Judging.{broken_at, other_rule};
 
@@ -13,6 +15,8 @@ use arc_ast::tree::{Expr, Kind, Moment, OperatorSort, UnaryOperator};
 use arc_fault::check::CheckFault;
 use arc_scope::callee::Callee;
 use arc_scope::kind::{is_object, wider};
+use arc_scope::message::itself_in;
+use arc_scope::scope::Visible;
 
 /// The place at which an expression that breaks a rule is reported: an assignment's operator, a field's name, a message's first selector part, and else
 /// the first byte.
@@ -51,11 +55,12 @@ pub fn is_assignable(expr: &Expr) -> bool
     }
 }
 
-/// Whether an update's left side, which is of a kind, is a variable or a field that holds a number.
-pub fn is_updatable(expr: &Expr, kind: Option<Kind>) -> bool
-    ensures { result ≡ is_updatable (expr_tree expr.now) kind }
+/// Whether an update's left side, which is of a kind, is a variable or a field that holds a number; one without a kind breaks another rule, and `self`
+/// of a class method is no variable.
+pub fn is_updatable(visible: &Visible, expr: &Expr, kind: Option<Kind>) -> bool
+    ensures { (table : ClassTable) → result ≡ is_updatable (seen table visible.now) (expr_tree expr.now) kind }
 {
-    is_assignable(expr) && !is_object(kind)
+    is_assignable(expr) && itself_in(visible, expr).is_none() && !is_object(kind)
 }
 
 /// The kind of one of two values.

@@ -25,7 +25,7 @@ pub fn static_class<'a>(table: &ClassTable<'a>, type_name: &'a TypeName) -> Opti
 }
 
 /// The class that `self` is in a class method, also in parentheses.
-fn itself_in(visible: &Visible, expr: &Expr) -> Option<ClassId>
+pub fn itself_in(visible: &Visible, expr: &Expr) -> Option<ClassId>
     ensures { (table : ClassTable) → option_map number_of_class result ≡ scopes.itself_in (seen table visible.now) (expr_tree expr.now) }
 {
     match expr {

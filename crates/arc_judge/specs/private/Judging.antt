@@ -1,5 +1,5 @@
 -- The judgements on expressions: kinds, first broken rules, and how many objects are taken.
-use Rattle.std.specs.Prelude.{◌≡◌, ℕ, zero, suc, Bool, List, [], ◌∷◌, ◌++◌, flat_map, Option, Some, None, true, false, is_none, option_map, nat_eq, if◌then◌else◌}
+use Rattle.std.specs.Prelude.{◌≡◌, ℕ, zero, suc, List, [], ◌∷◌, ◌++◌, flat_map, Option, Some, None, true, false, is_none, option_map, nat_eq, if◌then◌else◌}
 use Rattle.std.specs.Option.{option_map_or}
 use Rattle.arc_ast.specs.declared.tree.Kind.{Kind}
 use Rattle.arc_ast.specs.Tree.{ExprTree, ExprTrees, InterfaceTree, ImplementationTree}

@@ -106,7 +106,7 @@ judge_assignment-returns t c = λ at.
 pub judge_update-returns : goal.judge_update-returns
 judge_update-returns t c = λ at moment operator.
     judges_update (seen c.args.table.now c.args.visible.now) c.args.before at c.args.sign moment operator (expr_tree c.args.left.now) (expr_tree c.args.right.now) c.is_updatable-is_updatable.result c.judge-first.result c.judge-second.result c.updated.result c.place.result c.judge-first.ensures c.judge-second.ensures
-    c.is_updatable-is_updatable.ensures c.place.ensures c.updated.ensures.kind c.updated.ensures.class c.updated.ensures.fault c.updated.ensures.taken
+    (c.is_updatable-is_updatable.ensures c.args.table.now) c.place.ensures c.updated.ensures.kind c.updated.ensures.class c.updated.ensures.fault c.updated.ensures.taken
 
 pub judge_send-returns : goal.judge_send-returns
 judge_send-returns t c = λ at.
