@@ -74,3 +74,9 @@ first_head-append sign selector (x ∷ xs) ys = go (is_method sign selector x) (
         → (if b then Some x else first_head sign selector (xs ++ ys)) ≡ or_else (if b then Some x else first_head sign selector xs) (first_head sign selector ys)
     go true h = refl
     go false h = h
+
+-- where nothing is kept at first, and then the first of one list and the first of another
+pub both_kept : (sign : Sign) (selector : List ℕ) (xs ys : List HeadTree) (before one both : Option HeadTree) → before ≡ None → one ≡ or_else before (first_head sign selector xs) → both ≡ or_else one (first_head sign selector ys)
+    → both ≡ first_head sign selector (xs ++ ys)
+both_kept sign selector xs ys before one both n o b =
+    b ∙ ap (λ kept. or_else kept (first_head sign selector ys)) (o ∙ ap (λ kept. or_else kept (first_head sign selector xs)) n) ∙ sym (first_head-append sign selector xs ys)

@@ -15,9 +15,9 @@ use Rattle.arc_class.specs.declared.heads.Heads.{Heads}
 use Rattle.arc_class.specs.declared.sort_counts.SortCounts.{SortCounts}
 use Rattle.arc_class.specs.declared.table.MethodResult.{MethodResult}
 use Rattle.arc_class.specs.declared.table.Place.{Place}
-use Rattle.arc_class.specs.Classes.{first_head, heads, result_of, own_result, defined_by, class_number}
+use Rattle.arc_class.specs.Classes.{first_head, result_of, own_result, defined_by, class_number, implemented_before, own_heads}
 use Rattle.arc_class.specs.Entries.{EntryTree, entry_tree, root_entry, class_entry}
-use Rattle.arc_class.specs.Fields.{fields_by, implemented_before}
+use Rattle.arc_class.specs.Fields.{fields_by}
 use Rattle.arc_class.specs.Kept.{head_in}
 use Rattle.arc_class.specs.Running.{methods_from, dealloc_from, implemented, implementation_of, class_with}
 use Rattle.arc_class.specs.Lookups.{class_number_in, given_in, given_at}
@@ -106,7 +106,7 @@ entry_of superclass results = record { superclass = superclass; results = result
 -- what is known of a class, where names have the numbers of its source
 pub entry_is : (u : UnitTree) (i : InterfaceTree) (names : Named Place) (superclass : Option ℕ) (methods : Heads) → superclass ≡ class_number u.interfaces i.superclass
     → ((sought : List ℕ) → class_number_in names sought ≡ class_number u.interfaces sought)
-    → ((sign : Sign) (selector : List ℕ) → head_in methods sign selector ≡ first_head sign selector (i.methods ++ heads (defined_by u.implementations i.name)))
+    → ((sign : Sign) (selector : List ℕ) → head_in methods sign selector ≡ first_head sign selector (own_heads u i))
     → entry_tree names (record { superclass = superclass; methods = methods }) ≡ class_entry u i
 entry_is u i names superclass methods e same h =
     ap (λ s. entry_of s (given_at names methods)) e
@@ -115,7 +115,7 @@ entry_is u i names superclass methods e same h =
     given : (sign : Sign) (selector : List ℕ) → given_at names methods sign selector ≡ own_result u sign selector i
     given sign selector =
         sym (given_kept names methods sign selector) ∙ ap (option_map (given_in names)) (h sign selector)
-        ∙ ap (λ (f : HeadTree → MethodResult). option_map f (first_head sign selector (i.methods ++ heads (defined_by u.implementations i.name)))) (all_given_same names u.interfaces same)
+        ∙ ap (λ (f : HeadTree → MethodResult). option_map f (first_head sign selector (own_heads u i))) (all_given_same names u.interfaces same)
 
 -- the root has no methods of its own
 pub root_is : (names : Named Place) (methods : Heads) → ((sign : Sign) (selector : List ℕ) → head_at methods sign selector ≡ None) → entry_tree names (record { superclass = None; methods = methods }) ≡ root_entry

@@ -53,6 +53,19 @@ abbrev pub defined_by : List ImplementationTree → List ℕ → List MethodTree
 defined_by [] name = []
 defined_by (i ∷ others) name = if bytes_eq name i.name then i.methods else defined_by others name
 
+-- whether the first implementation with a name stands before a place
+abbrev pub implemented_before : List ImplementationTree → List ℕ → (at : ℕ) → Bool
+implemented_before [] name at = false
+implemented_before (i ∷ others) name at = if bytes_eq name i.name then nat_lt i.at at else implemented_before others name at
+
+-- what a class declares in its interface, and what in its implementation, by position in the file, as either may stand first
+abbrev pub by_position : {X : Type 0} → UnitTree → InterfaceTree → (declared defined : List X) → List X
+by_position u i declared defined = if implemented_before u.implementations i.name i.at then defined ++ declared else declared ++ defined
+
+-- the methods that a class's interface declares and its implementation defines
+abbrev pub own_heads : UnitTree → InterfaceTree → List HeadTree
+own_heads u i = by_position u i i.methods (heads (defined_by u.implementations i.name))
+
 -- whether a method is one of this sign with this selector
 abbrev pub is_method : Sign → List ℕ → HeadTree → Bool
 is_method sign selector h = same_sign sign h.sign && bytes_eq selector h.selector
@@ -88,9 +101,9 @@ class_of_result u name = option_and_then (λ f. result_class u.interfaces f.resu
 abbrev pub given_by : List InterfaceTree → HeadTree → MethodResult
 given_by interfaces h = record { kind = result_of h; class = result_class interfaces h.result; related = is_related h }
 
--- what a class's own method with a selector gives: one that its interface declares, or else one that its implementation defines
+-- what a class's own method with a selector gives: the first by position, where its interface declares one and its implementation defines one
 abbrev pub own_result : UnitTree → Sign → List ℕ → InterfaceTree → Option MethodResult
-own_result u sign selector i = option_map (given_by u.interfaces) (first_head sign selector (i.methods ++ heads (defined_by u.implementations i.name)))
+own_result u sign selector i = option_map (given_by u.interfaces) (first_head sign selector (own_heads u i))
 
 -- What the methods of the root give that are built in: two make objects, and `init` gives the object that it was sent to (OPL, "Allocating and Initializing
 -- Objects"); `dealloc` gives nothing.

@@ -1,5 +1,5 @@
 -- The fields of objects.
-use Rattle.std.specs.Prelude.{ℕ, zero, suc, Bool, false, List, [], ◌∷◌, ◌++◌, map, Option, Some, None, nat_eq, nat_lt, reverse, flat_map, slice_get, if◌then◌else◌}
+use Rattle.std.specs.Prelude.{ℕ, zero, suc, Bool, false, List, [], ◌∷◌, map, Option, Some, None, nat_eq, nat_lt, reverse, flat_map, slice_get, if◌then◌else◌}
 use Rattle.std.specs.Option.{option_and_then, option_map_or}
 use Rattle.std.specs.Str.{bytes_eq}
 use Rattle.arc_ast.specs.declared.tree.Kind.{Kind}
@@ -11,7 +11,7 @@ use Rattle.arc_ast.specs.Types.{type_kind}
 use Rattle.arc_ast.specs.Tree.{FieldTree, InterfaceTree, ImplementationTree, UnitTree}
 use Rattle.arc_class.specs.declared.sort_counts.SortCounts.{SortCounts}
 use Rattle.arc_class.specs.declared.table.FoundField.{FoundField}
-use Rattle.arc_class.specs.Classes.{class_number, type_class, superclass, superclasses}
+use Rattle.arc_class.specs.Classes.{by_position, class_number, type_class, superclass, superclasses}
 use Rattle.arc_class.specs.Sorts.{next_of, with_one, counts}
 use Rattle.arc_spec.specs.Classes.{ancestry, first_that_has}
 
@@ -36,16 +36,10 @@ is_number class found = option_map_or (λ n. nat_eq n class) found false
 abbrev pub fields_added : UnitTree → (class : ℕ) → InterfaceTree → List FieldTree
 fields_added u class i = if is_number class (class_number u.interfaces i.name) then fields_by u.implementations i.name else []
 
--- whether the first implementation with a name stands before a place
-abbrev pub implemented_before : List ImplementationTree → List ℕ → (at : ℕ) → Bool
-implemented_before [] name at = false
-implemented_before (i ∷ others) name at = if bytes_eq name i.name then nat_lt i.at at else implemented_before others name at
-
 -- The fields that a class declares, by position in the file: those in its interface's braces and those in its implementation's, of which either may stand first
 -- (OPL, "Instance Variables").
 abbrev pub fields_declared : UnitTree → (class : ℕ) → InterfaceTree → List FieldTree
-fields_declared u class i =
-    if implemented_before u.implementations i.name i.at then fields_added u class i ++ i.fields else i.fields ++ fields_added u class i
+fields_declared u class i = by_position u i i.fields (fields_added u class i)
 
 abbrev pub own_fields : UnitTree → (class : ℕ) → List FieldTree
 own_fields u zero = []

@@ -1,11 +1,11 @@
 //! The parts of a table: selectors, entries and classes.
-ghost use Rattle.std.specs.Prelude.{◌≡◌, ◌<◌, ◌+◌, ◌++◌, ◌∷◌, List, ℕ, suc, length, map, unwrap_or, IfOk, IfErr, OnOk};
+ghost use Rattle.std.specs.Prelude.{◌≡◌, ◌<◌, ◌+◌, ◌∷◌, List, ℕ, suc, length, map, unwrap_or, IfOk, IfErr, OnOk};
 ghost use Rattle.arc_ast.specs.declared.tree.Sign.{Sign};
 ghost use Rattle.arc_ast.specs.Tree.{UnitTree, unit_tree, head_tree, head_trees, method_trees, interface_trees, implementation_trees, interface_tree};
 ghost use Rattle.arc_spec.specs.Classes.{class_of, classes_of};
 ghost use Rattle.arc_class.specs.ByName.{Named};
 ghost use Rattle.arc_class.specs.Classes as classes;
-ghost use Rattle.arc_class.specs.Classes.{heads, first_head, with_selectors, defined_selectors, standing_before, standing_after, selectors_in_order, built_in_selectors, selectors, number_among, defined_by};
+ghost use Rattle.arc_class.specs.Classes.{heads, first_head, with_selectors, defined_selectors, standing_before, standing_after, selectors_in_order, built_in_selectors, selectors, number_among, defined_by, own_heads};
 ghost use Rattle.arc_fault.specs.declared.class.ClassFault.TheVariants.{Memory};
 ghost use Rattle.arc_class.specs.Entries.{entry_tree, root_entry, class_entry, fields_tree, all_class_fields};
 ghost use Rattle.arc_class.specs.Fields.{all_fields_from};
@@ -242,15 +242,21 @@ impl<'a> Source<'a> {
         }
     }
 
-    /// The methods that a class's interface declares and its implementation defines.
+    /// The methods that a class's interface declares and its implementation defines: the first by position of each sign and selector.
     fn own_methods(&self, alloc: Global, interface: &'a Interface) -> Result<Heads<'a>, AllocError>
         requires { Knows (unit_tree self.now.unit.now) self.now }
         ensures { IfOk result (λ map. (sign : Sign) (sought : List ℕ) → head_in map sign sought
-            ≡ first_head sign sought ((interface_tree interface.now).methods ++ heads (defined_by (unit_tree self.now.unit.now).implementations (interface_tree interface.now).name))) }
+            ≡ first_head sign sought (own_heads (unit_tree self.now.unit.now) (interface_tree interface.now))) }
     {
+        let defined = self.defined_methods(&interface.name);
         let mut map = Heads::new(alloc);
+        if self.implemented_before(&interface.name, interface.at) {
+            map.keep_methods(defined)?;
+            map.keep_heads(&interface.methods)?;
+            return Ok(map);
+        }
         map.keep_heads(&interface.methods)?;
-        map.keep_methods(self.defined_methods(&interface.name))?;
+        map.keep_methods(defined)?;
         Ok(map)
     }
 

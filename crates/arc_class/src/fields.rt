@@ -409,17 +409,6 @@ impl<'a> Source<'a> {
         }
     }
 
-    /// Whether the first implementation of the name stands before the place.
-    fn implemented_before(&self, name: &'a [u8], at: usize) -> bool
-        requires { Knows (unit_tree self.now.unit.now) self.now }
-        ensures { result ≡ specs.implemented_before (unit_tree self.now.unit.now).implementations name.now at }
-    {
-        match at_name(&self.implemented, name) {
-            None => false,
-            Some(own) => own.implementation.at < at,
-        }
-    }
-
     /// The fields that the interface's class declares, which has this number.
     pub fn own_fields(&self, class: usize, interface: &'a Interface) -> OwnFields<'a>
         requires { Knows (unit_tree self.now.unit.now) self.now }

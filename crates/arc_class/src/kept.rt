@@ -4,7 +4,7 @@ ghost use Rattle.arc_ast.specs.declared.tree.Sign.{Sign};
 ghost use Rattle.arc_ast.specs.Tree.{InterfaceTree, unit_tree, function_trees, global_tree, global_trees, interface_trees, implementation_trees};
 ghost use Rattle.arc_ast.specs.Types.{type_kind};
 ghost use Rattle.arc_class.specs.Classes as classes;
-ghost use Rattle.arc_class.specs.Classes.{class_number, first_head, declared, defined};
+ghost use Rattle.arc_class.specs.Classes.{class_number, first_head, declared, defined, implemented_before};
 ghost use Rattle.arc_fault.specs.declared.class.ClassFault.TheVariants.{Memory};
 ghost use Rattle.arc_class.specs.Globals.{known_global, variable_after};
 ghost use Rattle.arc_class.specs.Kept.{head_in, function_kept, places, implemented_in, Knows};
@@ -16,7 +16,7 @@ ghost use Rattle.arc_class.specs.Table.{at_name, class_number_in};
 use crate::by_name::ByName;
 use crate::heads::{Heads, keep_first};
 use crate::sort_counts::SortCounts;
-use crate::table::{Known, Names, Place, Variable, Variables, type_class};
+use crate::table::{Known, Names, Place, Variable, Variables, at_name, type_class};
 use arc_ast::tree;
 use arc_ast::tree::{Function, Implementation, Interface, Method, TranslationUnit};
 use arc_fault::class::ClassFault;
@@ -241,5 +241,16 @@ impl<'a> Source<'a> {
             declared,
             defined,
         })
+    }
+
+    /// Whether the first implementation of the name stands before the place.
+    pub fn implemented_before(&self, name: &'a [u8], at: usize) -> bool
+        requires { Knows (unit_tree self.now.unit.now) self.now }
+        ensures { result ≡ implemented_before (unit_tree self.now.unit.now).implementations name.now at }
+    {
+        match at_name(&self.implemented, name) {
+            None => false,
+            Some(own) => own.implementation.at < at,
+        }
     }
 }

@@ -3,8 +3,8 @@ use Rattle.std.proofs.lemmas.List.{append-nil}
 use Rattle.std.proofs.lemmas.Bool.Decides.{nat_tests}
 use Rattle.arc_ast.specs.declared.tree.Field.{Field}
 use Rattle.arc_ast.specs.Tree.{FieldTree, unit_tree, interface_tree, field_trees}
-use Rattle.arc_class.specs.Classes.{class_number}
-use Rattle.arc_class.specs.Fields.{is_number, fields_by, fields_added, implemented_before}
+use Rattle.arc_class.specs.Classes.{class_number, implemented_before}
+use Rattle.arc_class.specs.Fields.{is_number, fields_by, fields_added}
 use Rattle.arc_class.proofs.kept.Source.own_fields.Goals as goal
 
 abbrev in_order : (added declared : List FieldTree) → Bool → List FieldTree

@@ -1,19 +1,35 @@
-use Rattle.std.proofs.Common.{◌≡◌, None, option_map, sym, ap, ◌∙◌}
-use Rattle.arc_ast.specs.Tree.{unit_tree, head_tree, head_trees, method_trees}
-use Rattle.arc_class.specs.Classes.{heads, first_head, defined_by, or_else}
+use Rattle.std.proofs.Common.{◌≡◌, Bool, true, false, List, ◌++◌, option_map, if◌then◌else◌, sym, ap, ◌∙◌}
+use Rattle.arc_ast.specs.Tree.{HeadTree, unit_tree, head_tree, head_trees}
+use Rattle.arc_class.specs.Classes.{heads, first_head, defined_by, implemented_before, or_else}
 use Rattle.arc_class.specs.Kept.{head_in}
-use Rattle.arc_class.proofs.Keeping.{first_head-append}
+use Rattle.arc_class.proofs.Keeping.{both_kept}
 use Rattle.arc_class.proofs.kept.Source.own_methods.Goals as goal
+
+abbrev in_order : (declared defined : List HeadTree) → Bool → List HeadTree
+in_order declared defined before = if before then defined ++ declared else declared ++ defined
+
+pub returns-then-implemented_before : goal.returns-then-implemented_before
+returns-then-implemented_before c sign sought =
+    let u = unit_tree c.args.self.now.unit.now in
+    let i = c.args.interface.now in
+    let declared = head_trees i.methods.items in
+    let own = heads (defined_by u.implementations i.name.items) in
+    let here : implemented_before u.implementations i.name.items i.at ≡ true =
+    ap (λ n. implemented_before u.implementations n i.at) (sym c.deref-2.ensures.value) ∙ sym c.implemented_before.ensures ∙ c.if-implemented_before.true in
+    both_kept sign sought own declared _ _ _ (ap (option_map (λ h. head_tree h.now)) (c.new-map.ensures sign sought))
+    (c.in_ok-keep_methods.ensures sign sought ∙ ap (λ hs. or_else (head_in c.new-map.result sign sought) (first_head sign sought hs)) (ap heads (c.defined_methods-defined.ensures ∙ ap (defined_by u.implementations) c.deref.ensures.value)))
+    (c.in_ok-keep_heads.ensures sign sought ∙ ap (λ us. or_else (head_in c.keep_methods.new.self sign sought) (first_head sign sought (head_trees us))) c.deref-then-implemented_before.ensures.value)
+    ∙ sym (ap (λ b. first_head sign sought (in_order declared own b)) here)
 
 pub returns : goal.returns
 returns c sign sought =
     let u = unit_tree c.args.self.now.unit.now in
     let i = c.args.interface.now in
+    let declared = head_trees i.methods.items in
     let own = heads (defined_by u.implementations i.name.items) in
-    let empty : head_in c.new-map.result sign sought ≡ None = ap (option_map (λ h. head_tree h.now)) (c.new-map.ensures sign sought) in
-    let declared : head_in c.keep_heads.new.self sign sought ≡ first_head sign sought (head_trees i.methods.items) =
-    c.in_ok-keep_heads.ensures sign sought ∙ ap (λ o. or_else o (first_head sign sought (head_trees c.deref.result.now))) empty ∙ ap (λ us. first_head sign sought (head_trees us)) c.deref.ensures.value in
-    let defined : heads (method_trees c.defined_methods.result.now) ≡ own = ap heads (c.defined_methods.ensures ∙ ap (defined_by u.implementations) c.deref-2.ensures.value) in
-    c.in_ok-keep_methods.ensures sign sought ∙ ap (λ o. or_else o (first_head sign sought (heads (method_trees c.defined_methods.result.now)))) declared
-    ∙ ap (λ hs. or_else (first_head sign sought (head_trees i.methods.items)) (first_head sign sought hs)) defined
-    ∙ sym (first_head-append sign sought (head_trees i.methods.items) own)
+    let here : implemented_before u.implementations i.name.items i.at ≡ false =
+    ap (λ n. implemented_before u.implementations n i.at) (sym c.deref-2.ensures.value) ∙ sym c.implemented_before.ensures ∙ c.if-implemented_before.false in
+    both_kept sign sought declared own _ _ _ (ap (option_map (λ h. head_tree h.now)) (c.new-map.ensures sign sought))
+    (c.in_ok-keep_heads-2.ensures sign sought ∙ ap (λ us. or_else (head_in c.new-map.result sign sought) (first_head sign sought (head_trees us))) c.deref-3.ensures.value)
+    (c.in_ok-keep_methods-2.ensures sign sought ∙ ap (λ hs. or_else (head_in c.keep_heads-2.new.self sign sought) (first_head sign sought hs)) (ap heads (c.defined_methods-defined.ensures ∙ ap (defined_by u.implementations) c.deref.ensures.value)))
+    ∙ sym (ap (λ b. first_head sign sought (in_order declared own b)) here)
