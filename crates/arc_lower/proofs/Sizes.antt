@@ -427,6 +427,7 @@ module _ (P : Program) where
         omega (arith, length-append {A = Order}, sum_by-cons (class_size P) c others, dealloc_is c.dealloc, methods_are c.methods, classes_are others)
 
   pub actions_counted : length (orders.lowered P) ≡ program_size P
+  unfolding program_size
   actions_counted =
       omega (
         arith,

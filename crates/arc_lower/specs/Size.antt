@@ -211,5 +211,5 @@ abbrev pub class_size : Program → Class → ℕ
 class_size P c = dealloc_size P c.dealloc + sum_by (method_size P) c.methods
 
 -- A program: the call of main and two actions more; its functions, and two more that give 0 and nil, by 3 and 4 actions; and its classes.
-abbrev pub program_size : Program → ℕ
+unfoldable pub program_size : Program → ℕ
 program_size P = entering_size P gives.Number P.main 0 0 + sum_by (function_size P) P.functions + sum_by (class_size P) P.classes + 9
