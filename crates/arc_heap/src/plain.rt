@@ -40,14 +40,38 @@ impl Model for PlainStore {
     ghost invariant = { λ s. IsArranged s.marks.items (length s.words.items) };
 }
 
-/// Writes 0 to `count` words from `from` on.
+/// Writes 0 to `count` words from `from` on, to those of small blocks without a call.
+#[inline(always)]
 fn clear(words: &mut [u64], from: usize, count: usize)
     requires { from + count ≤ length words.old }
     ensures size { length words.new ≡ length words.old }
     ensures zeros { (k : ℕ) → from ≤ k → k < from + count → get_or words.new k 0 ≡ 0 }
     ensures others { (k : ℕ) → (k < from) ⊎ (from + count ≤ k) → get_or words.new k 0 ≡ get_or words.old k 0 }
 {
+    if count == ROW {
+        clear_row(words, from);
+        return;
+    }
+    if count == 2 * ROW {
+        clear_row(words, from);
+        clear_row(words, from + ROW);
+        return;
+    }
     words[from..from + count].fill(0);
+}
+
+/// Writes 0 to the words of a row, from `from` on.
+#[inline(always)]
+fn clear_row(words: &mut [u64], from: usize)
+    requires { from + 4 ≤ length words.old }
+    ensures size { length words.new ≡ length words.old }
+    ensures zeros { (k : ℕ) → from ≤ k → k < from + 4 → get_or words.new k 0 ≡ 0 }
+    ensures others { (k : ℕ) → (k < from) ⊎ (from + 4 ≤ k) → get_or words.new k 0 ≡ get_or words.old k 0 }
+{
+    words[from] = 0;
+    words[from + 1] = 0;
+    words[from + 2] = 0;
+    words[from + 3] = 0;
 }
 
 impl PlainStore {
