@@ -1,4 +1,5 @@
 //! What the program is asked to do.
+ghost use Rattle.std.specs.Prelude.{◌≡◌};
 
 use std::alloc::{AllocError, AllocFailed};
 use thiserror::Error;
@@ -45,12 +46,20 @@ pub enum WordsFault {
 }
 
 impl From<AllocError> for WordsFault {
+    ghost use Rattle.arc_words.specs.declared.request.WordsFault.TheVariants as faults;
+
+    ghost from_gives = { λ _ e. e ≡ faults.Memory };
+
     fn from(_error: AllocError) -> WordsFault {
         WordsFault::Memory
     }
 }
 
 impl<T: Drop> From<AllocFailed<T>> for WordsFault {
+    ghost use Rattle.arc_words.specs.declared.request.WordsFault.TheVariants as faults;
+
+    ghost from_gives = { λ _ e. e ≡ faults.Memory };
+
     fn from(_error: AllocFailed<T>) -> WordsFault {
         WordsFault::Memory
     }

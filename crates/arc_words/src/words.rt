@@ -1,5 +1,8 @@
 //! Reads the program's words.
-ghost use Rattle.std.specs.Prelude.{◌≡◌, ◌≤◌, ◌<◌, ◌^◌, IfOk, IfSome, false};
+ghost use Rattle.std.specs.Prelude.{ℕ, List, IsErrAnd, ◌≡◌, ◌≤◌, ◌<◌, ◌^◌, ◌⊎◌, IfOk, IfErr, IfSome, MatchResult, false, codes, Some, None, map, string_bytes};
+ghost use Rattle.clap.specs.Words.{IsAmong, app_of, found_of, kind_of, one_of, rows_of, rule_of, subcommand_rows_of};
+ghost use Rattle.arc_words.specs.Commands.{alone, arcc_commands, asked, asked_in, asked_of, IsRefused, IsRefusedBy, Refuses, command_named, file_rule, of_file, of_steps, steps_in, steps_rule};
+ghost use Rattle.arc_words.specs.Asks.{Asks, AsksHelp, AsksNothing, IsAnswer, IsHelpOrMemory, IsUsageOrMemory};
 
 use crate::request::{Command, Words, WordsFault};
 use clap::builder::ValueParser;
@@ -17,8 +20,16 @@ const STEPS: u64 = 1_000_000_000;
 const MOST_STEPS: u64 = 9_223_372_036_854_775_807;
 
 /// Reads the program's words, of which the first is its own name. All that isn't a command with its
-/// options is refused by `Usage`, and a wish for help is answered by `Help`.
+/// options is refused by `Usage`, and a wish for help is answered by `Help`. The first three clauses
+/// speak of words of a plain form, the next two of all words, by what clap's definitions say of them.
 pub fn words(alloc: Global, words: &[String]) -> Result<Words, WordsFault>
+    ensures plain { (command : Command) (file : List ℕ) (steps : ℕ)
+        → Asks (map string_bytes words.entry.now) command file steps
+        → IsAnswer command file steps result }
+    ensures help { AsksHelp (map string_bytes words.entry.now) → IsErrAnd result IsHelpOrMemory }
+    ensures usage { AsksNothing (map string_bytes words.entry.now) → IsErrAnd result IsUsageOrMemory }
+    ensures said { IfOk result (λ w. asked (map string_bytes words.entry.now) ≡ Some (asked_of w)) }
+    ensures refused { IfErr result (IsRefused (map string_bytes words.entry.now)) }
     ensures heap { IfOk result (λ w. w.heap ≡ HEAP) }
     ensures steps { IfOk result (λ w. (1 ≤ w.steps) × (w.steps < 2 ^ 63)) }
     ensures holds { IfOk result (λ w. w.keep_holds ≡ false) }
@@ -30,7 +41,9 @@ pub fn words(alloc: Global, words: &[String]) -> Result<Words, WordsFault>
 }
 
 /// The commands and their options.
-fn reader<'a>(alloc: Global) -> Result<clap::Command<'a>, AllocError> {
+fn reader<'a>(alloc: Global) -> Result<clap::Command<'a>, AllocError>
+    ensures { IfOk result (λ r. app_of r ≡ arcc_commands) }
+{
     clap::Command::new(alloc, "arcc")
         .about("Compiles Objective-C with automatic reference counting, and runs it")
         .subcommand_required(true)
@@ -40,40 +53,54 @@ fn reader<'a>(alloc: Global) -> Result<clap::Command<'a>, AllocError> {
         .subcommand(code_command(alloc)?)
 }
 
-fn check_command<'a>(alloc: Global) -> Result<clap::Command<'a>, AllocError> {
+fn check_command<'a>(alloc: Global) -> Result<clap::Command<'a>, AllocError>
+    ensures { IfOk result (λ r. app_of r ≡ alone (of_file (codes "check"))) }
+{
     clap::Command::new(alloc, "check")
         .about("Say whether FILE is accepted")
         .arg(file(alloc))
 }
 
-fn run_command<'a>(alloc: Global) -> Result<clap::Command<'a>, AllocError> {
+fn run_command<'a>(alloc: Global) -> Result<clap::Command<'a>, AllocError>
+    ensures { IfOk result (λ r. app_of r ≡ alone (of_steps (codes "run"))) }
+{
     clap::Command::new(alloc, "run")
         .about("Compile FILE and run it")
         .arg(file(alloc))?
         .arg(steps(alloc))
 }
 
-fn trace_command<'a>(alloc: Global) -> Result<clap::Command<'a>, AllocError> {
+fn trace_command<'a>(alloc: Global) -> Result<clap::Command<'a>, AllocError>
+    ensures { IfOk result (λ r. app_of r ≡ alone (of_steps (codes "trace"))) }
+{
     clap::Command::new(alloc, "trace")
         .about("Compile FILE, run it and show what it prints and which objects end")
         .arg(file(alloc))?
         .arg(steps(alloc))
 }
 
-fn code_command<'a>(alloc: Global) -> Result<clap::Command<'a>, AllocError> {
+fn code_command<'a>(alloc: Global) -> Result<clap::Command<'a>, AllocError>
+    ensures { IfOk result (λ r. app_of r ≡ alone (of_file (codes "code"))) }
+{
     clap::Command::new(alloc, "code")
         .about("List the code of FILE")
         .arg(file(alloc))
 }
 
-fn file<'a>(alloc: Global) -> Arg<'a> {
+fn file<'a>(alloc: Global) -> Arg<'a>
+    ensures rule { rule_of result ≡ file_rule }
+    ensures local { result.global ≡ false }
+{
     Arg::new(alloc, "file")
         .value_name("FILE")
         .help("The source")
         .required(true)
 }
 
-fn steps<'a>(alloc: Global) -> Arg<'a> {
+fn steps<'a>(alloc: Global) -> Arg<'a>
+    ensures rule { rule_of result ≡ steps_rule }
+    ensures local { result.global ≡ false }
+{
     Arg::new(alloc, "steps")
         .long("steps")
         .value_name("N")
@@ -84,6 +111,8 @@ fn steps<'a>(alloc: Global) -> Arg<'a> {
 
 /// What accepted words say.
 fn chosen(alloc: Global, matches: &ArgMatches<'_>) -> Result<Words, WordsFault>
+    ensures said { IfOk result (λ w. asked_in (subcommand_rows_of matches.now) ≡ Some (asked_of w)) }
+    ensures refused { IfErr result (IsRefusedBy (asked_in (subcommand_rows_of matches.now))) }
     ensures heap { IfOk result (λ w. w.heap ≡ HEAP) }
     ensures steps { IfOk result (λ w. (1 ≤ w.steps) × (w.steps < 2 ^ 63)) }
     ensures holds { IfOk result (λ w. w.keep_holds ≡ false) }
@@ -109,7 +138,9 @@ fn chosen(alloc: Global, matches: &ArgMatches<'_>) -> Result<Words, WordsFault>
     })
 }
 
-fn command_of(name: &str) -> Option<Command> {
+fn command_of(name: &str) -> Option<Command>
+    ensures { result ≡ command_named name.now }
+{
     match name {
         "check" => Some(Command::Check),
         "run" => Some(Command::Run),
@@ -121,18 +152,20 @@ fn command_of(name: &str) -> Option<Command> {
 
 /// The number of steps; None is one beyond the limits.
 fn steps_of(options: &ArgMatches<'_>) -> Option<u64>
-    ensures { IfSome result (λ n. (1 ≤ n) × (n < 2 ^ 63)) }
+    ensures said { result ≡ steps_in (one_of (codes "steps") (rows_of (found_of options.now))) }
+    ensures within { IfSome result (λ n. (1 ≤ n) × (n < 2 ^ 63)) }
 {
-    let steps = options.get_one::<u64>("steps").unwrap_or(STEPS);
-    if 1 <= steps && steps <= MOST_STEPS {
-        Some(steps)
-    } else {
-        None
+    match options.try_get_one::<u64>("steps") {
+        Ok(Some(steps)) if 1 <= steps && steps <= MOST_STEPS => Some(steps),
+        Ok(None) => Some(STEPS),
+        _ => None,
     }
 }
 
 /// Why words weren't accepted.
-fn refusal(alloc: Global, error: &clap::Error) -> WordsFault {
+fn refusal(alloc: Global, error: &clap::Error) -> WordsFault
+    ensures { Refuses (kind_of error.now) result }
+{
     match error.kind() {
         ErrorKind::OutOfMemory => WordsFault::Memory,
         ErrorKind::DisplayHelp => match format!(in alloc; "{error}") {
