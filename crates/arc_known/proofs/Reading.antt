@@ -9,7 +9,7 @@ use Rattle.arc_lex.specs.Tokens.{Tok}
 use Rattle.arc_lex.specs.private.Pieces.{piece, name_piece, number_piece, text_piece, character_piece, at_piece, line_piece, slash_piece, mark_piece}
 use Rattle.arc_ast.specs.Tree.{UnitTree}
 use Rattle.arc_form.specs.Form.{read, deep}
-use Rattle.arc_form.specs.Reader.{Read, misfit, too_deep, loop, nested, up_to}
+use Rattle.arc_form.specs.Reader.{Read, misfit, too_deep, loop, allowed, nested, up_to}
 use Rattle.arc_form.specs.Whole.{read_whole}
 use Rattle.arc_grammar.specs.Grammar.{body, unit, these}
 use Rattle.arc_grammar.proofs.Fits.{lines}
@@ -32,7 +32,7 @@ use Rattle.arc_known.proofs.Cutting.{tokens_of, cuts, fault_in, breaks}
 
 -- `unfolding reading` opens what the computing of a tree and its meaning calls
 unfoldable pub reading : Unit {0}
-unfolding lines read deep read_whole loop nested up_to piece name_piece number_piece text_piece character_piece at_piece line_piece slash_piece mark_piece digits without_underscores first_component begins_with_word
+unfolding lines read deep read_whole loop allowed nested up_to piece name_piece number_piece text_piece character_piece at_piece line_piece slash_piece mark_piece digits without_underscores first_component begins_with_word
 reading = tt
 
 abbrev pub tree_read : Read UnitTree → Option UnitTree
