@@ -17,11 +17,9 @@ use crate::waiting::{Waiter, Waiting};
 use arc_code::code::Code;
 use arc_heap::store::{Ref, Store};
 use arc_spec::event::NoMemory;
+use arc_spec::limits::MOST_LEVELS;
 use std::alloc::Global;
 use std::marker::Model;
-
-/// How many calls, and ends of objects, may run within one another.
-const MOST_LEVELS: usize = 2_000;
 
 /// A store with the blocks of objects, how many objects were made, the strong places, of which the
 /// last ones are the temporaries of the running function, and those before them its variables, the

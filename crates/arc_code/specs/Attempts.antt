@@ -1,6 +1,7 @@
--- Calls of a device that are made again where they were interrupted, at most 100 of them in a row.
--- That 100 interruptions in a row are a failure is this project's own choice.
+-- Calls of a device that are made again where they were interrupted, at most 100 of them in a row, so RETRIES after the first.
+-- That as many interruptions in a row are a failure is this project's own choice.
 use Rattle.std.specs.Prelude.{◌≡◌, ◌⊎◌, ℕ, zero, suc, ◌+◌, ◌<◌, List, length, drop, Option, ⊤}
+use Rattle.arc_code.specs.declared.counted.TheConstants.{RETRIES}
 use Rattle.arc_code.specs.declared.device.Attempt.{Attempt}
 use Rattle.arc_code.specs.declared.device.Attempt.TheVariants.{Done, Interrupted, Failed}
 use Rattle.arc_code.specs.Calls.{IsUndone}
@@ -10,14 +11,14 @@ abbrev pub Interruptions : {T A : Type 0} → (call : T → Attempt A → T → 
 Interruptions call zero old new = new ≡ old
 Interruptions {T} call (suc n) old new = (between : T) × Interruptions call n old between × call between Interrupted new
 
--- What came of up to 100 calls: the first one that isn't interrupted decides, or else the last one.
+-- What came of the calls: the first one that isn't interrupted decides, or else the last one.
 pub record Tried {T A : Type 0} (call : T → Attempt A → T → Type 0) (old : T) (answer : Attempt A) (new : T) : Type 0 where
   pub interrupted : ℕ
-  pub few : interrupted < 100
+  pub few : interrupted ≤ RETRIES
   pub before : T
   pub interruptions : Interruptions call interrupted old before
   pub decides : call before answer new
-  pub last : answer ≡ Interrupted → interrupted ≡ 99
+  pub last : answer ≡ Interrupted → interrupted ≡ RETRIES
 
 -- ---- failures: an error that is no interruption, 100 interruptions, and a write that takes no byte
 

@@ -4,7 +4,10 @@ use crate::instr::Instr;
 use arc_spec::class::Class;
 use thiserror::Error;
 
-/// A text of code: where its bytes begin among those of all texts, and how many they are, at most 16.
+/// The most bytes of a text that one instruction prints.
+pub const MOST_TEXT: usize = 16;
+
+/// A text of code: where its bytes begin among those of all texts, and how many they are, at most `MOST_TEXT`.
 #[derive(Clone, Copy)]
 pub struct Piece {
     pub from: u32,

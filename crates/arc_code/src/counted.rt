@@ -28,7 +28,7 @@ pub struct Counted<T> {
 }
 
 /// How often an interrupted call is made again.
-const RETRIES: u32 = 99;
+pub const RETRIES: u32 = 99;
 
 impl<T> Counted<T> {
     /// The device, of which no failure is known yet.

@@ -5,6 +5,7 @@ use Rattle.std.proofs.lemmas.List.{append-nil}
 use Rattle.std.proofs.lemmas.Bool.Decides.{nat_tests}
 use Rattle.arc_spec.specs.Stepping.{Next, Goes, Asks, Ends, Faults, Stuck, Reached, Running, Ended, Faulted, Wedged, follow, further, after_steps, Along, Safe}
 use Rattle.arc_spec.specs.Correct.{Refines, run_seen}
+use Rattle.arc_code.specs.declared.code.TheConstants.{MOST_TEXT}
 use Rattle.arc_code.specs.declared.instr.Instr.TheVariants.{PrintText}
 use Rattle.arc_code.specs.Running as running
 use Rattle.arc_code.specs.Running.{text_at}
@@ -30,14 +31,14 @@ module _ (p : acting.Program) where
 
   -- ---- one action
 
-  text_is : (before text after : List ℕ) → code.texts ≡ before ++ (text ++ after) → length text ≤ 16 → running.text_of code (record { from = length before; len = length text }) ≡ Some text
+  text_is : (before text after : List ℕ) → code.texts ≡ before ++ (text ++ after) → length text ≤ MOST_TEXT → running.text_of code (record { from = length before; len = length text }) ≡ Some text
   text_is before text after e short =
       let from = length before in
       let len = length text in
       let whole : Option (List ℕ) = Some (text_at code (record { from = from; len = len })) in
       let within : from + len ≤ length code.texts = omega (arith, ap length e, length-append before (text ++ after), length-append text after) in
       let n : from + len - from ≡ len = omega arith in
-      ap (λ b. if b && nat_le (from + len) (length code.texts) then whole else None) (le_true len 16 short)
+      ap (λ b. if b && nat_le (from + len) (length code.texts) then whole else None) (le_true len MOST_TEXT short)
       ∙ ap (λ b. if b then whole else None) (le_true (from + len) (length code.texts) within)
       ∙ ap (λ k. Some (take k (drop from code.texts))) n
       ∙ ap (λ l. Some (take len (drop from l))) e

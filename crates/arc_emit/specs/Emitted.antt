@@ -5,6 +5,7 @@ use Rattle.arc_code.specs.declared.code.Piece.{Piece}
 use Rattle.arc_code.specs.Renaming.{renamed}
 use Rattle.arc_code.specs.Running as running
 use Rattle.arc_code.specs.Running.{Instruction}
+use Rattle.arc_emit.specs.declared.emit.TheConstants.{MOST_INSTRS}
 use Rattle.arc_ir.specs.declared.action.TextPart.{TextPart}
 use Rattle.arc_ir.specs.Acting as acting
 use Rattle.arc_ir.specs.Acting.{Action, lands, entry}
@@ -48,7 +49,7 @@ code_of p = record {
 
 -- the most instructions that code may have
 abbrev pub most_instrs : ℕ
-most_instrs = 16777216
+most_instrs = MOST_INSTRS
 
 -- there are more actions than code may have instructions
 abbrev pub IsLarge : acting.Program → Type 0

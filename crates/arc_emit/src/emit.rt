@@ -15,7 +15,7 @@ use arc_ir::action::Ir;
 use std::alloc::Global;
 
 /// The most instructions that code may have.
-const MOST_INSTRS: usize = 16_777_216;
+pub const MOST_INSTRS: usize = 16_777_216;
 
 /// The code of a program. Each action is the instruction with the same number, so functions, methods
 /// and the ends of objects go on at the same numbers, and a jump names the one where it goes on. The texts stand one after another.

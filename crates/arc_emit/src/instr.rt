@@ -1,5 +1,6 @@
 //! The instruction of one action, and its text.
 ghost use Rattle.std.specs.Prelude.{◌≡◌, ◌≤◌, ◌++◌, length, OnOk};
+ghost use Rattle.arc_code.specs.declared.code.TheConstants.{MOST_TEXT};
 ghost use Rattle.arc_ir.specs.Acting.{program_of, lands, entry};
 ghost use Rattle.arc_emit.specs.Emitted.{instr_of, text_of};
 
@@ -67,10 +68,10 @@ fn entry(ir: &Ir, function: usize) -> usize
     }
 }
 
-/// Appends the text that an action prints, of at most 16 bytes; of an action without a text it is empty.
+/// Appends the text that an action prints, of at most `MOST_TEXT` bytes; of an action without a text it is empty.
 pub fn append_text(texts: &mut Vec<u8>, action: &Action) -> Result<(), AllocError>
     ensures appended { OnOk result (texts.new.items ≡ texts.old.items ++ text_of action.now) }
-    ensures short { length (text_of action.now) ≤ 16 }
+    ensures short { length (text_of action.now) ≤ MOST_TEXT }
 {
     match action {
         Instr::PrintText(part) => texts.extend_from_slice(&part.bytes),

@@ -1,15 +1,16 @@
 //! Actions, which are instructions before they become code: a program as one list of them.
 
 ghost use Rattle.std.specs.Prelude.{◌≤◌, length};
+ghost use Rattle.arc_code.specs.declared.code.TheConstants.{MOST_TEXT};
 
 use arc_code::instr::Instr;
 use arc_spec::class::Class;
 
-/// A part of a text, of at most 16 bytes.
+/// A part of a text, of at most as many bytes as one instruction prints.
 #[derive(Drop)]
 pub struct TextPart {
     pub bytes: Vec<u8>,
-    pub ghost short: { length bytes.items ≤ 16 },
+    pub ghost short: { length bytes.items ≤ MOST_TEXT },
 }
 
 /// Where a jump goes on.

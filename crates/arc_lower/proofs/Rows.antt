@@ -1,5 +1,6 @@
 -- Rows of orders, and lists of a checked program as long as what they are of.
 use Rattle.std.proofs.Common.{◌≡◌, ℕ, zero, suc, ◌+◌, ◌-◌, ◌/◌, ◌<◌, arith, List, [], ◌∷◌, ◌++◌, length, take, drop, length-drop, length-append, refl, sym, ap, ◌∙◌, pos, Option, Some, None}
+use Rattle.arc_code.specs.declared.code.TheConstants.{MOST_TEXT}
 use Rattle.arc_checked.specs.declared.program.CheckedFunction.{CheckedFunction}
 use Rattle.arc_checked.specs.Checked.{functions}
 use Rattle.arc_spec.specs.declared.class.Gives.{Gives}
@@ -13,10 +14,10 @@ use Rattle.arc_ir.specs.Acting.{Action}
 use Rattle.arc_code.specs.declared.effect.Height.{Height}
 use Rattle.arc_lower.specs.Heights.{highest, greatest, raised}
 
--- of more than 16 bytes the first 16 are one part
-pub text_more : (bytes : List ℕ) → 16 < length bytes → text_orders bytes ≡ PrintText (take 16 bytes) ∷ text_orders (drop 16 bytes)
+-- of more bytes than one instruction prints the first ones are one part
+pub text_more : (bytes : List ℕ) → MOST_TEXT < length bytes → text_orders bytes ≡ PrintText (take MOST_TEXT bytes) ∷ text_orders (drop MOST_TEXT bytes)
 text_more bytes long =
-    let e : (length bytes - 1) / 16 ≡ suc ((length (drop 16 bytes) - 1) / 16) = omega (arith, length-drop 16 bytes) in
+    let e : (length bytes - 1) / MOST_TEXT ≡ suc ((length (drop MOST_TEXT bytes) - 1) / MOST_TEXT) = omega (arith, length-drop MOST_TEXT bytes) in
     ap (λ n. part_orders n bytes) e
 
 -- n times one order, and once more

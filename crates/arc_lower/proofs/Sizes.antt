@@ -5,6 +5,7 @@ use Rattle.std.proofs.lemmas.Bool.Decides.{nat_tests}
 use Rattle.std.specs.List.{list_any, sum_by}
 use Rattle.std.proofs.lemmas.List.Folds.{list_any-append}
 use Rattle.std.proofs.lemmas.List.Sums.{sum_by-append, sum_by-cons}
+use Rattle.arc_code.specs.declared.code.TheConstants.{MOST_TEXT}
 use Rattle.arc_ast.specs.declared.tree.BinaryOperator.{BinaryOperator}
 use Rattle.arc_ast.specs.declared.tree.Kind.{Kind}
 use Rattle.arc_ast.specs.declared.tree.Moment.{Moment}
@@ -107,11 +108,11 @@ dropped false = refl
 
 parts : (n : ℕ) (bytes : List ℕ) → Sized (plain (suc n)) (orders.part_orders n bytes)
 parts zero bytes = exact
-parts (suc n) bytes = let others = parts n (drop 16 bytes) in record { many = ap suc others.many; takes = others.takes }
+parts (suc n) bytes = let others = parts n (drop MOST_TEXT bytes) in record { many = ap suc others.many; takes = others.takes }
 
 formats : (pieces : List Piece) (n : ℕ) → Sized (plain (format_size pieces n)) (orders.format_orders pieces n)
 formats [] n = exact
-formats (Bytes bytes ∷ pieces) n = appended (parts ((length bytes - 1) / 16) bytes) (formats pieces n)
+formats (Bytes bytes ∷ pieces) n = appended (parts ((length bytes - 1) / MOST_TEXT) bytes) (formats pieces n)
 formats (Decimal ∷ pieces) zero = formats pieces zero
 formats (Character ∷ pieces) zero = formats pieces zero
 formats (Decimal ∷ pieces) (suc n) = let others = formats pieces n in record { many = omega (arith, others.many); takes = others.takes }

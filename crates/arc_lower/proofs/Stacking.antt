@@ -4,6 +4,7 @@ use Rattle.std.proofs.lemmas.List.{append-nil, map-append, take-append-drop}
 use Rattle.std.proofs.Math.Seq.{take-append_seam, drop-append_seam}
 use Rattle.std.proofs.Math.Nat.{mod-add-mod, mod-mod}
 use Rattle.std.specs.Int.{w32, cast_signed}
+use Rattle.arc_code.specs.declared.code.TheConstants.{MOST_TEXT}
 use Rattle.arc_ast.specs.declared.tree.Kind.TheVariants as k
 use Rattle.arc_spec.specs.declared.event.Event.TheVariants.{Byte}
 use Rattle.arc_spec.specs.Number.{converted, counted, low_byte}
@@ -148,9 +149,9 @@ module _ (p : Program) (frames : List Frame) (bound : ℕ) (rs : List ℕ) where
   parts_print : (full : ℕ) (bytes : List ℕ) (stack : List ℤ) (n : ℕ) (w : World) → Prints (part_orders full bytes) stack n bytes w
   parts_print zero bytes stack n w = part_prints bytes stack n w
   parts_print (suc full) bytes stack n w =
-      let a = take 16 bytes in
-      let b = drop 16 bytes in
-      subst (λ l. Prints (part_orders (suc full) bytes) stack n l w) (take-append-drop 16 bytes)
+      let a = take MOST_TEXT bytes in
+      let b = drop MOST_TEXT bytes in
+      subst (λ l. Prints (part_orders (suc full) bytes) stack n l w) (take-append-drop MOST_TEXT bytes)
       (print_both (PrintText a ∷ []) (part_orders full b) stack n a b w (part_prints a stack n w) (parts_print full b stack (n + length a) (prints a w)))
 
   -- a copy of the first value that isn't printed yet
@@ -174,7 +175,7 @@ module _ (p : Program) (frames : List Frame) (bound : ℕ) (rs : List ℕ) where
   format_passes : (pieces : List Piece) (left stack : List ℤ) (n : ℕ) (w : World) → Prints (format_orders pieces (length left)) (onto left stack) n (formatted pieces left) w
   format_passes [] left stack n w = let e : n ≡ n + 0 = omega arith in no_passes p frames bound rs (kept n ∷ onto left stack) w (kept (n + 0) ∷ onto left stack) (prints [] w) (ap (λ m. kept m ∷ onto left stack) e) (ap (λ t. record w { trace = t }) (sym (append-nil w.trace)))
   format_passes (Bytes bytes ∷ others) left stack n w =
-      print_both (text_orders bytes) (format_orders others (length left)) (onto left stack) n bytes (formatted others left) w (parts_print ((length bytes - 1) / 16) bytes (onto left stack) n w) (format_passes others left stack (n + length bytes) (prints bytes w))
+      print_both (text_orders bytes) (format_orders others (length left)) (onto left stack) n bytes (formatted others left) w (parts_print ((length bytes - 1) / MOST_TEXT) bytes (onto left stack) n w) (format_passes others left stack (n + length bytes) (prints bytes w))
   format_passes (Decimal ∷ others) [] stack n w = format_passes others [] stack n w
   format_passes (Decimal ∷ others) (v ∷ left) stack n w =
       print_more (conversion_orders (Plain PrintNum) (length (v ∷ left))) (format_orders others (length left)) (onto (v ∷ left) stack) n (signed_decimal v) (formatted others left) w (number_passes left stack v (kept n) w) (format_passes others left (v ∷ stack) (n + length (signed_decimal v)) (prints (signed_decimal v) w))

@@ -1,6 +1,7 @@
 -- Orders that go on with the next one each: how many numbers, references, temporaries and variables there are after them, where each of them has as many as it needs.
 use Rattle.std.proofs.Common.{◌≡◌, ℕ, zero, suc, pred, ◌+◌, ◌-◌, ◌/◌, ◌<◌, ◌≤◌, Bool, true, false, if◌then◌else◌, nat_lt, List, [], ◌∷◌, ◌++◌, length, take, drop, refl, sym, ap, ◌∙◌, subst, arith, pos}
 use Rattle.std.proofs.lemmas.Bool.{ltb-true}
+use Rattle.arc_code.specs.declared.code.TheConstants.{MOST_TEXT}
 use Rattle.arc_ast.specs.declared.tree.Kind.TheVariants as k
 use Rattle.arc_ast.specs.declared.tree.Sign.TheVariants as signs
 use Rattle.arc_spec.specs.declared.location.Location.{Location}
@@ -195,7 +196,7 @@ module _ (P : Program) (r s : ℕ) where
 
     parts_type : (full : ℕ) (bytes : List ℕ) (a : ℕ) → Counts (suc a) (part_orders full bytes) (suc a)
     parts_type zero bytes a = print_one bytes a
-    parts_type (suc full) bytes a = counts_then (suc a) (PrintText (take 16 bytes) ∷ []) (suc a) (part_orders full (drop 16 bytes)) (suc a) (print_one (take 16 bytes) a) (parts_type full (drop 16 bytes) a)
+    parts_type (suc full) bytes a = counts_then (suc a) (PrintText (take MOST_TEXT bytes) ∷ []) (suc a) (part_orders full (drop MOST_TEXT bytes)) (suc a) (print_one (take MOST_TEXT bytes) a) (parts_type full (drop MOST_TEXT bytes) a)
 
     -- the first of the values that aren't printed yet, which lie below the count
     conversion_types : (o : Op) (rest a : ℕ) → rest ≤ a → operation_effect o ≡ on_numbers 2 1 → Reaches o (height (suc (suc a) + r) b c (d + s)) → Counts (suc a) (conversion_orders (Plain o) rest) (suc a)
@@ -204,7 +205,7 @@ module _ (P : Program) (r s : ℕ) where
 
     format_types : (pieces : List Piece) (rest a : ℕ) → rest ≤ a → Counts (suc a) (format_orders pieces rest) (suc a)
     format_types [] rest a le = refl
-    format_types (Bytes bytes ∷ others) rest a le = counts_then (suc a) (piece_orders (Bytes bytes) rest) (suc a) (format_orders others rest) (suc a) (parts_type ((length bytes - 1) / 16) bytes a) (format_types others rest a le)
+    format_types (Bytes bytes ∷ others) rest a le = counts_then (suc a) (piece_orders (Bytes bytes) rest) (suc a) (format_orders others rest) (suc a) (parts_type ((length bytes - 1) / MOST_TEXT) bytes a) (format_types others rest a le)
     format_types (Decimal ∷ others) rest a le =
         counts_then (suc a) (piece_orders Decimal rest) (suc a) (format_orders others (left_after Decimal rest)) (suc a) (conversion_types PrintNum rest a le refl (omega arith)) (format_types others (left_after Decimal rest) a (omega (arith, le, pred_less rest)))
     format_types (Character ∷ others) rest a le =

@@ -17,6 +17,7 @@ use Rattle.arc_spec.specs.declared.class.Gives.{Gives}
 use Rattle.arc_spec.specs.declared.class.Gives.TheVariants as gives
 use Rattle.arc_spec.specs.Classes.{Class, same_gives, new_selector, init_selector}
 use Rattle.arc_spec.specs.Meaning.{function_at, nothing_giving, function_places}
+use Rattle.arc_code.specs.declared.code.TheConstants.{MOST_TEXT}
 use Rattle.arc_code.specs.declared.instr.Op.{Op}
 use Rattle.arc_code.specs.declared.instr.Op.TheVariants.{Num, Bin, Un, Narrow, Pop, Get, Set, PrintNum, PrintByte, GetChar, Declare, Nil, ReadSelf, ReadRef, ReadGlobal, ReadField, Hold, Forget, Alloc, Finds, GetField, SetField, Differ, IsObject}
 use Rattle.arc_code.specs.declared.instr.Op.TheVariants as ops
@@ -35,14 +36,14 @@ abbrev pub conversion_orders : Order → (left : ℕ) → List Order
 conversion_orders print zero = []
 conversion_orders print (suc left) = Plain (Get (suc left)) ∷ print ∷ []
 
--- prints a text: so many parts of 16 bytes each, and then the rest
+-- prints a text: so many parts of as many bytes as one instruction prints at most, and then the rest
 abbrev pub part_orders : (full : ℕ) → (bytes : List ℕ) → List Order
 part_orders zero bytes = PrintText bytes ∷ []
-part_orders (suc full) bytes = PrintText (take 16 bytes) ∷ part_orders full (drop 16 bytes)
+part_orders (suc full) bytes = PrintText (take MOST_TEXT bytes) ∷ part_orders full (drop MOST_TEXT bytes)
 
--- prints a text, at most 16 bytes by each action; an empty text is one action that prints nothing (this project's own choice)
+-- prints a text; an empty text is one action that prints nothing (this project's own choice)
 abbrev pub text_orders : (bytes : List ℕ) → List Order
-text_orders bytes = part_orders ((length bytes - 1) / 16) bytes
+text_orders bytes = part_orders ((length bytes - 1) / MOST_TEXT) bytes
 
 -- prints a piece of a format, where so many values aren't printed yet
 abbrev pub piece_orders : Piece → (left : ℕ) → List Order

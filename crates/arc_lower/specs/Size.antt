@@ -14,6 +14,7 @@ use Rattle.arc_spec.specs.declared.class.Gives.{Gives}
 use Rattle.arc_spec.specs.declared.class.Gives.TheVariants as gives
 use Rattle.arc_spec.specs.Classes.{Class, lookup, lesser, new_selector}
 use Rattle.arc_spec.specs.Meaning.{function_at, function_places}
+use Rattle.arc_code.specs.declared.code.TheConstants.{MOST_TEXT}
 use Rattle.arc_code.specs.Effects.{passes}
 use Rattle.arc_lower.specs.Known.{is_within, combined_kind, known_kind}
 
@@ -60,10 +61,10 @@ object_count no_arguments = 0
 object_count (number_argument a others) = object_count others
 object_count (object_argument a others) = suc (object_count others)
 
--- a format, with so many numbers: a text is printed by parts of at most 16 bytes, an empty one by one action, and a number is copied and printed
+-- a format, with so many numbers: a text is printed by parts of so many bytes at most, an empty one by one action, and a number is copied and printed
 abbrev pub format_size : List Piece → (numbers : ℕ) → ℕ
 format_size [] numbers = 0
-format_size (Bytes bytes ∷ pieces) numbers = suc ((length bytes - 1) / 16) + format_size pieces numbers
+format_size (Bytes bytes ∷ pieces) numbers = suc ((length bytes - 1) / MOST_TEXT) + format_size pieces numbers
 format_size (_ ∷ pieces) zero = format_size pieces zero
 format_size (_ ∷ pieces) (suc n) = 2 + format_size pieces n
 

@@ -11,6 +11,7 @@ use crate::variable::add_operands;
 use arc_family::owned::Owned;
 use arc_ir::action::Ir;
 use arc_spec::event::NoMemory;
+use arc_spec::limits::MOST_LEVELS;
 use std::alloc::Global;
 
 /// The actions of a program, which do what the program means, and which are exactly those that the
@@ -40,16 +41,12 @@ pub fn lower(alloc: Global, program: &Owned) -> Result<Ir, NoMemory>
     })
 }
 
-/// How many calls and ends of objects may run within one another, and the start of the program
-/// below them.
-const LEVELS: usize = 2001;
-
-/// The room of a stack for all that may run within one another, each with at most so many numbers,
+/// The room of a stack for the start of the program and all that may run within one another above it, each with at most so many numbers,
 /// references or places. NoMemory: no stack has so many.
 fn room_for(most: usize) -> Result<usize, NoMemory>
     ensures { IfOk result (λ room. room ≡ room_for most) }
 {
-    match most.checked_mul(LEVELS) {
+    match most.checked_mul(MOST_LEVELS + 1) {
         Some(room) => Ok(room),
         None => Err(NoMemory),
     }

@@ -1,6 +1,7 @@
 //! From a call of `printf`, whose values lie on the stack, to actions.
 ghost use Rattle.std.specs.Prelude.{◌≡◌, ◌≤◌, [], ◌∷◌, ◌++◌, length, pred, OnOk, IfOk};
 ghost use Rattle.arc_checked.specs.Checked as checked;
+ghost use Rattle.arc_code.specs.declared.code.TheConstants.{MOST_TEXT};
 ghost use Rattle.arc_code.specs.declared.instr.Instr.TheVariants.{PrintText};
 ghost use Rattle.arc_lower.specs.Order.{order, orders};
 ghost use Rattle.arc_lower.specs.Lowered.{conversion_orders, text_orders, piece_orders, left_after, format_orders, pop_orders, keep_orders, print_orders};
@@ -8,6 +9,7 @@ ghost use Rattle.arc_lower.specs.Lowered.{conversion_orders, text_orders, piece_
 use crate::expression::append;
 use arc_ast::tree::Kind;
 use arc_checked::program::Piece;
+use arc_code::code::MOST_TEXT;
 use arc_code::instr::{Instr, Op};
 use arc_ir::action::{Action, TextPart};
 use arc_spec::event::NoMemory;
@@ -66,17 +68,14 @@ fn append_piece(
     }
 }
 
-/// How many bytes of a text one action prints at most.
-const PART: usize = 16;
-
-/// Appends the actions that print a text, one for each 16 bytes; an empty text is one action that
+/// Appends the actions that print a text, one for each `MOST_TEXT` bytes; an empty text is one action that
 /// prints nothing.
 fn append_text(alloc: Global, actions: &mut Vec<Action>, bytes: &[u8]) -> Result<(), NoMemory>
     ensures { OnOk result (orders actions.new.items ≡ orders actions.old.items ++ text_orders bytes.now) }
 {
     let mut rest = bytes;
-    while rest.len() > PART {
-        let (part, after) = rest.split_at(PART);
+    while rest.len() > MOST_TEXT {
+        let (part, after) = rest.split_at(MOST_TEXT);
         append_part(alloc, actions, part)?;
         rest = after;
     }
@@ -85,7 +84,7 @@ fn append_text(alloc: Global, actions: &mut Vec<Action>, bytes: &[u8]) -> Result
 
 /// Appends the action that prints a part of a text.
 fn append_part(alloc: Global, actions: &mut Vec<Action>, part: &[u8]) -> Result<(), NoMemory>
-    requires { length part.now ≤ 16 }
+    requires { length part.now ≤ MOST_TEXT }
     ensures { OnOk result (orders actions.new.items ≡ orders actions.old.items ++ PrintText part.now ∷ []) }
 {
     let bytes = Vec::from_slice(alloc, part)?;

@@ -8,5 +8,5 @@ use arc_checked::program::Checked;
 pub struct Context<'p, 'a, 't> {
     pub program: &'p Checked<'a, 't>,
     pub bound: u64,
-    pub levels: u32,
+    pub levels: usize,
 }

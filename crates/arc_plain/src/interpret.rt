@@ -13,6 +13,7 @@ use crate::progress::start;
 use arc_checked::program::Checked;
 use arc_spec::class::Gives;
 use arc_spec::event::{Event, Fault, NoMemory};
+use arc_spec::limits::MOST_LEVELS;
 use arc_spec::number::low_half;
 use std::alloc::Global;
 
@@ -47,7 +48,7 @@ pub fn interpret(
     let context = Context {
         program,
         bound,
-        levels: 2_000,
+        levels: MOST_LEVELS,
     };
     let none = nothing(alloc);
     let left = call(

@@ -10,6 +10,7 @@ use Rattle.arc_ast.specs.declared.tree.Sign.{Sign}
 use Rattle.arc_ast.specs.declared.tree.Sign.TheVariants as signs
 use Rattle.arc_spec.specs.declared.event.Event.TheVariants.{Dealloc}
 use Rattle.arc_spec.specs.declared.event.Fault.TheVariants.{Arithmetic, Unrecognized, NilField, FieldClass, Depth, Resurrected}
+use Rattle.arc_spec.specs.declared.limits.TheConstants.{MOST_LEVELS}
 use Rattle.arc_spec.specs.declared.class.Gives.{Gives}
 use Rattle.arc_spec.specs.declared.class.Gives.TheVariants as gives
 use Rattle.arc_spec.specs.Classes.{Class, superclasses, ancestry, own_dealloc, lookup, or_else, same_gives, new_selector, init_selector, is_root_init, descends, class_at, strong_count, field_order}
@@ -463,7 +464,7 @@ level P bound (suc n) = record {
 
 -- how many calls of functions and methods and ends of objects may run within one another, the call of main being the first (this project's own limit)
 abbrev pub most_levels : ℕ
-most_levels = 2000
+most_levels = MOST_LEVELS
 
 -- the meaning of a program on an input, with a bound on the turns of each loop: main's value, as an int
 abbrev pub mean : Program → List ℕ → (bound : ℕ) → Outcome ℤ

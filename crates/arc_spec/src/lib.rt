@@ -5,6 +5,7 @@ pub mod class;
 pub mod event;
 pub mod family;
 pub mod law;
+pub mod limits;
 pub mod location;
 pub mod number;
 pub mod order;
