@@ -1,6 +1,6 @@
 -- Calls of a device that are made again where they were interrupted, at most 100 of them in a row, so RETRIES after the first.
 -- That as many interruptions in a row are a failure is this project's own choice.
-use Rattle.std.specs.Prelude.{◌≡◌, ◌⊎◌, ℕ, zero, suc, ◌+◌, ◌<◌, List, length, drop, Option, ⊤}
+use Rattle.std.specs.Prelude.{◌≡◌, ◌⊎◌, ℕ, zero, suc, ◌+◌, ◌<◌, ◌≤◌, List, length, drop, Option, ⊤}
 use Rattle.arc_code.specs.declared.counted.TheConstants.{RETRIES}
 use Rattle.arc_code.specs.declared.device.Attempt.{Attempt}
 use Rattle.arc_code.specs.declared.device.Attempt.TheVariants.{Done, Interrupted, Failed}
