@@ -14,9 +14,9 @@ use Rattle.arc_class.specs.ClassRules.{clashing_functions, broken_signatures, br
 use Rattle.arc_class.specs.Fault.{reported, Refuses}
 use Rattle.arc_class.specs.Functions.{duplicates, missing_main}
 use Rattle.arc_class.specs.Kept.{Knows}
-use Rattle.arc_class.specs.Look.{Sums}
+use Rattle.arc_class.specs.private.Look.{Sums}
 use Rattle.arc_class.specs.Table.{class_number_in}
-use Rattle.arc_class.specs.Walk.{Missing, missing_in, missing_of, broken_walked}
+use Rattle.arc_class.specs.private.Walk.{Missing, missing_in, missing_of, broken_walked}
 use Rattle.arc_class.proofs.Firsts.{first_both, none_broken}
 use Rattle.arc_class.proofs.Rules.{class_number_kept}
 use Rattle.arc_class.proofs.Bodies.{bodies_are}

@@ -12,7 +12,7 @@ use Rattle.arc_sites.specs.Violations.{at_if, violates, earlier_of}
 use Rattle.arc_sites.proofs.Firsts.{earlier_of-comm}
 use Rattle.arc_class.specs.Bodies.{is_bound, unknown_class, violations, broken_bodies}
 use Rattle.arc_class.specs.Broken.{Broken, first, broken_if}
-use Rattle.arc_class.specs.Walk.{Missing, missing_of, broken_type, broken_expr, broken_exprs, broken_maybe, broken_variables, broken_stmt, broken_stmts, broken_parameters, broken_body, broken_function, broken_inside, broken_methods, broken_walked, and_name, names_with, names_after, names_taken}
+use Rattle.arc_class.specs.private.Walk.{Missing, missing_of, broken_type, broken_expr, broken_exprs, broken_maybe, broken_variables, broken_stmt, broken_stmts, broken_parameters, broken_body, broken_function, broken_inside, broken_methods, broken_walked, and_name, names_with, names_after, names_taken}
 use Rattle.arc_class.proofs.Firsts.{earlier_of-assoc, earlier_of-none, first-append}
 
 -- the names of a scope

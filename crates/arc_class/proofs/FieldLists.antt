@@ -20,9 +20,9 @@ use Rattle.arc_class.specs.declared.table.Field.{Field}
 use Rattle.arc_class.specs.declared.table.FoundField.{FoundField}
 use Rattle.arc_class.specs.ClassRules.{field_place}
 use Rattle.arc_class.specs.Lookups.{least_among}
-use Rattle.arc_class.specs.Entries.{inherited_place}
+use Rattle.arc_class.specs.private.Entries.{inherited_place}
 use Rattle.arc_class.specs.Classes.{class_number, superclass, superclasses, or_else}
-use Rattle.arc_class.specs.Entries.{FieldsTree, fields_tree, root_fields, class_fields, class_fields_from, class_fields_with, all_class_fields, counted_at, counted_among}
+use Rattle.arc_class.specs.private.Entries.{FieldsTree, fields_tree, root_fields, class_fields, class_fields_from, class_fields_with, all_class_fields, counted_at, counted_among}
 use Rattle.arc_class.specs.Fields.{ClassField, fields_declared, own_fields, owned, if_before, earlier_superclasses_from, earlier_superclasses, own_class_fields, inherited_by, fields, all_fields_from, inherited, kinds_of_fields, written_kinds, field_after, numbered, own_field, known_field}
 use Rattle.arc_class.specs.Sorts.{none_counted, with_one, with_all, counts}
 use Rattle.arc_class.specs.Table.{at_name, own_field_in, own_place_in, superclass_of_fields, field_among, place_among, list_of, list_at, list_among}

@@ -8,7 +8,7 @@ use Rattle.arc_ast.specs.declared.tree.Function.{Function}
 use Rattle.arc_class.specs.declared.look.Seen.{Seen}
 use Rattle.arc_class.specs.declared.table.Declared.{Declared}
 use Rattle.arc_class.specs.Fault.{reported}
-use Rattle.arc_class.specs.Look.{Sums, IsMore, or_number, joined, fault_with}
+use Rattle.arc_class.specs.private.Look.{Sums, IsMore, or_number, joined, fault_with}
 use Rattle.arc_class.specs.Broken.{Broken, first, earlier_of}
 use Rattle.arc_class.specs.Classes.{bodies}
 use Rattle.arc_class.specs.Functions.{duplicate, duplicates, is_library, clashes}

@@ -16,7 +16,7 @@ use Rattle.arc_class.specs.declared.sort_counts.SortCounts.{SortCounts}
 use Rattle.arc_class.specs.declared.table.MethodResult.{MethodResult}
 use Rattle.arc_class.specs.declared.table.Place.{Place}
 use Rattle.arc_class.specs.Classes.{first_head, result_of, own_result, defined_by, class_number, implemented_before, own_heads}
-use Rattle.arc_class.specs.Entries.{EntryTree, entry_tree, root_entry, class_entry}
+use Rattle.arc_class.specs.private.Entries.{EntryTree, entry_tree, root_entry, class_entry}
 use Rattle.arc_class.specs.Fields.{fields_by}
 use Rattle.arc_class.specs.Kept.{head_in}
 use Rattle.arc_class.specs.Running.{methods_from, dealloc_from, implemented, implementation_of, class_with}

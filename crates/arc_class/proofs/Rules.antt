@@ -16,7 +16,7 @@ use Rattle.arc_ast.specs.declared.tree.Sign.{Sign}
 use Rattle.arc_ast.specs.Tree.{FunctionTree, GlobalTree, HeadTree, FieldTree, InterfaceTree, ImplementationTree, UnitTree, head_tree, method_trees, field_trees, interface_tree, interface_trees, implementation_tree, implementation_trees, function_tree, function_trees, global_tree, global_trees, head_trees, parameter_trees, type_tree, result_tree}
 use Rattle.arc_class.specs.declared.kept.Implemented.{Implemented}
 use Rattle.arc_class.specs.declared.table.Place.{Place}
-use Rattle.arc_class.specs.Walk.{and_name}
+use Rattle.arc_class.specs.private.Walk.{and_name}
 use Rattle.arc_class.specs.Broken.{broken_if, Broken, first, earlier_of}
 use Rattle.arc_class.specs.ClassRules.{broken_head, broken_method, broken_methods, broken_field, broken_fields, field_place, broken_interface, broken_interfaces, broken_implementation, broken_implementations, is_implemented, interface_before, clashes_with, clashing_functions, broken_global, broken_globals, broken_signatures}
 use Rattle.arc_class.specs.Bodies.{broken_type, broken_result_type, broken_parameter_types, broken_field_types}

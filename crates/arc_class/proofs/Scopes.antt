@@ -4,7 +4,7 @@ use Rattle.std.proofs.Math.Path.{fun_ext}
 use Rattle.std.specs.Map.{update}
 use Rattle.std.specs.Str.{bytes_eq}
 use Rattle.arc_class.specs.ByName.{Named}
-use Rattle.arc_class.specs.Walk.{and_name, no_name, holds}
+use Rattle.arc_class.specs.private.Walk.{and_name, no_name, holds}
 use Rattle.arc_class.specs.Table.{at_name}
 
 added : (b : Bool) (o : Option (Unit {0})) → is_some (cond b (Some tt) o) ≡ (b || is_some o)

@@ -14,7 +14,7 @@ use Rattle.arc_class.specs.declared.table.Entry.{Entry}
 use Rattle.arc_class.specs.declared.table.MethodResult.{MethodResult}
 use Rattle.arc_class.specs.declared.table.Place.{Place}
 use Rattle.arc_class.specs.Classes.{superclass, own_result, result_in, result_of, built_in_result, built_in_given, counting_result, counting_given, class_of_result, nearest_result, known_result, any_result, superclasses, class_number, or_else, first_head, declared, defined}
-use Rattle.arc_class.specs.Entries.{EntryTree, entry_tree, root_entry, class_entry}
+use Rattle.arc_class.specs.private.Entries.{EntryTree, entry_tree, root_entry, class_entry}
 use Rattle.arc_class.specs.Kept.{head_in, function_kept}
 use Rattle.arc_class.specs.Names.{first_named}
 use Rattle.arc_class.specs.Table.{class_number_in, result_class_in, function_class_in, own_given_in, superclass_of_entry, superclass_in, given_among, result_at, result_in_table, any_result_in}

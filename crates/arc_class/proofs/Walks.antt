@@ -11,7 +11,7 @@ use Rattle.arc_ast.specs.declared.tree.Method.{Method}
 use Rattle.arc_ast.specs.declared.tree.Implementation.{Implementation}
 use Rattle.arc_ast.specs.Tree.{ParameterTree, StmtTrees, expr_tree, expr_trees, stmt_tree, stmt_trees, variable_trees, parameter_trees, parameters_tree, function_tree, function_trees, method_tree, method_trees, implementation_tree, implementation_trees}
 use Rattle.arc_class.specs.Broken.{Broken, first, earlier_of, broken_if}
-use Rattle.arc_class.specs.Walk.{Missing, broken_expr, broken_exprs, broken_maybe, broken_variables, broken_stmt, broken_stmts, broken_parameters, broken_function, no_name, and_name, names_with, names_after, names_taken, broken_body, broken_inside, broken_methods}
+use Rattle.arc_class.specs.private.Walk.{Missing, broken_expr, broken_exprs, broken_maybe, broken_variables, broken_stmt, broken_stmts, broken_parameters, broken_function, no_name, and_name, names_with, names_after, names_taken, broken_body, broken_inside, broken_methods}
 use Rattle.arc_sites.specs.Sites.{named_parameters}
 use Rattle.std.specs.List.{flat_map}
 use Rattle.arc_class.proofs.Firsts.{first_turn, first_both}

@@ -12,9 +12,7 @@ pub mod ByName
 pub mod Lookups
 pub mod Table
 pub mod Fault
-pub mod Look
-pub mod Walk
 pub mod Kept
-pub mod Entries
 pub mod Numbered
 pub mod Owners
+pub mod private

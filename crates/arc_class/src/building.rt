@@ -7,7 +7,7 @@ ghost use Rattle.arc_class.specs.ByName.{Named};
 ghost use Rattle.arc_class.specs.Classes as classes;
 ghost use Rattle.arc_class.specs.Classes.{heads, first_head, with_selectors, defined_selectors, standing_before, standing_after, selectors_in_order, built_in_selectors, selectors, number_among, defined_by, own_heads};
 ghost use Rattle.arc_fault.specs.declared.class.ClassFault.TheVariants.{Memory};
-ghost use Rattle.arc_class.specs.Entries.{entry_tree, root_entry, class_entry, fields_tree, all_class_fields};
+ghost use Rattle.arc_class.specs.private.Entries.{entry_tree, root_entry, class_entry, fields_tree, all_class_fields};
 ghost use Rattle.arc_class.specs.Fields.{all_fields_from};
 ghost use Rattle.arc_class.specs.Kept.{head_in, Knows};
 ghost use Rattle.arc_class.specs.Running as running;

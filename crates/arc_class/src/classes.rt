@@ -6,12 +6,12 @@ ghost use Rattle.arc_class.specs.ClassRules as rules;
 ghost use Rattle.arc_class.specs.ClassRules.{broken_names, broken_members, broken_interfaces, broken_own_names, broken_own_fields, broken_implementation, broken_implementations, clashing_functions, broken_signatures, broken_global, broken_globals};
 ghost use Rattle.arc_class.specs.Classes as classes;
 ghost use Rattle.arc_class.specs.Classes.{interface_number};
-ghost use Rattle.arc_class.specs.Entries.{fields_tree, all_class_fields};
+ghost use Rattle.arc_class.specs.private.Entries.{fields_tree, all_class_fields};
 ghost use Rattle.arc_class.specs.Fault.{reported};
 ghost use Rattle.arc_class.specs.Globals.{variable_before};
 ghost use Rattle.arc_class.specs.Kept.{Knows, place_before};
 ghost use Rattle.arc_class.specs.Owners.{FindsFields};
-ghost use Rattle.arc_class.specs.Walk.{holds};
+ghost use Rattle.arc_class.specs.private.Walk.{holds};
 
 use crate::fault::fault_if;
 use crate::fields::{ClassFields, counted_among, field_places, fields_fault};

@@ -7,7 +7,7 @@ ghost use Rattle.arc_class.specs.Classes.{class_number, or_else};
 ghost use Rattle.arc_class.specs.ClassRules as rules;
 ghost use Rattle.arc_class.specs.ClassRules.{broken_field, broken_fields, broken_pair};
 ghost use Rattle.arc_fault.specs.declared.class.ClassFault.TheVariants.{Memory};
-ghost use Rattle.arc_class.specs.Entries.{own_trees, fields_tree, root_fields, all_class_fields, class_fields_with, counted_among, inherited_place};
+ghost use Rattle.arc_class.specs.private.Entries.{own_trees, fields_tree, root_fields, all_class_fields, class_fields_with, counted_among, inherited_place};
 ghost use Rattle.arc_class.specs.Fault.{reported};
 ghost use Rattle.arc_class.specs.Fields as specs;
 ghost use Rattle.arc_class.specs.Fields.{numbered, field_after, written_kinds, held_by, owned, fields_declared, all_fields_from};

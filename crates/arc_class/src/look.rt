@@ -5,7 +5,7 @@ ghost use Rattle.arc_ast.specs.Tree.{function_tree, function_trees, parameter_tr
 ghost use Rattle.arc_sites.specs.Sites.{named_parameters};
 ghost use Rattle.arc_class.specs.Fault.{reported};
 ghost use Rattle.arc_class.specs.Functions as rules;
-ghost use Rattle.arc_class.specs.Look.{Sums, IsMore, joined, fault_with, main_with};
+ghost use Rattle.arc_class.specs.private.Look.{Sums, IsMore, joined, fault_with, main_with};
 ghost use Rattle.arc_class.specs.Names as names;
 ghost use Rattle.arc_class.specs.Names.{parameter_kinds};
 

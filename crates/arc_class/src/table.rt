@@ -6,7 +6,7 @@ ghost use Rattle.arc_class.specs.Broken.{first};
 ghost use Rattle.arc_class.specs.Classes.{is_root};
 ghost use Rattle.arc_class.specs.ClassRules.{broken};
 ghost use Rattle.arc_fault.specs.declared.class.ClassFault.TheVariants.{Memory};
-ghost use Rattle.arc_class.specs.Entries.{fields_tree, all_class_fields};
+ghost use Rattle.arc_class.specs.private.Entries.{fields_tree, all_class_fields};
 ghost use Rattle.arc_class.specs.Fault.{Refuses, reported};
 ghost use Rattle.arc_class.specs.Functions.{missing_main};
 ghost use Rattle.arc_class.specs.Kept.{Knows};

@@ -3,7 +3,7 @@ ghost use Rattle.std.specs.Prelude.{◌≡◌, ◌++◌, flat_map, IfOk, OnOk, o
 ghost use Rattle.arc_ast.specs.Tree.{type_tree, expr_tree, expr_trees, variable_trees, parameter_trees, parameters_tree, stmt_tree, stmt_trees, function_tree, function_trees, method_trees, implementation_trees, unit_tree};
 ghost use Rattle.arc_sites.specs.Sites as sites;
 ghost use Rattle.arc_class.specs.Broken.{broken_if, first};
-ghost use Rattle.arc_class.specs.Walk.{broken_type, broken_expr, broken_exprs, broken_maybe, broken_variables, broken_stmt, broken_stmts, broken_parameters, broken_function, broken_inside, broken_methods, broken_walked, no_name, and_name, names_with, names_after, names_taken, missing_in, holds};
+ghost use Rattle.arc_class.specs.private.Walk.{broken_type, broken_expr, broken_exprs, broken_maybe, broken_variables, broken_stmt, broken_stmts, broken_parameters, broken_function, broken_inside, broken_methods, broken_walked, no_name, and_name, names_with, names_after, names_taken, missing_in, holds};
 ghost use Rattle.arc_class.specs.Fault.{reported};
 
 use crate::by_name::ByName;

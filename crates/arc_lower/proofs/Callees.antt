@@ -5,7 +5,7 @@ use Rattle.arc_spec.specs.declared.class.Gives.{Gives}
 use Rattle.arc_spec.specs.Classes.{same_gives}
 use Rattle.arc_spec.specs.Resolved.{Function, Program}
 use Rattle.arc_checked.specs.Checked.{functions}
-use Rattle.arc_lower.specs.Definitions.{definition_of, found_at}
+use Rattle.arc_lower.specs.private.Definitions.{definition_of, found_at}
 
 -- the program with these functions
 abbrev pub with_functions : List Function → Program → Program

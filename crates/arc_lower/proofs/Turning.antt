@@ -12,7 +12,7 @@ use Rattle.arc_lower.specs.Lowered.{Block, Quit, Advance, past, flat, all_empty_
 use Rattle.arc_lower.specs.Size.{does_nothing}
 use Rattle.std.proofs.lemmas.List.{append-nil}
 use Rattle.arc_lower.specs.declared.frame.Body.{Body}
-use Rattle.arc_lower.specs.Surroundings.{surroundings, step_begin, step_orders, turn_orders_of, with_turn}
+use Rattle.arc_lower.specs.private.Surroundings.{surroundings, step_begin, step_orders, turn_orders_of, with_turn}
 
 -- the jump that was written first, before some others, is another one
 pub patched : (o1 o2 rest : List Order) (branch : ℕ) (first last : Order) → o2 ≡ o1 ++ first ∷ rest → branch ≡ length o1 → slice_set o2 branch last ≡ o1 ++ last ∷ rest

@@ -2,8 +2,6 @@ pub mod Order
 pub mod Known
 pub mod Size
 pub mod Lowered
-pub mod Surroundings
 pub mod Heights
 pub mod Promise
-pub mod Definitions
-pub mod Entered
+pub mod private

@@ -2,7 +2,7 @@
 ghost use Rattle.std.specs.Prelude.{◌≡◌, ◌<◌, ◌-◌, suc, [], ◌∷◌, ◌++◌, Some, None, option_map, if◌then◌else◌, OnOk, IfOk};
 ghost use Rattle.arc_checked.specs.Checked.{program_of};
 ghost use Rattle.arc_spec.specs.Classes.{lesser, same_gives};
-ghost use Rattle.arc_lower.specs.Definitions.{definition_of, found_at};
+ghost use Rattle.arc_lower.specs.private.Definitions.{definition_of, found_at};
 ghost use Rattle.arc_lower.specs.Order.{orders};
 ghost use Rattle.arc_lower.specs.Lowered.{number_of_nothing, number_of, slots_of, parameters_of, fit_orders, fit_object_orders, passing_orders, call_orders, all_empty_orders, keep_orders, leaving_order};
 

@@ -3,7 +3,7 @@ ghost use Rattle.std.specs.Prelude.{◌≡◌, ◌+◌, ◌++◌, [], ◌∷◌,
 ghost use Rattle.arc_spec.specs.Classes.{classes_of};
 ghost use Rattle.arc_spec.specs.Meaning.{nothing_giving};
 ghost use Rattle.arc_checked.specs.Checked.{program_of};
-ghost use Rattle.arc_lower.specs.Entered.{function_of};
+ghost use Rattle.arc_lower.specs.private.Entered.{function_of};
 ghost use Rattle.arc_lower.specs.Order.{orders};
 ghost use Rattle.arc_lower.specs.Lowered.{own_orders, opening_orders, body_orders, entry_of, function_orders, functions_orders, entries_from, start_orders, end_step_of, all_functions, lowered, entries_of, classes_linked};
 ghost use Rattle.arc_lower.specs.Heights.{raised, start_heights, function_heights, functions_heights, lowered_heights};

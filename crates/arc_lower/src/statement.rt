@@ -8,7 +8,7 @@ ghost use Rattle.arc_ir.specs.declared.action.Target.TheVariants.{At, Skip};
 ghost use Rattle.arc_lower.specs.Order.{order, orders};
 ghost use Rattle.arc_lower.specs.Lowered.{whole_orders, whole_reference_orders, begin_orders, answer_orders, scopes_orders, command_orders, commands_orders};
 ghost use Rattle.arc_lower.specs.Size.{unused, does_nothing};
-ghost use Rattle.arc_lower.specs.Surroundings.{surroundings, step_begin, step_orders, turn_orders_of, with_turn};
+ghost use Rattle.arc_lower.specs.private.Surroundings.{surroundings, step_begin, step_orders, turn_orders_of, with_turn};
 
 use crate::expression::{append, append_reference, append_unused, append_value};
 use crate::frame::{Body, Frame, Scope, Turn};

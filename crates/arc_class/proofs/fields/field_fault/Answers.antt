@@ -5,7 +5,7 @@ use Rattle.arc_class.specs.Classes.{superclasses}
 use Rattle.arc_class.specs.Fields.{own_fields}
 use Rattle.arc_class.specs.Broken.{broken_if, first}
 use Rattle.arc_class.specs.ClassRules.{broken_pair, field_place, is_earlier}
-use Rattle.arc_class.specs.Entries.{inherited_place}
+use Rattle.arc_class.specs.private.Entries.{inherited_place}
 use Rattle.arc_class.specs.Table.{at_name}
 use Rattle.arc_class.proofs.Firsts.{first_both}
 use Rattle.arc_class.proofs.Leasts.{pairs_least}

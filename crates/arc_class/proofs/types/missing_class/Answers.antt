@@ -1,7 +1,7 @@
 use Rattle.std.proofs.Common.{ap, ◌∙◌}
 use Rattle.arc_ast.specs.Tree.{type_tree, unit_tree}
 use Rattle.arc_class.specs.Broken.{first}
-use Rattle.arc_class.specs.Walk.{broken_type}
+use Rattle.arc_class.specs.private.Walk.{broken_type}
 use Rattle.arc_class.proofs.Answering.{missing_kept}
 use Rattle.arc_class.proofs.Bodies.{type_is}
 use Rattle.arc_class.proofs.types.missing_class.Goals as goal

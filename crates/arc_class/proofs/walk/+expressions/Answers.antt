@@ -1,7 +1,7 @@
 use Rattle.std.proofs.Common.{◌≡◌, ◌∙◌, ◌++◌, option_map}
 use Rattle.arc_ast.specs.Tree.{type_tree, expr_tree}
 use Rattle.arc_class.specs.Broken.{first}
-use Rattle.arc_class.specs.Walk.{broken_type, broken_expr, missing_in}
+use Rattle.arc_class.specs.private.Walk.{broken_type, broken_expr, missing_in}
 use Rattle.arc_class.specs.Fault.{reported}
 use Rattle.arc_class.proofs.Firsts.{first_both}
 use Rattle.arc_class.proofs.Walks.{expressions_turn, call_is, send_is, send_super_is}

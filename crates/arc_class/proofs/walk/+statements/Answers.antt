@@ -1,7 +1,7 @@
 use Rattle.std.proofs.Common.{◌≡◌, ◌++◌, option_map, subst, Option, IfOk}
 use Rattle.arc_ast.specs.Tree.{stmt_tree, expr_tree}
 use Rattle.arc_class.specs.Broken.{Broken, first}
-use Rattle.arc_class.specs.Walk.{broken_expr, broken_maybe, broken_stmt, no_name, missing_in, holds}
+use Rattle.arc_class.specs.private.Walk.{broken_expr, broken_maybe, broken_stmt, no_name, missing_in, holds}
 use Rattle.arc_class.specs.Fault.{reported}
 use Rattle.arc_class.proofs.Firsts.{first_both}
 use Rattle.arc_class.proofs.Scopes.{holds-none}

@@ -1,7 +1,7 @@
 use Rattle.std.proofs.Common.{◌≡◌, Option, option_map, subst, sym, IfOk}
 use Rattle.arc_class.specs.Broken.{Broken}
 use Rattle.arc_class.specs.Fault.{reported}
-use Rattle.arc_class.specs.Walk.{missing_in}
+use Rattle.arc_class.specs.private.Walk.{missing_in}
 use Rattle.arc_class.proofs.Walks.{function_is}
 use Rattle.arc_class.proofs.walk.function.Goals as goal
 

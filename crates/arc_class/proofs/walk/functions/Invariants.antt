@@ -2,7 +2,7 @@ use Rattle.std.proofs.Common.{◌≡◌, option_map, drop}
 use Rattle.arc_ast.specs.Tree.{function_trees}
 use Rattle.arc_class.specs.Broken.{first, earlier_of}
 use Rattle.arc_class.specs.Fault.{reported}
-use Rattle.arc_class.specs.Walk.{missing_in, broken_function}
+use Rattle.arc_class.specs.private.Walk.{missing_in, broken_function}
 use Rattle.std.specs.List.{flat_map}
 use Rattle.arc_class.proofs.walk.functions.Given as goal
 

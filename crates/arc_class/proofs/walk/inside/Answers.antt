@@ -1,7 +1,7 @@
 use Rattle.std.proofs.Common.{option_map}
 use Rattle.arc_ast.specs.Tree.{parameter_trees, stmt_trees}
 use Rattle.arc_class.specs.Fault.{reported}
-use Rattle.arc_class.specs.Walk.{missing_in, holds}
+use Rattle.arc_class.specs.private.Walk.{missing_in, holds}
 use Rattle.arc_class.proofs.Scopes.{holds-none}
 use Rattle.arc_class.proofs.Walks.{inside_is}
 use Rattle.arc_class.proofs.walk.inside.Goals as goal

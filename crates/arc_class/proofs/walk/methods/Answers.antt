@@ -1,6 +1,6 @@
 use Rattle.std.proofs.Common.{option_map, ◌∙◌}
 use Rattle.arc_class.specs.Fault.{reported}
-use Rattle.arc_class.specs.Walk.{missing_in}
+use Rattle.arc_class.specs.private.Walk.{missing_in}
 use Rattle.arc_class.proofs.Walks.{methods_turn, inside_method}
 use Rattle.arc_class.proofs.walk.methods.Goals as goal
 

@@ -3,7 +3,7 @@ use Rattle.std.specs.List.{flat_map}
 use Rattle.arc_ast.specs.Tree.{method_trees}
 use Rattle.arc_class.specs.Broken.{first, earlier_of}
 use Rattle.arc_class.specs.Fault.{reported}
-use Rattle.arc_class.specs.Walk.{missing_in, broken_inside}
+use Rattle.arc_class.specs.private.Walk.{missing_in, broken_inside}
 use Rattle.arc_class.proofs.walk.methods.Given as goal
 
 -- what is reported so far and what is reported of the rest is reported of all

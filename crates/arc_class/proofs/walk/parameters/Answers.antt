@@ -1,6 +1,6 @@
 use Rattle.std.proofs.Common.{◌≡◌, ap, ◌∙◌, option_map}
 use Rattle.arc_class.specs.Broken.{first, broken_if}
-use Rattle.arc_class.specs.Walk.{and_name, holds}
+use Rattle.arc_class.specs.private.Walk.{and_name, holds}
 use Rattle.arc_class.specs.Fault.{reported}
 use Rattle.arc_class.proofs.Walks.{parameters_turn, taken_turn}
 use Rattle.arc_class.proofs.walk.parameters.Goals as goal

@@ -1,7 +1,7 @@
 use Rattle.std.proofs.Common.{◌≡◌, option_map, drop}
 use Rattle.arc_ast.specs.Tree.{parameter_trees}
 use Rattle.arc_class.specs.Broken.{first, earlier_of}
-use Rattle.arc_class.specs.Walk.{broken_parameters, names_taken, holds}
+use Rattle.arc_class.specs.private.Walk.{broken_parameters, names_taken, holds}
 use Rattle.arc_class.specs.Fault.{reported}
 use Rattle.arc_class.proofs.walk.parameters.Given as goal
 

@@ -1,7 +1,7 @@
 use Rattle.std.proofs.Common.{◌≡◌, option_map, drop}
 use Rattle.arc_ast.specs.Tree.{variable_trees}
 use Rattle.arc_class.specs.Broken.{first, earlier_of}
-use Rattle.arc_class.specs.Walk.{broken_variables, names_with, missing_in, holds}
+use Rattle.arc_class.specs.private.Walk.{broken_variables, names_with, missing_in, holds}
 use Rattle.arc_class.specs.Fault.{reported}
 use Rattle.arc_class.proofs.walk.variables.Given as goal
 

@@ -2,7 +2,7 @@ use Rattle.std.proofs.Common.{ap, ◌∙◌}
 use Rattle.std.specs.List.{flat_map}
 use Rattle.arc_ast.specs.Tree.{function_trees, implementation_trees}
 use Rattle.arc_class.specs.Broken.{first}
-use Rattle.arc_class.specs.Walk.{missing_in, broken_function, broken_methods}
+use Rattle.arc_class.specs.private.Walk.{missing_in, broken_function, broken_methods}
 use Rattle.arc_class.proofs.Firsts.{first_both}
 use Rattle.arc_class.proofs.walk.walk.Goals as goal
 

@@ -3,7 +3,7 @@ use Rattle.std.proofs.lemmas.Bool.{ltb-true, ltb-false}
 use Rattle.arc_checked.specs.declared.program.CheckedFunction.{CheckedFunction}
 use Rattle.arc_spec.specs.Classes.{same_gives}
 use Rattle.arc_checked.specs.Checked.{functions, program_of}
-use Rattle.arc_lower.specs.Definitions.{definition_of, found_at}
+use Rattle.arc_lower.specs.private.Definitions.{definition_of, found_at}
 use Rattle.arc_lower.proofs.Callees.{with_functions, found_there, found_nowhere}
 use Rattle.arc_lower.proofs.call.function_giving.Goals as goal
 

@@ -6,7 +6,7 @@ use Rattle.arc_ir.specs.declared.action.Target.TheVariants.{Skip}
 use Rattle.arc_checked.specs.Checked.{value, command, program_of}
 use Rattle.arc_lower.specs.Order.{order, orders}
 use Rattle.arc_lower.specs.Lowered.{whole_orders, command_orders}
-use Rattle.arc_lower.specs.Surroundings.{surroundings}
+use Rattle.arc_lower.specs.private.Surroundings.{surroundings}
 use Rattle.arc_checked.proofs.Trees.{sequence_command}
 use Rattle.arc_lower.proofs.Turning.{patch_fork, choice_written, repeat_written, repeat_after_written, step_written}
 use Rattle.arc_lower.proofs.statement.+statement.Goals as goal

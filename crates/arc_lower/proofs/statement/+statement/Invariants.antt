@@ -2,7 +2,7 @@ use Rattle.std.proofs.Common.{◌≡◌, ◌++◌, length, drop}
 use Rattle.arc_checked.specs.Checked.{commands, program_of}
 use Rattle.arc_lower.specs.Order.{orders}
 use Rattle.arc_lower.specs.Lowered.{commands_orders}
-use Rattle.arc_lower.specs.Surroundings.{surroundings}
+use Rattle.arc_lower.specs.private.Surroundings.{surroundings}
 use Rattle.arc_lower.proofs.statement.+statement.Given as goal
 
 abbrev pub invariant-append_commands-loop-statement : goal.invariant-append_commands-loop-statement

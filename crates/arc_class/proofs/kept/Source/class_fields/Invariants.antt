@@ -1,6 +1,6 @@
 use Rattle.std.proofs.Common.{◌≡◌, ◌+◌, ◌++◌, length, map, drop}
 use Rattle.arc_ast.specs.Tree.{unit_tree, interface_trees}
-use Rattle.arc_class.specs.Entries.{fields_tree, all_class_fields, class_fields_from}
+use Rattle.arc_class.specs.private.Entries.{fields_tree, all_class_fields, class_fields_from}
 use Rattle.arc_class.proofs.kept.Source.class_fields.Given as goal
 
 -- those so far with the rest are all

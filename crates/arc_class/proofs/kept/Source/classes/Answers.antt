@@ -1,7 +1,7 @@
 use Rattle.std.proofs.Common.{◌≡◌, ◌<◌, ◌≤◌, ◌+◌, ◌++◌, Some, suc, length, map, get_or, drop, subst, ap, ◌∙◌, arith}
 use Rattle.arc_ast.specs.Tree.{unit_tree, interface_tree, interface_trees}
 use Rattle.arc_spec.specs.Classes.{class_of}
-use Rattle.arc_class.specs.Entries.{counted_among}
+use Rattle.arc_class.specs.private.Entries.{counted_among}
 use Rattle.arc_class.specs.Fields.{fields, kinds_of_fields}
 use Rattle.arc_class.specs.Sorts.{counts}
 use Rattle.arc_class.specs.Running as running

@@ -1,6 +1,6 @@
 use Rattle.std.proofs.Common.{◌≡◌, ◌<◌, ◌+◌, ◌++◌, ◌∷◌, [], length, map, get_or, drop, subst, sym, ap, ◌∙◌}
 use Rattle.arc_ast.specs.Tree.{unit_tree, interface_tree, interface_trees}
-use Rattle.arc_class.specs.Entries.{entry_tree, root_entry, class_entry}
+use Rattle.arc_class.specs.private.Entries.{entry_tree, root_entry, class_entry}
 use Rattle.arc_class.proofs.Lists.{drop_turn}
 use Rattle.arc_class.proofs.Parts.{made_turn}
 use Rattle.arc_class.proofs.kept.Source.entries.Goals as goal

@@ -1,6 +1,6 @@
 use Rattle.std.proofs.Common.{◌≡◌, ◌++◌, ◌∷◌, map, drop}
 use Rattle.arc_ast.specs.Tree.{unit_tree, interface_trees}
-use Rattle.arc_class.specs.Entries.{entry_tree, root_entry, class_entry}
+use Rattle.arc_class.specs.private.Entries.{entry_tree, root_entry, class_entry}
 use Rattle.arc_class.proofs.kept.Source.entries.Given as goal
 
 -- those so far with the rest are all

@@ -1,6 +1,6 @@
 use Rattle.std.proofs.Common.{◌≡◌, ◌<◌, ◌+◌, suc, length, get_or, take, option_map, subst, ap, ◌∙◌, arith}
 use Rattle.arc_ast.specs.Tree.{unit_tree, interface_tree, interface_trees}
-use Rattle.arc_class.specs.Walk.{and_name, holds}
+use Rattle.arc_class.specs.private.Walk.{and_name, holds}
 use Rattle.arc_class.specs.Broken.{first}
 use Rattle.arc_class.specs.ClassRules.{broken_names, broken_members, broken_interface}
 use Rattle.arc_class.specs.Fault.{reported}

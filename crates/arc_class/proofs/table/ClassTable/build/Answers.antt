@@ -5,7 +5,7 @@ use Rattle.arc_class.specs.declared.fields.ClassFields.{ClassFields}
 use Rattle.arc_class.specs.Broken.{first}
 use Rattle.arc_class.specs.ClassRules.{broken}
 use Rattle.arc_class.specs.Fault.{reported}
-use Rattle.arc_class.specs.Look.{Sums}
+use Rattle.arc_class.specs.private.Look.{Sums}
 use Rattle.arc_class.specs.Names.{number_of, is_main}
 use Rattle.arc_class.specs.Owners.{FindsFields}
 use Rattle.arc_class.specs.Table.{IsTableOf}
