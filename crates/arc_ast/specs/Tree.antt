@@ -46,9 +46,8 @@ pub data ResultTree : Type 0 where
   Related : ResultTree
 
 mutual
-  -- An expression, with the place of its first byte (C99, section 6.5). An integer has its value, and whether it is written with a suffix. An assignment and
-  -- an update have the place of their operator too, a field that of its name, and a message that of its selector's first part, and to `super` that of `super`; a
-  -- selector is written with all its colons. `++` and `--` are updates by 1 (sections 6.5.2.4 and 6.5.3.1), of which the former kind gives what was before.
+  -- An expression, with the place of its first byte (C99, section 6.5). An integer has its value, and whether it is written with a suffix. The places of operators (`sign`),
+  -- of fields' names, of selectors' first parts and of `super` are named; a selector is written with all its colons. `++` and `--` are updates by 1 (sections 6.5.2.4 and 6.5.3.1), of which the former kind gives what was before.
   pub data ExprTree : Type 0 where
     Integer : ℕ → ℤ → Bool → ExprTree
     Text : ℕ → List ℕ → ExprTree
@@ -61,11 +60,11 @@ mutual
     Cast : ℕ → TypeTree → ExprTree → ExprTree
     Binary : ℕ → BinaryOperator → ExprTree → ExprTree → ExprTree
     Conditional : ℕ → ExprTree → ExprTree → ExprTree → ExprTree
-    Arrow : ℕ → ℕ → ExprTree → List ℕ → ExprTree
-    Assign : ℕ → ℕ → ExprTree → ExprTree → ExprTree
-    Update : ℕ → ℕ → Moment → BinaryOperator → ExprTree → ExprTree → ExprTree
-    Send : ℕ → ℕ → ExprTree → List ℕ → ExprTrees → ExprTree
-    SendSuper : ℕ → ℕ → ℕ → List ℕ → ExprTrees → ExprTree
+    Arrow : (at name_at : ℕ) → ExprTree → List ℕ → ExprTree
+    Assign : (at sign : ℕ) → ExprTree → ExprTree → ExprTree
+    Update : (at sign : ℕ) → Moment → BinaryOperator → ExprTree → ExprTree → ExprTree
+    Send : (at part : ℕ) → ExprTree → List ℕ → ExprTrees → ExprTree
+    SendSuper : (at part super_at : ℕ) → List ℕ → ExprTrees → ExprTree
 
   pub data ExprTrees : Type 0 where
     no_exprs : ExprTrees

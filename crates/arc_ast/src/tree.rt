@@ -29,7 +29,7 @@ pub enum Qualifiers {
     Several,
 }
 
-/// An operator between two operands (C99, sections 6.5.5 to 6.5.12).
+/// An operator between two operands (C99, sections 6.5.5 to 6.5.14).
 #[derive(Clone, Copy, Debug, PartialEq, Eq)]
 pub enum BinaryOperator {
     Add,

@@ -19,6 +19,7 @@ pub const MOST_INSTRS: usize = 16_777_216;
 
 /// The code of a program. Each action is the instruction with the same number, so functions, methods
 /// and the ends of objects go on at the same numbers, and a jump names the one where it goes on. The texts stand one after another.
+/// The table isn't used yet: the actions name all that the code does.
 /// TooLarge: there would be over 16,777,216 instructions. Memory: memory was refused.
 pub fn emit(alloc: Global, ir: &Ir, _table: &ClassTable) -> Result<Code, EmitFault>
     requires { acting.IsSound (acting.program_of ir.now) }

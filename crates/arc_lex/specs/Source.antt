@@ -18,7 +18,7 @@ use Rattle.arc_lex.specs.Tokens.{Sort, Name, Integer, Text, Key, At, Sign, Tok}
 abbrev pub IsWordLike : List ℕ → Type 0
 IsWordLike xs = (b : ℕ) × (bs : List ℕ) × (xs ≡ b ∷ bs) × (has c.Letter b ≡ true) × (all_in c.InName bs ≡ true)
 
--- a digit, and letters, `_` and digits after it
+-- a digit, and letters, `_` and digits after it (C99, section 6.4.8, without points and signs)
 abbrev pub IsNumberLike : List ℕ → Type 0
 IsNumberLike xs = (begins c.Digit xs ≡ true) × (all_in c.InName xs ≡ true)
 
@@ -60,7 +60,7 @@ abbrev pub to_close : Bool → List ℕ → Option ℕ
 to_close star [] = None
 to_close star (b ∷ bs) = if star && nat_eq b 47 then Some 1 else one_more (to_close (nat_eq b 42) bs)
 
--- `//`, and all up to the end of the line
+-- `//`, and all up to the end of the line; a backslash there doesn't join the next line to it (C99, section 5.1.1.2, does)
 abbrev pub IsLineComment : List ℕ → List ℕ → Type 0
 IsLineComment xs rest = (body : List ℕ) × (xs ≡ 47 ∷ 47 ∷ body) × (all_in c.InLine body ≡ true) × (begins c.InLine rest ≡ false)
 
@@ -78,7 +78,7 @@ is_skipped bytes =
     starts_with nat_eq (after_run c.Space bytes) (codes "import") || (starts_with nat_eq (after_run c.Space bytes) (codes "include")
     || (starts_with nat_eq (after_run c.Space bytes) (codes "pragma") && is_mark (drop 6 (after_run c.Space bytes))))
 
--- the line of such a `#`, with only blanks in front of it on its line (this project has no preprocessor)
+-- the line of such a `#`, with only blanks in front of it on its line, in which no comment begins (this project has no preprocessor)
 abbrev pub IsSkippedLine : Bool → List ℕ → List ℕ → Type 0
 IsSkippedLine starts xs rest =
     (body : List ℕ) × (xs ≡ 35 ∷ body) × ((starts && is_skipped (body ++ rest)) ≡ true) × (all_in c.InLine body ≡ true) × (begins c.InLine rest ≡ false)

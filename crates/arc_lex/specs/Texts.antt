@@ -37,7 +37,7 @@ abbrev pub is_plain : ℕ → ℕ → Bool
 is_plain quote b = ((nat_le 32 b && nat_le b 126) && (not (nat_eq b quote) && not (nat_eq b 92))) || (nat_eq quote 34 && (nat_eq b 9 || nat_le 128 b))
 
 -- the byte that a backslash and this byte stand for: newline, tab, carriage return, 0, backslash, `'` and `"` (C99, section 6.4.4.4, of
--- whose escapes this project has these)
+-- whose escapes this project has these; `\0` is a whole one, and digits after it stand for themselves)
 abbrev pub escape_value : ℕ → Option ℕ
 escape_value b =
     if nat_eq b 110 then Some 10

@@ -1,4 +1,5 @@
--- What a format of printf says (C99, section 7.19.6.1), without flags, widths and precisions.
+-- What a format of printf says (C99, section 7.19.6.1), without flags, widths and precisions. All bytes of the text count, also those after a byte 0, where C99 ends
+-- the format (this project's own choice).
 use Rattle.std.specs.Prelude.{ℕ, Bool, true, false, ◌||◌, ◌&&◌, ◌==◌, List, [], ◌∷◌, Option, if◌then◌else◌}
 use Rattle.std.specs.Option.{option_map_or}
 use Rattle.arc_ast.specs.declared.tree.Kind.{Kind}

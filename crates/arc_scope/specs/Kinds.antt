@@ -8,7 +8,8 @@ use Rattle.arc_ast.specs.declared.tree.OperatorSort.TheVariants.{Arithmetic, Shi
 use Rattle.arc_spec.specs.Families as families
 use Rattle.arc_scope.specs.declared.kind.TheConstants.{LARGEST_INT}
 
--- an integer without a suffix is an int, where an int can hold it, and any other a long (C99, section 6.4.4.1; there are no unsigned kinds)
+-- an integer without a suffix is an int, where an int can hold it, and any other a long (C99, section 6.4.4.1, which has unsigned ints for hexadecimal
+-- ones from 0x80000000 to 0xFFFFFFFF; that there are no unsigned kinds is this project's own choice)
 abbrev pub literal_kind : ℤ → Bool → Kind
 literal_kind n suffixed = if int_le n LARGEST_INT && not suffixed then k.Int else k.Long
 

@@ -27,20 +27,24 @@ use Rattle.arc_scope.specs.declared.scope.TheConstants.{MOST_VARIABLES}
 use Rattle.arc_scope.specs.declared.callee.Callee.{Callee}
 use Rattle.arc_scope.specs.declared.callee.Callee.TheVariants.{Printf, GetChar, Defined, Unknown}
 
--- What is known of a source's names: its functions, its global variables, the kinds of the functions' parameters and of those of its methods, the numbers of its classes, their superclasses, which class comes from which, the classes of what its functions give, what the method gives that is
--- known for a message of a sign to a class, and to objects of any class, the numbers of its selectors, and the fields that the objects of a class have.
+-- What is known of a source's names.
 pub record Known : Type 0 where
   pub function : List ℕ → Option Declared
   pub global : List ℕ → Option Variable
+  -- the kinds of the parameters of the functions of a name, and of the methods of a sign with a selector
   pub parameters : List ℕ → List Kind
   pub passed : Sign → List ℕ → List Kind
+  -- the numbers of classes, and whether a class is another or comes from it
   pub class : List ℕ → Option ℕ
   pub superclass : ℕ → Option ℕ
   pub descends : Option ℕ → ℕ → Bool
+  -- the class of what a function gives
   pub function_class : List ℕ → Option ℕ
+  -- what the method gives that is known for a message of a sign to a class, and to objects of any class
   pub result : Option ℕ → Sign → List ℕ → Option MethodResult
   pub result_of_any : List ℕ → Option Kind
   pub selector : List ℕ → Option ℕ
+  -- the field that a name means in the objects of a class
   pub field : Option ℕ → List ℕ → Option FoundField
 
 -- A variable, by where it is: one that holds a number of a kind, or one that names objects, with its static class, of which `id` has none (OPL, "Static Typing").

@@ -229,7 +229,7 @@ abbrev pub chosen : {A : Type 0} → Bool → A → A → A
 chosen true a b = b
 chosen false a b = a
 
--- Evaluation goes from left to right. printf evaluates all values, then writes the bytes, and gives their number. The value of an assignment is its right side (C99, section 6.5.16).
+-- Evaluation goes from left to right. printf evaluates all values, then writes the bytes, and gives their number. An assignment gives what its left side holds then, which is its right side, converted before (C99, section 6.5.16).
 -- A message evaluates its receiver and then its arguments; one to `super` goes to `self`, in a class method the first variable (OPL, "Messages to self and super").
 -- Each object that a variable, `self`, a field, an assignment or a message gives is taken by a temporary (this project's own choice, stronger than ARC). A field's object is
 -- evaluated before what is assigned to it, and once where it is updated, after which its number is read, then the right side evaluated, and then the new number

@@ -28,7 +28,7 @@ abbrev pub only_if : {S : Type 0} → Bool → Next S → Next S
 only_if true next = next
 only_if false next = Stuck
 
--- where a run is, with the input that is left and the events so far
+-- where a run is, with the input that is left and the events so far; it is wedged where its state was stuck
 pub data Reached (S : Type 0) : Type 0 where
   Running : S → (input : List ℕ) → (trace : List Event) → Reached S
   Ended : ℤ → (input : List ℕ) → (trace : List Event) → Reached S

@@ -23,11 +23,11 @@ pub struct Words {
     pub command: Command,
     /// The path of the source.
     pub file: String,
-    /// The words of 64 bits that the heap has.
+    /// The words of 64 bits that the heap has. Not used yet.
     pub heap: usize,
     /// The most steps that a run makes.
     pub steps: u64,
-    /// Whether holds that aren't needed are kept.
+    /// Whether holds that aren't needed are kept. Not used yet: all are.
     pub keep_holds: bool,
 }
 
