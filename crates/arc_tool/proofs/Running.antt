@@ -1,5 +1,5 @@
 -- What a run of compiled code shows, and that it is what the source means.
-use Rattle.std.proofs.Common.{◌≡◌, ℕ, suc, ◌⊎◌, ◌+◌, ◌-◌, ◌^◌, ◌<◌, ◌≤◌, ℤ, true, List, [], ◌∷◌, ◌++◌, Option, Some, None, Result, Ok, Err, refl, sym, ap, ◌∙◌, subst, append_assoc, ⊎_elim, arith}
+use Rattle.std.proofs.Common.{◌≡◌, ℕ, suc, ◌⊎◌, ◌+◌, ◌-◌, ◌^◌, ◌<◌, ◌≤◌, ℤ, true, List, [], ◌∷◌, ◌++◌, Option, Some, None, Result, Ok, Err, refl, sym, ap, ◌∙◌, subst, append_assoc, ⊎_elim, arith, inl, inr}
 use Rattle.std.specs.Prelude.{slice_get}
 use Rattle.std.proofs.lemmas.List.{append-nil}
 use Rattle.std.specs.Io.KnownBytes.{Appends, Consumes, Keeps}
@@ -119,11 +119,11 @@ module _ (p : Program) (steps made : ℕ) (within : made ≤ steps) (in0 in1 out
       let now : (seen p input made).trace ≡ trace = ap (λ r. (run_seen r).trace) (run rest l) ∙ reached_trace a s rest trace in
       let same : bytes_of (seen p input made).trace ≡ bytes_of trace = ap bytes_of now in
       let next = starts_so (seen p input made).trace (seen p input (suc made)).trace (grown input) in
-      (([], sym same ∙ sym (append-nil (bytes_of (seen p input made).trace))), starts_along (bytes_of (seen p input made).trace) (bytes_of trace) (bytes_of (seen p input (suc made)).trace) same next))
+      (([], sym same ∙ sym (append-nil (bytes_of (seen p input made).trace))), starts_along (bytes_of (seen p input made).trace) (bytes_of trace) (bytes_of (seen p input (suc made)).trace) same next, inr (sym same)))
 
   -- a step was stopped that had given some of its events
-  part_written : (a : Answer) → Runs_to a → is_stopped a ≡ true → Writes true (step p s) trace given out0 out1 → RanCode p steps (Err Write) in0 in1 out0 out2
-  part_written a run held (others, split, writes) = ran a run (Err Write) (bytes_of (trace ++ given)) writes (λ rest l.
+  part_written : (a : Answer) → Runs_to a → is_stopped a ≡ true → made < steps → Writes true (step p s) trace given out0 out1 → RanCode p steps (Err Write) in0 in1 out0 out2
+  part_written a run held fewer (others, split, writes) = ran a run (Err Write) (bytes_of (trace ++ given)) writes (λ rest l.
       let input = taken ++ rest in
       let here = run rest l ∙ stands a s rest trace held in
       let now : bytes_of (seen p input made).trace ≡ bytes_of trace = ap (λ r. bytes_of (run_seen r).trace) here in
@@ -131,7 +131,7 @@ module _ (p : Program) (steps made : ℕ) (within : made ≤ steps) (in0 in1 out
       ap (λ r. bytes_of (run_seen (further (step p) r)).trace) here ∙ follow_bytes (step p s) rest trace in
       let both = bytes_of-append trace given in
       let all = ap (λ es. bytes_of trace ++ bytes_of es) split ∙ ap (λ t. bytes_of trace ++ t) (bytes_of-append given others) ∙ sym (append_assoc (bytes_of trace) (bytes_of given) (bytes_of others)) in
-      ((bytes_of given, both ∙ ap (λ t. t ++ bytes_of given) (sym now)), (bytes_of others, next ∙ all ∙ ap (λ t. t ++ bytes_of others) (sym both))))
+      ((bytes_of given, both ∙ ap (λ t. t ++ bytes_of given) (sym now)), (bytes_of others, next ∙ all ∙ ap (λ t. t ++ bytes_of others) (sym both)), inl fewer))
     where
       stands : (a : Answer) (s : State) (i : List ℕ) (t : List Event) → is_stopped a ≡ true → reached a s i t ≡ Running s i t
       stands answer.Going s i t held = absurd (cc)
@@ -165,12 +165,12 @@ module _ (p : Program) (steps made : ℕ) (within : made ≤ steps) (in0 in1 out
       (λ rest l. (ap (λ r. bytes_of (run_seen r).trace) (run rest l), subst (MakesObject p) (sym (run rest l)) stood.0, stood.1)))
 
   -- the writer failed, in the run or after it
-  pub unwritten : (a : Answer) → Runs_to a → Writes (is_stopped a) (step p s) trace given out0 out1 → RanCode p steps (Err Write) in0 in1 out0 out2
-  unwritten answer.Going run writes = all_written answer.Going run writes
-  unwritten (answer.Ended n) run writes = all_written (answer.Ended n) run writes
-  unwritten (answer.Faulted g) run writes = all_written (answer.Faulted g) run writes
-  unwritten answer.NoHeap run writes = part_written answer.NoHeap run refl writes
-  unwritten (answer.Broken g) run writes = part_written (answer.Broken g) run refl writes
+  pub unwritten : (a : Answer) → Runs_to a → (is_stopped a ≡ true → made < steps) → Writes (is_stopped a) (step p s) trace given out0 out1 → RanCode p steps (Err Write) in0 in1 out0 out2
+  unwritten answer.Going run held writes = all_written answer.Going run writes
+  unwritten (answer.Ended n) run held writes = all_written (answer.Ended n) run writes
+  unwritten (answer.Faulted g) run held writes = all_written (answer.Faulted g) run writes
+  unwritten answer.NoHeap run held writes = part_written answer.NoHeap run refl (held refl) writes
+  unwritten (answer.Broken g) run held writes = part_written (answer.Broken g) run refl (held refl) writes
 
   -- the reader failed
   pub unread_at : Runs_to (answer.Broken Read) → Writes true (step p s) trace given out0 out1 → IsAsking (step p s) → made < steps → RanCode p steps (Err Read) in0 in1 out0 out2
@@ -203,10 +203,12 @@ module _ {S : Type 0} (out : S → Blocks) (stock : S → Option Stock) (refuses
       let within : runs.0 ≤ steps = runs.3 in
       ⊎_elim (λ e. omega (arith, e, none, made, within, limit)) (λ e. omega (arith, e, none, made, within, limit)) (used on)
 
+  fewer : is_stopped new.answer ≡ true → runs.0 < steps
+  fewer stopped = let made : new.steps ≡ 0 + runs.0 = runs.4.steps in omega (arith, held going stopped, none, made)
+
   no_room_at : new.answer ≡ answer.NoHeap → (slice_get p.instrs runs.4.state.at ≡ Some (Plain Alloc)) × (runs.0 < steps)
   no_room_at full =
-      let made : new.steps ≡ 0 + runs.0 = runs.4.steps in
-      (makes_so out p new runs.4.state runs.4.program runs.4.stands (lacking going full).op, omega (arith, held going (ap is_stopped full), none, made))
+      (makes_so out p new runs.4.state runs.4.program runs.4.stands (lacking going full).op, fewer (ap is_stopped full))
 
   for_machine : (a : Result Stop IoFault) → RanCode p steps a in0 in1 out0 out2 → RanCode old.program steps a in0 in1 out0 out2
   for_machine a run = subst (λ q. RanCode q steps a in0 in1 out0 out2) (sym (ap (λ (m : Seen S). m.program) first)) run
@@ -216,16 +218,14 @@ module _ {S : Type 0} (out : S → Blocks) (stock : S → Option Stock) (refuses
 
   pub machine_unwritten : (f : IoFault) → f ≡ Write → RanCode old.program steps (Err f) in0 in1 out0 out2
   machine_unwritten f is = subst (λ f. RanCode old.program steps (Err f) in0 in1 out0 out2) (sym is)
-      (for_machine (Err Write) (unwritten p steps runs.0 runs.3 in0 in1 out0 out1 out2 runs.1 runs.2 new.events runs.4.state runs.4.reads kept new.answer runs.4.run wrote))
+      (for_machine (Err Write) (unwritten p steps runs.0 runs.3 in0 in1 out0 out1 out2 runs.1 runs.2 new.events runs.4.state runs.4.reads kept new.answer runs.4.run fewer wrote))
 
   pub machine_unread : said new.answer ≡ Err Read → RanCode old.program steps (Err Read) in0 in1 out0 out2
   machine_unread is =
       let broke = read_broke new.answer is in
-      let made : new.steps ≡ 0 + runs.0 = runs.4.steps in
-      let fewer : runs.0 < steps = omega (arith, held going (ap is_stopped broke), none, made) in
       let asks = subst (λ (q : Program). IsAsking (step q runs.4.state)) runs.4.program (runs.4.asks broke) in
       for_machine (Err Read) (unread_at p steps runs.0 runs.3 in0 in1 out0 out1 out2 runs.1 runs.2 new.events runs.4.state runs.4.reads kept
-      (λ rest l. runs.4.run rest l ∙ ap (λ a. reached a runs.4.state rest runs.2) broke) (subst (λ a. Writes (is_stopped a) (step p runs.4.state) runs.2 new.events out0 out1) broke wrote) asks fewer)
+      (λ rest l. runs.4.run rest l ∙ ap (λ a. reached a runs.4.state rest runs.2) broke) (subst (λ a. Writes (is_stopped a) (step p runs.4.state) runs.2 new.events out0 out1) broke wrote) asks (fewer (ap is_stopped broke)))
 
 -- ---- what the program means
 

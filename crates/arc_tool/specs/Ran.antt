@@ -23,15 +23,16 @@ abbrev pub Starts : (a b : List ℕ) → Type 0
 Starts a b = (later : List ℕ) × (b ≡ a ++ later)
 
 -- What was written is what the code prints in the steps made on this input, and the stop is its stop. Where an object had no room, the code goes on with one,
--- and where the reader failed, with an instruction that reads; then fewer steps were made than were allowed. A step that the writer broke may have written some
--- of its bytes.
+-- and where the reader failed, with an instruction that reads; then fewer steps were made than were allowed. A step that the writer broke, one of those that
+-- were allowed, may have written some of its bytes.
 abbrev pub Shown : Result Stop IoFault → Program → (input : List ℕ) → (most made : ℕ) → (written : List ℕ) → Type 0
 Shown (Ok (Ended n)) p input most made written = (bytes_of (seen p input made).trace ≡ written) × ((seen p input made).stop ≡ Some (Ends n))
 Shown (Ok (Fault f)) p input most made written = (bytes_of (seen p input made).trace ≡ written) × ((seen p input made).stop ≡ Some (Faults f))
 Shown (Ok StepsUsed) p input most made written = (bytes_of (seen p input made).trace ≡ written) × ((seen p input made).stop ≡ None) × (made ≡ most)
 Shown (Ok NoHeap) p input most made written = (bytes_of (seen p input made).trace ≡ written) × MakesObject p (run_of p input made) × (made < most)
 Shown (Err Read) p input most made written = (bytes_of (seen p input made).trace ≡ written) × ReadsByte p (run_of p input made) × (made < most)
-Shown (Err Write) p input most made written = Starts (bytes_of (seen p input made).trace) written × Starts written (bytes_of (seen p input (suc made)).trace)
+Shown (Err Write) p input most made written =
+    Starts (bytes_of (seen p input made).trace) written × Starts written (bytes_of (seen p input (suc made)).trace) × ((made < most) ⊎ (written ≡ bytes_of (seen p input made).trace))
 
 -- What was written is what the program means to print, and the stop is the one that it means; of a program that goes on, or was left where there was no room
 -- for an object, it is the first part.
