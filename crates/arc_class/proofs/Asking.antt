@@ -12,7 +12,8 @@ use Rattle.arc_class.specs.declared.owners.Owners.{Owners}
 use Rattle.arc_class.specs.declared.table.ClassTable.{ClassTable}
 use Rattle.arc_class.specs.declared.table.Entry.{Entry}
 use Rattle.arc_class.specs.declared.table.Place.{Place}
-use Rattle.arc_class.specs.Classes.{result_of, is_object, built_in_result}
+use Rattle.arc_spec.specs.Families.{is_object}
+use Rattle.arc_class.specs.Classes.{result_of, built_in_result}
 use Rattle.arc_class.specs.private.Entries.{EntryTree, entry_tree, root_entry}
 use Rattle.arc_class.specs.Lookups.{head_at, superclass_among, superclass_of_entry, own_result_in, given_in, own_given_in, superclass_of_fields, own_field_in, field_among}
 use Rattle.arc_class.specs.Owners.{Finds, FindsMethods, FindsFields, views, view_at, has_at, own_of, owner_by}

@@ -1,23 +1,20 @@
 -- What a walk finds in the bodies of a source is the first of all that is violated at its sites.
 use Rattle.std.proofs.Common.{◌≡◌, ℕ, Bool, true, false, List, [], ◌∷◌, ◌++◌, Option, Some, None, append_assoc, refl, sym, ap, ◌∙◌}
+use Rattle.std.specs.Prelude.{fold}
 use Rattle.std.specs.List.{flat_map}
 use Rattle.arc_ast.specs.Tree as t
 use Rattle.arc_ast.specs.Tree.{TypeTree, ExprTree, ExprTrees, Integer, Text, Paren, Call, Nil, Itself, Name, Unary, Cast, Binary, Conditional, Arrow, Assign, Update, Send, SendSuper, no_exprs, and_expr, VariableTree, StmtTree, StmtTrees, Block, Empty, Simple, Return, Variables, If, IfElse, While, Do, For, Break, Continue, no_stmts, and_stmt, ParameterTree, FunctionTree, GlobalTree, FieldTree, HeadTree, MethodTree, InterfaceTree, ImplementationTree, UnitTree}
 use Rattle.arc_ast.specs.declared.tree.Qualifiers.{Qualifiers}
 use Rattle.arc_sites.specs.Finding.{violations_of}
 use Rattle.arc_sites.specs.Sites as sites
-use Rattle.arc_ast.specs.Operators.{sort_of}
-use Rattle.arc_sites.specs.Sites.{Enclosing, InFunction, InMethod, InInterface, InImplementation, Scope, Need, Anything, AValue, ANumber, AnObject, Like, Initial, Result, Receiver, Argument, Passed, Site, Statement, Variable, operand_need, cast_need, left_need, right_need, value, site, inner, after, outermost, with_variables, with_parameters, arguments, maybe_sites, variable_sites, stmt_sites, all_sites, parameter_sites, body_sites, function_sites, global_sites, field_sites, head_sites, method_sites, interface_sites, implementation_sites, unit_sites, named_parameters}
+use Rattle.arc_sites.specs.Sites.{Enclosing, InFunction, InMethod, InInterface, InImplementation, Site, Value, Statement, Variable, site, after, with_variables, with_parameters, arguments, maybe_sites, variable_sites, stmt_sites, all_sites, parameter_sites, body_sites, function_sites, global_sites, field_sites, head_sites, method_sites, interface_sites, implementation_sites, unit_sites, named_parameters}
 use Rattle.arc_sites.specs.Violations.{at_if, violates, earlier_of}
 use Rattle.arc_sites.proofs.Firsts.{earlier_of-comm}
-use Rattle.arc_class.specs.Bodies.{is_bound, unknown_class, violations, broken_bodies}
+use Rattle.arc_class.specs.Bodies.{unknown_class, violations, broken_bodies}
 use Rattle.arc_class.specs.Broken.{Broken, first, broken_if}
+use Rattle.arc_class.specs.Classes.{among}
 use Rattle.arc_class.specs.private.Walk.{Missing, missing_of, broken_type, broken_expr, broken_exprs, broken_maybe, broken_variables, broken_stmt, broken_stmts, broken_parameters, broken_body, broken_function, broken_inside, broken_methods, broken_walked, and_name, names_with, names_after, names_taken}
 use Rattle.arc_class.proofs.Firsts.{earlier_of-assoc, earlier_of-none, first-append}
-
--- the names of a scope
-abbrev names_of : Scope → List ℕ → Bool
-names_of s = is_bound s.own
 
 -- what is violated where there is a place, and nothing else at the site
 violated : (number : ℕ) (breaks : Bool) (at : ℕ) → first (broken_if breaks at number) ≡ first (violates number (at_if breaks at) ++ [])
@@ -81,151 +78,150 @@ module _ (u : UnitTree) where
   -- ---- expressions
 
   mutual
-    expr_is : (e : ExprTree) (m : Enclosing) (s : Scope) (need : Need) → first (broken_expr missing e) ≡ found (sites.sites m s need e)
-    expr_is (Integer at n suffixed) m s need = refl
-    expr_is (Text at bytes) m s need = refl
-    expr_is (Nil at) m s need = refl
-    expr_is (Itself at) m s need = refl
-    expr_is (Name at name) m s need = refl
-    expr_is (Paren at a) m s need = quiet (broken_expr missing a) (sites.sites m s need a) (value m s need (Paren at a)) refl (expr_is a m s need)
-    expr_is (Call at name all) m s need =
-        turned (broken_if (missing.bodies name) at 30) (broken_exprs missing all) (arguments m s (Argument name true) (Argument name false) all) (value m s need (Call at name all))
-        (violated 30 (missing.bodies name) at) (exprs_are all m s (Argument name true) (Argument name false))
-    expr_is (Unary at operator a) m s need = quiet (broken_expr missing a) (sites.sites m s (operand_need operator) a) (value m s need (Unary at operator a)) refl (expr_is a m s (operand_need operator))
-    expr_is (Cast at type a) m s need =
-        turned (broken_type missing type) (broken_expr missing a) (sites.sites m s (cast_need type) a) (value m s need (Cast at type a)) (cast_is type) (expr_is a m s (cast_need type))
-    expr_is (Binary at operator a b) m s need =
-        let x = sites.sites m s (left_need (sort_of operator)) a in
-        let y = sites.sites m s (right_need (sort_of operator) a) b in
-        quiet (broken_expr missing a ++ broken_expr missing b) (x ++ y) (value m s need (Binary at operator a b)) refl
-        (pair (broken_expr missing a) (broken_expr missing b) x y (expr_is a m s (left_need (sort_of operator))) (expr_is b m s (right_need (sort_of operator) a)))
-    expr_is (Conditional at c a b) m s need =
-        let x = sites.sites m s AValue c in
-        let y = sites.sites m s AValue a in
-        let z = sites.sites m s (Like a) b in
-        quiet (broken_expr missing c ++ (broken_expr missing a ++ broken_expr missing b)) (x ++ (y ++ z)) (value m s need (Conditional at c a b)) refl
-        (pair (broken_expr missing c) (broken_expr missing a ++ broken_expr missing b) x (y ++ z) (expr_is c m s AValue) (pair (broken_expr missing a) (broken_expr missing b) y z (expr_is a m s AValue) (expr_is b m s (Like a))))
-    expr_is (Arrow at name_at a name) m s need = quiet (broken_expr missing a) (sites.sites m s AnObject a) (value m s need (Arrow at name_at a name)) refl (expr_is a m s AnObject)
-    expr_is (Assign at sign a b) m s need =
-        let x = sites.sites m s Anything a in
-        let y = sites.sites m s (Like a) b in
-        quiet (broken_expr missing a ++ broken_expr missing b) (x ++ y) (value m s need (Assign at sign a b)) refl
-        (pair (broken_expr missing a) (broken_expr missing b) x y (expr_is a m s Anything) (expr_is b m s (Like a)))
-    expr_is (Update at sign moment operator a b) m s need =
-        let x = sites.sites m s Anything a in
-        let y = sites.sites m s ANumber b in
-        quiet (broken_expr missing a ++ broken_expr missing b) (x ++ y) (value m s need (Update at sign moment operator a b)) refl
-        (pair (broken_expr missing a) (broken_expr missing b) x y (expr_is a m s Anything) (expr_is b m s ANumber))
-    expr_is (Send at part receiver selector all) m s need =
-        let x = sites.sites m s Receiver receiver in
-        let y = arguments m s (Passed selector) (Passed selector) all in
-        quiet (broken_expr missing receiver ++ broken_exprs missing all) (x ++ y) (value m s need (Send at part receiver selector all)) refl
-        (pair (broken_expr missing receiver) (broken_exprs missing all) x y (expr_is receiver m s Receiver) (exprs_are all m s (Passed selector) (Passed selector)))
-    expr_is (SendSuper at part super_at selector all) m s need =
-        quiet (broken_exprs missing all) (arguments m s (Passed selector) (Passed selector) all) (value m s need (SendSuper at part super_at selector all)) refl (exprs_are all m s (Passed selector) (Passed selector))
+    expr_is : (e : ExprTree) (m : Enclosing) (own : List (List ℕ)) → first (broken_expr missing e) ≡ found (sites.sites m own e)
+    expr_is (Integer at n suffixed) m own = refl
+    expr_is (Text at bytes) m own = refl
+    expr_is (Nil at) m own = refl
+    expr_is (Itself at) m own = refl
+    expr_is (Name at name) m own = refl
+    expr_is (Paren at a) m own = quiet (broken_expr missing a) (sites.sites m own a) (site m own (Value (Paren at a))) refl (expr_is a m own)
+    expr_is (Call at name all) m own =
+        turned (broken_if (missing.bodies name) at 30) (broken_exprs missing all) (arguments m own all) (site m own (Value (Call at name all)))
+        (violated 30 (missing.bodies name) at) (exprs_are all m own)
+    expr_is (Unary at operator a) m own = quiet (broken_expr missing a) (sites.sites m own a) (site m own (Value (Unary at operator a))) refl (expr_is a m own)
+    expr_is (Cast at type a) m own =
+        turned (broken_type missing type) (broken_expr missing a) (sites.sites m own a) (site m own (Value (Cast at type a))) (cast_is type) (expr_is a m own)
+    expr_is (Binary at operator a b) m own =
+        let x = sites.sites m own a in
+        let y = sites.sites m own b in
+        quiet (broken_expr missing a ++ broken_expr missing b) (x ++ y) (site m own (Value (Binary at operator a b))) refl
+        (pair (broken_expr missing a) (broken_expr missing b) x y (expr_is a m own) (expr_is b m own))
+    expr_is (Conditional at c a b) m own =
+        let x = sites.sites m own c in
+        let y = sites.sites m own a in
+        let z = sites.sites m own b in
+        quiet (broken_expr missing c ++ (broken_expr missing a ++ broken_expr missing b)) (x ++ (y ++ z)) (site m own (Value (Conditional at c a b))) refl
+        (pair (broken_expr missing c) (broken_expr missing a ++ broken_expr missing b) x (y ++ z) (expr_is c m own) (pair (broken_expr missing a) (broken_expr missing b) y z (expr_is a m own) (expr_is b m own)))
+    expr_is (Arrow at name_at a name) m own = quiet (broken_expr missing a) (sites.sites m own a) (site m own (Value (Arrow at name_at a name))) refl (expr_is a m own)
+    expr_is (Assign at sign a b) m own =
+        let x = sites.sites m own a in
+        let y = sites.sites m own b in
+        quiet (broken_expr missing a ++ broken_expr missing b) (x ++ y) (site m own (Value (Assign at sign a b))) refl
+        (pair (broken_expr missing a) (broken_expr missing b) x y (expr_is a m own) (expr_is b m own))
+    expr_is (Update at sign moment operator a b) m own =
+        let x = sites.sites m own a in
+        let y = sites.sites m own b in
+        quiet (broken_expr missing a ++ broken_expr missing b) (x ++ y) (site m own (Value (Update at sign moment operator a b))) refl
+        (pair (broken_expr missing a) (broken_expr missing b) x y (expr_is a m own) (expr_is b m own))
+    expr_is (Send at part receiver selector all) m own =
+        let x = sites.sites m own receiver in
+        let y = arguments m own  all in
+        quiet (broken_expr missing receiver ++ broken_exprs missing all) (x ++ y) (site m own (Value (Send at part receiver selector all))) refl
+        (pair (broken_expr missing receiver) (broken_exprs missing all) x y (expr_is receiver m own) (exprs_are all m own))
+    expr_is (SendSuper at part super_at selector all) m own =
+        quiet (broken_exprs missing all) (arguments m own all) (site m own (Value (SendSuper at part super_at selector all))) refl (exprs_are all m own)
 
-    exprs_are : (all : ExprTrees) (m : Enclosing) (s : Scope) (one others : Need) → first (broken_exprs missing all) ≡ found (arguments m s one others all)
-    exprs_are no_exprs m s one others = refl
-    exprs_are (and_expr a rest) m s one others =
-        pair (broken_expr missing a) (broken_exprs missing rest) (sites.sites m s one a) (arguments m s others others rest) (expr_is a m s one) (exprs_are rest m s others others)
+    exprs_are : (all : ExprTrees) (m : Enclosing) (own : List (List ℕ)) → first (broken_exprs missing all) ≡ found (arguments m own all)
+    exprs_are no_exprs m own = refl
+    exprs_are (and_expr a rest) m own =
+        pair (broken_expr missing a) (broken_exprs missing rest) (sites.sites m own a) (arguments m own rest) (expr_is a m own) (exprs_are rest m own)
 
-  maybe_is : (o : Option ExprTree) (m : Enclosing) (s : Scope) (need : Need) → first (broken_maybe missing o) ≡ found (maybe_sites m s need o)
-  maybe_is None m s need = refl
-  maybe_is (Some a) m s need = expr_is a m s need
+  maybe_is : (o : Option ExprTree) (m : Enclosing) (own : List (List ℕ)) → first (broken_maybe missing o) ≡ found (maybe_sites m own o)
+  maybe_is None m own = refl
+  maybe_is (Some a) m own = expr_is a m own
 
   -- ---- statements
 
   three : (A B C : List Broken) (xs ys zs : List Site) → first A ≡ found xs → first B ≡ found ys → first C ≡ found zs → first (A ++ (B ++ C)) ≡ found ((xs ++ ys) ++ zs)
   three A B C xs ys zs a b c = ap first (sym (append_assoc A B C)) ∙ pair (A ++ B) C (xs ++ ys) zs (pair A B xs ys a b) c
 
-  variables_are : (all : List VariableTree) (m : Enclosing) (qualifiers : Qualifiers) (type : TypeTree) (s : Scope) → first (broken_variables missing (names_of s) all) ≡ found (variable_sites m qualifiers type s all)
-  variables_are [] m qualifiers type s = refl
-  variables_are (v ∷ others) m qualifiers type s =
-      let inside = sites.declare v.name type s in
-      three (broken_if (names_of s v.name) v.at 21) (broken_maybe missing v.initial) (broken_variables missing (and_name v.name (names_of s)) others)
-      (site m s (Variable qualifiers type v)) (maybe_sites m inside (Initial type) v.initial) (variable_sites m qualifiers type inside others)
-      (alone 21 (names_of s v.name) v.at) (maybe_is v.initial m inside (Initial type)) (variables_are others m qualifiers type inside)
+  variables_are : (all : List VariableTree) (m : Enclosing) (qualifiers : Qualifiers) (type : TypeTree) (own : List (List ℕ)) → first (broken_variables missing (among own) all) ≡ found (variable_sites m qualifiers type own all)
+  variables_are [] m qualifiers type own = refl
+  variables_are (v ∷ others) m qualifiers type own =
+      let inside = v.name ∷ own in
+      three (broken_if (among own v.name) v.at 21) (broken_maybe missing v.initial) (broken_variables missing (and_name v.name (among own)) others)
+      (site m own (Variable qualifiers type v)) (maybe_sites m inside v.initial) (variable_sites m qualifiers type inside others)
+      (alone 21 (among own v.name) v.at) (maybe_is v.initial m inside) (variables_are others m qualifiers type inside)
 
-  with_variables_is : (all : List VariableTree) (type : TypeTree) (s : Scope) → names_with (names_of s) all ≡ names_of (with_variables type all s)
-  with_variables_is [] type s = refl
-  with_variables_is (v ∷ others) type s = with_variables_is others type (sites.declare v.name type s)
+  with_variables_is : (all : List VariableTree) (own : List (List ℕ)) → names_with (among own) all ≡ among (with_variables all own)
+  with_variables_is [] own = refl
+  with_variables_is (v ∷ others) own = with_variables_is others (v.name ∷ own)
 
-  after_is : (a : StmtTree) (s : Scope) → names_after (names_of s) a ≡ names_of (after s a)
-  after_is (Block at all) s = refl
-  after_is (Empty at) s = refl
-  after_is (Simple a) s = refl
-  after_is (Return at a) s = refl
-  after_is (Variables at qualifiers type all) s = with_variables_is all type s
-  after_is (If at c a) s = refl
-  after_is (IfElse at c a b) s = refl
-  after_is (While at c a) s = refl
-  after_is (Do at a c) s = refl
-  after_is (For at a c e b) s = refl
-  after_is (Break at) s = refl
-  after_is (Continue at) s = refl
+  after_is : (a : StmtTree) (own : List (List ℕ)) → names_after (among own) a ≡ among (after own a)
+  after_is (Block at all) own = refl
+  after_is (Empty at) own = refl
+  after_is (Simple a) own = refl
+  after_is (Return at a) own = refl
+  after_is (Variables at qualifiers type all) own = with_variables_is all own
+  after_is (If at c a) own = refl
+  after_is (IfElse at c a b) own = refl
+  after_is (While at c a) own = refl
+  after_is (Do at a c) own = refl
+  after_is (For at a c e b) own = refl
+  after_is (Break at) own = refl
+  after_is (Continue at) own = refl
 
   mutual
-    stmt_is : (a : StmtTree) (m : Enclosing) (s : Scope) → first (broken_stmt missing (names_of s) a) ≡ found (stmt_sites m s a)
-    stmt_is (Block at all) m s = stmts_are all m (inner false s)
-    stmt_is (Empty at) m s = refl
-    stmt_is (Simple a) m s = expr_is a m s Anything
-    stmt_is (Return at a) m s = maybe_is a m s Result
-    stmt_is (Variables at qualifiers type all) m s =
-        pair (broken_type missing type) (broken_variables missing (names_of s) all) (site m s (Statement (Variables at qualifiers type all))) (variable_sites m qualifiers type s all) (cast_is type) (variables_are all m qualifiers type s)
-    stmt_is (If at c a) m s =
-        pair (broken_expr missing c) (broken_stmt missing (names_of (inner false s)) a) (sites.sites m s AValue c) (stmt_sites m (inner false s) a) (expr_is c m s AValue) (stmt_is a m (inner false s))
-    stmt_is (IfElse at c a b) m s =
-        let x = stmt_sites m (inner false s) a in
-        let y = stmt_sites m (inner false s) b in
-        let names = names_of (inner false s) in
-        pair (broken_expr missing c) (broken_stmt missing names a ++ broken_stmt missing names b) (sites.sites m s AValue c) (x ++ y) (expr_is c m s AValue)
-        (pair (broken_stmt missing names a) (broken_stmt missing names b) x y (stmt_is a m (inner false s)) (stmt_is b m (inner false s)))
-    stmt_is (While at c a) m s =
-        pair (broken_expr missing c) (broken_stmt missing (names_of (inner true s)) a) (sites.sites m s AValue c) (stmt_sites m (inner true s) a) (expr_is c m s AValue) (stmt_is a m (inner true s))
-    stmt_is (Do at a c) m s =
-        pair (broken_stmt missing (names_of (inner true s)) a) (broken_expr missing c) (stmt_sites m (inner true s) a) (sites.sites m s AValue c) (stmt_is a m (inner true s)) (expr_is c m s AValue)
-    stmt_is (For at a c e b) m s =
-        let outer = inner false s in
-        let own = after outer a in
-        let test = maybe_sites m own AValue c in
-        let step = maybe_sites m own Anything e in
-        let body = stmt_sites m (inner true own) b in
-        pair (broken_stmt missing (names_of outer) a) (broken_maybe missing c ++ (broken_maybe missing e ++ broken_stmt missing (names_of (inner true own)) b)) (stmt_sites m outer a) (test ++ (step ++ body)) (stmt_is a m outer)
-        (pair (broken_maybe missing c) (broken_maybe missing e ++ broken_stmt missing (names_of (inner true own)) b) test (step ++ body) (maybe_is c m own AValue)
-        (pair (broken_maybe missing e) (broken_stmt missing (names_of (inner true own)) b) step body (maybe_is e m own Anything) (stmt_is b m (inner true own))))
-    stmt_is (Break at) m s = refl
-    stmt_is (Continue at) m s = refl
+    stmt_is : (a : StmtTree) (m : Enclosing) (own : List (List ℕ)) → first (broken_stmt missing (among own) a) ≡ found (stmt_sites m own a)
+    stmt_is (Block at all) m own = stmts_are all m []
+    stmt_is (Empty at) m own = refl
+    stmt_is (Simple a) m own = expr_is a m own
+    stmt_is (Return at a) m own = maybe_is a m own
+    stmt_is (Variables at qualifiers type all) m own =
+        pair (broken_type missing type) (broken_variables missing (among own) all) (site m own (Statement (Variables at qualifiers type all))) (variable_sites m qualifiers type own all) (cast_is type) (variables_are all m qualifiers type own)
+    stmt_is (If at c a) m own =
+        pair (broken_expr missing c) (broken_stmt missing (among []) a) (sites.sites m own c) (stmt_sites m [] a) (expr_is c m own) (stmt_is a m [])
+    stmt_is (IfElse at c a b) m own =
+        let x = stmt_sites m [] a in
+        let y = stmt_sites m [] b in
+        let names = among [] in
+        pair (broken_expr missing c) (broken_stmt missing names a ++ broken_stmt missing names b) (sites.sites m own c) (x ++ y) (expr_is c m own)
+        (pair (broken_stmt missing names a) (broken_stmt missing names b) x y (stmt_is a m []) (stmt_is b m []))
+    stmt_is (While at c a) m own =
+        pair (broken_expr missing c) (broken_stmt missing (among []) a) (sites.sites m own c) (stmt_sites m [] a) (expr_is c m own) (stmt_is a m [])
+    stmt_is (Do at a c) m own =
+        pair (broken_stmt missing (among []) a) (broken_expr missing c) (stmt_sites m [] a) (sites.sites m own c) (stmt_is a m []) (expr_is c m own)
+    stmt_is (For at a c e b) m own =
+        let inner = after [] a in
+        let test = maybe_sites m inner c in
+        let step = maybe_sites m inner e in
+        let body = stmt_sites m [] b in
+        pair (broken_stmt missing (among []) a) (broken_maybe missing c ++ (broken_maybe missing e ++ broken_stmt missing (among []) b)) (stmt_sites m [] a) (test ++ (step ++ body)) (stmt_is a m [])
+        (pair (broken_maybe missing c) (broken_maybe missing e ++ broken_stmt missing (among []) b) test (step ++ body) (maybe_is c m inner)
+        (pair (broken_maybe missing e) (broken_stmt missing (among []) b) step body (maybe_is e m inner) (stmt_is b m [])))
+    stmt_is (Break at) m own = refl
+    stmt_is (Continue at) m own = refl
 
-    stmts_are : (all : StmtTrees) (m : Enclosing) (s : Scope) → first (broken_stmts missing (names_of s) all) ≡ found (all_sites m s all)
-    stmts_are no_stmts m s = refl
-    stmts_are (and_stmt a others) m s =
-        pair (broken_stmt missing (names_of s) a) (broken_stmts missing (names_after (names_of s) a) others) (stmt_sites m s a) (all_sites m (after s a) others) (stmt_is a m s)
-        (ap (λ names. first (broken_stmts missing names others)) (after_is a s) ∙ stmts_are others m (after s a))
+    stmts_are : (all : StmtTrees) (m : Enclosing) (own : List (List ℕ)) → first (broken_stmts missing (among own) all) ≡ found (all_sites m own all)
+    stmts_are no_stmts m own = refl
+    stmts_are (and_stmt a others) m own =
+        pair (broken_stmt missing (among own) a) (broken_stmts missing (names_after (among own) a) others) (stmt_sites m own a) (all_sites m (after own a) others) (stmt_is a m own)
+        (ap (λ names. first (broken_stmts missing names others)) (after_is a own) ∙ stmts_are others m (after own a))
 
   -- ---- bodies
 
-  parameters_are : (all : List ParameterTree) (m : Enclosing) (s : Scope) → first (broken_parameters (names_of s) all) ≡ found (parameter_sites m s all)
-  parameters_are [] m s = refl
-  parameters_are (p ∷ others) m s =
-      pair (broken_if (names_of s p.name) p.at 21) (broken_parameters (and_name p.name (names_of s)) others) (site m s (sites.Parameter p)) (parameter_sites m (sites.declare p.name p.type s) others)
-      (alone 21 (names_of s p.name) p.at) (parameters_are others m (sites.declare p.name p.type s))
+  parameters_are : (all : List ParameterTree) (m : Enclosing) (own : List (List ℕ)) → first (broken_parameters (among own) all) ≡ found (parameter_sites m own all)
+  parameters_are [] m own = refl
+  parameters_are (p ∷ others) m own =
+      pair (broken_if (among own p.name) p.at 21) (broken_parameters (and_name p.name (among own)) others) (site m own (sites.Parameter p)) (parameter_sites m (p.name ∷ own) others)
+      (alone 21 (among own p.name) p.at) (parameters_are others m (p.name ∷ own))
 
-  with_parameters_is : (all : List ParameterTree) (s : Scope) → names_taken (names_of s) all ≡ names_of (with_parameters all s)
-  with_parameters_is [] s = refl
-  with_parameters_is (p ∷ others) s = with_parameters_is others (sites.declare p.name p.type s)
+  with_parameters_is : (all : List ParameterTree) (own : List (List ℕ)) → names_taken (among own) all ≡ among (fold (λ names p. p.name ∷ names) own all)
+  with_parameters_is [] own = refl
+  with_parameters_is (p ∷ others) own = with_parameters_is others (p.name ∷ own)
 
   body_is : (all : List ParameterTree) (o : Option StmtTrees) (m : Enclosing) → first (broken_body missing all o) ≡ found (body_sites m all o)
   body_is all None m = refl
   body_is all (Some body) m =
-      let names = names_taken (names_of outermost) all in
-      pair (broken_parameters (names_of outermost) all) (broken_stmts missing names body) (parameter_sites m outermost all) (all_sites m (with_parameters all outermost) body)
-      (parameters_are all m outermost) (ap (λ n. first (broken_stmts missing n body)) (with_parameters_is all outermost) ∙ stmts_are body m (with_parameters all outermost))
+      let names = names_taken (among []) all in
+      pair (broken_parameters (among []) all) (broken_stmts missing names body) (parameter_sites m [] all) (all_sites m (with_parameters all) body)
+      (parameters_are all m []) (ap (λ n. first (broken_stmts missing n body)) (with_parameters_is all []) ∙ stmts_are body m (with_parameters all))
 
   functions_are : (all : List FunctionTree) → first (flat_map (broken_function missing) all) ≡ found (flat_map function_sites all)
   functions_are [] = refl
   functions_are (f ∷ others) =
       pair (broken_function missing f) (flat_map (broken_function missing) others) (function_sites f) (flat_map function_sites others)
-      (body_is (named_parameters f.parameters) f.body (InFunction f)) (functions_are others)
+      (body_is (named_parameters f.parameters) f.body InFunction) (functions_are others)
 
   methods_are : (class : List ℕ) (all : List MethodTree) → first (flat_map (broken_inside missing) all) ≡ found (flat_map (method_sites class) all)
   methods_are class [] = refl

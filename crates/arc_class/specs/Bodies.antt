@@ -1,26 +1,21 @@
 -- The rules for the bodies of a source: names of variables, classes of types, and calls of functions that have no body. Each is a predicate on a site: the
 -- place at which the site breaks it, if it does.
 use Rattle.std.specs.Prelude.{ℕ, Bool, false, List, [], ◌++◌, flat_map, Option, None, is_none}
-use Rattle.std.specs.List.{list_any}
 use Rattle.std.specs.Option.{option_map_or}
-use Rattle.std.specs.Str.{bytes_eq}
 use Rattle.arc_ast.specs.Tree as t
 use Rattle.arc_ast.specs.Tree.{TypeTree, ResultTree, Call, Cast, Variables, ParameterTree, FieldTree, UnitTree}
 use Rattle.arc_sites.specs.Finding.{violations_of}
-use Rattle.arc_sites.specs.Sites.{Around, Bound, Node, Value, Statement, Variable, Parameter, unit_sites}
+use Rattle.arc_sites.specs.Sites.{Around, Node, Value, Statement, Variable, Parameter, unit_sites}
 use Rattle.arc_sites.specs.Violations.{at_if, violates}
 use Rattle.arc_class.specs.declared.table.Declared.{Declared}
 use Rattle.arc_class.specs.Broken.{Broken}
-use Rattle.arc_class.specs.Classes.{class_number}
+use Rattle.arc_class.specs.Classes.{among, class_number}
 use Rattle.arc_class.specs.Names.{known}
-
-abbrev pub is_bound : List Bound → List ℕ → Bool
-is_bound bound name = list_any (λ b. bytes_eq b.name name) bound
 
 -- 21 Duplicate: a variable or a parameter whose name stands in its scope already, at the name (C99, section 6.7)
 abbrev pub rule_21 : Around → Node → Option ℕ
-rule_21 s (Variable qualifiers type v) = at_if (is_bound s.scope.own v.name) v.at
-rule_21 s (Parameter p) = at_if (is_bound s.scope.own p.name) p.at
+rule_21 s (Variable qualifiers type v) = at_if (among s.own v.name) v.at
+rule_21 s (Parameter p) = at_if (among s.own p.name) p.at
 rule_21 s _ = None
 
 -- 22 UnknownClass: a type that names no class with an interface, at the class's name (OPL, "Static Typing"); the root needs none

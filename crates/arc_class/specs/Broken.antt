@@ -1,4 +1,4 @@
--- Violations of rules, which this crate and arc_check call broken rules.
+-- Violations of rules, which this crate, arc_judge and arc_check call broken rules.
 use Rattle.std.specs.Prelude.{ℕ, Bool, List, [], ◌∷◌, if◌then◌else◌}
 use Rattle.arc_sites.specs.declared.violation.Violation.{Violation}
 pub use Rattle.arc_sites.specs.Violations.{is_before, earlier, earlier_of, first, IsFirst}

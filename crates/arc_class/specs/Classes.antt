@@ -11,7 +11,7 @@ use Rattle.arc_ast.specs.Types.{result_kind}
 use Rattle.arc_ast.specs.Tree.{TypeTree, Object, Id, ResultTree, Value, Related, FunctionTree, HeadTree, MethodTree, InterfaceTree, ImplementationTree, UnitTree}
 use Rattle.arc_class.specs.declared.table.ClassId.{ClassId}
 use Rattle.arc_class.specs.declared.table.MethodResult.{MethodResult}
-use Rattle.arc_spec.specs.Families.{method_family, gives_related}
+use Rattle.arc_spec.specs.Families.{method_family, gives_related, is_object}
 use Rattle.arc_spec.specs.Classes.{same_sign, ancestry, first_that_has}
 pub use Rattle.arc_spec.specs.Classes.{or_else}
 use Rattle.arc_class.specs.Names.{has_body, first_named, parameter_kinds}
@@ -119,10 +119,6 @@ counting_result selector =
     if bytes_eq selector (codes "retain") || bytes_eq selector (codes "autorelease") then Some k.Object
     else if bytes_eq selector (codes "retainCount") then Some k.Long
     else if bytes_eq selector (codes "release") || bytes_eq selector (codes "dealloc") then Some k.Void else None
-
-abbrev pub is_object : Kind → Bool
-is_object k.Object = true
-is_object _ = false
 
 -- the objects that methods of the root give are of the class that gets the message
 abbrev pub built_in_given : Sign → List ℕ → Option MethodResult

@@ -15,7 +15,7 @@ use Rattle.arc_class.specs.Classes.{class_number, superclasses, any_result}
 use Rattle.arc_sites.specs.declared.violation.Violation.{Violation}
 use Rattle.arc_sites.specs.Violations.{at_if, violates}
 use Rattle.arc_spec.specs.Classes.{same_sign, ancestry}
-use Rattle.arc_spec.specs.Families.{method_family, is_init, is_owning}
+use Rattle.arc_spec.specs.Families.{method_family, is_init, is_owning, is_object}
 use Rattle.arc_spec.specs.declared.signature.Family.{Family}
 use Rattle.std.specs.List.{list_any}
 use Rattle.std.specs.Bool.{nat_eq}
@@ -36,10 +36,6 @@ owns_self _ = false
 abbrev pub rule_47 : Around → Node → Option ℕ
 rule_47 s (Value (Assign at sign left right)) = at_if (is_itself left && not (owns_self s.enclosing)) sign
 rule_47 s _ = None
-
-abbrev pub is_object : Kind → Bool
-is_object k.Object = true
-is_object _ = false
 
 -- whether a method gives an object that it doesn't retain for who sends the message (ARC, "Unretained return values")
 abbrev pub gives_unretained : HeadTree → Bool

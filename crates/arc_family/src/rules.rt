@@ -1,5 +1,5 @@
 //! The rules of ownership, each by its number.
-ghost use Rattle.std.specs.Prelude.{◌≡◌, Some, None, option_map, if◌then◌else◌};
+ghost use Rattle.std.specs.Prelude.{◌≡◌, ℕ, List, Some, None, option_map, if◌then◌else◌};
 ghost use Rattle.std.proofs.Props.{props};
 ghost use Rattle.arc_ast.specs.Tree.{UnitTree, expr_tree, type_tree, result_tree, head_tree, parameter_trees, parameters_tree, unit_tree};
 ghost use Rattle.arc_ast.specs.Types.{type_kind};
@@ -72,7 +72,7 @@ fn is_unasked(node: Node) -> bool
 /// The first rule that a site breaks.
 #[inline(never)]
 fn first_broken(table: &ClassTable, enclosing: Enclosing, node: Node) -> Option<OwnFault>
-    ensures { (u : UnitTree) → IsTableOf u table.now → (scope : sites.Scope) (need : sites.Need) → option_map reported result ≡ first (rules.violations u (around (enclosing_of enclosing.entry) scope need) (node_of node.entry)) }
+    ensures { (u : UnitTree) → IsTableOf u table.now → (own : List (List ℕ)) → option_map reported result ≡ first (rules.violations u (around (enclosing_of enclosing.entry) own) (node_of node.entry)) }
 {
     let qualifier = qualifier(node);
     let result = earlier(init_result(table, enclosing, node), qualifier);
@@ -85,7 +85,7 @@ fn first_broken(table: &ClassTable, enclosing: Enclosing, node: Node) -> Option<
 
 /// 47 SelfConst.
 fn self_const(enclosing: Enclosing, node: Node) -> Option<OwnFault>
-    ensures { (scope : sites.Scope) (need : sites.Need) → option_map reported result ≡ first (violates 47 (rules.rule_47 (around (enclosing_of enclosing.entry) scope need) (node_of node.entry))) }
+    ensures { (own : List (List ℕ)) → option_map reported result ≡ first (violates 47 (rules.rule_47 (around (enclosing_of enclosing.entry) own) (node_of node.entry))) }
 {
     match node {
         Node::Value(Expr::Assign(_, sign, left, _)) => {
@@ -232,7 +232,7 @@ fn is_delegated(table: &ClassTable, enclosing: Enclosing, message: Message) -> b
 
 /// 63 DelegateInit.
 fn delegate_init(table: &ClassTable, enclosing: Enclosing, node: Node) -> Option<OwnFault>
-    ensures { (u : UnitTree) → IsTableOf u table.now → (scope : sites.Scope) (need : sites.Need) → option_map reported result ≡ first (violates 63 (rules.rule_63 u (around (enclosing_of enclosing.entry) scope need) (node_of node.entry))) }
+    ensures { (u : UnitTree) → IsTableOf u table.now → (own : List (List ℕ)) → option_map reported result ≡ first (violates 63 (rules.rule_63 u (around (enclosing_of enclosing.entry) own) (node_of node.entry))) }
 {
     match node {
         Node::Value(expr) => match sent_message(expr) {

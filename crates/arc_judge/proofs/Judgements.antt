@@ -25,7 +25,7 @@ use Rattle.arc_judge.specs.declared.taken.Taken.{Taken}
 use Rattle.arc_judge.specs.Fault.{reported}
 use Rattle.arc_scope.specs.Formats.{fits}
 use Rattle.arc_judge.specs.private.Judging.{Judges, JudgesCall, JudgesWhole, broken_at, broken_field, counted, none_counted, other_rule}
-use Rattle.arc_judge.specs.Rules.{all_taken, arrow_kind, at_if, binary_kind, broken, broken_arguments, call_rule, either_kind, is_assignable, is_updatable, kind_if, kind_of, kinds, message_kind, no_method, no_right, no_such, taken, unread, unary_kind, unmet}
+use Rattle.arc_judge.specs.Rules.{all_taken, arrow_kind, place_if, binary_kind, broken, broken_arguments, call_rule, either_kind, is_assignable, is_updatable, kind_if, kind_of, kinds, message_kind, no_method, no_right, no_such, taken, unread, unary_kind, unmet}
 use Rattle.arc_scope.specs.Kinds.{is_object}
 use Rattle.arc_scope.specs.Passing.{first_wanted, wanted_by, receiver_sign}
 use Rattle.arc_scope.specs.Scopes.{Scope, callee, class_of, class_receiver, either_class, field_class, is_nil, is_printf, own_class, result_kind, static_class}
@@ -33,7 +33,7 @@ use Rattle.arc_scope.specs.Views.{sent_class, super_class, super_kind}
 use Rattle.arc_judge.proofs.Counting.{counted_both, past_is}
 use Rattle.arc_scope.proofs.Lists.{drop_turn}
 use Rattle.arc_ast.proofs.Trees.{call_tree, send_tree, send_super_tree}
-use Rattle.arc_sites.specs.Sites.{ANumber, AValue, AnObject, left_need, operand_need}
+use Rattle.arc_judge.specs.Rules.{ANumber, AValue, AnObject, left_need, operand_need}
 use Rattle.arc_sites.specs.Violations.{violates}
 use Rattle.arc_judge.specs.declared.taken.TheConstants.{MOST_TAKEN}
 
@@ -96,7 +96,7 @@ itself_object s before at judged e n c f t u = record {
   kind = n ∙ sym (ap (λ b. kind_if b kinds_of.Object) e);
   class = c;
   fault = f ∙ sym (ap (λ b. first (cond b [] (broken_rule at (cond (is_some s.class) 43 41) ∷ []))) e);
-  taken = t ∙ sym (ap (λ b. counted before (at_if b at)) e);
+  taken = t ∙ sym (ap (λ b. counted before (place_if b at)) e);
   unread = λ _. u;
 }
 
@@ -106,7 +106,7 @@ itself_refused s before at judged number e m n c f t u = record {
   kind = n ∙ sym (ap (λ b. kind_if b kinds_of.Object) e);
   class = ap (option_map number_of_class) c ∙ sym (none_of (own_class s) e);
   fault = f ∙ sym (ap (λ i. Some (broken_rule at i)) m) ∙ sym (ap (λ b. first (cond b [] (broken_rule at (cond (is_some s.class) 43 41) ∷ []))) e);
-  taken = t ∙ sym (ap (λ b. counted before (at_if b at)) e);
+  taken = t ∙ sym (ap (λ b. counted before (place_if b at)) e);
   unread = λ _. u;
 }
 
@@ -135,11 +135,11 @@ judges_cast s before at type a judged new here j p k c f t = record {
 pub judges_arrow : (s : Scope) (before : Taken) (at name_at : ℕ) (a : ExprTree) (name : List ℕ) (judged new : Judged) (here : ℕ) (found : _) → Judges s before a judged → here ≡ place a → found ≡ s.known.field (option_map number_of_class judged.class) name
     → new.kind ≡ arrow_kind s judged.kind found → option_map number_of_class new.class ≡ field_class found
     → option_map reported new.fault ≡ earlier_of (earlier_of (option_map reported judged.fault) (first (unmet AnObject judged.kind here))) (first (broken_field s judged.kind found name_at))
-    → new.taken ≡ counted judged.taken (at_if (is_object (arrow_kind s judged.kind found)) name_at) → new.unread ≡ judged.taken → Judges s before (Arrow at name_at a name) new
+    → new.taken ≡ counted judged.taken (place_if (is_object (arrow_kind s judged.kind found)) name_at) → new.unread ≡ judged.taken → Judges s before (Arrow at name_at a name) new
 judges_arrow s before at name_at a name judged new here found j p w k c f t u =
     let is = w ∙ ap (λ o. s.known.field o name) j.class in
     let own = s.known.field (class_of s a) name in
-    let reads = at_if (is_object (arrow_kind s (kind_of s a) own)) name_at in
+    let reads = place_if (is_object (arrow_kind s (kind_of s a) own)) name_at in
     let same : arrow_kind s judged.kind found ≡ arrow_kind s (kind_of s a) own = ap (λ o. arrow_kind s o found) j.kind ∙ ap (arrow_kind s (kind_of s a)) is in
     record {
       kind = k ∙ same;
@@ -147,7 +147,7 @@ judges_arrow s before at name_at a name judged new here found j p w k c f t u =
       fault = first_both (broken s a ++ unmet AnObject (kind_of s a) (place a)) (broken_field s (kind_of s a) own name_at) (earlier_of (option_map reported judged.fault) (first (unmet AnObject judged.kind here))) (first (broken_field s judged.kind found name_at)) (option_map reported new.fault)
           (with_rule s (broken s a) a (unmet AnObject) (option_map reported judged.fault) _ judged.kind here j.fault j.kind p refl)
           (ap (λ o. first (broken_field s o found name_at)) j.kind ∙ ap (λ o. first (broken_field s (kind_of s a) o name_at)) is) f;
-      taken = counted_both before judged.taken new.taken (taken s a) reads j.taken (t ∙ ap (λ o. counted judged.taken (at_if (is_object o) name_at)) same);
+      taken = counted_both before judged.taken new.taken (taken s a) reads j.taken (t ∙ ap (λ o. counted judged.taken (place_if (is_object o) name_at)) same);
       unread = λ _. u ∙ j.taken;
     }
 
@@ -195,7 +195,7 @@ taken_left : (assignable : Bool) (before read aside : Taken) (all others : List 
 taken_left true before read aside all others r a = a refl
 taken_left false before read aside all others r a = r
 
-pub judges_assign : (s : Scope) (before between : Taken) (at sign : ℕ) (a b : ExprTree) (assignable : Bool) (left right both : Judged) (right_at : ℕ) → Judges s before a left → between ≡ counted (cond assignable left.unread left.taken) (at_if (is_object left.kind) sign)
+pub judges_assign : (s : Scope) (before between : Taken) (at sign : ℕ) (a b : ExprTree) (assignable : Bool) (left right both : Judged) (right_at : ℕ) → Judges s before a left → between ≡ counted (cond assignable left.unread left.taken) (place_if (is_object left.kind) sign)
     → Judges s between b right → assignable ≡ is_assignable a → right_at ≡ place b → both.kind ≡ cond assignable left.kind None → both.class ≡ left.class
     → option_map reported both.fault ≡ earlier_of (earlier_of (option_map reported left.fault) (first (broken_if (not assignable) sign 44))) (earlier_of (option_map reported right.fault) (first (no_such left.kind right.kind right_at))) → both.taken ≡ right.taken
     → Judges s before (Assign at sign a b) both
@@ -204,7 +204,7 @@ judges_assign s before between at sign a b assignable left right both right_at l
     let two = earlier_of (option_map reported right.fault) (first (no_such left.kind right.kind right_at)) in
     let reads = cond (is_assignable a) (unread s a) (taken s a) in
     let read = cond (is_assignable a) left.unread left.taken in
-    let sets = at_if (is_object (kind_of s a)) sign in
+    let sets = place_if (is_object (kind_of s a)) sign in
     record {
       kind = k ∙ ap (λ o. cond assignable o None) l.kind ∙ ap (λ p. cond p (kind_of s a) None) v;
       class = ap (option_map number_of_class) c ∙ l.class;
@@ -213,7 +213,7 @@ judges_assign s before between at sign a b assignable left right both right_at l
           (with_rule s (broken s b) b (no_such (kind_of s a)) (option_map reported right.fault) two right.kind right_at r.fault r.kind p (ap (λ o. earlier_of (option_map reported right.fault) (first (no_such o right.kind right_at))) l.kind)) f;
       taken = t ∙ counted_both before between right.taken (reads ++ sets) (taken s b)
           (counted_both before read between reads sets (taken_left (is_assignable a) before left.taken left.unread (taken s a) (unread s a) l.taken l.unread)
-          (g ∙ ap (λ p. counted (cond p left.unread left.taken) (at_if (is_object left.kind) sign)) v ∙ ap (λ o. counted read (at_if (is_object o) sign)) l.kind)) r.taken;
+          (g ∙ ap (λ p. counted (cond p left.unread left.taken) (place_if (is_object left.kind) sign)) v ∙ ap (λ o. counted read (place_if (is_object o) sign)) l.kind)) r.taken;
       unread = never;
     }
 
@@ -243,7 +243,7 @@ unless_class false own fault e = e
 
 pub judges_message : (s : Scope) (before between : Taken) (at part : ℕ) (r : ExprTree) (selector : List ℕ) (arguments : ExprTrees) (class : Option ℕ) (judged new : Judged) (passed : Arguments) (here : ℕ) (own unknown : Option Broken) → class ≡ class_receiver s r → Judges s before r judged → here ≡ place r
     → new.kind ≡ message_kind s class judged.kind (option_map number_of_class judged.class) selector → own ≡ cond (is_some class) None (earlier_of (option_map reported judged.fault) (first (unmet AnObject judged.kind here)))
-    → unknown ≡ first (no_method s class judged.kind (option_map number_of_class judged.class) selector part) → between ≡ counted judged.taken (at_if (is_object new.kind) part)
+    → unknown ≡ first (no_method s class judged.kind (option_map number_of_class judged.class) selector part) → between ≡ counted judged.taken (place_if (is_object new.kind) part)
     → option_map reported passed.fault ≡ first (broken_arguments s (Some (s.known.passed (receiver_sign class) selector)) false arguments) → passed.taken ≡ counted between (all_taken s arguments) → option_map number_of_class new.class ≡ sent_class s.known class (option_map number_of_class judged.class) selector
     → option_map reported new.fault ≡ earlier_of (earlier_of own unknown) (option_map reported passed.fault) → new.taken ≡ passed.taken → Judges s before (Send at part r selector arguments) new
 judges_message s before between at part r selector arguments class judged new passed here own unknown e j p k o u b i t c f n =
@@ -252,7 +252,7 @@ judges_message s before between at part r selector arguments class judged new pa
     ∙ ap (λ x. message_kind s (class_receiver s r) (kind_of s r) x selector) j.class in
     let one = if is_some (class_receiver s r) then [] else broken s r ++ unmet AnObject (kind_of s r) (place r) in
     let two = no_method s (class_receiver s r) (kind_of s r) (class_of s r) selector part in
-    let gives = at_if (is_object kind) part in
+    let gives = place_if (is_object kind) part in
     record {
       kind = is;
       class = c ∙ ap (λ x. sent_class s.known x (option_map number_of_class judged.class) selector) e ∙ ap (λ x. sent_class s.known (class_receiver s r) x selector) j.class;
@@ -264,23 +264,23 @@ judges_message s before between at part r selector arguments class judged new pa
           ∙ ap (λ x. first (no_method s (class_receiver s r) (kind_of s r) x selector part)) j.class) refl)
           (i ∙ ap (λ x. first (broken_arguments s (Some (s.known.passed (receiver_sign x) selector)) false arguments)) e) f;
       taken = n ∙ counted_both before between passed.taken (taken s r ++ gives) (all_taken s arguments)
-          (counted_both before judged.taken between (taken s r) gives j.taken (b ∙ ap (λ x. counted judged.taken (at_if (is_object x) part)) is)) t;
+          (counted_both before judged.taken between (taken s r) gives j.taken (b ∙ ap (λ x. counted judged.taken (place_if (is_object x) part)) is)) t;
       unread = never;
     }
 
 pub judges_super_message : (s : Scope) (before between : Taken) (at part super_at : ℕ) (selector : List ℕ) (arguments : ExprTrees) (new : Judged) (passed : Arguments) (unknown : Option Broken) → new.kind ≡ super_kind s selector → option_map number_of_class new.class ≡ super_class s selector
-    → unknown ≡ first (broken_if (is_none new.kind) part 42) → between ≡ counted (counted before (at_if (is_some (own_class s)) super_at)) (at_if (is_object new.kind) part)
+    → unknown ≡ first (broken_if (is_none new.kind) part 42) → between ≡ counted (counted before (place_if (is_some (own_class s)) super_at)) (place_if (is_object new.kind) part)
     → option_map reported passed.fault ≡ first (broken_arguments s (Some (s.known.passed s.sign selector)) false arguments) → passed.taken ≡ counted between (all_taken s arguments)
     → option_map reported new.fault ≡ earlier_of unknown (option_map reported passed.fault) → new.taken ≡ passed.taken → Judges s before (SendSuper at part super_at selector arguments) new
 judges_super_message s before between at part super_at selector arguments new passed unknown k c u b i t f n =
-    let reads = at_if (is_some (own_class s)) super_at in
-    let gives = at_if (is_object (super_kind s selector)) part in
+    let reads = place_if (is_some (own_class s)) super_at in
+    let gives = place_if (is_object (super_kind s selector)) part in
     record {
       kind = k;
       class = c;
       fault = first_both (broken_if (is_none (super_kind s selector)) part 42) (broken_arguments s (Some (s.known.passed s.sign selector)) false arguments) unknown (option_map reported passed.fault) (option_map reported new.fault) (u ∙ ap (λ x. first (broken_if (is_none x) part 42)) k) i f;
       taken = n ∙ counted_both before between passed.taken (reads ++ gives) (all_taken s arguments)
-          (counted_both before (counted before reads) between reads gives refl (b ∙ ap (λ x. counted (counted before reads) (at_if (is_object x) part)) k)) t;
+          (counted_both before (counted before reads) between reads gives refl (b ∙ ap (λ x. counted (counted before reads) (place_if (is_object x) part)) k)) t;
       unread = never;
     }
 
@@ -330,7 +330,7 @@ is_none-broken_at at (Some n) = refl
 
 other_is : (s : Scope) (before between : Taken) (at : ℕ) (callee : Callee) (given : Option ℕ) (parameters : List Kind) (all : List Expr) (own : Option CheckFault) (inside : Arguments) (judged : Judged) → is_printf callee ≡ false
     → call_rule callee (expr_trees all) (kinds s (expr_trees all)) ≡ other_rule callee (length (kinds s (expr_trees all))) → option_map reported own ≡ first (broken_at at (other_rule callee (length all))) → judged.kind ≡ kind_if (is_none own) (result_kind callee)
-    → option_map number_of_class judged.class ≡ given → option_map reported judged.fault ≡ earlier_of (option_map reported own) (option_map reported inside.fault) → between ≡ counted before (at_if (is_object judged.kind) at) → judged.taken ≡ inside.taken
+    → option_map number_of_class judged.class ≡ given → option_map reported judged.fault ≡ earlier_of (option_map reported own) (option_map reported inside.fault) → between ≡ counted before (place_if (is_object judged.kind) at) → judged.taken ≡ inside.taken
     → option_map reported inside.fault ≡ first (broken_arguments s (Some parameters) false (expr_trees all)) → inside.taken ≡ counted between (all_taken s (expr_trees all)) → JudgesCall s before at callee given parameters (expr_trees all) judged
 other_is s before between at callee given parameters all own inside judged p r o k c f b t i n =
     let rule = call_rule callee (expr_trees all) (kinds s (expr_trees all)) in
@@ -342,13 +342,13 @@ other_is s before between at callee given parameters all own inside judged p r o
       class = c;
       fault = first_both (broken_at at rule) (broken_arguments s (wanted_by callee parameters) (is_printf callee) (expr_trees all)) (option_map reported own) (option_map reported inside.fault) (option_map reported judged.fault) reported_own
           (i ∙ ap (λ b. first (broken_arguments s (if b then None else Some parameters) b (expr_trees all))) (sym p)) f;
-      taken = t ∙ counted_both before between inside.taken (at_if (is_object (kind_if (is_none rule) (result_kind callee))) at) (all_taken s (expr_trees all)) (b ∙ ap (λ x. counted before (at_if (is_object x) at)) kind) n;
+      taken = t ∙ counted_both before between inside.taken (place_if (is_object (kind_if (is_none rule) (result_kind callee))) at) (all_taken s (expr_trees all)) (b ∙ ap (λ x. counted before (place_if (is_object x) at)) kind) n;
     }
 
 -- a call of another function than printf
 pub judges_other : (s : Scope) (before between : Taken) (at : ℕ) (callee : Callee) (given : Option ℕ) (parameters : List Kind) (all : List Expr) (own : Option CheckFault) (inside : Arguments) (judged : Judged) → (callee ≡ Printf → ⊥)
     → option_map reported own ≡ first (broken_at at (other_rule callee (length all))) → judged.kind ≡ kind_if (is_none own) (result_kind callee) → option_map number_of_class judged.class ≡ given
-    → option_map reported judged.fault ≡ earlier_of (option_map reported own) (option_map reported inside.fault) → between ≡ counted before (at_if (is_object judged.kind) at) → judged.taken ≡ inside.taken
+    → option_map reported judged.fault ≡ earlier_of (option_map reported own) (option_map reported inside.fault) → between ≡ counted before (place_if (is_object judged.kind) at) → judged.taken ≡ inside.taken
     → option_map reported inside.fault ≡ first (broken_arguments s (Some parameters) false (expr_trees all)) → inside.taken ≡ counted between (all_taken s (expr_trees all)) → JudgesCall s before at callee given parameters (expr_trees all) judged
 judges_other s before between at Printf given parameters all own inside judged n o k c f b t i m = absurd (n refl)
 judges_other s before between at GetChar given parameters all own inside judged n o k c f b t i m = other_is s before between at GetChar given parameters all own inside judged refl refl o k c f b t i m

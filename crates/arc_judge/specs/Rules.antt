@@ -7,7 +7,7 @@ use Rattle.arc_ast.specs.declared.tree.Kind.{Kind}
 use Rattle.arc_ast.specs.declared.tree.Kind.TheVariants as k
 use Rattle.arc_ast.specs.Operators.{sort_of}
 use Rattle.arc_ast.specs.declared.tree.OperatorSort.{OperatorSort}
-use Rattle.arc_ast.specs.declared.tree.OperatorSort.TheVariants.{Arithmetic, Shift, Equality}
+use Rattle.arc_ast.specs.declared.tree.OperatorSort.TheVariants.{Arithmetic, Shift, Equality, Logic}
 use Rattle.arc_ast.specs.Types.{type_kind}
 use Rattle.arc_ast.specs.Types as types
 use Rattle.arc_ast.specs.Tree.{TypeTree, ExprTree, ExprTrees, Integer, Text, Paren, Call, Nil, Itself, Name, Unary, Cast, Binary, Conditional, Arrow, Assign, Update, Send, SendSuper, no_exprs, and_expr, place, VariableTree, StmtTree, StmtTrees, Block, Empty, Simple, Return, Variables, If, IfElse, While, Do, For, Break, Continue, no_stmts, and_stmt, ParameterTree, FunctionTree, GlobalTree, HeadTree, MethodTree, UnitTree}
@@ -15,7 +15,7 @@ use Rattle.arc_ast.specs.declared.tree.Constant.{Constant}
 use Rattle.arc_ast.specs.declared.tree.Constant.TheVariants as constants
 use Rattle.arc_class.specs.Broken.{broken_if, Broken}
 use Rattle.arc_class.specs.Functions.{same_kind}
-use Rattle.arc_sites.specs.Sites.{Need, AValue, ANumber, AnObject, operand_need, left_need, named_parameters}
+use Rattle.arc_sites.specs.Sites.{named_parameters}
 use Rattle.arc_class.specs.declared.table.FoundField.{FoundField}
 use Rattle.arc_sites.specs.Violations.{violates}
 use Rattle.arc_judge.specs.declared.body.TheConstants.{MOST_PARAMETERS}
@@ -134,12 +134,28 @@ abbrev mutual
   kinds s no_exprs = []
   kinds s (and_expr a others) = kind_of s a ∷ kinds s others
 
--- whether a value of a kind isn't what is needed: a value at all (C99, section 6.3.2.2), a number, or an object
+-- what an expression is needed for: a value at all, a number, or an object
+pub data Need : Type 0 where
+  AValue : Need
+  ANumber : Need
+  AnObject : Need
+
+-- what the operand of an operator before it is needed for
+abbrev pub operand_need : UnaryOperator → Need
+operand_need u.Not = AValue
+operand_need _ = ANumber
+
+-- what the left operand of an operator between two is needed for, by its sort
+abbrev pub left_need : OperatorSort → Need
+left_need Equality = AValue
+left_need Logic = AValue
+left_need _ = ANumber
+
+-- whether a value of a kind isn't what is needed (of a value at all C99, section 6.3.2.2)
 abbrev pub lacks : Need → Kind → Bool
 lacks AValue kind = same_kind kind k.Void
 lacks ANumber kind = not (is_number kind)
 lacks AnObject kind = not (same_kind kind k.Object)
-lacks _ kind = false
 
 -- 43 KindMismatch, at an expression's place: its value isn't what is needed; what has no kind breaks another rule
 abbrev pub unmet : Need → Option Kind → ℕ → List Broken
@@ -212,12 +228,12 @@ abbrev mutual
 
 -- ---- how many objects an expression takes
 
-abbrev pub at_if : Bool → ℕ → List ℕ
-at_if so at = if so then at ∷ [] else []
+abbrev pub place_if : Bool → ℕ → List ℕ
+place_if so at = if so then at ∷ [] else []
 
 -- a name reads `self`, where it means a field of it and no variable, whether that is read or assigned to
 abbrev pub unread_name : Scope → Option Local → List ℕ → ℕ → List ℕ
-unread_name s local name at = at_if (is_none local && is_some (own_field s name)) at
+unread_name s local name at = place_if (is_none local && is_some (own_field s name)) at
 
 -- The places at which an expression takes an object, in the order of the source: each read of a variable that names objects, and of `self` (by `super` and by
 -- the name of a field too), each read of a field that names one, at its name, each call that gives an object, at its function's name, each message that does, at its selector's first part, and each assignment
@@ -225,20 +241,20 @@ unread_name s local name at = at_if (is_none local && is_some (own_field s name)
 abbrev mutual
   pub taken : Scope → ExprTree → List ℕ
   taken s (Paren at a) = taken s a
-  taken s (Call at name arguments) = at_if (is_object (kind_of s (Call at name arguments))) at ++ all_taken s arguments
-  taken s (Itself at) = at_if (is_some (own_class s)) at
-  taken s (Name at name) = unread_name s (variable s name) name at ++ at_if (is_object (name_kind s (variable s name) name)) at
+  taken s (Call at name arguments) = place_if (is_object (kind_of s (Call at name arguments))) at ++ all_taken s arguments
+  taken s (Itself at) = place_if (is_some (own_class s)) at
+  taken s (Name at name) = unread_name s (variable s name) name at ++ place_if (is_object (name_kind s (variable s name) name)) at
   taken s (Unary at operator a) = taken s a
   taken s (Cast at type a) = taken s a
   taken s (Binary at operator a b) = taken s a ++ taken s b
   taken s (Conditional at c a b) = taken s c ++ (taken s a ++ taken s b)
-  taken s (Arrow at name_at a name) = taken s a ++ at_if (is_object (arrow_kind s (kind_of s a) (s.known.field (class_of s a) name))) name_at
-  taken s (Assign at sign a b) = ((if is_assignable a then unread s a else taken s a) ++ at_if (is_object (kind_of s a)) sign) ++ taken s b
+  taken s (Arrow at name_at a name) = taken s a ++ place_if (is_object (arrow_kind s (kind_of s a) (s.known.field (class_of s a) name))) name_at
+  taken s (Assign at sign a b) = ((if is_assignable a then unread s a else taken s a) ++ place_if (is_object (kind_of s a)) sign) ++ taken s b
   taken s (Update at sign moment operator a b) = taken s a ++ taken s b
   taken s (Send at part receiver selector arguments) =
-      (taken s receiver ++ at_if (is_object (message_kind s (class_receiver s receiver) (kind_of s receiver) (class_of s receiver) selector)) part) ++ all_taken s arguments
+      (taken s receiver ++ place_if (is_object (message_kind s (class_receiver s receiver) (kind_of s receiver) (class_of s receiver) selector)) part) ++ all_taken s arguments
   taken s (SendSuper at part super_at selector arguments) =
-      (at_if (is_some (own_class s)) super_at ++ at_if (is_object (kind_given (super_result s selector))) part) ++ all_taken s arguments
+      (place_if (is_some (own_class s)) super_at ++ place_if (is_object (kind_given (super_result s selector))) part) ++ all_taken s arguments
   taken s _ = []
 
   -- what a variable, a field or `self` takes that isn't read, but assigned to: the object whose field it is

@@ -13,7 +13,7 @@ ghost use Rattle.arc_judge.specs.Rules as rules;
 ghost use Rattle.arc_ast.specs.Operators.{sort_of};
 ghost use Rattle.arc_ast.specs.declared.tree.Moment.{Moment};
 ghost use Rattle.arc_judge.specs.Rules.{kind_if, no_right, unmet};
-ghost use Rattle.arc_sites.specs.Sites.{ANumber, AValue, AnObject, left_need};
+ghost use Rattle.arc_judge.specs.Rules.{ANumber, AValue, AnObject, left_need};
 ghost use Rattle.arc_scope.specs.Kinds as kinds;
 ghost use Rattle.arc_scope.specs.Scopes as scopes;
 ghost use Rattle.arc_scope.specs.declared.scope.Visible.{Visible};
@@ -76,7 +76,7 @@ fn number(kind: Option<Kind>, fault: Option<CheckFault>, taken: Taken) -> Judged
 
 /// A value of the kind, and an object of a static class, which is read from a variable or `self` at this place.
 fn variable_read(kind: Kind, class: Option<ClassId>, before: Taken, at: usize) -> Judged
-    ensures { result ≡ (record { kind = Some kind; class = class; fault = None; taken = counted before (rules.at_if (kinds.is_object (Some kind)) at); unread = before }) }
+    ensures { result ≡ (record { kind = Some kind; class = class; fault = None; taken = counted before (rules.place_if (kinds.is_object (Some kind)) at); unread = before }) }
 {
     Judged {
         kind: Some(kind),
@@ -179,8 +179,8 @@ fn judge_own_field(
     ensures kind { result.kind ≡ rules.field_kind (seen table.now visible.now) own }
     ensures class { option_map number_of_class result.class ≡ scopes.field_class own }
     ensures fault { option_map reported result.fault ≡ first (rules.no_field (seen table.now visible.now) own at) }
-    ensures taken { result.taken ≡ counted (counted before (rules.at_if (is_some own) at)) (rules.at_if (kinds.is_object (rules.field_kind (seen table.now visible.now) own)) at) }
-    ensures unread { result.unread ≡ counted before (rules.at_if (is_some own) at) }
+    ensures taken { result.taken ≡ counted (counted before (rules.place_if (is_some own) at)) (rules.place_if (kinds.is_object (rules.field_kind (seen table.now visible.now) own)) at) }
+    ensures unread { result.unread ≡ counted before (rules.place_if (is_some own) at) }
 {
     let kind = field_kind(table, visible, own);
     let unread = before.one_if(own.is_some(), at);
@@ -379,7 +379,7 @@ fn field_of(
     ensures fault { option_map reported result.fault
         ≡ earlier_of (earlier_of (option_map reported base.fault) (first (unmet AnObject base.kind base_at)))
         (first (broken_field (seen table.now visible.now) base.kind found name_at)) }
-    ensures taken { result.taken ≡ counted base.taken (rules.at_if (kinds.is_object (rules.arrow_kind (seen table.now visible.now) base.kind found)) name_at) }
+    ensures taken { result.taken ≡ counted base.taken (rules.place_if (kinds.is_object (rules.arrow_kind (seen table.now visible.now) base.kind found)) name_at) }
     ensures unread { result.unread ≡ base.taken }
 {
     let own = earlier(base.fault, no_object(base.kind, base_at));
@@ -426,7 +426,7 @@ fn judge_arrow<'a>(
 
 /// What an assignment has taken after its `=`, from the judgement on its left side.
 fn taken_by_left(is_assignable: bool, judged: Judged, sign: usize) -> Taken
-    ensures { result ≡ counted (if is_assignable then judged.unread else judged.taken) (rules.at_if (kinds.is_object judged.kind) sign) }
+    ensures { result ≡ counted (if is_assignable then judged.unread else judged.taken) (rules.place_if (kinds.is_object judged.kind) sign) }
 {
     let read = if is_assignable {
         judged.unread
@@ -617,7 +617,7 @@ fn taken_by_super(
     part: usize,
 ) -> Taken
     ensures { (table : ClassTable) → result
-        ≡ counted (counted before (rules.at_if (is_some (scopes.own_class (seen table visible.now))) super_at)) (rules.at_if (kinds.is_object kind) part) }
+        ≡ counted (counted before (rules.place_if (is_some (scopes.own_class (seen table visible.now))) super_at)) (rules.place_if (kinds.is_object kind) part) }
 {
     let read = before.one_if(visible.own_class().is_some(), super_at);
     read.one_if(is_object(kind), part)

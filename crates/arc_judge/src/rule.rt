@@ -8,7 +8,7 @@ ghost use Rattle.arc_judge.specs.Fault.{reported};
 ghost use Rattle.arc_judge.specs.Rules as rules;
 ghost use Rattle.arc_judge.specs.Rules.{is_updatable, no_right, number_kind, unary_kind, unmet};
 ghost use Rattle.arc_scope.specs.Views.{seen};
-ghost use Rattle.arc_sites.specs.Sites.{ANumber, AValue, AnObject, left_need, operand_need};
+ghost use Rattle.arc_judge.specs.Rules.{ANumber, AValue, AnObject, left_need, operand_need};
 ghost use Rattle.arc_judge.specs.private.Judging.{broken_at, other_rule};
 
 use arc_ast::tree::{Expr, Kind, Moment, OperatorSort, UnaryOperator};

@@ -3,7 +3,7 @@ ghost use Rattle.std.specs.Prelude.{◌≡◌, option_map};
 ghost use Rattle.arc_class.specs.Broken.{first};
 ghost use Rattle.arc_judge.specs.Fault.{reported};
 ghost use Rattle.arc_judge.specs.private.Judging.{counted, none_counted, one_counted};
-ghost use Rattle.arc_judge.specs.Rules.{at_if};
+ghost use Rattle.arc_judge.specs.Rules.{place_if};
 ghost use Rattle.arc_sites.specs.Violations.{violates};
 
 use arc_fault::check::CheckFault;
@@ -50,7 +50,7 @@ impl Taken {
 
     /// The same, if one is taken.
     pub fn one_if(self, so: bool, at: usize) -> Taken
-        ensures { result ≡ counted self (at_if so at) }
+        ensures { result ≡ counted self (place_if so at) }
     {
         if so { self.one(at) } else { self }
     }

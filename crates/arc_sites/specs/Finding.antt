@@ -1,5 +1,5 @@
 -- What a walk through sites finds.
-use Rattle.std.specs.Prelude.{List, [], ◌∷◌, flat_map, Option, option_map}
+use Rattle.std.specs.Prelude.{ℕ, List, [], ◌∷◌, flat_map, Option, option_map}
 use Rattle.arc_ast.specs.Tree.{expr_tree, variable_tree, stmt_tree, type_tree, parameter_tree, function_tree, global_tree, field_tree, head_tree}
 use Rattle.arc_sites.specs.declared.violation.Violation.{Violation}
 use Rattle.arc_sites.specs.declared.message.Message as code_message
@@ -8,13 +8,13 @@ use Rattle.arc_sites.specs.declared.node.Enclosing.TheVariants as e
 use Rattle.arc_sites.specs.declared.node.Node as code_node
 use Rattle.arc_sites.specs.declared.node.Node.TheVariants as n
 use Rattle.arc_sites.specs.Violations.{first, earlier_of}
-use Rattle.arc_sites.specs.Sites.{Enclosing, InFunction, InMethod, InInterface, InImplementation, InSource, Around, Scope, Need, Node, Value, Statement, Variable, Parameter, Function, Global, Field, Declared, Defined, Site}
+use Rattle.arc_sites.specs.Sites.{Enclosing, InFunction, InMethod, InInterface, InImplementation, InSource, Around, Node, Value, Statement, Variable, Parameter, Function, Global, Field, Declared, Defined, Site}
 use Rattle.arc_sites.specs.Messages.{Message}
 
 -- ---- what the code has of a node, without where it lies in memory
 
 abbrev pub enclosing_of : code_enclosing.Enclosing → Enclosing
-enclosing_of (e.Function f) = InFunction (function_tree f.now)
+enclosing_of e.Function = InFunction
 enclosing_of (e.Method class head) = InMethod class.now.name.items (head_tree head.now)
 enclosing_of (e.Interface class) = InInterface class.now.name.items
 enclosing_of (e.Implementation class) = InImplementation class.now.name.items
@@ -34,8 +34,8 @@ node_of (n.Defined h) = Defined (head_tree h.now)
 abbrev pub message_of : code_message.Message → Message
 message_of m = record { part = m.part; receiver = option_map (λ a. expr_tree a.now) m.receiver; selector = m.selector.now }
 
-abbrev pub around : Enclosing → Scope → Need → Around
-around m s need = record { enclosing = m; scope = s; need = need }
+abbrev pub around : Enclosing → (own : List (List ℕ)) → Around
+around m own = record { enclosing = m; own = own }
 
 -- ---- rules, each of which says what is violated at a site
 

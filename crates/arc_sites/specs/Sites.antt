@@ -1,56 +1,23 @@
 -- The sites of a source: each node of its tree, with what surrounds it. They are this project's own words for the rules of later stages.
-use Rattle.std.specs.Prelude.{ℕ, Bool, true, false, ◌||◌, List, [], ◌∷◌, ◌++◌, flat_map, fold, Option, Some, None}
+use Rattle.std.specs.Prelude.{ℕ, List, [], ◌∷◌, ◌++◌, flat_map, fold, Option, Some, None}
 use Rattle.std.specs.Option.{option_map_or}
-use Rattle.arc_ast.specs.Operators.{sort_of}
-use Rattle.arc_ast.specs.declared.tree.UnaryOperator.{UnaryOperator}
-use Rattle.arc_ast.specs.declared.tree.UnaryOperator.TheVariants as u
-use Rattle.arc_ast.specs.declared.tree.OperatorSort.{OperatorSort}
-use Rattle.arc_ast.specs.declared.tree.OperatorSort.TheVariants.{Equality, Logic}
 use Rattle.arc_ast.specs.declared.tree.Qualifiers.{Qualifiers}
-use Rattle.arc_ast.specs.Tree as t
 use Rattle.arc_ast.specs.Tree.{TypeTree, ExprTree, ExprTrees, Paren, Call, Unary, Cast, Binary, Conditional, Arrow, Assign, Update, Send, SendSuper, no_exprs, and_expr, VariableTree, StmtTree, StmtTrees, Block, Empty, Simple, Return, Variables, If, IfElse, While, Do, For, Break, Continue, no_stmts, and_stmt, ParameterTree, ParametersTree, Listed, CountAndTexts, FunctionTree, GlobalTree, FieldTree, HeadTree, MethodTree, InterfaceTree, ImplementationTree, UnitTree}
 
 -- ---- what surrounds a node
 
 -- What has a node: a function, a method of the class with a name, the interface or the implementation of such a class, or the source itself.
 pub data Enclosing : Type 0 where
-  InFunction : FunctionTree → Enclosing
+  InFunction : Enclosing
   InMethod : (class : List ℕ) → HeadTree → Enclosing
   InInterface : (class : List ℕ) → Enclosing
   InImplementation : (class : List ℕ) → Enclosing
   InSource : Enclosing
 
--- a variable or a parameter that is in scope
-pub record Bound : Type 0 where
-  pub name : List ℕ
-  pub type : TypeTree
-
--- The variables that are in scope: those of the innermost scope, and those of the scopes around it, the last one first (C99, section 6.2.1); and whether a loop
--- surrounds the node.
-pub record Scope : Type 0 where
-  pub own : List Bound
-  pub outer : List Bound
-  pub in_loop : Bool  -- in the body of a loop; not in its test and its step, where no rule asks for it
-
--- What an expression is needed for: nothing more, a test, an operand of `!`, `&&` or `||`, the first value of `?:` or the left side of `==` or `!=`, a number, an object, what goes with another expression (the right side of `=`,
--- `==` and `!=`, the second value of `?:`), the first value of a variable of a type, what the function or the method returns, what a message is sent to, the first argument or another one
--- of a function with a name, and an argument of a message with a selector. An expression in parentheses is needed for what they are needed for.
-pub data Need : Type 0 where
-  Anything : Need
-  AValue : Need
-  ANumber : Need
-  AnObject : Need
-  Like : ExprTree → Need
-  Initial : TypeTree → Need
-  Result : Need
-  Receiver : Need
-  Argument : (function : List ℕ) → (is_first : Bool) → Need
-  Passed : (selector : List ℕ) → Need
-
+-- What has a node, and the names of the variables and parameters that the innermost scope around it has so far, the last one first (C99, section 6.2.1).
 pub record Around : Type 0 where
   pub enclosing : Enclosing
-  pub scope : Scope
-  pub need : Need
+  pub own : List (List ℕ)
 
 -- A node: an expression, a statement, a variable that a declaration makes of a type after qualifiers, a parameter of a body, a function, a variable of the whole program, a
 -- field, and a method that is declared or defined.
@@ -69,136 +36,94 @@ pub record Site : Type 0 where
   pub around : Around
   pub node : Node
 
--- one site alone; only an expression is needed for something
-abbrev pub value : Enclosing → Scope → Need → ExprTree → List Site
-value m s need a = record { around = record { enclosing = m; scope = s; need = need }; node = Value a } ∷ []
-
-abbrev pub site : Enclosing → Scope → Node → List Site
-site m s node = record { around = record { enclosing = m; scope = s; need = Anything }; node = node } ∷ []
+-- one site alone
+abbrev pub site : Enclosing → (own : List (List ℕ)) → Node → List Site
+site m own node = record { around = record { enclosing = m; own = own }; node = node } ∷ []
 
 -- ---- scopes
 
--- a variable more
-abbrev pub declare : List ℕ → TypeTree → Scope → Scope
-declare name type s = record s { own = record { name = name; type = type } ∷ s.own }
+abbrev pub with_variables : List VariableTree → List (List ℕ) → List (List ℕ)
+with_variables all own = fold (λ own v. v.name ∷ own) own all
 
--- a scope in a scope, which is a loop's or not
-abbrev pub inner : (loops : Bool) → Scope → Scope
-inner loops s = record { own = []; outer = s.own ++ s.outer; in_loop = s.in_loop || loops }
+-- the names of a scope after a statement in it
+abbrev pub after : List (List ℕ) → StmtTree → List (List ℕ)
+after own (Variables at qualifiers type all) = with_variables all own
+after own _ = own
 
-abbrev pub with_variables : TypeTree → List VariableTree → Scope → Scope
-with_variables type all s = fold (λ s v. declare v.name type s) s all
-
--- what is in scope after a statement
-abbrev pub after : Scope → StmtTree → Scope
-after s (Variables at qualifiers type all) = with_variables type all s
-after s _ = s
-
--- before the parameters of a function or of a method; they and the variables of its outermost block are one scope (C99, section 6.9.1)
-abbrev pub outermost : Scope
-outermost = record { own = []; outer = []; in_loop = false }
-
-abbrev pub with_parameters : List ParameterTree → Scope → Scope
-with_parameters all s = fold (λ s p. declare p.name p.type s) s all
+-- the parameters of a function or of a method, and the variables of its outermost block, are one scope (C99, section 6.9.1)
+abbrev pub with_parameters : List ParameterTree → List (List ℕ)
+with_parameters all = fold (λ own p. p.name ∷ own) [] all
 
 -- ---- expressions
 
--- what the operand of an operator before it is needed for
-abbrev pub operand_need : UnaryOperator → Need
-operand_need u.Not = AValue
-operand_need _ = ANumber
-
--- what the operand of a cast is needed for, by the type
-abbrev pub cast_need : TypeTree → Need
-cast_need t.Id = AnObject
-cast_need (t.Object at name) = AnObject
-cast_need _ = ANumber
-
--- what the operands of an operator are needed for, by its sort
-abbrev pub left_need : OperatorSort → Need
-left_need Equality = AValue
-left_need Logic = AValue
-left_need _ = ANumber
-
-abbrev pub right_need : OperatorSort → ExprTree → Need
-right_need Equality left = Like left
-right_need Logic left = AValue
-right_need _ left = ANumber
-
--- the sites inside an expression that is needed for something, each one after those inside it
+-- the sites inside an expression, each one after those inside it
 abbrev mutual
-  pub inside : Enclosing → Scope → Need → ExprTree → List Site
-  inside m s need (Paren at a) = inside m s need a ++ value m s need a
-  inside m s need (Call at name all) = arguments m s (Argument name true) (Argument name false) all
-  inside m s need (Unary at operator a) = inside m s (operand_need operator) a ++ value m s (operand_need operator) a
-  inside m s need (Cast at type a) = inside m s (cast_need type) a ++ value m s (cast_need type) a
-  inside m s need (Binary at operator a b) =
-      (inside m s (left_need (sort_of operator)) a ++ value m s (left_need (sort_of operator)) a)
-      ++ (inside m s (right_need (sort_of operator) a) b ++ value m s (right_need (sort_of operator) a) b)
-  inside m s need (Conditional at c a b) =
-      (inside m s AValue c ++ value m s AValue c) ++ ((inside m s AValue a ++ value m s AValue a) ++ (inside m s (Like a) b ++ value m s (Like a) b))
-  inside m s need (Arrow at name_at a name) = inside m s AnObject a ++ value m s AnObject a
-  inside m s need (Assign at sign a b) = (inside m s Anything a ++ value m s Anything a) ++ (inside m s (Like a) b ++ value m s (Like a) b)
-  inside m s need (Update at sign moment operator a b) = (inside m s Anything a ++ value m s Anything a) ++ (inside m s ANumber b ++ value m s ANumber b)
-  inside m s need (Send at part receiver selector all) =
-      (inside m s Receiver receiver ++ value m s Receiver receiver) ++ arguments m s (Passed selector) (Passed selector) all
-  inside m s need (SendSuper at part super_at selector all) = arguments m s (Passed selector) (Passed selector) all
-  inside m s need _ = []
+  pub inside : Enclosing → (own : List (List ℕ)) → ExprTree → List Site
+  inside m own (Paren at a) = inside m own a ++ site m own (Value a)
+  inside m own (Call at name all) = arguments m own all
+  inside m own (Unary at operator a) = inside m own a ++ site m own (Value a)
+  inside m own (Cast at type a) = inside m own a ++ site m own (Value a)
+  inside m own (Binary at operator a b) = (inside m own a ++ site m own (Value a)) ++ (inside m own b ++ site m own (Value b))
+  inside m own (Conditional at c a b) =
+      (inside m own c ++ site m own (Value c)) ++ ((inside m own a ++ site m own (Value a)) ++ (inside m own b ++ site m own (Value b)))
+  inside m own (Arrow at name_at a name) = inside m own a ++ site m own (Value a)
+  inside m own (Assign at sign a b) = (inside m own a ++ site m own (Value a)) ++ (inside m own b ++ site m own (Value b))
+  inside m own (Update at sign moment operator a b) = (inside m own a ++ site m own (Value a)) ++ (inside m own b ++ site m own (Value b))
+  inside m own (Send at part receiver selector all) = (inside m own receiver ++ site m own (Value receiver)) ++ arguments m own all
+  inside m own (SendSuper at part super_at selector all) = arguments m own all
+  inside m own _ = []
 
-  -- the sites of arguments, where the first one and the others are needed for these
-  pub arguments : Enclosing → Scope → (first others : Need) → ExprTrees → List Site
-  arguments m s first others no_exprs = []
-  arguments m s first others (and_expr a rest) = (inside m s first a ++ value m s first a) ++ arguments m s others others rest
+  pub arguments : Enclosing → (own : List (List ℕ)) → ExprTrees → List Site
+  arguments m own no_exprs = []
+  arguments m own (and_expr a others) = (inside m own a ++ site m own (Value a)) ++ arguments m own others
 
 -- the sites of an expression
-abbrev pub sites : Enclosing → Scope → Need → ExprTree → List Site
-sites m s need a = inside m s need a ++ value m s need a
+abbrev pub sites : Enclosing → (own : List (List ℕ)) → ExprTree → List Site
+sites m own a = inside m own a ++ site m own (Value a)
 
-abbrev pub maybe_sites : Enclosing → Scope → Need → Option ExprTree → List Site
-maybe_sites m s need a = option_map_or (sites m s need) a []
+abbrev pub maybe_sites : Enclosing → (own : List (List ℕ)) → Option ExprTree → List Site
+maybe_sites m own a = option_map_or (sites m own) a []
 
 -- ---- statements
 
 -- the sites of a declaration's variables; a variable is in scope in its own first value (C99, section 6.2.1)
-abbrev pub variable_sites : Enclosing → Qualifiers → TypeTree → Scope → List VariableTree → List Site
-variable_sites m qualifiers type s [] = []
-variable_sites m qualifiers type s (v ∷ others) =
-    (site m s (Variable qualifiers type v) ++ maybe_sites m (declare v.name type s) (Initial type) v.initial) ++ variable_sites m qualifiers type (declare v.name type s) others
+abbrev pub variable_sites : Enclosing → Qualifiers → TypeTree → (own : List (List ℕ)) → List VariableTree → List Site
+variable_sites m qualifiers type own [] = []
+variable_sites m qualifiers type own (v ∷ others) =
+    (site m own (Variable qualifiers type v) ++ maybe_sites m (v.name ∷ own) v.initial) ++ variable_sites m qualifiers type (v.name ∷ own) others
 
 -- The sites inside a statement, and of statements. A block is a scope of its own, and so is what an `if` or a loop runs (C99, section 6.8); a `for` is one around
 -- its body, with the variables that are declared before it (section 6.8.5.3).
 abbrev mutual
-  pub within : Enclosing → Scope → StmtTree → List Site
-  within m s (Block at all) = all_sites m (inner false s) all
-  within m s (Empty at) = []
-  within m s (Simple a) = sites m s Anything a
-  within m s (Return at a) = maybe_sites m s Result a
-  within m s (Variables at qualifiers type all) = variable_sites m qualifiers type s all
-  within m s (If at c a) = sites m s AValue c ++ (site m (inner false s) (Statement a) ++ within m (inner false s) a)
-  within m s (IfElse at c a b) =
-      sites m s AValue c ++ ((site m (inner false s) (Statement a) ++ within m (inner false s) a) ++ (site m (inner false s) (Statement b) ++ within m (inner false s) b))
-  within m s (While at c a) = sites m s AValue c ++ (site m (inner true s) (Statement a) ++ within m (inner true s) a)
-  within m s (Do at a c) = (site m (inner true s) (Statement a) ++ within m (inner true s) a) ++ sites m s AValue c
-  within m s (For at a c e b) =
-      let own = after (inner false s) a in
-      (site m (inner false s) (Statement a) ++ within m (inner false s) a)
-      ++ (maybe_sites m own AValue c ++ (maybe_sites m own Anything e ++ (site m (inner true own) (Statement b) ++ within m (inner true own) b)))
-  within m s (Break at) = []
-  within m s (Continue at) = []
+  pub within : Enclosing → (own : List (List ℕ)) → StmtTree → List Site
+  within m own (Block at all) = all_sites m [] all
+  within m own (Empty at) = []
+  within m own (Simple a) = sites m own a
+  within m own (Return at a) = maybe_sites m own a
+  within m own (Variables at qualifiers type all) = variable_sites m qualifiers type own all
+  within m own (If at c a) = sites m own c ++ (site m [] (Statement a) ++ within m [] a)
+  within m own (IfElse at c a b) = sites m own c ++ ((site m [] (Statement a) ++ within m [] a) ++ (site m [] (Statement b) ++ within m [] b))
+  within m own (While at c a) = sites m own c ++ (site m [] (Statement a) ++ within m [] a)
+  within m own (Do at a c) = (site m [] (Statement a) ++ within m [] a) ++ sites m own c
+  within m own (For at a c e b) =
+      (site m [] (Statement a) ++ within m [] a)
+      ++ (maybe_sites m (after [] a) c ++ (maybe_sites m (after [] a) e ++ (site m [] (Statement b) ++ within m [] b)))
+  within m own (Break at) = []
+  within m own (Continue at) = []
 
-  pub all_sites : Enclosing → Scope → StmtTrees → List Site
-  all_sites m s no_stmts = []
-  all_sites m s (and_stmt a others) = (site m s (Statement a) ++ within m s a) ++ all_sites m (after s a) others
+  pub all_sites : Enclosing → (own : List (List ℕ)) → StmtTrees → List Site
+  all_sites m own no_stmts = []
+  all_sites m own (and_stmt a others) = (site m own (Statement a) ++ within m own a) ++ all_sites m (after own a) others
 
 -- the sites of a statement
-abbrev pub stmt_sites : Enclosing → Scope → StmtTree → List Site
-stmt_sites m s a = site m s (Statement a) ++ within m s a
+abbrev pub stmt_sites : Enclosing → (own : List (List ℕ)) → StmtTree → List Site
+stmt_sites m own a = site m own (Statement a) ++ within m own a
 
 -- ---- functions, classes and a source
 
-abbrev pub parameter_sites : Enclosing → Scope → List ParameterTree → List Site
-parameter_sites m s [] = []
-parameter_sites m s (p ∷ others) = site m s (Parameter p) ++ parameter_sites m (declare p.name p.type s) others
+abbrev pub parameter_sites : Enclosing → (own : List (List ℕ)) → List ParameterTree → List Site
+parameter_sites m own [] = []
+parameter_sites m own (p ∷ others) = site m own (Parameter p) ++ parameter_sites m (p.name ∷ own) others
 
 -- the parameters that have names in a body
 abbrev pub named_parameters : ParametersTree → List ParameterTree
@@ -208,22 +133,22 @@ named_parameters CountAndTexts = []
 -- the sites of a body, if there is one, with its parameters
 abbrev pub body_sites : Enclosing → List ParameterTree → Option StmtTrees → List Site
 body_sites m parameters None = []
-body_sites m parameters (Some body) = parameter_sites m outermost parameters ++ all_sites m (with_parameters parameters outermost) body
+body_sites m parameters (Some body) = parameter_sites m [] parameters ++ all_sites m (with_parameters parameters) body
 
 abbrev pub function_sites : FunctionTree → List Site
-function_sites f = site (InFunction f) outermost (Function f) ++ body_sites (InFunction f) (named_parameters f.parameters) f.body
+function_sites f = site InFunction [] (Function f) ++ body_sites InFunction (named_parameters f.parameters) f.body
 
 abbrev pub head_sites : (class : List ℕ) → HeadTree → List Site
-head_sites class h = site (InInterface class) outermost (Declared h)
+head_sites class h = site (InInterface class) [] (Declared h)
 
 abbrev pub method_sites : (class : List ℕ) → MethodTree → List Site
-method_sites class m = site (InMethod class m.head) outermost (Defined m.head) ++ body_sites (InMethod class m.head) m.head.parameters (Some m.body)
+method_sites class m = site (InMethod class m.head) [] (Defined m.head) ++ body_sites (InMethod class m.head) m.head.parameters (Some m.body)
 
 abbrev pub field_sites : Enclosing → List FieldTree → List Site
-field_sites m = flat_map (λ f. site m outermost (Field f))
+field_sites m = flat_map (λ f. site m [] (Field f))
 
 abbrev pub global_sites : GlobalTree → List Site
-global_sites g = site InSource outermost (Global g)
+global_sites g = site InSource [] (Global g)
 
 abbrev pub interface_sites : InterfaceTree → List Site
 interface_sites i = field_sites (InInterface i.name) i.fields ++ flat_map (head_sites i.name) i.methods

@@ -7,7 +7,7 @@ use arc_ast::tree::{
 /// What has a node.
 #[derive(Clone, Copy)]
 pub enum Enclosing<'a> {
-    Function(&'a Function),
+    Function,
     /// A method of an implementation.
     Method(&'a Implementation, &'a MethodHead),
     Interface(&'a Interface),

@@ -1,9 +1,8 @@
 //! A walk through all sites of a source.
-ghost use Rattle.std.specs.Prelude.{◌≡◌, List, Option, flat_map, option_map};
+ghost use Rattle.std.specs.Prelude.{◌≡◌, ℕ, List, Option, flat_map, option_map};
 ghost use Rattle.arc_ast.specs.Tree.{expr_tree, expr_trees, variable_trees, type_tree, stmt_tree, stmt_trees, parameter_trees, parameters_tree, function_tree, function_trees, global_trees, field_trees, head_trees, method_tree, method_trees, interface_tree, interface_trees, implementation_tree, implementation_trees, unit_tree};
 ghost use Rattle.arc_sites.specs.Violations.{first, earlier_of};
 ghost use Rattle.arc_sites.specs.Sites as sites;
-ghost use Rattle.arc_sites.specs.Sites.{Scope, Need};
 ghost use Rattle.arc_sites.specs.Finding.{enclosing_of, node_of, around, found_from};
 
 use crate::node::{Enclosing, Node};
@@ -23,16 +22,16 @@ pub trait Visitor {
     /// The first violation that it has found.
     ghost found: { Self → Option Violation };
 
-    /// Looks at a site. The rules ask nothing of scopes and needs.
+    /// Looks at a site. The rules ask nothing of what is in scope.
     fn visit(&mut self, enclosing: Enclosing, node: Node)
-        ensures found { (scope : sites.Scope) (need : sites.Need) → found self.new ≡ earlier_of (found self.old) (first (violations self.old (around (enclosing_of enclosing.entry) scope need) (node_of node.entry))) }
+        ensures found { (own : List (List ℕ)) → found self.new ≡ earlier_of (found self.old) (first (violations self.old (around (enclosing_of enclosing.entry) own) (node_of node.entry))) }
         ensures same { violations self.new ≡ violations self.old };
 }
 
 /// Visits an expression, and first what is inside it.
 #[cycle(expressions)]
 fn expression<V: Visitor>(visitor: &mut V, enclosing: Enclosing, expr: &Expr)
-    ensures found { (scope : Scope) (need : Need) → V.found visitor.new ≡ found_from (V.violations visitor.old) (V.found visitor.old) (sites.sites (enclosing_of enclosing.entry) scope need (expr_tree expr.now)) }
+    ensures found { (own : List (List ℕ)) → V.found visitor.new ≡ found_from (V.violations visitor.old) (V.found visitor.old) (sites.sites (enclosing_of enclosing.entry) own (expr_tree expr.now)) }
     ensures same { V.violations visitor.new ≡ V.violations visitor.old }
 {
     inside(visitor, enclosing, expr);
@@ -42,7 +41,7 @@ fn expression<V: Visitor>(visitor: &mut V, enclosing: Enclosing, expr: &Expr)
 /// Visits what is inside an expression.
 #[cycle(expressions)]
 fn inside<V: Visitor>(visitor: &mut V, enclosing: Enclosing, expr: &Expr)
-    ensures found { (scope : Scope) (need : Need) → V.found visitor.new ≡ found_from (V.violations visitor.old) (V.found visitor.old) (sites.inside (enclosing_of enclosing.entry) scope need (expr_tree expr.now)) }
+    ensures found { (own : List (List ℕ)) → V.found visitor.new ≡ found_from (V.violations visitor.old) (V.found visitor.old) (sites.inside (enclosing_of enclosing.entry) own (expr_tree expr.now)) }
     ensures same { V.violations visitor.new ≡ V.violations visitor.old }
 {
     match expr {
@@ -84,7 +83,7 @@ fn inside<V: Visitor>(visitor: &mut V, enclosing: Enclosing, expr: &Expr)
 /// Visits arguments.
 #[cycle(expressions)]
 fn arguments<V: Visitor>(visitor: &mut V, enclosing: Enclosing, all: &[Expr])
-    ensures found { (scope : Scope) (one others : Need) → V.found visitor.new ≡ found_from (V.violations visitor.old) (V.found visitor.old) (sites.arguments (enclosing_of enclosing.entry) scope one others (expr_trees all.now)) }
+    ensures found { (own : List (List ℕ)) → V.found visitor.new ≡ found_from (V.violations visitor.old) (V.found visitor.old) (sites.arguments (enclosing_of enclosing.entry) own (expr_trees all.now)) }
     ensures same { V.violations visitor.new ≡ V.violations visitor.old }
 {
     for argument in all {
@@ -94,7 +93,7 @@ fn arguments<V: Visitor>(visitor: &mut V, enclosing: Enclosing, all: &[Expr])
 
 /// Visits an expression, if there is one.
 fn maybe<V: Visitor>(visitor: &mut V, enclosing: Enclosing, expr: &Option<Expr>)
-    ensures found { (scope : Scope) (need : Need) → V.found visitor.new ≡ found_from (V.violations visitor.old) (V.found visitor.old) (sites.maybe_sites (enclosing_of enclosing.entry) scope need (option_map expr_tree expr.now)) }
+    ensures found { (own : List (List ℕ)) → V.found visitor.new ≡ found_from (V.violations visitor.old) (V.found visitor.old) (sites.maybe_sites (enclosing_of enclosing.entry) own (option_map expr_tree expr.now)) }
     ensures same { V.violations visitor.new ≡ V.violations visitor.old }
 {
     if let Some(expr) = expr {
@@ -110,7 +109,7 @@ fn variables<V: Visitor>(
     type_name: &TypeName,
     all: &[Variable],
 )
-    ensures found { (scope : Scope) → V.found visitor.new ≡ found_from (V.violations visitor.old) (V.found visitor.old) (sites.variable_sites (enclosing_of enclosing.entry) qualifiers (type_tree type_name.now) scope (variable_trees all.now)) }
+    ensures found { (own : List (List ℕ)) → V.found visitor.new ≡ found_from (V.violations visitor.old) (V.found visitor.old) (sites.variable_sites (enclosing_of enclosing.entry) qualifiers (type_tree type_name.now) own (variable_trees all.now)) }
     ensures same { V.violations visitor.new ≡ V.violations visitor.old }
 {
     for variable in all {
@@ -122,7 +121,7 @@ fn variables<V: Visitor>(
 /// Visits a statement, and then what is inside it.
 #[cycle(statements)]
 fn statement<V: Visitor>(visitor: &mut V, enclosing: Enclosing, stmt: &Stmt)
-    ensures found { (scope : Scope) → V.found visitor.new ≡ found_from (V.violations visitor.old) (V.found visitor.old) (sites.stmt_sites (enclosing_of enclosing.entry) scope (stmt_tree stmt.now)) }
+    ensures found { (own : List (List ℕ)) → V.found visitor.new ≡ found_from (V.violations visitor.old) (V.found visitor.old) (sites.stmt_sites (enclosing_of enclosing.entry) own (stmt_tree stmt.now)) }
     ensures same { V.violations visitor.new ≡ V.violations visitor.old }
 {
     visitor.visit(enclosing, Node::Statement(stmt));
@@ -132,7 +131,7 @@ fn statement<V: Visitor>(visitor: &mut V, enclosing: Enclosing, stmt: &Stmt)
 /// Visits what is inside a statement.
 #[cycle(statements)]
 fn within<V: Visitor>(visitor: &mut V, enclosing: Enclosing, stmt: &Stmt)
-    ensures found { (scope : Scope) → V.found visitor.new ≡ found_from (V.violations visitor.old) (V.found visitor.old) (sites.within (enclosing_of enclosing.entry) scope (stmt_tree stmt.now)) }
+    ensures found { (own : List (List ℕ)) → V.found visitor.new ≡ found_from (V.violations visitor.old) (V.found visitor.old) (sites.within (enclosing_of enclosing.entry) own (stmt_tree stmt.now)) }
     ensures same { V.violations visitor.new ≡ V.violations visitor.old }
 {
     match stmt {
@@ -172,7 +171,7 @@ fn within<V: Visitor>(visitor: &mut V, enclosing: Enclosing, stmt: &Stmt)
 /// Visits the statements of a block.
 #[cycle(statements)]
 fn statements<V: Visitor>(visitor: &mut V, enclosing: Enclosing, all: &[Stmt])
-    ensures found { (scope : Scope) → V.found visitor.new ≡ found_from (V.violations visitor.old) (V.found visitor.old) (sites.all_sites (enclosing_of enclosing.entry) scope (stmt_trees all.now)) }
+    ensures found { (own : List (List ℕ)) → V.found visitor.new ≡ found_from (V.violations visitor.old) (V.found visitor.old) (sites.all_sites (enclosing_of enclosing.entry) own (stmt_trees all.now)) }
     ensures same { V.violations visitor.new ≡ V.violations visitor.old }
 {
     for stmt in all {
@@ -182,7 +181,7 @@ fn statements<V: Visitor>(visitor: &mut V, enclosing: Enclosing, all: &[Stmt])
 
 /// Visits the parameters of a body.
 fn parameters<V: Visitor>(visitor: &mut V, enclosing: Enclosing, all: &[Parameter])
-    ensures found { (scope : Scope) → V.found visitor.new ≡ found_from (V.violations visitor.old) (V.found visitor.old) (sites.parameter_sites (enclosing_of enclosing.entry) scope (parameter_trees all.now)) }
+    ensures found { (own : List (List ℕ)) → V.found visitor.new ≡ found_from (V.violations visitor.old) (V.found visitor.old) (sites.parameter_sites (enclosing_of enclosing.entry) own (parameter_trees all.now)) }
     ensures same { V.violations visitor.new ≡ V.violations visitor.old }
 {
     for parameter in all {
@@ -205,7 +204,7 @@ fn function<V: Visitor>(visitor: &mut V, function: &Function)
     ensures found { V.found visitor.new ≡ found_from (V.violations visitor.old) (V.found visitor.old) (sites.function_sites (function_tree function.now)) }
     ensures same { V.violations visitor.new ≡ V.violations visitor.old }
 {
-    let enclosing = Enclosing::Function(function);
+    let enclosing = Enclosing::Function;
     visitor.visit(enclosing, Node::Function(function));
     if let Some(body) = &function.body {
         parameters(visitor, enclosing, named_parameters(&function.parameters));

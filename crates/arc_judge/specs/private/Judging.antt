@@ -15,7 +15,7 @@ use Rattle.arc_judge.specs.declared.taken.Taken.{Taken}
 use Rattle.arc_judge.specs.Fault.{reported}
 use Rattle.arc_scope.specs.Formats.{fits}
 use Rattle.arc_scope.specs.Passing.{wanted_by}
-use Rattle.arc_judge.specs.Rules.{at_if, call_rule, kind_if, kind_of, kinds, is_assignable, broken, broken_head, broken_method, no_field, broken_whole, broken_arguments, taken, unread, all_taken, unless_so}
+use Rattle.arc_judge.specs.Rules.{place_if, call_rule, kind_if, kind_of, kinds, is_assignable, broken, broken_head, broken_method, no_field, broken_whole, broken_arguments, taken, unread, all_taken, unless_so}
 use Rattle.arc_scope.specs.Kinds.{is_object}
 use Rattle.arc_scope.specs.Scopes.{Known, Scope, result_kind, is_printf, class_of}
 use Rattle.arc_judge.specs.declared.taken.TheConstants.{MOST_TAKEN}
@@ -83,7 +83,7 @@ pub record JudgesCall (s : Scope) (before : Taken) (at : ℕ) (callee : Callee) 
   pub fault : option_map reported judged.fault
       ≡ first (broken_at at (call_rule callee arguments (kinds s arguments)) ++ broken_arguments s (wanted_by callee parameters) (is_printf callee) arguments)
   pub taken : judged.taken
-      ≡ counted before (at_if (is_object (kind_if (is_none (call_rule callee arguments (kinds s arguments))) (result_kind callee))) at ++ all_taken s arguments)
+      ≡ counted before (place_if (is_object (kind_if (is_none (call_rule callee arguments (kinds s arguments))) (result_kind callee))) at ++ all_taken s arguments)
 
 -- ---- classes
 

@@ -8,7 +8,7 @@ use Rattle.arc_scope.specs.Formats.{wanted}
 use Rattle.arc_scope.specs.declared.callee.Callee.TheVariants.{Printf}
 use Rattle.arc_judge.specs.private.Judging.{Judges, JudgesCall, counted}
 use Rattle.arc_scope.specs.Passing.{receiver_sign}
-use Rattle.arc_judge.specs.Rules.{at_if, broken_arguments, kind_if, no_such}
+use Rattle.arc_judge.specs.Rules.{place_if, broken_arguments, kind_if, no_such}
 use Rattle.arc_scope.specs.Kinds.{is_object}
 use Rattle.arc_scope.specs.Scopes.{either_class, is_nil}
 use Rattle.arc_scope.specs.Views.{kinds_wanted, seen}
@@ -119,7 +119,7 @@ judge_send-returns t c = λ at.
     judges_message s c.args.before c.one_if-between.result at c.args.part (expr_tree c.args.receiver.now) c.args.selector.now args (option_map number_of_class c.class_receiver-class.result) c.judge-judged.result
     (record { kind = c.message_kind-kind.result; class = c.sent_class.result; fault = c.earlier-2.result; taken = passed.taken; unread = passed.taken }) passed c.place.result (option_map reported c.receiver_fault-own.result) (option_map reported c.method_fault-unknown.result)
     c.class_receiver-class.ensures c.judge-judged.ensures c.place.ensures (c.message_kind-kind.ensures visible) (c.receiver_fault-own.ensures) (c.method_fault-unknown.ensures c.args.table.now visible c.args.selector.now (c.message_kind-kind.ensures visible))
-    (c.one_if-between.ensures ∙ ap (λ b. counted c.judge-judged.result.taken (at_if b c.args.part)) c.is_object.ensures) fault c.judge_arguments-passed.ensures.taken c.sent_class.ensures (c.earlier-2.ensures ∙ ap (λ o. earlier_of o (option_map reported passed.fault)) c.earlier.ensures) refl
+    (c.one_if-between.ensures ∙ ap (λ b. counted c.judge-judged.result.taken (place_if b c.args.part)) c.is_object.ensures) fault c.judge_arguments-passed.ensures.taken c.sent_class.ensures (c.earlier-2.ensures ∙ ap (λ o. earlier_of o (option_map reported passed.fault)) c.earlier.ensures) refl
 
 pub judge_super-returns : goal.judge_super-returns
 judge_super-returns t c = λ at.
@@ -147,7 +147,7 @@ judge_call-returns-in_default t c =
     c.judge_arguments-inside.ensures.fault ∙ ap (λ ks. first (broken_arguments s (Some ks) false all)) c.parameters.ensures in
     rw (sym c.callee_of-callee.ensures) (judges_other s c.args.before c.one_if-between.result c.args.at c.callee_of-callee.result (s.known.function_class c.args.name.now) (s.known.parameters c.args.name.now) c.args.arguments.now c.call_fault-own.result c.judge_arguments-inside.result c.called.result
     c.in_default.not-Printf c.call_fault-own.ensures (c.called.ensures.kind ∙ c.call_kind-kind.ensures ∙ ap (kind_if (is_none c.call_fault-own.result)) c.result_kind.ensures) (ap (option_map number_of_class) (c.called.ensures.class ∙ c.function_class.ensures)) c.called.ensures.fault
-    (c.one_if-between.ensures ∙ ap (λ b. counted c.args.before (at_if b c.args.at)) (c.is_object.ensures ∙ ap is_object (sym c.called.ensures.kind))) c.called.ensures.taken fault c.judge_arguments-inside.ensures.taken)
+    (c.one_if-between.ensures ∙ ap (λ b. counted c.args.before (place_if b c.args.at)) (c.is_object.ensures ∙ ap is_object (sym c.called.ensures.kind))) c.called.ensures.taken fault c.judge_arguments-inside.ensures.taken)
 
 pub judge_arguments-loop-argument-preserved : goal.judge_arguments-loop-argument-preserved
 judge_arguments-loop-argument-preserved t c =
