@@ -207,6 +207,7 @@ module _ {N : Type 0} {Node : N → Type 0} (facts : N → Facts) where
     -- what is long is two tokens at least
     pub longs : (limits : Limits) (A : Type 0) (f : Form N Node A) → Decided facts f → long facts f ≡ true → (a : A) (rest xs : List Tok) → SpellsBy L limits f a rest xs → 2 ≤ length xs
     longs limits A (map {A = B} h f) d e b rest xs (a, v, x) = longs limits B f d e a rest xs x
+    longs limits A (nest m T f) (d, o) e a rest xs (p, x) = longs limits A f d e a rest xs x
     longs limits A (f ⨾ g) (d, (d', o)) e a rest xs (ys, zs, c, x, y) =
         let q = both (not (nullable facts f)) (not (nullable facts g)) e in
         let first = seen_some (begins facts f) ys (some_starts limits f d (grind (arith, q.0)) a.0 (zs ++ rest) ys x) in
@@ -351,6 +352,7 @@ module _ {N : Type 0} {Node : N → Type 0} (facts : N → Facts) (body : Bodies
   -- the token goes on to something, and not by a token of U
   other_second : (T U : Kinds) (A : Type 0) (f : Form N Node A) → Decided facts f → Holds (parts facts T U f) → (t : Tok) → is T t ≡ true → (a : A) × (others : List Tok) × (sees U others ≡ false) × Has f a [] (t ∷ others)
   other_second T U A (map {A = B} h f) d e t i = let x = other_second T U B f d e t i in (h x.0, x.1, x.2, (x.0, refl, x.3))
+  other_second T U A (nest m V f) (d, o) e t i = let x = other_second T U A f d e t i in (x.0, x.1, x.2, (tt, x.3))
   other_second T U A (◌⨾◌ {A = B} {B = C} f g) (d, (d', (o, p))) (l, (m, (n, k))) t i =
       let x = one_alone B f d t (sees_among T (alone facts f) (t ∷ []) l i) in
       let y = example false (λ z. cc) C g d' m in

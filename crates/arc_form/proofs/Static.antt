@@ -81,6 +81,7 @@ module _ {N : Type 0} {Node : N → Type 0} (facts : N → Facts) where
   -- whether it is two tokens at least
   abbrev pub long : {A : Type 0} → Form N Node A → Bool
   long (map h f) = long f
+  long (nest d T f) = long f
   long (f ⨾ g) = not (nullable f) && not (nullable g)
   long _ = false
 
@@ -149,6 +150,7 @@ module _ {N : Type 0} {Node : N → Type 0} (facts : N → Facts) where
   -- something goes on with each token of the first kinds, and not by one of the second
   abbrev pub parts : Kinds → Kinds → {A : Type 0} → Form N Node A → Test
   parts T U (map h f) = parts T U f
+  parts T U (nest d V f) = parts T U f
   parts T U (f ⨾ g) = yes (among T (alone f)) and yes (simple g) and no (nullable g) and yes (apart U (begins g))
   parts T U _ = no true
 

@@ -493,21 +493,21 @@ qualified_declaration = map (λ (q, make). make q) (some_qualifiers ⨾ choose n
 
 -- ---- statements (C99, section 6.8)
 
--- the words with which statements begin
-abbrev pub begins_worded : Kinds
-begins_worded = word w.Return ∪ word w.If ∪ word w.While ∪ word w.Do ∪ word w.For ∪ word w.Break ∪ word w.Continue
+-- what statements begin with that are no expressions
+abbrev pub begins_other : Kinds
+begins_other = mark m.OpenBrace ∪ mark m.Semicolon ∪ word w.Return ∪ word w.If ∪ word w.While ∪ word w.Do ∪ word w.For ∪ word w.Break ∪ word w.Continue
 
 abbrev pub begins_stmt : Kinds
-begins_stmt = mark m.OpenBrace ∪ mark m.Semicolon ∪ begins_worded ∪ begins_expr
+begins_stmt = begins_other ∪ begins_expr
 
 -- a list as the trees hold it
 abbrev pub stmts : List StmtTree → StmtTrees
 stmts [] = no_stmts
 stmts (a ∷ others) = and_stmt a (stmts others)
 
--- an expression and `;` (6.8.3), which does not begin with a name and `*` or `<`, since these declare (this project's own choice, since a name may be a class's)
-unfoldable pub simple : Part StmtTree
-simple = avoid name (mark m.Star ∪ mark m.Less) (map (λ (e, end). Simple e) (full ⨾ the m.Semicolon))
+-- an expression and `;` (6.8.3), nested so deep, which does not begin with a name and `*` or `<`, since these declare (this project's own choice, since a name may be a class's)
+unfoldable pub simple : ℕ → Part StmtTree
+simple d = avoid name (mark m.Star ∪ mark m.Less) (nest d begins_expr (map (λ (e, end). Simple e) (full ⨾ the m.Semicolon)))
 
 unfoldable pub empty : Part StmtTree
 empty = map Empty (the m.Semicolon)
@@ -544,21 +544,21 @@ test_after = map (λ (again, (c, end)). c) (key w.While ⨾ controlling ⨾ the 
 unfoldable pub do_while : ℕ → Part StmtTree
 do_while d = map (λ (at, (a, c)). Do at a c) (into (d + 1) (key w.Do) (call (stmt (d + 1)) ⨾ test_after))
 
--- what comes before a `for`: a declaration, an expression or nothing, and `;` (6.8.5.3)
-unfoldable pub beginning : Part StmtTree
-beginning = choose begins_qualifier qualified_declaration (choose begins_plain_type (unqualified (declaration false))
-    (two_ahead name (mark m.Star) (unqualified (declaration true)) (choose (mark m.Semicolon) empty simple)))
+-- what comes before a `for`, and is nested as deep: a declaration, an expression or nothing, and `;` (6.8.5.3)
+unfoldable pub beginning : ℕ → Part StmtTree
+beginning d = choose begins_qualifier qualified_declaration (choose begins_plain_type (unqualified (declaration false))
+    (two_ahead name (mark m.Star) (unqualified (declaration true)) (choose (mark m.Semicolon) empty (simple d))))
 
 -- what comes after each turn of a `for`, and `)`
 unfoldable pub step : Part (Option ExprTree)
 step = choose (mark m.CloseParen) (map (λ end. None) (the m.CloseParen)) (map (λ (e, end). Some e) (full ⨾ the m.CloseParen))
 
 -- what is in the parentheses of a `for`, of which the test is an expression or nothing, and `;`
-unfoldable pub clauses : Part (StmtTree × (Option ExprTree × Option ExprTree))
-clauses = map (λ (start, all). all) (the m.OpenParen ⨾ beginning ⨾ value ⨾ step)
+unfoldable pub clauses : ℕ → Part (StmtTree × (Option ExprTree × Option ExprTree))
+clauses d = map (λ (start, all). all) (the m.OpenParen ⨾ beginning d ⨾ value ⨾ step)
 
 unfoldable pub for_do : ℕ → Part StmtTree
-for_do d = map (λ (at, ((a, (c, e)), b)). For at a c e b) (key w.For ⨾ into (d + 1) clauses (call (stmt (d + 1))))
+for_do d = map (λ (at, ((a, (c, e)), b)). For at a c e b) (key w.For ⨾ into (d + 1) (clauses d) (call (stmt (d + 1))))
 
 -- `break` and `continue` (6.8.6.2 and 6.8.6.3)
 unfoldable pub breaking : Part StmtTree
@@ -583,9 +583,10 @@ items d = many begins_item (item d)
 unfoldable pub block : ℕ → Part StmtTree
 block d = map (λ (at, (all, end)). Block at (stmts all)) (the m.OpenBrace ⨾ items (d + 1) ⨾ the m.CloseBrace)
 
+-- a statement that is no expression
 unfoldable pub statement : ℕ → Part StmtTree
 statement d = choose (mark m.OpenBrace) (block d) (choose (mark m.Semicolon) empty (choose (word w.Return) returned (choose (word w.If) (if_else d)
-    (choose (word w.Break) breaking (choose (word w.Continue) continuing (choose (word w.While) (while_do d) (choose (word w.Do) (do_while d) (choose (word w.For) (for_do d) simple))))))))
+    (choose (word w.Break) breaking (choose (word w.Continue) continuing (choose (word w.While) (while_do d) (choose (word w.Do) (do_while d) (for_do d))))))))
 
 -- ---- functions (C99, section 6.9.1; those of `main`, 5.1.2.2.1)
 
@@ -907,7 +908,7 @@ body expr = expression
 body unary = prefixed
 body (binary l) = operations (min l loosest)
 body condition = conditional_expr
-body (stmt d) = nest d begins_stmt (statement d)
+body (stmt d) = choose begins_other (nest d begins_other (statement d)) (simple d)
 
 -- This compiler's own limits (C99, section 5.2.4.1, asks for 127 levels of blocks and 63 of parentheses): a statement of a
 -- function's body nests 200 deep, where the body itself counts as 1, and a full-expression has 1,000 tokens.

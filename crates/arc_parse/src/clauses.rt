@@ -51,10 +51,10 @@ pub fn test_after(alloc: Global, reader: &mut Reader) -> Read<Box<Expr>>
     Ok(condition)
 }
 
-/// What comes before a `for`: a declaration, an expression or nothing, and `;`.
+/// What comes before a `for` that is nested so deep: a declaration, an expression or nothing, and `;`.
 #[tactic(auto, unfolding(arc_grammar::specs::Grammar::beginning))]
-fn beginning(alloc: Global, reader: &mut Reader) -> Read<Stmt>
-    ensures gives { Gives stmt_tree result (toks reader.new.rest.now) (reads grammar.beginning (toks reader.old.rest.now)) }
+fn beginning(alloc: Global, depth: usize, reader: &mut Reader) -> Read<Stmt>
+    ensures gives { Gives stmt_tree result (toks reader.new.rest.now) (reads (grammar.beginning depth) (toks reader.old.rest.now)) }
     ensures shorter { IfOk result (λ _. length reader.new.rest.now < length reader.old.rest.now) }
 {
     if sees_qualifier(reader) {
@@ -66,7 +66,7 @@ fn beginning(alloc: Global, reader: &mut Reader) -> Read<Stmt>
     } else if reader.sees_mark(Mark::Semicolon) {
         empty(reader)
     } else {
-        simple(alloc, reader)
+        simple(alloc, depth, reader)
     }
 }
 
@@ -84,14 +84,14 @@ fn step(alloc: Global, reader: &mut Reader) -> Read<Option<Box<Expr>>>
     Ok(Some(step))
 }
 
-/// What is in the parentheses of a `for`.
+/// What is in the parentheses of a `for` that is nested so deep.
 #[tactic(auto, unfolding(arc_grammar::specs::Grammar::clauses))]
-pub fn clauses(alloc: Global, reader: &mut Reader) -> Read<ForClauses>
-    ensures gives { Gives (λ x. (stmt_tree x.beginning.value, (option_map (λ b. expr_tree b.value) x.test, option_map (λ b. expr_tree b.value) x.step))) result (toks reader.new.rest.now) (reads grammar.clauses (toks reader.old.rest.now)) }
+pub fn clauses(alloc: Global, depth: usize, reader: &mut Reader) -> Read<ForClauses>
+    ensures gives { Gives (λ x. (stmt_tree x.beginning.value, (option_map (λ b. expr_tree b.value) x.test, option_map (λ b. expr_tree b.value) x.step))) result (toks reader.new.rest.now) (reads (grammar.clauses depth) (toks reader.old.rest.now)) }
     ensures shorter { IfOk result (λ _. length reader.new.rest.now < length reader.old.rest.now) }
 {
     reader.expect(Mark::OpenParen)?;
-    let beginning = beginning(alloc, reader)?;
+    let beginning = beginning(alloc, depth, reader)?;
     let beginning = boxed(alloc, beginning)?;
     let test = value(alloc, reader)?;
     let step = step(alloc, reader)?;

@@ -25,7 +25,7 @@ fn begins_literal(reader: &Reader) -> bool
 
 /// Whether an expression can begin with the first token.
 #[tactic(auto, using(arc_form::proofs::Sets::sees_or))]
-fn begins_expr(reader: &Reader) -> bool
+pub fn begins_expr(reader: &Reader) -> bool
     ensures { result ≡ sees grammar.begins_expr (toks reader.now.rest.now) }
 {
     reader.sees_name()
@@ -36,12 +36,14 @@ fn begins_expr(reader: &Reader) -> bool
         || sees_counting(reader)
 }
 
-/// Whether a statement can begin with the first token, which is a word.
+/// Whether a statement that is no expression can begin with the first token.
 #[tactic(auto, using(arc_form::proofs::Sets::sees_or))]
-fn begins_worded(reader: &Reader) -> bool
-    ensures { result ≡ sees grammar.begins_worded (toks reader.now.rest.now) }
+pub fn begins_other(reader: &Reader) -> bool
+    ensures { result ≡ sees grammar.begins_other (toks reader.now.rest.now) }
 {
-    reader.sees_word(Word::Return)
+    reader.sees_mark(Mark::OpenBrace)
+        || reader.sees_mark(Mark::Semicolon)
+        || reader.sees_word(Word::Return)
         || reader.sees_word(Word::If)
         || reader.sees_word(Word::While)
         || reader.sees_word(Word::Do)
@@ -52,13 +54,10 @@ fn begins_worded(reader: &Reader) -> bool
 
 /// Whether a statement can begin with the first token.
 #[tactic(auto, using(arc_form::proofs::Sets::sees_or))]
-pub fn begins_stmt(reader: &Reader) -> bool
+fn begins_stmt(reader: &Reader) -> bool
     ensures { result ≡ sees grammar.begins_stmt (toks reader.now.rest.now) }
 {
-    reader.sees_mark(Mark::OpenBrace)
-        || reader.sees_mark(Mark::Semicolon)
-        || begins_worded(reader)
-        || begins_expr(reader)
+    begins_other(reader) || begins_expr(reader)
 }
 
 /// Whether a declaration or a statement can begin with the first token.

@@ -6,12 +6,14 @@ ghost use Rattle.arc_ast.specs.Tree.{expr_tree, stmt_tree};
 ghost use Rattle.arc_grammar.specs.Grammar.{reads};
 ghost use Rattle.arc_grammar.specs.Grammar as grammar;
 
+use crate::first::begins_expr;
 use crate::full::full;
 use crate::node::unboxed;
 use arc_ast::tree::{Expr, Stmt};
 use arc_form::fail::{Fail, Read};
 use arc_form::reader::Reader;
 use arc_form::slice::after_first;
+use arc_grammar::limits::DEEPEST;
 use arc_lex::token::{Mark, Word};
 use std::alloc::Global;
 
@@ -25,15 +27,21 @@ pub fn empty(reader: &mut Reader) -> Read<Stmt>
     Ok(Stmt::Empty(at))
 }
 
-/// An expression and `;`. What begins with a name and `*` or `<` is refused at the mark: it would be a declaration.
-#[tactic(auto, unfolding(arc_grammar::specs::Grammar::simple))]
-pub fn simple(alloc: Global, reader: &mut Reader) -> Read<Stmt>
-    ensures gives { Gives stmt_tree result (toks reader.new.rest.now) (reads grammar.simple (toks reader.old.rest.now)) }
+/// An expression and `;`, nested so deep. What begins with a name and `*` or `<` is refused at the mark, however deep it is: it would be a declaration.
+#[tactic(auto, unfolding(arc_grammar::specs::Grammar::simple, arc_form::specs::Reader::nested))]
+pub fn simple(alloc: Global, depth: usize, reader: &mut Reader) -> Read<Stmt>
+    ensures gives { Gives stmt_tree result (toks reader.new.rest.now) (reads (grammar.simple depth) (toks reader.old.rest.now)) }
     ensures shorter { IfOk result (λ _. length reader.new.rest.now < length reader.old.rest.now) }
 {
     if reader.sees_name_and(Mark::Star) || reader.sees_name_and(Mark::Less) {
         reader.rest = after_first(reader.rest);
         return Err(Fail::Unexpected);
+    }
+    if depth > DEEPEST {
+        return match begins_expr(reader) {
+            true => Err(Fail::TooDeep),
+            false => Err(Fail::Unexpected),
+        };
     }
     let value = full(alloc, reader)?;
     reader.expect(Mark::Semicolon)?;

@@ -9,7 +9,7 @@ ghost use Rattle.arc_grammar.specs.Grammar as grammar;
 ghost use Rattle.arc_grammar.specs.declared.limits.TheConstants.{DEEPEST};
 
 use crate::clauses::{clauses, controlling, test_after};
-use crate::first::{begins_item, begins_stmt};
+use crate::first::{begins_item, begins_other};
 use crate::node::{boxed_stmt, unboxed};
 use crate::qualifier::sees_qualifier;
 use crate::simple::{breaking, continuing, empty, returned, simple};
@@ -30,16 +30,16 @@ fn stmt(alloc: Global, depth: usize, reader: &mut Reader) -> Read<Stmt>
     ensures gives { Gives stmt_tree result (toks reader.new.rest.now) (rules these (grammar.stmt depth) (toks reader.old.rest.now)) }
     ensures shorter { IfOk result (λ _. length reader.new.rest.now < length reader.old.rest.now) }
 {
-    if depth <= DEEPEST {
+    if !begins_other(reader) {
+        simple(alloc, depth, reader)
+    } else if depth <= DEEPEST {
         statement(alloc, depth, reader)
-    } else if begins_stmt(reader) {
-        Err(Fail::TooDeep)
     } else {
-        Err(Fail::Unexpected)
+        Err(Fail::TooDeep)
     }
 }
 
-/// A block, `;`, a statement that begins with a word, or an expression.
+/// A block, `;`, or a statement that begins with a word.
 #[cycle(stmts)]
 #[tactic(auto, unfolding(arc_grammar::specs::Grammar::statement))]
 fn statement(alloc: Global, depth: usize, reader: &mut Reader) -> Read<Stmt>
@@ -63,10 +63,8 @@ fn statement(alloc: Global, depth: usize, reader: &mut Reader) -> Read<Stmt>
         repeated(alloc, depth, reader)
     } else if reader.sees_word(Word::Do) {
         repeated_after(alloc, depth, reader)
-    } else if reader.sees_word(Word::For) {
-        stepped(alloc, depth, reader)
     } else {
-        simple(alloc, reader)
+        stepped(alloc, depth, reader)
     }
 }
 
@@ -147,7 +145,7 @@ fn stepped(alloc: Global, depth: usize, reader: &mut Reader) -> Read<Stmt>
     ensures shorter { IfOk result (λ _. length reader.new.rest.now < length reader.old.rest.now) }
 {
     let at = reader.keyword(Word::For)?;
-    let clauses = clauses(alloc, reader)?;
+    let clauses = clauses(alloc, depth, reader)?;
     let body = branch(alloc, depth + 1, reader)?;
     Ok(Stmt::For(
         at,
