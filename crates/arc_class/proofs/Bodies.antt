@@ -115,7 +115,7 @@ module _ (u : UnitTree) where
         (pair (broken_expr missing a) (broken_expr missing b) x y (expr_is a m own) (expr_is b m own))
     expr_is (Send at part receiver selector all) m own =
         let x = sites.sites m own receiver in
-        let y = arguments m own  all in
+        let y = arguments m own all in
         quiet (broken_expr missing receiver ++ broken_exprs missing all) (x ++ y) (site m own (Value (Send at part receiver selector all))) refl
         (pair (broken_expr missing receiver) (broken_exprs missing all) x y (expr_is receiver m own) (exprs_are all m own))
     expr_is (SendSuper at part super_at selector all) m own =
