@@ -8,7 +8,7 @@ use Rattle.arc_spec.specs.declared.class.Method.{Method}
 use Rattle.arc_spec.specs.declared.class.Gives.{Gives}
 use Rattle.arc_spec.specs.declared.class.Gives.TheVariants as gives
 use Rattle.arc_spec.specs.Classes.{Class, superclasses, ancestry, first_that_has, own_methods, same_sign, same_gives, answers, found, or_else, lookup, descends, strong_count, strong_counts, order_of_fields, above_class, field_order}
-use Rattle.arc_spec.specs.Meaning.{field_count, function_at, nothing_giving, most_levels}
+use Rattle.arc_spec.specs.Meaning.{function_at, nothing_giving, most_levels}
 use Rattle.arc_spec.specs.Holding.{count_of, Held, Frame}
 use Rattle.arc_spec.specs.Resolved as resolved
 use Rattle.arc_ir.specs.Acting.{Program, has_level, enters, step}
@@ -161,12 +161,12 @@ module _ (p : Program) (R : resolved.Program) where
   pub descent_same : Linked p R → (from : Option ℕ) (other : ℕ) → descends p.classes from other ≡ descends R.classes from other
   descent_same links from other = ap (λ above. list_any (λ class. nat_eq class other) (ancestry above from)) links.above
 
-  counts_same : (a b : Option Class) → Same p R a b → count_of b ≡ field_count a
+  counts_same : (a b : Option Class) → Same p R a b → count_of b ≡ count_of a
   counts_same None None same = refl
   counts_same (Some c) (Some d) same = same.1
   counts_same _ _ same = absurd same
 
-  pub fields_same : Linked p R → (class : ℕ) → count_of (slice_get p.classes class) ≡ field_count (slice_get R.classes class)
+  pub fields_same : Linked p R → (class : ℕ) → count_of (slice_get p.classes class) ≡ count_of (slice_get R.classes class)
   fields_same links class = counts_same (slice_get R.classes class) (slice_get p.classes class) (links.same class)
 
   strong_same : (a b : Option Class) → Same p R a b → strong_count b ≡ strong_count a

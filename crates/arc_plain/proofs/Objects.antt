@@ -8,11 +8,11 @@ use Rattle.std.proofs.lemmas.Bool.{ltb-true, ltb-false}
 use Rattle.std.specs.Borrow.{Bor}
 use Rattle.arc_spec.specs.declared.event.Event.{Event}
 use Rattle.arc_spec.specs.declared.event.Fault.TheVariants.{FieldClass, Resurrected}
-use Rattle.arc_spec.specs.Classes.{Class, descends, strong_count}
+use Rattle.arc_spec.specs.Classes.{Class, count_of, descends, strong_count}
 use Rattle.arc_spec.specs.Objects as objects
 use Rattle.arc_spec.specs.Objects.{object_at, with_object, with_fields, with_strong_fields, is_emptying, new_object, names, field_places, nils, zeros}
 use Rattle.arc_spec.specs.World.{Frame, World, Outcome, Done, Faulted, takes, with_objects, name_at, first_frame, first_world}
-use Rattle.arc_spec.specs.Meaning.{Deeper, class_in, field_count, next_object, made, in_object, field_read, field_set, field_stores}
+use Rattle.arc_spec.specs.Meaning.{Deeper, class_in, next_object, made, in_object, field_read, field_set, field_stores}
 use Rattle.arc_plain.specs.declared.halt.Halt.{Halt}
 use Rattle.arc_plain.specs.declared.object.Object.{Object}
 use Rattle.arc_plain.specs.Views.{Reports, object_of, changed, changed_to, named_in, field_replaced, object_field_replaced}
@@ -179,15 +179,15 @@ set_reported D classes r class index own v given w all new same is holds gives t
 -- ---- objects that are made
 
 pub make_reported : (D : Deeper) (classes : List Class) (known : Option ℕ) (c count strong number : ℕ) (w : World) (old new : List Object) (o : Object) (result : Result ℕ Halt) (after : World)
-    → D.classes ≡ classes → known ≡ Some c → w.objects ≡ map object_of old → count ≡ field_count (slice_get classes c) → strong ≡ strong_count (slice_get classes c) → object_of o ≡ new_object c count strong
+    → D.classes ≡ classes → known ≡ Some c → w.objects ≡ map object_of old → count ≡ count_of (slice_get classes c) → strong ≡ strong_count (slice_get classes c) → object_of o ≡ new_object c count strong
     → new ≡ old ++ o ∷ [] → number ≡ length new
     → Reports (λ n. n) result (Done number (takes number (with_objects w (map object_of new)))) after → Reports (λ n. n) result (made D known w) after
 make_reported D classes known c count strong number w old new o result after same is there counts strongs makes grown last reported =
-    let fields : count ≡ field_count (slice_get D.classes c) = counts ∙ ap (λ l. field_count (slice_get l c)) (sym same) in
+    let fields : count ≡ count_of (slice_get D.classes c) = counts ∙ ap (λ l. count_of (slice_get l c)) (sym same) in
     let names : strong ≡ strong_count (slice_get D.classes c) = strongs ∙ ap (λ l. strong_count (slice_get l c)) (sym same) in
-    let objects : map object_of new ≡ w.objects ++ new_object c (field_count (slice_get D.classes c)) (strong_count (slice_get D.classes c)) ∷ [] =
+    let objects : map object_of new ≡ w.objects ++ new_object c (count_of (slice_get D.classes c)) (strong_count (slice_get D.classes c)) ∷ [] =
     ap (map object_of) grown ∙ map-append object_of old (o ∷ []) ∙ ap (λ l. l ++ object_of o ∷ []) (sym there)
-    ∙ ap (λ x. w.objects ++ x ∷ []) (makes ∙ ap (λ n. new_object c n strong) fields ∙ ap (new_object c (field_count (slice_get D.classes c))) names) in
+    ∙ ap (λ x. w.objects ++ x ∷ []) (makes ∙ ap (λ n. new_object c n strong) fields ∙ ap (new_object c (count_of (slice_get D.classes c))) names) in
     let first : length w.objects ≡ length old = ap length there ∙ length-map old object_of in
     let one : number ≡ next_object w = omega (arith, last, ap length grown, length-append old (o ∷ []), first) in
     let meant : Done number (takes number (with_objects w (map object_of new))) ≡ made D known w =

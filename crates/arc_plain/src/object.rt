@@ -1,8 +1,8 @@
 //! Objects. They go by their numbers, which count from 1 in the order of their making; 0 is nil.
 ghost use Rattle.std.specs.Prelude.{◌≡◌, ℕ, suc, map, IfOk, MatchOption, None, Some, OnOk, slice_get, slice_set};
-ghost use Rattle.arc_spec.specs.Classes.{classes_of, superclasses, ancestry_within};
+ghost use Rattle.arc_spec.specs.Classes.{classes_of, count_of, superclasses, ancestry_within};
 ghost use Rattle.arc_checked.specs.Checked.{program_of};
-ghost use Rattle.arc_spec.specs.Meaning.{Deeper, turned, made, field_read, field_set, object_field_read, field_count, dying, gone, class_in, dealloc_run, deallocs_run};
+ghost use Rattle.arc_spec.specs.Meaning.{Deeper, turned, made, field_read, field_set, object_field_read, dying, gone, class_in, dealloc_run, deallocs_run};
 ghost use Rattle.arc_spec.specs.Objects.{Emptying, object_at, is_live, is_emptying, new_object, in_phase, with_fields, with_strong_fields};
 ghost use Rattle.arc_spec.specs.World.{World, Done, then_do, finished};
 ghost use Rattle.arc_plain.specs.Views.{world, deeper, Reports, nothing_of, object_of, phase_of, changed, object_field_replaced, named_in, cleared};
@@ -101,7 +101,7 @@ pub fn make(
 
 /// How many fields the objects of a class have that hold numbers.
 fn field_count(classes: &[Class], class: usize) -> usize
-    ensures { result ≡ field_count (slice_get (classes_of classes.now) class) }
+    ensures { result ≡ count_of (slice_get (classes_of classes.now) class) }
 {
     match classes.get(class) {
         Some(class) => class.fields,

@@ -121,9 +121,13 @@ abbrev pub class_at : ℤ → Option ℕ
 class_at (pos n) = Some n
 class_at (negsuc n) = None
 
--- ---- the fields that name objects
+-- ---- fields
 
--- how many fields that name objects the objects of a class have
+-- how many fields the objects of a class have that hold numbers, and how many that name objects
+abbrev pub count_of : Option Class → ℕ
+count_of None = 0
+count_of (Some c) = c.fields
+
 abbrev pub strong_count : Option Class → ℕ
 strong_count None = 0
 strong_count (Some c) = c.strong_fields

@@ -4,6 +4,7 @@ use Rattle.arc_spec.specs.declared.event.Fault.TheVariants.{NilField, FieldClass
 use Rattle.arc_spec.specs.Classes.{Class, descends, strong_count}
 use Rattle.arc_spec.specs.Objects.{Object, Phase, Live, Dying, Gone, object_at, with_object, in_phase, with_fields, with_strong_fields, is_live, is_emptying, new_object, field_places}
 pub use Rattle.arc_spec.specs.Objects.{is_there}
+pub use Rattle.arc_spec.specs.Classes.{count_of}
 use Rattle.arc_spec.specs.Stepping.{Next, Faults, Stuck, only_if}
 
 -- The strong places and the references of the running functions. Of the one that runs: its temporaries, the last one first, what its variables that name objects
@@ -170,11 +171,6 @@ abbrev pub given_back : ℕ → Held → Held
 given_back r h = named r (with_temporaries h (r ∷ h.temporaries))
 
 -- ---- objects
-
--- how many fields the objects of a class have that hold numbers
-abbrev pub count_of : Option Class → ℕ
-count_of None = 0
-count_of (Some c) = c.fields
 
 -- an object is made, a further temporary takes it, and a further reference names it
 abbrev pub makes : List Class → (class : ℕ) → Held → Held
