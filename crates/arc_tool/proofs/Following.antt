@@ -230,6 +230,13 @@ module _ (r0 r1 w0 w1 : ℕ) (R W : Type 0) where
   reader_kept (answer.Broken f) t e h = absurd (cc)
   reader_kept answer.NoHeap t e h = h.0
 
+  pub reader_stays : (a : Answer) → (is_stopped a ≡ true → ⊥) → Troubled a r0 r1 w0 w1 R W → r1 ≡ r0
+  reader_stays answer.Going on h = h.0
+  reader_stays (answer.Ended n) on h = h.0
+  reader_stays (answer.Faulted f) on h = h.0
+  reader_stays (answer.Broken f) on h = absurd (on refl)
+  reader_stays answer.NoHeap on h = h.0
+
   pub reader_failed : (a : Answer) → said a ≡ Err Read → Troubled a r0 r1 w0 w1 R W → (r1 ≡ r0 + 1) × R
   reader_failed answer.Going e h = absurd (cc)
   reader_failed (answer.Ended n) e h = absurd (cc)

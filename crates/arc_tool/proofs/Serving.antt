@@ -1,18 +1,17 @@
 -- What the program answers where a stage before the end refuses, or a device fails.
-use Rattle.std.proofs.Common.{◌≡◌, ℕ, List, Option, Result, Ok, Err, refl, sym, subst, ⊎_elim}
+use Rattle.std.proofs.Common.{◌≡◌, ℕ, List, Option, Some, None, Result, Ok, Err, refl, sym, subst, ⊎_elim}
+use Rattle.arc_code.specs.declared.code.IoFault.{IoFault}
 use Rattle.arc_code.specs.declared.code.IoFault.TheVariants.{Read, Write}
 use Rattle.arc_code.specs.declared.counted.Counted.{Counted}
 use Rattle.arc_machine.specs.declared.stop.Stop.{Stop}
 use Rattle.arc_tool.specs.declared.refusal.Refusal.{Refusal}
 use Rattle.arc_tool.specs.declared.report.Trouble.{Trouble}
-use Rattle.arc_tool.specs.declared.report.Trouble.TheVariants as trouble
 use Rattle.arc_tool.specs.declared.run.ToolFault.{ToolFault}
 use Rattle.arc_tool.specs.declared.run.ToolFault.TheVariants.{Refused, Memory, Io}
 use Rattle.arc_tool.specs.Refused.{IsRefusal}
-use Rattle.arc_tool.specs.Ran.{Untouched, Caused}
+use Rattle.arc_tool.specs.Ran.{Untouched, Blames, blamed}
 use Rattle.arc_tool.specs.Status.{BecomesTrouble, trouble_of}
-use Rattle.arc_tool.specs.Traced.{Blames}
-use Rattle.arc_tool.specs.Served.{Checks, Lists, RunsTo, Blamed, WriterBlamed}
+use Rattle.arc_tool.specs.Served.{Checks, Lists, RunsTo, device_of}
 
 module _ {W : Type 0} (contents : W → Option (List ℕ)) (failed : Type 0) (source : List ℕ) (o : Counted W) (r : Refusal) (t : Trouble) (is : IsRefusal source r) (becomes : BecomesTrouble r t) where
   pub check_refused : Checks contents failed source (Err t) o o
@@ -36,33 +35,20 @@ not_run source answered i0 i1 o0 o1 (Io f) refused h u = h
 
 -- ---- which device is at fault
 
-pub refused_blamed : (w : ℕ) (W : Type 0) (r : Refusal) (t : Trouble) → BecomesTrouble r t → WriterBlamed (Err t) w w W
+pub refused_blamed : (w : ℕ) (W : Type 0) (r : Refusal) (t : Trouble) → BecomesTrouble r t → Blames (device_of t) 0 0 w w ⊥ W
 refused_blamed w W r t becomes = ⊎_elim
-    (λ memory. subst (λ x. WriterBlamed (Err x) w w W) (sym memory.1) refl)
-    (λ other. subst (λ x. WriterBlamed (Err x) w w W) (sym other.1) refl)
+    (λ memory. subst (λ x. Blames (device_of x) 0 0 w w ⊥ W) (sym memory.1) (refl, refl))
+    (λ other. subst (λ x. Blames (device_of x) 0 0 w w ⊥ W) (sym other.1) (refl, refl))
     becomes
 
 module _ (r0 r1 w0 w1 : ℕ) (R W : Type 0) where
-  pub writer_blamed : (answer : Result ℕ Trouble) → r1 ≡ r0 → WriterBlamed answer w0 w1 W → Blamed answer r0 r1 w0 w1 R W
-  writer_blamed (Ok s) same h = (same, h)
-  writer_blamed (Err (trouble.Io Read)) same h = absurd h
-  writer_blamed (Err (trouble.Io Write)) same h = h
-  writer_blamed (Err trouble.Usage) same h = (same, h)
-  writer_blamed (Err (trouble.Refused r)) same h = (same, h)
-  writer_blamed (Err trouble.Memory) same h = (same, h)
-  writer_blamed (Err (trouble.Fault f)) same h = (same, h)
-  writer_blamed (Err trouble.NoHeap) same h = (same, h)
-  writer_blamed (Err trouble.StepsUsed) same h = (same, h)
-  writer_blamed (Err trouble.File) same h = (same, h)
+  -- a command that reads nothing
+  pub writer_alone : (fault : Option IoFault) → r1 ≡ r0 → Blames fault 0 0 w0 w1 ⊥ W → Blames fault r0 r1 w0 w1 R W
+  writer_alone None same h = (same, h.1)
+  writer_alone (Some Read) same h = absurd h.1
+  writer_alone (Some Write) same h = (same, h.1, h.2)
 
-  pub run_blamed : (f : ToolFault) → Caused (Err f) r0 r1 w0 w1 R W → Blamed (Err (trouble_of f)) r0 r1 w0 w1 R W
-  run_blamed (Refused r) h = h
-  run_blamed Memory h = h
-  run_blamed (Io Read) h = h
-  run_blamed (Io Write) h = (h.1, h.2)
-
-  pub trace_blamed : (f : ToolFault) → Blames (Err f) r0 r1 w0 w1 R W → Blamed (Err (trouble_of f)) r0 r1 w0 w1 R W
-  trace_blamed (Refused r) h = h
-  trace_blamed Memory h = h
-  trace_blamed (Io Read) h = h
-  trace_blamed (Io Write) h = h
+  pub same_device : (f : ToolFault) → Blames (blamed f) r0 r1 w0 w1 R W → Blames (device_of (trouble_of f)) r0 r1 w0 w1 R W
+  same_device (Refused r) h = h
+  same_device Memory h = h
+  same_device (Io f) h = h

@@ -48,6 +48,9 @@ module _ {S : Type 0} (out : S → Blocks) (p : Program) (names : List (List ℕ
   one_more : new.steps ≢ old.steps → new.steps ≡ suc old.steps
   one_more more = omega (arith, one_step, (goes_on out p old new i0 i1 i2 way.events way.reaches going held runs).1)
 
+  pub was_made : new.steps ≢ old.steps → is_stopped new.answer ≡ true → ⊥
+  was_made more stopped = omega (arith, held stopped, one_more more)
+
   abbrev more_text : Bool → List ℕ
   more_text b = events_text names b shown
 

@@ -20,9 +20,10 @@ use Rattle.arc_tool.specs.declared.run.ToolFault.TheVariants.{Refused, Memory, I
 use Rattle.arc_source.specs.Accepted.{meant}
 use Rattle.arc_tool.specs.Compiled.{Compiles, CompilesNamed, class_names}
 use Rattle.arc_tool.specs.Lines.{trace_text, events_text, end_text}
-use Rattle.arc_tool.specs.Ran.{Becomes, Untouched}
+use Rattle.arc_tool.specs.Ran as ran
+use Rattle.arc_tool.specs.Ran.{Becomes, Untouched, Blames, blamed_by}
 use Rattle.arc_tool.specs.Refused.{IsRefusal}
-use Rattle.arc_tool.specs.Traced.{Follows, Followed, Interrupted, Means, Traced, BrokenOff, AnsweredTrace, Blames, EndsTrace, stop_seen}
+use Rattle.arc_tool.specs.Traced.{Follows, Followed, Interrupted, Means, Traced, BrokenOff, AnsweredTrace, EndsTrace, stop_seen}
 
 -- ---- the meaning
 
@@ -73,9 +74,9 @@ module _ (source : List ℕ) (p : Program) (names : List (List ℕ)) (compiled :
         inl (broken_off (subst Meaning compiled.named (run, means)))
 
     -- a writer's failure is reported as its own
-    pub interrupted_blamed : (f : IoFault) (r0 r1 : ℕ) (R : Type 0) → Interrupted p names steps f i0 i1 o0 o1 w0 w1 W → Blames (Err (Io f)) r0 r1 w0 w1 R W
-    interrupted_blamed Read r0 r1 R run = absurd (let no = run.part.0 in cc)
-    interrupted_blamed Write r0 r1 R run = (run.part.2 ∙ ap (λ w. w + 1) run.whole.1, run.part.3)
+    pub interrupted_blamed : (f : IoFault) (r0 r1 : ℕ) (R : Type 0) → r1 ≡ r0 → Interrupted p names steps f i0 i1 o0 o1 w0 w1 W → Blames (Some f) r0 r1 w0 w1 R W
+    interrupted_blamed Read r0 r1 R same run = absurd (let no = run.part.0 in cc)
+    interrupted_blamed Write r0 r1 R same run = (same, run.part.2 ∙ ap (λ w. w + 1) run.whole.1, run.part.3)
 
   -- ---- the end of the text
 
@@ -111,9 +112,9 @@ module _ (source : List ℕ) (p : Program) (names : List (List ℕ)) (compiled :
     ended Unread (Err Memory) run end = absurd end
 
     -- which device is at fault
-    pub blamed : (left : Left) (r : Result Stop ToolFault) → Followed p names steps left begun i0 i1 o0 o1 r0 r1 w0 w1 R → EndsTrace left begun r o1 o2 w1 w2 W → Blames r r0 r1 w0 w2 R W
+    pub blamed : (left : Left) (r : Result Stop ToolFault) → Followed p names steps left begun i0 i1 o0 o1 r0 r1 w0 w1 R → EndsTrace left begun r o1 o2 w1 w2 W → Blames (blamed_by ran.blamed r) r0 r1 w0 w2 R W
     blamed (Stopped t) (Ok s) run end = (run.reader, end.1.1 ∙ run.written.1)
-    blamed (Stopped t) (Err (Io Write)) run end = (end.2 ∙ ap (λ w. w + 1) run.written.1, end.3)
+    blamed (Stopped t) (Err (Io Write)) run end = (run.reader, end.2 ∙ ap (λ w. w + 1) run.written.1, end.3)
     blamed (Stopped t) (Err (Io Read)) run end = absurd (let no = end.0 in cc)
     blamed (Stopped t) (Err (Refused x)) run end = absurd end
     blamed (Stopped t) (Err Memory) run end = absurd end

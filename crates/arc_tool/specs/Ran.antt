@@ -71,22 +71,24 @@ Answered source steps (Ok stop) i0 i1 o0 o1 = Ran source steps (Ok stop) i0 i1 o
 
 -- where nothing was run, nothing was read or written
 abbrev pub Untouched : {R W : Type 0} → Result Stop ToolFault → (r0 r1 : R) (w0 w1 : W) → Type 0
-Untouched (Err (Refused r)) r0 r1 w0 w1 = (r1 ≡ r0) × (w1 ≡ w0)
-Untouched (Err Memory) r0 r1 w0 w1 = (r1 ≡ r0) × (w1 ≡ w0)
-Untouched (Err (Io f)) r0 r1 w0 w1 = Unit {0}
 Untouched (Ok stop) r0 r1 w0 w1 = Unit {0}
+Untouched (Err (Io f)) r0 r1 w0 w1 = Unit {0}
+Untouched (Err _) r0 r1 w0 w1 = (r1 ≡ r0) × (w1 ≡ w0)
 
--- a device is at fault only where it has failed and its failures rose
-abbrev pub Failed : Result Stop IoFault → (reads0 reads1 writes0 writes1 : ℕ) → (reader_failed writer_failed : Type 0) → Type 0
-Failed (Err Read) r0 r1 w0 w1 reader writer = (r1 ≡ r0 + 1) × reader
-Failed (Err Write) r0 r1 w0 w1 reader writer = (r1 ≡ r0) × (w1 ≡ w0 + 1) × writer
-Failed (Ok stop) r0 r1 w0 w1 reader writer = (r1 ≡ r0) × (w1 ≡ w0)
+-- the device that an answer blames, if it does, where this says which one a fault blames
+abbrev pub blamed_by : {A E : Type 0} → (E → Option IoFault) → Result A E → Option IoFault
+blamed_by of (Ok answer) = None
+blamed_by of (Err fault) = of fault
 
-abbrev pub Caused : Result Stop ToolFault → (reads0 reads1 writes0 writes1 : ℕ) → (reader_failed writer_failed : Type 0) → Type 0
-Caused (Err (Io f)) r0 r1 w0 w1 reader writer = Failed (Err f) r0 r1 w0 w1 reader writer
-Caused (Err (Refused r)) r0 r1 w0 w1 reader writer = (r1 ≡ r0) × (w1 ≡ w0)
-Caused (Err Memory) r0 r1 w0 w1 reader writer = (r1 ≡ r0) × (w1 ≡ w0)
-Caused (Ok stop) r0 r1 w0 w1 reader writer = (r1 ≡ r0) × (w1 ≡ w0)
+abbrev pub blamed : ToolFault → Option IoFault
+blamed (Io fault) = Some fault
+blamed _ = None
+
+-- A device is blamed only where it has failed and its failures rose by one; the reader's stay where the writer is blamed, and both devices' where none is.
+abbrev pub Blames : Option IoFault → (reads0 reads1 writes0 writes1 : ℕ) → (reader_failed writer_failed : Type 0) → Type 0
+Blames (Some Read) r0 r1 w0 w1 reader writer = (r1 ≡ r0 + 1) × reader
+Blames (Some Write) r0 r1 w0 w1 reader writer = (r1 ≡ r0) × (w1 ≡ w0 + 1) × writer
+Blames None r0 r1 w0 w1 reader writer = (r1 ≡ r0) × (w1 ≡ w0)
 
 -- what a refusal becomes: a want of memory is reported as one
 abbrev pub Becomes : Refusal → ToolFault → Type 0

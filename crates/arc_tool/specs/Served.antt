@@ -1,10 +1,9 @@
 -- What the whole program does with its words and the bytes of its file. The lines and statuses are this project's own choice.
-use Rattle.std.specs.Prelude.{◌≡◌, ℕ, ◌+◌, ℤ, List, codes, Option, Result, Ok, Err, string_bytes}
+use Rattle.std.specs.Prelude.{◌≡◌, ℕ, ℤ, List, codes, Option, Some, None, Result, Ok, Err, string_bytes}
 use denote.Bor.{Bor}
 use Rattle.arc_spec.specs.Number.{low_byte}
 use Rattle.arc_code.specs.Counting.{failures_of, left_in, held_by}
 use Rattle.arc_code.specs.declared.code.IoFault.{IoFault}
-use Rattle.arc_code.specs.declared.code.IoFault.TheVariants.{Read, Write}
 use Rattle.arc_code.specs.declared.counted.Counted.{Counted}
 use Rattle.arc_code.specs.Listing.{listing}
 use Rattle.arc_code.specs.Running.{Program}
@@ -103,19 +102,10 @@ Attempted remaining contents failed (Ok words) (Err file_fault.Failed) answer i0
 Attempted remaining contents failed (Ok words) (Err file_fault.NoMemory) answer i0 i1 o0 o1 = Only Memory answer i0 i1 o0 o1
 Attempted remaining contents failed (Ok words) (Ok source) answer i0 i1 o0 o1 = Obeyed remaining contents failed words.command source.now words.steps answer i0 i1 o0 o1
 
--- a device is at fault only where it has failed and its failures rose
-abbrev pub Blamed : Result ℕ Trouble → (reads0 reads1 writes0 writes1 : ℕ) → (reader_failed writer_failed : Type 0) → Type 0
-Blamed (Err (Io Read)) r0 r1 w0 w1 reader writer = (r1 ≡ r0 + 1) × reader
-Blamed (Err (Io Write)) r0 r1 w0 w1 reader writer = (w1 ≡ w0 + 1) × writer
-Blamed (Err _) r0 r1 w0 w1 reader writer = (r1 ≡ r0) × (w1 ≡ w0)
-Blamed (Ok s) r0 r1 w0 w1 reader writer = (r1 ≡ r0) × (w1 ≡ w0)
-
--- the same of a command that reads nothing
-abbrev pub WriterBlamed : Result ℕ Trouble → (writes0 writes1 : ℕ) → (writer_failed : Type 0) → Type 0
-WriterBlamed (Err (Io Read)) w0 w1 writer = ⊥
-WriterBlamed (Err (Io Write)) w0 w1 writer = (w1 ≡ w0 + 1) × writer
-WriterBlamed (Err _) w0 w1 writer = w1 ≡ w0
-WriterBlamed (Ok s) w0 w1 writer = w1 ≡ w0
+-- the device that trouble blames, if it does
+abbrev pub device_of : Trouble → Option IoFault
+device_of (Io fault) = Some fault
+device_of _ = None
 
 -- the status, and what is written on standard error: nothing, or trouble in one line, of which a failing device may take some first bytes alone
 abbrev pub Reported : {E : Type 0} → (contents : E → Option (List ℕ)) → (teller_failed : Type 0) → Result ℕ Trouble → (status : ℕ) → (e0 e1 : Counted E) → Type 0

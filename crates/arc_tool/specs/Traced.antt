@@ -137,11 +137,3 @@ AnsweredTrace source steps (Err (Io Write)) i0 i1 o0 o1 w0 w1 failed =
     ⊎ ((made : ℕ) × (stop : Stop) × (text : List ℕ) × Within (Stopped stop) made steps × Traced source made (Stopped stop) i0 i1 text × AppendsPart o0 o1 text)
 AnsweredTrace source steps (Ok stop) i0 i1 o0 o1 w0 w1 failed =
     (made : ℕ) × (text : List ℕ) × Within (Stopped stop) made steps × Traced source made (Stopped stop) i0 i1 text × Appends o0 o1 text
-
--- a device is at fault only where it has failed and its failures rose
-abbrev pub Blames : Result Stop ToolFault → (reads0 reads1 writes0 writes1 : ℕ) → (reader_failed writer_failed : Type 0) → Type 0
-Blames (Err (Io Read)) r0 r1 w0 w1 reader writer = (r1 ≡ r0 + 1) × reader
-Blames (Err (Io Write)) r0 r1 w0 w1 reader writer = (w1 ≡ w0 + 1) × writer
-Blames (Err (Refused r)) r0 r1 w0 w1 reader writer = (r1 ≡ r0) × (w1 ≡ w0)
-Blames (Err Memory) r0 r1 w0 w1 reader writer = (r1 ≡ r0) × (w1 ≡ w0)
-Blames (Ok stop) r0 r1 w0 w1 reader writer = (r1 ≡ r0) × (w1 ≡ w0)

@@ -1,9 +1,10 @@
 //! The whole program, but for reading its file.
-ghost use Rattle.std.specs.Prelude.{◌≡◌, ◌-◌, ◌^◌, ◌<◌, ℕ, Result, Err};
+ghost use Rattle.std.specs.Prelude.{◌≡◌, ◌-◌, ◌^◌, ◌<◌, ℕ, Result, Err, ⊥};
 ghost use Rattle.arc_code.specs.Attempts.{HasFailedToRead, HasFailedToWrite};
 ghost use Rattle.arc_code.specs.Counting.{failures_of, inner_of};
 ghost use Rattle.arc_tool.specs.declared.report.Trouble.{Trouble};
-ghost use Rattle.arc_tool.specs.Served.{Attempted, Blamed, Obeyed, Prints, Reported, Checks, Lists, WriterBlamed, source_or, ended_with};
+ghost use Rattle.arc_tool.specs.Ran.{Blames, blamed_by};
+ghost use Rattle.arc_tool.specs.Served.{Attempted, Obeyed, Prints, Reported, Checks, Lists, device_of, source_or, ended_with};
 
 use crate::accept::accept;
 use crate::compile::compile;
@@ -42,7 +43,7 @@ pub fn serve<R: Input, W: Output, E: Output>(
     ensures { (answer : Result ℕ Trouble)
         × Attempted R.remaining W.contents (HasFailedToWrite W.writes W.flushes (inner_of output.new))
         words file.entry answer input.old input.new output.old output.new
-        × Blamed answer (failures_of input.old) (failures_of input.new) (failures_of output.old) (failures_of output.new)
+        × Blames (blamed_by device_of answer) (failures_of input.old) (failures_of input.new) (failures_of output.old) (failures_of output.new)
         (HasFailedToRead R.reads (inner_of input.new)) (HasFailedToWrite W.writes W.flushes (inner_of output.new))
         × Reported E.contents (HasFailedToWrite E.writes E.flushes (inner_of errors.new))
         answer result errors.old errors.new }
@@ -80,7 +81,7 @@ fn attempt<R: Input, W: Output>(
     requires writes { failures_of output.old < 2 ^ 64 - 1 }
     ensures attempted { Attempted R.remaining W.contents (HasFailedToWrite W.writes W.flushes (inner_of output.new))
         words file.entry result input.old input.new output.old output.new }
-    ensures blamed { Blamed result (failures_of input.old) (failures_of input.new)
+    ensures blamed { Blames (blamed_by device_of result) (failures_of input.old) (failures_of input.new)
         (failures_of output.old) (failures_of output.new)
         (HasFailedToRead R.reads (inner_of input.new)) (HasFailedToWrite W.writes W.flushes (inner_of output.new)) }
 {
@@ -121,7 +122,7 @@ fn obey<R: Input, W: Output>(
     requires writes { failures_of output.old < 2 ^ 64 - 1 }
     ensures obeyed { Obeyed R.remaining W.contents (HasFailedToWrite W.writes W.flushes (inner_of output.new))
         words.now.command source.now words.now.steps result input.old input.new output.old output.new }
-    ensures blamed { Blamed result (failures_of input.old) (failures_of input.new)
+    ensures blamed { Blames (blamed_by device_of result) (failures_of input.old) (failures_of input.new)
         (failures_of output.old) (failures_of output.new)
         (HasFailedToRead R.reads (inner_of input.new)) (HasFailedToWrite W.writes W.flushes (inner_of output.new)) }
 {
@@ -148,7 +149,7 @@ fn check_source<W: Output>(
     requires { failures_of output.old < 2 ^ 64 - 1 }
     ensures checks { Checks W.contents (HasFailedToWrite W.writes W.flushes (inner_of output.new))
         source.now result output.old output.new }
-    ensures blamed { WriterBlamed result (failures_of output.old) (failures_of output.new)
+    ensures blamed { Blames (blamed_by device_of result) 0 0 (failures_of output.old) (failures_of output.new) ⊥
         (HasFailedToWrite W.writes W.flushes (inner_of output.new)) }
 {
     accept(alloc, source)?;
@@ -165,7 +166,7 @@ fn list_source<W: Output>(
     requires { failures_of output.old < 2 ^ 64 - 1 }
     ensures lists { Lists W.contents (HasFailedToWrite W.writes W.flushes (inner_of output.new))
         source.now result output.old output.new }
-    ensures blamed { WriterBlamed result (failures_of output.old) (failures_of output.new)
+    ensures blamed { Blames (blamed_by device_of result) 0 0 (failures_of output.old) (failures_of output.new) ⊥
         (HasFailedToWrite W.writes W.flushes (inner_of output.new)) }
 {
     let code = compile(alloc, source)?;

@@ -1,5 +1,5 @@
 use Rattle.std.proofs.lemmas.Result.{err_from_is_err_and}
-use Rattle.arc_tool.proofs.Serving.{not_run, run_blamed, trace_blamed}
+use Rattle.arc_tool.proofs.Serving.{not_run, same_device}
 use Rattle.arc_tool.proofs.serve.obey.Goals as goal
 
 pub returns-in_err-stop-in-Run-clause-obeyed : goal.returns-in_err-stop-in-Run-clause-obeyed
@@ -17,9 +17,9 @@ returns-in_err-stop-in-Trace-clause-obeyed g c =
 pub returns-in_err-stop-in-Run-clause-blamed : goal.returns-in_err-stop-in-Run-clause-blamed
 returns-in_err-stop-in-Run-clause-blamed g c =
     let p = err_from_is_err_and c.from_residual.result c.from_residual.ensures.1 in
-    rw (p.1, p.2) (run_blamed _ _ _ _ _ _ c.in_err-stop-in-Run.field-0.0 c.in_err-stop-in-Run.ensures.caused)
+    rw (p.1, p.2) (same_device _ _ _ _ _ _ c.in_err-stop-in-Run.field-0.0 c.in_err-stop-in-Run.ensures.caused)
 
 pub returns-in_err-stop-in-Trace-clause-blamed : goal.returns-in_err-stop-in-Trace-clause-blamed
 returns-in_err-stop-in-Trace-clause-blamed g c =
     let p = err_from_is_err_and c.from_residual-in_err-stop-in-Trace.result c.from_residual-in_err-stop-in-Trace.ensures.1 in
-    rw (p.1, p.2) (trace_blamed _ _ _ _ _ _ c.in_err-stop-in-Trace.field-0.0 c.in_err-stop-in-Trace.ensures.caused)
+    rw (p.1, p.2) (same_device _ _ _ _ _ _ c.in_err-stop-in-Trace.field-0.0 c.in_err-stop-in-Trace.ensures.caused)

@@ -5,8 +5,8 @@ use Rattle.arc_code.specs.declared.code.IoFault.TheVariants.{Read, Write}
 use Rattle.arc_machine.specs.declared.stop.Stop.TheVariants as stop
 use Rattle.arc_machine.specs.Said.{said}
 use Rattle.arc_tool.specs.Compiled.{bytes_of_name}
-use Rattle.arc_tool.proofs.Following.{left_of, left_stopped, left_unread, going_on, no_room, unread, reader_kept, reader_failed, writer_failed, never_fails, within_stop}
-use Rattle.arc_tool.proofs.Showing.{shows_fresh, one_step, shows_on, shows_part, is_left}
+use Rattle.arc_tool.proofs.Following.{left_of, left_stopped, left_unread, going_on, no_room, unread, reader_kept, reader_stays, reader_failed, writer_failed, never_fails, within_stop}
+use Rattle.arc_tool.proofs.Showing.{shows_fresh, one_step, was_made, shows_on, shows_part, is_left}
 use Rattle.arc_tool.proofs.trace.follow.Goals as goal
 
 pub loop-init : goal.loop-init
@@ -25,6 +25,14 @@ returns-in_err-begun-clause-interrupted g c =
     let part = rw c.steps_done-before.ensures at c.in_err-begun.ensures.broken in
     rw (p.1, p.2)
     (shows_part g.S.Store.out c.args.machine.now.program _ c.loop.machine c.run-answer.new.self _ _ _ _ _ _ _ _ i.3 i.1 ran held _ _ _ _ c.args.steps more (omega (arith, i.0)) (λ no. (c.run-answer.ensures.lacks i.1 no).op) part)
+
+pub returns-in_err-begun-clause-reads : goal.returns-in_err-begun-clause-reads
+returns-in_err-begun-clause-reads g c =
+    let p = err_from_is_err_and c.from_residual.result c.from_residual.ensures.1 in
+    let i = c.loop.invariant in
+    let more = rw c.steps_done-before.ensures at c.in_err-begun.ensures.made in
+    let on = was_made g.S.Store.out c.args.machine.now.program _ c.loop.machine c.run-answer.new.self _ _ _ _ _ _ _ _ i.3 i.1 (c.run-answer.ensures.moves i.1) (c.run-answer.ensures.within i.1) more in
+    rw p.1 (reader_stays _ _ _ _ _ _ _ on (c.run-answer.ensures.cause i.1) ∙ i.2)
 
 pub returns-then-ne-clause-followed : goal.returns-then-ne-clause-followed
 returns-then-ne-clause-followed g c =

@@ -24,7 +24,7 @@ returns-in_err-left-clause-caused g c =
     let names = map bytes_of_name c.in_ok-named.named.classes.items in
     let compiled = subst (λ (q : Program). CompilesNamed c.args.source.now q names) (sym (ap (λ m. m.program) c.in_ok-machine.ensures)) c.in_ok-named.ensures.compiled in
     let run = rw c.deref.ensures.value at c.in_err-left.ensures.interrupted in
-    rw (p.1, p.2) (interrupted_blamed c.args.source.now c.in_ok-machine.machine.program names compiled c.args.steps _ _ _ _ _ _ _ c.in_err-left.field-0.0 _ _ _ run)
+    rw (p.1, p.2) (interrupted_blamed c.args.source.now c.in_ok-machine.machine.program names compiled c.args.steps _ _ _ _ _ _ _ c.in_err-left.field-0.0 _ _ _ c.in_err-left.ensures.reads run)
 
 pub returns-clause-answered : goal.returns-clause-answered
 returns-clause-answered g c =
