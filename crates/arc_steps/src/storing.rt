@@ -7,7 +7,8 @@ ghost use Rattle.arc_steps.specs.Places.{Ready, CanHold, Executes, Follows, spot
 ghost use Rattle.arc_steps.specs.Storing.{CanReplace, Replaces, FieldReady, FindsField, LastGlobal, LastStored};
 
 use crate::answer::Answer;
-use crate::field::{is_of, name_index};
+use crate::field::is_of;
+use arc_cells::span::name_index;
 use crate::place::Place;
 use crate::releasing::{Turn, calm};
 use arc_cells::objects::Objects;
