@@ -1,5 +1,6 @@
 pub mod Accesses
 pub mod Cells
+pub mod Fields
 pub mod Found
 pub mod Patterns
 pub mod Refusing

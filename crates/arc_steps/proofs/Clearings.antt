@@ -10,7 +10,7 @@ use Rattle.arc_cells.specs.declared.waiting.Waiting.{Waiting}
 use Rattle.arc_cells.specs.declared.waiting.Waiting.TheVariants.{Clear}
 use Rattle.arc_heap.specs.Blocks.{Blocks}
 use Rattle.arc_cells.specs.Cells.{words, IsCell, Becomes, with_word}
-use Rattle.arc_steps.specs.Fields.{name_index}
+use Rattle.arc_cells.specs.Fields.{name_index}
 use Rattle.arc_cells.specs.Standing.{Memory, Stands, Stored, Values, Begin, Alters, Ends, IsKnown, IsEmptying, cell_of, place, waiter_words, waiting, with_store, with_frames}
 use Rattle.arc_steps.proofs.Standings.{block_of, kept_of, changed_stands, known_fields}
 use Rattle.arc_steps.proofs.Endings.{ends_else}

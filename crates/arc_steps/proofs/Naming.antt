@@ -8,7 +8,7 @@ use Rattle.arc_spec.specs.Objects.{Object}
 use Rattle.arc_spec.specs.Holding.{count_of}
 use Rattle.arc_heap.specs.Blocks.{Blocks}
 use Rattle.arc_cells.specs.Cells.{HasField}
-use Rattle.arc_steps.specs.Fields.{name_index}
+use Rattle.arc_cells.specs.Fields.{name_index}
 use Rattle.arc_cells.specs.Standing.{Begin, Stored, cell_of, place}
 use Rattle.arc_steps.proofs.Holdings.{mapped_at}
 

@@ -4,7 +4,7 @@ use Rattle.std.proofs.lemmas.Bool.{cases_lt}
 use Rattle.std.proofs.lemmas.Bool.Decides.{nat_tests}
 use Rattle.std.proofs.lemmas.Option.{slice_get-map}
 use Rattle.arc_spec.specs.Classes.{Class, field_order, numbers_from}
-use Rattle.arc_steps.specs.Fields.{name_index}
+use Rattle.arc_cells.specs.Fields.{name_index}
 use Rattle.arc_steps.specs.Storing.{index_of}
 use Rattle.arc_cells.specs.Standing.{orders_of, order_at, next_in}
 

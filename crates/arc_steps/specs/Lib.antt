@@ -1,6 +1,5 @@
 pub mod Clearing
 pub mod Entering
-pub mod Fields
 pub mod Giving
 pub mod Places
 pub mod Refusals

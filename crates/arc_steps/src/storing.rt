@@ -7,10 +7,11 @@ ghost use Rattle.arc_steps.specs.Places.{Ready, CanHold, Executes, Follows, spot
 ghost use Rattle.arc_steps.specs.Storing.{CanReplace, Replaces, FieldReady, FindsField, LastGlobal, LastStored};
 
 use crate::answer::Answer;
-use crate::field::{is_of, name_index};
+use crate::field::is_of;
 use crate::place::Place;
 use crate::releasing::{Turn, calm};
 use arc_cells::objects::Objects;
+use arc_cells::span::name_index;
 use arc_code::code::Code;
 use arc_code::instr::Instr;
 use arc_heap::store::Store;

@@ -5,7 +5,7 @@ use Rattle.arc_code.specs.declared.instr.Op.TheVariants.{ReadField}
 use Rattle.arc_code.specs.declared.instr.Instr.TheVariants.{Plain}
 use Rattle.arc_code.specs.Running.{program_of}
 use Rattle.arc_cells.specs.Cells.{Cell, IsCell, with_count}
-use Rattle.arc_steps.specs.Fields.{name_index}
+use Rattle.arc_cells.specs.Fields.{name_index}
 use Rattle.arc_steps.specs.Places.{spot}
 use Rattle.arc_cells.specs.Standing.{Memory, with_names, taking as taking_by}
 use Rattle.arc_steps.proofs.Holdings.{taking_needs, taking_went}
