@@ -7,25 +7,6 @@ use Rattle.arc_ast.specs.declared.tree.Qualifiers.TheVariants.{Unqualified, Qual
 use Rattle.arc_ast.specs.Tree.{TypeTree, Boolean, Int, Long, Id, Object, ResultTree, Void, Value, Related}
 
 abbrev pub type_kind : TypeTree → Kind
-type_kind Boolean = kinds.Bool
 type_kind Int = kinds.Int
-type_kind Long = kinds.Long
 type_kind Id = kinds.Object
 type_kind (Object at name) = kinds.Object
-
-abbrev pub result_kind : ResultTree → Kind
-result_kind Void = kinds.Void
-result_kind (Value type) = type_kind type
-result_kind Related = kinds.Object
-
--- qualifiers and one more
-abbrev pub and_qualifier : Qualifiers → Qual → Qualifiers
-and_qualifier Unqualified q = Qualified q
-and_qualifier (Qualified p) q = Several
-and_qualifier Several q = Several
-
--- qualifiers and others
-abbrev pub both_qualifiers : Qualifiers → Qualifiers → Qualifiers
-both_qualifiers all Unqualified = all
-both_qualifiers all (Qualified q) = and_qualifier all q
-both_qualifiers all Several = Several

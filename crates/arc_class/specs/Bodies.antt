@@ -19,7 +19,7 @@ is_bound bound name = list_any (λ b. bytes_eq b.name name) bound
 
 -- 21 Duplicate: a variable or a parameter whose name stands in its scope already, at the name (C99, section 6.7)
 abbrev pub rule_21 : Around → Node → Option ℕ
-rule_21 s (Variable qualifiers type v) = at_if (is_bound s.scope.own v.name) v.at
+rule_21 s (Variable type v) = at_if (is_bound s.scope.own v.name) v.at
 rule_21 s (Parameter p) = at_if (is_bound s.scope.own p.name) p.at
 rule_21 s _ = None
 
@@ -28,24 +28,9 @@ abbrev pub unknown_class : UnitTree → TypeTree → Option ℕ
 unknown_class u (t.Object at name) = at_if (is_none (class_number u.interfaces name)) at
 unknown_class u _ = None
 
-abbrev pub broken_type : UnitTree → TypeTree → List Broken
-broken_type u type = violates 22 (unknown_class u type)
-
--- the same of the type of a result
-abbrev pub broken_result_type : UnitTree → ResultTree → List Broken
-broken_result_type u (t.Value type) = broken_type u type
-broken_result_type u _ = []
-
--- of the types of parameters, and of fields
-abbrev pub broken_parameter_types : UnitTree → List ParameterTree → List Broken
-broken_parameter_types u = flat_map (λ p. broken_type u p.type)
-
-abbrev pub broken_field_types : UnitTree → List FieldTree → List Broken
-broken_field_types u = flat_map (λ f. broken_type u f.type)
-
 abbrev pub rule_22 : UnitTree → Node → Option ℕ
 rule_22 u (Value (Cast at type a)) = unknown_class u type
-rule_22 u (Statement (Variables at qualifiers type all)) = unknown_class u type
+rule_22 u (Statement (Variables at type all)) = unknown_class u type
 rule_22 u _ = None
 
 -- 30 UndefinedFunction: a call of a function that is declared and has no body, at its name (C99, section 6.9)

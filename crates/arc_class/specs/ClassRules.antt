@@ -21,17 +21,13 @@ use Rattle.arc_class.specs.Names.{first_named, parameter_kinds, listed_kinds, nu
 
 -- ---- methods
 
--- whether two methods give the same kind of value, and have parameters of the same kinds
-abbrev pub same_kinds_of : HeadTree → HeadTree → Bool
-same_kinds_of e h = same_kind (result_of e) (result_of h) && same_kinds (parameter_kinds e.parameters) (parameter_kinds h.parameters)
-
--- whether a method stands before another, and they differ in a kind
+-- whether a method stands before another, and gives another kind of value
 abbrev pub differs_before : Option HeadTree → HeadTree → Bool
-differs_before earlier h = option_map_or (λ e. nat_lt e.at h.at && not (same_kinds_of e h)) earlier false
+differs_before earlier h = option_map_or (λ e. nat_lt e.at h.at && not (same_kind e.result h.result)) earlier false
 
 -- whether a method that is built in gives another kind of value
 abbrev pub differs_from : Option Kind → HeadTree → Bool
-differs_from kind h = option_map_or (λ given. not (same_kind given (result_of h))) kind false
+differs_from kind h = option_map_or (λ given. not (same_kind given h.result)) kind false
 
 -- the selectors of the methods of the root that say what an object's class is or has (OPL, "Introspection")
 abbrev pub asks_class : List ℕ → Bool
@@ -46,7 +42,7 @@ asked_kind sign selector = if same_sign sign signs.Instance && asks_class select
 abbrev pub built_in_kind : Sign → List ℕ → Option Kind
 built_in_kind sign selector = or_else (built_in_result sign selector) (asked_kind sign selector)
 
--- 24 SelectorKinds: a method whose result or one of whose parameters is of another kind than that of an earlier method of its sign with its selector, those of
+-- 24 SelectorKinds: a method whose result is of another kind than that of an earlier method of its sign with its selector, those of
 -- the root being built in, at its `+` or `-` (this project's own choice)
 abbrev pub changes_kind : UnitTree → HeadTree → Bool
 changes_kind u h = differs_before (first_head h.sign h.selector (declared u.interfaces)) h
@@ -64,9 +60,8 @@ is_hook_of sign selector = if same_sign sign signs.Class then is_class_hook sele
 abbrev pub is_hook : HeadTree → Bool
 is_hook h = is_hook_of h.sign h.selector || bytes_eq h.selector (codes "class")
 
--- 22 UnknownClass too, in the types of its result and of its parameters
 abbrev pub broken_head : UnitTree → HeadTree → List Broken
-broken_head u h = broken_if (changes_kind u h) h.at 24 ++ (broken_if (is_hook h) h.at 28 ++ (broken_result_type u h.result ++ broken_parameter_types u h.parameters))
+broken_head u h = broken_if (changes_kind u h) h.at 24 ++ broken_if (is_hook h) h.at 28
 
 -- 21 Duplicate: a second method of one implementation of a sign with a selector, at its `+` or `-`; `before` are those before it (this project's own choice)
 abbrev pub broken_method : UnitTree → (before : List HeadTree) → HeadTree → List Broken
@@ -107,7 +102,7 @@ stands_before f at = option_map_or (λ f. nat_lt f.at at) f false
 -- 21 Duplicate: an interface of the root, of a name of the library's, of an earlier interface's class or of the name of an earlier function or
 -- global variable, at its name (this project's own choice)
 abbrev pub is_taken : UnitTree → (before : List InterfaceTree) → InterfaceTree → Bool
-is_taken u before i = is_root i.name || (is_library i.name || (is_some (interface_number before i.name) || (stands_before (first_named i.name u.functions) i.at || variable_before (known_global u.interfaces u.globals i.name) i.at)))
+is_taken u before i = is_root i.name || (is_library i.name || (is_some (interface_number before i.name) || stands_before (first_named i.name u.functions) i.at))
 
 -- the first implementation with a name is there
 abbrev pub is_implemented : List ImplementationTree → List ℕ → Bool
@@ -126,7 +121,7 @@ broken_own_fields u class i = broken_fields u (class_number u.interfaces i.super
 -- the type of a field of the interface.
 abbrev pub broken_members : UnitTree → (class : ℕ) → InterfaceTree → List Broken
 broken_members u class i =
-    broken_if (nat_lt MOST_FIELDS (length (fields u class))) i.at 27 ++ (broken_own_fields u class i ++ (broken_field_types u i.fields ++ flat_map (broken_head u) i.methods))
+    broken_if (nat_lt MOST_FIELDS (length (fields u class))) i.at 27 ++ (broken_own_fields u class i ++ flat_map (broken_head u) i.methods)
 
 abbrev pub broken_interface : UnitTree → (before : List InterfaceTree) → InterfaceTree → List Broken
 broken_interface u before i = broken_names u before i ++ broken_members u (suc (length before)) i
@@ -143,7 +138,7 @@ broken_own_names u before i =
 
 -- The names of an implementation's fields are looked at with those of its class's interface (`broken_own_fields`), and their types here: 22 UnknownClass.
 abbrev pub broken_implementation : UnitTree → (before : List ImplementationTree) → ImplementationTree → List Broken
-broken_implementation u before i = broken_own_names u before i ++ (broken_field_types u i.fields ++ broken_methods u [] i.methods)
+broken_implementation u before i = broken_own_names u before i ++ broken_methods u [] i.methods
 
 abbrev pub broken_implementations : UnitTree → (before : List ImplementationTree) → List ImplementationTree → List Broken
 broken_implementations u before [] = []
@@ -159,39 +154,10 @@ interface_before (i ∷ others) name at = if bytes_eq name i.name then nat_lt i.
 abbrev pub class_before : List InterfaceTree → List ℕ → ℕ → Bool
 class_before interfaces name at = is_root name || interface_before interfaces name at
 
--- whether a function's parameters are of other kinds than those of the first function of its name
-abbrev pub other_parameters : Option FunctionTree → FunctionTree → Bool
-other_parameters first f = option_map_or (λ e. not (same_kinds (listed_kinds e) (listed_kinds f))) first false
-
--- 21 Duplicate: a function with the name of the root, of an earlier interface's class (this project's own choice) or of an earlier global variable (C99, section
--- 6.7, paragraph 3), or whose parameters are of other kinds than
--- those of the first function of its name (C99, section 6.7.5.3), at its name
-abbrev pub clashes_with : List InterfaceTree → List GlobalTree → List FunctionTree → FunctionTree → Bool
-clashes_with interfaces globals functions f =
-    class_before interfaces f.name f.at || (variable_before (known_global interfaces globals f.name) f.at || other_parameters (first_named f.name functions) f)
-
-abbrev pub clashing_functions : List InterfaceTree → List GlobalTree → (all : List FunctionTree) → List FunctionTree → List Broken
-clashing_functions interfaces globals all = flat_map (λ f. broken_if (clashes_with interfaces globals all f) f.at 21)
-
--- 21 Duplicate: a global variable of a name of the library's, of the root, or of an earlier interface's class, function or global variable, at its name (C99,
--- section 6.7, paragraph 3; that a declaration without a first number may not stand again is this project's own choice)
-abbrev pub is_again : UnitTree → GlobalTree → Bool
-is_again u g = is_library g.name || (class_before u.interfaces g.name g.at
-    || (stands_before (first_named g.name u.functions) g.at || variable_before (known_global u.interfaces u.globals g.name) g.at))
-
--- and 22 UnknownClass, in its type
-abbrev pub broken_global : UnitTree → GlobalTree → List Broken
-broken_global u g = broken_if (is_again u g) g.at 21 ++ broken_type u g.type
-
-abbrev pub broken_globals : UnitTree → List GlobalTree → List Broken
-broken_globals u = flat_map (broken_global u)
-
--- 22 UnknownClass: in the types of the result and of the parameters of a function that is declared or defined
-abbrev pub broken_signatures : UnitTree → List FunctionTree → List Broken
-broken_signatures u = flat_map (λ f. broken_result_type u f.result ++ broken_parameter_types u (named_parameters f.parameters))
+abbrev pub clashing_functions : List InterfaceTree → List FunctionTree → List Broken
+clashing_functions interfaces = flat_map (λ f. broken_if (class_before interfaces f.name f.at) f.at 21)
 
 -- all that is wrong with what a source declares, and inside its functions and methods with names of variables, with types and with calls
 abbrev pub broken : UnitTree → List Broken
 broken u = (duplicates [] u.functions ++ (missing_main (number_of is_main u.functions) ++ broken_bodies u))
-    ++ (clashing_functions u.interfaces u.globals u.functions u.functions
-    ++ (broken_signatures u u.functions ++ (broken_globals u u.globals ++ (broken_interfaces u [] u.interfaces ++ broken_implementations u [] u.implementations))))
+    ++ (clashing_functions u.interfaces u.functions ++ (broken_interfaces u [] u.interfaces ++ broken_implementations u [] u.implementations))

@@ -19,11 +19,6 @@ same_kind k.Long k.Long = true
 same_kind k.Object k.Object = true
 same_kind _ _ = false
 
-abbrev pub same_kinds : List Kind → List Kind → Bool
-same_kinds [] [] = true
-same_kinds (a ∷ first) (b ∷ second) = same_kind a b && same_kinds first second
-same_kinds _ _ = false
-
 abbrev pub same_number : Option ℕ → Option ℕ → Bool
 same_number a b = option_map_or (λ m. option_map_or (λ n. nat_eq m n) b false) a (is_none b)
 

@@ -14,15 +14,9 @@ use Rattle.arc_code.specs.declared.instr.Op.TheVariants.{Num, Bin, Un, Narrow, P
 use Rattle.arc_code.specs.declared.instr.Instr.TheVariants.{Plain, PrintText, Jump, JumpZero, Call, Send, SendSuper, SendTo, SendToSuper, StoreStrong, StoreGlobal, StoreField, Empty, DropAll, Settle, Give, Return, EndStep}
 use Rattle.arc_code.specs.Running.{Instruction}
 
-abbrev pub gives_number : Gives → ℕ
-gives_number gives.Number = 0
-gives_number gives.Object = 1
-
 abbrev pub unary_number : UnaryOperator → ℕ
 unary_number u.Plus = 0
 unary_number u.Negate = 1
-unary_number u.Complement = 2
-unary_number u.Not = 3
 
 abbrev pub operator_number : BinaryOperator → ℕ
 operator_number o.Add = 0
@@ -30,19 +24,6 @@ operator_number o.Subtract = 1
 operator_number o.Multiply = 2
 operator_number o.Divide = 3
 operator_number o.NotEqual = 4
-operator_number o.Remainder = 5
-operator_number o.ShiftLeft = 6
-operator_number o.ShiftRight = 7
-operator_number o.Less = 8
-operator_number o.LessOrEqual = 9
-operator_number o.Greater = 10
-operator_number o.GreaterOrEqual = 11
-operator_number o.Equal = 12
-operator_number o.BitAnd = 13
-operator_number o.BitXor = 14
-operator_number o.BitOr = 15
-operator_number o.And = 16
-operator_number o.Or = 17
 
 abbrev pub kind_number : Kind → ℕ
 kind_number k.Void = 0
@@ -64,8 +45,6 @@ op_parts (Narrow kind) = (codes "Narrow", operand (kind_number kind))
 op_parts Pop = (codes "Pop", [])
 op_parts (Get depth) = (codes "Get", operand depth)
 op_parts (Set depth) = (codes "Set", operand depth)
-op_parts (GetGlobal i) = (codes "GetGlobal", operand i)
-op_parts (SetGlobal i) = (codes "SetGlobal", operand i)
 op_parts PrintNum = (codes "PrintNum", [])
 op_parts PrintByte = (codes "PrintByte", [])
 op_parts GetChar = (codes "GetChar", [])
@@ -73,38 +52,30 @@ op_parts Declare = (codes "Declare", [])
 op_parts Nil = (codes "Nil", [])
 op_parts ReadSelf = (codes "ReadSelf", [])
 op_parts (ReadRef i) = (codes "ReadRef", operand i)
-op_parts (ReadGlobal i) = (codes "ReadGlobal", operand i)
-op_parts (ReadField class index) = (codes "ReadField", operand class ++ operand index)
 op_parts Hold = (codes "Hold", [])
-op_parts Again = (codes "Again", [])
 op_parts Forget = (codes "Forget", [])
 op_parts Alloc = (codes "Alloc", [])
-op_parts (Finds selector) = (codes "Finds", operand selector)
 op_parts (GetField class index) = (codes "GetField", operand class ++ operand index)
 op_parts (SetField class index) = (codes "SetField", operand class ++ operand index)
 op_parts Differ = (codes "Differ", [])
 op_parts IsObject = (codes "IsObject", [])
 
-abbrev pub message_operands : (selector takes objects : ℕ) → Gives → List ℕ
-message_operands selector takes objects gives = operand selector ++ (operand takes ++ (operand objects ++ operand (gives_number gives)))
+abbrev pub message_operands : (selector takes : ℕ) → List ℕ
+message_operands selector takes = operand selector ++ operand takes
 
 abbrev pub parts : Instruction → List ℕ × List ℕ
 parts (Plain op) = op_parts op
 parts (PrintText piece) = (codes "PrintText", operand piece.from ++ operand piece.len)
 parts (Jump to) = (codes "Jump", operand to)
 parts (JumpZero to) = (codes "JumpZero", operand to)
-parts (Call to gives) = (codes "Call", operand to ++ operand (gives_number gives))
-parts (Send selector takes objects gives) = (codes "Send", message_operands selector takes objects gives)
-parts (SendSuper from selector takes objects gives) = (codes "SendSuper", operand from ++ message_operands selector takes objects gives)
-parts (SendTo selector takes objects gives) = (codes "SendTo", message_operands selector takes objects gives)
-parts (SendToSuper from selector takes objects gives) = (codes "SendToSuper", operand from ++ message_operands selector takes objects gives)
+parts (Call to) = (codes "Call", operand to)
+parts (Send selector takes) = (codes "Send", message_operands selector takes)
+parts (SendSuper from selector takes) = (codes "SendSuper", operand from ++ message_operands selector takes)
+parts (SendTo selector takes) = (codes "SendTo", message_operands selector takes)
+parts (SendToSuper from selector takes) = (codes "SendToSuper", operand from ++ message_operands selector takes)
 parts (StoreStrong i) = (codes "StoreStrong", operand i)
-parts (StoreGlobal i) = (codes "StoreGlobal", operand i)
-parts (StoreField class index) = (codes "StoreField", operand class ++ operand index)
 parts (Empty i) = (codes "Empty", operand i)
 parts DropAll = (codes "DropAll", [])
-parts Settle = (codes "Settle", [])
-parts Give = (codes "Give", [])
 parts Return = (codes "Return", [])
 parts EndStep = (codes "EndStep", [])
 

@@ -11,7 +11,6 @@ use Rattle.arc_spec.specs.Resolved.{Value, Number, Print, Applied, Combined, Cho
 
 -- A BOOL is 0 or 1, and so an int, and each number is a long. What is no number counts as wide as that.
 abbrev pub width : Kind → ℕ
-width k.Bool = 0
 width k.Int = 1
 width _ = 2
 
@@ -19,45 +18,28 @@ width _ = 2
 abbrev pub is_within : (narrow wide : Kind) → Bool
 is_within narrow wide = nat_le (width narrow) (width wide)
 
-abbrev pub wider : Kind → Kind → Kind
-wider a b = if is_within a b then b else a
-
 abbrev pub narrower : Kind → Kind → Kind
 narrower a b = if is_within a b then a else b
 
 -- the kind of a number
 abbrev pub number_kind : ℤ → Kind
-number_kind n = if is_same (converted k.Bool n) n then k.Bool else if is_same (converted k.Int n) n then k.Int else k.Long
-
--- what an operator gives that computes in a kind
-abbrev pub applied_kind : UnaryOperator → Kind → Kind
-applied_kind u.Not kind = k.Bool
-applied_kind _ kind = kind
+number_kind n = if is_same (converted k.Int n) n then k.Int else k.Long
 
 -- the same; a quotient, a remainder and what is shifted to the right aren't converted to that kind
 abbrev pub combined_kind : BinaryOperator → Kind → Kind
 combined_kind o.Divide kind = k.Long
-combined_kind o.Remainder kind = k.Long
-combined_kind o.ShiftRight kind = k.Long
-combined_kind o.Add kind = kind
-combined_kind o.Subtract kind = kind
-combined_kind o.Multiply kind = kind
-combined_kind o.ShiftLeft kind = kind
-combined_kind o.BitAnd kind = kind
-combined_kind o.BitXor kind = kind
-combined_kind o.BitOr kind = kind
-combined_kind _ kind = k.Bool
+combined_kind o.NotEqual kind = k.Int
+combined_kind _ kind = kind
 
 -- The narrowest kind that the form shows. Of a variable, a field, a call and a message it shows none, nor of a byte that is read.
 abbrev pub known_kind : Value → Kind
 known_kind (Number n) = number_kind n
 known_kind (Print pieces given) = k.Int
-known_kind (Applied operator kind a) = applied_kind operator kind
+known_kind (Applied operator kind a) = kind
 known_kind (Combined operator kind a b) = combined_kind operator kind
-known_kind (Choice c a b) = wider (known_kind a) (known_kind b)
 known_kind (Converted kind a) = narrower (known_kind a) kind
 known_kind (Assigned i a) = known_kind a
 known_kind (FieldAssigned a class index b) = known_kind b
-known_kind (Differ a b) = k.Bool
-known_kind (IsObject a) = k.Bool
+known_kind (Differ a b) = k.Int
+known_kind (IsObject a) = k.Int
 known_kind _ = k.Long

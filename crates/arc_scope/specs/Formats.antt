@@ -47,7 +47,7 @@ wanted format = conversions (parts Nothing format)
 
 -- `%d` and `%i` print an int, as which a BOOL is passed (C99, section 6.5.2.2, paragraph 6), and `%ld` and `%lld` a long
 abbrev pub suits_kind : Kind → Kind → Bool
-suits_kind wanted kind = is_number kind && same_kind wanted (wider kind k.Int)
+suits_kind wanted kind = same_kind wanted kind
 
 -- whether a conversion may print a value; one that has no kind breaks no rule about kinds
 abbrev pub suits : Part → Option Kind → Bool

@@ -9,8 +9,8 @@ use Rattle.arc_spec.specs.Families as families
 use Rattle.arc_scope.specs.declared.kind.TheConstants.{LARGEST_INT}
 
 -- an integer without a suffix is an int, where an int can hold it, and any other a long (C99, section 6.4.4.1; there are no unsigned kinds)
-abbrev pub literal_kind : ℤ → Bool → Kind
-literal_kind n suffixed = if int_le n LARGEST_INT && not suffixed then k.Int else k.Long
+abbrev pub literal_kind : ℤ → Kind
+literal_kind n = if int_le n LARGEST_INT then k.Int else k.Long
 
 -- whether a value of a kind is a number: not nothing, and no object
 abbrev pub is_number : Kind → Bool
@@ -24,16 +24,10 @@ wider k.Long _ = k.Long
 wider _ k.Long = k.Long
 wider _ _ = k.Int
 
--- the kind in which an operator computes, from those of its operands: a shift in that of the first, or int where that is narrower (C99, section 6.5.7)
-abbrev pub computing_kind : OperatorSort → Kind → Kind → Kind
-computing_kind Shift a b = wider a k.Int
-computing_kind _ a b = wider a b
-
 -- the kind of what an operator gives that computes in a kind: a comparison gives an int, and so do `&&` and `||` (C99, sections 6.5.8, 6.5.9, 6.5.13 and 6.5.14)
-abbrev pub given_kind : OperatorSort → Kind → Kind
-given_kind Arithmetic kind = kind
-given_kind Shift kind = kind
-given_kind _ kind = k.Int
+abbrev pub given_kind : BinaryOperator → Kind → Kind
+given_kind o.NotEqual kind = k.Int
+given_kind _ kind = kind
 
 abbrev pub is_object : Option Kind → Bool
 is_object kind = option_map_or families.is_object kind false

@@ -13,13 +13,9 @@ use Rattle.arc_scope.specs.Scopes.{Known}
 abbrev pub known_of : UnitTree → Known
 known_of u = record {
   function = known u.functions;
-  global = known_global u.interfaces u.globals;
-  parameters = kinds_of_parameters u.functions;
-  passed = kinds_passed u;
   class = class_number u.interfaces;
   superclass = superclass u.interfaces;
   descends = descends (classes u);
-  function_class = λ name. option_map number_of_class (class_of_result u name);
   result = known_result u;
   result_of_any = any_result u;
   selector = selector_number u;

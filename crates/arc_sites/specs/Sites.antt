@@ -17,8 +17,6 @@ pub data Enclosing : Type 0 where
   InFunction : FunctionTree → Enclosing
   InMethod : (class : List ℕ) → HeadTree → Enclosing
   InInterface : (class : List ℕ) → Enclosing
-  InImplementation : (class : List ℕ) → Enclosing
-  InSource : Enclosing
 
 -- a variable or a parameter that is in scope
 pub record Bound : Type 0 where
@@ -30,7 +28,6 @@ pub record Bound : Type 0 where
 pub record Scope : Type 0 where
   pub own : List Bound
   pub outer : List Bound
-  pub in_loop : Bool  -- in the body of a loop; not in its test and its step, where no rule asks for it
 
 -- What an expression is needed for: nothing more, a test, an operand of `!`, `&&` or `||`, the first value of `?:` or the left side of `==` or `!=`, a number, an object, what goes with another expression (the right side of `=`,
 -- `==` and `!=`, the second value of `?:`), the first value of a variable of a type, what the function or the method returns, what a message is sent to, the first argument or another one
@@ -57,11 +54,8 @@ pub record Around : Type 0 where
 pub data Node : Type 0 where
   Value : ExprTree → Node
   Statement : StmtTree → Node
-  Variable : Qualifiers → TypeTree → VariableTree → Node
+  Variable : TypeTree → VariableTree → Node
   Parameter : ParameterTree → Node
-  Function : FunctionTree → Node
-  Global : GlobalTree → Node
-  Field : FieldTree → Node
   Declared : HeadTree → Node
   Defined : HeadTree → Node
 
@@ -83,46 +77,33 @@ abbrev pub declare : List ℕ → TypeTree → Scope → Scope
 declare name type s = record s { own = record { name = name; type = type } ∷ s.own }
 
 -- a scope in a scope, which is a loop's or not
-abbrev pub inner : (loops : Bool) → Scope → Scope
-inner loops s = record { own = []; outer = s.own ++ s.outer; in_loop = s.in_loop || loops }
+abbrev pub inner : Scope → Scope
+inner s = record { own = []; outer = s.own ++ s.outer }
 
 abbrev pub with_variables : TypeTree → List VariableTree → Scope → Scope
 with_variables type all s = fold (λ s v. declare v.name type s) s all
 
 -- what is in scope after a statement
 abbrev pub after : Scope → StmtTree → Scope
-after s (Variables at qualifiers type all) = with_variables type all s
+after s (Variables at type all) = with_variables type all s
 after s _ = s
 
 -- before the parameters of a function or of a method; they and the variables of its outermost block are one scope (C99, section 6.9.1)
 abbrev pub outermost : Scope
-outermost = record { own = []; outer = []; in_loop = false }
+outermost = record { own = []; outer = [] }
 
 abbrev pub with_parameters : List ParameterTree → Scope → Scope
-with_parameters all s = fold (λ s p. declare p.name p.type s) s all
+with_parameters all s = fold (λ s p. declare p.name t.Int s) s all
 
 -- ---- expressions
 
--- what the operand of an operator before it is needed for
-abbrev pub operand_need : UnaryOperator → Need
-operand_need u.Not = AValue
-operand_need _ = ANumber
-
--- what the operand of a cast is needed for, by the type
-abbrev pub cast_need : TypeTree → Need
-cast_need t.Id = AnObject
-cast_need (t.Object at name) = AnObject
-cast_need _ = ANumber
-
 -- what the operands of an operator are needed for, by its sort
-abbrev pub left_need : OperatorSort → Need
-left_need Equality = AValue
-left_need Logic = AValue
+abbrev pub left_need : BinaryOperator → Need
+left_need o.NotEqual = AValue
 left_need _ = ANumber
 
-abbrev pub right_need : OperatorSort → ExprTree → Need
-right_need Equality left = Like left
-right_need Logic left = AValue
+abbrev pub right_need : BinaryOperator → ExprTree → Need
+right_need o.NotEqual left = Like left
 right_need _ left = ANumber
 
 -- the sites inside an expression that is needed for something, each one after those inside it
@@ -130,16 +111,13 @@ abbrev mutual
   pub inside : Enclosing → Scope → Need → ExprTree → List Site
   inside m s need (Paren at a) = inside m s need a ++ value m s need a
   inside m s need (Call at name all) = arguments m s (Argument name true) (Argument name false) all
-  inside m s need (Unary at operator a) = inside m s (operand_need operator) a ++ value m s (operand_need operator) a
-  inside m s need (Cast at type a) = inside m s (cast_need type) a ++ value m s (cast_need type) a
+  inside m s need (Unary at operator a) = inside m s ANumber a ++ value m s ANumber a
+  inside m s need (Cast at type a) = inside m s AnObject a ++ value m s AnObject a
   inside m s need (Binary at operator a b) =
-      (inside m s (left_need (sort_of operator)) a ++ value m s (left_need (sort_of operator)) a)
-      ++ (inside m s (right_need (sort_of operator) a) b ++ value m s (right_need (sort_of operator) a) b)
-  inside m s need (Conditional at c a b) =
-      (inside m s AValue c ++ value m s AValue c) ++ ((inside m s AValue a ++ value m s AValue a) ++ (inside m s (Like a) b ++ value m s (Like a) b))
+      (inside m s (left_need operator) a ++ value m s (left_need operator) a)
+      ++ (inside m s (right_need operator a) b ++ value m s (right_need operator a) b)
   inside m s need (Arrow at name_at a name) = inside m s AnObject a ++ value m s AnObject a
   inside m s need (Assign at sign a b) = (inside m s Anything a ++ value m s Anything a) ++ (inside m s (Like a) b ++ value m s (Like a) b)
-  inside m s need (Update at sign moment operator a b) = (inside m s Anything a ++ value m s Anything a) ++ (inside m s ANumber b ++ value m s ANumber b)
   inside m s need (Send at part receiver selector all) =
       (inside m s Receiver receiver ++ value m s Receiver receiver) ++ arguments m s (Passed selector) (Passed selector) all
   inside m s need (SendSuper at part super_at selector all) = arguments m s (Passed selector) (Passed selector) all
@@ -160,45 +138,34 @@ maybe_sites m s need a = option_map_or (sites m s need) a []
 -- ---- statements
 
 -- the sites of a declaration's variables; a variable is in scope in its own first value (C99, section 6.2.1)
-abbrev pub variable_sites : Enclosing → Qualifiers → TypeTree → Scope → List VariableTree → List Site
-variable_sites m qualifiers type s [] = []
-variable_sites m qualifiers type s (v ∷ others) =
-    (site m s (Variable qualifiers type v) ++ maybe_sites m (declare v.name type s) (Initial type) v.initial) ++ variable_sites m qualifiers type (declare v.name type s) others
+abbrev pub variable_sites : Enclosing → TypeTree → Scope → List VariableTree → List Site
+variable_sites m type s [] = []
+variable_sites m type s (v ∷ others) =
+    (site m s (Variable type v) ++ maybe_sites m (declare v.name type s) (Initial type) v.initial) ++ variable_sites m type (declare v.name type s) others
 
 -- The sites inside a statement, and of statements. A block is a scope of its own, and so is what an `if` or a loop runs (C99, section 6.8); a `for` is one around
 -- its body, with the variables that are declared before it (section 6.8.5.3).
 abbrev mutual
   pub within : Enclosing → Scope → StmtTree → List Site
-  within m s (Block at all) = all_sites m (inner false s) all
+  within m s (Block at all) = all_sites m (inner s) all
   within m s (Empty at) = []
   within m s (Simple a) = sites m s Anything a
   within m s (Return at a) = maybe_sites m s Result a
-  within m s (Variables at qualifiers type all) = variable_sites m qualifiers type s all
-  within m s (If at c a) = sites m s AValue c ++ (site m (inner false s) (Statement a) ++ within m (inner false s) a)
+  within m s (Variables at type all) = variable_sites m type s all
+  within m s (If at c a) = sites m s AValue c ++ (site m (inner s) (Statement a) ++ within m (inner s) a)
   within m s (IfElse at c a b) =
-      sites m s AValue c ++ ((site m (inner false s) (Statement a) ++ within m (inner false s) a) ++ (site m (inner false s) (Statement b) ++ within m (inner false s) b))
-  within m s (While at c a) = sites m s AValue c ++ (site m (inner true s) (Statement a) ++ within m (inner true s) a)
-  within m s (Do at a c) = (site m (inner true s) (Statement a) ++ within m (inner true s) a) ++ sites m s AValue c
-  within m s (For at a c e b) =
-      let own = after (inner false s) a in
-      (site m (inner false s) (Statement a) ++ within m (inner false s) a)
-      ++ (maybe_sites m own AValue c ++ (maybe_sites m own Anything e ++ (site m (inner true own) (Statement b) ++ within m (inner true own) b)))
-  within m s (Break at) = []
-  within m s (Continue at) = []
+      sites m s AValue c ++ ((site m (inner s) (Statement a) ++ within m (inner s) a) ++ (site m (inner s) (Statement b) ++ within m (inner s) b))
+  within m s (While at c a) = sites m s AValue c ++ (site m (inner s) (Statement a) ++ within m (inner s) a)
 
   pub all_sites : Enclosing → Scope → StmtTrees → List Site
   all_sites m s no_stmts = []
   all_sites m s (and_stmt a others) = (site m s (Statement a) ++ within m s a) ++ all_sites m (after s a) others
 
--- the sites of a statement
-abbrev pub stmt_sites : Enclosing → Scope → StmtTree → List Site
-stmt_sites m s a = site m s (Statement a) ++ within m s a
-
 -- ---- functions, classes and a source
 
 abbrev pub parameter_sites : Enclosing → Scope → List ParameterTree → List Site
 parameter_sites m s [] = []
-parameter_sites m s (p ∷ others) = site m s (Parameter p) ++ parameter_sites m (declare p.name p.type s) others
+parameter_sites m s (p ∷ others) = site m s (Parameter p) ++ parameter_sites m (declare p.name t.Int s) others
 
 -- the parameters that have names in a body
 abbrev pub named_parameters : ParametersTree → List ParameterTree
@@ -211,7 +178,7 @@ body_sites m parameters None = []
 body_sites m parameters (Some body) = parameter_sites m outermost parameters ++ all_sites m (with_parameters parameters outermost) body
 
 abbrev pub function_sites : FunctionTree → List Site
-function_sites f = site (InFunction f) outermost (Function f) ++ body_sites (InFunction f) (named_parameters f.parameters) f.body
+function_sites f = body_sites (InFunction f) (named_parameters f.parameters) f.body
 
 abbrev pub head_sites : (class : List ℕ) → HeadTree → List Site
 head_sites class h = site (InInterface class) outermost (Declared h)
@@ -219,18 +186,12 @@ head_sites class h = site (InInterface class) outermost (Declared h)
 abbrev pub method_sites : (class : List ℕ) → MethodTree → List Site
 method_sites class m = site (InMethod class m.head) outermost (Defined m.head) ++ body_sites (InMethod class m.head) m.head.parameters (Some m.body)
 
-abbrev pub field_sites : Enclosing → List FieldTree → List Site
-field_sites m = flat_map (λ f. site m outermost (Field f))
-
-abbrev pub global_sites : GlobalTree → List Site
-global_sites g = site InSource outermost (Global g)
-
 abbrev pub interface_sites : InterfaceTree → List Site
-interface_sites i = field_sites (InInterface i.name) i.fields ++ flat_map (head_sites i.name) i.methods
+interface_sites i = flat_map (head_sites i.name) i.methods
 
 abbrev pub implementation_sites : ImplementationTree → List Site
-implementation_sites i = field_sites (InImplementation i.name) i.fields ++ flat_map (method_sites i.name) i.methods
+implementation_sites i = flat_map (method_sites i.name) i.methods
 
 -- the sites of a source
 abbrev pub unit_sites : UnitTree → List Site
-unit_sites u = flat_map function_sites u.functions ++ (flat_map global_sites u.globals ++ (flat_map interface_sites u.interfaces ++ flat_map implementation_sites u.implementations))
+unit_sites u = flat_map function_sites u.functions ++ (flat_map interface_sites u.interfaces ++ flat_map implementation_sites u.implementations)
