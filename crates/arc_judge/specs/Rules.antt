@@ -1,4 +1,8 @@
 -- The rules for functions and methods: names, kinds, counts of arguments, formats, and the number of variables.
+use Rattle.arc_ast.specs.declared.tree.BinaryOperator.{BinaryOperator}
+use Rattle.arc_ast.specs.declared.tree.BinaryOperator.TheVariants as o
+use Rattle.arc_ast.specs.Tree as tree
+use Rattle.arc_scope.specs.Scopes.{in_method}
 use Rattle.std.specs.Prelude.{ℕ, Bool, true, false, ◌&&◌, ◌||◌, not, List, [], ◌∷◌, ◌++◌, length, flat_map, drop, Option, Some, None, is_some, is_none, option_map, option_and_then, nat_lt, nat_eq, slice_get, if◌then◌else◌}
 use Rattle.std.specs.Option.{option_map_or}
 use Rattle.arc_ast.specs.declared.tree.UnaryOperator.{UnaryOperator}

@@ -1,4 +1,5 @@
 -- Literals: which bytes they are written with, and what they stand for.
+use Rattle.arc_lex.specs.Bytes.{all_in}
 use Rattle.std.specs.Prelude.{ℕ, ◌+◌, ◌-◌, ◌*◌, ℤ, pos, List, [], ◌∷◌, ◌++◌, take, drop, Bool, true, false, not, ◌&&◌, ◌||◌, nat_le, nat_eq, if◌then◌else◌, Option, Some, None}
 use Rattle.arc_lex.specs.declared.bytes.Class.{Class}
 use Rattle.arc_lex.specs.declared.bytes.Class.TheVariants as c

@@ -1,5 +1,6 @@
 -- How many actions a program becomes, by its forms. `Lowered` says which actions they are, and the law `actions_counted` that they are exactly so many. A form of
 -- which nothing is said here is one action beyond its parts.
+use Rattle.arc_spec.specs.Resolved.{and_argument, Initialized}
 use Rattle.std.specs.Prelude.{ℕ, zero, suc, ◌+◌, ◌-◌, ◌*◌, ◌/◌, Bool, true, false, ◌||◌, nat_lt, if◌then◌else◌, pos, List, [], ◌∷◌, length, is_some, Option, Some, None}
 use Rattle.std.specs.List.{sum_by}
 use Rattle.arc_ast.specs.declared.tree.Kind.{Kind}

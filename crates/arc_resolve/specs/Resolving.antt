@@ -1,4 +1,6 @@
 -- The resolved program of a source that breaks no rule.
+use Rattle.arc_scope.specs.Scopes.{in_method, is_printf}
+use Rattle.arc_spec.specs.Resolved.{and_argument, Initialized}
 use Rattle.std.specs.Prelude.{ℕ, ◌-◌, ℤ, pos, Bool, not, ◌&&◌, codes, List, [], ◌∷◌, ◌++◌, length, drop, map, flat_map, filter_map, Option, Some, None, option_map, option_and_then, unwrap_or, if◌then◌else◌}
 use Rattle.std.specs.List.{filter}
 use Rattle.std.specs.Option.{option_map_or}

@@ -1,11 +1,13 @@
 -- Kinds of numbers.
+use Rattle.arc_ast.specs.declared.tree.BinaryOperator.{BinaryOperator}
+use Rattle.arc_ast.specs.declared.tree.BinaryOperator.TheVariants as o
 use Rattle.std.specs.Prelude.{ℤ, Bool, true, false, not, ◌&&◌, int_le, Option, if◌then◌else◌}
 use Rattle.std.specs.Option.{option_map_or}
 use Rattle.arc_ast.specs.declared.tree.Kind.{Kind}
 use Rattle.arc_ast.specs.declared.tree.Kind.TheVariants as k
 use Rattle.arc_ast.specs.declared.tree.OperatorSort.{OperatorSort}
 use Rattle.arc_ast.specs.declared.tree.OperatorSort.TheVariants.{Arithmetic, Shift}
-use Rattle.arc_spec.specs.Families as families
+use Rattle.arc_class.specs.Classes as classes
 use Rattle.arc_scope.specs.declared.kind.TheConstants.{LARGEST_INT}
 
 -- an integer without a suffix is an int, where an int can hold it, and any other a long (C99, section 6.4.4.1; there are no unsigned kinds)
@@ -30,4 +32,4 @@ given_kind o.NotEqual kind = k.Int
 given_kind _ kind = kind
 
 abbrev pub is_object : Option Kind → Bool
-is_object kind = option_map_or families.is_object kind false
+is_object kind = option_map_or classes.is_object kind false
