@@ -13,8 +13,7 @@ use Rattle.arc_class.specs.Sorts.{counts}
 
 -- a method that runs this function, where selectors have these names
 abbrev pub method_made : (selectors : List (List ℕ)) → (runs : ℕ) → HeadTree → Method
-method_made selectors runs h =
-    record { sign = h.sign; selector = unwrap_or (number_among selectors h.selector) 0; takes = length h.parameters; runs = runs }
+method_made selectors runs h = record { sign = h.sign; selector = unwrap_or (number_among selectors h.selector) 0; takes = length h.parameters; runs = runs }
 
 -- methods and one more, unless it ends objects
 abbrev pub with_method : (selectors : List (List ℕ)) → (runs : ℕ) → HeadTree → List Method → List Method

@@ -118,18 +118,17 @@ scope_size f first count = lesser count (f.names - first)
 -- test a 0 and jumps, and the second jumps. One action drops the value of an expression. A return jumps, and without a number it gives 0; an object is stored before in the
 -- last place, where there is one. A choice and a loop have two jumps, and a loop one more where it is entered elsewhere than at its step.
 abbrev mutual
-  pub command_size : Program → Function → (: ℕ) → Command → ℕ
+  pub command_size : Program → Function → Command → ℕ
   command_size P f (Sequence first count all) = commands_size P f all + scope_size f first count
   command_size P f (Evaluate a) = full_size (value_size P f a) + 1
   command_size P f (EvaluateReference a) = full_size (reference_size P f a) + 1
   command_size P f (Begin i a) = full_size (reference_size P f a) + by_variable i f.names 1 0 + 1
   command_size P f (Return None) = 2
   command_size P f (Return (Some a)) = full_size (value_size P f a) + 1
-  command_size P f (Choose test a b) =
-      full_size (value_size P f test) + command_size P f a + command_size P f b + 2
+  command_size P f (Choose test a b) = full_size (value_size P f test) + command_size P f a + command_size P f b + 2
   command_size P f (Repeat test body) = full_size (value_size P f test) + command_size P f body + 2
 
-  pub commands_size : Program → Function → (: ℕ) → Commands → ℕ
+  pub commands_size : Program → Function → Commands → ℕ
   commands_size P f no_commands = 0
   commands_size P f (and_command c others) = command_size P f c + commands_size P f others
 
@@ -137,8 +136,7 @@ abbrev mutual
 -- jumps, as a `break` and a `continue` do that are in no loop. Where it is left its variables that name objects are emptied, those that hold numbers are taken, and
 -- one action goes back.
 abbrev pub function_size : Program → Function → ℕ
-function_size P f =
-    f.names + commands_size P f f.body + f.names + f.slots + 3
+function_size P f = f.names + commands_size P f f.body + f.names + f.slots + 3
 
 -- a method and a dealloc: messages and the ends of objects enter their functions there
 abbrev pub method_size : Program → Method → ℕ
