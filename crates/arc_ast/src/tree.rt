@@ -4,9 +4,7 @@
 #[derive(Clone, Copy, Debug, PartialEq, Eq)]
 pub enum Kind {
     Void,
-    Bool,
     Int,
-    Long,
     Object,
 }
 

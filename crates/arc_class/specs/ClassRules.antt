@@ -34,19 +34,11 @@ abbrev pub asks_class : List ℕ → Bool
 asks_class selector = bytes_eq selector (codes "isKindOfClass:") || (bytes_eq selector (codes "isMemberOfClass:")
     || (bytes_eq selector (codes "respondsToSelector:") || bytes_eq selector (codes "conformsToProtocol:")))
 
--- these give a BOOL; no source can send them yet
-abbrev pub asked_kind : Sign → List ℕ → Option Kind
-asked_kind sign selector = if same_sign sign signs.Instance && asks_class selector then Some k.Bool else None
-
--- what the methods of the root give, which are built in
-abbrev pub built_in_kind : Sign → List ℕ → Option Kind
-built_in_kind sign selector = or_else (built_in_result sign selector) (asked_kind sign selector)
-
 -- 24 SelectorKinds: a method whose result is of another kind than that of an earlier method of its sign with its selector, those of
 -- the root being built in, at its `+` or `-` (this project's own choice)
 abbrev pub changes_kind : UnitTree → HeadTree → Bool
 changes_kind u h = differs_before (first_head h.sign h.selector (declared u.interfaces)) h
-    || (differs_before (first_head h.sign h.selector (defined u.implementations)) h || differs_from (built_in_kind h.sign h.selector) h)
+    || (differs_before (first_head h.sign h.selector (defined u.implementations)) h || differs_from (built_in_result h.sign h.selector) h)
 
 -- 28 HookMethod: a class method that would change how classes are loaded or objects are made (Runtime Reference, "+load" and "+initialize"; OPL, "Allocating
 -- and Initializing Objects"), a method of objects that says what their class is or has, or one of either sign that gives the class, at its `+` or `-` (this

@@ -89,7 +89,7 @@ built_in_result signs.Instance selector =
 abbrev pub counting_result : List ℕ → Option Kind
 counting_result selector =
     if bytes_eq selector (codes "retain") || bytes_eq selector (codes "autorelease") then Some k.Object
-    else if bytes_eq selector (codes "retainCount") then Some k.Long
+    else if bytes_eq selector (codes "retainCount") then Some k.Int
     else if bytes_eq selector (codes "release") || bytes_eq selector (codes "dealloc") then Some k.Void else None
 
 abbrev pub is_object : Kind → Bool

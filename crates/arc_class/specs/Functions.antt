@@ -13,9 +13,7 @@ use Rattle.arc_class.specs.Names.{has_body, signature, known}
 
 abbrev pub same_kind : Kind → Kind → Bool
 same_kind k.Void k.Void = true
-same_kind k.Bool k.Bool = true
 same_kind k.Int k.Int = true
-same_kind k.Long k.Long = true
 same_kind k.Object k.Object = true
 same_kind _ _ = false
 

@@ -25,13 +25,6 @@ operator_number o.Multiply = 2
 operator_number o.Divide = 3
 operator_number o.NotEqual = 4
 
-abbrev pub kind_number : Kind → ℕ
-kind_number k.Void = 0
-kind_number k.Bool = 1
-kind_number k.Int = 2
-kind_number k.Long = 3
-kind_number k.Object = 4
-
 -- a space, and a number
 abbrev pub operand : ℕ → List ℕ
 operand n = codes " " ++ decimal n
@@ -39,9 +32,9 @@ operand n = codes " " ++ decimal n
 -- an instruction's name, and its operands
 abbrev pub op_parts : Op → List ℕ × List ℕ
 op_parts (Num n) = (codes "Num", codes " " ++ signed_decimal n)
-op_parts (Bin operator kind) = (codes "Bin", operand (operator_number operator) ++ operand (kind_number kind))
-op_parts (Un operator kind) = (codes "Un", operand (unary_number operator) ++ operand (kind_number kind))
-op_parts (Narrow kind) = (codes "Narrow", operand (kind_number kind))
+op_parts (Bin operator) = (codes "Bin", operand (operator_number operator))
+op_parts (Un operator) = (codes "Un", operand (unary_number operator))
+op_parts Narrow = (codes "Narrow", [])
 op_parts Pop = (codes "Pop", [])
 op_parts (Get depth) = (codes "Get", operand depth)
 op_parts (Set depth) = (codes "Set", operand depth)

@@ -64,7 +64,7 @@ number_kind a = option_and_then (λ kind. kind_if (is_number kind) kind) a
 
 -- the wider kind of two operands: none, where one has none
 abbrev pub both_kinds : Option Kind → Option Kind → Option Kind
-both_kinds a b = option_and_then (λ one. option_map (wider one) b) a
+both_kinds a b = option_and_then (λ one. b) a
 
 -- The kind of what an operator gives, from those of its operands. A shift's is that of the first (C99, section 6.5.7); a comparison gives an int, whatever its operands
 -- are (sections 6.5.8 and 6.5.9).
@@ -102,7 +102,7 @@ is_assignable _ = false
 -- left side's kind (C99, section 6.5.16).
 abbrev mutual
   pub kind_of : Scope → ExprTree → Option Kind
-  kind_of s (Integer at n) = Some (literal_kind n)
+  kind_of s (Integer at n) = Some k.Int
   kind_of s (Text at bytes) = None
   kind_of s (Paren at a) = kind_of s a
   kind_of s (Call at name arguments) = kind_if (is_none (call_rule (callee s.known name) arguments (kinds s arguments))) (result_kind (callee s.known name))

@@ -41,10 +41,6 @@ s and t = record { actions = s.actions + t.actions; takes = s.takes || t.takes }
 abbrev pub by_variable : (i count : ℕ) → (there missing : ℕ) → ℕ
 by_variable i count there missing = if nat_lt i count then there else missing
 
--- a conversion, none where each number of the kind that is known is one of the other
-abbrev pub conversion_size : (known kind : Kind) → ℕ
-conversion_size known kind = if is_within known kind then 0 else 1
-
 -- how many of the arguments are numbers, and how many objects
 abbrev pub number_count : Arguments → ℕ
 number_count no_arguments = 0
@@ -76,9 +72,8 @@ abbrev mutual
   value_size P f (Number n) = plain 1
   value_size P f ReadByte = plain 1
   value_size P f (Print pieces given) = arguments_size P f given and plain (print_size pieces (number_count given))
-  value_size P f (Applied operator kind a) = value_size P f a and plain 1
-  value_size P f (Combined operator kind a b) = value_size P f a and value_size P f b and plain 1
-  value_size P f (Converted kind a) = value_size P f a and plain (conversion_size (known_kind a) kind)
+  value_size P f (Applied operator a) = value_size P f a and plain 1
+  value_size P f (Combined operator a b) = value_size P f a and value_size P f b and plain 1
   value_size P f (Read i) = plain 1
   value_size P f (Assigned i a) = value_size P f a and plain (by_variable i f.slots 2 0)
   value_size P f (Invoked g given) = arguments_size P f given and plain (entering_size P g (number_count given))

@@ -45,44 +45,28 @@ use Rattle.arc_scope.specs.Passing.{first_wanted, wanted_by, receiver_sign}
 
 -- What an expression is resolved to, which breaks no rule: a number of a kind, or an object. What stands below for one that breaks a rule is never asked for.
 pub data Resolution : Type 0 where
-  Gives : Kind → Value → Resolution
+  Gives : Value → Resolution
   Refers : Reference → Resolution
-
-abbrev pub kind_in : Resolution → Kind
-kind_in (Gives kind a) = kind
-kind_in (Refers r) = k.Object
 
 -- the number, and of an object whether it is one: so tests are resolved (C99, section 6.8.4.1)
 abbrev pub number_in : Resolution → Value
-number_in (Gives kind a) = a
+number_in (Gives a) = a
 number_in (Refers r) = IsObject r
 
 abbrev pub object_in : Resolution → Reference
-object_in (Gives kind a) = Nil
+object_in (Gives a) = Nil
 object_in (Refers r) = r
-
--- a value of one kind as one of another (C99, section 6.3.1.8; for a cast section 6.5.4, for an assignment section 6.5.16.1, and for a returned value section 6.8.6.4)
-abbrev pub as_kind : Kind → Kind → Value → Value
-as_kind wanted kind a = if is_number wanted && (is_number kind && not (same_kind wanted kind)) then Converted wanted a else a
-
--- a number as one of a kind
-abbrev pub converted : Kind → Resolution → Value
-converted kind a = as_kind kind (kind_in a) (number_in a)
 
 -- ---- operators and calls
 
 -- an operator before an operand (C99, section 6.5.3.3)
 abbrev pub unary : UnaryOperator → Resolution → Resolution
-unary operator a = Gives (kind_in a) (Applied operator (kind_in a) (number_in a))
-
--- an operator whose operands become numbers of the kind in which it computes; the count of a shift too, which counts modulo the width of that kind
-abbrev pub combined : BinaryOperator → Kind → Resolution → Resolution → Resolution
-combined operator kind a b = Gives (given_kind operator kind) (Combined operator kind (converted kind a) (converted kind b))
+unary operator a = Gives (Applied operator (number_in a))
 
 -- the operands of `!=` are numbers, or objects
 abbrev pub binary : BinaryOperator → Resolution → Resolution → Resolution
-binary o.NotEqual (Refers a) (Refers b) = Gives k.Int (Differ a b)
-binary operator a b = combined operator (wider (kind_in a) (kind_in b)) a b
+binary o.NotEqual (Refers a) (Refers b) = Gives (Differ a b)
+binary operator a b = Gives (Combined operator (number_in a) (number_in b))
 
 -- the format of a call of printf, its first argument
 abbrev pub format : ExprTrees → List ℕ
@@ -95,27 +79,23 @@ but_first (and_argument a others) = others
 
 -- a call, from its arguments and their values
 abbrev pub called : Callee → ExprTrees → Arguments → Resolution
-called Printf arguments all = Gives k.Int (Print (printed (parts Nothing (format arguments))) (but_first all))
-called GetChar arguments all = Gives k.Int ReadByte
-called (Defined result count body) arguments all = Gives result (Invoked (unwrap_or body 0) all)
-called Unknown arguments all = Gives k.Int ReadByte
-
--- a value that printf prints keeps its kind, and any other argument is an int
-abbrev pub argument : (printed : Bool) → Resolution → Value
-argument printed a = if printed then number_in a else converted k.Int a
+called Printf arguments all = Gives (Print (printed (parts Nothing (format arguments))) (but_first all))
+called GetChar arguments all = Gives ReadByte
+called (Defined result count body) arguments all = Gives (Invoked (unwrap_or body 0) all)
+called Unknown arguments all = Gives ReadByte
 
 -- ---- names, fields and assignments
 
 -- a field of an object, and an assignment to it
 abbrev pub read_field : Reference → FoundField → Resolution
-read_field r f = Gives k.Int (Field r (number_of_class f.owner) f.index)
+read_field r f = Gives (Field r (number_of_class f.owner) f.index)
 
 abbrev pub store_field : Reference → FoundField → Resolution → Resolution
-store_field r f a = Gives k.Int (FieldAssigned r (number_of_class f.owner) f.index (converted k.Int a))
+store_field r f a = Gives (FieldAssigned r (number_of_class f.owner) f.index (number_in a))
 
 -- the same of a field that may be there
 abbrev pub field : Reference → Option FoundField → Resolution
-field r found = option_map_or (read_field r) found (Gives k.Int (Number (pos 0)))
+field r found = option_map_or (read_field r) found (Gives (Number (pos 0)))
 
 abbrev pub field_assigned : Reference → Option FoundField → Resolution → Resolution
 field_assigned r found a = option_map_or (λ f. store_field r f a) found a
@@ -123,12 +103,12 @@ field_assigned r found a = option_map_or (λ f. store_field r f a) found a
 -- what a name means: a variable, or else a field of `self`; and an assignment to it
 abbrev pub named : Option scopes.Local → Option FoundField → Resolution
 named None own = field Itself own
-named (Some (scopes.Number n)) own = Gives k.Int (Read n)
+named (Some (scopes.Number n)) own = Gives (Read n)
 named (Some (scopes.Object n class)) own = Refers (Variable n)
 
 abbrev pub name_assigned : Option scopes.Local → Option FoundField → Resolution → Resolution
 name_assigned None own a = field_assigned Itself own a
-name_assigned (Some (scopes.Number n)) own a = Gives k.Int (Assigned n (converted k.Int a))
+name_assigned (Some (scopes.Number n)) own a = Gives (Assigned n (number_in a))
 name_assigned (Some (scopes.Object n class)) own a = Refers (Stored n (object_in a))
 
 -- ---- updates
@@ -142,10 +122,10 @@ class_value _ class = Read 0
 
 -- What gives an object is built in: `alloc` and `new` of classes, and `init` of objects (OPL, "Allocating and Initializing Objects").
 abbrev pub to_class : Option Kind → Value → Receiver → (selector : ℕ) → Arguments → Resolution
-to_class kind class receiver selector all = if is_object kind then Refers (Made class) else Gives (unwrap_or kind k.Int) (Sent receiver selector all)
+to_class kind class receiver selector all = if is_object kind then Refers (Made class) else Gives (Sent receiver selector all)
 
 abbrev pub to_object : Option Kind → Reference → Receiver → (selector : ℕ) → Arguments → Resolution
-to_object kind r receiver selector all = if is_object kind then Refers (Initialized r) else Gives (unwrap_or kind k.Int) (Sent receiver selector all)
+to_object kind r receiver selector all = if is_object kind then Refers (Initialized r) else Gives (Sent receiver selector all)
 
 -- a message to a class, or else to an object with a static class (OPL, "Messages to self and super")
 abbrev pub sent : Scope → ExprTree → (class static : Option ℕ) → Resolution → List ℕ → Arguments → Resolution
@@ -169,11 +149,11 @@ sent_super s name all =
 -- An expression; a text is resolved with its call, and parentheses vanish.
 abbrev mutual
   pub resolved : Scope → ExprTree → Resolution
-  resolved s (Integer at n) = Gives (literal_kind n) (Number n)
-  resolved s (Text at bytes) = Gives k.Int (Number (pos 0))
+  resolved s (Integer at n) = Gives (Number n)
+  resolved s (Text at bytes) = Gives (Number (pos 0))
   resolved s (Paren at a) = resolved s a
   resolved s (Call at name arguments) =
-      called (callee s.known name) arguments (resolved_all s (is_printf (callee s.known name)) arguments)
+      called (callee s.known name) arguments (resolved_all s arguments)
   resolved s (tree.Nil at) = Refers Nil
   resolved s (tree.Itself at) = Refers Itself
   resolved s (Name at name) = named (s.variables name) (own_field s name)
@@ -183,8 +163,8 @@ abbrev mutual
   resolved s (Arrow at name_at a name) = field (object_in (resolved s a)) (s.known.field (class_of s a) name)
   resolved s (Assign at sign a b) = assigned s a (resolved s b)
   resolved s (Send at part receiver selector arguments) =
-      sent s receiver (class_receiver s receiver) (class_of s receiver) (resolved s receiver) selector (resolved_all s false arguments)
-  resolved s (SendSuper at part super_at selector arguments) = sent_super s selector (resolved_all s false arguments)
+      sent s receiver (class_receiver s receiver) (class_of s receiver) (resolved s receiver) selector (resolved_all s arguments)
+  resolved s (SendSuper at part super_at selector arguments) = sent_super s selector (resolved_all s arguments)
 
   -- an assignment to its left side; one to a `self` that isn't owned, which the rules of ownership refuse, stands here as what is assigned
   pub assigned : Scope → ExprTree → Resolution → Resolution
@@ -193,9 +173,9 @@ abbrev mutual
   assigned s (Arrow at name_at a name) b = field_assigned (object_in (resolved s a)) (s.known.field (class_of s a) name) b
   assigned s _ b = b
 
-  pub resolved_all : Scope → (printed : Bool) → ExprTrees → Arguments
-  resolved_all s printed no_exprs = no_arguments
-  resolved_all s printed (and_expr a others) = and_argument (argument printed (resolved s a)) (resolved_all s printed others)
+  pub resolved_all : Scope → ExprTrees → Arguments
+  resolved_all s no_exprs = no_arguments
+  resolved_all s (and_expr a others) = and_argument (number_in (resolved s a)) (resolved_all s others)
 
 -- ---- statements
 
@@ -203,7 +183,7 @@ abbrev pub nothing : Command
 nothing = Sequence 0 0 no_commands
 
 abbrev pub evaluated : Resolution → Command
-evaluated (Gives kind a) = Evaluate a
+evaluated (Gives a) = Evaluate a
 evaluated (Refers r) = EvaluateReference r
 
 -- a value is put into the variable of this number
@@ -214,7 +194,7 @@ put n a = Evaluate (Assigned n a)
 -- (C99, section 6.7.8). It is in scope where that is written, and is 0 there (C99, section 6.2.1).
 abbrev pub begun_number : Scope → (n : ℕ) → Option ExprTree → Commands → Commands
 begun_number s n a others =
-    and_command (put n (Number (pos 0))) (option_map_or (λ e. and_command (put n (converted k.Int (resolved s e))) others) a others)
+    and_command (put n (Number (pos 0))) (option_map_or (λ e. and_command (put n (number_in (resolved s e))) others) a others)
 
 -- A variable that names objects begins anew with nil, and then names what is written (ARC, "Ownership qualification"). No command is needed for the nil: its
 -- function begins with it, and each end of its block drops the variable.
@@ -237,7 +217,7 @@ abbrev mutual
   resolved_stmt s (Block at all) = Sequence s.names ((scope_after_all s all).names - s.names) (resolved_stmts s all)
   resolved_stmt s (Empty at) = nothing
   resolved_stmt s (Simple a) = evaluated (resolved s a)
-  resolved_stmt s (tree.Return at a) = Return (option_map (λ e. converted k.Int (resolved s e)) a)
+  resolved_stmt s (tree.Return at a) = Return (option_map (λ e. number_in (resolved s e)) a)
   resolved_stmt s (Variables at type all) = Sequence 0 0 (resolved_variables type s all)
   resolved_stmt s (If at c a) = Choose (number_in (resolved s c)) (resolved_stmt s a) nothing
   resolved_stmt s (IfElse at c a b) = Choose (number_in (resolved s c)) (resolved_stmt s a) (resolved_stmt (leave s (scope_after s a)) b)

@@ -17,9 +17,7 @@ use Rattle.arc_spec.specs.Resolved as resolved
 abbrev pub reading : Begun → ℕ → Reading
 reading Nothing byte = if byte == 37 then Goes Percent else Gives (Plain byte)
 reading Percent byte =
-    if byte == 37 then Gives (Plain 37) else if byte == 100 || byte == 105 then Gives (Decimal k.Int) else if byte == 99 then Gives Character else if byte == 108 then Goes PercentL else Gives Unknown
-reading PercentL byte = if byte == 100 then Gives (Decimal k.Long) else if byte == 108 then Goes PercentLL else Gives Unknown
-reading PercentLL byte = if byte == 100 then Gives (Decimal k.Long) else Gives Unknown
+    if byte == 37 then Gives (Plain 37) else if byte == 100 || byte == 105 then Gives Decimal else if byte == 99 then Gives Character else Gives Unknown
 
 -- a conversion that has begun where the format ends is unknown
 abbrev pub unfinished : Begun → List Part
@@ -45,16 +43,11 @@ conversions (part ∷ others) = part ∷ conversions others
 abbrev pub wanted : List ℕ → List Part
 wanted format = conversions (parts Nothing format)
 
--- `%d` and `%i` print an int, as which a BOOL is passed (C99, section 6.5.2.2, paragraph 6), and `%ld` and `%lld` a long
-abbrev pub suits_kind : Kind → Kind → Bool
-suits_kind wanted kind = same_kind wanted kind
-
 -- whether a conversion may print a value; one that has no kind breaks no rule about kinds
 abbrev pub suits : Part → Option Kind → Bool
 suits (Plain byte) kind = true
-suits (Decimal wanted) kind = option_map_or (suits_kind wanted) kind true
-suits Character kind = option_map_or (suits_kind k.Int) kind true
 suits Unknown kind = false
+suits _ kind = option_map_or is_number kind true
 
 -- whether there is a value for each conversion, which suits it, and no other value
 abbrev pub fits : List Part → List (Option Kind) → Bool
@@ -71,6 +64,6 @@ put_byte byte others = resolved.Bytes (byte ∷ []) ∷ others
 abbrev pub printed : List Part → List resolved.Piece
 printed [] = []
 printed (Plain byte ∷ others) = put_byte byte (printed others)
-printed (Decimal kind ∷ others) = resolved.Decimal ∷ printed others
+printed (Decimal ∷ others) = resolved.Decimal ∷ printed others
 printed (Character ∷ others) = resolved.Character ∷ printed others
 printed (Unknown ∷ others) = printed others

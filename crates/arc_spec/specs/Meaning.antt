@@ -14,7 +14,7 @@ use Rattle.arc_spec.specs.declared.limits.TheConstants.{MOST_LEVELS}
 use Rattle.arc_spec.specs.declared.class.Gives.{Gives}
 use Rattle.arc_spec.specs.declared.class.Gives.TheVariants as gives
 use Rattle.arc_spec.specs.Classes.{Class, superclasses, ancestry, own_dealloc, lookup, or_else, same_gives, new_selector, init_selector, is_root_init, descends, class_at, strong_count, field_order}
-use Rattle.arc_spec.specs.Number.{converted, applied, combined, low_byte, is_zero}
+use Rattle.arc_spec.specs.Number.{converted, applied, combined, low_byte, is_zero, low_32}
 use Rattle.arc_spec.specs.Objects.{Object, Phase, Dying, Emptying, Gone, object_at, with_object, in_phase, with_fields, with_strong_fields, is_live, is_emptying, new_object, names}
 use Rattle.arc_spec.specs.Resolved.{Piece, Bytes, Decimal, Character, Value, Number, ReadByte, Print, Applied, Combined, Choice, Converted, Location, Local, Global, Read, Assigned, Updated, Invoked, Sent, Receiver, ClassValue, ClassSuper, ObjectValue, ObjectSuper, Field, FieldAssigned, FieldUpdated, Differ, IsObject, Reference, Nil, Itself, Variable, Chosen, Stored, ObjectField, ObjectFieldStored, Made, New, ObjectInvoked, ObjectSent, Arguments, no_arguments, number_argument, object_argument, Command, Sequence, Evaluate, EvaluateReference, Begin, Return, Give, Choose, Repeat, RepeatAfter, Break, Continue, Commands, no_commands, and_command, Function, Program}
 use Rattle.arc_spec.specs.World.{World, Outcome, Done, Faulted, Cut, then_do, Finished, finished, shows, prints, places, first_world, Given, nothing_given, Answer, entered, left, takes, named_at, stores, with_objects, with_locals, with_globals, with_temporaries, local_at, name_at, next_number, has_read}
@@ -30,7 +30,7 @@ formatted (Character ∷ pieces) (v ∷ values) = low_byte v ∷ formatted piece
 
 -- the number of bytes, as an int
 abbrev pub byte_count : List ℕ → ℤ
-byte_count bytes = converted k.Int (pos (length bytes))
+byte_count bytes = low_32 (pos (length bytes))
 
 -- a value, or a division's fault where it has none (that it stops the program is this project's own choice)
 abbrev pub or_fault : Option ℤ → World → Outcome ℤ
@@ -156,10 +156,9 @@ abbrev mutual
   evaluated D ReadByte w = Done (next_number w.input) (has_read w)
   evaluated D (Print pieces arguments) w =
       then_do (all_evaluated D arguments w) (λ given w1. let bytes = formatted pieces given in Done (byte_count bytes) (prints bytes w1))
-  evaluated D (Applied operator kind a) w = then_do (evaluated D a w) (λ x w1. Done (applied operator kind x) w1)
-  evaluated D (Combined operator kind a b) w =
-      then_do (evaluated D a w) (λ x w1. then_do (evaluated D b w1) (λ y w2. or_fault (combined operator kind x y) w2))
-  evaluated D (Converted kind a) w = then_do (evaluated D a w) (λ x w1. Done (converted kind x) w1)
+  evaluated D (Applied operator a) w = then_do (evaluated D a w) (λ x w1. Done (applied operator x) w1)
+  evaluated D (Combined operator a b) w =
+      then_do (evaluated D a w) (λ x w1. then_do (evaluated D b w1) (λ y w2. or_fault (combined operator x y) w2))
   evaluated D (Read i) w = Done (local_at w.frame.locals i) w
   evaluated D (Assigned i a) w = then_do (evaluated D a w) (λ x w1. Done x (with_locals w1 (slice_set w1.frame.locals i x)))
   evaluated D (Invoked f arguments) w = then_do (all_evaluated D arguments w) (λ given w1. D.call f 0 given w1)
@@ -309,4 +308,4 @@ most_levels = MOST_LEVELS
 -- the meaning of a program on an input, with a bound on the turns of each loop: main's value, as an int
 abbrev pub mean : Program → List ℕ → (bound : ℕ) → Outcome ℤ
 mean P input bound =
-    then_do ((level P bound most_levels).call P.main 0 [] (first_world input)) (λ v w. Done (converted k.Int v) w)
+    then_do ((level P bound most_levels).call P.main 0 [] (first_world input)) (λ v w. Done (low_32 v) w)

@@ -20,23 +20,14 @@ abbrev pub is_minus_one : ℤ → Bool
 is_minus_one (pos n) = false
 is_minus_one (negsuc n) = nat_eq n 0
 
--- a number as one of a kind (C99, sections 6.3.1.2 and 6.3.1.3): an `int` keeps the low 32 bits, a long has all 64, and a BOOL is 1 for all but 0
-abbrev pub converted : Kind → ℤ → ℤ
-converted k.Bool z = if is_zero z then pos 0 else pos 1
-converted k.Int z = low_32 z
-converted k.Long z = z
-converted k.Object z = z
-converted k.Void z = z
-
 -- the least number of a kind, where it is below the ones that its negation has place for
-abbrev pub is_least : Kind → ℤ → Bool
-is_least k.Int (negsuc n) = nat_eq (suc n) (2 ^ 31)
-is_least _ (negsuc n) = nat_eq (suc n) (2 ^ 63)
-is_least _ (pos n) = false
+abbrev pub is_least : ℤ → Bool
+is_least (negsuc n) = nat_eq (suc n) (2 ^ 31)
+is_least (pos n) = false
 
 -- x / y, without its fraction
-abbrev pub quotient : Kind → ℤ → ℤ → Option ℤ
-quotient kind x y = if is_zero y then None else if is_least kind x && is_minus_one y then None else Some (int_wrapping_div w64 x y)
+abbrev pub quotient : ℤ → ℤ → Option ℤ
+quotient x y = if is_zero y then None else if is_least x && is_minus_one y then None else Some (int_wrapping_div w64 x y)
 
 abbrev pub is_same : ℤ → ℤ → Bool
 is_same (pos n) (pos m) = nat_eq n m
@@ -45,19 +36,19 @@ is_same (pos n) (negsuc m) = false
 is_same (negsuc n) (pos m) = false
 
 -- What an operator before its operand gives (C99, section 6.5.3.3), computed as the next ones: `-` wraps, and `!` asks whether the operand is 0.
-abbrev pub applied : UnaryOperator → Kind → ℤ → ℤ
-applied u.Plus kind z = converted kind z
-applied u.Negate kind z = converted kind (int_wrapping_neg w64 z)
+abbrev pub applied : UnaryOperator → ℤ → ℤ
+applied u.Plus z = z
+applied u.Negate z = low_32 (int_wrapping_neg w64 z)
 
 -- What an operator gives (C99, sections 6.5.5 to 6.5.14), computed in 64 bits, of which the kind keeps its own: so sums, products and shifts to the left wrap, where
 -- C99, section 6.5, leaves a result that is too large undefined (this project's own choice). A shift to the right keeps the sign, which C99, section 6.5.7, leaves to
 -- an implementation.
-abbrev pub combined : BinaryOperator → Kind → ℤ → ℤ → Option ℤ
-combined o.Add kind x y = Some (converted kind (int_wrapping_add w64 x y))
-combined o.Subtract kind x y = Some (converted kind (int_wrapping_sub w64 x y))
-combined o.Multiply kind x y = Some (converted kind (int_wrapping_mul w64 x y))
-combined o.Divide kind x y = quotient kind (converted kind x) (converted kind y)
-combined o.NotEqual kind x y = Some (if is_same x y then pos 0 else pos 1)
+abbrev pub combined : BinaryOperator → ℤ → ℤ → Option ℤ
+combined o.Add x y = Some (low_32 (int_wrapping_add w64 x y))
+combined o.Subtract x y = Some (low_32 (int_wrapping_sub w64 x y))
+combined o.Multiply x y = Some (low_32 (int_wrapping_mul w64 x y))
+combined o.Divide x y = quotient x y
+combined o.NotEqual x y = Some (if is_same x y then pos 0 else pos 1)
 
 -- whether an operator has no answer for some numbers
 abbrev pub may_fault : BinaryOperator → Bool

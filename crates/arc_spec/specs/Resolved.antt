@@ -23,9 +23,8 @@ mutual
     Number : ℤ → Value
     ReadByte : Value
     Print : List Piece → Arguments → Value
-    Applied : UnaryOperator → Kind → Value → Value
-    Combined : BinaryOperator → Kind → Value → Value → Value
-    Converted : Kind → Value → Value
+    Applied : UnaryOperator → Value → Value
+    Combined : BinaryOperator → Value → Value → Value
     Read : ℕ → Value
     Assigned : ℕ → Value → Value
     Invoked : ℕ → Arguments → Value
