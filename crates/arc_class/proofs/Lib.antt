@@ -2,9 +2,7 @@ pub mod Names
 pub mod Lists
 pub mod Lessers
 pub mod Firsts
-pub mod Scopes
-pub mod Walks
-pub mod Bodies
+pub mod ScopeNames
 pub mod Looks
 pub mod Answering
 pub mod Leasts

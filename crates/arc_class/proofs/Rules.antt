@@ -1,26 +1,20 @@
 -- What is reported of methods, interfaces and implementations, and one more.
 use Rattle.std.proofs.Common.{◌≡◌, ℕ, zero, suc, ◌+◌, ◌<◌, Bool, true, false, ◌||◌, List, [], ◌∷◌, ◌++◌, length, not, nat_lt, Option, Some, None, is_some, is_none, option_map, slice_get, if◌then◌else◌, take, drop, get_or, length-take-le, append_assoc, refl, sym, ap, ◌∙◌, arith}
-use Rattle.std.specs.List.{flat_map}
 use Rattle.std.proofs.lemmas.List.{take_more}
 use Rattle.std.specs.Str.{bytes_eq}
 use Rattle.arc_class.specs.ByName.{Named}
-use Rattle.arc_ast.specs.declared.tree.Function.{Function}
-use Rattle.arc_ast.specs.declared.tree.Global.{Global}
-use Rattle.arc_ast.specs.declared.tree.MethodHead.{MethodHead}
 use Rattle.arc_ast.specs.declared.tree.Implementation.{Implementation}
 use Rattle.arc_ast.specs.declared.tree.Interface.{Interface}
 use Rattle.arc_ast.specs.declared.tree.Method.{Method}
 use Rattle.arc_ast.specs.declared.tree.Field.{Field}
-use Rattle.arc_ast.specs.declared.tree.Parameter.{Parameter}
 use Rattle.arc_ast.specs.declared.tree.Sign.{Sign}
-use Rattle.arc_ast.specs.Tree.{FunctionTree, GlobalTree, HeadTree, FieldTree, InterfaceTree, ImplementationTree, UnitTree, head_tree, method_trees, field_trees, interface_tree, interface_trees, implementation_tree, implementation_trees, function_tree, function_trees, global_tree, global_trees, head_trees, parameter_trees, type_tree, result_tree}
+use Rattle.arc_ast.specs.Tree.{HeadTree, FieldTree, InterfaceTree, ImplementationTree, UnitTree, head_tree, method_trees, field_trees, interface_tree, interface_trees, implementation_tree, implementation_trees}
 use Rattle.arc_class.specs.declared.kept.Implemented.{Implemented}
 use Rattle.arc_class.specs.declared.table.Place.{Place}
-use Rattle.arc_class.specs.private.Walk.{and_name}
+use Rattle.arc_class.specs.private.Scopes.{and_name}
 use Rattle.arc_class.specs.Broken.{broken_if, Broken, first, earlier_of}
-use Rattle.arc_class.specs.ClassRules.{broken_head, broken_method, broken_methods, broken_field, broken_fields, field_place, broken_interface, broken_interfaces, broken_implementation, broken_implementations, is_implemented, interface_before, clashes_with, clashing_functions, broken_global, broken_globals, broken_signatures}
-use Rattle.arc_class.specs.Bodies.{broken_type, broken_result_type, broken_parameter_types, broken_field_types}
-use Rattle.arc_sites.specs.Sites.{named_parameters}
+use Rattle.arc_class.specs.ClassRules.{broken_methods, broken_field, broken_fields, field_place, broken_interface, broken_interfaces, broken_implementation, broken_implementations, is_implemented}
+use Rattle.arc_class.specs.SiteRules.{interface_before}
 use Rattle.arc_class.specs.Classes.{heads, first_head, interface_number, class_number, is_root, or_else}
 use Rattle.arc_class.specs.Kept.{place_before, places, implemented_tree}
 use Rattle.arc_class.specs.Running.{implemented}
@@ -116,55 +110,7 @@ class_number_kept names is name e = ap (λ o. if is_root name then Some 0 else o
     go None = refl
     go (Some m) = ap Some (omega arith)
 
--- ---- functions
-
-pub functions_turn : (is : List InterfaceTree) (gs : List GlobalTree) (all : List FunctionTree) (xs : List Function) (k : ℕ) (x : Function) (so_far one now whole : Option Broken) → k < length xs → x ≡ get_or xs k x
-    → one ≡ first (broken_if (clashes_with is gs all (function_tree x)) x.at 21) → now ≡ earlier_of so_far one
-    → whole ≡ earlier_of so_far (first (clashing_functions is gs all (function_trees (drop k xs)))) → whole ≡ earlier_of now (first (clashing_functions is gs all (function_trees (drop (k + 1) xs))))
-functions_turn is gs all xs k x so_far one now whole l e o n w =
-    first_turn (broken_if (clashes_with is gs all (function_tree x)) x.at 21) (clashing_functions is gs all (function_trees (drop (k + 1) xs))) so_far one now whole o n
-    (w ∙ ap (λ us. earlier_of so_far (first (clashing_functions is gs all (function_trees us)))) (drop_turn xs k x l e))
-
--- ---- global variables
-
-pub globals_turn : (u : UnitTree) (xs : List Global) (k : ℕ) (x : Global) (so_far one now whole : Option Broken) → k < length xs → x ≡ get_or xs k x
-    → one ≡ first (broken_global u (global_tree x)) → now ≡ earlier_of so_far one
-    → whole ≡ earlier_of so_far (first (broken_globals u (global_trees (drop k xs)))) → whole ≡ earlier_of now (first (broken_globals u (global_trees (drop (k + 1) xs))))
-globals_turn u xs k x so_far one now whole l e o n w =
-    first_turn (broken_global u (global_tree x)) (broken_globals u (global_trees (drop (k + 1) xs))) so_far one now whole o n
-    (w ∙ ap (λ us. earlier_of so_far (first (broken_globals u (global_trees us)))) (drop_turn xs k x l e))
-
--- ---- types
-
-pub parameter_types_turn : (u : UnitTree) (xs : List Parameter) (k : ℕ) (x : Parameter) (so_far one now whole : Option Broken) → k < length xs → x ≡ get_or xs k x
-    → one ≡ first (broken_type u (type_tree x.type_name)) → now ≡ earlier_of so_far one
-    → whole ≡ earlier_of so_far (first (broken_parameter_types u (parameter_trees (drop k xs)))) → whole ≡ earlier_of now (first (broken_parameter_types u (parameter_trees (drop (k + 1) xs))))
-parameter_types_turn u xs k x so_far one now whole l e o n w =
-    first_turn (broken_type u (type_tree x.type_name)) (broken_parameter_types u (parameter_trees (drop (k + 1) xs))) so_far one now whole o n
-    (w ∙ ap (λ us. earlier_of so_far (first (broken_parameter_types u (parameter_trees us)))) (drop_turn xs k x l e))
-
-pub field_types_turn : (u : UnitTree) (xs : List Field) (k : ℕ) (x : Field) (so_far one now whole : Option Broken) → k < length xs → x ≡ get_or xs k x
-    → one ≡ first (broken_type u (type_tree x.type_name)) → now ≡ earlier_of so_far one
-    → whole ≡ earlier_of so_far (first (broken_field_types u (field_trees (drop k xs)))) → whole ≡ earlier_of now (first (broken_field_types u (field_trees (drop (k + 1) xs))))
-field_types_turn u xs k x so_far one now whole l e o n w =
-    first_turn (broken_type u (type_tree x.type_name)) (broken_field_types u (field_trees (drop (k + 1) xs))) so_far one now whole o n
-    (w ∙ ap (λ us. earlier_of so_far (first (broken_field_types u (field_trees us)))) (drop_turn xs k x l e))
-
-pub signatures_turn : (u : UnitTree) (xs : List Function) (k : ℕ) (x : Function) (so_far one now whole : Option Broken) → k < length xs → x ≡ get_or xs k x
-    → one ≡ first (broken_result_type u (result_tree x.result) ++ broken_parameter_types u (named_parameters (function_tree x).parameters)) → now ≡ earlier_of so_far one
-    → whole ≡ earlier_of so_far (first (broken_signatures u (function_trees (drop k xs)))) → whole ≡ earlier_of now (first (broken_signatures u (function_trees (drop (k + 1) xs))))
-signatures_turn u xs k x so_far one now whole l e o n w =
-    first_turn (broken_result_type u (result_tree x.result) ++ broken_parameter_types u (named_parameters (function_tree x).parameters)) (broken_signatures u (function_trees (drop (k + 1) xs))) so_far one now whole o n
-    (w ∙ ap (λ us. earlier_of so_far (first (broken_signatures u (function_trees us)))) (drop_turn xs k x l e))
-
 -- ---- methods
-
-pub heads_turn : (u : UnitTree) (xs : List MethodHead) (k : ℕ) (x : MethodHead) (so_far one now whole : Option Broken) → k < length xs → x ≡ get_or xs k x
-    → one ≡ first (broken_head u (head_tree x)) → now ≡ earlier_of so_far one
-    → whole ≡ earlier_of so_far (first (flat_map (broken_head u) (head_trees (drop k xs)))) → whole ≡ earlier_of now (first (flat_map (broken_head u) (head_trees (drop (k + 1) xs))))
-heads_turn u xs k x so_far one now whole l e o n w =
-    first_turn (broken_head u (head_tree x)) (flat_map (broken_head u) (head_trees (drop (k + 1) xs))) so_far one now whole o n
-    (w ∙ ap (λ us. earlier_of so_far (first (flat_map (broken_head u) (head_trees us)))) (drop_turn xs k x l e))
 
 heads_push : (xs : List Method) (x : Method) → heads (method_trees (xs ++ x ∷ [])) ≡ heads (method_trees xs) ++ head_tree x.head ∷ []
 heads_push [] x = refl
@@ -173,15 +119,15 @@ heads_push (y ∷ xs) x = ap (λ us. head_tree y.head ∷ us) (heads_push xs x)
 heads_take : (xs : List Method) (k : ℕ) (x : Method) → k < length xs → x ≡ get_or xs k x → heads (method_trees (take (k + 1) xs)) ≡ heads (method_trees (take k xs)) ++ head_tree x.head ∷ []
 heads_take xs k x l e = ap (λ us. heads (method_trees us)) (take_more xs k x l ∙ ap (λ y. take k xs ++ y ∷ []) (sym e)) ∙ heads_push (take k xs) x
 
-pub methods_turn : (u : UnitTree) (xs : List Method) (k : ℕ) (x : Method) (so_far one now whole : Option Broken) → k < length xs → x ≡ get_or xs k x
-    → one ≡ first (broken_method u (heads (method_trees (take k xs))) (head_tree x.head)) → now ≡ earlier_of so_far one
-    → whole ≡ earlier_of so_far (first (broken_methods u (heads (method_trees (take k xs))) (method_trees (drop k xs)))) → whole ≡ earlier_of now (first (broken_methods u (heads (method_trees (take (k + 1) xs))) (method_trees (drop (k + 1) xs))))
-methods_turn u xs k x so_far one now whole l e o n w =
+pub methods_turn : (xs : List Method) (k : ℕ) (x : Method) (so_far one now whole : Option Broken) → k < length xs → x ≡ get_or xs k x
+    → one ≡ first (broken_if (is_some (first_head x.head.sign x.head.selector.items (heads (method_trees (take k xs))))) x.head.at 21) → now ≡ earlier_of so_far one
+    → whole ≡ earlier_of so_far (first (broken_methods (heads (method_trees (take k xs))) (method_trees (drop k xs)))) → whole ≡ earlier_of now (first (broken_methods (heads (method_trees (take (k + 1) xs))) (method_trees (drop (k + 1) xs))))
+methods_turn xs k x so_far one now whole l e o n w =
     let before = heads (method_trees (take k xs)) in
     let others = method_trees (drop (k + 1) xs) in
-    first_turn (broken_method u before (head_tree x.head)) (broken_methods u (before ++ head_tree x.head ∷ []) others) so_far one now whole o n
-    (w ∙ ap (λ us. earlier_of so_far (first (broken_methods u before (method_trees us)))) (drop_turn xs k x l e))
-    ∙ ap (λ b. earlier_of now (first (broken_methods u b others))) (sym (heads_take xs k x l e))
+    first_turn (broken_if (is_some (first_head x.head.sign x.head.selector.items before)) x.head.at 21) (broken_methods (before ++ head_tree x.head ∷ []) others) so_far one now whole o n
+    (w ∙ ap (λ us. earlier_of so_far (first (broken_methods before (method_trees us)))) (drop_turn xs k x l e))
+    ∙ ap (λ b. earlier_of now (first (broken_methods b others))) (sym (heads_take xs k x l e))
 
 pub methods_held : (xs : List Method) (k : ℕ) (x : Method) (old new : Sign → List ℕ → Option HeadTree) → k < length xs → x ≡ get_or xs k x
     → ((sign : Sign) (selector : List ℕ) → new sign selector ≡ or_else (old sign selector) (first_head sign selector (head_tree x.head ∷ [])))

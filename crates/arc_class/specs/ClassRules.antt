@@ -1,80 +1,27 @@
--- The rules for classes, their methods and their fields.
-use Rattle.std.specs.Prelude.{ℕ, suc, Bool, false, ◌&&◌, ◌||◌, not, nat_lt, List, [], ◌∷◌, ◌++◌, length, flat_map, Option, Some, None, is_some, is_none, codes, if◌then◌else◌}
+-- The rules for classes, their methods and their fields, and all rules for what a source declares.
+use Rattle.std.specs.Prelude.{ℕ, suc, Bool, false, ◌||◌, not, nat_lt, List, [], ◌∷◌, ◌++◌, length, flat_map, Option, Some, None, is_some, is_none, if◌then◌else◌}
 use Rattle.std.specs.List.{list_any}
 use Rattle.std.specs.Option.{option_map_or}
 use Rattle.std.specs.Str.{bytes_eq}
 use Rattle.arc_class.specs.declared.classes.TheConstants.{MOST_FIELDS}
-use Rattle.arc_ast.specs.declared.tree.Kind.{Kind}
-use Rattle.arc_ast.specs.declared.tree.Kind.TheVariants as k
-use Rattle.arc_ast.specs.declared.tree.Sign.{Sign}
-use Rattle.arc_ast.specs.declared.tree.Sign.TheVariants as signs
-use Rattle.arc_ast.specs.Tree.{FunctionTree, GlobalTree, HeadTree, MethodTree, FieldTree, InterfaceTree, ImplementationTree, UnitTree}
-use Rattle.arc_sites.specs.Sites.{named_parameters}
-use Rattle.arc_spec.specs.Classes.{same_sign, ancestry}
-use Rattle.arc_class.specs.Bodies.{broken_bodies, broken_type, broken_result_type, broken_parameter_types, broken_field_types}
+use Rattle.arc_ast.specs.Tree.{HeadTree, MethodTree, FieldTree, InterfaceTree, ImplementationTree, UnitTree}
+use Rattle.arc_sites.specs.Finding.{violations_of}
+use Rattle.arc_sites.specs.Sites.{unit_sites}
+use Rattle.arc_spec.specs.Classes.{ancestry}
 use Rattle.arc_class.specs.Broken.{Broken, broken_if}
-use Rattle.arc_class.specs.Classes.{is_root, interface_number, class_number, superclasses, first_head, result_of, built_in_result, or_else, declared, defined}
+use Rattle.arc_class.specs.Classes.{is_root, interface_number, class_number, superclasses, first_head}
 use Rattle.arc_class.specs.Fields.{own_fields, fields_declared, fields}
 use Rattle.arc_class.specs.Globals.{known_global, variable_before}
-use Rattle.arc_class.specs.Functions.{is_library, same_kind, same_kinds, duplicates, missing_main}
-use Rattle.arc_class.specs.Names.{first_named, parameter_kinds, listed_kinds, number_of, is_main}
+use Rattle.arc_class.specs.Functions.{is_library, duplicates, missing_main}
+use Rattle.arc_class.specs.Names.{first_named, number_of, is_main}
+use Rattle.arc_class.specs.SiteRules.{stands_before, violations}
 
 -- ---- methods
 
--- whether two methods give the same kind of value, and have parameters of the same kinds
-abbrev pub same_kinds_of : HeadTree → HeadTree → Bool
-same_kinds_of e h = same_kind (result_of e) (result_of h) && same_kinds (parameter_kinds e.parameters) (parameter_kinds h.parameters)
-
--- whether a method stands before another, and they differ in a kind
-abbrev pub differs_before : Option HeadTree → HeadTree → Bool
-differs_before earlier h = option_map_or (λ e. nat_lt e.at h.at && not (same_kinds_of e h)) earlier false
-
--- whether a method that is built in gives another kind of value
-abbrev pub differs_from : Option Kind → HeadTree → Bool
-differs_from kind h = option_map_or (λ given. not (same_kind given (result_of h))) kind false
-
--- the selectors of the methods of the root that say what an object's class is or has (OPL, "Introspection")
-abbrev pub asks_class : List ℕ → Bool
-asks_class selector = bytes_eq selector (codes "isKindOfClass:") || (bytes_eq selector (codes "isMemberOfClass:")
-    || (bytes_eq selector (codes "respondsToSelector:") || bytes_eq selector (codes "conformsToProtocol:")))
-
--- these give a BOOL; no source can send them yet
-abbrev pub asked_kind : Sign → List ℕ → Option Kind
-asked_kind sign selector = if same_sign sign signs.Instance && asks_class selector then Some k.Bool else None
-
--- what the methods of the root give, which are built in
-abbrev pub built_in_kind : Sign → List ℕ → Option Kind
-built_in_kind sign selector = or_else (built_in_result sign selector) (asked_kind sign selector)
-
--- 24 SelectorKinds: a method whose result or one of whose parameters is of another kind than that of an earlier method of its sign with its selector, those of
--- the root being built in, at its `+` or `-` (this project's own choice)
-abbrev pub changes_kind : UnitTree → HeadTree → Bool
-changes_kind u h = differs_before (first_head h.sign h.selector (declared u.interfaces)) h
-    || (differs_before (first_head h.sign h.selector (defined u.implementations)) h || differs_from (built_in_kind h.sign h.selector) h)
-
--- 28 HookMethod: a class method that would change how classes are loaded or objects are made (Runtime Reference, "+load" and "+initialize"; OPL, "Allocating
--- and Initializing Objects"), a method of objects that says what their class is or has, or one of either sign that gives the class, at its `+` or `-` (this
--- project's own choice)
-abbrev pub is_class_hook : List ℕ → Bool
-is_class_hook selector = bytes_eq selector (codes "load") || (bytes_eq selector (codes "initialize") || bytes_eq selector (codes "alloc"))
-
-abbrev pub is_hook_of : Sign → List ℕ → Bool
-is_hook_of sign selector = if same_sign sign signs.Class then is_class_hook selector else asks_class selector
-
-abbrev pub is_hook : HeadTree → Bool
-is_hook h = is_hook_of h.sign h.selector || bytes_eq h.selector (codes "class")
-
--- 22 UnknownClass too, in the types of its result and of its parameters
-abbrev pub broken_head : UnitTree → HeadTree → List Broken
-broken_head u h = broken_if (changes_kind u h) h.at 24 ++ (broken_if (is_hook h) h.at 28 ++ (broken_result_type u h.result ++ broken_parameter_types u h.parameters))
-
 -- 21 Duplicate: a second method of one implementation of a sign with a selector, at its `+` or `-`; `before` are those before it (this project's own choice)
-abbrev pub broken_method : UnitTree → (before : List HeadTree) → HeadTree → List Broken
-broken_method u before h = broken_if (is_some (first_head h.sign h.selector before)) h.at 21 ++ broken_head u h
-
-abbrev pub broken_methods : UnitTree → (before : List HeadTree) → List MethodTree → List Broken
-broken_methods u before [] = []
-broken_methods u before (m ∷ others) = broken_method u before m.head ++ broken_methods u (before ++ m.head ∷ []) others
+abbrev pub broken_methods : (before : List HeadTree) → List MethodTree → List Broken
+broken_methods before [] = []
+broken_methods before (m ∷ others) = broken_if (is_some (first_head m.head.sign m.head.selector before)) m.head.at 21 ++ broken_methods (before ++ m.head ∷ []) others
 
 -- ---- fields
 
@@ -101,9 +48,6 @@ broken_fields u above all = flat_map (λ f. broken_field u above all f.at f.name
 
 -- ---- classes
 
-abbrev pub stands_before : Option FunctionTree → ℕ → Bool
-stands_before f at = option_map_or (λ f. nat_lt f.at at) f false
-
 -- 21 Duplicate: an interface of the root, of a name of the library's, of an earlier interface's class or of the name of an earlier function or
 -- global variable, at its name (this project's own choice)
 abbrev pub is_taken : UnitTree → (before : List InterfaceTree) → InterfaceTree → Bool
@@ -122,11 +66,9 @@ broken_names u before i = (broken_if (is_taken u before i) i.at 21 ++ broken_if 
 abbrev pub broken_own_fields : UnitTree → (class : ℕ) → InterfaceTree → List Broken
 broken_own_fields u class i = broken_fields u (class_number u.interfaces i.superclass) (fields_declared u class i) (fields_declared u class i)
 
--- 27 TooManyFields: a class whose objects have more fields than this, of both sorts together, at its interface's name (this project's own limit). 22 UnknownClass:
--- the type of a field of the interface.
+-- 27 TooManyFields: a class whose objects have more fields than this, of both sorts together, at its interface's name (this project's own limit)
 abbrev pub broken_members : UnitTree → (class : ℕ) → InterfaceTree → List Broken
-broken_members u class i =
-    broken_if (nat_lt MOST_FIELDS (length (fields u class))) i.at 27 ++ (broken_own_fields u class i ++ (broken_field_types u i.fields ++ flat_map (broken_head u) i.methods))
+broken_members u class i = broken_if (nat_lt MOST_FIELDS (length (fields u class))) i.at 27 ++ broken_own_fields u class i
 
 abbrev pub broken_interface : UnitTree → (before : List InterfaceTree) → InterfaceTree → List Broken
 broken_interface u before i = broken_names u before i ++ broken_members u (suc (length before)) i
@@ -141,57 +83,15 @@ abbrev pub broken_own_names : UnitTree → (before : List ImplementationTree) �
 broken_own_names u before i =
     broken_if (is_root i.name || is_implemented before i.name) i.at 21 ++ broken_if (is_none (class_number u.interfaces i.name)) i.at 22
 
--- The names of an implementation's fields are looked at with those of its class's interface (`broken_own_fields`), and their types here: 22 UnknownClass.
+-- the names of an implementation's fields are looked at with those of its class's interface (`broken_own_fields`)
 abbrev pub broken_implementation : UnitTree → (before : List ImplementationTree) → ImplementationTree → List Broken
-broken_implementation u before i = broken_own_names u before i ++ (broken_field_types u i.fields ++ broken_methods u [] i.methods)
+broken_implementation u before i = broken_own_names u before i ++ broken_methods [] i.methods
 
 abbrev pub broken_implementations : UnitTree → (before : List ImplementationTree) → List ImplementationTree → List Broken
 broken_implementations u before [] = []
 broken_implementations u before (i ∷ others) = broken_implementation u before i ++ broken_implementations u (before ++ i ∷ []) others
 
--- ---- names
-
-abbrev pub interface_before : List InterfaceTree → List ℕ → ℕ → Bool
-interface_before [] name at = false
-interface_before (i ∷ others) name at = if bytes_eq name i.name then nat_lt i.at at else interface_before others name at
-
--- whether a class has the name whose interface stands before a place; the root is before all
-abbrev pub class_before : List InterfaceTree → List ℕ → ℕ → Bool
-class_before interfaces name at = is_root name || interface_before interfaces name at
-
--- whether a function's parameters are of other kinds than those of the first function of its name
-abbrev pub other_parameters : Option FunctionTree → FunctionTree → Bool
-other_parameters first f = option_map_or (λ e. not (same_kinds (listed_kinds e) (listed_kinds f))) first false
-
--- 21 Duplicate: a function with the name of the root, of an earlier interface's class (this project's own choice) or of an earlier global variable (C99, section
--- 6.7, paragraph 3), or whose parameters are of other kinds than
--- those of the first function of its name (C99, section 6.7.5.3), at its name
-abbrev pub clashes_with : List InterfaceTree → List GlobalTree → List FunctionTree → FunctionTree → Bool
-clashes_with interfaces globals functions f =
-    class_before interfaces f.name f.at || (variable_before (known_global interfaces globals f.name) f.at || other_parameters (first_named f.name functions) f)
-
-abbrev pub clashing_functions : List InterfaceTree → List GlobalTree → (all : List FunctionTree) → List FunctionTree → List Broken
-clashing_functions interfaces globals all = flat_map (λ f. broken_if (clashes_with interfaces globals all f) f.at 21)
-
--- 21 Duplicate: a global variable of a name of the library's, of the root, or of an earlier interface's class, function or global variable, at its name (C99,
--- section 6.7, paragraph 3; that a declaration without a first number may not stand again is this project's own choice)
-abbrev pub is_again : UnitTree → GlobalTree → Bool
-is_again u g = is_library g.name || (class_before u.interfaces g.name g.at
-    || (stands_before (first_named g.name u.functions) g.at || variable_before (known_global u.interfaces u.globals g.name) g.at))
-
--- and 22 UnknownClass, in its type
-abbrev pub broken_global : UnitTree → GlobalTree → List Broken
-broken_global u g = broken_if (is_again u g) g.at 21 ++ broken_type u g.type
-
-abbrev pub broken_globals : UnitTree → List GlobalTree → List Broken
-broken_globals u = flat_map (broken_global u)
-
--- 22 UnknownClass: in the types of the result and of the parameters of a function that is declared or defined
-abbrev pub broken_signatures : UnitTree → List FunctionTree → List Broken
-broken_signatures u = flat_map (λ f. broken_result_type u f.result ++ broken_parameter_types u (named_parameters f.parameters))
-
--- all that is wrong with what a source declares, and inside its functions and methods with names of variables, with types and with calls
+-- all that is wrong with a source before its types are looked at
 abbrev pub broken : UnitTree → List Broken
-broken u = (duplicates [] u.functions ++ (missing_main (number_of is_main u.functions) ++ broken_bodies u))
-    ++ (clashing_functions u.interfaces u.globals u.functions u.functions
-    ++ (broken_signatures u u.functions ++ (broken_globals u u.globals ++ (broken_interfaces u [] u.interfaces ++ broken_implementations u [] u.implementations))))
+broken u = (duplicates [] u.functions ++ (missing_main (number_of is_main u.functions) ++ violations_of (violations u) (unit_sites u)))
+    ++ (broken_interfaces u [] u.interfaces ++ broken_implementations u [] u.implementations)

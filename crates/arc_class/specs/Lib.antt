@@ -1,11 +1,11 @@
 pub mod Broken
 pub mod Names
 pub mod Sorts
-pub mod Bodies
 pub mod Functions
 pub mod Globals
 pub mod Classes
 pub mod Fields
+pub mod SiteRules
 pub mod Running
 pub mod ClassRules
 pub mod ByName

@@ -1,4 +1,4 @@
 -- The vocabulary of private functions: no contract of a public call speaks of it.
 pub mod Entries
 pub mod Look
-pub mod Walk
+pub mod Scopes

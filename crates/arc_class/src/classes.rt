@@ -3,7 +3,8 @@ ghost use Rattle.std.specs.Prelude.{◌≡◌, ◌≤◌, ◌||◌, List, ℕ, [
 ghost use Rattle.arc_ast.specs.Tree.{InterfaceTree, ImplementationTree, unit_tree, function_tree, global_tree, interface_tree, implementation_tree};
 ghost use Rattle.arc_class.specs.Broken.{first};
 ghost use Rattle.arc_class.specs.ClassRules as rules;
-ghost use Rattle.arc_class.specs.ClassRules.{broken_names, broken_members, broken_interfaces, broken_own_names, broken_own_fields, broken_implementation, broken_implementations, clashing_functions, broken_signatures, broken_global, broken_globals};
+ghost use Rattle.arc_class.specs.ClassRules.{broken_names, broken_members, broken_interfaces, broken_own_names, broken_own_fields, broken_implementation, broken_implementations};
+ghost use Rattle.arc_class.specs.SiteRules as site_rules;
 ghost use Rattle.arc_class.specs.Classes as classes;
 ghost use Rattle.arc_class.specs.Classes.{interface_number};
 ghost use Rattle.arc_class.specs.private.Entries.{fields_tree, all_class_fields};
@@ -11,16 +12,16 @@ ghost use Rattle.arc_class.specs.Fault.{reported};
 ghost use Rattle.arc_class.specs.Globals.{variable_before};
 ghost use Rattle.arc_class.specs.Kept.{Knows, place_before};
 ghost use Rattle.arc_class.specs.Owners.{FindsFields};
-ghost use Rattle.arc_class.specs.private.Walk.{holds};
+ghost use Rattle.arc_class.specs.private.Scopes.{holds};
 
 use crate::fault::fault_if;
 use crate::fields::{ClassFields, counted_among, field_places, fields_fault};
 use crate::kept::Source;
 use crate::look::{is_library, listed, same_parameters};
+use crate::methods::methods_fault;
 use crate::owners::Owners;
+use crate::scopes::{Scope, stands};
 use crate::table::{Place, Variable, at_name, class_number, is_root};
-use crate::types::{field_types_fault, missing_class, parameter_types_fault, result_type_fault};
-use crate::walk::{Scope, stands};
 use arc_ast::tree;
 use arc_ast::tree::{Function, Implementation, Interface};
 use arc_fault::class::ClassFault;
@@ -32,7 +33,7 @@ const MOST_FIELDS: usize = 120;
 
 /// Whether there is a function, and it stands before the place.
 fn stands_before(function: Option<&Function>, at: usize) -> bool
-    ensures { result ≡ rules.stands_before (option_map (λ f. function_tree f.now) function.entry) at }
+    ensures { result ≡ site_rules.stands_before (option_map (λ f. function_tree f.now) function.entry) at }
 {
     match function {
         None => false,
@@ -62,7 +63,7 @@ fn place_before(place: Option<Place>, at: usize) -> bool
 
 /// Whether a function's parameters are of other kinds than those of the first function of its name.
 fn other_parameters(first: Option<&Function>, function: &Function) -> bool
-    ensures { result ≡ rules.other_parameters (option_map (λ f. function_tree f.now) first.entry) (function_tree function.now) }
+    ensures { result ≡ site_rules.other_parameters (option_map (λ f. function_tree f.now) first.entry) (function_tree function.now) }
 {
     match first {
         None => false,
@@ -79,83 +80,32 @@ fn is_known<'a>(before: &Scope<'a>, name: &'a [u8]) -> bool
 
 impl<'a> Source<'a> {
     /// Whether the root has the name, or a class whose interface stands before the place.
-    fn class_before(&self, name: &'a [u8], at: usize) -> bool
-        requires { Knows (unit_tree self.now.unit.now) self.now }
-        ensures { result ≡ rules.class_before (unit_tree self.now.unit.now).interfaces name.now at }
+    fn class_before(&self, name: &[u8], at: usize) -> bool
+        ensures { Knows (unit_tree self.now.unit.now) self.now → result ≡ site_rules.class_before (unit_tree self.now.unit.now).interfaces name.now at }
     {
         is_root(name) || place_before(at_name(&self.names, name), at)
     }
 
     /// Whether the function has the name of the root, of an earlier interface's class or of an earlier global variable,
     /// or parameters of other kinds than the first function of its name.
-    fn clashes_with(&self, function: &'a Function) -> bool
-        requires { Knows (unit_tree self.now.unit.now) self.now }
-        ensures { result ≡ rules.clashes_with (unit_tree self.now.unit.now).interfaces (unit_tree self.now.unit.now).globals (unit_tree self.now.unit.now).functions (function_tree function.now) }
+    pub(crate) fn clashes_with(&self, function: &Function) -> bool
+        ensures { Knows (unit_tree self.now.unit.now) self.now → result ≡ site_rules.clashes_with (unit_tree self.now.unit.now).interfaces (unit_tree self.now.unit.now).globals (unit_tree self.now.unit.now).functions (function_tree function.now) }
     {
         self.class_before(&function.name, function.at)
             || variable_before(at_name(&self.globals, &function.name), function.at)
             || other_parameters(at_name(&self.functions, &function.name), function)
     }
 
-    /// The first function that clashes with a class, a global variable, or the first function of its name.
-    fn functions_fault(&self) -> Option<ClassFault>
-        requires { Knows (unit_tree self.now.unit.now) self.now }
-        ensures { option_map reported result ≡ first (clashing_functions (unit_tree self.now.unit.now).interfaces (unit_tree self.now.unit.now).globals (unit_tree self.now.unit.now).functions (unit_tree self.now.unit.now).functions) }
-    {
-        let mut fault = None;
-        for function in &self.unit.functions {
-            let clashes = self.clashes_with(function);
-            fault = earlier(fault, fault_if(clashes, ClassFault::Duplicate(function.at)));
-        }
-        fault
-    }
-
     /// Whether a global variable has a name of the library's, of the root, or of an earlier interface's class, function or
     /// global variable.
-    fn is_again(&self, global: &'a tree::Global) -> bool
-        requires { Knows (unit_tree self.now.unit.now) self.now }
-        ensures { result ≡ rules.is_again (unit_tree self.now.unit.now) (global_tree global.now) }
+    pub(crate) fn is_again(&self, global: &tree::Global) -> bool
+        ensures { Knows (unit_tree self.now.unit.now) self.now → result ≡ site_rules.is_again (unit_tree self.now.unit.now) (global_tree global.now) }
     {
-        let name: &'a [u8] = &global.name;
+        let name: &[u8] = &global.name;
         is_library(name)
             || self.class_before(name, global.at)
             || stands_before(at_name(&self.functions, name), global.at)
             || variable_before(at_name(&self.globals, name), global.at)
-    }
-
-    /// The first rule that a global variable breaks.
-    fn global_fault(&self, global: &'a tree::Global) -> Option<ClassFault>
-        requires { Knows (unit_tree self.now.unit.now) self.now }
-        ensures { option_map reported result ≡ first (broken_global (unit_tree self.now.unit.now) (global_tree global.now)) }
-    {
-        let again = fault_if(self.is_again(global), ClassFault::Duplicate(global.at));
-        earlier(again, missing_class(self, &global.type_name))
-    }
-
-    /// The first rule that the global variables break.
-    fn globals_fault(&self) -> Option<ClassFault>
-        requires { Knows (unit_tree self.now.unit.now) self.now }
-        ensures { option_map reported result ≡ first (broken_globals (unit_tree self.now.unit.now) (unit_tree self.now.unit.now).globals) }
-    {
-        let mut fault = None;
-        for global in &self.unit.globals {
-            fault = earlier(fault, self.global_fault(global));
-        }
-        fault
-    }
-
-    /// The first class that a function's parameters name and that the source doesn't have.
-    fn signatures_fault(&self) -> Option<ClassFault>
-        requires { Knows (unit_tree self.now.unit.now) self.now }
-        ensures { option_map reported result ≡ first (broken_signatures (unit_tree self.now.unit.now) (unit_tree self.now.unit.now).functions) }
-    {
-        let mut fault = None;
-        for function in &self.unit.functions {
-            let given = result_type_fault(self, &function.result);
-            let passed = parameter_types_fault(self, listed(&function.parameters));
-            fault = earlier(fault, earlier(given, passed));
-        }
-        fault
     }
 
     /// Whether an interface's name is taken, after interfaces whose names stand in `before`.
@@ -164,7 +114,7 @@ impl<'a> Source<'a> {
         ensures { (earlier : List InterfaceTree) → ((name : List ℕ) → holds before.now name ≡ is_some (interface_number earlier name))
             → result ≡ rules.is_taken (unit_tree self.now.unit.now) earlier (interface_tree interface.now) }
     {
-        let name: &'a [u8] = &interface.name;
+        let name: &[u8] = &interface.name;
         is_root(name)
             || is_library(name)
             || stands(before, name)
@@ -211,7 +161,7 @@ impl<'a> Source<'a> {
         Ok(earlier(before, later_on))
     }
 
-    /// The first rule that the members of an interface break, whose class has this number.
+    /// The first rule that the fields of an interface's class break, which has this number.
     fn members_fault(
         &self,
         alloc: Global,
@@ -229,9 +179,7 @@ impl<'a> Source<'a> {
         let many = counted_among(fields, Some(class)).is_above(MOST_FIELDS);
         let many = fault_if(many, ClassFault::TooManyFields(interface.at));
         let again = self.own_fields_fault(alloc, fields, owners, class, interface)?;
-        let types = field_types_fault(self, &interface.fields);
-        let inside = earlier(types, self.heads_fault(&interface.methods));
-        Ok(earlier(many, earlier(again, inside)))
+        Ok(earlier(many, again))
     }
 
     /// The first rule that the interfaces break.
@@ -289,9 +237,8 @@ impl<'a> Source<'a> {
             → IfOk result (λ fault. option_map reported fault ≡ first (broken_implementation (unit_tree self.now.unit.now) earlier (implementation_tree implementation.now))) }
     {
         let names = self.own_names_fault(before, implementation);
-        let types = field_types_fault(self, &implementation.fields);
-        let methods = self.methods_fault(alloc, &implementation.methods)?;
-        Ok(earlier(names, earlier(types, methods)))
+        let methods = methods_fault(alloc, &implementation.methods)?;
+        Ok(earlier(names, methods))
     }
 
     /// The first rule that the implementations break.
@@ -310,7 +257,7 @@ impl<'a> Source<'a> {
         Ok(fault)
     }
 
-    /// The first rule that is broken of those for classes and their names.
+    /// The first rule that the interfaces and the implementations break.
     pub fn classes_fault(
         &self,
         alloc: Global,
@@ -320,17 +267,10 @@ impl<'a> Source<'a> {
         requires knows { Knows (unit_tree self.now.unit.now) self.now }
         requires fields { map fields_tree fields.now ≡ all_class_fields (unit_tree self.now.unit.now) }
         requires owners { FindsFields fields.now owners.now }
-        ensures { IfOk result (λ fault. option_map reported fault ≡ first (clashing_functions (unit_tree self.now.unit.now).interfaces (unit_tree self.now.unit.now).globals (unit_tree self.now.unit.now).functions (unit_tree self.now.unit.now).functions
-            ++ (broken_signatures (unit_tree self.now.unit.now) (unit_tree self.now.unit.now).functions
-            ++ (broken_globals (unit_tree self.now.unit.now) (unit_tree self.now.unit.now).globals
-            ++ (broken_interfaces (unit_tree self.now.unit.now) [] (unit_tree self.now.unit.now).interfaces
-            ++ broken_implementations (unit_tree self.now.unit.now) [] (unit_tree self.now.unit.now).implementations))))) }
+        ensures { IfOk result (λ fault. option_map reported fault ≡ first (broken_interfaces (unit_tree self.now.unit.now) [] (unit_tree self.now.unit.now).interfaces
+            ++ broken_implementations (unit_tree self.now.unit.now) [] (unit_tree self.now.unit.now).implementations)) }
     {
         let interfaces = self.interfaces_fault(alloc, fields, owners)?;
-        let implementations = self.implementations_fault(alloc)?;
-        let inside = earlier(interfaces, implementations);
-        let inside = earlier(self.globals_fault(), inside);
-        let inside = earlier(self.signatures_fault(), inside);
-        Ok(earlier(self.functions_fault(), inside))
+        Ok(earlier(interfaces, self.implementations_fault(alloc)?))
     }
 }

@@ -1,10 +1,10 @@
 //! The rules for methods.
-ghost use Rattle.std.specs.Prelude.{◌≡◌, List, ℕ, [], flat_map, option_map, IfOk};
+ghost use Rattle.std.specs.Prelude.{◌≡◌, List, ℕ, [], is_some, option_map, IfOk};
 ghost use Rattle.arc_ast.specs.declared.tree.Sign.{Sign};
-ghost use Rattle.arc_ast.specs.Tree.{HeadTree, unit_tree, head_tree, head_trees, method_trees};
-ghost use Rattle.arc_class.specs.Broken.{first};
-ghost use Rattle.arc_class.specs.ClassRules as rules;
-ghost use Rattle.arc_class.specs.ClassRules.{broken_head, broken_method, broken_methods};
+ghost use Rattle.arc_ast.specs.Tree.{HeadTree, unit_tree, head_tree, method_trees};
+ghost use Rattle.arc_class.specs.Broken.{broken_if, first};
+ghost use Rattle.arc_class.specs.ClassRules.{broken_methods};
+ghost use Rattle.arc_class.specs.SiteRules as rules;
 ghost use Rattle.arc_class.specs.Classes.{first_head};
 ghost use Rattle.arc_class.specs.Fault.{reported};
 ghost use Rattle.arc_class.specs.Kept.{head_in, Knows};
@@ -14,7 +14,6 @@ use crate::heads::Heads;
 use crate::kept::Source;
 use crate::look::{same_kind, same_parameters};
 use crate::root::built_in_result;
-use crate::types::{parameter_types_fault, result_type_fault};
 use arc_ast::tree::{Kind, Method, MethodHead, Sign};
 use arc_fault::class::ClassFault;
 use arc_sites::violation::earlier;
@@ -76,7 +75,7 @@ fn is_hook_of(sign: Sign, selector: &[u8]) -> bool
 }
 
 /// Whether the method has a name that classes cannot take.
-fn is_hook(head: &MethodHead) -> bool
+pub(crate) fn is_hook(head: &MethodHead) -> bool
     ensures { result ≡ rules.is_hook (head_tree head.now) }
 {
     let selector: &[u8] = &head.selector;
@@ -113,66 +112,33 @@ fn differs_from(built_in: Option<Kind>, head: &MethodHead) -> bool
 
 impl<'a> Source<'a> {
     /// Whether the method differs in a kind from an earlier one of its sign with its selector.
-    fn changes_kind(&self, head: &'a MethodHead) -> bool
-        requires { Knows (unit_tree self.now.unit.now) self.now }
-        ensures { result ≡ rules.changes_kind (unit_tree self.now.unit.now) (head_tree head.now) }
+    pub(crate) fn changes_kind(&self, head: &MethodHead) -> bool
+        ensures { Knows (unit_tree self.now.unit.now) self.now → result ≡ rules.changes_kind (unit_tree self.now.unit.now) (head_tree head.now) }
     {
         differs_before(self.declared.get(head.sign, &head.selector), head)
             || differs_before(self.defined.get(head.sign, &head.selector), head)
             || differs_from(built_in_kind(head.sign, &head.selector), head)
     }
+}
 
-    /// The first rule that a method breaks as it is declared.
-    fn head_fault(&self, head: &'a MethodHead) -> Option<ClassFault>
-        requires { Knows (unit_tree self.now.unit.now) self.now }
-        ensures { option_map reported result ≡ first (broken_head (unit_tree self.now.unit.now) (head_tree head.now)) }
-    {
-        let kind = fault_if(self.changes_kind(head), ClassFault::SelectorKinds(head.at));
-        let hook = fault_if(is_hook(head), ClassFault::HookMethod(head.at));
-        let given = result_type_fault(self, &head.result);
-        let passed = parameter_types_fault(self, &head.parameters);
-        earlier(kind, earlier(hook, earlier(given, passed)))
-    }
+/// The rule that a method breaks as it is defined, after those of its implementation that are kept.
+fn method_fault(before: &Heads, head: &MethodHead) -> Option<ClassFault>
+    ensures { (earlier : List HeadTree) → ((sign : Sign) (selector : List ℕ) → head_in before.now sign selector ≡ first_head sign selector earlier)
+        → option_map reported result ≡ first (broken_if (is_some (first_head head.now.sign head.now.selector.items earlier)) head.now.at 21) }
+{
+    let stands = before.get(head.sign, &head.selector).is_some();
+    fault_if(stands, ClassFault::Duplicate(head.at))
+}
 
-    /// The first rule that an interface's methods break.
-    pub fn heads_fault(&self, heads: &'a [MethodHead]) -> Option<ClassFault>
-        requires { Knows (unit_tree self.now.unit.now) self.now }
-        ensures { option_map reported result ≡ first (flat_map (broken_head (unit_tree self.now.unit.now)) (head_trees heads.now)) }
-    {
-        let mut fault = None;
-        for head in heads {
-            fault = earlier(fault, self.head_fault(head));
-        }
-        fault
+/// The first method of an implementation before which another one of its sign with its selector is defined.
+pub fn methods_fault(alloc: Global, methods: &[Method]) -> Result<Option<ClassFault>, AllocError>
+    ensures { IfOk result (λ fault. option_map reported fault ≡ first (broken_methods [] (method_trees methods.now))) }
+{
+    let mut before = Heads::new(alloc);
+    let mut fault = None;
+    for method in methods {
+        fault = earlier(fault, method_fault(&before, &method.head));
+        before.keep(&method.head)?;
     }
-
-    /// The first rule that a method breaks as it is defined, after those that are kept.
-    fn method_fault(&self, before: &Heads<'a>, head: &'a MethodHead) -> Option<ClassFault>
-        requires { Knows (unit_tree self.now.unit.now) self.now }
-        ensures { (earlier : List HeadTree) → ((sign : Sign) (selector : List ℕ) → head_in before.now sign selector ≡ first_head sign selector earlier)
-            → option_map reported result ≡ first (broken_method (unit_tree self.now.unit.now) earlier (head_tree head.now)) }
-    {
-        let stands = before.get(head.sign, &head.selector).is_some();
-        let again = fault_if(stands, ClassFault::Duplicate(head.at));
-        earlier(again, self.head_fault(head))
-    }
-
-    /// The first rule that the methods of an implementation break as they are defined.
-    pub fn methods_fault(
-        &self,
-        alloc: Global,
-        methods: &'a [Method],
-    ) -> Result<Option<ClassFault>, AllocError>
-        requires { Knows (unit_tree self.now.unit.now) self.now }
-        ensures { IfOk result (λ fault. option_map reported fault
-            ≡ first (broken_methods (unit_tree self.now.unit.now) [] (method_trees methods.now))) }
-    {
-        let mut before = Heads::new(alloc);
-        let mut fault = None;
-        for method in methods {
-            fault = earlier(fault, self.method_fault(&before, &method.head));
-            before.keep(&method.head)?;
-        }
-        Ok(fault)
-    }
+    Ok(fault)
 }

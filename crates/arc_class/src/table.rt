@@ -27,7 +27,6 @@ use crate::nearest::{field_owners, method_owners};
 use crate::owners::Owners;
 use crate::root::{BuiltIn, built_in_given, built_in_result, counting_given, counting_result};
 use crate::sort_counts::parameter_counts;
-use crate::walk::walk;
 use arc_ast::tree::{
     Kind, MethodHead, Parameter, Qual, ResultType, Sign, TranslationUnit, TypeName, Visibility,
 };
@@ -666,7 +665,7 @@ impl<'a> ClassTable<'a> {
         let main = seen.main;
         let own = earlier(seen.fault, missing_main(main));
         let source = Source::new(alloc, unit, seen.known, seen.bodies)?;
-        let functions = earlier(own, walk(alloc, &source, unit)?);
+        let functions = earlier(own, source.sites_fault(alloc)?);
         let fields = source.class_fields(alloc)?;
         let owners = field_owners(alloc, &fields)?;
         let classes = source.classes_fault(alloc, &fields, &owners)?;

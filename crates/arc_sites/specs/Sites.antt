@@ -1,5 +1,5 @@
 -- The sites of a source: each node of its tree, with what surrounds it. They are this project's own words for the rules of later stages.
-use Rattle.std.specs.Prelude.{ℕ, List, [], ◌∷◌, ◌++◌, flat_map, fold, Option, Some, None}
+use Rattle.std.specs.Prelude.{ℕ, List, [], ◌∷◌, ◌++◌, flat_map, Option, Some, None}
 use Rattle.std.specs.Option.{option_map_or}
 use Rattle.arc_ast.specs.declared.tree.Qualifiers.{Qualifiers}
 use Rattle.arc_ast.specs.Tree.{TypeTree, ExprTree, ExprTrees, Paren, Call, Unary, Cast, Binary, Conditional, Arrow, Assign, Update, Send, SendSuper, no_exprs, and_expr, VariableTree, StmtTree, StmtTrees, Block, Empty, Simple, Return, Variables, If, IfElse, While, Do, For, Break, Continue, no_stmts, and_stmt, ParameterTree, ParametersTree, Listed, CountAndTexts, FunctionTree, GlobalTree, FieldTree, HeadTree, MethodTree, InterfaceTree, ImplementationTree, UnitTree}
@@ -14,18 +14,13 @@ pub data Enclosing : Type 0 where
   InImplementation : (class : List ℕ) → Enclosing
   InSource : Enclosing
 
--- What has a node, and the names of the variables and parameters that the innermost scope around it has so far, the last one first (C99, section 6.2.1).
-pub record Around : Type 0 where
-  pub enclosing : Enclosing
-  pub own : List (List ℕ)
-
--- A node: an expression, a statement, a variable that a declaration makes of a type after qualifiers, a parameter of a body, a function, a variable of the whole program, a
--- field, and a method that is declared or defined.
+-- A node: an expression, a statement, a variable that a declaration makes of a type after qualifiers, a body with its parameters, a function, a variable of the
+-- whole program, a field, and a method that is declared or defined.
 pub data Node : Type 0 where
   Value : ExprTree → Node
   Statement : StmtTree → Node
   Variable : Qualifiers → TypeTree → VariableTree → Node
-  Parameter : ParameterTree → Node
+  Body : List ParameterTree → StmtTrees → Node
   Function : FunctionTree → Node
   Global : GlobalTree → Node
   Field : FieldTree → Node
@@ -33,122 +28,99 @@ pub data Node : Type 0 where
   Defined : HeadTree → Node
 
 pub record Site : Type 0 where
-  pub around : Around
+  pub enclosing : Enclosing
   pub node : Node
 
 -- one site alone
-abbrev pub site : Enclosing → (own : List (List ℕ)) → Node → List Site
-site m own node = record { around = record { enclosing = m; own = own }; node = node } ∷ []
-
--- ---- scopes
-
-abbrev pub with_variables : List VariableTree → List (List ℕ) → List (List ℕ)
-with_variables all own = fold (λ own v. v.name ∷ own) own all
-
--- the names of a scope after a statement in it
-abbrev pub after : List (List ℕ) → StmtTree → List (List ℕ)
-after own (Variables at qualifiers type all) = with_variables all own
-after own _ = own
-
--- the parameters of a function or of a method, and the variables of its outermost block, are one scope (C99, section 6.9.1)
-abbrev pub with_parameters : List ParameterTree → List (List ℕ)
-with_parameters all = fold (λ own p. p.name ∷ own) [] all
+abbrev pub site : Enclosing → Node → List Site
+site m node = record { enclosing = m; node = node } ∷ []
 
 -- ---- expressions
 
 -- the sites inside an expression, each one after those inside it
 abbrev mutual
-  pub inside : Enclosing → (own : List (List ℕ)) → ExprTree → List Site
-  inside m own (Paren at a) = inside m own a ++ site m own (Value a)
-  inside m own (Call at name all) = arguments m own all
-  inside m own (Unary at operator a) = inside m own a ++ site m own (Value a)
-  inside m own (Cast at type a) = inside m own a ++ site m own (Value a)
-  inside m own (Binary at operator a b) = (inside m own a ++ site m own (Value a)) ++ (inside m own b ++ site m own (Value b))
-  inside m own (Conditional at c a b) =
-      (inside m own c ++ site m own (Value c)) ++ ((inside m own a ++ site m own (Value a)) ++ (inside m own b ++ site m own (Value b)))
-  inside m own (Arrow at name_at a name) = inside m own a ++ site m own (Value a)
-  inside m own (Assign at sign a b) = (inside m own a ++ site m own (Value a)) ++ (inside m own b ++ site m own (Value b))
-  inside m own (Update at sign moment operator a b) = (inside m own a ++ site m own (Value a)) ++ (inside m own b ++ site m own (Value b))
-  inside m own (Send at part receiver selector all) = (inside m own receiver ++ site m own (Value receiver)) ++ arguments m own all
-  inside m own (SendSuper at part super_at selector all) = arguments m own all
-  inside m own _ = []
+  pub inside : Enclosing → ExprTree → List Site
+  inside m (Paren at a) = inside m a ++ site m (Value a)
+  inside m (Call at name all) = arguments m all
+  inside m (Unary at operator a) = inside m a ++ site m (Value a)
+  inside m (Cast at type a) = inside m a ++ site m (Value a)
+  inside m (Binary at operator a b) = (inside m a ++ site m (Value a)) ++ (inside m b ++ site m (Value b))
+  inside m (Conditional at c a b) = (inside m c ++ site m (Value c)) ++ ((inside m a ++ site m (Value a)) ++ (inside m b ++ site m (Value b)))
+  inside m (Arrow at name_at a name) = inside m a ++ site m (Value a)
+  inside m (Assign at sign a b) = (inside m a ++ site m (Value a)) ++ (inside m b ++ site m (Value b))
+  inside m (Update at sign moment operator a b) = (inside m a ++ site m (Value a)) ++ (inside m b ++ site m (Value b))
+  inside m (Send at part receiver selector all) = (inside m receiver ++ site m (Value receiver)) ++ arguments m all
+  inside m (SendSuper at part super_at selector all) = arguments m all
+  inside m _ = []
 
-  pub arguments : Enclosing → (own : List (List ℕ)) → ExprTrees → List Site
-  arguments m own no_exprs = []
-  arguments m own (and_expr a others) = (inside m own a ++ site m own (Value a)) ++ arguments m own others
+  pub arguments : Enclosing → ExprTrees → List Site
+  arguments m no_exprs = []
+  arguments m (and_expr a others) = (inside m a ++ site m (Value a)) ++ arguments m others
 
 -- the sites of an expression
-abbrev pub sites : Enclosing → (own : List (List ℕ)) → ExprTree → List Site
-sites m own a = inside m own a ++ site m own (Value a)
+abbrev pub sites : Enclosing → ExprTree → List Site
+sites m a = inside m a ++ site m (Value a)
 
-abbrev pub maybe_sites : Enclosing → (own : List (List ℕ)) → Option ExprTree → List Site
-maybe_sites m own a = option_map_or (sites m own) a []
+abbrev pub maybe_sites : Enclosing → Option ExprTree → List Site
+maybe_sites m a = option_map_or (sites m) a []
 
 -- ---- statements
 
--- the sites of a declaration's variables; a variable is in scope in its own first value (C99, section 6.2.1)
-abbrev pub variable_sites : Enclosing → Qualifiers → TypeTree → (own : List (List ℕ)) → List VariableTree → List Site
-variable_sites m qualifiers type own [] = []
-variable_sites m qualifiers type own (v ∷ others) =
-    (site m own (Variable qualifiers type v) ++ maybe_sites m (v.name ∷ own) v.initial) ++ variable_sites m qualifiers type (v.name ∷ own) others
+-- the sites of a declaration's variables
+abbrev pub variable_sites : Enclosing → Qualifiers → TypeTree → List VariableTree → List Site
+variable_sites m qualifiers type [] = []
+variable_sites m qualifiers type (v ∷ others) = (site m (Variable qualifiers type v) ++ maybe_sites m v.initial) ++ variable_sites m qualifiers type others
 
--- The sites inside a statement, and of statements. A block is a scope of its own, and so is what an `if` or a loop runs (C99, section 6.8); a `for` is one around
--- its body, with the variables that are declared before it (section 6.8.5.3).
+-- the sites inside a statement, and of statements
 abbrev mutual
-  pub within : Enclosing → (own : List (List ℕ)) → StmtTree → List Site
-  within m own (Block at all) = all_sites m [] all
-  within m own (Empty at) = []
-  within m own (Simple a) = sites m own a
-  within m own (Return at a) = maybe_sites m own a
-  within m own (Variables at qualifiers type all) = variable_sites m qualifiers type own all
-  within m own (If at c a) = sites m own c ++ (site m [] (Statement a) ++ within m [] a)
-  within m own (IfElse at c a b) = sites m own c ++ ((site m [] (Statement a) ++ within m [] a) ++ (site m [] (Statement b) ++ within m [] b))
-  within m own (While at c a) = sites m own c ++ (site m [] (Statement a) ++ within m [] a)
-  within m own (Do at a c) = (site m [] (Statement a) ++ within m [] a) ++ sites m own c
-  within m own (For at a c e b) =
-      (site m [] (Statement a) ++ within m [] a)
-      ++ (maybe_sites m (after [] a) c ++ (maybe_sites m (after [] a) e ++ (site m [] (Statement b) ++ within m [] b)))
-  within m own (Break at) = []
-  within m own (Continue at) = []
+  pub within : Enclosing → StmtTree → List Site
+  within m (Block at all) = all_sites m all
+  within m (Empty at) = []
+  within m (Simple a) = sites m a
+  within m (Return at a) = maybe_sites m a
+  within m (Variables at qualifiers type all) = variable_sites m qualifiers type all
+  within m (If at c a) = sites m c ++ (site m (Statement a) ++ within m a)
+  within m (IfElse at c a b) = sites m c ++ ((site m (Statement a) ++ within m a) ++ (site m (Statement b) ++ within m b))
+  within m (While at c a) = sites m c ++ (site m (Statement a) ++ within m a)
+  within m (Do at a c) = (site m (Statement a) ++ within m a) ++ sites m c
+  within m (For at a c e b) = (site m (Statement a) ++ within m a) ++ (maybe_sites m c ++ (maybe_sites m e ++ (site m (Statement b) ++ within m b)))
+  within m (Break at) = []
+  within m (Continue at) = []
 
-  pub all_sites : Enclosing → (own : List (List ℕ)) → StmtTrees → List Site
-  all_sites m own no_stmts = []
-  all_sites m own (and_stmt a others) = (site m own (Statement a) ++ within m own a) ++ all_sites m (after own a) others
+  pub all_sites : Enclosing → StmtTrees → List Site
+  all_sites m no_stmts = []
+  all_sites m (and_stmt a others) = (site m (Statement a) ++ within m a) ++ all_sites m others
 
 -- the sites of a statement
-abbrev pub stmt_sites : Enclosing → (own : List (List ℕ)) → StmtTree → List Site
-stmt_sites m own a = site m own (Statement a) ++ within m own a
+abbrev pub stmt_sites : Enclosing → StmtTree → List Site
+stmt_sites m a = site m (Statement a) ++ within m a
 
 -- ---- functions, classes and a source
-
-abbrev pub parameter_sites : Enclosing → (own : List (List ℕ)) → List ParameterTree → List Site
-parameter_sites m own [] = []
-parameter_sites m own (p ∷ others) = site m own (Parameter p) ++ parameter_sites m (p.name ∷ own) others
 
 -- the parameters that have names in a body
 abbrev pub named_parameters : ParametersTree → List ParameterTree
 named_parameters (Listed all) = all
 named_parameters CountAndTexts = []
 
--- the sites of a body, if there is one, with its parameters
+-- the sites of a body, if there is one; with its parameters it is one itself
 abbrev pub body_sites : Enclosing → List ParameterTree → Option StmtTrees → List Site
 body_sites m parameters None = []
-body_sites m parameters (Some body) = parameter_sites m [] parameters ++ all_sites m (with_parameters parameters) body
+body_sites m parameters (Some body) = site m (Body parameters body) ++ all_sites m body
 
 abbrev pub function_sites : FunctionTree → List Site
-function_sites f = site InFunction [] (Function f) ++ body_sites InFunction (named_parameters f.parameters) f.body
+function_sites f = site InFunction (Function f) ++ body_sites InFunction (named_parameters f.parameters) f.body
 
 abbrev pub head_sites : (class : List ℕ) → HeadTree → List Site
-head_sites class h = site (InInterface class) [] (Declared h)
+head_sites class h = site (InInterface class) (Declared h)
 
 abbrev pub method_sites : (class : List ℕ) → MethodTree → List Site
-method_sites class m = site (InMethod class m.head) [] (Defined m.head) ++ body_sites (InMethod class m.head) m.head.parameters (Some m.body)
+method_sites class m = site (InMethod class m.head) (Defined m.head) ++ body_sites (InMethod class m.head) m.head.parameters (Some m.body)
 
 abbrev pub field_sites : Enclosing → List FieldTree → List Site
-field_sites m = flat_map (λ f. site m [] (Field f))
+field_sites m = flat_map (λ f. site m (Field f))
 
 abbrev pub global_sites : GlobalTree → List Site
-global_sites g = site InSource [] (Global g)
+global_sites g = site InSource (Global g)
 
 abbrev pub interface_sites : InterfaceTree → List Site
 interface_sites i = field_sites (InInterface i.name) i.fields ++ flat_map (head_sites i.name) i.methods

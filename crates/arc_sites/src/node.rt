@@ -24,8 +24,8 @@ pub enum Node<'a> {
     Statement(&'a Stmt),
     /// A variable that a declaration makes, of a type after qualifiers.
     Variable(Qualifiers, &'a TypeName, &'a Variable),
-    /// A parameter of a function or of a method that has a body.
-    Parameter(&'a Parameter),
+    /// The body of a function or of a method, with its parameters.
+    Body(&'a [Parameter], &'a [Stmt]),
     Function(&'a Function),
     /// A variable of the whole program.
     Global(&'a Global),

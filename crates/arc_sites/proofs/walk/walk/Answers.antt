@@ -1,4 +1,5 @@
 use Rattle.std.proofs.Common.{◌++◌, flat_map}
+use Rattle.std.proofs.lemmas.Result.{on_ok_weaker}
 use Rattle.arc_ast.specs.Tree.{function_trees, global_trees, interface_trees, implementation_trees}
 use Rattle.arc_sites.specs.Sites.{function_sites, global_sites, interface_sites, implementation_sites}
 use Rattle.arc_sites.proofs.Found.{found_both, found_three}
@@ -10,6 +11,6 @@ returns-clause-found g c =
     let globals = flat_map global_sites (global_trees u.globals.items) in
     let interfaces = flat_map interface_sites (interface_trees u.interfaces.items) in
     let implementations = flat_map implementation_sites (implementation_trees u.implementations.items) in
-    found_both _ _ _ _ _ (flat_map function_sites (function_trees u.functions.items)) (globals ++ (interfaces ++ implementations)) c.functions.ensures.same (rw c.deref.ensures.value at c.functions.ensures.found)
-    (found_three _ _ _ _ _ _ _ globals interfaces implementations c.globals.ensures.same c.interfaces.ensures.same
-    (rw c.deref-2.ensures.value at c.globals.ensures.found) (rw c.deref-3.ensures.value at c.interfaces.ensures.found) (rw c.deref-4.ensures.value at c.implementations.ensures.found))
+    on_ok_weaker c.implementations.result (λ e. found_both _ _ _ _ _ (flat_map function_sites (function_trees u.functions.items)) (globals ++ (interfaces ++ implementations)) c.in_ok-functions.ensures.same (rw c.deref.ensures.value at c.in_ok-functions.ensures.found)
+    (found_three _ _ _ _ _ _ _ globals interfaces implementations c.in_ok-globals.ensures.same c.in_ok-interfaces.ensures.same
+    (rw c.deref-2.ensures.value at c.in_ok-globals.ensures.found) (rw c.deref-3.ensures.value at c.in_ok-interfaces.ensures.found) e)) (rw c.deref-4.ensures.value at c.implementations.ensures.found)

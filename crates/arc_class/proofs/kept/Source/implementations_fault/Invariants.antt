@@ -3,7 +3,7 @@ use Rattle.arc_class.specs.Broken.{first, earlier_of}
 use Rattle.arc_class.specs.Fault.{reported}
 use Rattle.arc_ast.specs.Tree.{unit_tree, implementation_trees}
 use Rattle.arc_class.specs.ClassRules.{broken_implementations, is_implemented}
-use Rattle.arc_class.specs.private.Walk.{holds}
+use Rattle.arc_class.specs.private.Scopes.{holds}
 use Rattle.arc_class.proofs.kept.Source.implementations_fault.Given as goal
 
 -- what is reported so far and what is reported of the rest is reported of all

@@ -4,7 +4,7 @@ use Rattle.arc_class.specs.Fault.{reported}
 use Rattle.arc_ast.specs.Tree.{unit_tree, interface_trees}
 use Rattle.arc_class.specs.ClassRules.{broken_interfaces}
 use Rattle.arc_class.specs.Classes.{interface_number}
-use Rattle.arc_class.specs.private.Walk.{holds}
+use Rattle.arc_class.specs.private.Scopes.{holds}
 use Rattle.arc_class.proofs.kept.Source.interfaces_fault.Given as goal
 
 -- what is reported so far and what is reported of the rest is reported of all
