@@ -19,7 +19,7 @@ use Rattle.arc_spec.specs.Families.{method_family, is_init, is_owning, is_object
 use Rattle.arc_spec.specs.declared.signature.Family.{Family}
 use Rattle.std.specs.List.{list_any}
 use Rattle.std.specs.Bool.{nat_eq}
-use Rattle.arc_sites.specs.Sites.{Enclosing, InMethod, InInterface, Around, Node, Value, Variable, Function, Global, Field, Declared, Defined, named_parameters, unit_sites}
+use Rattle.arc_sites.specs.Sites.{Enclosing, InMethod, InInterface, Node, Value, Variable, Function, Global, Field, Declared, Defined, named_parameters, unit_sites}
 use Rattle.arc_sites.specs.Messages.{Message, sends, is_itself, is_to_itself}
 use Rattle.arc_sites.specs.Finding.{violations_of}
 
@@ -33,9 +33,9 @@ owns_self (InMethod class h) = is_init (head_family h)
 owns_self _ = false
 
 -- 47 SelfConst: `self` is assigned outside of the methods of the init family (ARC, "self"); at the `=`
-abbrev pub rule_47 : Around → Node → Option ℕ
-rule_47 s (Value (Assign at sign left right)) = at_if (is_itself left && not (owns_self s.enclosing)) sign
-rule_47 s _ = None
+abbrev pub rule_47 : Enclosing → Node → Option ℕ
+rule_47 m (Value (Assign at sign left right)) = at_if (is_itself left && not (owns_self m)) sign
+rule_47 m _ = None
 
 -- whether a method gives an object that it doesn't retain for who sends the message (ARC, "Unretained return values")
 abbrev pub gives_unretained : HeadTree → Bool
@@ -56,19 +56,19 @@ is_manual selector =
 
 -- 61 ManualMemory: such a method is declared or defined, at its `+` or `-`, or is sent, at the first part of the selector. ARC, "Memory management methods",
 -- refuses a definition and a message; that a declaration is refused too is this project's own choice.
-abbrev pub rule_61 : Around → Node → Option ℕ
-rule_61 s (Declared h) = at_if (is_manual h.selector) h.at
-rule_61 s (Defined h) = at_if (is_manual h.selector) h.at
-rule_61 s (Value a) = sends (λ m. is_manual m.selector) a
-rule_61 s _ = None
+abbrev pub rule_61 : Node → Option ℕ
+rule_61 (Declared h) = at_if (is_manual h.selector) h.at
+rule_61 (Defined h) = at_if (is_manual h.selector) h.at
+rule_61 (Value a) = sends (λ m. is_manual m.selector) a
+rule_61 _ = None
 
 abbrev pub is_dealloc : List ℕ → Bool
 is_dealloc selector = bytes_eq selector (codes "dealloc")
 
 -- 62 DeallocSent: `dealloc` is sent (ARC, "dealloc"); at the selector
-abbrev pub rule_62 : Around → Node → Option ℕ
-rule_62 s (Value a) = sends (λ m. is_dealloc m.selector) a
-rule_62 s _ = None
+abbrev pub rule_62 : Node → Option ℕ
+rule_62 (Value a) = sends (λ m. is_dealloc m.selector) a
+rule_62 _ = None
 
 -- whether a message is one of the init family, whose methods give objects; all methods of objects with one selector give the same (ARC, "Method families")
 abbrev pub is_init_message : UnitTree → Message → Bool
@@ -84,9 +84,9 @@ abbrev pub is_delegated : UnitTree → Enclosing → Message → Bool
 is_delegated u enclosing m = (is_in_instance enclosing && not (owns_self enclosing)) && (is_to_itself m && is_init_message u m)
 
 -- 63 DelegateInit: an init method is sent to `self` or `super` outside of the methods of the init family (ARC, "Semantics of init"); at the first part of the selector
-abbrev pub rule_63 : UnitTree → Around → Node → Option ℕ
-rule_63 u s (Value a) = sends (is_delegated u s.enclosing) a
-rule_63 u s _ = None
+abbrev pub rule_63 : UnitTree → Enclosing → Node → Option ℕ
+rule_63 u m (Value a) = sends (is_delegated u m) a
+rule_63 u m _ = None
 
 -- whether a class is another one, or above it
 abbrev pub is_above : UnitTree → (class other : Option ℕ) → Bool
@@ -135,9 +135,9 @@ rule_67 (Defined h) = misqualified_among h.parameters
 rule_67 _ = None
 
 -- the rules that are broken at a site
-abbrev pub violations : UnitTree → Around → Node → List Violation
-violations u s n = violates 47 (rule_47 s n) ++ (violates 60 (rule_60 n) ++ (violates 61 (rule_61 s n) ++ (violates 62 (rule_62 s n) ++ (violates 63 (rule_63 u s n)
-    ++ (violates 66 (rule_66 u s.enclosing n) ++ violates 67 (rule_67 n))))))
+abbrev pub violations : UnitTree → Enclosing → Node → List Violation
+violations u m n = violates 47 (rule_47 m n) ++ (violates 60 (rule_60 n) ++ (violates 61 (rule_61 n) ++ (violates 62 (rule_62 n) ++ (violates 63 (rule_63 u m n)
+    ++ (violates 66 (rule_66 u m n) ++ violates 67 (rule_67 n))))))
 
 -- all that breaks the rules of ownership in a source
 abbrev pub broken : UnitTree → List Violation

@@ -32,7 +32,7 @@ pub fn own<'p, 'a, 't>(
         table: program.table,
         fault: None,
     };
-    walk(&mut ownership, program.unit);
+    let Ok(()) = walk(&mut ownership, program.unit);
     match ownership.fault {
         Some(fault) => Err(fault),
         None => Ok(Owned { program }),

@@ -1,12 +1,12 @@
 //! The rules of ownership, each by its number.
-ghost use Rattle.std.specs.Prelude.{◌≡◌, ℕ, List, Some, None, option_map, if◌then◌else◌};
+ghost use Rattle.std.specs.Prelude.{◌≡◌, Some, None, option_map, if◌then◌else◌};
 ghost use Rattle.std.proofs.Props.{props};
 ghost use Rattle.arc_ast.specs.Tree.{UnitTree, expr_tree, type_tree, result_tree, head_tree, parameter_trees, parameters_tree, unit_tree};
 ghost use Rattle.arc_ast.specs.Types.{type_kind};
 ghost use Rattle.arc_class.specs.Table.{IsTableOf, number_of_class};
 ghost use Rattle.arc_sites.specs.Sites as sites;
 ghost use Rattle.arc_sites.specs.Violations.{first, at_if, violates};
-ghost use Rattle.arc_sites.specs.Finding.{enclosing_of, node_of, around, message_of};
+ghost use Rattle.arc_sites.specs.Finding.{enclosing_of, node_of, message_of};
 ghost use Rattle.arc_family.specs.Rules as rules;
 ghost use Rattle.arc_family.specs.Fault.{reported};
 ghost use Rattle.arc_family.specs.private.Asked.{is_plain, is_unasked};
@@ -24,6 +24,7 @@ use arc_sites::walk::Visitor;
 use arc_spec::class::descends_from;
 use arc_spec::family::{is_owning, method_family};
 use arc_spec::signature::Family;
+use std::convert::Infallible;
 
 /// The first rule of ownership that the sites so far break of a source, and the source's table.
 #[derive(Drop)]
@@ -35,16 +36,18 @@ pub(crate) struct Ownership<'a, 't> {
 }
 
 impl<'a, 't> Visitor for Ownership<'a, 't> {
+    type Error = Infallible;
+
     ghost violations = { λ ownership. rules.violations (unit_tree ownership.unit.now) };
 
     ghost found = { λ ownership. option_map reported ownership.fault };
 
     #[inline(always)]
-    fn visit(&mut self, enclosing: Enclosing, node: Node) {
-        if is_unasked(node) {
-            return;
+    fn visit(&mut self, enclosing: Enclosing, node: Node) -> Result<(), Infallible> {
+        if !is_unasked(node) {
+            self.fault = earlier(self.fault, first_broken(self.table, enclosing, node));
         }
-        self.fault = earlier(self.fault, first_broken(self.table, enclosing, node));
+        Ok(())
     }
 }
 
@@ -63,7 +66,7 @@ fn is_unasked(node: Node) -> bool
     ensures { result ≡ is_unasked (node_of node.entry) }
 {
     match node {
-        Node::Statement(_) | Node::Parameter(_) => true,
+        Node::Statement(_) | Node::Body(_, _) => true,
         Node::Value(expr) => is_plain(expr),
         _ => false,
     }
@@ -72,7 +75,7 @@ fn is_unasked(node: Node) -> bool
 /// The first rule that a site breaks.
 #[inline(never)]
 fn first_broken(table: &ClassTable, enclosing: Enclosing, node: Node) -> Option<OwnFault>
-    ensures { (u : UnitTree) → IsTableOf u table.now → (own : List (List ℕ)) → option_map reported result ≡ first (rules.violations u (around (enclosing_of enclosing.entry) own) (node_of node.entry)) }
+    ensures { (u : UnitTree) → IsTableOf u table.now → option_map reported result ≡ first (rules.violations u (enclosing_of enclosing.entry) (node_of node.entry)) }
 {
     let qualifier = qualifier(node);
     let result = earlier(init_result(table, enclosing, node), qualifier);
@@ -85,7 +88,7 @@ fn first_broken(table: &ClassTable, enclosing: Enclosing, node: Node) -> Option<
 
 /// 47 SelfConst.
 fn self_const(enclosing: Enclosing, node: Node) -> Option<OwnFault>
-    ensures { (own : List (List ℕ)) → option_map reported result ≡ first (violates 47 (rules.rule_47 (around (enclosing_of enclosing.entry) own) (node_of node.entry))) }
+    ensures { option_map reported result ≡ first (violates 47 (rules.rule_47 (enclosing_of enclosing.entry) (node_of node.entry))) }
 {
     match node {
         Node::Value(Expr::Assign(_, sign, left, _)) => {
@@ -169,7 +172,7 @@ fn manual(selector: &[u8], at: usize) -> Option<OwnFault>
 
 /// 61 ManualMemory.
 fn manual_memory(node: Node) -> Option<OwnFault>
-    ensures { (s : sites.Around) → option_map reported result ≡ first (violates 61 (rules.rule_61 s (node_of node.entry))) }
+    ensures { option_map reported result ≡ first (violates 61 (rules.rule_61 (node_of node.entry))) }
 {
     match node {
         Node::Declared(head) => manual(&head.selector, head.at),
@@ -184,7 +187,7 @@ fn manual_memory(node: Node) -> Option<OwnFault>
 
 /// 62 DeallocSent.
 fn dealloc_sent(node: Node) -> Option<OwnFault>
-    ensures { (s : sites.Around) → option_map reported result ≡ first (violates 62 (rules.rule_62 s (node_of node.entry))) }
+    ensures { option_map reported result ≡ first (violates 62 (rules.rule_62 (node_of node.entry))) }
 {
     match node {
         Node::Value(expr) => match sent_message(expr) {
@@ -232,7 +235,7 @@ fn is_delegated(table: &ClassTable, enclosing: Enclosing, message: Message) -> b
 
 /// 63 DelegateInit.
 fn delegate_init(table: &ClassTable, enclosing: Enclosing, node: Node) -> Option<OwnFault>
-    ensures { (u : UnitTree) → IsTableOf u table.now → (own : List (List ℕ)) → option_map reported result ≡ first (violates 63 (rules.rule_63 u (around (enclosing_of enclosing.entry) own) (node_of node.entry))) }
+    ensures { (u : UnitTree) → IsTableOf u table.now → option_map reported result ≡ first (violates 63 (rules.rule_63 u (enclosing_of enclosing.entry) (node_of node.entry))) }
 {
     match node {
         Node::Value(expr) => match sent_message(expr) {

@@ -1,7 +1,7 @@
 -- Of which nodes no rule of ownership asks anything, so that no site has to be looked at whose node is one of these.
 use Rattle.std.specs.Prelude.{Bool, true, false}
 use Rattle.arc_ast.specs.Tree.{ExprTree, Assign, Send, SendSuper}
-use Rattle.arc_sites.specs.Sites.{Node, Value, Statement, Parameter}
+use Rattle.arc_sites.specs.Sites.{Node, Value, Statement, Body}
 
 -- whether an expression neither assigns anything nor sends a message
 abbrev pub is_plain : ExprTree → Bool
@@ -13,5 +13,5 @@ is_plain _ = true
 abbrev pub is_unasked : Node → Bool
 is_unasked (Value a) = is_plain a
 is_unasked (Statement s) = true
-is_unasked (Parameter p) = true
+is_unasked (Body parameters body) = true
 is_unasked _ = false

@@ -10,9 +10,9 @@ use Rattle.arc_family.proofs.owned.own.Goals as goal
 pub returns-in-None-clause-accepted : goal.returns-in-None-clause-accepted
 returns-in-None-clause-accepted c =
     let u = unit_tree c.args.program.now.unit.now in
-    none_violated (broken u) (sym (c.walk.ensures.found ∙ found_is (violations u) None (unit_sites u)) ∙ ap (option_map reported) c.in-None.is)
+    none_violated (broken u) (sym (c.in-Ok.ensures.found ∙ found_is (violations u) None (unit_sites u)) ∙ ap (option_map reported) c.in-None.is)
 
 pub returns-in-Some-clause-refused : goal.returns-in-Some-clause-refused
 returns-in-Some-clause-refused c =
     let u = unit_tree c.args.program.now.unit.now in
-    sym (c.walk.ensures.found ∙ found_is (violations u) None (unit_sites u)) ∙ ap (option_map reported) c.in-Some.is
+    sym (c.in-Ok.ensures.found ∙ found_is (violations u) None (unit_sites u)) ∙ ap (option_map reported) c.in-Some.is
