@@ -54,7 +54,7 @@ fn statement(alloc: Global, depth: usize, reader: &mut Reader) -> Read<Stmt>
     } else if reader.sees_word(Word::Return) {
         returned(alloc, reader)
     } else if reader.sees_word(Word::If) {
-        conditional(alloc, depth, reader)
+        if_else(alloc, depth, reader)
     } else if reader.sees_word(Word::Break) {
         breaking(reader)
     } else if reader.sees_word(Word::Continue) {
@@ -71,7 +71,7 @@ fn statement(alloc: Global, depth: usize, reader: &mut Reader) -> Read<Stmt>
 /// `if`, a controlling expression, a branch, and perhaps `else` and another
 #[cycle(stmts)]
 #[tactic(auto, unfolding(arc_grammar::specs::Grammar::if_else))]
-fn conditional(alloc: Global, depth: usize, reader: &mut Reader) -> Read<Stmt>
+fn if_else(alloc: Global, depth: usize, reader: &mut Reader) -> Read<Stmt>
     requires { depth ≤ DEEPEST }
     ensures gives { Gives stmt_tree result (toks reader.new.rest.now) (reads (grammar.if_else depth) (toks reader.old.rest.now)) }
     ensures shorter { IfOk result (λ _. length reader.new.rest.now < length reader.old.rest.now) }
@@ -80,12 +80,17 @@ fn conditional(alloc: Global, depth: usize, reader: &mut Reader) -> Read<Stmt>
     let condition = controlling(alloc, reader)?;
     let first = branch(alloc, depth + 1, reader)?;
     let second = otherwise(alloc, depth, reader)?;
-    Ok(chosen(at, condition, first, second))
+    Ok(if_statement(at, condition, first, second))
 }
 
 /// An `if` with this test and these branches.
-fn chosen(at: usize, condition: Box<Expr>, first: Box<Stmt>, second: Option<Box<Stmt>>) -> Stmt
-    ensures { stmt_tree result ≡ grammar.conditional at (expr_tree condition.value) (stmt_tree first.value) (option_map (λ b. stmt_tree b.value) second) }
+fn if_statement(
+    at: usize,
+    condition: Box<Expr>,
+    first: Box<Stmt>,
+    second: Option<Box<Stmt>>,
+) -> Stmt
+    ensures { stmt_tree result ≡ grammar.if_tree at (expr_tree condition.value) (stmt_tree first.value) (option_map (λ b. stmt_tree b.value) second) }
 {
     match second {
         None => Stmt::If(at, Box::into_inner(condition), first),

@@ -10,8 +10,8 @@ decreases-stmt l = 16 * length l.reader.now.rest.now + 6
 abbrev pub decreases-statement : goal.decreases-statement
 decreases-statement l = 16 * length l.reader.now.rest.now + 5
 
-abbrev pub decreases-conditional : goal.decreases-conditional
-decreases-conditional l = 16 * length l.reader.now.rest.now + 3
+abbrev pub decreases-if_else : goal.decreases-if_else
+decreases-if_else l = 16 * length l.reader.now.rest.now + 3
 
 abbrev pub decreases-otherwise : goal.decreases-otherwise
 decreases-otherwise l = 16 * length l.reader.now.rest.now + 9
