@@ -8,7 +8,7 @@ ghost use Rattle.arc_grammar.specs.Grammar as grammar;
 use arc_ast::tree::{BinaryOperator, UnaryOperator};
 use arc_form::fail::{Fail, Read};
 use arc_form::reader::Reader;
-use arc_lex::token::{Mark, Token, TokenKind};
+use arc_lex::token::{Mark, TokenKind};
 
 /// Whether the first token is an operator before an operand.
 #[tactic(auto, using(arc_form::proofs::Sets::sees_or))]

@@ -1,13 +1,9 @@
 //! Reads what stands outside of all else.
-ghost use Rattle.std.specs.Prelude.{◌≡◌, ◌<◌, ◌≤◌, length, IfOk};
+ghost use Rattle.std.specs.Prelude.{◌≡◌, ◌<◌, length, IfOk};
 ghost use Rattle.arc_lex.specs.Tokens.{toks};
-ghost use Rattle.arc_ast.specs.Tree.{type_tree};
-ghost use Rattle.arc_lex.specs.declared.token.Mark.TheVariants as m;
-ghost use Rattle.arc_form.specs.Kinds as kinds;
-ghost use Rattle.arc_form.specs.Reader.{Gives, sees, sees_two};
+ghost use Rattle.arc_form.specs.Reader.{Gives, sees};
 ghost use Rattle.arc_grammar.specs.Grammar.{reads};
 ghost use Rattle.arc_grammar.specs.Grammar as grammar;
-ghost use Rattle.arc_parse.specs.private.Globals.{function_on};
 ghost use Rattle.arc_parse.specs.private.Tops.{top_tree};
 
 use crate::class::{class_names, implementation, interface};
@@ -17,7 +13,7 @@ use crate::qualifier::{sees_qualifier, some_qualifiers};
 use crate::type_name::perhaps;
 use crate::value_type::{begins_qualified_type, value_type_of};
 use arc_ast::tree;
-use arc_ast::tree::{Function, Implementation, Interface, Qualifiers, ResultType, TypeName};
+use arc_ast::tree::{Function, Implementation, Interface, Qualifiers, ResultType};
 use arc_form::fail::Read;
 use arc_form::reader::Reader;
 use arc_lex::token::{AtWord, Mark, Word};
