@@ -11,7 +11,7 @@ ghost use Rattle.arc_grammar.specs.declared.limits.TheConstants.{DEEPEST};
 use crate::clauses::{clauses, controlling, test_after};
 use crate::first::{begins_item, begins_other};
 use crate::node::{boxed_stmt, unboxed};
-use crate::qualifier::sees_qualifier;
+use crate::qualifier::begins_qualifier;
 use crate::simple::{breaking, continuing, empty, returned, simple};
 use crate::type_name::begins_plain_type;
 use crate::variable::{declaration, qualified_declaration};
@@ -60,11 +60,11 @@ fn statement(alloc: Global, depth: usize, reader: &mut Reader) -> Read<Stmt>
     } else if reader.sees_word(Word::Continue) {
         continuing(reader)
     } else if reader.sees_word(Word::While) {
-        repeated(alloc, depth, reader)
+        while_do(alloc, depth, reader)
     } else if reader.sees_word(Word::Do) {
-        repeated_after(alloc, depth, reader)
+        do_while(alloc, depth, reader)
     } else {
-        stepped(alloc, depth, reader)
+        for_do(alloc, depth, reader)
     }
 }
 
@@ -116,7 +116,7 @@ fn otherwise(alloc: Global, depth: usize, reader: &mut Reader) -> Read<Option<Bo
 /// `while`, a controlling expression and a body
 #[cycle(stmts)]
 #[tactic(auto, unfolding(arc_grammar::specs::Grammar::while_do))]
-fn repeated(alloc: Global, depth: usize, reader: &mut Reader) -> Read<Stmt>
+fn while_do(alloc: Global, depth: usize, reader: &mut Reader) -> Read<Stmt>
     requires { depth ≤ DEEPEST }
     ensures gives { Gives stmt_tree result (toks reader.new.rest.now) (reads (grammar.while_do depth) (toks reader.old.rest.now)) }
     ensures shorter { IfOk result (λ _. length reader.new.rest.now < length reader.old.rest.now) }
@@ -130,7 +130,7 @@ fn repeated(alloc: Global, depth: usize, reader: &mut Reader) -> Read<Stmt>
 /// `do`, a body, and the test after it
 #[cycle(stmts)]
 #[tactic(auto, unfolding(arc_grammar::specs::Grammar::do_while))]
-fn repeated_after(alloc: Global, depth: usize, reader: &mut Reader) -> Read<Stmt>
+fn do_while(alloc: Global, depth: usize, reader: &mut Reader) -> Read<Stmt>
     requires { depth ≤ DEEPEST }
     ensures gives { Gives stmt_tree result (toks reader.new.rest.now) (reads (grammar.do_while depth) (toks reader.old.rest.now)) }
     ensures shorter { IfOk result (λ _. length reader.new.rest.now < length reader.old.rest.now) }
@@ -144,7 +144,7 @@ fn repeated_after(alloc: Global, depth: usize, reader: &mut Reader) -> Read<Stmt
 /// `for`, its clauses and a body
 #[cycle(stmts)]
 #[tactic(auto, unfolding(arc_grammar::specs::Grammar::for_do))]
-fn stepped(alloc: Global, depth: usize, reader: &mut Reader) -> Read<Stmt>
+fn for_do(alloc: Global, depth: usize, reader: &mut Reader) -> Read<Stmt>
     requires { depth ≤ DEEPEST }
     ensures gives { Gives stmt_tree result (toks reader.new.rest.now) (reads (grammar.for_do depth) (toks reader.old.rest.now)) }
     ensures shorter { IfOk result (λ _. length reader.new.rest.now < length reader.old.rest.now) }
@@ -225,7 +225,7 @@ fn item(alloc: Global, depth: usize, reader: &mut Reader) -> Read<Stmt>
     ensures gives { Gives stmt_tree result (toks reader.new.rest.now) (reads (grammar.item depth) (toks reader.old.rest.now)) }
     ensures shorter { IfOk result (λ _. length reader.new.rest.now < length reader.old.rest.now) }
 {
-    if sees_qualifier(reader) {
+    if begins_qualifier(reader) {
         qualified_declaration(alloc, reader)
     } else if begins_plain_type(reader) {
         declaration(alloc, false, Qualifiers::Unqualified, reader)

@@ -9,7 +9,7 @@ ghost use Rattle.arc_parse.specs.private.Tops.{top_tree};
 use crate::class::{class_names, implementation, interface};
 use crate::function::function;
 use crate::global::globals;
-use crate::qualifier::{sees_qualifier, some_qualifiers};
+use crate::qualifier::{begins_qualifier, some_qualifiers};
 use crate::type_name::perhaps;
 use crate::value_type::{begins_qualified_type, value_type_of};
 use arc_ast::tree;
@@ -74,7 +74,7 @@ fn external(alloc: Global, reader: &mut Reader) -> Read<Top>
         let function = function(alloc, ResultType::Void, reader)?;
         return Ok(Top::Function(function));
     }
-    if sees_qualifier(reader) {
+    if begins_qualifier(reader) {
         of_qualified(alloc, reader)
     } else if reader.sees_name() {
         of_type(alloc, true, reader)

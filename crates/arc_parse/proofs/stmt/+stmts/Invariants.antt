@@ -16,14 +16,14 @@ decreases-if_else l = 16 * length l.reader.now.rest.now + 3
 abbrev pub decreases-otherwise : goal.decreases-otherwise
 decreases-otherwise l = 16 * length l.reader.now.rest.now + 9
 
-abbrev pub decreases-repeated : goal.decreases-repeated
-decreases-repeated l = 16 * length l.reader.now.rest.now + 2
+abbrev pub decreases-while_do : goal.decreases-while_do
+decreases-while_do l = 16 * length l.reader.now.rest.now + 2
 
-abbrev pub decreases-repeated_after : goal.decreases-repeated_after
-decreases-repeated_after l = 16 * length l.reader.now.rest.now + 2
+abbrev pub decreases-do_while : goal.decreases-do_while
+decreases-do_while l = 16 * length l.reader.now.rest.now + 2
 
-abbrev pub decreases-stepped : goal.decreases-stepped
-decreases-stepped l = 16 * length l.reader.now.rest.now + 2
+abbrev pub decreases-for_do : goal.decreases-for_do
+decreases-for_do l = 16 * length l.reader.now.rest.now + 2
 
 abbrev pub decreases-branch : goal.decreases-branch
 decreases-branch l = 16 * length l.reader.now.rest.now + 7
