@@ -7,7 +7,7 @@ use Rattle.arc_lex.specs.declared.token.Word.{Word}
 use Rattle.arc_lex.specs.declared.token.Word.TheVariants as w
 use Rattle.arc_lex.specs.declared.token.AtWord.{AtWord}
 use Rattle.arc_lex.specs.declared.token.AtWord.TheVariants as words
-use Rattle.arc_lex.specs.Tokens.{Tok, Sort}
+use Rattle.arc_lex.specs.Tokens.{Sort}
 use Rattle.arc_lex.specs.Tokens as tokens
 use Rattle.arc_ast.specs.declared.tree.Sign.{Sign}
 use Rattle.arc_ast.specs.declared.tree.Sign.TheVariants as signs
@@ -522,16 +522,16 @@ returned = map (λ (at, e). Return at e) (key w.Return ⨾ value)
 unfoldable pub controlling : Part ExprTree
 controlling = map (λ (start, (c, end)). c) (the m.OpenParen ⨾ full ⨾ the m.CloseParen)
 
-abbrev pub conditional : ℕ → ExprTree → StmtTree → Option StmtTree → StmtTree
-conditional at c a None = If at c a
-conditional at c a (Some b) = IfElse at c a b
+abbrev pub if_tree : ℕ → ExprTree → StmtTree → Option StmtTree → StmtTree
+if_tree at c a None = If at c a
+if_tree at c a (Some b) = IfElse at c a b
 
 -- an `else` belongs to the nearest `if` that it may belong to (6.8.4.1)
 unfoldable pub otherwise : ℕ → Part (Option StmtTree)
 otherwise d = or_none (word w.Else) (map (λ (other, b). Some b) (into (d + 1) (key w.Else) (call (stmt (d + 1))))) None
 
 unfoldable pub if_else : ℕ → Part StmtTree
-if_else d = map (λ (at, (c, (a, b))). conditional at c a b) (key w.If ⨾ into (d + 1) controlling (call (stmt (d + 1)) ⨾ otherwise d))
+if_else d = map (λ (at, (c, (a, b))). if_tree at c a b) (key w.If ⨾ into (d + 1) controlling (call (stmt (d + 1)) ⨾ otherwise d))
 
 unfoldable pub while_do : ℕ → Part StmtTree
 while_do d = map (λ (at, (c, a)). While at c a) (key w.While ⨾ into (d + 1) controlling (call (stmt (d + 1))))

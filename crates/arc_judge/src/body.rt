@@ -6,7 +6,6 @@ ghost use Rattle.arc_ast.specs.Tree.{expr_tree, type_tree, variable_trees, param
 ghost use Rattle.arc_class.specs.Functions.{same_kind};
 ghost use Rattle.arc_class.specs.Broken.{broken_if, first};
 ghost use Rattle.arc_class.specs.declared.table.ClassTable.{ClassTable};
-ghost use Rattle.arc_sites.specs.Sites as sites;
 ghost use Rattle.arc_judge.specs.Fault.{reported};
 ghost use Rattle.arc_judge.specs.Rules.{broken_clauses, broken_test, broken_whole, broken_initial, broken_variables, broken_parameters, broken_result, broken_stmt, broken_stmts, broken_body, broken_function};
 ghost use Rattle.arc_scope.specs.Scopes.{has_place, leave, outermost, scope_after, scope_after_all, with_variables, with_parameters};
@@ -14,7 +13,7 @@ ghost use Rattle.arc_scope.specs.Views.{known_in, seen};
 
 use crate::rule::place;
 use crate::whole::{initial_fault, judge_whole, result_fault, test_fault};
-use arc_ast::tree::{Expr, Function, Kind, Parameter, Parameters, Stmt, TypeName, Variable};
+use arc_ast::tree::{Expr, Function, Kind, Parameter, Stmt, TypeName, Variable};
 use arc_class::table::ClassTable;
 use arc_fault::check::CheckFault;
 use arc_scope::parameter::named_parameters;

@@ -1,5 +1,5 @@
 //! Finds the first rule that is broken in an expression.
-ghost use Rattle.std.specs.Prelude.{◌≡◌, ℕ, List, None, Some, not, is_none, is_some, option_map, if◌then◌else◌, [], ◌∷◌};
+ghost use Rattle.std.specs.Prelude.{◌≡◌, ℕ, List, None, Some, not, is_none, is_some, option_map, if◌then◌else◌};
 ghost use Rattle.arc_ast.specs.declared.tree.Kind.{Kind};
 ghost use Rattle.arc_ast.specs.Tree as tree;
 ghost use Rattle.arc_ast.specs.Tree.{Arrow, Assign, Cast, Conditional, Itself, Name, Send, SendSuper, Update, expr_tree, expr_trees, type_tree};

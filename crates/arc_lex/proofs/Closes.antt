@@ -1,26 +1,11 @@
 -- Where a comment ends.
-use Rattle.std.proofs.Common.{◌≡◌, ◌≤◌, ℕ, ◌+◌, List, [], ◌∷◌, length, Bool, true, false, cond, ◌&&◌, nat_eq, Option, Some, None, refl, ap, ◌∙◌, arith}
+use Rattle.std.proofs.Common.{◌≡◌, ◌≤◌, ℕ, ◌+◌, List, [], ◌∷◌, length, Bool, true, false, cond, ◌&&◌, nat_eq, Option, Some, None, refl, arith}
 use Rattle.arc_lex.specs.Source.{to_close, one_more}
 
 -- so many more, if there is a number
 abbrev pub plus : ℕ → Option ℕ → Option ℕ
 plus i None = None
 plus i (Some n) = Some (i + n)
-
-pub plus_none : (o : Option ℕ) → plus 0 o ≡ o
-plus_none None = refl
-plus_none (Some n) = ap Some (omega arith)
-
-plus_more : (i : ℕ) (o : Option ℕ) → plus i (one_more o) ≡ plus (i + 1) o
-plus_more i None = refl
-plus_more i (Some n) = ap Some (omega arith)
-
-module _ (star : Bool) (i b : ℕ) (rest all : List ℕ) (so_far : to_close false all ≡ plus i (to_close star (b ∷ rest))) where
-  pub closes : (star && nat_eq b 47) ≡ true → to_close false all ≡ Some (i + 1)
-  closes e = so_far ∙ ap (λ t. plus i (cond t (Some 1) (one_more (to_close (nat_eq b 42) rest)))) e
-
-  pub goes_on : (star && nat_eq b 47) ≡ false → to_close false all ≡ plus (i + 1) (to_close (nat_eq b 42) rest)
-  goes_on e = so_far ∙ (ap (λ t. plus i (cond t (Some 1) (one_more (to_close (nat_eq b 42) rest)))) e ∙ plus_more i (to_close (nat_eq b 42) rest))
 
 pub close_within : (star : Bool) (bs : List ℕ) (n : ℕ) → to_close star bs ≡ Some n → n ≤ length bs
 close_within star [] n e = cc

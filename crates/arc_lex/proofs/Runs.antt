@@ -1,6 +1,6 @@
 -- Runs of bytes of a class.
 use Rattle.std.proofs.Common.{◌≡◌, ◌≤◌, ℕ, ◌+◌, List, [], ◌∷◌, ◌++◌, length, take, drop, Bool, true, false, cond, add-one, refl, sym, ap, ◌∙◌, arith}
-use Rattle.std.proofs.lemmas.List.{take-append-drop, take_at, drop_at}
+use Rattle.std.proofs.lemmas.List.{take-append-drop, take_at}
 use Rattle.std.proofs.lemmas.Bool.{and_parts, and_from}
 use Rattle.arc_lex.specs.declared.bytes.Class.{Class}
 use Rattle.arc_lex.specs.Bytes.{has, all_in, begins, run}
@@ -54,7 +54,3 @@ run_is class (y ∷ ys) r h e =
 pub front_is_run : (class : Class) (bs ys r : List ℕ) → bs ≡ ys ++ r → all_in class ys ≡ true → begins class r ≡ false → ys ≡ take (run class bs) bs
 front_is_run class bs ys r c h e =
     sym (ap (λ us. take (run class us) us) c ∙ take_at ys r (run class (ys ++ r)) (sym (run_is class ys r h e)))
-
-pub rest_is_run : (class : Class) (bs ys r : List ℕ) → bs ≡ ys ++ r → all_in class ys ≡ true → begins class r ≡ false → r ≡ drop (run class bs) bs
-rest_is_run class bs ys r c h e =
-    sym (ap (λ us. drop (run class us) us) c ∙ drop_at ys r (run class (ys ++ r)) (sym (run_is class ys r h e)))

@@ -1,5 +1,5 @@
 -- Tokens, without where they lie in memory.
-use Rattle.std.specs.Prelude.{ℕ, ℤ, List, [], ◌∷◌, Bool, map}
+use Rattle.std.specs.Prelude.{ℕ, ℤ, List, Bool, map}
 use Rattle.arc_lex.specs.declared.token.Mark.{Mark}
 use Rattle.arc_lex.specs.declared.token.Word.{Word}
 use Rattle.arc_lex.specs.declared.token.AtWord.{AtWord}

@@ -1,5 +1,5 @@
 //! Cuts a source into tokens.
-ghost use Rattle.std.specs.Prelude.{◌≡◌, ◌∷◌, ◌<◌, IfOk, IfErr, IfSome};
+ghost use Rattle.std.specs.Prelude.{◌≡◌, ◌∷◌, IfOk, IfErr, IfSome};
 ghost use Rattle.arc_lex.specs.Faults.{fault_of, IsLexFault, OnlyTokens, OnlyFault};
 ghost use Rattle.arc_lex.specs.Source.{Tokens, SpansSpell};
 ghost use Rattle.arc_lex.specs.Tokens.{toks};

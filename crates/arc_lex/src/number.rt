@@ -1,5 +1,5 @@
 //! Integers.
-ghost use Rattle.std.specs.Prelude.{◌≡◌, ◌*◌, ◌≤◌, nat_le, pos, if◌then◌else◌};
+ghost use Rattle.std.specs.Prelude.{◌≡◌, ◌*◌, nat_le, pos, if◌then◌else◌};
 ghost use Rattle.arc_lex.specs.Texts.{number, largest, leads_with_zero, leads_with_x, may_follow, digits_of, factor, digit_value, integer_of, integer};
 
 use crate::bytes::{Class, begins, run};

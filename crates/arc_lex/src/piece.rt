@@ -1,5 +1,5 @@
 //! The piece at the front of bytes: a blank, a comment, a skipped line, a token, or a broken rule.
-ghost use Rattle.std.specs.Prelude.{◌≡◌, ◌∷◌, ◌<◌, ◌≤◌, ◌+◌, ℕ, length, IfOk, List};
+ghost use Rattle.std.specs.Prelude.{◌≡◌, ◌∷◌, ◌<◌, ℕ, length, IfOk};
 ghost use Rattle.arc_lex.specs.private.Pieces as spec;
 ghost use Rattle.arc_lex.specs.private.Scans.{seen_value};
 

@@ -1,5 +1,5 @@
 //! How marks and reserved words are written, and which of them stands at the front of bytes.
-ghost use Rattle.std.specs.Prelude.{◌≡◌, length, ◌≤◌};
+ghost use Rattle.std.specs.Prelude.{◌≡◌};
 ghost use Rattle.arc_lex.specs.private.Pieces.{first_front, first_equal};
 ghost use Rattle.arc_lex.specs.Spellings.{mark_bytes, word_bytes, at_bytes};
 

@@ -16,7 +16,7 @@ use Rattle.arc_spec.specs.Resolved.{Value, Number, Print, Applied, Combined, Cho
 use Rattle.arc_spec.specs.Number.{converted, applied, combined, answer, is_zero, is_same, low_32}
 use Rattle.arc_spec.specs.World.{World, Outcome, Done, Faulted, then_do}
 use Rattle.arc_spec.specs.Meaning.{Deeper, chosen, formatted, in_object, or_fault, evaluated, referred, all_evaluated}
-use Rattle.arc_lower.specs.Known.{width, is_within, wider, narrower, number_kind, applied_kind, combined_kind, known_kind}
+use Rattle.arc_lower.specs.Known.{rank, is_within, greater_kind, lesser_kind, least_kind, applied_kind, combined_kind, known_kind}
 use Rattle.arc_lower.proofs.Shaping.{Holds}
 use Rattle.arc_lower.proofs.Cases.{by_test}
 
@@ -60,19 +60,19 @@ within_keeps a k.Object v e h = refl
 within_keeps a k.Void v e h = refl
 within_keeps _ _ v e h = absurd (false≢true e)
 
-first_of_two : (a b : Kind) (v : ℤ) → IsOf a v → IsOf (wider a b) v
+first_of_two : (a b : Kind) (v : ℤ) → IsOf a v → IsOf (greater_kind a b) v
 first_of_two a b v h = by_test (λ t. IsOf (if t then b else a) v) (is_within a b)
     (λ e. within_keeps a b v e h)
     (λ e. h)
 
-second_of_two : (a b : Kind) (v : ℤ) → IsOf b v → IsOf (wider a b) v
+second_of_two : (a b : Kind) (v : ℤ) → IsOf b v → IsOf (greater_kind a b) v
 second_of_two a b v h = by_test (λ t. IsOf (if t then b else a) v) (is_within a b)
     (λ e. h)
-    (λ e. within_keeps b a v (let lt = leb-false (width a) (width b) e in grind (arith, nat_tests, lt)) h)
+    (λ e. within_keeps b a v (let lt = leb-false (rank a) (rank b) e in grind (arith, nat_tests, lt)) h)
 
 -- what a conversion gives
-both_kinds : (a b : Kind) (v : ℤ) → IsOf a v → IsOf (narrower a b) (converted b v)
-both_kinds a b v h = by_test (λ t. IsOf (if t then a else b) (converted b v)) (is_within a b)
+conversion_gives : (a b : Kind) (v : ℤ) → IsOf a v → IsOf (lesser_kind a b) (converted b v)
+conversion_gives a b v h = by_test (λ t. IsOf (if t then a else b) (converted b v)) (is_within a b)
     (λ e. subst (IsOf a) (sym (within_keeps a b v e h)) h)
     (λ e. again b v)
 
@@ -81,7 +81,7 @@ same_true (pos n) (pos m) e = ap pos (eqb-true n m e)
 same_true (negsuc n) (negsuc m) e = ap negsuc (eqb-true n m e)
 same_true _ _ e = absurd (false≢true e)
 
-number_good : (n : ℤ) → IsOf (number_kind n) n
+number_good : (n : ℤ) → IsOf (least_kind n) n
 number_good n = by (is_same (converted k.Bool n) n) refl
   where
     or_int : (t : Bool) → is_same (converted k.Int n) n ≡ t → IsOf (if t then k.Int else k.Long) n
@@ -151,10 +151,10 @@ module _ (D : Deeper) where
   known_good (Choice c a b) w =
       let one = known_kind a in
       let other = known_kind b in
-      any_holds (IsOf (wider one other)) (evaluated D c w) _ (λ x w1. either_holds (IsOf (wider one other)) (is_zero x) (evaluated D a w1) (evaluated D b w1)
-      (weaker (IsOf one) (IsOf (wider one other)) (evaluated D a w1) (first_of_two one other) (known_good a w1))
-      (weaker (IsOf other) (IsOf (wider one other)) (evaluated D b w1) (second_of_two one other) (known_good b w1)))
-  known_good (Converted kind a) w = holds_then (IsOf (known_kind a)) (IsOf (narrower (known_kind a) kind)) (evaluated D a w) _ (known_good a w) (λ x w1 h. both_kinds (known_kind a) kind x h)
+      any_holds (IsOf (greater_kind one other)) (evaluated D c w) _ (λ x w1. either_holds (IsOf (greater_kind one other)) (is_zero x) (evaluated D a w1) (evaluated D b w1)
+      (weaker (IsOf one) (IsOf (greater_kind one other)) (evaluated D a w1) (first_of_two one other) (known_good a w1))
+      (weaker (IsOf other) (IsOf (greater_kind one other)) (evaluated D b w1) (second_of_two one other) (known_good b w1)))
+  known_good (Converted kind a) w = holds_then (IsOf (known_kind a)) (IsOf (lesser_kind (known_kind a) kind)) (evaluated D a w) _ (known_good a w) (λ x w1 h. conversion_gives (known_kind a) kind x h)
   known_good (Assigned i a) w = holds_then (IsOf (known_kind a)) (IsOf (known_kind a)) (evaluated D a w) _ (known_good a w) (λ x w1 h. h)
   known_good (FieldAssigned a class index b) w = any_holds (IsOf (known_kind b)) (referred D a w) _ (λ r w1.
       holds_then (IsOf (known_kind b)) (IsOf (known_kind b)) (evaluated D b w1) _ (known_good b w1) (λ v w2 h. set_holds (IsOf (known_kind b)) class (object_at w2.objects r) v _ w2 h))

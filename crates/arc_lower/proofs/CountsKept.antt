@@ -9,7 +9,8 @@ use Rattle.arc_lower.proofs.CountsPlaces.{tally, tally_nil, tally_same, tally_ot
 
 -- ---- objects and their counts
 
--- an object with this count: it is there where a place names it, one does where its dealloc hasn't begun, and it has so many fields that name objects as its class says
+-- an object with this count: it is there where a place names it, one does where its dealloc hasn't begun, and it has so
+-- many fields that name objects as its class says
 pub record Fits (classes : List Class) (count : ℕ) (o : Object) : Type 0 where
   pub there : 0 < count → is_there o.phase ≡ true
   pub held : o.phase ≡ Live → 0 < count

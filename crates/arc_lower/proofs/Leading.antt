@@ -33,7 +33,8 @@ module _ {S : Type 0} (step : S → Next S) where
   abbrev pub Wedges : Reached S → Type 0
   Wedges from = (i : List ℕ) × (t : List Event) × Leads from (Wedged i t)
 
-  -- what a run does from a place: where the meaning is done it comes to one that is an end of it, and where that is cut it goes on for at least `bound` steps
+  -- what a run does from a place: where the meaning is done it comes to one that is an end of it, and where that is cut
+  -- it goes on for at least `bound` steps
   abbrev pub Comes : {A : Type 0} → (bound : ℕ) (from : Reached S) (end : A → World → Reached S → Type 0) → Outcome A → Type 0
   Comes bound from end (Done a w) = (to : Reached S) × Leads from to × end a w to
   Comes bound from end (Faulted f w) = Leads from (stepping.Faulted f w.input w.trace)

@@ -44,7 +44,8 @@ Stays frames rs stack pc before done w to = (to ≡ running frames rs pc stack w
 abbrev pub laid : World → world.Frame → List ℕ → World
 laid w f waiting = record w { frame = f; waiting = waiting }
 
--- The ends of objects do what is meant, and go on at a place. The places of the functions are laid out between the one that runs and those that wait as in this frame.
+-- The ends of objects do what is meant, and go on at a place. The places of the functions are laid out between the one
+-- that runs and those that wait as in this frame.
 abbrev pub Ends : Program → List Frame → (bound : ℕ) → Deeper → Type 0
 Ends p frames bound D = (f : world.Frame) (waiting : List ℕ) (k : ℕ) (ob : Object) (c : ℕ → ℕ) (h0 : Held) (rs : List ℕ) (stack : List ℤ) (w : World) (pc back : ℕ) → world.frame_places f ++ waiting ≡ stacked w → object_at w.objects (suc k) ≡ Some ob
     → Runs (moves p) bound (follow (recount (begins_end p (at frames pc stack h0) back (suc k) ob.class (dying_in rs (laid w f waiting) k ob c) (has_level (at frames pc stack h0)))) w.input w.trace) (λ done w1 to. (to ≡ running frames rs back stack (laid w1 f waiting)) × Kept w w1) (D.end_of (suc k) w)

@@ -1,4 +1,5 @@
--- No action lacks what it takes, whatever is read, and the counts are right: what runs and what waits have as many numbers, references and places as the heights of a program say.
+-- No action lacks what it takes, whatever is read, and the counts are right: what runs and what waits have as many
+-- numbers, references and places as the heights of a program say.
 use Rattle.std.proofs.Common.{◌≡◌, ◌⊎◌, inl, inr, ℕ, zero, suc, ◌+◌, ◌-◌, ◌<◌, ◌≤◌, ℤ, pos, Bool, true, false, ◌&&◌, nat_eq, if◌then◌else◌, List, [], ◌∷◌, ◌++◌, length, drop, is_some, Option, Some, None, ⊎_elim, refl, sym, ap, ◌∙◌, subst, arith, append_assoc, length-append, slice_get, slice_set, slice_index_or}
 use Rattle.std.proofs.Math.Seq.{take-append_seam, drop-append_seam}
 use Rattle.std.proofs.lemmas.Bool.{and_parts, eqb-true, cases_eq}
@@ -213,7 +214,8 @@ module _ (p : Program) (R : resolved.Program) where
   abbrev Is_free : ℕ → Type 0
   Is_free = Free R (all R) (table R)
 
-  -- where the temporary before the last one is dropped, or the made object gets `init`, the last references and the last temporaries are those of that object
+  -- where the temporary before the last one is dropped, or the made object gets `init`, the last references and the
+  -- last temporaries are those of that object
   abbrev Ready : ℕ → (own temporaries waiting : List ℕ) → Type 0
   Ready pc own temporaries waiting = Is_free pc ⊎ ((Quiet R (all R) (table R) pc × Made own temporaries waiting) ⊎ ((slice_get (all R) pc ≡ Some Settle) × Initialized own temporaries waiting))
 

@@ -33,8 +33,8 @@ name r s = record { numbers = s.numbers; names = r ∷ s.names }
 abbrev pub pushed : Given → Operands → Operands
 pushed given s = record { numbers = onto given.numbers s.numbers; names = onto given.objects s.names }
 
--- how a block is left: after it, by an exit of the function, or by what leaves the loop in whose body it stands, or goes on with its next turn; nothing is said
--- where it lacks operands
+-- how a block is left: after it, by an exit of the function, or by what leaves the loop in whose body it stands, or
+-- goes on with its next turn; nothing is said where it lacks operands
 pub data Way : Type 0 where
   On : Operands → Way
   Out : (exit : ℕ) → Operands → Way
@@ -156,7 +156,8 @@ abbrev pub only_on : (Operands → World → Outcome Way) → Way → World → 
 only_on go (On s) w = go s w
 only_on go way w = Done Lost w
 
--- What a block means; full-expressions and loops stand only between others. The place of the result is that of the world in which the full-expression began.
+-- What a block means; full-expressions and loops stand only between others. The place of the result is that of the
+-- world in which the full-expression began.
 abbrev pub block : Deeper → (bound place : ℕ) → (between : Bool) → Block → Operands → World → Outcome Way
 block D bound place m Idle s w = Done (On s) w
 block D bound place m (One o) s w = operation D o s w

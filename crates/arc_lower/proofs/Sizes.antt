@@ -29,7 +29,7 @@ use Rattle.arc_lower.specs.Known.{is_within, combined_kind, known_kind}
 use Rattle.arc_lower.specs.Size.{Size, plain, taking, ◌and◌, by_variable, conversion_size, copy_size, number_count, object_count, format_size, print_size, owned_by, object_parameters, distance, entering_size, has_new, new_size, value_size, reference_size, receiver_size, arguments_size, full_size, unused, does_nothing, scope_size, command_size, commands_size, function_size, method_size, dealloc_size, class_size, program_size}
 use Rattle.arc_lower.specs.Lowered as orders
 use Rattle.arc_lower.proofs.Cases.{by_test}
-use Rattle.arc_lower.specs.Lowered.{ToClass, ToSuperClass, ToObject, ToSuper, Entry, AtStep, AtTest, AtBody, Block, Idle, One, Load, Store, Read, Assign, AssignField, Clear, Format, Calls, SendsMessage, Making, IfNew, Answer, Then, Fork, Loop, Quit, Advance, Full, Leave, Spot, past, narrow_block, update_block, below_new, below_arguments, message_to, new_block, value_block, reference_block, receiver_block, arguments_block, whole_block, nothing_given, loop_block, command_block, commands_block, Inside, Between, no_turn}
+use Rattle.arc_lower.specs.Lowered.{ToClass, ToSuperClass, ToObject, ToSuper, Entry, AtStep, AtTest, AtBody, Block, Idle, One, Load, Store, Read, Assign, Clear, Format, Calls, SendsMessage, Making, Answer, Then, Fork, Loop, Quit, Advance, Full, Leave, Spot, past, narrow_block, update_block, below_new, below_arguments, message_to, new_block, value_block, reference_block, receiver_block, arguments_block, whole_block, nothing_given, loop_block, command_block, commands_block, Inside, Between, no_turn}
 
 -- ---- orders
 

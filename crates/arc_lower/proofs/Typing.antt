@@ -1,4 +1,5 @@
--- Orders that go on with the next one each: how many numbers, references, temporaries and variables there are after them, where each of them has as many as it needs.
+-- Orders that go on with the next one each: how many numbers, references, temporaries and variables there are after
+-- them, where each of them has as many as it needs.
 use Rattle.std.proofs.Common.{◌≡◌, ℕ, zero, suc, pred, ◌+◌, ◌-◌, ◌/◌, ◌<◌, ◌≤◌, Bool, true, false, if◌then◌else◌, nat_lt, List, [], ◌∷◌, ◌++◌, length, take, drop, refl, sym, ap, ◌∙◌, subst, arith, pos}
 use Rattle.std.proofs.lemmas.Bool.{ltb-true}
 use Rattle.arc_code.specs.declared.code.TheConstants.{MOST_TEXT}
@@ -335,8 +336,9 @@ module _ (P : Program) (r s : ℕ) where
 
 -- ---- blocks
 
--- A test that takes a number of the first height leaves the second one. The first part ends at the third one, but with so many temporaries, and with these the second
--- part begins, which ends at the third one: it bounds what is there after either part.
+-- A test that takes a number of the first height leaves the second one. The first part ends at the third one, but with
+-- so many temporaries, and with these the second part begins, which ends at the third one: it bounds what is there
+-- after either part.
 pub record Forks (P : Program) (h i : Height) (more : ℕ) (g : Height) : Type 0 where
   pub some : 1 ≤ h.numbers
   pub left : next_height P (JumpZero (Skip 0)) h ≡ i

@@ -1,4 +1,5 @@
--- How many numbers, references, temporaries and variables that name objects the running function has at most before each action of a program, by the effects of those before it; and the greatest of them.
+-- How many numbers, references, temporaries and variables that name objects the running function has at most before
+-- each action of a program, by the effects of those before it; and the greatest of them.
 use Rattle.std.specs.Prelude.{ℕ, suc, ◌+◌, ◌-◌, max, List, [], ◌∷◌, ◌++◌, length, drop, get_or, Option, Some, None}
 use Rattle.arc_spec.specs.Resolved.{Function, Program}
 use Rattle.arc_spec.specs.declared.class.Method.{Method}
@@ -48,8 +49,8 @@ pub record Walk : Type 0 where
 abbrev pub walk : Height → (pending : List Height) → Walk
 walk h pending = record { height = h; pending = pending }
 
--- What stands after a jump is the part that the last test may lead to, or stands between two statements. It is given the temporaries that there are before the
--- jump, which may be there after that part.
+-- What stands after a jump is the part that the last test may lead to, or stands between two statements. It is given
+-- the temporaries that there are before the jump, which may be there after that part.
 abbrev pub other_part : (base : Height) → Walk → Height
 other_part base w = record (get_or w.pending 0 base) { temporaries = w.height.temporaries }
 

@@ -1,4 +1,5 @@
--- Of which kind a number is by the form of the expression that gives it. A conversion to that kind, or to a wider one, leaves it as it is, so no action is needed.
+-- Of which kind a number is by the form of the expression that gives it. A conversion to that kind, or to one of a
+-- greater rank, leaves it as it is, so no action is needed.
 use Rattle.std.specs.Prelude.{ℕ, Bool, nat_le, if◌then◌else◌, ℤ}
 use Rattle.arc_ast.specs.declared.tree.Kind.{Kind}
 use Rattle.arc_ast.specs.declared.tree.Kind.TheVariants as k
@@ -9,25 +10,27 @@ use Rattle.arc_ast.specs.declared.tree.BinaryOperator.TheVariants as o
 use Rattle.arc_spec.specs.Number.{converted, is_same}
 use Rattle.arc_spec.specs.Resolved.{Value, Number, Print, Applied, Combined, Choice, Converted, Assigned, FieldAssigned, Differ, IsObject}
 
--- A BOOL is 0 or 1, and so an int, and each number is a long. What is no number counts as wide as that.
-abbrev pub width : Kind → ℕ
-width k.Bool = 0
-width k.Int = 1
-width _ = 2
+-- A BOOL is 0 or 1, and so an int, and each number is a long (C99, section 6.3.1.1, has such ranks). What is no number has the rank of a long.
+abbrev pub rank : Kind → ℕ
+rank k.Bool = 0
+rank k.Int = 1
+rank _ = 2
 
 -- whether each number of the one kind is one of the other
 abbrev pub is_within : (narrow wide : Kind) → Bool
-is_within narrow wide = nat_le (width narrow) (width wide)
+is_within narrow wide = nat_le (rank narrow) (rank wide)
 
-abbrev pub wider : Kind → Kind → Kind
-wider a b = if is_within a b then b else a
+-- the one of two kinds that has the greater rank, and so all numbers of both
+abbrev pub greater_kind : Kind → Kind → Kind
+greater_kind a b = if is_within a b then b else a
 
-abbrev pub narrower : Kind → Kind → Kind
-narrower a b = if is_within a b then a else b
+-- the other one
+abbrev pub lesser_kind : Kind → Kind → Kind
+lesser_kind a b = if is_within a b then a else b
 
--- the kind of a number
-abbrev pub number_kind : ℤ → Kind
-number_kind n = if is_same (converted k.Bool n) n then k.Bool else if is_same (converted k.Int n) n then k.Int else k.Long
+-- the kind of the least rank that has a number
+abbrev pub least_kind : ℤ → Kind
+least_kind n = if is_same (converted k.Bool n) n then k.Bool else if is_same (converted k.Int n) n then k.Int else k.Long
 
 -- what an operator gives that computes in a kind
 abbrev pub applied_kind : UnaryOperator → Kind → Kind
@@ -48,14 +51,14 @@ combined_kind o.BitXor kind = kind
 combined_kind o.BitOr kind = kind
 combined_kind _ kind = k.Bool
 
--- The narrowest kind that the form shows. Of a variable, a field, a call and a message it shows none, nor of a byte that is read.
+-- The kind of the least rank that the form shows. Of a variable, a field, a call and a message it shows none, nor of a byte that is read.
 abbrev pub known_kind : Value → Kind
-known_kind (Number n) = number_kind n
+known_kind (Number n) = least_kind n
 known_kind (Print pieces given) = k.Int
 known_kind (Applied operator kind a) = applied_kind operator kind
 known_kind (Combined operator kind a b) = combined_kind operator kind
-known_kind (Choice c a b) = wider (known_kind a) (known_kind b)
-known_kind (Converted kind a) = narrower (known_kind a) kind
+known_kind (Choice c a b) = greater_kind (known_kind a) (known_kind b)
+known_kind (Converted kind a) = lesser_kind (known_kind a) kind
 known_kind (Assigned i a) = known_kind a
 known_kind (FieldAssigned a class index b) = known_kind b
 known_kind (Differ a b) = k.Bool

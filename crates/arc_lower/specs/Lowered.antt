@@ -1,6 +1,7 @@
--- Which actions a checked program becomes. A function's variables lie on the stack, the first one deepest, and its operands above them. An expression leaves one
--- number more on the stack, or one reference more, and a statement leaves both as they were. Temporaries hold what references name, and are dropped together, at
--- the end of the full-expression.
+-- Which actions a checked program becomes. A function's variables lie on the stack, the first one deepest, and its
+-- operands above them. An expression leaves one number more on the stack, or one reference more, and a statement leaves
+-- both as they were. Temporaries hold what references name, and are dropped together, at the end of the
+-- full-expression.
 use Rattle.std.specs.Prelude.{ℕ, zero, suc, pred, ◌+◌, ◌-◌, ◌/◌, Bool, true, false, nat_lt, if◌then◌else◌, pos, List, [], ◌∷◌, ◌++◌, length, take, drop, slice_get, slice_index_or, Option, Some, None}
 use Rattle.std.specs.List.{list_any}
 use Rattle.arc_ast.specs.declared.tree.BinaryOperator.{BinaryOperator}
@@ -150,7 +151,8 @@ abbrev pub all_empty_orders : (names first count : ℕ) → List Order
 all_empty_orders names first zero = []
 all_empty_orders names first (suc n) = empty_orders names (first + n) ++ all_empty_orders names first n
 
--- A function that gives 0 stands after the others, and one that gives nil: one that there isn't, or that gives something else than is wanted, is called as one of these.
+-- A function that gives 0 stands after the others, and one that gives nil: one that there isn't, or that gives
+-- something else than is wanted, is called as one of these.
 abbrev pub all_functions : Program → List Function
 all_functions P = P.functions ++ nothing_giving gives.Number ∷ nothing_giving gives.Object ∷ []
 
@@ -250,8 +252,8 @@ message_order wanted (ToSuper from selector) n m = SendToSuper from selector n m
 abbrev pub no_turn : Turn
 no_turn = record { begin = 0; out = 0 }
 
--- Where a block stands: inside a full-expression, or between others, from a place on, in the body of a loop whose turn begins at one place, and which is left at
--- another where its test gave 0.
+-- Where a block stands: inside a full-expression, or between others, from a place on, in the body of a loop whose turn
+-- begins at one place, and which is left at another where its test gave 0.
 pub data Spot : Type 0 where
   Inside : Spot
   Between : (here : ℕ) → Turn → Spot
@@ -286,8 +288,8 @@ abbrev pub turn_orders : (steps tests body : List Order) → List Order
 turn_orders steps tests body =
     steps ++ (tests ++ (JumpZero (Skip (suc (length body))) ∷ [] ++ (body ++ Jump (Back (suc (length steps + length tests + length body))) ∷ [])))
 
--- The actions of a block, in a function with so many variables that hold numbers and so many that name objects. What leaves a loop gives the 0 for which its test
--- leaves it.
+-- The actions of a block, in a function with so many variables that hold numbers and so many that name objects. What
+-- leaves a loop gives the 0 for which its test leaves it.
 abbrev pub flat : Program → (slots names : ℕ) → Spot → Block → List Order
 flat P slots names e Idle = []
 flat P slots names e (One o) = Plain o ∷ []
@@ -359,14 +361,15 @@ message_to (ClassSuper from) selector = ToSuperClass from selector
 message_to (ObjectValue a) selector = ToObject selector
 message_to (ObjectSuper a from) selector = ToSuper from selector
 
--- What `new` does, after the number of the class that gets it, where its method is looked up from a class, or from that of the number: the class's own method is found
--- when the program is lowered, where it is known.
+-- What `new` does, after the number of the class that gets it, where its method is looked up from a class, or from that
+-- of the number: the class's own method is found when the program is lowered, where it is known.
 abbrev pub new_block : (from : Option ℕ) → (class : Value) → Block
 new_block (Some from) class = IfNew from (SendsMessage gives.Object (ToSuperClass from new_selector) 0 0) Making
 new_block None (Number (pos c)) = IfNew c (SendsMessage gives.Object (ToClass new_selector) 0 0) Making
 new_block None class = Then (One (Finds new_selector)) (Fork (SendsMessage gives.Object (ToClass new_selector) 0 0) Making)
 
--- An expression leaves one operand more. What gets a message lies below its arguments; one to `super` goes to `self`, in a class method the first variable.
+-- An expression leaves one operand more. What gets a message lies below its arguments; one to `super` goes to `self`,
+-- in a class method the first variable.
 abbrev mutual
   pub value_block : (depth : ℕ) → Value → Block
   value_block depth (Number n) = One (Num n)
@@ -447,8 +450,8 @@ abbrev pub loop_block : (without_step : Bool) → (step test body : Block) → B
 loop_block true step test body = Loop AtStep Idle test body
 loop_block false step test body = Loop AtTest step test body
 
--- A statement of a function that is left there leaves the operands as they were; a return without a value gives 0. A `break` is one block, a `continue` another,
--- which empty the scopes that they leave, the innermost first.
+-- A statement of a function that is left there leaves the operands as they were; a return without a value gives 0. A
+-- `break` is one block, a `continue` another, which empty the scopes that they leave, the innermost first.
 abbrev mutual
   pub command_block : (exit : ℕ) → (breaks continues : Block) → Command → Block
   command_block exit breaks continues (Sequence first count all) =
@@ -527,8 +530,8 @@ begin_orders P slots names i a = flat P slots names Inside (begin_block i a)
 abbrev pub answer_orders : Program → (slots names : ℕ) → Reference → List Order
 answer_orders P slots names a = flat P slots names Inside (answer_block a)
 
--- Where a statement stands in a function: the place where that is left, the loop in whose body it is, where there is one, and the scopes between the two, or those
--- of the function, the innermost first.
+-- Where a statement stands in a function: the place where that is left, the loop in whose body it is, where there is
+-- one, and the scopes between the two, or those of the function, the innermost first.
 pub record Surroundings : Type 0 where
   pub exit : ℕ
   pub turn : Option Turn
@@ -578,8 +581,8 @@ abbrev pub leaving_order : Gives → Order
 leaving_order gives.Number = Return
 leaving_order gives.Object = instrs.Give
 
--- leaves a function: its variables that name objects are emptied, and the number on top is put in the place of those that hold numbers, as its result, or as one that
--- nobody uses, where it gives an object
+-- leaves a function: its variables that name objects are emptied, and the number on top is put in the place of those
+-- that hold numbers, as its result, or as one that nobody uses, where it gives an object
 abbrev pub leave_orders : Function → List Order
 leave_orders f = all_empty_orders (function_places f) 0 f.names ++ (keep_orders f.slots ++ leaving_order f.gives ∷ [])
 
@@ -614,7 +617,8 @@ end_step_of P = slots_of P gives.Number P.main + parameters_of P gives.Number P.
 abbrev pub entries_of : Program → List ℕ
 entries_of P = entries_from P (length (start_orders P)) (all_functions P)
 
--- A stub, to which a message goes, or the end of an object: it makes so many numbers and objects what a function takes, and goes on where that is entered.
+-- A stub, to which a message goes, or the end of an object: it makes so many numbers and objects what a function takes,
+-- and goes on where that is entered.
 abbrev pub stub_orders : Program → (entries : List ℕ) → (wanted : Gives) → (values objects f : ℕ) → List Order
 stub_orders P entries wanted values objects f = passing_orders P wanted f values objects ++ Jump (At (slice_index_or entries (number_of P wanted f) 0)) ∷ []
 

@@ -8,7 +8,8 @@ use Rattle.arc_lower.specs.Order.{orders}
 use Rattle.arc_lower.specs.Lowered.{lowered, entries_of, end_step_of, classes_linked}
 use Rattle.arc_lower.specs.Heights.{room_of, names_of, places_of}
 
--- The actions do what a program means, on each input; none of them is ever without what it needs, and numbers, references and places keep to their rooms.
+-- The actions do what a program means, on each input; none of them is ever without what it needs, and numbers,
+-- references and places keep to their rooms.
 pub record Performs (meant : resolved.Program) (acting : Program) : Type 0 where
   pub behaves : Behaves (λ input bound. meaning_seen (mean meant input bound)) (seen acting)
   pub steady : Steady (seen acting)

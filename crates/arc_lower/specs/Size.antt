@@ -1,5 +1,5 @@
--- How many actions a program becomes, by its forms. `Lowered` says which actions they are, and the law `actions_counted` that they are exactly so many. A form of
--- which nothing is said here is one action beyond its parts.
+-- How many actions a program becomes, by its forms. `Lowered` says which actions they are, and the law
+-- `actions_counted` that they are exactly so many. A form of which nothing is said here is one action beyond its parts.
 use Rattle.std.specs.Prelude.{ℕ, zero, suc, ◌+◌, ◌-◌, ◌*◌, ◌/◌, Bool, true, false, ◌||◌, nat_lt, if◌then◌else◌, pos, List, [], ◌∷◌, length, is_some, Option, Some, None}
 use Rattle.std.specs.List.{sum_by}
 use Rattle.arc_ast.specs.declared.tree.Kind.{Kind}
@@ -83,8 +83,8 @@ object_parameters f = lesser f.parameters (function_places f - owned_by f)
 abbrev pub distance : ℕ → ℕ → ℕ
 distance a b = (a - b) + (b - a)
 
--- How a function is entered with so many numbers and so many objects: an action for each by which these are more or fewer than its variables that hold numbers and
--- its parameters that name objects, and a call or a jump.
+-- How a function is entered with so many numbers and so many objects: an action for each by which these are more or
+-- fewer than its variables that hold numbers and its parameters that name objects, and a call or a jump.
 abbrev pub entering_size : Program → (wanted : Gives) → (f numbers objects : ℕ) → ℕ
 entering_size P wanted f numbers objects =
     distance numbers (function_at P wanted f).slots + distance objects (object_parameters (function_at P wanted f)) + 1
@@ -93,14 +93,16 @@ entering_size P wanted f numbers objects =
 abbrev pub has_new : Program → (class : ℕ) → Bool
 has_new P class = is_some (lookup P.classes (Some class) signs.Class new_selector 0 0 gives.Object)
 
--- `new` of a class: one message where the class has such a method, or inherits it, and else the three actions of the root's; both and three to find out where it isn't known
+-- `new` of a class: one message where the class has such a method, or inherits it, and else the three actions of the
+-- root's; both and three to find out where it isn't known
 abbrev pub new_size : Program → (from : Option ℕ) → Value → ℕ
 new_size P (Some class) a = if has_new P class then 1 else 3
 new_size P None (Number (pos class)) = if has_new P class then 1 else 3
 new_size P None a = 7
 
--- An expression in a function. A choice has two jumps. A number is copied and then put into its variable. An update reads the old number, computes the new one and
--- stores it, in a field by a second reference to its object. What is stored as an object is taken once more, and a variable that isn't there is nil, which is taken.
+-- An expression in a function. A choice has two jumps. A number is copied and then put into its variable. An update
+-- reads the old number, computes the new one and stores it, in a field by a second reference to its object. What is
+-- stored as an object is taken once more, and a variable that isn't there is nil, which is taken.
 abbrev mutual
   pub value_size : Program → Function → Value → Size
   value_size P f (Number n) = plain 1
@@ -151,7 +153,8 @@ abbrev mutual
 abbrev pub full_size : Size → ℕ
 full_size s = s.actions + (if s.takes then 1 else 0)
 
--- An expression that does the same, where nobody uses the number that it gives: an update gives the new number then, for which no copy of the old one is kept.
+-- An expression that does the same, where nobody uses the number that it gives: an update gives the new number then,
+-- for which no copy of the old one is kept.
 abbrev pub unused : Value → Value
 unused (Updated moment i operator computed kept a) = Updated After i operator computed kept a
 unused (FieldUpdated moment a class index operator computed kept b) = FieldUpdated After a class index operator computed kept b
@@ -166,9 +169,10 @@ does_nothing _ = false
 abbrev pub scope_size : Function → (first count : ℕ) → ℕ
 scope_size f first count = lesser count (function_places f - first)
 
--- A statement in a function, where a `break` and a `continue` are so many actions: they end the scopes that they leave, and in the body of a loop the first gives its
--- test a 0 and jumps, and the second jumps. One action drops the value of an expression. A return jumps, and without a number it gives 0; an object is stored before in the
--- last place, where there is one. A choice and a loop have two jumps, and a loop one more where it is entered elsewhere than at its step.
+-- A statement in a function, where a `break` and a `continue` are so many actions: they end the scopes that they leave,
+-- and in the body of a loop the first gives its test a 0 and jumps, and the second jumps. One action drops the value of
+-- an expression. A return jumps, and without a number it gives 0; an object is stored before in the last place, where
+-- there is one. A choice and a loop have two jumps, and a loop one more where it is entered elsewhere than at its step.
 abbrev mutual
   pub command_size : Program → Function → (breaks continues : ℕ) → Command → ℕ
   command_size P f breaks continues (Sequence first count all) =
@@ -192,9 +196,9 @@ abbrev mutual
   commands_size P f breaks continues no_commands = 0
   commands_size P f breaks continues (and_command c others) = command_size P f breaks continues c + commands_size P f breaks continues others
 
--- A function declares its places, stores its parameters and forgets their references, and stores `self` by four actions where it owns that. At its end it gives 0 and
--- jumps, as a `break` and a `continue` do that are in no loop. Where it is left its variables that name objects are emptied, those that hold numbers are taken, and
--- one action goes back.
+-- A function declares its places, stores its parameters and forgets their references, and stores `self` by four actions
+-- where it owns that. At its end it gives 0 and jumps, as a `break` and a `continue` do that are in no loop. Where it
+-- is left its variables that name objects are emptied, those that hold numbers are taken, and one action goes back.
 abbrev pub function_size : Program → Function → ℕ
 function_size P f =
     let opening = function_places f + 2 * object_parameters f + 4 * lesser (owned_by f) (function_places f) in

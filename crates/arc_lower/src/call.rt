@@ -1,5 +1,5 @@
 //! From a call, whose values lie on the stack, to actions.
-ghost use Rattle.std.specs.Prelude.{◌≡◌, ◌<◌, ◌-◌, suc, [], ◌∷◌, ◌++◌, Some, None, option_map, if◌then◌else◌, OnOk, IfOk};
+ghost use Rattle.std.specs.Prelude.{◌≡◌, ◌-◌, suc, [], ◌∷◌, ◌++◌, Some, None, option_map, if◌then◌else◌, OnOk, IfOk};
 ghost use Rattle.arc_checked.specs.Checked.{program_of};
 ghost use Rattle.arc_spec.specs.Classes.{lesser, same_gives};
 ghost use Rattle.arc_lower.specs.private.Definitions.{definition_of, found_at};

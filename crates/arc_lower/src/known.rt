@@ -2,15 +2,15 @@
 ghost use Rattle.std.specs.Prelude.{◌≡◌};
 ghost use Rattle.arc_checked.specs.Checked.{value};
 ghost use Rattle.arc_spec.specs.Number.{is_same};
-ghost use Rattle.arc_lower.specs.Known.{width, is_within, wider, narrower, number_kind, applied_kind, combined_kind, known_kind};
+ghost use Rattle.arc_lower.specs.Known.{rank, is_within, greater_kind, lesser_kind, least_kind, applied_kind, combined_kind, known_kind};
 
 use arc_ast::tree::{BinaryOperator, Kind, UnaryOperator};
 use arc_checked::program::Value;
 use arc_spec::number::convert;
 
-/// How wide a kind is, of which the wider ones have all numbers.
-fn width(kind: Kind) -> u8
-    ensures { result ≡ width kind }
+/// The rank of a kind of numbers: a kind of a greater rank has all numbers of it.
+fn rank(kind: Kind) -> u8
+    ensures { result ≡ rank kind }
 {
     match kind {
         Kind::Bool => 0,
@@ -23,19 +23,19 @@ fn width(kind: Kind) -> u8
 pub(crate) fn is_within(narrow: Kind, wide: Kind) -> bool
     ensures { result ≡ is_within narrow wide }
 {
-    width(narrow) <= width(wide)
+    rank(narrow) <= rank(wide)
 }
 
-/// The wider one of two kinds.
-fn wider(left: Kind, right: Kind) -> Kind
-    ensures { result ≡ wider left right }
+/// The one of two kinds that has the greater rank.
+fn greater_kind(left: Kind, right: Kind) -> Kind
+    ensures { result ≡ greater_kind left right }
 {
     if is_within(left, right) { right } else { left }
 }
 
-/// The narrower one of two kinds.
-fn narrower(left: Kind, right: Kind) -> Kind
-    ensures { result ≡ narrower left right }
+/// The one of two kinds that has the lesser rank.
+fn lesser_kind(left: Kind, right: Kind) -> Kind
+    ensures { result ≡ lesser_kind left right }
 {
     if is_within(left, right) { left } else { right }
 }
@@ -47,9 +47,9 @@ fn is_same(left: i64, right: i64) -> bool
     left == right
 }
 
-/// The narrowest kind of a number.
-fn number_kind(number: i64) -> Kind
-    ensures { result ≡ number_kind number }
+/// The kind of the least rank that has a number.
+fn least_kind(number: i64) -> Kind
+    ensures { result ≡ least_kind number }
 {
     if is_same(convert(Kind::Bool, number), number) {
         Kind::Bool
@@ -96,17 +96,17 @@ pub(crate) fn combined_kind(operator: BinaryOperator, kind: Kind) -> Kind
     }
 }
 
-/// The narrowest kind of which an expression's form says that its number is.
+/// The kind of the least rank of which an expression's form says that its number is.
 pub(crate) fn known_kind(expression: &Value) -> Kind
     ensures { result ≡ known_kind (value expression.now) }
 {
     match expression {
-        Value::Number(number) => number_kind(*number),
+        Value::Number(number) => least_kind(*number),
         Value::Print(_, _) => Kind::Int,
         Value::Applied(operator, kind, _) => applied_kind(*operator, *kind),
         Value::Combined(operator, kind, _, _) => combined_kind(*operator, *kind),
-        Value::Choice(_, first, second) => wider(known_kind(first), known_kind(second)),
-        Value::Converted(kind, operand) => narrower(known_kind(operand), *kind),
+        Value::Choice(_, first, second) => greater_kind(known_kind(first), known_kind(second)),
+        Value::Converted(kind, operand) => lesser_kind(known_kind(operand), *kind),
         Value::Assigned(_, operand) => known_kind(operand),
         Value::FieldAssigned(_, _, _, operand) => known_kind(operand),
         Value::Differ(_, _) => Kind::Bool,

@@ -5,7 +5,7 @@ ghost use Rattle.arc_checked.specs.Checked.{value as value_of, reference as refe
 ghost use Rattle.arc_code.specs.declared.instr.Op.TheVariants.{Pop};
 ghost use Rattle.arc_code.specs.declared.instr.Instr.TheVariants.{Plain, Jump, JumpZero};
 ghost use Rattle.arc_ir.specs.declared.action.Target.TheVariants.{At, Skip};
-ghost use Rattle.arc_lower.specs.Order.{order, orders};
+ghost use Rattle.arc_lower.specs.Order.{orders};
 ghost use Rattle.arc_lower.specs.Lowered.{whole_orders, whole_reference_orders, begin_orders, answer_orders, scopes_orders, command_orders, commands_orders};
 ghost use Rattle.arc_lower.specs.Size.{unused, does_nothing};
 ghost use Rattle.arc_lower.specs.private.Surroundings.{surroundings, step_begin, step_orders, turn_orders_of, with_turn};

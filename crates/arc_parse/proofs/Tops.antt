@@ -8,7 +8,7 @@ use Rattle.arc_ast.specs.declared.tree.Implementation.{Implementation}
 use Rattle.arc_ast.specs.Tree.{FunctionTree, GlobalTree, InterfaceTree, ImplementationTree, UnitTree, function_trees, global_trees, interface_trees, implementation_trees}
 use Rattle.arc_form.specs.Operators.{fold}
 use Rattle.arc_form.specs.Reader.{Reader}
-use Rattle.arc_grammar.specs.Grammar.{TopTree, OfNames, OfFunction, OfGlobals, OfInterface, OfImplementation, functions_of, globals_of, interfaces_of, implementations_of, these, reads, body, begins_top, unit}
+use Rattle.arc_grammar.specs.Grammar.{TopTree, OfNames, OfFunction, OfGlobals, OfInterface, OfImplementation, functions_of, globals_of, interfaces_of, implementations_of, reads, begins_top, unit}
 use Rattle.arc_grammar.specs.Grammar as grammar
 use Rattle.arc_form.specs.Joining.{joining}
 use Rattle.arc_parse.specs.private.Views.{and_top}

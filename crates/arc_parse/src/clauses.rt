@@ -7,7 +7,7 @@ ghost use Rattle.arc_grammar.specs.Grammar.{reads};
 ghost use Rattle.arc_grammar.specs.Grammar as grammar;
 
 use crate::full::full;
-use crate::qualifier::sees_qualifier;
+use crate::qualifier::begins_qualifier;
 use crate::simple::{empty, simple, value};
 use crate::type_name::begins_plain_type;
 use crate::variable::{declaration, qualified_declaration};
@@ -57,7 +57,7 @@ fn beginning(alloc: Global, depth: usize, reader: &mut Reader) -> Read<Stmt>
     ensures gives { Gives stmt_tree result (toks reader.new.rest.now) (reads (grammar.beginning depth) (toks reader.old.rest.now)) }
     ensures shorter { IfOk result (λ _. length reader.new.rest.now < length reader.old.rest.now) }
 {
-    if sees_qualifier(reader) {
+    if begins_qualifier(reader) {
         qualified_declaration(alloc, reader)
     } else if begins_plain_type(reader) {
         declaration(alloc, false, Qualifiers::Unqualified, reader)

@@ -12,7 +12,7 @@ ghost use Rattle.arc_parse.specs.declared.operator.TheConstants.{ASSIGNING, LOOS
 use crate::literal::literal;
 use crate::node::{add, and_part, boxed, by_one, place_of, times};
 use crate::operator::{ASSIGNING, LOOSEST, level_ahead, operator, sees_operator};
-use crate::sign::{counting, sees_counting, sees_sign, sign};
+use crate::sign::{begins_counting, begins_signed, counting, operator_before};
 use crate::type_name::{begins_plain_type, plain_type};
 use arc_ast::tree::{Expr, Moment, TypeName};
 use arc_form::fail::Read;
@@ -125,12 +125,12 @@ fn prefixed(alloc: Global, reader: &mut Reader) -> Read<Box<Expr>>
     ensures gives { Gives (λ x. expr_tree x.value) result (toks reader.new.rest.now) (reads_free grammar.prefixed (toks reader.old.rest.now)) }
     ensures shorter { IfOk result (λ _. length reader.new.rest.now < length reader.old.rest.now) }
 {
-    if sees_sign(reader) {
-        let (at, operator) = sign(reader)?;
+    if begins_signed(reader) {
+        let (at, operator) = operator_before(reader)?;
         let operand = prefixed(alloc, reader)?;
         return boxed(alloc, Expr::Unary(at, operator, operand));
     }
-    if sees_counting(reader) {
+    if begins_counting(reader) {
         let operator = counting(reader)?;
         let operand = prefixed(alloc, reader)?;
         return by_one(alloc, operator.0, operator, Moment::After, operand);
@@ -204,7 +204,7 @@ fn suffixes(alloc: Global, operand: Box<Expr>, reader: &mut Reader) -> Read<Box<
     ensures gives { Gives (λ x. expr_tree x.value) result (toks reader.new.rest.now) (reads_on grammar.suffixes (expr_tree operand.value) (toks reader.old.rest.now)) }
     ensures shorter { IfOk result (λ _. length reader.new.rest.now ≤ length reader.old.rest.now) }
 {
-    if !sees_suffix(reader) {
+    if !begins_suffix(reader) {
         return Ok(operand);
     }
     let whole = suffix(alloc, operand, reader)?;
@@ -213,10 +213,10 @@ fn suffixes(alloc: Global, operand: Box<Expr>, reader: &mut Reader) -> Read<Box<
 
 /// Whether the first token begins a suffix.
 #[tactic(auto, using(arc_form::proofs::Sets::sees_or))]
-fn sees_suffix(reader: &Reader) -> bool
+fn begins_suffix(reader: &Reader) -> bool
     ensures { result ≡ sees grammar.begins_suffix (toks reader.now.rest.now) }
 {
-    reader.sees_mark(Mark::Arrow) || sees_counting(reader)
+    reader.sees_mark(Mark::Arrow) || begins_counting(reader)
 }
 
 /// One suffix after an operand.

@@ -4,8 +4,8 @@ ghost use Rattle.arc_lex.specs.Tokens.{toks};
 ghost use Rattle.arc_form.specs.Reader.{sees};
 ghost use Rattle.arc_grammar.specs.Grammar as grammar;
 
-use crate::qualifier::sees_qualifier;
-use crate::sign::{sees_counting, sees_sign};
+use crate::qualifier::begins_qualifier;
+use crate::sign::{begins_counting, begins_signed};
 use crate::type_name::begins_plain_type;
 use arc_form::reader::Reader;
 use arc_lex::token::{Mark, Word};
@@ -32,8 +32,8 @@ pub fn begins_expr(reader: &Reader) -> bool
         || begins_literal(reader)
         || reader.sees_mark(Mark::OpenParen)
         || reader.sees_mark(Mark::OpenSquare)
-        || sees_sign(reader)
-        || sees_counting(reader)
+        || begins_signed(reader)
+        || begins_counting(reader)
 }
 
 /// Whether a statement that is no expression can begin with the first token.
@@ -65,5 +65,5 @@ fn begins_stmt(reader: &Reader) -> bool
 pub fn begins_item(reader: &Reader) -> bool
     ensures { result ≡ sees grammar.begins_item (toks reader.now.rest.now) }
 {
-    sees_qualifier(reader) || (begins_plain_type(reader) || begins_stmt(reader))
+    begins_qualifier(reader) || (begins_plain_type(reader) || begins_stmt(reader))
 }

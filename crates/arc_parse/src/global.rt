@@ -1,5 +1,5 @@
 //! Reads variables of the whole program.
-ghost use Rattle.std.specs.Prelude.{◌≡◌, ◌<◌, ◌≤◌, length, IfOk};
+ghost use Rattle.std.specs.Prelude.{◌<◌, ◌≤◌, length, IfOk};
 ghost use Rattle.arc_lex.specs.Tokens.{toks};
 ghost use Rattle.arc_ast.specs.Tree.{type_tree, global_tree, global_trees};
 ghost use Rattle.arc_form.specs.Kinds as kinds;
@@ -14,7 +14,7 @@ use arc_ast::tree::{Constant, Qualifiers, TypeName};
 use arc_form::fail::{Fail, Read};
 use arc_form::made::keep;
 use arc_form::reader::Reader;
-use arc_lex::token::{Mark, Token, TokenKind, Word};
+use arc_lex::token::{Mark, TokenKind, Word};
 use std::alloc::Global;
 
 /// The variables of a type, one or more, and `;`, where all but the first have a `*` if the type is a class's.

@@ -13,7 +13,7 @@ use arc_form::reader::Reader;
 use arc_lex::token::Word;
 
 /// Whether the first token is a qualifier.
-pub fn sees_qualifier(reader: &Reader) -> bool
+pub fn begins_qualifier(reader: &Reader) -> bool
     ensures { result ≡ sees grammar.begins_qualifier (toks reader.now.rest.now) }
 {
     reader.sees_word(Word::Strong)
@@ -36,7 +36,7 @@ fn more_qualifiers(before: Qualifiers, reader: &mut Reader) -> Read<Qualifiers>
     ensures shorter { IfOk result (λ _. length reader.new.rest.now ≤ length reader.old.rest.now) }
 {
     let mut all = before;
-    'qualifiers: while sees_qualifier(reader) {
+    'qualifiers: while begins_qualifier(reader) {
         let next = qualifier(reader)?;
         all = all.and(next);
     }

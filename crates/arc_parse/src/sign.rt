@@ -8,11 +8,11 @@ ghost use Rattle.arc_grammar.specs.Grammar as grammar;
 use arc_ast::tree::{BinaryOperator, UnaryOperator};
 use arc_form::fail::{Fail, Read};
 use arc_form::reader::Reader;
-use arc_lex::token::{Mark, Token, TokenKind};
+use arc_lex::token::{Mark, TokenKind};
 
 /// Whether the first token is an operator before an operand.
 #[tactic(auto, using(arc_form::proofs::Sets::sees_or))]
-pub fn sees_sign(reader: &Reader) -> bool
+pub fn begins_signed(reader: &Reader) -> bool
     ensures { result ≡ sees begins_signed (toks reader.now.rest.now) }
 {
     reader.sees_mark(Mark::Minus)
@@ -25,7 +25,7 @@ pub fn sees_sign(reader: &Reader) -> bool
 ///
 /// `Unexpected` comes where it is not, and nothing is taken.
 #[tactic(auto, unfolding(arc_grammar::specs::Grammar::operator_before))]
-pub fn sign(reader: &mut Reader) -> Read<(usize, UnaryOperator)>
+pub fn operator_before(reader: &mut Reader) -> Read<(usize, UnaryOperator)>
     ensures gives { Gives (λ x. x) result (toks reader.new.rest.now) (reads_free grammar.operator_before (toks reader.old.rest.now)) }
     ensures shorter { IfOk result (λ _. length reader.new.rest.now < length reader.old.rest.now) }
 {
@@ -45,7 +45,7 @@ pub fn sign(reader: &mut Reader) -> Read<(usize, UnaryOperator)>
 
 /// Whether the first token is `++` or `--`.
 #[tactic(auto, using(arc_form::proofs::Sets::sees_or))]
-pub fn sees_counting(reader: &Reader) -> bool
+pub fn begins_counting(reader: &Reader) -> bool
     ensures { result ≡ sees begins_counting (toks reader.now.rest.now) }
 {
     reader.sees_mark(Mark::Increment) || reader.sees_mark(Mark::Decrement)

@@ -38,9 +38,10 @@ pub fn simple(alloc: Global, depth: usize, reader: &mut Reader) -> Read<Stmt>
         return Err(Fail::Unexpected);
     }
     if depth > DEEPEST {
-        return match begins_expr(reader) {
-            true => Err(Fail::TooDeep),
-            false => Err(Fail::Unexpected),
+        return if begins_expr(reader) {
+            Err(Fail::TooDeep)
+        } else {
+            Err(Fail::Unexpected)
         };
     }
     let value = full(alloc, reader)?;

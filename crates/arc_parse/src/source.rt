@@ -1,5 +1,5 @@
 //! Reads all of a source.
-ghost use Rattle.std.specs.Prelude.{◌≡◌, ◌≤◌, length, IfOk, IfErr};
+ghost use Rattle.std.specs.Prelude.{◌≡◌, IfOk, IfErr};
 ghost use Rattle.arc_lex.specs.Tokens.{toks};
 ghost use Rattle.arc_ast.specs.Tree.{unit_tree};
 ghost use Rattle.arc_form.specs.declared.fail.Fail.TheVariants.{Memory};

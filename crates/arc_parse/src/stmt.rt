@@ -11,7 +11,7 @@ ghost use Rattle.arc_grammar.specs.declared.limits.TheConstants.{DEEPEST};
 use crate::clauses::{clauses, controlling, test_after};
 use crate::first::{begins_item, begins_other};
 use crate::node::{boxed_stmt, unboxed};
-use crate::qualifier::sees_qualifier;
+use crate::qualifier::begins_qualifier;
 use crate::simple::{breaking, continuing, empty, returned, simple};
 use crate::type_name::begins_plain_type;
 use crate::variable::{declaration, qualified_declaration};
@@ -54,24 +54,24 @@ fn statement(alloc: Global, depth: usize, reader: &mut Reader) -> Read<Stmt>
     } else if reader.sees_word(Word::Return) {
         returned(alloc, reader)
     } else if reader.sees_word(Word::If) {
-        conditional(alloc, depth, reader)
+        if_else(alloc, depth, reader)
     } else if reader.sees_word(Word::Break) {
         breaking(reader)
     } else if reader.sees_word(Word::Continue) {
         continuing(reader)
     } else if reader.sees_word(Word::While) {
-        repeated(alloc, depth, reader)
+        while_do(alloc, depth, reader)
     } else if reader.sees_word(Word::Do) {
-        repeated_after(alloc, depth, reader)
+        do_while(alloc, depth, reader)
     } else {
-        stepped(alloc, depth, reader)
+        for_do(alloc, depth, reader)
     }
 }
 
 /// `if`, a controlling expression, a branch, and perhaps `else` and another
 #[cycle(stmts)]
 #[tactic(auto, unfolding(arc_grammar::specs::Grammar::if_else))]
-fn conditional(alloc: Global, depth: usize, reader: &mut Reader) -> Read<Stmt>
+fn if_else(alloc: Global, depth: usize, reader: &mut Reader) -> Read<Stmt>
     requires { depth ≤ DEEPEST }
     ensures gives { Gives stmt_tree result (toks reader.new.rest.now) (reads (grammar.if_else depth) (toks reader.old.rest.now)) }
     ensures shorter { IfOk result (λ _. length reader.new.rest.now < length reader.old.rest.now) }
@@ -80,12 +80,17 @@ fn conditional(alloc: Global, depth: usize, reader: &mut Reader) -> Read<Stmt>
     let condition = controlling(alloc, reader)?;
     let first = branch(alloc, depth + 1, reader)?;
     let second = otherwise(alloc, depth, reader)?;
-    Ok(chosen(at, condition, first, second))
+    Ok(if_statement(at, condition, first, second))
 }
 
 /// An `if` with this test and these branches.
-fn chosen(at: usize, condition: Box<Expr>, first: Box<Stmt>, second: Option<Box<Stmt>>) -> Stmt
-    ensures { stmt_tree result ≡ grammar.conditional at (expr_tree condition.value) (stmt_tree first.value) (option_map (λ b. stmt_tree b.value) second) }
+fn if_statement(
+    at: usize,
+    condition: Box<Expr>,
+    first: Box<Stmt>,
+    second: Option<Box<Stmt>>,
+) -> Stmt
+    ensures { stmt_tree result ≡ grammar.if_tree at (expr_tree condition.value) (stmt_tree first.value) (option_map (λ b. stmt_tree b.value) second) }
 {
     match second {
         None => Stmt::If(at, Box::into_inner(condition), first),
@@ -111,7 +116,7 @@ fn otherwise(alloc: Global, depth: usize, reader: &mut Reader) -> Read<Option<Bo
 /// `while`, a controlling expression and a body
 #[cycle(stmts)]
 #[tactic(auto, unfolding(arc_grammar::specs::Grammar::while_do))]
-fn repeated(alloc: Global, depth: usize, reader: &mut Reader) -> Read<Stmt>
+fn while_do(alloc: Global, depth: usize, reader: &mut Reader) -> Read<Stmt>
     requires { depth ≤ DEEPEST }
     ensures gives { Gives stmt_tree result (toks reader.new.rest.now) (reads (grammar.while_do depth) (toks reader.old.rest.now)) }
     ensures shorter { IfOk result (λ _. length reader.new.rest.now < length reader.old.rest.now) }
@@ -125,7 +130,7 @@ fn repeated(alloc: Global, depth: usize, reader: &mut Reader) -> Read<Stmt>
 /// `do`, a body, and the test after it
 #[cycle(stmts)]
 #[tactic(auto, unfolding(arc_grammar::specs::Grammar::do_while))]
-fn repeated_after(alloc: Global, depth: usize, reader: &mut Reader) -> Read<Stmt>
+fn do_while(alloc: Global, depth: usize, reader: &mut Reader) -> Read<Stmt>
     requires { depth ≤ DEEPEST }
     ensures gives { Gives stmt_tree result (toks reader.new.rest.now) (reads (grammar.do_while depth) (toks reader.old.rest.now)) }
     ensures shorter { IfOk result (λ _. length reader.new.rest.now < length reader.old.rest.now) }
@@ -139,7 +144,7 @@ fn repeated_after(alloc: Global, depth: usize, reader: &mut Reader) -> Read<Stmt
 /// `for`, its clauses and a body
 #[cycle(stmts)]
 #[tactic(auto, unfolding(arc_grammar::specs::Grammar::for_do))]
-fn stepped(alloc: Global, depth: usize, reader: &mut Reader) -> Read<Stmt>
+fn for_do(alloc: Global, depth: usize, reader: &mut Reader) -> Read<Stmt>
     requires { depth ≤ DEEPEST }
     ensures gives { Gives stmt_tree result (toks reader.new.rest.now) (reads (grammar.for_do depth) (toks reader.old.rest.now)) }
     ensures shorter { IfOk result (λ _. length reader.new.rest.now < length reader.old.rest.now) }
@@ -220,7 +225,7 @@ fn item(alloc: Global, depth: usize, reader: &mut Reader) -> Read<Stmt>
     ensures gives { Gives stmt_tree result (toks reader.new.rest.now) (reads (grammar.item depth) (toks reader.old.rest.now)) }
     ensures shorter { IfOk result (λ _. length reader.new.rest.now < length reader.old.rest.now) }
 {
-    if sees_qualifier(reader) {
+    if begins_qualifier(reader) {
         qualified_declaration(alloc, reader)
     } else if begins_plain_type(reader) {
         declaration(alloc, false, Qualifiers::Unqualified, reader)

@@ -1,23 +1,19 @@
 //! Reads what stands outside of all else.
-ghost use Rattle.std.specs.Prelude.{◌≡◌, ◌<◌, ◌≤◌, length, IfOk};
+ghost use Rattle.std.specs.Prelude.{◌≡◌, ◌<◌, length, IfOk};
 ghost use Rattle.arc_lex.specs.Tokens.{toks};
-ghost use Rattle.arc_ast.specs.Tree.{type_tree};
-ghost use Rattle.arc_lex.specs.declared.token.Mark.TheVariants as m;
-ghost use Rattle.arc_form.specs.Kinds as kinds;
-ghost use Rattle.arc_form.specs.Reader.{Gives, sees, sees_two};
+ghost use Rattle.arc_form.specs.Reader.{Gives, sees};
 ghost use Rattle.arc_grammar.specs.Grammar.{reads};
 ghost use Rattle.arc_grammar.specs.Grammar as grammar;
-ghost use Rattle.arc_parse.specs.private.Globals.{function_on};
 ghost use Rattle.arc_parse.specs.private.Tops.{top_tree};
 
 use crate::class::{class_names, implementation, interface};
 use crate::function::function;
 use crate::global::globals;
-use crate::qualifier::{sees_qualifier, some_qualifiers};
+use crate::qualifier::{begins_qualifier, some_qualifiers};
 use crate::type_name::perhaps;
 use crate::value_type::{begins_qualified_type, value_type_of};
 use arc_ast::tree;
-use arc_ast::tree::{Function, Implementation, Interface, Qualifiers, ResultType, TypeName};
+use arc_ast::tree::{Function, Implementation, Interface, Qualifiers, ResultType};
 use arc_form::fail::Read;
 use arc_form::reader::Reader;
 use arc_lex::token::{AtWord, Mark, Word};
@@ -78,7 +74,7 @@ fn external(alloc: Global, reader: &mut Reader) -> Read<Top>
         let function = function(alloc, ResultType::Void, reader)?;
         return Ok(Top::Function(function));
     }
-    if sees_qualifier(reader) {
+    if begins_qualifier(reader) {
         of_qualified(alloc, reader)
     } else if reader.sees_name() {
         of_type(alloc, true, reader)

@@ -7,7 +7,7 @@ ghost use Rattle.arc_form.specs.Reader.{Gives, sees};
 ghost use Rattle.arc_grammar.specs.Grammar.{reads};
 ghost use Rattle.arc_grammar.specs.Grammar as grammar;
 
-use crate::qualifier::sees_qualifier;
+use crate::qualifier::begins_qualifier;
 use crate::type_name::{begins_plain_type, plain_type};
 use arc_ast::tree::TypeName;
 use arc_form::fail::Read;
@@ -28,7 +28,7 @@ pub fn begins_value_type(reader: &Reader) -> bool
 pub fn begins_qualified_type(reader: &Reader) -> bool
     ensures { result ≡ sees (grammar.begins_qualifier ∪ grammar.begins_value_type) (toks reader.now.rest.now) }
 {
-    sees_qualifier(reader) || begins_value_type(reader)
+    begins_qualifier(reader) || begins_value_type(reader)
 }
 
 /// A class's name and `*`, with the name's place.

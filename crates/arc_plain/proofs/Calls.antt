@@ -1,26 +1,25 @@
 -- Calls, ends of objects and places that are dropped, of which the parts are known.
-use Rattle.std.proofs.Common.{arith, ◌≡◌, ℕ, zero, suc, ◌+◌, ◌-◌, ◌<◌, ◌≤◌, ℤ, true, false, List, [], ◌∷◌, length, take, drop, reverse, get_or, Option, Some, None, option_map, Result, Err, slice_get, refl, sym, ap, subst, ◌∙◌}
-use Rattle.std.proofs.lemmas.List.{reverse-reverse, length-reverse, drop_more}
+use Rattle.std.proofs.Common.{arith, ◌≡◌, ℕ, suc, ◌+◌, ◌-◌, ◌<◌, ◌≤◌, ℤ, true, false, List, [], ◌∷◌, length, take, reverse, get_or, Option, Some, None, option_map, Result, Err, slice_get, refl, sym, ap, subst, ◌∙◌}
+use Rattle.std.proofs.lemmas.List.{reverse-reverse, length-reverse}
 use Rattle.std.proofs.lemmas.Option.{slice_get-map}
 use Rattle.arc_checked.specs.declared.program.CheckedFunction.{CheckedFunction}
 use Rattle.arc_checked.specs.Checked.{functions, program_of}
 use Rattle.arc_spec.specs.declared.class.Class as declared
 use Rattle.arc_spec.specs.Classes.{Class, same_gives, field_order, class_of, classes_of, superclasses, ancestry_within}
 use Rattle.arc_spec.proofs.Deallocs.{dealloc_and_above, deallocs_from}
-use Rattle.arc_ast.specs.declared.tree.Sign.TheVariants as signs
 use Rattle.arc_spec.specs.declared.class.Gives.{Gives}
 use Rattle.arc_spec.specs.declared.class.Gives.TheVariants as gives
 use Rattle.arc_spec.specs.Resolved.{Function, Program}
 use Rattle.arc_spec.specs.declared.location.Location.TheVariants.{Local}
 use Rattle.arc_spec.specs.World.{Frame, World, Outcome, Done, then_do, Finished, finished, Given, Answer, entered, left, name_at, named_at, stores, with_temporaries}
-use Rattle.arc_spec.specs.Objects.{Object, Emptying, object_at}
-use Rattle.arc_spec.specs.Meaning.{Deeper, Flow, given, gives_object, answer, function_places, nothing_giving, called, all_executed, variables_dropped, released, temporaries_dropped, all_dropped, function_at, dealloc_run, deallocs_run, finds, sent_from, runs_found, field_dropped, fields_dropped, emptied, turned, class_in}
+use Rattle.arc_spec.specs.Objects.{Object, Emptying}
+use Rattle.arc_spec.specs.Meaning.{Deeper, Flow, given, gives_object, answer, function_places, nothing_giving, called, all_executed, variables_dropped, released, temporaries_dropped, all_dropped, function_at, dealloc_run, deallocs_run, fields_dropped, emptied, turned, class_in}
 use Rattle.arc_plain.specs.declared.context.Context.{Context}
 use Rattle.arc_plain.specs.declared.given.Answered.{Answered}
 use Rattle.arc_plain.specs.declared.halt.Halt.{Halt}
-use Rattle.arc_plain.specs.Views.{answer_of, Reports, left_at, function_of, named_in, cleared}
+use Rattle.arc_plain.specs.Views.{answer_of, Reports, left_at, function_of}
 use Rattle.arc_plain.proofs.Keeping.{Waits, Same, Steady, after_done, commands_wait, variables_wait, released_same}
-use Rattle.arc_plain.proofs.Turns.{finds_through, nothing_below, giving_same, giving_other, function_found, function_missing}
+use Rattle.arc_plain.proofs.Turns.{finds_through, giving_same, giving_other, function_found, function_missing}
 
 -- ---- calls
 
@@ -146,29 +145,12 @@ variable_failed D whole first n offset r w between after view other e result one
     ∙ ap (λ v. then_do (released D r v) go) (sym stored) in
     subst (λ x. Reports other x whole after) (sym failed) (finds_through e view other after go (released D r between) whole meant h)
 
--- a temporary whose object fails to end
-pub temporary_failed : {A : Type 0} (D : Deeper) (whole : Outcome Finished) (r : ℕ) (w between after : World) (view other : A → Finished) (e : Halt) (result : Result A Halt)
-    → whole ≡ all_dropped D w → w.frame.temporaries ≡ r ∷ between.frame.temporaries → between ≡ with_temporaries w between.frame.temporaries
-    → result ≡ Err e → Reports view (Err e) (released D r between) after → Reports other result whole after
-temporary_failed D whole r w between after view other e result old last rest failed h =
-    let others = between.frame.temporaries in
-    let go = λ (u : Finished) (w1 : World). temporaries_dropped D others w1 in
-    let meant : whole ≡ then_do (released D r between) go =
-    old ∙ ap (λ l. temporaries_dropped D l w) last ∙ ap (λ v. then_do (released D r v) go) (sym rest) in
-    subst (λ x. Reports other x whole after) (sym failed) (finds_through e view other after go (released D r between) whole meant h)
-
 -- with none left
 pub no_temporary : (D : Deeper) (whole : Outcome Finished) (w after : World) → whole ≡ all_dropped D w → w.frame.temporaries ≡ [] → after ≡ with_temporaries w after.frame.temporaries → after.frame.temporaries ≡ w.frame.temporaries → whole ≡ Done finished after
 no_temporary D whole w after old none rest same =
     old ∙ ap (λ l. temporaries_dropped D l w) none ∙ ap (λ v. Done finished v) (sym (rest ∙ ap (λ l. with_temporaries w l) same))
 
 -- ---- messages and ends of objects
-
--- a message to what isn't nil
-pub object_sent : (D : Deeper) (wanted : Gives) (from : Option ℕ) (self selector : ℕ) (passed : Given) (w : World) → 0 < self
-    → sent_from D wanted from self selector passed w ≡ runs_found D wanted (finds D wanted from signs.Instance selector passed) self selector passed w
-object_sent D wanted from zero selector passed w some = nothing_below some
-object_sent D wanted from (suc k) selector passed w some = refl
 
 module _ (P : Program) (D : Deeper) (bound : ℕ) (all : List declared.Class) (o : ℕ) (classes : P.classes ≡ classes_of all) where
   found_here : (number : ℕ) (c : Option declared.Class) → slice_get all number ≡ c → slice_get P.classes number ≡ option_map class_of c
@@ -180,16 +162,6 @@ module _ (P : Program) (D : Deeper) (bound : ℕ) (all : List declared.Class) (o
   dealloc_here left i number c w one there =
       ap (λ n. deallocs_run P D bound (ancestry_within n (superclasses P.classes) (Some number)) o w) one ∙ deallocs_from P D bound i number o w
       ∙ ap (λ x. dealloc_and_above P D bound x o (λ above w1. deallocs_run P D bound (ancestry_within i (superclasses P.classes) above) o w1) w) (found_here number (Some c) there)
-
-  -- above the root, and above what is no class
-  pub no_class_left : (left : ℕ) (class : Option ℕ) (w : World) → class ≡ None → deallocs_run P D bound (ancestry_within left (superclasses P.classes) class) o w ≡ Done finished w
-  no_class_left left class w none = ap (λ c. deallocs_run P D bound (ancestry_within left (superclasses P.classes) c) o w) none
-
-  pub no_such_class : (left number : ℕ) (w : World) → slice_get all number ≡ None → deallocs_run P D bound (ancestry_within left (superclasses P.classes) (Some number)) o w ≡ Done finished w
-  no_such_class zero number w none = refl
-  no_such_class (suc n) number w none =
-      deallocs_from P D bound n number o w
-      ∙ ap (λ x. dealloc_and_above P D bound x o (λ above w1. deallocs_run P D bound (ancestry_within n (superclasses P.classes) above) o w1) w) (found_here number None none)
 
 -- one class more, whose dealloc and what is above it are known
 layer_run : (P : Program) (D : Deeper) (bound : ℕ) (whole : Outcome Finished) (count i o : ℕ) (class dealloc above : Option ℕ) (w : World) → i < count
@@ -218,30 +190,6 @@ layer_failed P D bound whole count i o class dealloc above w after view other e 
     (finds_through e view other after go (dealloc_run P D bound dealloc o w) whole (layer_run P D bound whole count i o class dealloc above w below old layer) h)
 
 -- ---- fields that are dropped
-
--- a field of an object lets go of what it named
-pub field_let_go : (D : Deeper) (o index r : ℕ) (ob : Option Object) (w between : World) → r ≡ named_in ob index → between ≡ cleared o index ob w → field_dropped D o index ob w ≡ released D r between
-field_let_go D o index r None w between named there = ap (λ v. Done finished v) (sym there) ∙ ap (λ q. released D q between) (sym named)
-field_let_go D o index r (Some ob) w between named there = ap (λ v. released D (name_at ob.strong index) v) (sym there) ∙ ap (λ q. released D q between) (sym named)
-
--- one field more
-pub field_step : (D : Deeper) (whole : Outcome Finished) (order : List ℕ) (i index o r : ℕ) (w between after : World) → i < length order → index ≡ get_or order i index
-    → whole ≡ fields_dropped D (drop i order) o w → r ≡ named_in (object_at w.objects o) index → between ≡ cleared o index (object_at w.objects o) w
-    → released D r between ≡ Done finished after → whole ≡ fields_dropped D (drop (i + 1) order) o after
-field_step D whole order i index o r w between after below is old named there done =
-    old ∙ ap (λ l. fields_dropped D l o w) (drop_more order i index below ∙ ap (λ x. x ∷ drop (i + 1) order) (sym is))
-    ∙ ap (λ x. then_do x (λ _ w1. fields_dropped D (drop (i + 1) order) o w1)) (field_let_go D o index r (object_at w.objects o) w between named there ∙ done)
-
--- a field whose object fails to end
-pub field_failed : {A : Type 0} (D : Deeper) (whole : Outcome Finished) (order : List ℕ) (i index o r : ℕ) (w between after : World) (view other : A → Finished) (e : Halt) (result : Result A Halt)
-    → i < length order → index ≡ get_or order i index → whole ≡ fields_dropped D (drop i order) o w → r ≡ named_in (object_at w.objects o) index → between ≡ cleared o index (object_at w.objects o) w
-    → result ≡ Err e → Reports view (Err e) (released D r between) after → Reports other result whole after
-field_failed D whole order i index o r w between after view other e result below is old named there failed h =
-    let go = λ (u : Finished) (w1 : World). fields_dropped D (drop (i + 1) order) o w1 in
-    let meant : whole ≡ then_do (released D r between) go =
-    old ∙ ap (λ l. fields_dropped D l o w) (drop_more order i index below ∙ ap (λ x. x ∷ drop (i + 1) order) (sym is))
-    ∙ ap (λ x. then_do x go) (field_let_go D o index r (object_at w.objects o) w between named there) in
-    subst (λ x. Reports other x whole after) (sym failed) (finds_through e view other after go (released D r between) whole meant h)
 
 -- the fields of an object of a known class
 abbrev known_class : Option ℕ → ℕ

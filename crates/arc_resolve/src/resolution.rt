@@ -9,7 +9,6 @@ ghost use Rattle.arc_spec.specs.Resolved as spec;
 ghost use Rattle.arc_checked.specs.Checked as checked;
 ghost use Rattle.arc_scope.specs.Kinds as kinds;
 ghost use Rattle.arc_resolve.specs.Resolving as resolving;
-ghost use Rattle.arc_resolve.specs.Resolving.{resolved};
 ghost use Rattle.arc_scope.specs.Views.{local_of};
 
 use arc_ast::tree::{

@@ -1,5 +1,5 @@
 -- Visible variables, and one more.
-use Rattle.std.proofs.Common.{◌≡◌, ℕ, suc, ◌+◌, ◌<◌, Bool, true, false, List, [], ◌∷◌, ◌++◌, length, get_or, take, drop, Option, Some, None, option_map, cond, refl, sym, ap, ◌∙◌}
+use Rattle.std.proofs.Common.{◌≡◌, ℕ, suc, ◌+◌, ◌<◌, Bool, true, false, List, [], ◌∷◌, ◌++◌, length, get_or, take, drop, Option, Some, option_map, cond, refl, sym, ap, ◌∙◌}
 use Rattle.std.proofs.Math.Path.{fun_ext}
 use Rattle.std.specs.Str.{bytes_eq}
 use Rattle.arc_ast.specs.declared.tree.Kind.{Kind}
@@ -19,14 +19,6 @@ use Rattle.arc_scope.proofs.Lists.{drop_turn}
 later-cond : (p : Bool) (a b : Option Local) (n : Local) → later a (cond p (Some n) b) ≡ cond p (Some n) (later a b)
 later-cond true a b n = refl
 later-cond false a b n = refl
-
-pub later-none : (a : Option Local) → later None a ≡ a
-later-none None = refl
-later-none (Some n) = refl
-
-later-assoc : (a b c : Option Local) → later a (later b c) ≡ later (later a b) c
-later-assoc a b None = refl
-later-assoc a b (Some n) = refl
 
 pub local_in-push : (all : List Bound) (b : Bound) (name : List ℕ) → local_in (all ++ b ∷ []) name ≡ bound b.name.now (local_of b.local) (local_in all) name
 local_in-push [] b name = refl
@@ -52,13 +44,6 @@ pub object_is : (table : ClassTable) (old new : Visible) (b : Bound) (class : Op
     → new.names ≡ suc old.names → seen table new ≡ cond (has_place (seen table old)) (with_object b.name.now class (seen table old)) (seen table old)
 object_is table old new b class t c g r o h i n m e =
     rw t (scope_is _ _ _ _ _ _ _ _ _ _ _ _ _ _ _ _ _ (ap (option_map number_of_class) c) g r o h (with_bound old.bound.items new.bound.items b i ∙ ap (λ x. bound b.name.now x (local_in old.bound.items)) n) m e)
-
--- one variable more is looked at
-pub local_turn : (xs : List Bound) (i : ℕ) (x : Bound) (name : List ℕ) (so_far now whole : Option Local) → i < length xs → x ≡ get_or xs i x → now ≡ later so_far (local_at x name) → whole ≡ later so_far (local_in (drop i xs) name)
-    → whole ≡ later now (local_in (drop (i + 1) xs) name)
-local_turn xs i x name so_far now whole l e n w =
-    let rest = local_in (drop (i + 1) xs) name in
-    w ∙ ap (λ us. later so_far (local_in us name)) (drop_turn xs i x l e) ∙ later-assoc so_far (local_at x name) rest ∙ ap (λ a. later a rest) (sym n)
 
 pub parameters_turn : (xs : List Parameter) (i : ℕ) (x : Parameter) (old new whole : Scope) → i < length xs → x ≡ get_or xs i x → new ≡ declare x.name.items (tree.type_tree x.type_name) old → whole ≡ with_parameters old (parameter_trees (drop i xs))
     → whole ≡ with_parameters new (parameter_trees (drop (i + 1) xs))

@@ -40,9 +40,6 @@ use Rattle.arc_tool.proofs.Following.{takes_so, makes_so, read_broke}
 starts_so : (a b : List Event) → IsPrefix a b → Starts (bytes_of a) (bytes_of b)
 starts_so a b p = (bytes_of p.0, ap bytes_of p.1 ∙ bytes_of-append a p.0)
 
-starts_refl : (a : List ℕ) → Starts a a
-starts_refl a = ([], sym (append-nil a))
-
 starts_trans : (a b c : List ℕ) → Starts a b → Starts b c → Starts a c
 starts_trans a b c p q = (p.0 ++ q.0, q.1 ∙ ap (λ t. t ++ q.0) p.1 ∙ append_assoc a p.0 q.0)
 

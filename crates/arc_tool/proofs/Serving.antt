@@ -1,7 +1,5 @@
 -- What the program answers where a stage before the end refuses, or a device fails.
-use Rattle.std.proofs.Common.{◌≡◌, ℕ, List, Option, Some, None, Result, Ok, Err, refl, sym, subst, ⊎_elim}
-use Rattle.arc_code.specs.declared.code.IoFault.{IoFault}
-use Rattle.arc_code.specs.declared.code.IoFault.TheVariants.{Read, Write}
+use Rattle.std.proofs.Common.{◌≡◌, ℕ, List, Option, Result, Err, refl, sym, subst, ⊎_elim}
 use Rattle.arc_code.specs.declared.counted.Counted.{Counted}
 use Rattle.arc_machine.specs.declared.stop.Stop.{Stop}
 use Rattle.arc_tool.specs.declared.refusal.Refusal.{Refusal}
@@ -42,12 +40,6 @@ refused_blamed w W r t becomes = ⊎_elim
     becomes
 
 module _ (r0 r1 w0 w1 : ℕ) (R W : Type 0) where
-  -- a command that reads nothing
-  pub writer_alone : (fault : Option IoFault) → r1 ≡ r0 → Blames fault 0 0 w0 w1 ⊥ W → Blames fault r0 r1 w0 w1 R W
-  writer_alone None same h = (same, h.1)
-  writer_alone (Some Read) same h = absurd h.1
-  writer_alone (Some Write) same h = (same, h.1, h.2)
-
   pub same_device : (f : ToolFault) → Blames (blamed f) r0 r1 w0 w1 R W → Blames (device_of (trouble_of f)) r0 r1 w0 w1 R W
   same_device (Refused r) h = h
   same_device Memory h = h

@@ -2,7 +2,6 @@ use Rattle.std.proofs.Common.{rules, Ok}
 use Rattle.std.proofs.lemmas.Result.{err_from_is_err_and}
 use Rattle.arc_lex.specs.Tokens.{toks}
 use Rattle.arc_ast.specs.Tree.{expr_tree}
-use Rattle.arc_grammar.specs.Grammar.{reads_on, exprs}
 use Rattle.arc_grammar.specs.Grammar as grammar
 use Rattle.arc_parse.proofs.Levels.{one_more, no_operand}
 use Rattle.arc_ast.proofs.Trees.{call_tree, send_tree, send_super_tree}

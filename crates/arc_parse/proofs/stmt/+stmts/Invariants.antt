@@ -10,20 +10,20 @@ decreases-stmt l = 16 * length l.reader.now.rest.now + 6
 abbrev pub decreases-statement : goal.decreases-statement
 decreases-statement l = 16 * length l.reader.now.rest.now + 5
 
-abbrev pub decreases-conditional : goal.decreases-conditional
-decreases-conditional l = 16 * length l.reader.now.rest.now + 3
+abbrev pub decreases-if_else : goal.decreases-if_else
+decreases-if_else l = 16 * length l.reader.now.rest.now + 3
 
 abbrev pub decreases-otherwise : goal.decreases-otherwise
 decreases-otherwise l = 16 * length l.reader.now.rest.now + 9
 
-abbrev pub decreases-repeated : goal.decreases-repeated
-decreases-repeated l = 16 * length l.reader.now.rest.now + 2
+abbrev pub decreases-while_do : goal.decreases-while_do
+decreases-while_do l = 16 * length l.reader.now.rest.now + 2
 
-abbrev pub decreases-repeated_after : goal.decreases-repeated_after
-decreases-repeated_after l = 16 * length l.reader.now.rest.now + 2
+abbrev pub decreases-do_while : goal.decreases-do_while
+decreases-do_while l = 16 * length l.reader.now.rest.now + 2
 
-abbrev pub decreases-stepped : goal.decreases-stepped
-decreases-stepped l = 16 * length l.reader.now.rest.now + 2
+abbrev pub decreases-for_do : goal.decreases-for_do
+decreases-for_do l = 16 * length l.reader.now.rest.now + 2
 
 abbrev pub decreases-branch : goal.decreases-branch
 decreases-branch l = 16 * length l.reader.now.rest.now + 7
