@@ -117,6 +117,7 @@ impl<'a> Source<'a> {
     }
 
     /// The first rule that a node breaks by itself.
+    #[inline(always)]
     fn site_fault(&self, alloc: Global, node: Node) -> Result<Option<ClassFault>, AllocError>
         ensures { Knows (unit_tree self.now.unit.now) self.now → IfOk result (λ fault. option_map reported fault ≡ first (violations (unit_tree self.now.unit.now) InSource (node_of node.entry))) }
     {
