@@ -18,11 +18,11 @@ pub fn type_fault(source: &Source, written: &TypeName) -> Option<ClassFault>
     ensures { Knows (unit_tree source.now.unit.now) source.now → option_map reported result ≡ first (unknown_class (unit_tree source.now.unit.now) (type_tree written.now)) }
 {
     match written {
-        TypeName::Bool | TypeName::Int | TypeName::Long | TypeName::Id => None,
         TypeName::Object(at, name) => {
             let known = class_number(&source.names, name).is_some();
             fault_if(!known, ClassFault::UnknownClass(*at))
         }
+        _ => None,
     }
 }
 
