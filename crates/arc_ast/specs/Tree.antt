@@ -78,8 +78,8 @@ pub record VariableTree : Type 0 where
   pub initial : Option ExprTree
 
 mutual
-  -- A statement, with the place of its first byte (C99, section 6.8). A declaration has the place of its type, and the qualifiers before that. A `for` has what comes before it, as a statement, its test, its step and its body (section
-  -- 6.8.5.3).
+  -- A statement, with the place of its first byte (C99, section 6.8). A declaration has the place of its type, and the qualifiers before that. A `do` is a `While`
+  -- whose test comes after its body (section 6.8.5). A `for` has what comes before it, as a statement, its test, its step and its body (section 6.8.5.3).
   pub data StmtTree : Type 0 where
     Block : ℕ → StmtTrees → StmtTree
     Empty : ℕ → StmtTree
@@ -88,8 +88,7 @@ mutual
     Variables : ℕ → Qualifiers → TypeTree → List VariableTree → StmtTree
     If : ℕ → ExprTree → StmtTree → StmtTree
     IfElse : ℕ → ExprTree → StmtTree → StmtTree → StmtTree
-    While : ℕ → ExprTree → StmtTree → StmtTree
-    Do : ℕ → StmtTree → ExprTree → StmtTree
+    While : ℕ → (tested : Moment) → ExprTree → StmtTree → StmtTree
     For : ℕ → StmtTree → (test step : Option ExprTree) → StmtTree → StmtTree
     Break : ℕ → StmtTree
     Continue : ℕ → StmtTree
@@ -256,8 +255,7 @@ abbrev mutual
   stmt_tree (s.Variables at qualifiers type all) = Variables at qualifiers (type_tree type) (variable_trees all.items)
   stmt_tree (s.If' at c q a) = If at (expr_tree c) (stmt_tree a)
   stmt_tree (s.IfElse' at c q a r b) = IfElse at (expr_tree c) (stmt_tree a) (stmt_tree b)
-  stmt_tree (s.While' at c q a) = While at (expr_tree c) (stmt_tree a)
-  stmt_tree (s.Do' at q a c) = Do at (stmt_tree a) (expr_tree c)
+  stmt_tree (s.While' at moment c q a) = While at moment (expr_tree c) (stmt_tree a)
   stmt_tree (s.For' at q a c e r b) = For at (stmt_tree a) (option_map expr_tree c) (option_map expr_tree e) (stmt_tree b)
   stmt_tree (s.Break at) = Break at
   stmt_tree (s.Continue at) = Continue at

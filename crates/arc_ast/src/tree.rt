@@ -61,8 +61,10 @@ pub enum UnaryOperator {
     Not,
 }
 
-/// Which number of a place an update gives: the one before it, as `++` and `--` do after their operand, or the one after
-/// it, as they do before their operand, and all other updates (C99, sections 6.5.2.4, 6.5.3.1 and 6.5.16.2).
+/// Before something, or after it. Of an update: which number of its place it gives, the one before it, as `++` and `--` do
+/// after their operand, or the one after it, as they do before their operand, and all other updates (C99, sections
+/// 6.5.2.4, 6.5.3.1 and 6.5.16.2). Of a loop: whether its test comes before or after each turn of its body (section
+/// 6.8.5).
 #[derive(Clone, Copy, Debug, PartialEq, Eq)]
 pub enum Moment {
     Before,
@@ -211,9 +213,8 @@ pub enum Stmt {
     Variables(usize, Qualifiers, TypeName, Vec<Variable>),
     If(usize, Expr, Box<Stmt>),
     IfElse(usize, Expr, Box<Stmt>, Box<Stmt>),
-    While(usize, Expr, Box<Stmt>),
-    /// The body, and the test after it.
-    Do(usize, Box<Stmt>, Expr),
+    /// A loop with its test, which comes before its body, and of a `do` after it, and its body.
+    While(usize, Moment, Expr, Box<Stmt>),
     /// What comes before the loop, which is a declaration, an expression or `;` alone, the test and the
     /// step, if they are there, and the body.
     For(usize, Box<Stmt>, Option<Expr>, Option<Expr>, Box<Stmt>),

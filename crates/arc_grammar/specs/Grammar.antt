@@ -26,7 +26,7 @@ use Rattle.arc_ast.specs.declared.tree.UnaryOperator.{UnaryOperator}
 use Rattle.arc_ast.specs.declared.tree.UnaryOperator.TheVariants as unary_operators
 use Rattle.arc_ast.specs.declared.tree.Constant.{Constant}
 use Rattle.arc_ast.specs.declared.tree.Constant.TheVariants as constants
-use Rattle.arc_ast.specs.Tree.{TypeTree, ResultTree, ExprTree, ExprTrees, VariableTree, StmtTree, StmtTrees, ParameterTree, ParametersTree, FunctionTree, GlobalTree, HeadTree, MethodTree, FieldTree, InterfaceTree, ImplementationTree, UnitTree, Boolean, Int, Long, Id, Object, Void, Value, Related, Integer, Text, Paren, Call, Nil, Itself, Name, Unary, Cast, Binary, Conditional, Arrow, Assign, Update, Send, SendSuper, no_exprs, and_expr, Block, Empty, Simple, Return, Variables, If, IfElse, While, Do, For, Break, Continue, no_stmts, and_stmt, Listed, CountAndTexts, begins}
+use Rattle.arc_ast.specs.Tree.{TypeTree, ResultTree, ExprTree, ExprTrees, VariableTree, StmtTree, StmtTrees, ParameterTree, ParametersTree, FunctionTree, GlobalTree, HeadTree, MethodTree, FieldTree, InterfaceTree, ImplementationTree, UnitTree, Boolean, Int, Long, Id, Object, Void, Value, Related, Integer, Text, Paren, Call, Nil, Itself, Name, Unary, Cast, Binary, Conditional, Arrow, Assign, Update, Send, SendSuper, no_exprs, and_expr, Block, Empty, Simple, Return, Variables, If, IfElse, While, For, Break, Continue, no_stmts, and_stmt, Listed, CountAndTexts, begins}
 use Rattle.arc_grammar.specs.declared.limits.TheConstants.{DEEPEST, MOST_TOKENS}
 use Rattle.arc_form.specs.Kinds.{Kinds, none, ◌∪◌, mark, word, at, name, main, other_name, integer, text}
 use Rattle.arc_form.specs.Reader.{Reader, ◌>>=◌, ret, from}
@@ -534,7 +534,7 @@ unfoldable pub if_else : ℕ → Part StmtTree
 if_else d = map (λ (at, (c, (a, b))). if_tree at c a b) (key w.If ⨾ into (d + 1) controlling (call (stmt (d + 1)) ⨾ otherwise d))
 
 unfoldable pub while_do : ℕ → Part StmtTree
-while_do d = map (λ (at, (c, a)). While at c a) (key w.While ⨾ into (d + 1) controlling (call (stmt (d + 1))))
+while_do d = map (λ (at, (c, a)). While at Before c a) (key w.While ⨾ into (d + 1) controlling (call (stmt (d + 1))))
 
 -- what is after the body of a `do`
 unfoldable pub test_after : Part ExprTree
@@ -542,7 +542,7 @@ test_after = map (λ (again, (c, end)). c) (key w.While ⨾ controlling ⨾ the 
 
 -- a body, and the test after it (6.8.5.2)
 unfoldable pub do_while : ℕ → Part StmtTree
-do_while d = map (λ (at, (a, c)). Do at a c) (into (d + 1) (key w.Do) (call (stmt (d + 1)) ⨾ test_after))
+do_while d = map (λ (at, (a, c)). While at After c a) (into (d + 1) (key w.Do) (call (stmt (d + 1)) ⨾ test_after))
 
 -- what comes before a `for`, and is nested as deep: a declaration, an expression or nothing, and `;` (6.8.5.3)
 unfoldable pub beginning : ℕ → Part StmtTree

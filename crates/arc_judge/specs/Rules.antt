@@ -10,7 +10,7 @@ use Rattle.arc_ast.specs.declared.tree.OperatorSort.{OperatorSort}
 use Rattle.arc_ast.specs.declared.tree.OperatorSort.TheVariants.{Arithmetic, Shift, Equality, Logic}
 use Rattle.arc_ast.specs.Types.{type_kind}
 use Rattle.arc_ast.specs.Types as types
-use Rattle.arc_ast.specs.Tree.{TypeTree, ExprTree, ExprTrees, Integer, Text, Paren, Call, Nil, Itself, Name, Unary, Cast, Binary, Conditional, Arrow, Assign, Update, Send, SendSuper, no_exprs, and_expr, place, VariableTree, StmtTree, StmtTrees, Block, Empty, Simple, Return, Variables, If, IfElse, While, Do, For, Break, Continue, no_stmts, and_stmt, ParameterTree, FunctionTree, GlobalTree, HeadTree, MethodTree, UnitTree}
+use Rattle.arc_ast.specs.Tree.{TypeTree, ExprTree, ExprTrees, Integer, Text, Paren, Call, Nil, Itself, Name, Unary, Cast, Binary, Conditional, Arrow, Assign, Update, Send, SendSuper, no_exprs, and_expr, place, VariableTree, StmtTree, StmtTrees, Block, Empty, Simple, Return, Variables, If, IfElse, While, For, Break, Continue, no_stmts, and_stmt, ParameterTree, FunctionTree, GlobalTree, HeadTree, MethodTree, UnitTree}
 use Rattle.arc_ast.specs.declared.tree.Constant.{Constant}
 use Rattle.arc_ast.specs.declared.tree.Constant.TheVariants as constants
 use Rattle.arc_class.specs.Broken.{broken_if, Broken}
@@ -314,8 +314,7 @@ abbrev mutual
   broken_stmt in_loop s (Variables at qualifiers type all) = broken_variables type s all
   broken_stmt in_loop s (If at c a) = broken_test s c ++ broken_stmt in_loop s a
   broken_stmt in_loop s (IfElse at c a b) = broken_test s c ++ (broken_stmt in_loop s a ++ broken_stmt in_loop (leave s (scope_after s a)) b)
-  broken_stmt in_loop s (While at c a) = broken_test s c ++ broken_stmt true s a
-  broken_stmt in_loop s (Do at a c) = broken_test s c ++ broken_stmt true s a
+  broken_stmt in_loop s (While at moment c a) = broken_test s c ++ broken_stmt true s a
   broken_stmt in_loop s (For at a c e b) =
       broken_stmt false s a ++ (broken_clauses (scope_after s a) c e ++ broken_stmt true (scope_after s a) b)
   broken_stmt in_loop s (Break at) = broken_if (not in_loop) at 48

@@ -220,12 +220,7 @@ fn statement<'a>(
             let second = scoped(table, in_loop, visible, other)?;
             Ok(earlier(fault, earlier(first, second)))
         }
-        Stmt::While(_, test, body) => {
-            let fault = test_fault(table, visible, test);
-            let inside = scoped(table, true, visible, body)?;
-            Ok(earlier(fault, inside))
-        }
-        Stmt::Do(_, body, test) => {
+        Stmt::While(_, _, test, body) => {
             let fault = test_fault(table, visible, test);
             let inside = scoped(table, true, visible, body)?;
             Ok(earlier(fault, inside))

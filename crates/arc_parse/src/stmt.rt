@@ -15,7 +15,7 @@ use crate::qualifier::begins_qualifier;
 use crate::simple::{breaking, continuing, empty, returned, simple};
 use crate::type_name::begins_plain_type;
 use crate::variable::{declaration, qualified_declaration};
-use arc_ast::tree::{Expr, Qualifiers, Stmt};
+use arc_ast::tree::{Expr, Moment, Qualifiers, Stmt};
 use arc_form::fail::{Fail, Read};
 use arc_form::made::keep;
 use arc_form::reader::Reader;
@@ -124,7 +124,7 @@ fn while_do(alloc: Global, depth: usize, reader: &mut Reader) -> Read<Stmt>
     let at = reader.keyword(Word::While)?;
     let condition = controlling(alloc, reader)?;
     let body = branch(alloc, depth + 1, reader)?;
-    Ok(Stmt::While(at, Box::into_inner(condition), body))
+    Ok(Stmt::While(at, Moment::Before, Box::into_inner(condition), body))
 }
 
 /// `do`, a body, and the test after it
@@ -138,7 +138,7 @@ fn do_while(alloc: Global, depth: usize, reader: &mut Reader) -> Read<Stmt>
     let at = reader.keyword(Word::Do)?;
     let body = branch(alloc, depth + 1, reader)?;
     let condition = test_after(alloc, reader)?;
-    Ok(Stmt::Do(at, body, Box::into_inner(condition)))
+    Ok(Stmt::While(at, Moment::After, Box::into_inner(condition), body))
 }
 
 /// `for`, its clauses and a body

@@ -4,6 +4,7 @@ use Rattle.std.specs.List.{filter}
 use Rattle.std.specs.Option.{option_map_or}
 use Rattle.std.specs.Str.{bytes_eq}
 use Rattle.arc_ast.specs.declared.tree.Moment.{Moment}
+use Rattle.arc_ast.specs.declared.tree.Moment.TheVariants.{Before, After}
 use Rattle.arc_ast.specs.declared.tree.UnaryOperator.{UnaryOperator}
 use Rattle.arc_ast.specs.declared.tree.UnaryOperator.TheVariants as u
 use Rattle.arc_ast.specs.declared.tree.BinaryOperator.{BinaryOperator}
@@ -20,7 +21,7 @@ use Rattle.arc_ast.specs.declared.tree.Kind.TheVariants as k
 use Rattle.arc_ast.specs.declared.tree.Sign.{Sign}
 use Rattle.arc_ast.specs.declared.tree.Sign.TheVariants as signs
 use Rattle.arc_ast.specs.Tree as tree
-use Rattle.arc_ast.specs.Tree.{TypeTree, GlobalTree, ExprTree, ExprTrees, Integer, Text, Paren, Call, Name, Unary, Cast, Binary, Conditional, Arrow, Assign, Update, Send, SendSuper, no_exprs, and_expr, VariableTree, StmtTree, StmtTrees, Block, Empty, Simple, Variables, If, IfElse, While, Do, For, no_stmts, and_stmt, FunctionTree, MethodTree, UnitTree}
+use Rattle.arc_ast.specs.Tree.{TypeTree, GlobalTree, ExprTree, ExprTrees, Integer, Text, Paren, Call, Name, Unary, Cast, Binary, Conditional, Arrow, Assign, Update, Send, SendSuper, no_exprs, and_expr, VariableTree, StmtTree, StmtTrees, Block, Empty, Simple, Variables, If, IfElse, While, For, no_stmts, and_stmt, FunctionTree, MethodTree, UnitTree}
 use Rattle.arc_spec.specs.Classes.{gives_of}
 use Rattle.arc_spec.specs.declared.location.Location.TheVariants.{Local}
 use Rattle.arc_spec.specs.Number as number
@@ -308,7 +309,12 @@ with_loop before inside first loop = Sequence before.names (inside.names - befor
 abbrev pub returned : Kind → Resolution → Command
 returned kind a = if is_object (Some kind) then Give (object_in a) else Return (Some (converted kind a))
 
--- A statement. A block's own variables that name objects are those that got their numbers in it. A `while` is a loop whose step does nothing.
+-- a loop with its test before or after each turn of its body (C99, section 6.8.5); where the test is before, the step does nothing
+abbrev pub looped : Moment → (test : Value) → (body : Command) → Command
+looped Before test body = Repeat test nothing body
+looped After test body = RepeatAfter body test
+
+-- A statement. A block's own variables that name objects are those that got their numbers in it.
 abbrev mutual
   pub resolved_stmt : Scope → StmtTree → Command
   resolved_stmt s (Block at all) = Sequence s.names ((scope_after_all s all).names - s.names) (resolved_stmts s all)
@@ -318,8 +324,7 @@ abbrev mutual
   resolved_stmt s (Variables at qualifiers type all) = Sequence 0 0 (resolved_variables type s all)
   resolved_stmt s (If at c a) = Choose (number_in (resolved s c)) (resolved_stmt s a) nothing
   resolved_stmt s (IfElse at c a b) = Choose (number_in (resolved s c)) (resolved_stmt s a) (resolved_stmt (leave s (scope_after s a)) b)
-  resolved_stmt s (While at c a) = Repeat (number_in (resolved s c)) nothing (resolved_stmt s a)
-  resolved_stmt s (Do at a c) = RepeatAfter (resolved_stmt s a) (number_in (resolved s c))
+  resolved_stmt s (While at moment c a) = looped moment (number_in (resolved s c)) (resolved_stmt s a)
   resolved_stmt s (For at a c e b) =
       with_loop s (scope_after s a) (resolved_stmt s a) (Repeat (tested (scope_after s a) c) (stepped (scope_after s a) e) (resolved_stmt (scope_after s a) b))
   resolved_stmt s (tree.Break at) = Break

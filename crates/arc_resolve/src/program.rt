@@ -16,7 +16,7 @@ ghost use Rattle.arc_scope.specs.Views.{known_in, seen};
 use crate::resolution::{Resolution, number_in};
 use crate::resolve::{expression, number_as, object};
 use arc_ast::tree::{
-    Expr, Function, Implementation, Kind, Method, Parameter, Stmt, TypeName, Variable,
+    Expr, Function, Implementation, Kind, Method, Moment, Parameter, Stmt, TypeName, Variable,
 };
 use arc_checked::program::{CheckedFunction, Command, Value};
 use arc_class::table::{ClassId, ClassTable};
@@ -312,43 +312,30 @@ fn chosen<'a>(
     Ok(Command::Choose(test, then, other))
 }
 
-/// A resolved loop.
+/// A resolved loop, which is tested before or after each turn of its body.
 #[cycle(commands)]
 fn repeated<'a>(
     alloc: Global,
     table: &ClassTable<'a>,
     visible: &mut Visible<'a>,
+    moment: Moment,
     condition: &'a Expr,
     body: &'a Stmt,
 ) -> Result<Command, AllocError>
     ensures command { IfOk result (λ new. checked.command new
-        ≡ Repeat (resolving.number_in (resolving.resolved (seen table.now visible.old) (expr_tree condition.now))) resolving.nothing (resolved_stmt (seen table.now visible.old) (stmt_tree body.now))) }
+        ≡ resolving.looped moment (resolving.number_in (resolving.resolved (seen table.now visible.old) (expr_tree condition.now))) (resolved_stmt (seen table.now visible.old) (stmt_tree body.now))) }
     ensures scope { OnOk result (seen table.now visible.new ≡ leave (seen table.now visible.old) (scope_after (seen table.now visible.old) (stmt_tree body.now))) }
     ensures keeps { OnOk result (visible.new.bound.items ≡ visible.old.bound.items) }
 {
     let test = test(alloc, table, visible, condition)?;
     let body = scoped(alloc, table, visible, body)?;
-    let step = Box::new(alloc, nothing(alloc))?;
-    Ok(Command::Repeat(test, step, body))
-}
-
-/// A resolved loop that begins with its body.
-#[cycle(commands)]
-fn repeated_after<'a>(
-    alloc: Global,
-    table: &ClassTable<'a>,
-    visible: &mut Visible<'a>,
-    condition: &'a Expr,
-    body: &'a Stmt,
-) -> Result<Command, AllocError>
-    ensures command { IfOk result (λ new. checked.command new
-        ≡ RepeatAfter (resolved_stmt (seen table.now visible.old) (stmt_tree body.now)) (resolving.number_in (resolving.resolved (seen table.now visible.old) (expr_tree condition.now)))) }
-    ensures scope { OnOk result (seen table.now visible.new ≡ leave (seen table.now visible.old) (scope_after (seen table.now visible.old) (stmt_tree body.now))) }
-    ensures keeps { OnOk result (visible.new.bound.items ≡ visible.old.bound.items) }
-{
-    let test = test(alloc, table, visible, condition)?;
-    let body = scoped(alloc, table, visible, body)?;
-    Ok(Command::RepeatAfter(body, test))
+    match moment {
+        Moment::Before => {
+            let step = Box::new(alloc, nothing(alloc))?;
+            Ok(Command::Repeat(test, step, body))
+        }
+        Moment::After => Ok(Command::RepeatAfter(body, test)),
+    }
 }
 
 /// The resolved loop of a `for`, without what comes before it.
@@ -423,8 +410,9 @@ fn command<'a>(
         Stmt::IfElse(_, condition, then, other) => {
             chosen(alloc, table, visible, condition, then, other)
         }
-        Stmt::While(_, condition, body) => repeated(alloc, table, visible, condition, body),
-        Stmt::Do(_, body, condition) => repeated_after(alloc, table, visible, condition, body),
+        Stmt::While(_, moment, condition, body) => {
+            repeated(alloc, table, visible, *moment, condition, body)
+        }
         Stmt::For(_, beginning, test, step, body) => {
             stepped(alloc, table, visible, beginning, test, step, body)
         }

@@ -1,7 +1,7 @@
 -- Where a scope stands stays the same after its statements.
 use Rattle.std.proofs.Common.{◌≡◌, ℕ, Bool, true, false, List, [], ◌∷◌, option_map, refl, ap, ◌∙◌}
 use Rattle.arc_ast.specs.Tree as tree
-use Rattle.arc_ast.specs.Tree.{TypeTree, VariableTree, StmtTree, StmtTrees, Block, Empty, Simple, Return, Variables, If, IfElse, While, Do, For, Break, Continue, no_stmts, and_stmt}
+use Rattle.arc_ast.specs.Tree.{TypeTree, VariableTree, StmtTree, StmtTrees, Block, Empty, Simple, Return, Variables, If, IfElse, While, For, Break, Continue, no_stmts, and_stmt}
 use Rattle.arc_class.specs.declared.table.ClassTable.{ClassTable}
 use Rattle.arc_class.specs.Table.{number_of_class}
 use Rattle.arc_scope.specs.declared.scope.Visible.{Visible}
@@ -49,8 +49,7 @@ after_same s (Return at a) = same s
 after_same s (Variables at qualifiers type all) = variables_same type s all
 after_same s (If at c a) = record { class = refl; sign = refl; result = refl; owns = refl; hidden = refl }
 after_same s (IfElse at c a b) = record { class = refl; sign = refl; result = refl; owns = refl; hidden = refl }
-after_same s (While at c a) = record { class = refl; sign = refl; result = refl; owns = refl; hidden = refl }
-after_same s (Do at a c) = record { class = refl; sign = refl; result = refl; owns = refl; hidden = refl }
+after_same s (While at moment c a) = record { class = refl; sign = refl; result = refl; owns = refl; hidden = refl }
 after_same s (For at a c e b) = record { class = refl; sign = refl; result = refl; owns = refl; hidden = refl }
 after_same s (Break at) = same s
 after_same s (Continue at) = same s

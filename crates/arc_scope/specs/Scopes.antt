@@ -9,7 +9,7 @@ use Rattle.arc_ast.specs.declared.tree.Sign.TheVariants as signs
 use Rattle.arc_ast.specs.declared.tree.Visibility.{Visibility}
 use Rattle.arc_ast.specs.declared.tree.Visibility.TheVariants as v
 use Rattle.arc_ast.specs.Tree as tree
-use Rattle.arc_ast.specs.Tree.{TypeTree, ExprTree, Paren, Call, Nil, Cast, Conditional, Itself, Name, Arrow, Assign, Send, SendSuper, VariableTree, StmtTree, StmtTrees, Block, Variables, If, IfElse, While, Do, For, no_stmts, and_stmt, ParameterTree, HeadTree}
+use Rattle.arc_ast.specs.Tree.{TypeTree, ExprTree, Paren, Call, Nil, Cast, Conditional, Itself, Name, Arrow, Assign, Send, SendSuper, VariableTree, StmtTree, StmtTrees, Block, Variables, If, IfElse, While, For, no_stmts, and_stmt, ParameterTree, HeadTree}
 use Rattle.arc_ast.specs.Types as types
 use Rattle.arc_spec.specs.Classes.{same_sign}
 use Rattle.arc_spec.specs.Families.{method_family, is_init}
@@ -109,8 +109,7 @@ abbrev mutual
   scope_after s (Variables at qualifiers type all) = with_variables type s all
   scope_after s (If at c a) = leave s (scope_after s a)
   scope_after s (IfElse at c a b) = leave s (scope_after (leave s (scope_after s a)) b)
-  scope_after s (While at c a) = leave s (scope_after s a)
-  scope_after s (Do at a c) = leave s (scope_after s a)
+  scope_after s (While at moment c a) = leave s (scope_after s a)
   scope_after s (For at a c e b) = leave s (scope_after (scope_after s a) b)
   scope_after s _ = s
 

@@ -2,7 +2,7 @@
 use Rattle.std.specs.Prelude.{ℕ, List, [], ◌∷◌, ◌++◌, flat_map, Option, Some, None}
 use Rattle.std.specs.Option.{option_map_or}
 use Rattle.arc_ast.specs.declared.tree.Qualifiers.{Qualifiers}
-use Rattle.arc_ast.specs.Tree.{TypeTree, ExprTree, ExprTrees, Paren, Call, Unary, Cast, Binary, Conditional, Arrow, Assign, Update, Send, SendSuper, no_exprs, and_expr, VariableTree, StmtTree, StmtTrees, Block, Empty, Simple, Return, Variables, If, IfElse, While, Do, For, Break, Continue, no_stmts, and_stmt, ParameterTree, ParametersTree, Listed, CountAndTexts, FunctionTree, GlobalTree, FieldTree, HeadTree, MethodTree, InterfaceTree, ImplementationTree, UnitTree}
+use Rattle.arc_ast.specs.Tree.{TypeTree, ExprTree, ExprTrees, Paren, Call, Unary, Cast, Binary, Conditional, Arrow, Assign, Update, Send, SendSuper, no_exprs, and_expr, VariableTree, StmtTree, StmtTrees, Block, Empty, Simple, Return, Variables, If, IfElse, While, For, Break, Continue, no_stmts, and_stmt, ParameterTree, ParametersTree, Listed, CountAndTexts, FunctionTree, GlobalTree, FieldTree, HeadTree, MethodTree, InterfaceTree, ImplementationTree, UnitTree}
 
 -- ---- what surrounds a node
 
@@ -81,8 +81,7 @@ abbrev mutual
   within m (Variables at qualifiers type all) = variable_sites m qualifiers type all
   within m (If at c a) = sites m c ++ (site m (Statement a) ++ within m a)
   within m (IfElse at c a b) = sites m c ++ ((site m (Statement a) ++ within m a) ++ (site m (Statement b) ++ within m b))
-  within m (While at c a) = sites m c ++ (site m (Statement a) ++ within m a)
-  within m (Do at a c) = (site m (Statement a) ++ within m a) ++ sites m c
+  within m (While at moment c a) = sites m c ++ (site m (Statement a) ++ within m a)
   within m (For at a c e b) = (site m (Statement a) ++ within m a) ++ (maybe_sites m c ++ (maybe_sites m e ++ (site m (Statement b) ++ within m b)))
   within m (Break at) = []
   within m (Continue at) = []

@@ -169,13 +169,9 @@ fn within<V: Visitor>(visitor: &mut V, enclosing: Enclosing, stmt: &Stmt) -> Res
             statement(visitor, enclosing, then)?;
             statement(visitor, enclosing, other)
         }
-        Stmt::While(_, test, body) => {
+        Stmt::While(_, _, test, body) => {
             expression(visitor, enclosing, test)?;
             statement(visitor, enclosing, body)
-        }
-        Stmt::Do(_, body, test) => {
-            statement(visitor, enclosing, body)?;
-            expression(visitor, enclosing, test)
         }
         Stmt::For(_, beginning, test, step, body) => {
             statement(visitor, enclosing, beginning)?;

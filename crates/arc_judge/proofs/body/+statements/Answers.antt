@@ -65,13 +65,6 @@ statement-returns-in_ok-inside-in-While-clause-fault t c =
     let inside : option_map reported c.in_ok-inside-in-While.inside ≡ first A = rw c.deref-in-While.ensures at c.in_ok-inside-in-While.ensures.fault in
     rw c.in-While.is (first_both (broken_test s (expr_tree c.in-While.test)) A (option_map reported c.test_fault-fault-in-While.result) (option_map reported c.in_ok-inside-in-While.inside) (option_map reported c.earlier-in-While.result) c.test_fault-fault-in-While.ensures inside c.earlier-in-While.ensures)
 
-pub statement-returns-in_ok-inside-in-Do-clause-fault : goal.statement-returns-in_ok-inside-in-Do-clause-fault
-statement-returns-in_ok-inside-in-Do-clause-fault t c =
-    let s = seen c.args.table.now c.args.visible.now in
-    let A = broken_stmt true s (stmt_tree c.in-Do.body.value) in
-    let inside : option_map reported c.in_ok-inside-in-Do.inside ≡ first A = rw c.deref-in-Do.ensures at c.in_ok-inside-in-Do.ensures.fault in
-    rw c.in-Do.is (first_both (broken_test s (expr_tree c.in-Do.test)) A (option_map reported c.test_fault-fault-in-Do.result) (option_map reported c.in_ok-inside-in-Do.inside) (option_map reported c.earlier-in-Do.result) c.test_fault-fault-in-Do.ensures inside c.earlier-in-Do.ensures)
-
 pub statement-returns-in-For-clause-fault : goal.statement-returns-in-For-clause-fault
 statement-returns-in-For-clause-fault t c = rw c.in-For.is (rw (c.deref-in-For.ensures, c.deref-in-For-2.ensures) at c.stepped.ensures.fault)
 
@@ -158,12 +151,6 @@ statement-returns-in_ok-inside-in-While-clause-scope t c = rw c.in-While.is (rw 
 
 pub statement-returns-in_ok-inside-in-While-clause-keeps : goal.statement-returns-in_ok-inside-in-While-clause-keeps
 statement-returns-in_ok-inside-in-While-clause-keeps t c = keeps_same c.args.visible.now.bound.items _ c.in_ok-inside-in-While.ensures.keeps
-
-pub statement-returns-in_ok-inside-in-Do-clause-scope : goal.statement-returns-in_ok-inside-in-Do-clause-scope
-statement-returns-in_ok-inside-in-Do-clause-scope t c = rw c.in-Do.is (rw c.deref-in-Do.ensures at c.in_ok-inside-in-Do.ensures.scope)
-
-pub statement-returns-in_ok-inside-in-Do-clause-keeps : goal.statement-returns-in_ok-inside-in-Do-clause-keeps
-statement-returns-in_ok-inside-in-Do-clause-keeps t c = keeps_same c.args.visible.now.bound.items _ c.in_ok-inside-in-Do.ensures.keeps
 
 pub statement-returns-in-Break-clause-keeps : goal.statement-returns-in-Break-clause-keeps
 statement-returns-in-Break-clause-keeps t c = keeps_same c.args.visible.now.bound.items _ refl

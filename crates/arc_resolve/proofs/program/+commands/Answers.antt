@@ -79,12 +79,6 @@ repeated-returns-clause-scope t c = c.in_ok-body.ensures.scope
 pub repeated-returns-clause-keeps : goal.repeated-returns-clause-keeps
 repeated-returns-clause-keeps t c = c.in_ok-body.ensures.keeps
 
-pub repeated_after-returns-clause-scope : goal.repeated_after-returns-clause-scope
-repeated_after-returns-clause-scope t c = c.in_ok-body.ensures.scope
-
-pub repeated_after-returns-clause-keeps : goal.repeated_after-returns-clause-keeps
-repeated_after-returns-clause-keeps t c = c.in_ok-body.ensures.keeps
-
 pub turns-returns-clause-command : goal.turns-returns-clause-command
 turns-returns-clause-command t c =
     let s = seen c.args.table.now c.args.visible.now in
@@ -188,15 +182,6 @@ command-returns-in-While-clause-scope t c = rw c.in-While.is (rw c.deref-in-Whil
 
 pub command-returns-in-While-clause-keeps : goal.command-returns-in-While-clause-keeps
 command-returns-in-While-clause-keeps t c = on_ok_weaker c.repeated.result (keeps_same c.args.visible.now.bound.items c.repeated.new.visible.bound.items) c.repeated.ensures.keeps
-
-pub command-returns-in-Do-clause-command : goal.command-returns-in-Do-clause-command
-command-returns-in-Do-clause-command t c = rw c.in-Do.is (rw c.deref-in-Do.ensures at c.repeated_after.ensures.command)
-
-pub command-returns-in-Do-clause-scope : goal.command-returns-in-Do-clause-scope
-command-returns-in-Do-clause-scope t c = rw c.in-Do.is (rw c.deref-in-Do.ensures at c.repeated_after.ensures.scope)
-
-pub command-returns-in-Do-clause-keeps : goal.command-returns-in-Do-clause-keeps
-command-returns-in-Do-clause-keeps t c = on_ok_weaker c.repeated_after.result (keeps_same c.args.visible.now.bound.items c.repeated_after.new.visible.bound.items) c.repeated_after.ensures.keeps
 
 pub command-returns-in-For-clause-command : goal.command-returns-in-For-clause-command
 command-returns-in-For-clause-command t c = rw c.in-For.is (rw (c.deref-in-For.ensures, c.deref-in-For-2.ensures) at c.stepped.ensures.command)

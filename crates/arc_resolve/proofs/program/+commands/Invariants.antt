@@ -29,9 +29,6 @@ decreases-chosen l = 4 * max (size-Stmt l.then.now) (size-Stmt l.other.now) + 2
 abbrev pub decreases-repeated : goal.decreases-repeated
 decreases-repeated l = 4 * size-Stmt l.body.now + 2
 
-abbrev pub decreases-repeated_after : goal.decreases-repeated_after
-decreases-repeated_after l = 4 * size-Stmt l.body.now + 2
-
 abbrev pub decreases-turns : goal.decreases-turns
 decreases-turns l = 4 * size-Stmt l.body.now + 2
 

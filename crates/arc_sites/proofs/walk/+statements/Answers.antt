@@ -18,11 +18,6 @@ within-returns-in_ok-expression-in-While-clause-found g t c =
     let m = enclosing_of c.args.enclosing in
     rw c.in-While.is (on_ok_weaker c.statement-in-While.result (found_both _ _ _ _ _ (sites.sites m (expr_tree c.in-While.test)) (stmt_sites m (stmt_tree c.in-While.body.value)) c.in_ok-expression-in-While.ensures.same c.in_ok-expression-in-While.ensures.found) (rw c.deref-in-While.ensures at c.statement-in-While.ensures.found))
 
-pub within-returns-in_ok-statement-in-Do-clause-found : goal.within-returns-in_ok-statement-in-Do-clause-found
-within-returns-in_ok-statement-in-Do-clause-found g t c =
-    let m = enclosing_of c.args.enclosing in
-    rw c.in-Do.is (on_ok_weaker c.expression-in-Do.result (found_both _ _ _ _ _ (stmt_sites m (stmt_tree c.in-Do.body.value)) (sites.sites m (expr_tree c.in-Do.test)) c.in_ok-statement-in-Do.ensures.same (rw c.deref-in-Do.ensures at c.in_ok-statement-in-Do.ensures.found)) c.expression-in-Do.ensures.found)
-
 pub within-returns-in_ok-maybe-in-For-2-clause-found : goal.within-returns-in_ok-maybe-in-For-2-clause-found
 within-returns-in_ok-maybe-in-For-2-clause-found g t c =
     let m = enclosing_of c.args.enclosing in
