@@ -56,18 +56,6 @@ holders_some o (suc d) (p ∷ others) e =
     let more = holders_more o p others in
     omega arith
 
--- a place names another
-pub holders_less : (o other d : ℕ) (places : List ℕ) → slice_get places d ≡ Some other → o ≢ other → holders o places < length places
-holders_less o other d [] e ne = absurd (cc)
-holders_less o other zero (p ∷ others) e ne =
-    let same : p ≡ other = cc in
-    let count = holders_other o p others (λ eq. ne (eq ∙ same)) in
-    let rest = holders_within o others in
-    subst (λ n. n < suc (length others)) (sym count) (omega arith)
-holders_less o other (suc d) (p ∷ others) e ne =
-    let less = counted_less (nat_eq o p) (holders o others) (length others) (holders_less o other d others e ne) in
-    omega arith
-
 -- one of them names it
 pub holders_at : (o : ℕ) (places : List ℕ) → 0 < holders o places → (d : ℕ) × (slice_get places d ≡ Some o)
 holders_at o [] some = absurd (omega (arith, some))
