@@ -1,7 +1,6 @@
 -- The first that a name is declared with.
 use Rattle.std.proofs.Common.{◌≡◌, ℕ, Bool, true, false, List, [], ◌∷◌, ◌++◌, Option, Some, None, is_some, option_map, if◌then◌else◌, refl, sym, ap, ◌∙◌, true≢false}
 use Rattle.std.specs.Str.{bytes_eq}
-use Rattle.std.proofs.lemmas.Slice.Eq.{bytes_eq-Decides}
 use Rattle.arc_ast.specs.declared.tree.Sign.{Sign}
 use Rattle.arc_ast.specs.Tree.{HeadTree}
 use Rattle.arc_class.specs.Classes.{is_method, first_head}
@@ -53,18 +52,6 @@ kept_map f old new name value sought e = ap (option_map f) e ∙ map_or f old (o
 pub none_is : {X : Type 0} (o : Option X) → is_some o ≡ false → o ≡ None
 none_is None e = refl
 none_is (Some a) e = absurd (true≢false e)
-
--- what has a value at a name keeps it
-pub stays_kept : {X : Type 0} (old : List ℕ → Option X) (name : List ℕ) (value : X) (sought : List ℕ) → is_some (old name) ≡ true → old sought ≡ or_else (old sought) (one_at name value sought)
-stays_kept {X} old name value sought some = go (bytes_eq sought name) refl
-  where
-    or_some : (o other : Option X) → is_some o ≡ true → o ≡ or_else o other
-    or_some None other h = absurd (true≢false (sym h))
-    or_some (Some a) other h = refl
-
-    go : (b : Bool) → bytes_eq sought name ≡ b → old sought ≡ or_else (old sought) (if b then Some value else None)
-    go true e = or_some (old sought) (Some value) (ap (λ n. is_some (old n)) ((bytes_eq-Decides sought name).0 e) ∙ some)
-    go false e = sym (or_none (old sought))
 
 pub first_head-append : (sign : Sign) (selector : List ℕ) (xs ys : List HeadTree) → first_head sign selector (xs ++ ys) ≡ or_else (first_head sign selector xs) (first_head sign selector ys)
 first_head-append sign selector [] ys = refl

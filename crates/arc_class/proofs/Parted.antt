@@ -149,9 +149,6 @@ pub blank_none : {X : Type 0} (parts : List (BTreeMap (Bor (List ℕ)) X)) → B
 blank_none [] h = refl
 blank_none (p ∷ parts) h = ap (λ es. es ++ all_parts parts) (h 0 p refl) ∙ blank_none parts (λ i part e. h (suc i) part e)
 
-pub blank_placed : {X : Type 0} (parts : List (BTreeMap (Bor (List ℕ)) X)) → Blank parts → IsPlaced parts
-blank_placed parts h i part e name = inr (ap (λ es. at_name es name) (h i part e))
-
 pub blank_more : {X : Type 0} (parts : List (BTreeMap (Bor (List ℕ)) X)) (new : BTreeMap (Bor (List ℕ)) X) → new.entries ≡ [] → Blank parts → Blank (parts ++ new ∷ [])
 blank_more [] new n h zero part e = ap (λ o. entries_or o) (sym e) ∙ n
   where

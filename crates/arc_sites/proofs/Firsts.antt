@@ -28,33 +28,6 @@ earlier_of-assoc (Some a) None c = refl
 earlier_of-assoc (Some a) (Some b) None = refl
 earlier_of-assoc (Some a) (Some b) (Some c) = ap Some (earlier-assoc a b c)
 
--- the earlier of two is that in either order
-not_both : (a b : Violation) → is_before a b ≡ true → is_before b a ≡ false
-not_both a b p = grind (arith, nat_tests)
-
-same_place : (a b : Violation) → is_before a b ≡ false → is_before b a ≡ false → a.at ≡ b.at
-same_place a b p q = grind (arith, nat_tests)
-
-same_number : (a b : Violation) → is_before a b ≡ false → is_before b a ≡ false → a.number ≡ b.number
-same_number a b p q = grind (arith, nat_tests)
-
-same : (a b : Violation) → is_before a b ≡ false → is_before b a ≡ false → a ≡ b
-same a b p q = rw (same_place a b p q, same_number a b p q) refl
-
-earlier-comm : (a b : Violation) → earlier a b ≡ earlier b a
-earlier-comm a b = go (is_before b a) (is_before a b) refl refl
-  where
-    go : (p q : Bool) → is_before b a ≡ p → is_before a b ≡ q → earlier a b ≡ earlier b a
-    go true q p e = rw (p, not_both b a p) refl
-    go false true p e = rw (p, e) refl
-    go false false p e = rw (p, e) (same a b e p)
-
-pub earlier_of-comm : (a b : Option Violation) → earlier_of a b ≡ earlier_of b a
-earlier_of-comm None None = refl
-earlier_of-comm None (Some b) = refl
-earlier_of-comm (Some a) None = refl
-earlier_of-comm (Some a) (Some b) = ap Some (earlier-comm a b)
-
 pub earlier_of-none : (a : Option Violation) → earlier_of a None ≡ a
 earlier_of-none None = refl
 earlier_of-none (Some a) = refl

@@ -1,6 +1,5 @@
 -- What is found at some sites is the first of all that is violated there.
-use Rattle.std.proofs.Common.{◌≡◌, ℕ, ◌+◌, ◌<◌, ◌≤◌, List, [], ◌∷◌, ◌++◌, length, get_or, drop, drop-cons, add-one, Option, refl, sym, ap, ◌∙◌}
-use Rattle.std.proofs.lemmas.List.{drop_all}
+use Rattle.std.proofs.Common.{◌≡◌, ℕ, ◌+◌, ◌<◌, List, [], ◌∷◌, ◌++◌, length, get_or, drop, drop-cons, add-one, Option, refl, sym, ap, ◌∙◌}
 use Rattle.arc_sites.specs.declared.violation.Violation.{Violation}
 use Rattle.arc_sites.specs.Violations.{first, earlier_of}
 use Rattle.arc_sites.specs.Sites.{Enclosing, Node, Site}
@@ -38,8 +37,3 @@ turn rules now_rules all_of one rest xs i x so_far now whole s r l e n w =
 pub found_three : (rules second third : Enclosing → Node → List Violation) (before mid then now : Option Violation) (xs ys zs : List Site)
     → second ≡ rules → third ≡ second → mid ≡ found_from rules before xs → then ≡ found_from second mid ys → now ≡ found_from third then zs → now ≡ found_from rules before (xs ++ (ys ++ zs))
 found_three rules second third before mid then now xs ys zs s t m n o = found_both rules second before mid now xs (ys ++ zs) s m (found_both second third mid then now ys zs t n o)
-
--- at the end of a list the rest has no sites
-pub ended : {A : Type 0} (rules : Enclosing → Node → List Violation) (all_of : List A → List Site) (xs : List A) (i : ℕ) (now whole : Option Violation)
-    → all_of [] ≡ [] → length xs ≤ i → whole ≡ found_from rules now (all_of (drop i xs)) → now ≡ whole
-ended rules all_of xs i now whole s l w = sym (w ∙ ap (λ us. found_from rules now (all_of us)) (drop_all i xs l) ∙ ap (found_from rules now) s)
