@@ -73,12 +73,6 @@ chosen_or_nothing-returns-clause-scope t c = c.in_ok-then.ensures.scope
 pub chosen_or_nothing-returns-clause-keeps : goal.chosen_or_nothing-returns-clause-keeps
 chosen_or_nothing-returns-clause-keeps t c = c.in_ok-then.ensures.keeps
 
-pub repeated-returns-clause-scope : goal.repeated-returns-clause-scope
-repeated-returns-clause-scope t c = c.in_ok-body.ensures.scope
-
-pub repeated-returns-clause-keeps : goal.repeated-returns-clause-keeps
-repeated-returns-clause-keeps t c = c.in_ok-body.ensures.keeps
-
 pub turns-returns-clause-command : goal.turns-returns-clause-command
 turns-returns-clause-command t c =
     let s = seen c.args.table.now c.args.visible.now in
