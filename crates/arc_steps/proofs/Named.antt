@@ -19,22 +19,9 @@ all_at P xs i x found all = subst P (get_or_from_slice_get xs i x x found) (All-
 
 -- ---- how many places name an object
 
-holders_step : (b : Bool) (m n : ℕ) → m ≤ n → (if b then suc m else m) ≤ suc n
-holders_step true m n h = omega (arith, h)
-holders_step false m n h = omega (arith, h)
-
 counted_more : (t : Bool) (n : ℕ) → n ≤ (if t then suc n else n)
 counted_more true n = omega arith
 counted_more false n = omega arith
-
-counted_less : (t : Bool) (n m : ℕ) → n < m → (if t then suc n else n) < suc m
-counted_less true n m h = omega arith
-counted_less false n m h = omega arith
-
--- no more places name an object than there are
-pub holders_within : (o : ℕ) (places : List ℕ) → holders o places ≤ length places
-holders_within o [] = omega arith
-holders_within o (p ∷ others) = holders_step (nat_eq o p) (holders o others) (length others) (holders_within o others)
 
 pub holders_same : (o : ℕ) (others : List ℕ) → holders o (o ∷ others) ≡ suc (holders o others)
 holders_same o others = ap (λ t. if t then suc (holders o others) else holders o others) (eq-eqb o o refl)
