@@ -121,10 +121,9 @@ pub enum Command {
     Give(Reference),
     /// The first where the value isn't 0, else the second.
     Choose(Value, Box<Command>, Box<Command>),
-    /// Again and again, while the value isn't 0: the body, which is the last one, and then the step.
-    Repeat(Value, Box<Command>, Box<Command>),
-    /// The body, and again while the value isn't 0.
-    RepeatAfter(Box<Command>, Value),
+    /// Again and again, while the value, which is asked for before or after each turn, isn't 0: the body, which is the last one,
+    /// and then the step.
+    Repeat(Moment, Value, Box<Command>, Box<Command>),
     Break,
     Continue,
 }

@@ -17,7 +17,7 @@ ghost use Rattle.arc_class.specs.private.Scopes.{holds};
 use crate::fault::fault_if;
 use crate::fields::{ClassFields, counted_among, field_places, fields_fault};
 use crate::kept::Source;
-use crate::look::{is_library, listed, same_parameters};
+use crate::look::{is_library, same_parameters};
 use crate::methods::methods_fault;
 use crate::owners::Owners;
 use crate::scopes::{Scope, stands};
@@ -25,6 +25,7 @@ use crate::table::{Place, Variable, at_name, class_number, is_root};
 use arc_ast::tree;
 use arc_ast::tree::{Function, Implementation, Interface};
 use arc_fault::class::ClassFault;
+use arc_sites::parameter::named_parameters;
 use arc_sites::violation::earlier;
 use std::alloc::{AllocError, Global};
 
@@ -67,7 +68,10 @@ fn other_parameters(first: Option<&Function>, function: &Function) -> bool
 {
     match first {
         None => false,
-        Some(first) => !same_parameters(listed(&first.parameters), listed(&function.parameters)),
+        Some(first) => !same_parameters(
+            named_parameters(&first.parameters),
+            named_parameters(&function.parameters),
+        ),
     }
 }
 

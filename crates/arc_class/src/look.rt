@@ -79,16 +79,6 @@ pub(crate) fn is_library(name: &[u8]) -> bool
     name == b"printf".as_slice() || name == b"getchar".as_slice()
 }
 
-/// The parameters that are listed.
-pub(crate) fn listed(parameters: &Parameters) -> &[Parameter]
-    ensures { parameter_trees result.now ≡ named_parameters (parameters_tree parameters.now) }
-{
-    match parameters {
-        Parameters::Listed(all) => all,
-        Parameters::CountAndTexts => &[],
-    }
-}
-
 /// How many parameters a function has, where they are listed.
 fn takes(parameters: &Parameters) -> Option<usize>
     ensures { result ≡ names.takes (parameters_tree parameters.now) }

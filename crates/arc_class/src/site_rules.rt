@@ -13,7 +13,6 @@ ghost use Rattle.arc_sites.specs.Sites.{InSource, unit_sites};
 
 use crate::fault::fault_if;
 use crate::kept::Source;
-use crate::look::listed;
 use crate::methods::is_hook;
 use crate::scopes::{block_fault, body_fault, declaration_fault};
 use crate::table::at_name;
@@ -22,6 +21,7 @@ use arc_ast::tree;
 use arc_ast::tree::{Expr, Function, MethodHead, Stmt};
 use arc_fault::class::ClassFault;
 use arc_sites::node::{Enclosing, Node};
+use arc_sites::parameter::named_parameters;
 use arc_sites::violation::earlier;
 use arc_sites::walk::{Visitor, walk};
 use std::alloc::{AllocError, Global};
@@ -94,7 +94,11 @@ impl<'a> Source<'a> {
         ensures { Knows (unit_tree self.now.unit.now) self.now → option_map reported result ≡ first (violations (unit_tree self.now.unit.now) InSource (sites.Function (function_tree function.now))) }
     {
         let clashes = self.clashes_with(function);
-        let types = signature_fault(self, &function.result, listed(&function.parameters));
+        let types = signature_fault(
+            self,
+            &function.result,
+            named_parameters(&function.parameters),
+        );
         earlier(fault_if(clashes, ClassFault::Duplicate(function.at)), types)
     }
 

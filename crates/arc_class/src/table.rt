@@ -22,7 +22,7 @@ use crate::by_name::ByName;
 use crate::fields::{ClassFields, field_of};
 use crate::heads::{Heads, is_related};
 use crate::kept::{Functions, Source};
-use crate::look::{listed, look};
+use crate::look::look;
 use crate::nearest::{field_owners, method_owners};
 use crate::owners::Owners;
 use crate::root::{BuiltIn, built_in_given, built_in_result, counting_given, counting_result};
@@ -31,6 +31,7 @@ use arc_ast::tree::{
     Kind, MethodHead, Parameter, Qual, ResultType, Sign, TranslationUnit, TypeName, Visibility,
 };
 use arc_fault::class::ClassFault;
+use arc_sites::parameter::named_parameters;
 use arc_sites::violation::earlier;
 use arc_spec::class::{Class, Gives, descends_from, gives_of, look_up};
 use arc_spec::event::NoMemory;
@@ -383,7 +384,7 @@ impl<'a> ClassTable<'a> {
     {
         match at_name(&self.first_functions, name) {
             None => &[],
-            Some(function) => listed(&function.parameters),
+            Some(function) => named_parameters(&function.parameters),
         }
     }
 

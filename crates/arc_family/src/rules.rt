@@ -12,13 +12,13 @@ ghost use Rattle.arc_family.specs.Fault.{reported};
 ghost use Rattle.arc_family.specs.private.Asked.{is_plain, is_unasked};
 
 use arc_ast::tree::{
-    Expr, Kind, MethodHead, Parameter, Parameters, Qualifiers, ResultType, Sign, TranslationUnit,
-    TypeName,
+    Expr, Kind, MethodHead, Parameter, Qualifiers, ResultType, Sign, TranslationUnit, TypeName,
 };
 use arc_class::table::{ClassId, ClassTable};
 use arc_fault::own::OwnFault;
 use arc_sites::message::{Message, is_itself, is_to_itself, sent_message};
 use arc_sites::node::{Enclosing, Node};
+use arc_sites::parameter::named_parameters;
 use arc_sites::violation::earlier;
 use arc_sites::walk::Visitor;
 use arc_spec::class::descends_from;
@@ -348,16 +348,6 @@ fn misqualified_among(all: &[Parameter]) -> Option<OwnFault>
     None
 }
 
-/// The parameters that a function lists.
-fn listed(parameters: &Parameters) -> &[Parameter]
-    ensures { parameter_trees result.now ≡ sites.named_parameters (parameters_tree parameters.now) }
-{
-    match parameters {
-        Parameters::Listed(all) => all,
-        Parameters::CountAndTexts => &[],
-    }
-}
-
 /// 67 Qualifier.
 fn qualifier(node: Node) -> Option<OwnFault>
     ensures { option_map reported result ≡ first (violates 67 (rules.rule_67 (node_of node.entry))) }
@@ -369,7 +359,7 @@ fn qualifier(node: Node) -> Option<OwnFault>
         }
         Node::Global(global) => misqualified(global.qualifiers, &global.type_name, global.at),
         Node::Field(field) => misqualified(field.qualifiers, &field.type_name, field.at),
-        Node::Function(function) => misqualified_among(listed(&function.parameters)),
+        Node::Function(function) => misqualified_among(named_parameters(&function.parameters)),
         Node::Declared(head) | Node::Defined(head) => misqualified_among(&head.parameters),
         _ => None,
     }

@@ -16,8 +16,8 @@ use crate::whole::{initial_fault, judge_whole, result_fault, test_fault};
 use arc_ast::tree::{Expr, Function, Kind, Parameter, Stmt, TypeName, Variable};
 use arc_class::table::ClassTable;
 use arc_fault::check::CheckFault;
-use arc_scope::parameter::named_parameters;
 use arc_scope::scope::Visible;
+use arc_sites::parameter::named_parameters;
 use arc_sites::violation::earlier;
 use std::alloc::{AllocError, Global};
 

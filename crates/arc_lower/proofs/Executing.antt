@@ -4,10 +4,12 @@ use Rattle.arc_ast.specs.declared.tree.BinaryOperator.{BinaryOperator}
 use Rattle.arc_ast.specs.declared.tree.Kind.{Kind}
 use Rattle.arc_ast.specs.declared.tree.Moment.{Moment}
 use Rattle.arc_ast.specs.declared.tree.Moment.TheVariants.{After}
+use Rattle.arc_ast.specs.declared.tree.Moment.{Moment}
+use Rattle.arc_ast.specs.declared.tree.Moment.TheVariants.{Before, After}
 use Rattle.arc_spec.specs.declared.location.Location.{Location}
-use Rattle.arc_spec.specs.Resolved.{Value, Reference, Updated, FieldUpdated, Command, Sequence, Evaluate, EvaluateReference, Begin, Give, Choose, Repeat, RepeatAfter, Commands, no_commands, and_command}
+use Rattle.arc_spec.specs.Resolved.{Value, Reference, Updated, FieldUpdated, Command, Sequence, Evaluate, EvaluateReference, Begin, Give, Choose, Repeat, Commands, no_commands, and_command}
 use Rattle.arc_spec.specs.World.{World, Outcome, Done, Finished, finished, then_do, Faulted, Cut}
-use Rattle.arc_spec.specs.Meaning.{Deeper, Normal, held_at, holds, updated, field_read, field_set, all_dropped, evaluated, referred, whole, Flow, Broken, Continued, Returned, given, chosen, if_normal, in_turn, after_body, turns, turns_after, normally, assigned, variables_dropped, scope_left, whole_reference, begun, result_place, executed, all_executed}
+use Rattle.arc_spec.specs.Meaning.{Deeper, Normal, held_at, holds, updated, field_read, field_set, all_dropped, evaluated, referred, whole, Flow, Broken, Continued, Returned, given, chosen, if_normal, in_turn, after_body, turns, looped, normally, assigned, variables_dropped, scope_left, whole_reference, begun, result_place, executed, all_executed}
 use Rattle.arc_lower.specs.Lowered.{Block, Idle, One, Clear, Then, Quit, Advance, nothing_given, loop_block, whole_block, whole_reference_block, begin_block, answer_block, command_block, commands_block, body_block}
 use Rattle.arc_lower.specs.Size.{unused, does_nothing}
 use Rattle.arc_spec.specs.Number.{is_zero}
@@ -202,9 +204,10 @@ module _ (D : Deeper) (bound : ℕ) where
         turns_is (suc n) w = test_is (block_turns (suc n) step test body) _ (λ w1. body_left breaks continues (body s w1) (body' w1) _ (in_turn step' (turns n test' step' body')) (turn w1) (λ w2.
             after_flow breaks continues quits turns_on (step s w2) (step' w2) _ (turns n test' step' body') (steps w2) (turns_is n))) w
 
-      turns_after_is : (n : ℕ) (w : World) → block_turns n (run Idle) test body s w ≡ then_do (turns_after n test' body' w) out
-      turns_after_is zero w = refl
-      turns_after_is (suc n) w = body_left breaks continues (body s w) (body' w) _ _ (turn w) (test_is (block_turns n (run Idle) test body) (turns_after n test' body') (turns_after_is n))
+        after_is : (n : ℕ) (w : World) → block_turns n step test body s w ≡ then_do (looped After n test' step' body' w) out
+        after_is zero w = refl
+        after_is (suc n) w = body_left breaks continues (body s w) (body' w) _ (in_turn step' (turns n test' step' body')) (turn w) (λ w1.
+            after_flow breaks continues quits turns_on (step s w1) (step' w1) _ (turns n test' step' body') (steps w1) (turns_is n))
 
     -- a statement that does nothing
     nothing_is : (c : Command) (w : World) → does_nothing c ≡ true → executed D bound c w ≡ Done Normal w
@@ -213,10 +216,12 @@ module _ (D : Deeper) (bound : ℕ) where
     nothing_is (Sequence first (suc n) all) w e = cc
     nothing_is _ w e = cc
 
-    -- a loop that begins with its test, with or without a step
-    repeat_is : (breaks continues : Block) → Stops breaks → Stops continues → (test : Value) (step body : Command) → ((w : World) → run (command_block exit breaks continues step) s w ≡ then_do (executed D bound step w) (ends breaks continues)) → ((w : World) → run (command_block exit Quit Advance body) s w ≡ then_do (executed D bound body w) (ends Quit Advance)) → (w : World) → (b : Bool) → does_nothing step ≡ b → run (loop_block b (command_block exit breaks continues step) (whole_block test) (command_block exit Quit Advance body)) s w ≡ then_do (executed D bound (Repeat test step body) w) (ends breaks continues)
-    repeat_is breaks continues quits turns test step body steps turn w true e = turns_is breaks continues quits turns (run Idle) (run (whole_block test)) (run (command_block exit Quit Advance body)) (whole D test) (executed D bound body) (whole_is test names) turn (executed D bound step) (λ w1. ap (λ o. then_do o (ends breaks continues)) (sym (nothing_is step w1 e))) bound w
-    repeat_is breaks continues quits turns test step body steps turn w false e = turns_is breaks continues quits turns (run (command_block exit breaks continues step)) (run (whole_block test)) (run (command_block exit Quit Advance body)) (whole D test) (executed D bound body) (whole_is test names) turn (executed D bound step) steps bound w
+    -- a loop, with or without a step
+    repeat_is : (moment : Moment) (breaks continues : Block) → Stops breaks → Stops continues → (test : Value) (step body : Command) → ((w : World) → run (command_block exit breaks continues step) s w ≡ then_do (executed D bound step w) (ends breaks continues)) → ((w : World) → run (command_block exit Quit Advance body) s w ≡ then_do (executed D bound body w) (ends Quit Advance)) → (w : World) → (b : Bool) → does_nothing step ≡ b → run (loop_block moment b (command_block exit breaks continues step) (whole_block test) (command_block exit Quit Advance body)) s w ≡ then_do (executed D bound (Repeat moment test step body) w) (ends breaks continues)
+    repeat_is Before breaks continues quits turns test step body steps turn w true e = turns_is breaks continues quits turns (run Idle) (run (whole_block test)) (run (command_block exit Quit Advance body)) (whole D test) (executed D bound body) (whole_is test names) turn (executed D bound step) (λ w1. ap (λ o. then_do o (ends breaks continues)) (sym (nothing_is step w1 e))) bound w
+    repeat_is Before breaks continues quits turns test step body steps turn w false e = turns_is breaks continues quits turns (run (command_block exit breaks continues step)) (run (whole_block test)) (run (command_block exit Quit Advance body)) (whole D test) (executed D bound body) (whole_is test names) turn (executed D bound step) steps bound w
+    repeat_is After breaks continues quits turns test step body steps turn w true e = after_is breaks continues quits turns (run Idle) (run (whole_block test)) (run (command_block exit Quit Advance body)) (whole D test) (executed D bound body) (whole_is test names) turn (executed D bound step) (λ w1. ap (λ o. then_do o (ends breaks continues)) (sym (nothing_is step w1 e))) bound w
+    repeat_is After breaks continues quits turns test step body steps turn w false e = after_is breaks continues quits turns (run (command_block exit breaks continues step)) (run (whole_block test)) (run (command_block exit Quit Advance body)) (whole D test) (executed D bound body) (whole_is test names) turn (executed D bound step) steps bound w
 
     mutual
       pub command_is : (breaks continues : Block) → Stops breaks → Stops continues → (c : Command) (w : World) → run (command_block exit breaks continues c) s w ≡ then_do (executed D bound c w) (ends breaks continues)
@@ -231,8 +236,7 @@ module _ (D : Deeper) (bound : ℕ) where
       command_is breaks continues quits turns (Give a) w = onward (λ (done : Finished). s) (ends breaks continues) _ (begun D (result_place w) a w) _ _ (answer_is a names w) (λ done w1. refl)
       command_is breaks continues quits turns (Choose test a b) w = onward (λ v. push v s) (ends breaks continues) _ (whole D test w) _ _ (whole_is test names w) (λ v w1.
           either (ends breaks continues) (is_zero v) _ _ _ _ (command_is breaks continues quits turns a w1) (command_is breaks continues quits turns b w1))
-      command_is breaks continues quits turns (Repeat test step body) w = repeat_is breaks continues quits turns test step body (command_is breaks continues quits turns step) (command_is Quit Advance (λ w1 k. refl) (λ w1 k. refl) body) w (does_nothing step) refl
-      command_is breaks continues quits turns (RepeatAfter body test) w = turns_after_is breaks continues quits turns (run Idle) (run (whole_block test)) (run (command_block exit Quit Advance body)) (whole D test) (executed D bound body) (whole_is test names) (command_is Quit Advance (λ w1 k. refl) (λ w1 k. refl) body) bound w
+      command_is breaks continues quits turns (Repeat moment test step body) w = repeat_is moment breaks continues quits turns test step body (command_is breaks continues quits turns step) (command_is Quit Advance (λ w1 k. refl) (λ w1 k. refl) body) w (does_nothing step) refl
       command_is breaks continues quits turns _ w = refl
 
       pub commands_is : (breaks continues : Block) → Stops breaks → Stops continues → (all : Commands) (w : World) → run (commands_block exit breaks continues all) s w ≡ then_do (all_executed D bound all w) (ends breaks continues)

@@ -6,7 +6,7 @@ use Rattle.arc_ast.specs.declared.tree.Kind.{Kind}
 use Rattle.arc_ast.specs.declared.tree.Moment.{Moment}
 use Rattle.arc_ast.specs.declared.tree.Moment.TheVariants.{Before, After}
 use Rattle.arc_spec.specs.declared.location.Location.TheVariants.{Local}
-use Rattle.arc_spec.specs.Resolved.{Value, Number, ReadByte, Print, Applied, Combined, Choice, Converted, Read, Assigned, Updated, Invoked, Sent, ClassValue, ClassSuper, ObjectValue, ObjectSuper, Field, FieldAssigned, FieldUpdated, Reference, Itself, Variable, Chosen, Stored, ObjectField, ObjectFieldStored, Made, New, ObjectInvoked, ObjectSent, Receiver, Arguments, no_arguments, number_argument, object_argument, Command, Sequence, Evaluate, EvaluateReference, Begin, Give, Choose, Repeat, RepeatAfter, Break, Continue, Commands, no_commands, and_command, Program}
+use Rattle.arc_spec.specs.Resolved.{Value, Number, ReadByte, Print, Applied, Combined, Choice, Converted, Read, Assigned, Updated, Invoked, Sent, ClassValue, ClassSuper, ObjectValue, ObjectSuper, Field, FieldAssigned, FieldUpdated, Reference, Itself, Variable, Chosen, Stored, ObjectField, ObjectFieldStored, Made, New, ObjectInvoked, ObjectSent, Receiver, Arguments, no_arguments, number_argument, object_argument, Command, Sequence, Evaluate, EvaluateReference, Begin, Give, Choose, Repeat, Break, Continue, Commands, no_commands, and_command, Program}
 use Rattle.arc_spec.specs.Resolved as resolved
 use Rattle.arc_spec.specs.declared.class.Gives.{Gives}
 use Rattle.arc_spec.specs.declared.class.Gives.TheVariants as gives
@@ -258,9 +258,11 @@ module _ (P : Program) (slots names exit : ℕ) where
     pub clear_types : (first count : ℕ) → Statement base (Clear first count) base
     clear_types first count = all_empty_type P 0 0 names slots 0 0 names (omega arith) first count
 
-    loop_types : (b : Bool) (step x body : Block) → Statement base step base → Statement base x test → BlockTypes P 0 0 slots names exit true true base body base → Statement base (loop_block b step x body) base
-    loop_types true step x body s t u = (refl, refl, refl, t, u, refl)
-    loop_types false step x body s t u = (refl, refl, s, t, u, refl)
+    loop_types : (moment : Moment) (b : Bool) (step x body : Block) → Statement base step base → Statement base x test → BlockTypes P 0 0 slots names exit true true base body base → Statement base (loop_block moment b step x body) base
+    loop_types Before true step x body s t u = (refl, refl, refl, t, u, refl)
+    loop_types Before false step x body s t u = (refl, refl, s, t, u, refl)
+    loop_types After true step x body s t u = (refl, refl, refl, t, u, refl)
+    loop_types After false step x body s t u = (refl, refl, s, t, u, refl)
 
   less : after_effect test (on_numbers 1 0) ≡ base
   less = heights_same _ _ _ _ slots 0 0 names (omega arith) (omega arith) (omega arith) (omega arith)
@@ -277,8 +279,7 @@ module _ (P : Program) (slots names exit : ℕ) where
     command_types l b n t u (resolved.Return None) = nothing_types l
     command_types l b n t u (resolved.Return (Some a)) = (test, test_types l a, (refl, refl, refl, refl))
     command_types l b n t u (Choose v x y) = (test, test_types l v, (base, 0, record { some = omega arith; left = less; first = omega arith; next = omega arith }, refl, command_types l b n t u x, command_types l b n t u y))
-    command_types l b n t u (Repeat v step body) = loop_types l (does_nothing step) (command_block exit b n step) (whole_block v) (command_block exit Quit Advance body) (command_types l b n t u step) (test_types l v) (command_types true Quit Advance (refl, refl, refl, refl) (refl, refl, refl, refl) body)
-    command_types l b n t u (RepeatAfter body v) = (refl, refl, refl, test_types l v, command_types true Quit Advance (refl, refl, refl, refl) (refl, refl, refl, refl) body, refl)
+    command_types l b n t u (Repeat moment v step body) = loop_types l moment (does_nothing step) (command_block exit b n step) (whole_block v) (command_block exit Quit Advance body) (command_types l b n t u step) (test_types l v) (command_types true Quit Advance (refl, refl, refl, refl) (refl, refl, refl, refl) body)
     command_types l b n t u Break = t
     command_types l b n t u Continue = u
 

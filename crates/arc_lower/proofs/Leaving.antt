@@ -3,11 +3,12 @@ use Rattle.std.proofs.Common.{◌≡◌, ℕ, zero, suc, ◌+◌, ◌-◌, ◌�
 use Rattle.std.proofs.lemmas.Bool.{true≢false}
 use Rattle.std.proofs.Math.Seq.{take-nil}
 use Rattle.std.proofs.lemmas.Bool.Decides.{nat_tests}
+use Rattle.arc_ast.specs.declared.tree.Moment.{Moment}
 use Rattle.arc_spec.specs.declared.class.Gives.{Gives}
 use Rattle.arc_spec.specs.declared.class.Gives.TheVariants as gives
 use Rattle.arc_spec.specs.Classes.{lesser, same_gives}
 use Rattle.arc_spec.specs.Objects.{nils, object_at, is_live, names}
-use Rattle.arc_spec.specs.Resolved.{Value, Command, Sequence, Give, Choose, Repeat, RepeatAfter, Break, Continue, Commands, no_commands, and_command}
+use Rattle.arc_spec.specs.Resolved.{Value, Command, Sequence, Give, Choose, Repeat, Break, Continue, Commands, no_commands, and_command}
 use Rattle.arc_spec.specs.Resolved as resolved
 use Rattle.arc_spec.specs.Meaning.{Deeper, Flow, given, answer, released, all_dropped, variables_dropped, function_places, called, all_executed}
 use Rattle.arc_spec.specs.World as world
@@ -77,17 +78,16 @@ onto_last [] rest r = refl
 onto_last (q ∷ first) rest r = onto_last first (q ∷ rest) r
 
 -- no statement has a temporary after it
-loop_quiet : (R : resolved.Program) (without_step : Bool) (step body : Block) (test : Value) → takes_none R step ≡ true → takes_none R body ≡ true → takes_none R (loop_block without_step step (whole_block test) body) ≡ true
-loop_quiet R true step body test e f = f
-loop_quiet R false step body test e f = both_true (takes_none R step) (takes_none R body) e f
+loop_quiet : (R : resolved.Program) (moment : Moment) (without_step : Bool) (step body : Block) (test : Value) → takes_none R step ≡ true → takes_none R body ≡ true → takes_none R (loop_block moment without_step step (whole_block test) body) ≡ true
+loop_quiet R moment true step body test e f = f
+loop_quiet R moment false step body test e f = both_true (takes_none R step) (takes_none R body) e f
 
 mutual
   command_quiet : (R : resolved.Program) (exit : ℕ) (breaks continues : Block) → takes_none R breaks ≡ true → takes_none R continues ≡ true → (c : Command) → takes_none R (command_block exit breaks continues c) ≡ true
   command_quiet R exit b n e f (Sequence first count all) = both_true (takes_none R (commands_block exit (Then (Clear first count) b) (Then (Clear first count) n) all)) true (commands_quiet R exit (Then (Clear first count) b) (Then (Clear first count) n) e f all) refl
   command_quiet R exit b n e f (resolved.Return None) = refl
   command_quiet R exit b n e f (Choose test x y) = both_true (takes_none R (command_block exit b n x)) (takes_none R (command_block exit b n y)) (command_quiet R exit b n e f x) (command_quiet R exit b n e f y)
-  command_quiet R exit b n e f (Repeat test step body) = loop_quiet R (does_nothing step) (command_block exit b n step) (command_block exit Quit Advance body) test (command_quiet R exit b n e f step) (command_quiet R exit Quit Advance refl refl body)
-  command_quiet R exit b n e f (RepeatAfter body test) = command_quiet R exit Quit Advance refl refl body
+  command_quiet R exit b n e f (Repeat moment test step body) = loop_quiet R moment (does_nothing step) (command_block exit b n step) (command_block exit Quit Advance body) test (command_quiet R exit b n e f step) (command_quiet R exit Quit Advance refl refl body)
   command_quiet R exit b n e f Break = e
   command_quiet R exit b n e f Continue = f
   command_quiet R exit b n e f _ = refl

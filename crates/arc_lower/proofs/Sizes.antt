@@ -17,7 +17,7 @@ use Rattle.arc_spec.specs.declared.class.Gives.{Gives}
 use Rattle.arc_spec.specs.declared.class.Gives.TheVariants as gives
 use Rattle.arc_spec.specs.Classes.{Class, lesser, same_gives}
 use Rattle.arc_spec.specs.Meaning.{function_at, function_places, nothing_giving}
-use Rattle.arc_spec.specs.Resolved.{Piece, Bytes, Decimal, Character, Value, Number, ReadByte, Print, Applied, Combined, Choice, Converted, Assigned, Updated, Invoked, Sent, Receiver, ClassValue, ClassSuper, ObjectValue, ObjectSuper, Field, FieldAssigned, FieldUpdated, Differ, IsObject, Reference, Nil, Itself, Variable, Chosen, Stored, ObjectField, ObjectFieldStored, Made, New, ObjectInvoked, ObjectSent, Arguments, no_arguments, number_argument, object_argument, Command, Sequence, Evaluate, EvaluateReference, Begin, Return, Give, Choose, Repeat, RepeatAfter, Break, Continue, Commands, no_commands, and_command, Function, Program}
+use Rattle.arc_spec.specs.Resolved.{Piece, Bytes, Decimal, Character, Value, Number, ReadByte, Print, Applied, Combined, Choice, Converted, Assigned, Updated, Invoked, Sent, Receiver, ClassValue, ClassSuper, ObjectValue, ObjectSuper, Field, FieldAssigned, FieldUpdated, Differ, IsObject, Reference, Nil, Itself, Variable, Chosen, Stored, ObjectField, ObjectFieldStored, Made, New, ObjectInvoked, ObjectSent, Arguments, no_arguments, number_argument, object_argument, Command, Sequence, Evaluate, EvaluateReference, Begin, Return, Give, Choose, Repeat, Break, Continue, Commands, no_commands, and_command, Function, Program}
 use Rattle.arc_spec.specs.Resolved as resolved
 use Rattle.arc_code.specs.declared.instr.Op.{Op}
 use Rattle.arc_code.specs.declared.instr.Op.TheVariants as ops
@@ -26,7 +26,7 @@ use Rattle.arc_code.specs.Effects.{as_object, passes}
 use Rattle.arc_ir.specs.declared.action.Target.TheVariants.{Skip}
 use Rattle.arc_lower.specs.Order.{Order}
 use Rattle.arc_lower.specs.Known.{is_within, combined_kind, known_kind}
-use Rattle.arc_lower.specs.Size.{Size, plain, taking, ◌and◌, by_variable, conversion_size, copy_size, number_count, object_count, format_size, print_size, owned_by, object_parameters, distance, entering_size, has_new, new_size, value_size, reference_size, receiver_size, arguments_size, full_size, unused, does_nothing, scope_size, command_size, commands_size, function_size, method_size, dealloc_size, class_size, program_size}
+use Rattle.arc_lower.specs.Size.{Size, plain, taking, ◌and◌, by_variable, conversion_size, copy_size, number_count, object_count, format_size, print_size, owned_by, object_parameters, distance, entering_size, has_new, new_size, value_size, reference_size, receiver_size, arguments_size, full_size, unused, does_nothing, scope_size, loop_jumps, command_size, commands_size, function_size, method_size, dealloc_size, class_size, program_size}
 use Rattle.arc_lower.specs.Lowered as orders
 use Rattle.arc_lower.proofs.Cases.{by_test}
 use Rattle.arc_lower.specs.Lowered.{ToClass, ToSuperClass, ToObject, ToSuper, Entry, AtStep, AtTest, AtBody, Block, Idle, One, Load, Store, Read, Assign, Clear, Format, Calls, SendsMessage, Making, Answer, Then, Fork, Loop, Quit, Advance, Full, Leave, Spot, past, narrow_block, update_block, below_new, below_arguments, message_to, new_block, value_block, reference_block, receiver_block, arguments_block, whole_block, nothing_given, loop_block, command_block, commands_block, Inside, Between, no_turn}
@@ -354,10 +354,12 @@ module _ (P : Program) (f : Function) where
       none n = grind (arith, nat_tests)
   empty _ b c e = absurd (true≢false (sym e))
 
-  repeats : (without : Bool) {step test body : Block} {n m k : ℕ} → (without ≡ true → n ≡ 0) → Long step n → Long test m → Long body k
-      → Long (loop_block without step test body) ((if without then 2 else 3) + n + m + k)
-  repeats true none a b c = same (omega (arith, none refl)) (loops AtStep (long idle) b c)
-  repeats false none a b c = same (omega arith) (loops AtTest a b c)
+  repeats : (moment : Moment) (without : Bool) {step test body : Block} {n m k : ℕ} → (without ≡ true → n ≡ 0) → Long step n → Long test m → Long body k
+      → Long (loop_block moment without step test body) (loop_jumps moment without + n + m + k)
+  repeats Before true none a b c = same (omega (arith, none refl)) (loops AtStep (long idle) b c)
+  repeats Before false none a b c = same (omega arith) (loops AtTest a b c)
+  repeats After true none a b c = same (omega (arith, none refl)) (loops AtBody (long idle) b c)
+  repeats After false none a b c = same (omega arith) (loops AtBody a b c)
 
   mutual
     command_is : (exit : ℕ) (breaks continues : Block) (b c : ℕ) → Long breaks b → Long continues c → (x : Command)
@@ -374,11 +376,9 @@ module _ (P : Program) (f : Function) where
         same (omega arith) (after (fulls (reference_is 0 a) (after answers one)) (nothing exit))
     command_is exit breaks continues b c h k (Choose test x y) =
         same (omega arith) (after (wholes test) (forks (command_is exit breaks continues b c h k x) (command_is exit breaks continues b c h k y)))
-    command_is exit breaks continues b c h k (Repeat test step body) =
-        repeats (does_nothing step) (empty step b c) (command_is exit breaks continues b c h k step) (wholes test)
+    command_is exit breaks continues b c h k (Repeat moment test step body) =
+        repeats moment (does_nothing step) (empty step b c) (command_is exit breaks continues b c h k step) (wholes test)
         (command_is exit Quit Advance 2 1 (record { at = λ e. refl }) (record { at = λ e. refl }) body)
-    command_is exit breaks continues b c h k (RepeatAfter body test) =
-        same (omega arith) (loops AtBody (long idle) (wholes test) (command_is exit Quit Advance 2 1 (record { at = λ e. refl }) (record { at = λ e. refl }) body))
     command_is exit breaks continues b c h k Break = h
     command_is exit breaks continues b c h k Continue = k
 

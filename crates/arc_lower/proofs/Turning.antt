@@ -1,10 +1,12 @@
 -- Jumps are written once it is known how many actions they skip.
 use Rattle.std.proofs.Common.{◌≡◌, ℕ, suc, ◌-◌, List, [], ◌∷◌, ◌++◌, length, sym, ap, ◌∙◌, arith, append_assoc, length-append, slice_set, ◌+◌, pos, Option, Some, None, refl, Bool, true, false, if◌then◌else◌}
 use Rattle.std.proofs.Math.Seq.{set-append_seam}
+use Rattle.arc_ast.specs.declared.tree.Moment.{Moment}
+use Rattle.arc_ast.specs.declared.tree.Moment.TheVariants.{Before, After}
 use Rattle.arc_ir.specs.declared.action.Target.TheVariants.{Skip, At, Back}
 use Rattle.arc_code.specs.declared.instr.Instr.TheVariants.{Jump, JumpZero, Plain}
 use Rattle.arc_lower.specs.Order.{Order}
-use Rattle.arc_spec.specs.Resolved.{Program, Break, Continue, Value, Command, Choose, Repeat, RepeatAfter}
+use Rattle.arc_spec.specs.Resolved.{Program, Break, Continue, Value, Command, Choose, Repeat}
 use Rattle.arc_code.specs.declared.instr.Op.TheVariants.{Num}
 use Rattle.arc_lower.specs.declared.frame.Turn.{Turn}
 use Rattle.arc_lower.specs.declared.frame.Scope.{Scope}
@@ -12,7 +14,7 @@ use Rattle.arc_lower.specs.Lowered.{Block, Quit, Advance, past, flat, all_empty_
 use Rattle.arc_lower.specs.Size.{does_nothing}
 use Rattle.std.proofs.lemmas.List.{append-nil}
 use Rattle.arc_lower.specs.declared.frame.Body.{Body}
-use Rattle.arc_lower.specs.private.Surroundings.{surroundings, step_begin, step_orders, turn_orders_of, with_turn}
+use Rattle.arc_lower.specs.private.Surroundings.{surroundings, begins_first, step_begin, own_step, step_orders, turn_orders_of, with_turn, with_entry}
 
 -- the jump that was written first, before some others, is another one
 pub patched : (o1 o2 rest : List Order) (branch : ℕ) (first last : Order) → o2 ≡ o1 ++ first ∷ rest → branch ≡ length o1 → slice_set o2 branch last ≡ o1 ++ last ∷ rest
@@ -191,20 +193,25 @@ module _ (P : Program) (b : Body) (scopes : List Scope) where
         turn_written o1 o2 zs ts turns begin out e2 eo (omega (arith, eb, e1))
         ∙ ap (λ xs. o1 ++ (ts ++ (JumpZero (Skip (suc (length xs))) ∷ (xs ++ Jump (Back (suc (length zs + length ts + length xs))) ∷ [])))) same
 
-    repeat_by : (step : Command) (n : Bool)
-        → let zs = of_command (length old + 1) step in
-        o1 ≡ old ++ (if n then [] else Jump (Skip (length zs)) ∷ zs) → begin ≡ (if n then length old else length old + 1)
-        → written ≡ old ++ flat P b.slots b.names (spot (length old) b.turn) (loop_block n (step_of step) (whole_block test) (body_of body))
-    repeat_by step true e1 eb =
+    -- a loop that begins with its test, without a step and with one
+    bare_by : o1 ≡ old ++ [] → begin ≡ length old → written ≡ old ++ at P b.slots b.names (length old) b.turn (Loop AtStep Idle (whole_block test) (body_of body))
+    bare_by e1 eb =
         let bare = e1 ∙ append-nil old in
         let none : length old ≡ length old + 0 = omega arith in
         let rest = turn_orders [] (tests test) (in_turn P b.slots b.names (length old + 0 + 0 + length (tests test) + 1) (length old + 0) (length old + 0 + 0 + length (tests test)) (body_of body)) in
         after_step [] (length old + 0) (eb ∙ none) (let same = ap length bare in omega (arith, same))
         ∙ ap (λ l. l ++ rest) bare
         ∙ ap (λ l. old ++ l) (sym (loop_flat P b.slots b.names AtStep (length old) b.turn Idle test (body_of body)))
-    repeat_by step false e1 eb =
+
+    -- what is written of a loop that has this step, before its first jump is
+    stepped_by : (step : Block)
+        → let zs = at P b.slots b.names (length old + 1) b.turn step in
+        o1 ≡ old ++ Jump (Skip (length zs)) ∷ zs → begin ≡ length old + 1
+        → let out' = length old + 1 + length zs + length (tests test) in
+        written ≡ old ++ Jump (Skip (length zs)) ∷ turn_orders zs (tests test) (in_turn P b.slots b.names (out' + 1) (length old + 1) out' (body_of body))
+    stepped_by step e1 eb =
         let here = length old in
-        let zs = of_command (here + 1) step in
+        let zs = at P b.slots b.names (here + 1) b.turn step in
         let enter : Order = Jump (Skip (length zs)) in
         let out' = here + 1 + length zs + length (tests test) in
         let xs = in_turn P b.slots b.names (out' + 1) (here + 1) out' (body_of body) in
@@ -212,34 +219,51 @@ module _ (P : Program) (b : Body) (scopes : List Scope) where
         after_step zs (here + 1) eb (let same = ap length e1 ∙ length-append old (enter ∷ zs) in omega (arith, same))
         ∙ ap (λ l. l ++ rest) e1
         ∙ append_assoc old (enter ∷ zs) rest
-        ∙ ap (λ l. old ++ l) (sym (loop_flat P b.slots b.names AtTest here b.turn (step_of step) test (body_of body)))
 
-    pub repeat_written : (step : Command) → o1 ≡ old ++ step_orders P b scopes (length old) step → begin ≡ step_begin (length old) step → written ≡ old ++ of_command (length old) (Repeat test step body)
-    repeat_written step e1 eb = repeat_by step (does_nothing step) e1 eb
+    tested_by : (step : Block)
+        → let zs = at P b.slots b.names (length old + 1) b.turn step in
+        o1 ≡ old ++ Jump (Skip (length zs)) ∷ zs → begin ≡ length old + 1
+        → written ≡ old ++ at P b.slots b.names (length old) b.turn (Loop AtTest step (whole_block test) (body_of body))
+    tested_by step e1 eb = stepped_by step e1 eb ∙ ap (λ l. old ++ l) (sym (loop_flat P b.slots b.names AtTest (length old) b.turn step test (body_of body)))
 
-    pub repeat_after_written : (o3 : List Order) (enter over : ℕ) → o1 ≡ old ++ Jump (Skip 0) ∷ [] → begin ≡ length o1 → o3 ≡ written → enter ≡ length old → over ≡ out - enter → slice_set o3 enter (Jump (Skip over)) ≡ old ++ of_command (length old) (RepeatAfter body test)
-    repeat_after_written o3 enter over e1 eb e3 ee ev =
+    -- a loop that begins with its body
+    entered_by : (step : Block) (enter : ℕ) → enter ≡ length old
+        → let zs = at P b.slots b.names (length old + 1) b.turn step in
+        o1 ≡ old ++ Jump (Skip (length zs)) ∷ zs → begin ≡ length old + 1
+        → slice_set written enter (Jump (Skip (out - enter))) ≡ old ++ at P b.slots b.names (length old) b.turn (Loop AtBody step (whole_block test) (body_of body))
+    entered_by step enter ee e1 eb =
         let here = length old in
-        let ts = tests test in
-        let open_jump : Order = Jump (Skip 0) in
-        let one : length o1 ≡ here + 1 = ap length e1 ∙ length-append old (open_jump ∷ []) in
-        let out' = here + 1 + 0 + length ts in
-        let xs = in_turn P b.slots b.names (out' + 1) (here + 1) out' (body_of body) in
-        let rest = ts ++ (JumpZero (Skip (suc (length xs))) ∷ (xs ++ Jump (Back (suc (0 + length ts + length xs))) ∷ [])) in
-        let whole : o3 ≡ old ++ open_jump ∷ rest = e3 ∙ after_step [] (here + 1) (eb ∙ one) (omega (arith, one)) ∙ ap (λ l. l ++ rest) e1 ∙ append_assoc old (open_jump ∷ []) rest in
-        let far : over ≡ 0 + length ts + 1 = omega (arith, ev, ee, eo, one) in
-        patched old o3 rest enter open_jump (Jump (Skip over)) whole ee
+        let zs = at P b.slots b.names (here + 1) b.turn step in
+        let first : Order = Jump (Skip (length zs)) in
+        let out' = here + 1 + length zs + length (tests test) in
+        let rest = turn_orders zs (tests test) (in_turn P b.slots b.names (out' + 1) (here + 1) out' (body_of body)) in
+        let one = ap length e1 ∙ length-append old (first ∷ zs) in
+        let far : out - enter ≡ length zs + length (tests test) + 1 = omega (arith, eo, ee, one) in
+        patched old written rest enter first (Jump (Skip (out - enter))) (stepped_by step e1 eb) ee
         ∙ ap (λ n. old ++ Jump (Skip n) ∷ rest) far
-        ∙ ap (λ l. old ++ l) (sym (loop_flat P b.slots b.names AtBody here b.turn Idle test (body_of body)))
+        ∙ ap (λ l. old ++ l) (sym (loop_flat P b.slots b.names AtBody here b.turn step test (body_of body)))
 
-  pub step_written : (old o1 o2 : List Order) (step : Command) (enter begin end : ℕ) → does_nothing step ≡ false → enter ≡ length old → o1 ≡ old ++ Jump (Skip 0) ∷ [] → begin ≡ length o1 → o2 ≡ o1 ++ of_command (length o1) step → end ≡ length o2
-      → slice_set o2 enter (Jump (Skip (end - begin))) ≡ old ++ step_orders P b scopes (length old) step
-  step_written old o1 o2 step enter begin end none ee e1 eb e2 en =
+    repeat_by : (moment : Moment) (step : Command) (n : Bool) (enter : ℕ) → enter ≡ length old
+        → let zs = if n then [] else of_command (length old + 1) step in
+        o1 ≡ old ++ (if begins_first moment n then [] else Jump (Skip (length zs)) ∷ zs) → begin ≡ (if begins_first moment n then length old else length old + 1)
+        → with_entry moment enter out written ≡ old ++ at P b.slots b.names (length old) b.turn (loop_block moment n (step_of step) (whole_block test) (body_of body))
+    repeat_by Before step true enter ee e1 eb = bare_by e1 eb
+    repeat_by Before step false enter ee e1 eb = tested_by (step_of step) e1 eb
+    repeat_by After step true enter ee e1 eb = entered_by Idle enter ee e1 eb
+    repeat_by After step false enter ee e1 eb = entered_by (step_of step) enter ee e1 eb
+
+    pub repeat_written : (moment : Moment) (step : Command) (enter : ℕ) → enter ≡ length old → o1 ≡ old ++ step_orders moment P b scopes (length old) step → begin ≡ step_begin moment (length old) step
+        → with_entry moment enter out written ≡ old ++ of_command (length old) (Repeat moment test step body)
+    repeat_written moment step enter ee e1 eb = repeat_by moment step (does_nothing step) enter ee e1 eb
+
+  pub step_written : (moment : Moment) (old o1 o2 : List Order) (step : Command) (enter begin end : ℕ) → begins_first moment (does_nothing step) ≡ false → enter ≡ length old → o1 ≡ old ++ Jump (Skip 0) ∷ [] → begin ≡ length o1 → o2 ≡ o1 ++ own_step P b scopes (length o1) step → end ≡ length o2
+      → slice_set o2 enter (Jump (Skip (end - begin))) ≡ old ++ step_orders moment P b scopes (length old) step
+  step_written moment old o1 o2 step enter begin end none ee e1 eb e2 en =
       let here = length old in
       let open_jump : Order = Jump (Skip 0) in
       let one : length o1 ≡ here + 1 = ap length e1 ∙ length-append old (open_jump ∷ []) in
-      let zs = of_command (here + 1) step in
-      let later : o2 ≡ o1 ++ zs = e2 ∙ ap (λ n. o1 ++ of_command n step) one in
+      let zs = own_step P b scopes (here + 1) step in
+      let later : o2 ≡ o1 ++ zs = e2 ∙ ap (λ n. o1 ++ own_step P b scopes n step) one in
       let size = ap length later ∙ length-append o1 zs in
       let whole : o2 ≡ old ++ open_jump ∷ zs = later ∙ ap (λ l. l ++ zs) e1 ∙ append_assoc old (open_jump ∷ []) zs in
       let far : end - begin ≡ length zs = omega (arith, en, eb, size) in

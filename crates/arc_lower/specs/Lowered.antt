@@ -11,7 +11,7 @@ use Rattle.arc_ast.specs.declared.tree.Moment.{Moment}
 use Rattle.arc_ast.specs.declared.tree.Moment.TheVariants.{Before, After}
 use Rattle.arc_spec.specs.declared.location.Location.{Location}
 use Rattle.arc_spec.specs.declared.location.Location.TheVariants.{Local, Global}
-use Rattle.arc_spec.specs.Resolved.{Piece, Bytes, Decimal, Character, Value, Number, ReadByte, Print, Applied, Combined, Choice, Converted, Assigned, Updated, Invoked, Sent, Receiver, ClassValue, ClassSuper, ObjectValue, ObjectSuper, Field, FieldAssigned, FieldUpdated, Reference, Itself, Variable, Chosen, Stored, ObjectField, ObjectFieldStored, Made, New, ObjectInvoked, ObjectSent, Arguments, no_arguments, number_argument, object_argument, Command, Sequence, Evaluate, EvaluateReference, Begin, Give, Choose, Repeat, RepeatAfter, Break, Continue, Commands, no_commands, and_command, Function, Program}
+use Rattle.arc_spec.specs.Resolved.{Piece, Bytes, Decimal, Character, Value, Number, ReadByte, Print, Applied, Combined, Choice, Converted, Assigned, Updated, Invoked, Sent, Receiver, ClassValue, ClassSuper, ObjectValue, ObjectSuper, Field, FieldAssigned, FieldUpdated, Reference, Itself, Variable, Chosen, Stored, ObjectField, ObjectFieldStored, Made, New, ObjectInvoked, ObjectSent, Arguments, no_arguments, number_argument, object_argument, Command, Sequence, Evaluate, EvaluateReference, Begin, Give, Choose, Repeat, Break, Continue, Commands, no_commands, and_command, Function, Program}
 use Rattle.arc_spec.specs.Resolved as resolved
 use Rattle.arc_spec.specs.declared.class.Method.{Method}
 use Rattle.arc_spec.specs.declared.class.Gives.{Gives}
@@ -445,10 +445,14 @@ answer_block a = Full (reference_block 0 a) (Then Answer (One Forget))
 abbrev pub nothing_given : (exit : ℕ) → Block
 nothing_given exit = Then (One (Num (pos 0))) (Leave exit)
 
--- a loop that begins with its test
-abbrev pub loop_block : (without_step : Bool) → (step test body : Block) → Block
-loop_block true step test body = Loop AtStep Idle test body
-loop_block false step test body = Loop AtTest step test body
+-- a loop with its test before or after each turn, which jumps to where it begins, unless that is what comes first
+abbrev pub entry : Moment → (without_step : Bool) → Entry
+entry Before true = AtStep
+entry Before false = AtTest
+entry After without_step = AtBody
+
+abbrev pub loop_block : Moment → (without_step : Bool) → (step test body : Block) → Block
+loop_block moment without_step step test body = Loop (entry moment without_step) (if without_step then Idle else step) test body
 
 -- A statement of a function that is left there leaves the operands as they were; a return without a value gives 0. A
 -- `break` is one block, a `continue` another, which empty the scopes that they leave, the innermost first.
@@ -463,9 +467,8 @@ abbrev mutual
   command_block exit breaks continues (resolved.Return (Some a)) = Then (whole_block a) (Leave exit)
   command_block exit breaks continues (Give a) = Then (answer_block a) (nothing_given exit)
   command_block exit breaks continues (Choose test a b) = Then (whole_block test) (Fork (command_block exit breaks continues a) (command_block exit breaks continues b))
-  command_block exit breaks continues (Repeat test step body) =
-      loop_block (does_nothing step) (command_block exit breaks continues step) (whole_block test) (command_block exit Quit Advance body)
-  command_block exit breaks continues (RepeatAfter body test) = Loop AtBody Idle (whole_block test) (command_block exit Quit Advance body)
+  command_block exit breaks continues (Repeat moment test step body) =
+      loop_block moment (does_nothing step) (command_block exit breaks continues step) (whole_block test) (command_block exit Quit Advance body)
   command_block exit breaks continues Break = breaks
   command_block exit breaks continues Continue = continues
 

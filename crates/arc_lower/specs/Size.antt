@@ -8,7 +8,7 @@ use Rattle.arc_ast.specs.declared.tree.Moment.TheVariants.{Before, After}
 use Rattle.arc_ast.specs.declared.tree.Sign.TheVariants as signs
 use Rattle.arc_spec.specs.declared.location.Location.{Location}
 use Rattle.arc_spec.specs.declared.location.Location.TheVariants.{Local, Global}
-use Rattle.arc_spec.specs.Resolved.{Piece, Bytes, Value, Number, ReadByte, Print, Applied, Combined, Choice, Converted, Read, Assigned, Updated, Invoked, Sent, Receiver, ClassValue, ClassSuper, ObjectValue, ObjectSuper, Field, FieldAssigned, FieldUpdated, Differ, IsObject, Reference, Nil, Itself, Variable, Chosen, Stored, ObjectField, ObjectFieldStored, Made, New, ObjectInvoked, ObjectSent, Arguments, no_arguments, number_argument, object_argument, Command, Sequence, Evaluate, EvaluateReference, Begin, Return, Give, Choose, Repeat, RepeatAfter, Break, Continue, Commands, no_commands, and_command, Function, Program}
+use Rattle.arc_spec.specs.Resolved.{Piece, Bytes, Value, Number, ReadByte, Print, Applied, Combined, Choice, Converted, Read, Assigned, Updated, Invoked, Sent, Receiver, ClassValue, ClassSuper, ObjectValue, ObjectSuper, Field, FieldAssigned, FieldUpdated, Differ, IsObject, Reference, Nil, Itself, Variable, Chosen, Stored, ObjectField, ObjectFieldStored, Made, New, ObjectInvoked, ObjectSent, Arguments, no_arguments, number_argument, object_argument, Command, Sequence, Evaluate, EvaluateReference, Begin, Return, Give, Choose, Repeat, Break, Continue, Commands, no_commands, and_command, Function, Program}
 use Rattle.arc_spec.specs.declared.class.Method.{Method}
 use Rattle.arc_spec.specs.declared.class.Gives.{Gives}
 use Rattle.arc_spec.specs.declared.class.Gives.TheVariants as gives
@@ -169,10 +169,15 @@ does_nothing _ = false
 abbrev pub scope_size : Function → (first count : ℕ) → ℕ
 scope_size f first count = lesser count (function_places f - first)
 
+-- the jumps of a loop: one to its end, one back, and one to its beginning, where that isn't what comes first
+abbrev pub loop_jumps : Moment → (without_step : Bool) → ℕ
+loop_jumps Before true = 2
+loop_jumps moment without_step = 3
+
 -- A statement in a function, where a `break` and a `continue` are so many actions: they end the scopes that they leave,
 -- and in the body of a loop the first gives its test a 0 and jumps, and the second jumps. One action drops the value of
 -- an expression. A return jumps, and without a number it gives 0; an object is stored before in the last place, where
--- there is one. A choice and a loop have two jumps, and a loop one more where it is entered elsewhere than at its step.
+-- there is one. A choice has two jumps.
 abbrev mutual
   pub command_size : Program → Function → (breaks continues : ℕ) → Command → ℕ
   command_size P f breaks continues (Sequence first count all) =
@@ -186,9 +191,8 @@ abbrev mutual
   command_size P f breaks continues (Give a) = full_size (reference_size P f a) + lesser 1 (function_places f) + 3
   command_size P f breaks continues (Choose test a b) =
       full_size (value_size P f test) + command_size P f breaks continues a + command_size P f breaks continues b + 2
-  command_size P f breaks continues (Repeat test step body) =
-      (if does_nothing step then 2 else 3) + command_size P f breaks continues step + full_size (value_size P f test) + command_size P f 2 1 body
-  command_size P f breaks continues (RepeatAfter body test) = command_size P f 2 1 body + full_size (value_size P f test) + 3
+  command_size P f breaks continues (Repeat moment test step body) =
+      loop_jumps moment (does_nothing step) + command_size P f breaks continues step + full_size (value_size P f test) + command_size P f 2 1 body
   command_size P f breaks continues Break = breaks
   command_size P f breaks continues Continue = continues
 

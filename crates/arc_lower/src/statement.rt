@@ -8,12 +8,13 @@ ghost use Rattle.arc_ir.specs.declared.action.Target.TheVariants.{At, Skip};
 ghost use Rattle.arc_lower.specs.Order.{orders};
 ghost use Rattle.arc_lower.specs.Lowered.{whole_orders, whole_reference_orders, begin_orders, answer_orders, scopes_orders, command_orders, commands_orders};
 ghost use Rattle.arc_lower.specs.Size.{unused, does_nothing};
-ghost use Rattle.arc_lower.specs.private.Surroundings.{surroundings, step_begin, step_orders, turn_orders_of, with_turn};
+ghost use Rattle.arc_lower.specs.private.Surroundings.{surroundings, begins_first, step_begin, own_step, step_orders, turn_orders_of, with_turn, with_entry};
 
 use crate::expression::{append, append_reference, append_unused, append_value};
 use crate::frame::{Body, Frame, Scope, Turn};
 use crate::jump::{distance, join, replace};
 use crate::place::{append_all_empty, append_drops, append_forget, append_store, take_some};
+use arc_ast::tree::Moment;
 use arc_checked::program::{Checked, Command, Reference, Value};
 use arc_code::instr::{Instr, Op};
 use arc_ir::action::{Action, Target};
@@ -154,20 +155,12 @@ pub(crate) fn append_command(
             append_command(alloc, actions, program, body, scopes, second)?;
             join(actions, branch, skip, other)
         }
-        Command::Repeat(test, step, turn) => {
-            let begin = append_step(alloc, actions, program, body, scopes, step)?;
-            let out = append_test(alloc, actions, program, body, test)?;
-            append_turn(alloc, actions, program, body, Turn { begin, out }, turn)
-        }
-        Command::RepeatAfter(turn, test) => {
+        Command::Repeat(moment, test, step, turn) => {
             let enter = actions.len();
-            append(actions, Instr::Jump(Target::Skip(0)))?;
-            let begin = actions.len();
+            let begin = append_step(alloc, actions, program, body, scopes, *moment, step)?;
             let out = append_test(alloc, actions, program, body, test)?;
             append_turn(alloc, actions, program, body, Turn { begin, out }, turn)?;
-            let over = distance(enter, out)?;
-            replace(actions, enter, Instr::Jump(Target::Skip(over)));
-            Ok(())
+            enter_loop(actions, *moment, enter, out)
         }
         Command::Break => append_break(actions, body, scopes),
         Command::Continue => append_continue(actions, body, scopes),
@@ -194,8 +187,48 @@ fn append_sequence(
     append_all_empty(actions, body.names, scope.first, scope.count)
 }
 
-/// Appends the actions of a loop's step, where there is one, and before them the jump over them to the
-/// test, with which the loop begins; and the number of the action with which a turn begins.
+/// Where a loop begins with its body, the action at `enter` goes over all up to the action at `out`, with which the test leaves
+/// the loop.
+fn enter_loop(
+    actions: &mut Vec<Action>,
+    moment: Moment,
+    enter: usize,
+    out: usize,
+) -> Result<(), NoMemory>
+    requires { enter < length (orders actions.old.items) }
+    ensures { OnOk result (orders actions.new.items ≡ with_entry moment enter out (orders actions.old.items)) }
+{
+    match moment {
+        Moment::Before => Ok(()),
+        Moment::After => {
+            let over = distance(enter, out)?;
+            replace(actions, enter, Instr::Jump(Target::Skip(over)));
+            Ok(())
+        }
+    }
+}
+
+/// Appends the actions of a loop's step, where there is one.
+#[cycle(statement)]
+fn append_own_step(
+    alloc: Global,
+    actions: &mut Vec<Action>,
+    program: &Checked,
+    body: Body,
+    scopes: &mut Vec<Scope>,
+    step: &Command,
+) -> Result<(), NoMemory>
+    ensures actions { OnOk result (orders actions.new.items ≡ orders actions.old.items ++ own_step (program_of program.now) body scopes.old.items (length (orders actions.old.items)) (command step.now)) }
+    ensures scopes { OnOk result (scopes.new.items ≡ scopes.old.items) }
+{
+    if does_nothing(step) {
+        return Ok(());
+    }
+    append_command(alloc, actions, program, body, scopes, step)
+}
+
+/// Appends the actions of a loop's step, where there is one, and before them the jump over them to the test, unless the loop
+/// begins there; and the number of the action with which a turn begins.
 #[cycle(statement)]
 fn append_step(
     alloc: Global,
@@ -203,19 +236,20 @@ fn append_step(
     program: &Checked,
     body: Body,
     scopes: &mut Vec<Scope>,
+    moment: Moment,
     step: &Command,
 ) -> Result<usize, NoMemory>
-    ensures begin { IfOk result (λ begin. begin ≡ step_begin (length (orders actions.old.items)) (command step.now)) }
-    ensures actions { OnOk result (orders actions.new.items ≡ orders actions.old.items ++ step_orders (program_of program.now) body scopes.old.items (length (orders actions.old.items)) (command step.now)) }
+    ensures begin { IfOk result (λ begin. begin ≡ step_begin moment (length (orders actions.old.items)) (command step.now)) }
+    ensures actions { OnOk result (orders actions.new.items ≡ orders actions.old.items ++ step_orders moment (program_of program.now) body scopes.old.items (length (orders actions.old.items)) (command step.now)) }
     ensures scopes { OnOk result (scopes.new.items ≡ scopes.old.items) }
 {
     let enter = actions.len();
-    if does_nothing(step) {
+    if begins_first(moment, step) {
         return Ok(enter);
     }
     append(actions, Instr::Jump(Target::Skip(0)))?;
     let begin = actions.len();
-    append_command(alloc, actions, program, body, scopes, step)?;
+    append_own_step(alloc, actions, program, body, scopes, step)?;
     let steps = distance(begin, actions.len())?;
     replace(actions, enter, Instr::Jump(Target::Skip(steps)));
     Ok(begin)
@@ -299,6 +333,16 @@ fn does_nothing(statement: &Command) -> bool
     match statement {
         Command::Sequence(_, count, all) => *count == 0 && all.is_empty(),
         _ => false,
+    }
+}
+
+/// Whether a loop begins with what comes first: its step, which does nothing, and its test.
+fn begins_first(moment: Moment, step: &Command) -> bool
+    ensures { result ≡ begins_first moment (does_nothing (command step.now)) }
+{
+    match moment {
+        Moment::Before => does_nothing(step),
+        Moment::After => false,
     }
 }
 

@@ -3,6 +3,8 @@ use Rattle.std.proofs.Common.{◌≡◌, ℕ, zero, suc, ◌+◌, ℤ, pos, List
 use Rattle.std.specs.Prelude.{slice_set, slice_index_or, if◌then◌else◌}
 use Rattle.arc_ast.specs.declared.tree.BinaryOperator.{BinaryOperator}
 use Rattle.arc_ast.specs.declared.tree.Kind.{Kind}
+use Rattle.arc_ast.specs.declared.tree.Moment.{Moment}
+use Rattle.arc_ast.specs.declared.tree.Moment.TheVariants as moments
 use Rattle.arc_spec.specs.declared.class.Gives.{Gives}
 use Rattle.arc_spec.specs.declared.class.Gives.TheVariants as gives
 use Rattle.arc_spec.specs.Classes.{superclasses, ancestry, own_dealloc, class_at, descends, field_order, is_root_init, init_selector}
@@ -11,9 +13,9 @@ use Rattle.arc_spec.specs.Objects.{Object, Phase, Emptying, is_emptying, object_
 use Rattle.arc_ast.specs.declared.tree.Sign.TheVariants as signs
 use Rattle.arc_spec.specs.declared.location.Location.{Location}
 use Rattle.arc_spec.specs.declared.location.Location.TheVariants.{Local, Global}
-use Rattle.arc_spec.specs.Resolved.{Value, Number, ReadByte, Print, Applied, Combined, Choice, Converted, Read, Assigned, Updated, Invoked, Sent, Receiver, ClassValue, ClassSuper, ObjectValue, ObjectSuper, Field, FieldAssigned, FieldUpdated, Differ, IsObject, Reference, Nil, Itself, Variable, Chosen, Stored, ObjectField, ObjectFieldStored, Made, New, ObjectInvoked, ObjectSent, Arguments, no_arguments, number_argument, object_argument, Command, Sequence, Evaluate, EvaluateReference, Begin, Return, Give, Choose, Repeat, RepeatAfter, Break, Continue, Commands, no_commands, and_command, Function, Program}
+use Rattle.arc_spec.specs.Resolved.{Value, Number, ReadByte, Print, Applied, Combined, Choice, Converted, Read, Assigned, Updated, Invoked, Sent, Receiver, ClassValue, ClassSuper, ObjectValue, ObjectSuper, Field, FieldAssigned, FieldUpdated, Differ, IsObject, Reference, Nil, Itself, Variable, Chosen, Stored, ObjectField, ObjectFieldStored, Made, New, ObjectInvoked, ObjectSent, Arguments, no_arguments, number_argument, object_argument, Command, Sequence, Evaluate, EvaluateReference, Begin, Return, Give, Choose, Repeat, Break, Continue, Commands, no_commands, and_command, Function, Program}
 use Rattle.arc_spec.specs.World.{World, Outcome, Done, Faulted, Cut, then_do, Finished, finished, places, prints, Given, nothing_given, Answer, entered, left, takes, named_at, stores, with_temporaries, with_objects, name_at}
-use Rattle.arc_spec.specs.Meaning.{Deeper, held_at, holds, formatted, byte_count, or_fault, updated, given_by, released, temporaries_dropped, all_dropped, assigned, variables_dropped, and_number, and_object, dispatched, finds, gives_object, runs_found, class_in, sent_from, Target, ToClass, ToObject, ToSuper, sent, number_given, object_given, made, second_dropped, made_new, new_found, new_sent, in_object, field_read, field_set, object_field_read, field_stores, field_assigned, object_field_set, difference, evaluated, referred, received, all_evaluated, whole, whole_reference, begun, result_place, Flow, Normal, Broken, Continued, Returned, if_normal, in_turn, after_body, chosen, turns, turns_after, scope_left, normally, executed, all_executed, answer, function_places, function_at, called, dealloc_run, deallocs_run, turned, gone, dying, field_dropped, fields_dropped, emptied, ended, level}
+use Rattle.arc_spec.specs.Meaning.{Deeper, held_at, holds, formatted, byte_count, or_fault, updated, given_by, released, temporaries_dropped, all_dropped, assigned, variables_dropped, and_number, and_object, dispatched, finds, gives_object, runs_found, class_in, sent_from, Target, ToClass, ToObject, ToSuper, sent, number_given, object_given, made, second_dropped, made_new, new_found, new_sent, in_object, field_read, field_set, object_field_read, field_stores, field_assigned, object_field_set, difference, evaluated, referred, received, all_evaluated, whole, whole_reference, begun, result_place, Flow, Normal, Broken, Continued, Returned, if_normal, in_turn, after_body, chosen, turns, looped, scope_left, normally, executed, all_executed, answer, function_places, function_at, called, dealloc_run, deallocs_run, turned, gone, dying, field_dropped, fields_dropped, emptied, ended, level}
 
 -- what holds of the world after a part that was done
 abbrev pub After : {A : Type 0} → (World → Type 0) → Outcome A → Type 0
@@ -402,14 +404,14 @@ module _ (D : Deeper) (steady : Steady D) where
       (waits_then w1 (body w1) (λ flow w2. after_body flow next w2) (bodies w1)
       (λ flow w2. body_waits flow next w2 (λ w3. in_turn_waits step (turns n test step body) w3 steps (λ w4. turns_wait n test step body w4 tests steps bodies)))) refl)
 
-  turns_after_wait : (bound : ℕ) (test : World → Outcome ℤ) (body : World → Outcome Flow) (w : World)
-      → ((w1 : World) → After (Waits w1) (test w1)) → ((w1 : World) → After (Waits w1) (body w1)) → After (Waits w) (turns_after bound test body w)
-  turns_after_wait zero test body w tests bodies = tt
-  turns_after_wait (suc n) test body w tests bodies =
-      let next = λ (w2 : World). then_do (test w2) (λ v w3. chosen (is_zero v) (turns_after n test body w3) (Done Normal w3)) in
+  loop_waits : (moment : Moment) (bound : ℕ) (test : World → Outcome ℤ) (step body : World → Outcome Flow) (w : World)
+      → ((w1 : World) → After (Waits w1) (test w1)) → ((w1 : World) → After (Waits w1) (step w1)) → ((w1 : World) → After (Waits w1) (body w1)) → After (Waits w) (looped moment bound test step body w)
+  loop_waits moments.Before bound test step body w tests steps bodies = turns_wait bound test step body w tests steps bodies
+  loop_waits moments.After zero test step body w tests steps bodies = tt
+  loop_waits moments.After (suc n) test step body w tests steps bodies =
+      let next = in_turn step (turns n test step body) in
       waits_then w (body w) (λ flow w1. after_body flow next w1) (bodies w)
-      (λ flow w1. body_waits flow next w1 (λ w2. waits_then w2 (test w2) (λ v w3. chosen (is_zero v) (turns_after n test body w3) (Done Normal w3)) (tests w2)
-      (λ v w3. after_chosen (Waits w3) (is_zero v) (turns_after n test body w3) (Done Normal w3) (turns_after_wait n test body w3 tests bodies) refl)))
+      (λ flow w1. body_waits flow next w1 (λ w2. in_turn_waits step (turns n test step body) w2 steps (λ w3. turns_wait n test step body w3 tests steps bodies)))
 
   mutual
     command_waits : (bound : ℕ) (c : Command) (w : World) → After (Waits w) (executed D bound c w)
@@ -426,9 +428,8 @@ module _ (D : Deeper) (steady : Steady D) where
     command_waits bound (Choose test a b) w =
         waits_then w (whole D test w) (λ v w1. chosen (is_zero v) (executed D bound a w1) (executed D bound b w1)) (whole_waits test w)
         (λ v w1. after_chosen (Waits w1) (is_zero v) (executed D bound a w1) (executed D bound b w1) (command_waits bound a w1) (command_waits bound b w1))
-    command_waits bound (Repeat test step body) w =
-        turns_wait bound (whole D test) (executed D bound step) (executed D bound body) w (λ w1. whole_waits test w1) (λ w1. command_waits bound step w1) (λ w1. command_waits bound body w1)
-    command_waits bound (RepeatAfter body test) w = turns_after_wait bound (whole D test) (executed D bound body) w (λ w1. whole_waits test w1) (λ w1. command_waits bound body w1)
+    command_waits bound (Repeat moment test step body) w =
+        loop_waits moment bound (whole D test) (executed D bound step) (executed D bound body) w (λ w1. whole_waits test w1) (λ w1. command_waits bound step w1) (λ w1. command_waits bound body w1)
     command_waits bound Break w = refl
     command_waits bound Continue w = refl
 

@@ -9,6 +9,7 @@ use Rattle.arc_checked.specs.declared.program.Reference.{Reference}
 use Rattle.arc_checked.specs.declared.program.Argument as g
 use Rattle.arc_checked.specs.declared.program.Argument.{Argument}
 use Rattle.arc_checked.specs.Checked.{functions, value, reference, arguments, and_argument, command}
+use Rattle.arc_ast.specs.declared.tree.Moment.TheVariants.{After}
 use Rattle.arc_spec.specs.declared.class.Gives.{Gives}
 use Rattle.arc_spec.specs.Resolved as resolved
 use Rattle.arc_spec.specs.Classes.{Class, same_gives}
@@ -18,9 +19,9 @@ use Rattle.arc_checked.specs.declared.program.CheckedFunction.{CheckedFunction}
 use Rattle.arc_plain.specs.declared.halt.Halt.{Halt}
 use Rattle.arc_plain.specs.declared.halt.Halt.TheVariants.{Stopped, Cut, Memory}
 use Rattle.arc_spec.specs.Meaning as meaning
-use Rattle.arc_spec.specs.Meaning.{Deeper, Normal, Broken, Continued, Returned, level, called, and_number, and_object, turns, turns_after, chosen, if_normal, in_turn, after_body, nothing_giving, function_at, ended, evaluated, referred, all_evaluated, executed}
+use Rattle.arc_spec.specs.Meaning.{Deeper, Normal, Broken, Continued, Returned, level, called, and_number, and_object, turns, looped, chosen, if_normal, in_turn, after_body, nothing_giving, function_at, ended, evaluated, referred, all_evaluated, executed}
 use Rattle.arc_plain.specs.declared.statement.Flow.{Flow}
-use Rattle.arc_plain.specs.Views.{Reports, flow_of, function_of, leaving, step_of, test_of, past_body, turn_of}
+use Rattle.arc_plain.specs.Views.{Reports, flow_of, function_of, leaving, step_of, past_body, turn_of}
 
 -- arguments, and those after them
 abbrev pub joined : Given → Given → Given
@@ -131,19 +132,6 @@ step_is step next w = of (step w)
     of (Faulted f w1) = refl
     of (Cut w1) = refl
 
-test_is : (test : World → Outcome ℤ) (next : World → Outcome meaning.Flow) (w : World)
-    → then_do (test w) (λ v w1. chosen (is_zero v) (next w1) (Done Normal w1)) ≡ then_do (test_of test w) (λ o w1. goes_on o next w1)
-test_is test next w = of (test w)
-  where
-    chosen_is : (b : Bool) (w1 : World) → chosen b (next w1) (Done Normal w1) ≡ goes_on (chosen b None (Some Normal)) next w1
-    chosen_is true w1 = refl
-    chosen_is false w1 = refl
-
-    of : (o : Outcome ℤ) → then_do o (λ v w1. chosen (is_zero v) (next w1) (Done Normal w1)) ≡ then_do (then_do o (λ v w1. Done (chosen (is_zero v) None (Some Normal)) w1)) (λ o w1. goes_on o next w1)
-    of (Done v w1) = chosen_is (is_zero v) w1
-    of (Faulted f w1) = refl
-    of (Cut w1) = refl
-
 -- what a loop comes to, once its test isn't 0
 turns_on : (bound i : ℕ) (test : World → Outcome ℤ) (step body : World → Outcome meaning.Flow) (whole : Outcome meaning.Flow) (n : ℤ) (w between : World)
     → i < bound → whole ≡ turns (bound - i) test step body w → test w ≡ Done n between → is_zero n ≡ false
@@ -187,31 +175,28 @@ turn_failed view bound i test step body whole n e r w between after below old te
     subst (λ x. Reports flow_of x whole after) (sym failed)
     (finds_through e view flow_of after (λ o w1. goes_on o (turns (bound - (i + 1)) test step body) w1) (turn_of (step_of step) body between) whole (turns_on bound i test step body whole n w between below old tested holds) h)
 
--- the same of a loop that begins with its body
-turns_after_on : (bound i : ℕ) (test : World → Outcome ℤ) (body : World → Outcome meaning.Flow) (whole : Outcome meaning.Flow) (w : World)
-    → i < bound → whole ≡ turns_after (bound - i) test body w → whole ≡ then_do (turn_of (test_of test) body w) (λ o w1. goes_on o (turns_after (bound - (i + 1)) test body) w1)
-turns_after_on bound i test body whole w below old =
-    let left = bound - (i + 1) in
-    let next = turns_after left test body in
-    let one : bound - i ≡ suc left = omega (arith, below) in
-    old ∙ ap (λ m. turns_after m test body w) one
-    ∙ turn_is (test_of test) body (λ w2. then_do (test w2) (λ v w3. chosen (is_zero v) (next w3) (Done Normal w3))) next w (test_is test next)
+-- the first turn of a loop that begins with its body, and what comes after it
+first_turn : (bound more : ℕ) (test : World → Outcome ℤ) (step body : World → Outcome meaning.Flow) (w : World)
+    → bound ≡ suc more → looped After bound test step body w ≡ then_do (turn_of (step_of step) body w) (λ o w1. goes_on o (turns more test step body) w1)
+first_turn bound more test step body w one =
+    let next = turns more test step body in
+    ap (λ m. looped After m test step body w) one ∙ turn_is (step_of step) body (in_turn step next) next w (step_is step next)
 
-pub turns_after_step : (bound i : ℕ) (test : World → Outcome ℤ) (body : World → Outcome meaning.Flow) (whole : Outcome meaning.Flow) (w after : World)
-    → i < bound → whole ≡ turns_after (bound - i) test body w → turn_of (test_of test) body w ≡ Done None after → whole ≡ turns_after (bound - (i + 1)) test body after
-turns_after_step bound i test body whole w after below old done =
-    turns_after_on bound i test body whole w below old ∙ ap (λ o. then_do o (λ l w1. goes_on l (turns_after (bound - (i + 1)) test body) w1)) done
+pub first_step : (bound more : ℕ) (test : World → Outcome ℤ) (step body : World → Outcome meaning.Flow) (w after : World)
+    → bound ≡ suc more → turn_of (step_of step) body w ≡ Done None after → looped After bound test step body w ≡ turns more test step body after
+first_step bound more test step body w after one done =
+    first_turn bound more test step body w one ∙ ap (λ o. then_do o (λ l w1. goes_on l (turns more test step body) w1)) done
 
-pub turns_after_left : (bound i : ℕ) (test : World → Outcome ℤ) (body : World → Outcome meaning.Flow) (whole : Outcome meaning.Flow) (flow : meaning.Flow) (w after : World)
-    → i < bound → whole ≡ turns_after (bound - i) test body w → turn_of (test_of test) body w ≡ Done (Some flow) after → whole ≡ Done flow after
-turns_after_left bound i test body whole flow w after below old done =
-    turns_after_on bound i test body whole w below old ∙ ap (λ o. then_do o (λ l w1. goes_on l (turns_after (bound - (i + 1)) test body) w1)) done
+pub first_left : (bound more : ℕ) (test : World → Outcome ℤ) (step body : World → Outcome meaning.Flow) (flow : meaning.Flow) (w after : World)
+    → bound ≡ suc more → turn_of (step_of step) body w ≡ Done (Some flow) after → looped After bound test step body w ≡ Done flow after
+first_left bound more test step body flow w after one done =
+    first_turn bound more test step body w one ∙ ap (λ o. then_do o (λ l w1. goes_on l (turns more test step body) w1)) done
 
-pub turn_after_failed : {A : Type 0} (view : A → Option meaning.Flow) (bound i : ℕ) (test : World → Outcome ℤ) (body : World → Outcome meaning.Flow) (whole : Outcome meaning.Flow) (e : Halt) (r : Result Flow Halt) (w after : World)
-    → i < bound → whole ≡ turns_after (bound - i) test body w → r ≡ Err e → Reports view (Err e) (turn_of (test_of test) body w) after → Reports flow_of r whole after
-turn_after_failed view bound i test body whole e r w after below old failed h =
-    subst (λ x. Reports flow_of x whole after) (sym failed)
-    (finds_through e view flow_of after (λ o w1. goes_on o (turns_after (bound - (i + 1)) test body) w1) (turn_of (test_of test) body w) whole (turns_after_on bound i test body whole w below old) h)
+pub first_failed : {A : Type 0} (view : A → Option meaning.Flow) (bound more : ℕ) (test : World → Outcome ℤ) (step body : World → Outcome meaning.Flow) (e : Halt) (r : Result Flow Halt) (w after : World)
+    → bound ≡ suc more → r ≡ Err e → Reports view (Err e) (turn_of (step_of step) body w) after → Reports flow_of r (looped After bound test step body w) after
+first_failed view bound more test step body e r w after one failed h =
+    subst (λ x. Reports flow_of x (looped After bound test step body w) after) (sym failed)
+    (finds_through e view flow_of after (λ o w1. goes_on o (turns more test step body) w1) (turn_of (step_of step) body w) (looped After bound test step body w) (first_turn bound more test step body w one) h)
 
 -- a call and an end, one level deeper
 pub call_is : (P : resolved.Program) (bound levels n : ℕ) (wanted : Gives) (f self : ℕ) (passed : Given) (w : World) → levels ≡ suc n

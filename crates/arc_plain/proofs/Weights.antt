@@ -9,7 +9,7 @@ use Rattle.arc_checked.specs.declared.program.Command as d
 use Rattle.arc_checked.specs.declared.program.Piece.{Piece}
 use Rattle.arc_checked.specs.declared.program.CheckedFunction.{CheckedFunction}
 use Rattle.arc_checked.specs.declared.program.Checked.{Checked}
-use Rattle.arc_spec.specs.Resolved.{Value, Number, ReadByte, Print, Applied, Combined, Choice, Converted, Read, Assigned, Updated, Invoked, Sent, Receiver, ClassValue, ClassSuper, ObjectValue, ObjectSuper, Field, FieldAssigned, FieldUpdated, Differ, IsObject, Reference, Nil, Itself, Variable, Chosen, Stored, ObjectField, ObjectFieldStored, Made, New, ObjectInvoked, ObjectSent, Arguments, no_arguments, number_argument, object_argument, Command, Sequence, Evaluate, EvaluateReference, Begin, Return, Give, Choose, Repeat, RepeatAfter, Break, Continue, Commands, no_commands, and_command, Function}
+use Rattle.arc_spec.specs.Resolved.{Value, Number, ReadByte, Print, Applied, Combined, Choice, Converted, Read, Assigned, Updated, Invoked, Sent, Receiver, ClassValue, ClassSuper, ObjectValue, ObjectSuper, Field, FieldAssigned, FieldUpdated, Differ, IsObject, Reference, Nil, Itself, Variable, Chosen, Stored, ObjectField, ObjectFieldStored, Made, New, ObjectInvoked, ObjectSent, Arguments, no_arguments, number_argument, object_argument, Command, Sequence, Evaluate, EvaluateReference, Begin, Return, Give, Choose, Repeat, Break, Continue, Commands, no_commands, and_command, Function}
 use Rattle.arc_checked.specs.Checked.{program_of, functions, value, arguments, and_argument, reference, receiver, command, commands}
 use Rattle.arc_checked.proofs.Trees.{is_print, is_invoked, is_sent, is_object_invoked, is_object_sent, is_sequence}
 use Rattle.arc_plain.proofs.Turns.{nothing_below}
@@ -73,8 +73,7 @@ abbrev mutual
   command_weight (Return (Some a)) = 4 + value_weight a
   command_weight (Give a) = 4 + reference_weight a
   command_weight (Choose test a b) = 4 + value_weight test + command_weight a + command_weight b
-  command_weight (Repeat test a b) = 6 + value_weight test + command_weight a + command_weight b
-  command_weight (RepeatAfter a test) = 7 + value_weight test + command_weight a
+  command_weight (Repeat moment test a b) = 7 + value_weight test + command_weight a + command_weight b
   command_weight Break = 1
   command_weight Continue = 1
 

@@ -139,12 +139,9 @@ leaving meaning.Broken = Some meaning.Broken
 leaving meaning.Continued = Some meaning.Continued
 leaving (meaning.Returned n) = Some (meaning.Returned n)
 
--- its step, and its test after a turn
+-- its step
 abbrev pub step_of : (World → Outcome meaning.Flow) → World → Outcome (Option meaning.Flow)
 step_of step w = then_do (step w) (λ flow w1. Done (leaving flow) w1)
-
-abbrev pub test_of : (World → Outcome ℤ) → World → Outcome (Option meaning.Flow)
-test_of test w = then_do (test w) (λ v w1. Done (chosen (is_zero v) None (Some meaning.Normal)) w1)
 
 -- what follows its body
 abbrev pub past_body : meaning.Flow → (World → Outcome (Option meaning.Flow)) → World → Outcome (Option meaning.Flow)

@@ -2,8 +2,9 @@
 ghost use Rattle.std.specs.Prelude.{option_map};
 ghost use Rattle.arc_checked.specs.Checked as checked;
 ghost use Rattle.arc_spec.specs.Resolved as resolved;
-ghost use Rattle.arc_spec.specs.Meaning.{whole, begun, executed, all_executed, turns, turns_after};
-ghost use Rattle.arc_plain.specs.Views.{world, nothing_of, Reports, flow_of, step_of, test_of, turn_of, deeper};
+ghost use Rattle.arc_spec.specs.Meaning.{whole, begun, executed, all_executed, turns, looped};
+ghost use Rattle.arc_ast.specs.declared.tree.Moment.TheVariants.{After};
+ghost use Rattle.arc_plain.specs.Views.{world, nothing_of, Reports, flow_of, step_of, turn_of, deeper};
 
 use crate::call::{drop_temporaries, drop_variables, release};
 use crate::context::Context;
@@ -12,6 +13,7 @@ use crate::halt::Halt;
 use crate::message::is_zero;
 use crate::place::store;
 use crate::progress::Progress;
+use arc_ast::tree::Moment;
 use arc_checked::program::{Command, Reference, Value};
 use arc_spec::location::Location;
 use std::alloc::Global;
@@ -67,8 +69,12 @@ fn execute(
             let branch = if is_zero(number) { second } else { first };
             execute(alloc, context, progress, branch)
         }
-        Command::Repeat(test, step, body) => repeat(alloc, context, progress, test, step, body),
-        Command::RepeatAfter(body, test) => repeat_after(alloc, context, progress, body, test),
+        Command::Repeat(Moment::Before, test, step, body) => {
+            repeat(alloc, context, progress, context.bound, test, step, body)
+        }
+        Command::Repeat(Moment::After, test, step, body) => {
+            repeat_after(alloc, context, progress, test, step, body)
+        }
         Command::Break => Ok(Flow::Broken),
         Command::Continue => Ok(Flow::Continued),
     }
@@ -168,65 +174,9 @@ fn turn(
     }
 }
 
-/// The test of a loop, after a turn of its body: whether it leaves the loop.
-#[cycle(running)]
-fn run_test(
-    alloc: Global,
-    context: &Context,
-    progress: &mut Progress,
-    test: &Value,
-) -> Result<Option<Flow>, Halt>
-    ensures { Reports (option_map flow_of) result (test_of (whole (deeper context.now) (checked.value test.now)) (world progress.old)) (world progress.new) }
-{
-    let number = evaluate_whole(alloc, context, progress, test)?;
-    if is_zero(number) {
-        Ok(Some(Flow::Normal))
-    } else {
-        Ok(None)
-    }
-}
-
-/// One turn of a loop, with the test after it, and how the loop is left by it, if it is.
-#[cycle(running)]
-fn turn_after(
-    alloc: Global,
-    context: &Context,
-    progress: &mut Progress,
-    body: &Command,
-    test: &Value,
-) -> Result<Option<Flow>, Halt>
-    ensures { Reports (option_map flow_of) result (turn_of (test_of (whole (deeper context.now) (checked.value test.now))) (executed (deeper context.now) context.now.bound (checked.command body.now)) (world progress.old)) (world progress.new) }
-{
-    match execute(alloc, context, progress, body)? {
-        Flow::Normal => run_test(alloc, context, progress, test),
-        Flow::Continued => run_test(alloc, context, progress, test),
-        Flow::Broken => Ok(Some(Flow::Normal)),
-        Flow::Returned(number) => Ok(Some(Flow::Returned(number))),
-    }
-}
-
-/// Does what the body says, and again while the test isn't 0, for no more turns than the bound.
+/// Does what the body says and then the step, and again while the test isn't 0, for no more turns than the bound.
 #[cycle(running)]
 fn repeat_after(
-    alloc: Global,
-    context: &Context,
-    progress: &mut Progress,
-    body: &Command,
-    test: &Value,
-) -> Result<Flow, Halt>
-    ensures { Reports flow_of result (turns_after context.now.bound (whole (deeper context.now) (checked.value test.now)) (executed (deeper context.now) context.now.bound (checked.command body.now)) (world progress.old)) (world progress.new) }
-{
-    for _ in 0..context.bound {
-        if let Some(flow) = turn_after(alloc, context, progress, body, test)? {
-            return Ok(flow);
-        }
-    }
-    Err(Halt::Cut)
-}
-
-/// Does what the body says, and then the step, while the test isn't 0, for no more turns than the bound.
-#[cycle(running)]
-fn repeat(
     alloc: Global,
     context: &Context,
     progress: &mut Progress,
@@ -235,9 +185,32 @@ fn repeat(
     body: &Command,
 ) -> Result<Flow, Halt>
     ensures { let run = λ (c : resolved.Command). executed (deeper context.now) context.now.bound c in
-        Reports flow_of result (turns context.now.bound (whole (deeper context.now) (checked.value test.now)) (run (checked.command step.now)) (run (checked.command body.now)) (world progress.old)) (world progress.new) }
+        Reports flow_of result (looped After context.now.bound (whole (deeper context.now) (checked.value test.now)) (run (checked.command step.now)) (run (checked.command body.now)) (world progress.old)) (world progress.new) }
 {
-    for _ in 0..context.bound {
+    let Some(more) = context.bound.checked_sub(1) else {
+        return Err(Halt::Cut);
+    };
+    match turn(alloc, context, progress, step, body)? {
+        Some(flow) => Ok(flow),
+        None => repeat(alloc, context, progress, more, test, step, body),
+    }
+}
+
+/// Does what the body says, and then the step, while the test isn't 0, for no more turns than these.
+#[cycle(running)]
+fn repeat(
+    alloc: Global,
+    context: &Context,
+    progress: &mut Progress,
+    most: u64,
+    test: &Value,
+    step: &Command,
+    body: &Command,
+) -> Result<Flow, Halt>
+    ensures { let run = λ (c : resolved.Command). executed (deeper context.now) context.now.bound c in
+        Reports flow_of result (turns most (whole (deeper context.now) (checked.value test.now)) (run (checked.command step.now)) (run (checked.command body.now)) (world progress.old)) (world progress.new) }
+{
+    for _ in 0..most {
         let number = evaluate_whole(alloc, context, progress, test)?;
         if is_zero(number) {
             return Ok(Flow::Normal);

@@ -1,6 +1,7 @@
 -- What is built of lists of statements, and one more.
 use Rattle.std.proofs.Common.{◌≡◌, ℕ, ◌+◌, ◌-◌, ◌<◌, ◌≤◌, Bool, List, [], ◌∷◌, ◌++◌, length, get_or, drop, Some, None, Vec, Global, option_map, refl, sym, ap, ◌∙◌}
 use Rattle.std.specs.List.{filter_map, cons_option}
+use Rattle.arc_ast.specs.declared.tree.Moment.{Moment}
 use Rattle.arc_ast.specs.declared.tree.Function.{Function}
 use Rattle.arc_ast.specs.declared.tree.Parameter.{Parameter}
 use Rattle.arc_ast.specs.declared.tree.Stmt as stmt
@@ -78,8 +79,8 @@ block_scope s a at all items e m = ap (λ us. leave s (scope_after_all s (stmt_t
 pub choose_is : (test other : resolved.Value) (a b c d : resolved.Command) → test ≡ other → a ≡ b → c ≡ d → resolved.Choose test a c ≡ resolved.Choose other b d
 choose_is test other a b c d t e f = rw (t, e, f) refl
 
-pub repeat_is : (test other : resolved.Value) (a b c d : resolved.Command) → test ≡ other → a ≡ b → c ≡ d → resolved.Repeat test a c ≡ resolved.Repeat other b d
-repeat_is test other a b c d t e f = rw (t, e, f) refl
+pub repeat_is : (moment : Moment) (test other : resolved.Value) (a b c d : resolved.Command) → test ≡ other → a ≡ b → c ≡ d → resolved.Repeat moment test a c ≡ resolved.Repeat moment other b d
+repeat_is moment test other a b c d t e f = rw (t, e, f) refl
 
 -- what comes before a loop, and the loop
 pub loop_command : (s own : Scope) (first count : ℕ) (all : Vec Command Global) (a b : Command) (one loop : resolved.Command) → all.items ≡ a ∷ b ∷ [] → first ≡ s.names → count ≡ own.names - s.names → checked.command a ≡ one → checked.command b ≡ loop

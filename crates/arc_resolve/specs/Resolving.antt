@@ -4,7 +4,7 @@ use Rattle.std.specs.List.{filter}
 use Rattle.std.specs.Option.{option_map_or}
 use Rattle.std.specs.Str.{bytes_eq}
 use Rattle.arc_ast.specs.declared.tree.Moment.{Moment}
-use Rattle.arc_ast.specs.declared.tree.Moment.TheVariants.{Before, After}
+use Rattle.arc_ast.specs.declared.tree.Moment.TheVariants.{Before}
 use Rattle.arc_ast.specs.declared.tree.UnaryOperator.{UnaryOperator}
 use Rattle.arc_ast.specs.declared.tree.UnaryOperator.TheVariants as u
 use Rattle.arc_ast.specs.declared.tree.BinaryOperator.{BinaryOperator}
@@ -25,7 +25,7 @@ use Rattle.arc_ast.specs.Tree.{TypeTree, GlobalTree, ExprTree, ExprTrees, Intege
 use Rattle.arc_spec.specs.Classes.{gives_of}
 use Rattle.arc_spec.specs.declared.location.Location.TheVariants.{Local}
 use Rattle.arc_spec.specs.Number as number
-use Rattle.arc_spec.specs.Resolved.{Value, Reference, Number, ReadByte, Print, Applied, Combined, Choice, Converted, Read, Assigned, Updated, Invoked, Sent, Field, FieldAssigned, FieldUpdated, Differ, IsObject, Nil, Itself, Variable, Chosen, Stored, ObjectField, ObjectFieldStored, Made, New, ObjectInvoked, ObjectSent, Receiver, ClassValue, ClassSuper, ObjectValue, ObjectSuper, Arguments, no_arguments, number_argument, object_argument, Command, Sequence, Evaluate, EvaluateReference, Begin, Return, Give, Choose, Repeat, RepeatAfter, Break, Continue, Commands, no_commands, and_command, Function, Program}
+use Rattle.arc_spec.specs.Resolved.{Value, Reference, Number, ReadByte, Print, Applied, Combined, Choice, Converted, Read, Assigned, Updated, Invoked, Sent, Field, FieldAssigned, FieldUpdated, Differ, IsObject, Nil, Itself, Variable, Chosen, Stored, ObjectField, ObjectFieldStored, Made, New, ObjectInvoked, ObjectSent, Receiver, ClassValue, ClassSuper, ObjectValue, ObjectSuper, Arguments, no_arguments, number_argument, object_argument, Command, Sequence, Evaluate, EvaluateReference, Begin, Return, Give, Choose, Repeat, Break, Continue, Commands, no_commands, and_command, Function, Program}
 use Rattle.arc_sites.specs.Sites.{named_parameters}
 use Rattle.arc_class.specs.Functions.{same_kind}
 use Rattle.arc_class.specs.Running.{classes}
@@ -309,12 +309,7 @@ with_loop before inside first loop = Sequence before.names (inside.names - befor
 abbrev pub returned : Kind → Resolution → Command
 returned kind a = if is_object (Some kind) then Give (object_in a) else Return (Some (converted kind a))
 
--- a loop with its test before or after each turn of its body (C99, section 6.8.5); where the test is before, the step does nothing
-abbrev pub looped : Moment → (test : Value) → (body : Command) → Command
-looped Before test body = Repeat test nothing body
-looped After test body = RepeatAfter body test
-
--- A statement. A block's own variables that name objects are those that got their numbers in it.
+-- A statement. A block's own variables that name objects are those that got their numbers in it. The step of a `while` and a `do` does nothing.
 abbrev mutual
   pub resolved_stmt : Scope → StmtTree → Command
   resolved_stmt s (Block at all) = Sequence s.names ((scope_after_all s all).names - s.names) (resolved_stmts s all)
@@ -324,9 +319,9 @@ abbrev mutual
   resolved_stmt s (Variables at qualifiers type all) = Sequence 0 0 (resolved_variables type s all)
   resolved_stmt s (If at c a) = Choose (number_in (resolved s c)) (resolved_stmt s a) nothing
   resolved_stmt s (IfElse at c a b) = Choose (number_in (resolved s c)) (resolved_stmt s a) (resolved_stmt (leave s (scope_after s a)) b)
-  resolved_stmt s (While at moment c a) = looped moment (number_in (resolved s c)) (resolved_stmt s a)
+  resolved_stmt s (While at moment c a) = Repeat moment (number_in (resolved s c)) nothing (resolved_stmt s a)
   resolved_stmt s (For at a c e b) =
-      with_loop s (scope_after s a) (resolved_stmt s a) (Repeat (tested (scope_after s a) c) (stepped (scope_after s a) e) (resolved_stmt (scope_after s a) b))
+      with_loop s (scope_after s a) (resolved_stmt s a) (Repeat Before (tested (scope_after s a) c) (stepped (scope_after s a) e) (resolved_stmt (scope_after s a) b))
   resolved_stmt s (tree.Break at) = Break
   resolved_stmt s (tree.Continue at) = Continue
 

@@ -4,7 +4,8 @@ ghost use Rattle.std.specs.List.{flat_map, filter_map};
 ghost use Rattle.std.specs.Option.{option_map_or};
 ghost use Rattle.arc_ast.specs.Tree.{expr_tree, type_tree, variable_trees, parameter_trees, stmt_tree, stmt_trees, function_trees, method_trees, implementation_trees};
 ghost use Rattle.arc_class.specs.Table.{number_of_class};
-ghost use Rattle.arc_spec.specs.Resolved.{Sequence, Choose, Repeat, RepeatAfter};
+ghost use Rattle.arc_ast.specs.declared.tree.Moment.TheVariants.{Before};
+ghost use Rattle.arc_spec.specs.Resolved.{Sequence, Choose, Repeat};
 ghost use Rattle.arc_spec.specs.Resolved as spec;
 ghost use Rattle.arc_resolve.specs.private.Building.{ahead_of, function_of, functions_ahead, resolution, resolved_methods};
 ghost use Rattle.arc_checked.specs.Checked as checked;
@@ -20,8 +21,8 @@ use arc_ast::tree::{
 };
 use arc_checked::program::{CheckedFunction, Command, Value};
 use arc_class::table::{ClassId, ClassTable};
-use arc_scope::parameter::named_parameters;
 use arc_scope::scope::{Visible, owned_in};
+use arc_sites::parameter::named_parameters;
 use arc_spec::class::gives_of;
 use arc_spec::location::Location;
 use std::alloc::{AllocError, Global};
@@ -323,19 +324,14 @@ fn repeated<'a>(
     body: &'a Stmt,
 ) -> Result<Command, AllocError>
     ensures command { IfOk result (λ new. checked.command new
-        ≡ resolving.looped moment (resolving.number_in (resolving.resolved (seen table.now visible.old) (expr_tree condition.now))) (resolved_stmt (seen table.now visible.old) (stmt_tree body.now))) }
+        ≡ Repeat moment (resolving.number_in (resolving.resolved (seen table.now visible.old) (expr_tree condition.now))) resolving.nothing (resolved_stmt (seen table.now visible.old) (stmt_tree body.now))) }
     ensures scope { OnOk result (seen table.now visible.new ≡ leave (seen table.now visible.old) (scope_after (seen table.now visible.old) (stmt_tree body.now))) }
     ensures keeps { OnOk result (visible.new.bound.items ≡ visible.old.bound.items) }
 {
     let test = test(alloc, table, visible, condition)?;
     let body = scoped(alloc, table, visible, body)?;
-    match moment {
-        Moment::Before => {
-            let step = Box::new(alloc, nothing(alloc))?;
-            Ok(Command::Repeat(test, step, body))
-        }
-        Moment::After => Ok(Command::RepeatAfter(body, test)),
-    }
+    let step = Box::new(alloc, nothing(alloc))?;
+    Ok(Command::Repeat(moment, test, step, body))
 }
 
 /// The resolved loop of a `for`, without what comes before it.
@@ -349,14 +345,14 @@ fn turns<'a>(
     body: &'a Stmt,
 ) -> Result<Command, AllocError>
     ensures command { IfOk result (λ new. checked.command new
-        ≡ Repeat (resolving.tested (seen table.now visible.old) (option_map expr_tree test.now)) (resolving.stepped (seen table.now visible.old) (option_map expr_tree step.now)) (resolved_stmt (seen table.now visible.old) (stmt_tree body.now))) }
+        ≡ Repeat Before (resolving.tested (seen table.now visible.old) (option_map expr_tree test.now)) (resolving.stepped (seen table.now visible.old) (option_map expr_tree step.now)) (resolved_stmt (seen table.now visible.old) (stmt_tree body.now))) }
     ensures scope { OnOk result (seen table.now visible.new ≡ leave (seen table.now visible.old) (scope_after (seen table.now visible.old) (stmt_tree body.now))) }
     ensures keeps { OnOk result (visible.new.bound.items ≡ visible.old.bound.items) }
 {
     let test = test_or_one(alloc, table, visible, test)?;
     let step = step_or_nothing(alloc, table, visible, step)?;
     let body = scoped(alloc, table, visible, body)?;
-    Ok(Command::Repeat(test, step, body))
+    Ok(Command::Repeat(Moment::Before, test, step, body))
 }
 
 /// A resolved `for`.
@@ -372,7 +368,7 @@ fn stepped<'a>(
 ) -> Result<Command, AllocError>
     ensures command { let s = seen table.now visible.old in let own = scope_after s (stmt_tree beginning.now) in
         IfOk result (λ new. checked.command new ≡ resolving.with_loop s own (resolved_stmt s (stmt_tree beginning.now))
-        (Repeat (resolving.tested own (option_map expr_tree test.now)) (resolving.stepped own (option_map expr_tree step.now)) (resolved_stmt own (stmt_tree body.now)))) }
+        (Repeat Before (resolving.tested own (option_map expr_tree test.now)) (resolving.stepped own (option_map expr_tree step.now)) (resolved_stmt own (stmt_tree body.now)))) }
     ensures scope { let s = seen table.now visible.old in OnOk result (seen table.now visible.new ≡ leave s (scope_after (scope_after s (stmt_tree beginning.now)) (stmt_tree body.now))) }
     ensures keeps { OnOk result (visible.new.bound.items ≡ visible.old.bound.items) }
 {

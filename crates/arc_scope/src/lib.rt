@@ -6,6 +6,5 @@ pub mod field;
 pub mod format;
 pub mod kind;
 pub mod message;
-pub mod parameter;
 pub mod scope;
 pub mod wanted;

@@ -3,5 +3,6 @@
 
 pub mod message;
 pub mod node;
+pub mod parameter;
 pub mod violation;
 pub mod walk;

@@ -6,9 +6,10 @@ ghost use Rattle.arc_sites.specs.Sites as sites;
 ghost use Rattle.arc_sites.specs.Finding.{enclosing_of, node_of, found_from};
 
 use crate::node::{Enclosing, Node};
+use crate::parameter::named_parameters;
 use arc_ast::tree::{
     Expr, Field, Function, Global, Implementation, Interface, Method, MethodHead, Parameter,
-    Parameters, Qualifiers, Stmt, TranslationUnit, TypeName, Variable,
+    Qualifiers, Stmt, TranslationUnit, TypeName, Variable,
 };
 
 /// What looks at each site of a source for violations of some rules.
@@ -196,16 +197,6 @@ fn statements<V: Visitor>(
         statement(visitor, enclosing, stmt)?;
     }
     Ok(())
-}
-
-/// The parameters that have names in a body.
-fn named_parameters(all: &Parameters) -> &[Parameter]
-    ensures { parameter_trees result.now ≡ sites.named_parameters (parameters_tree all.now) }
-{
-    match all {
-        Parameters::Listed(all) => all,
-        Parameters::CountAndTexts => &[],
-    }
 }
 
 /// Visits a body, with its parameters, and then what is inside it.

@@ -16,7 +16,7 @@ use Rattle.arc_spec.specs.declared.class.Gives.TheVariants as gives
 use Rattle.arc_spec.specs.Classes.{Class, superclasses, ancestry, own_dealloc, lookup, or_else, same_gives, new_selector, init_selector, is_root_init, descends, class_at, count_of, strong_count, field_order}
 use Rattle.arc_spec.specs.Number.{converted, applied, combined, low_byte, is_zero}
 use Rattle.arc_spec.specs.Objects.{Object, Phase, Dying, Emptying, Gone, object_at, with_object, in_phase, with_fields, with_strong_fields, is_live, is_emptying, new_object, names}
-use Rattle.arc_spec.specs.Resolved.{Piece, Bytes, Decimal, Character, Value, Number, ReadByte, Print, Applied, Combined, Choice, Converted, Location, Local, Global, Read, Assigned, Updated, Invoked, Sent, Receiver, ClassValue, ClassSuper, ObjectValue, ObjectSuper, Field, FieldAssigned, FieldUpdated, Differ, IsObject, Reference, Nil, Itself, Variable, Chosen, Stored, ObjectField, ObjectFieldStored, Made, New, ObjectInvoked, ObjectSent, Arguments, no_arguments, number_argument, object_argument, Command, Sequence, Evaluate, EvaluateReference, Begin, Return, Give, Choose, Repeat, RepeatAfter, Break, Continue, Commands, no_commands, and_command, Function, Program}
+use Rattle.arc_spec.specs.Resolved.{Piece, Bytes, Decimal, Character, Value, Number, ReadByte, Print, Applied, Combined, Choice, Converted, Location, Local, Global, Read, Assigned, Updated, Invoked, Sent, Receiver, ClassValue, ClassSuper, ObjectValue, ObjectSuper, Field, FieldAssigned, FieldUpdated, Differ, IsObject, Reference, Nil, Itself, Variable, Chosen, Stored, ObjectField, ObjectFieldStored, Made, New, ObjectInvoked, ObjectSent, Arguments, no_arguments, number_argument, object_argument, Command, Sequence, Evaluate, EvaluateReference, Begin, Return, Give, Choose, Repeat, Break, Continue, Commands, no_commands, and_command, Function, Program}
 use Rattle.arc_spec.specs.World.{World, Outcome, Done, Faulted, Cut, then_do, Finished, finished, shows, prints, places, first_world, Given, nothing_given, Answer, entered, left, takes, named_at, stores, with_objects, with_locals, with_globals, with_temporaries, local_at, name_at, next_number, has_read}
 
 -- what a format writes of these values, of which each number takes the next (C99, section 7.19.6.1)
@@ -331,11 +331,11 @@ turns zero test step body w = then_do (test w) (λ v w1. chosen (is_zero v) (Cut
 turns (suc n) test step body w =
     then_do (test w) (λ v w1. chosen (is_zero v) (then_do (body w1) (λ flow w2. after_body flow (in_turn step (turns n test step body)) w2)) (Done Normal w1))
 
--- a loop that begins with its body, and tests after each turn (C99, section 6.8.5.2)
-abbrev pub turns_after : (bound : ℕ) → (World → Outcome ℤ) → (body : World → Outcome Flow) → World → Outcome Flow
-turns_after zero test body w = Cut w
-turns_after (suc n) test body w =
-    then_do (body w) (λ flow w1. after_body flow (λ w2. then_do (test w2) (λ v w3. chosen (is_zero v) (turns_after n test body w3) (Done Normal w3))) w1)
+-- a loop with its test before or after each turn; where it is after, the first turn has none, and then the loop goes on as one that begins with its test (C99, section 6.8.5.2)
+abbrev pub looped : Moment → (bound : ℕ) → (World → Outcome ℤ) → (step body : World → Outcome Flow) → World → Outcome Flow
+looped Before bound test step body w = turns bound test step body w
+looped After zero test step body w = Cut w
+looped After (suc n) test step body w = then_do (body w) (λ flow w1. after_body flow (in_turn step (turns n test step body)) w1)
 
 -- a block's own variables are dropped at its end, and where a `break` or a `continue` leaves it; where a return does, the function drops them
 abbrev pub scope_left : Deeper → (first count : ℕ) → Flow → World → Outcome Flow
@@ -358,8 +358,7 @@ abbrev mutual
   executed D bound (Return (Some a)) w = then_do (whole D a w) (λ v w1. Done (Returned v) w1)
   executed D bound (Give a) w = then_do (begun D (result_place w) a w) (λ _ w1. Done (Returned (pos 0)) w1)
   executed D bound (Choose test a b) w = then_do (whole D test w) (λ v w1. chosen (is_zero v) (executed D bound a w1) (executed D bound b w1))
-  executed D bound (Repeat test step body) w = turns bound (whole D test) (executed D bound step) (executed D bound body) w
-  executed D bound (RepeatAfter body test) w = turns_after bound (whole D test) (executed D bound body) w
+  executed D bound (Repeat moment test step body) w = looped moment bound (whole D test) (executed D bound step) (executed D bound body) w
   executed D bound Break w = Done Broken w
   executed D bound Continue w = Done Continued w
 

@@ -70,7 +70,7 @@ mutual
 
 mutual
   -- A statement. A sequence has so many variables of its own that name objects, from the first one on; the beginning of such a variable is what it names first.
-  -- `Give` returns an object or nil. `Repeat` is a loop that begins with its test, whose step comes after each turn of its body; `RepeatAfter` begins with its body, and tests after each turn.
+  -- `Give` returns an object or nil. `Repeat` is a loop with its test before or after each turn of its body, and a step that comes after each turn.
   pub data Command : Type 0 where
     Sequence : (first count : ℕ) → Commands → Command
     Evaluate : Value → Command
@@ -79,8 +79,7 @@ mutual
     Return : Option Value → Command
     Give : Reference → Command
     Choose : Value → Command → Command → Command
-    Repeat : Value → (step body : Command) → Command
-    RepeatAfter : (body : Command) → Value → Command
+    Repeat : (tested : Moment) → Value → (step body : Command) → Command
     Break : Command
     Continue : Command
 

@@ -8,7 +8,7 @@ use Rattle.arc_spec.specs.Classes.{same_gives, classes_of, superclasses, ancestr
 use Rattle.arc_spec.specs.Number.{is_zero}
 use Rattle.arc_spec.proofs.Ancestry.{all_classes}
 use Rattle.arc_checked.specs.Checked.{program_of}
-use Rattle.arc_spec.specs.Meaning.{referred, released, updated, given_by, field_set, evaluated, whole, all_evaluated, all_executed, executed, turns, turns_after, called, function_at, all_dropped, variables_dropped, class_in, deallocs_run, dying, emptied, gone, level}
+use Rattle.arc_spec.specs.Meaning.{referred, released, updated, given_by, field_set, evaluated, whole, all_evaluated, all_executed, executed, turns, looped, called, function_at, all_dropped, variables_dropped, class_in, deallocs_run, dying, emptied, gone, level}
 use Rattle.arc_spec.specs.Resolved.{Updated, FieldUpdated, ObjectFieldStored, Function, no_arguments}
 use Rattle.arc_spec.specs.Objects.{object_at}
 use Rattle.arc_spec.specs.World.{World, Outcome, Done, then_do, Finished, name_at, takes}
@@ -16,7 +16,7 @@ use Rattle.arc_plain.specs.Views.{world, given_of, answer_of, invoked, sent_to, 
 use Rattle.arc_plain.proofs.Calls.{call_reported, body_failed, drop_failed, nothing_reported, function_there, function_unwanted, function_absent, temporary_step, temporaries_fewer, no_temporary, variable_step, variable_failed, layer_done, layer_failed, emptied_is}
 use Rattle.arc_plain.proofs.Keeping.{level_steady}
 use Rattle.arc_checked.proofs.Trees.{is_print, is_invoked, is_sent, is_object_invoked, is_object_sent, is_sequence}
-use Rattle.arc_plain.proofs.Turns.{value_reported, command_reported, with_numbers, with_named, is_number, is_object, number_step, object_step, test_failed, turns_step, turns_left, turn_failed, turns_after_step, turns_after_left, turn_after_failed, call_is, end_is, level_classes, finds_through}
+use Rattle.arc_plain.proofs.Turns.{value_reported, command_reported, with_numbers, with_named, is_number, is_object, number_step, object_step, test_failed, turns_step, turns_left, turn_failed, first_step, first_left, first_failed, call_is, end_is, level_classes, finds_through}
 use Rattle.arc_plain.proofs.Results.{number_invoked, number_sent, object_invoked, object_sent, number_reported, number_failed, object_reported, object_failed}
 use Rattle.arc_plain.proofs.Updates.{variable_stored, field_stored, variable_updated, field_updated, field_named}
 use Rattle.arc_plain.proofs.Weights.{print_lighter, call_lighter, sent_lighter, object_call_lighter, object_sent_lighter, sequence_lighter, number_lighter, object_lighter, receiver_counts, command_in, commands_weight, level_lighter, body_lighter}
@@ -250,8 +250,8 @@ statement::execute_all-execute-requires t c =
 
 pub statement::repeat-loop-preserved : goal.statement::repeat-loop-preserved
 statement::repeat-loop-preserved t c =
-    let bound = c.args.context.now.bound in
-    let run = executed (deeper c.args.context.now) bound in
+    let bound = c.args.most in
+    let run = executed (deeper c.args.context.now) c.args.context.now.bound in
     let test = whole (deeper c.args.context.now) (checked.value c.args.test.now) in
     let step = run (checked.command c.args.step.now) in
     let body = run (checked.command c.args.body.now) in
@@ -262,8 +262,8 @@ statement::repeat-loop-preserved t c =
 
 pub statement::repeat-returns-in-Some : goal.statement::repeat-returns-in-Some
 statement::repeat-returns-in-Some t c =
-    let bound = c.args.context.now.bound in
-    let run = executed (deeper c.args.context.now) bound in
+    let bound = c.args.most in
+    let run = executed (deeper c.args.context.now) c.args.context.now.bound in
     let test = whole (deeper c.args.context.now) (checked.value c.args.test.now) in
     let step = run (checked.command c.args.step.now) in
     let body = run (checked.command c.args.body.now) in
@@ -274,8 +274,8 @@ statement::repeat-returns-in-Some t c =
 
 pub statement::repeat-returns-in_err-number : goal.statement::repeat-returns-in_err-number
 statement::repeat-returns-in_err-number t c =
-    let bound = c.args.context.now.bound in
-    let run = executed (deeper c.args.context.now) bound in
+    let bound = c.args.most in
+    let run = executed (deeper c.args.context.now) c.args.context.now.bound in
     let test = whole (deeper c.args.context.now) (checked.value c.args.test.now) in
     let step = run (checked.command c.args.step.now) in
     let body = run (checked.command c.args.body.now) in
@@ -285,8 +285,8 @@ statement::repeat-returns-in_err-number t c =
 
 pub statement::repeat-returns-in_err-flow : goal.statement::repeat-returns-in_err-flow
 statement::repeat-returns-in_err-flow t c =
-    let bound = c.args.context.now.bound in
-    let run = executed (deeper c.args.context.now) bound in
+    let bound = c.args.most in
+    let run = executed (deeper c.args.context.now) c.args.context.now.bound in
     let test = whole (deeper c.args.context.now) (checked.value c.args.test.now) in
     let step = run (checked.command c.args.step.now) in
     let body = run (checked.command c.args.body.now) in
@@ -295,30 +295,6 @@ statement::repeat-returns-in_err-flow t c =
     turn_failed (option_map flow_of) bound c.loop.counter test step body (turns bound test step body (world c.args.progress.now)) c.in_ok-number.number
     c.in_err-flow.field-0.0 c.from_residual-in_err-flow.result (world c.loop.progress) (world c.evaluate_whole.new.progress) (world c.turn.new.progress)
     c.loop-test.true c.loop.invariant c.in_ok-number.ensures (ap is_zero (sym same) ∙ sym c.is_zero.ensures ∙ c.if-is_zero.false) (p.1 ∙ ap Err p.2) c.in_err-flow.ensures
-
-pub statement::repeat_after-loop-preserved : goal.statement::repeat_after-loop-preserved
-statement::repeat_after-loop-preserved t c =
-    let bound = c.args.context.now.bound in
-    let test = whole (deeper c.args.context.now) (checked.value c.args.test.now) in
-    let body = executed (deeper c.args.context.now) bound (checked.command c.args.body.now) in
-    turns_after_step bound c.loop.counter test body (turns_after bound test body (world c.args.progress.now)) (world c.loop.progress) (world c.turn_after.new.progress) c.loop-test.true c.loop.invariant (search rules)
-
-pub statement::repeat_after-returns-in-Some : goal.statement::repeat_after-returns-in-Some
-statement::repeat_after-returns-in-Some t c =
-    let bound = c.args.context.now.bound in
-    let test = whole (deeper c.args.context.now) (checked.value c.args.test.now) in
-    let body = executed (deeper c.args.context.now) bound (checked.command c.args.body.now) in
-    turns_after_left bound c.loop.counter test body (turns_after bound test body (world c.args.progress.now)) (flow_of c.in-Some.flow) (world c.loop.progress) (world c.turn_after.new.progress) c.loop-test.true c.loop.invariant (search rules)
-
-pub statement::repeat_after-returns-in_err-flow : goal.statement::repeat_after-returns-in_err-flow
-statement::repeat_after-returns-in_err-flow t c =
-    let bound = c.args.context.now.bound in
-    let test = whole (deeper c.args.context.now) (checked.value c.args.test.now) in
-    let body = executed (deeper c.args.context.now) bound (checked.command c.args.body.now) in
-    let p = err_from_is_err_and c.from_residual.result c.from_residual.ensures.1 in
-    turn_after_failed (option_map flow_of) bound c.loop.counter test body (turns_after bound test body (world c.args.progress.now))
-    c.in_err-flow.field-0.0 c.from_residual.result (world c.loop.progress) (world c.turn_after.new.progress)
-    c.loop-test.true c.loop.invariant (p.1 ∙ ap Err p.2) c.in_err-flow.ensures
 
 pub call::call-returns : goal.call::call-returns
 call::call-returns t c =

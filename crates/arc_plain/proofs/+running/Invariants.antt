@@ -2,7 +2,7 @@ use Rattle.std.proofs.Common.{◌≡◌, ◌+◌, ◌-◌, suc, drop, length, ve
 use Rattle.arc_checked.specs.Checked as checked
 use Rattle.arc_checked.specs.Checked.{program_of}
 use Rattle.arc_spec.specs.Classes.{superclasses, ancestry, ancestry_within}
-use Rattle.arc_spec.specs.Meaning.{all_evaluated, whole, executed, all_executed, turns, turns_after, all_dropped, variables_dropped, deallocs_run, fields_dropped}
+use Rattle.arc_spec.specs.Meaning.{all_evaluated, whole, executed, all_executed, turns, looped, all_dropped, variables_dropped, deallocs_run, fields_dropped}
 use Rattle.arc_plain.specs.Views.{world, given_of, deeper}
 use Rattle.arc_plain.proofs.Turns.{front}
 use Rattle.arc_plain.proofs.Weights.{levels_left, program_weight, value_weight, arguments_weight, receiver_weight, reference_weight, command_weight, commands_weight}
@@ -120,13 +120,7 @@ abbrev pub decreases-statement::run_step : goal.decreases-statement::run_step
 decreases-statement::run_step l = levels_left l.context.now + (1 + command_weight (checked.command l.step.now))
 
 abbrev pub decreases-statement::repeat_after : goal.decreases-statement::repeat_after
-decreases-statement::repeat_after l = levels_left l.context.now + (6 + value_weight (checked.value l.test.now) + command_weight (checked.command l.body.now))
-
-abbrev pub decreases-statement::turn_after : goal.decreases-statement::turn_after
-decreases-statement::turn_after l = levels_left l.context.now + (5 + value_weight (checked.value l.test.now) + command_weight (checked.command l.body.now))
-
-abbrev pub decreases-statement::run_test : goal.decreases-statement::run_test
-decreases-statement::run_test l = levels_left l.context.now + (4 + value_weight (checked.value l.test.now))
+decreases-statement::repeat_after l = levels_left l.context.now + (6 + value_weight (checked.value l.test.now) + command_weight (checked.command l.step.now) + command_weight (checked.command l.body.now))
 
 -- the whole is what was found in front of what is to come
 abbrev pub invariant-expression::evaluate_all-loop-argument : goal.invariant-expression::evaluate_all-loop-argument
@@ -144,13 +138,7 @@ invariant-statement::repeat-loop l =
     let test = whole (deeper l.context) (checked.value l.test) in
     let body = executed (deeper l.context) l.context.bound (checked.command l.body) in
     let step = executed (deeper l.context) l.context.bound (checked.command l.step) in
-    turns l.context.bound test step body (world l.initial.progress) ≡ turns (l.context.bound - l.counter) test step body (world l.progress)
-
-abbrev pub invariant-statement::repeat_after-loop : goal.invariant-statement::repeat_after-loop
-invariant-statement::repeat_after-loop l =
-    let test = whole (deeper l.context) (checked.value l.test) in
-    let body = executed (deeper l.context) l.context.bound (checked.command l.body) in
-    turns_after l.context.bound test body (world l.initial.progress) ≡ turns_after (l.context.bound - l.counter) test body (world l.progress)
+    turns l.most test step body (world l.initial.progress) ≡ turns (l.most - l.counter) test step body (world l.progress)
 
 -- the temporaries that are left are the whole
 abbrev pub invariant-call::drop_temporaries-loop-object : goal.invariant-call::drop_temporaries-loop-object

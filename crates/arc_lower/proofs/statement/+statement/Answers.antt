@@ -8,7 +8,7 @@ use Rattle.arc_lower.specs.Order.{order, orders}
 use Rattle.arc_lower.specs.Lowered.{whole_orders, command_orders}
 use Rattle.arc_lower.specs.private.Surroundings.{surroundings}
 use Rattle.arc_checked.proofs.Trees.{sequence_command}
-use Rattle.arc_lower.proofs.Turning.{patch_fork, choice_written, repeat_written, repeat_after_written, step_written}
+use Rattle.arc_lower.proofs.Turning.{patch_fork, choice_written, repeat_written, step_written}
 use Rattle.arc_lower.proofs.statement.+statement.Goals as goal
 
 pub append_command-returns-in-Sequence-clause-actions : goal.append_command-returns-in-Sequence-clause-actions
@@ -52,28 +52,6 @@ append_command-returns-in_ok-append_command-in-Choose-2-clause-actions t c =
     in
     rw (c.in-Choose.is, ← c.deref-in-Choose.ensures, ← c.deref-in-Choose-2.ensures)
     (subst (λ l. OnOk c.join.result (orders c.join.new.actions.items ≡ l)) e c.join.ensures)
-
-pub append_command-returns-in_ok-out-in-Repeat-clause-actions : goal.append_command-returns-in_ok-out-in-Repeat-clause-actions
-append_command-returns-in_ok-out-in-Repeat-clause-actions t c = grind (arith, common_steps, repeat_written)
-
-pub append_command-returns-in_ok-over-in-RepeatAfter-clause-actions : goal.append_command-returns-in_ok-over-in-RepeatAfter-clause-actions
-append_command-returns-in_ok-over-in-RepeatAfter-clause-actions t c =
-    let P = program_of c.args.program.now in
-    let b = c.args.body in
-    let scopes = c.args.scopes.now.items in
-    let v0 = c.args.actions.now in
-    let old = orders v0.items in
-    let v1 = c.append-in-RepeatAfter.new.actions in
-    let o2 = orders c.append_test-in-RepeatAfter.new.actions.items in
-    let o3 = orders c.append_turn-in-RepeatAfter.new.actions.items in
-    let test = value c.in-RepeatAfter.test in
-    let body = command c.deref-in-RepeatAfter.result.now in
-    let last = c.in_ok-out-in-RepeatAfter in
-    rw (c.in-RepeatAfter.is, ← c.deref-in-RepeatAfter.ensures)
-    (c.replace.ensures
-    ∙ repeat_after_written P b scopes old (orders v1.items) o2 c.len-begin.result last.out test body last.ensures.actions last.ensures.out o3 c.len-enter.result c.in_ok-over-in-RepeatAfter.over c.in_ok-append-in-RepeatAfter.ensures
-    (c.len-begin.ensures ∙ v1.ok.0 ∙ sym (length-map v1.items order)) c.in_ok-append_turn-in-RepeatAfter.ensures
-    (c.len-enter.ensures ∙ v0.ok.0 ∙ sym (length-map v0.items order)) c.in_ok-over-in-RepeatAfter.ensures)
 
 pub append_step-returns-clause-actions : goal.append_step-returns-clause-actions
 append_step-returns-clause-actions t c = grind (arith, common_steps, step_written)

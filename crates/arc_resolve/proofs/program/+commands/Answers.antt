@@ -1,5 +1,6 @@
 use Rattle.std.proofs.Common.{◌≡◌, ◌-◌, [], ◌∷◌, ◌++◌, OnOk, IfOk, length, option_map, take, refl, ap, subst, ◌∙◌}
 use Rattle.std.proofs.lemmas.Result.{on_ok_weaker}
+use Rattle.arc_ast.specs.declared.tree.Moment.TheVariants.{Before}
 use Rattle.arc_ast.specs.Tree.{expr_tree, stmt_tree, stmt_trees}
 use Rattle.arc_spec.specs.Resolved as spec
 use Rattle.arc_checked.specs.Checked as checked
@@ -73,10 +74,16 @@ chosen_or_nothing-returns-clause-scope t c = c.in_ok-then.ensures.scope
 pub chosen_or_nothing-returns-clause-keeps : goal.chosen_or_nothing-returns-clause-keeps
 chosen_or_nothing-returns-clause-keeps t c = c.in_ok-then.ensures.keeps
 
+pub repeated-returns-clause-scope : goal.repeated-returns-clause-scope
+repeated-returns-clause-scope t c = c.in_ok-body.ensures.scope
+
+pub repeated-returns-clause-keeps : goal.repeated-returns-clause-keeps
+repeated-returns-clause-keeps t c = c.in_ok-body.ensures.keeps
+
 pub turns-returns-clause-command : goal.turns-returns-clause-command
 turns-returns-clause-command t c =
     let s = seen c.args.table.now c.args.visible.now in
-    repeat_is (checked.value c.in_ok-test.test) (tested s (option_map expr_tree c.args.test.now)) (checked.command c.in_ok-step.step.value) (stepped s (option_map expr_tree c.args.step.now)) (checked.command c.in_ok-body.body.value)
+    repeat_is Before (checked.value c.in_ok-test.test) (tested s (option_map expr_tree c.args.test.now)) (checked.command c.in_ok-step.step.value) (stepped s (option_map expr_tree c.args.step.now)) (checked.command c.in_ok-body.body.value)
     (resolved_stmt s (stmt_tree c.args.body.now)) c.in_ok-test.ensures c.in_ok-step.ensures c.in_ok-body.ensures.command
 
 pub turns-returns-clause-scope : goal.turns-returns-clause-scope
@@ -94,8 +101,8 @@ stepped-returns-clause-command t c =
     let test = option_map expr_tree c.args.test.now in
     let step = option_map expr_tree c.args.step.now in
     let count : c.saturating_sub-own.result ≡ (own.names - s.names) = c.saturating_sub-own.ensures ∙ ap (λ n. n - c.from-first.result) (c.from.ensures ∙ ap (λ q. q.names) c.in_ok-command.ensures.scope) ∙ ap (λ n. own.names - n) c.from-first.ensures in
-    let loop : checked.command c.in_ok-turns.field-0 ≡ spec.Repeat (tested own test) (stepped own step) (resolved_stmt own b) = c.in_ok-turns.ensures.command ∙ ap (λ p. spec.Repeat (tested p test) (stepped p step) (resolved_stmt p b)) c.in_ok-command.ensures.scope in
-    loop_command s own c.from-first.result c.saturating_sub-own.result c.push-2.new.self c.in_ok-command.field-0 c.in_ok-turns.field-0 (resolved_stmt s a) (spec.Repeat (tested own test) (stepped own step) (resolved_stmt own b))
+    let loop : checked.command c.in_ok-turns.field-0 ≡ spec.Repeat Before (tested own test) (stepped own step) (resolved_stmt own b) = c.in_ok-turns.ensures.command ∙ ap (λ p. spec.Repeat (tested p test) (stepped p step) (resolved_stmt p b)) c.in_ok-command.ensures.scope in
+    loop_command s own c.from-first.result c.saturating_sub-own.result c.push-2.new.self c.in_ok-command.field-0 c.in_ok-turns.field-0 (resolved_stmt s a) (spec.Repeat Before (tested own test) (stepped own step) (resolved_stmt own b))
     (c.in_ok-push-2.ensures.items ∙ ap (λ us. us ++ c.in_ok-turns.field-0 ∷ []) (c.in_ok-push.ensures.items ∙ ap (λ us. us ++ c.in_ok-command.field-0 ∷ []) c.new-all.ensures.items)) c.from-first.ensures count c.in_ok-command.ensures.command loop
 
 pub stepped-returns-clause-scope : goal.stepped-returns-clause-scope
