@@ -1,12 +1,13 @@
 use Rattle.std.proofs.lemmas.Grind.{common_steps}
 use Rattle.std.proofs.Common.{◌≡◌, ◌++◌, ◌∷◌, [], length, refl, ap, sym, subst, ◌∙◌, OnOk, arith, length-append}
 use Rattle.std.proofs.lemmas.List.{length-map}
+use Rattle.std.proofs.lemmas.Result.{on_ok_weaker}
 use Rattle.arc_code.specs.declared.instr.Instr.TheVariants.{Jump, JumpZero}
 use Rattle.arc_ir.specs.declared.action.Target.TheVariants.{Skip}
 use Rattle.arc_checked.specs.Checked.{value, command, program_of}
 use Rattle.arc_lower.specs.Order.{order, orders}
 use Rattle.arc_lower.specs.Lowered.{whole_orders, command_orders}
-use Rattle.arc_lower.specs.private.Surroundings.{surroundings}
+use Rattle.arc_lower.specs.private.Surroundings.{surroundings, with_entry}
 use Rattle.arc_checked.proofs.Trees.{sequence_command}
 use Rattle.arc_lower.proofs.Turning.{patch_fork, choice_written, repeat_written, step_written}
 use Rattle.arc_lower.proofs.statement.+statement.Goals as goal
@@ -52,6 +53,25 @@ append_command-returns-in_ok-append_command-in-Choose-2-clause-actions t c =
     in
     rw (c.in-Choose.is, ← c.deref-in-Choose.ensures, ← c.deref-in-Choose-2.ensures)
     (subst (λ l. OnOk c.join.result (orders c.join.new.actions.items ≡ l)) e c.join.ensures)
+
+pub append_command-returns-in_ok-append_turn-in-Repeat-clause-actions : goal.append_command-returns-in_ok-append_turn-in-Repeat-clause-actions
+append_command-returns-in_ok-append_turn-in-Repeat-clause-actions t c =
+    let P = program_of c.args.program.now in
+    let scopes = c.args.scopes.now.items in
+    let v0 = c.args.actions.now in
+    let o1 = orders c.append_step.new.actions.items in
+    let o2 = orders c.append_test.new.actions.items in
+    let first = c.in_ok-begin-in-Repeat in
+    let last = c.in_ok-out-in-Repeat in
+    let moment = c.in-Repeat.moment in
+    let enter = c.len-enter.result in
+    let test = value c.in-Repeat.test in
+    let step = command c.deref-in-Repeat.result.now in
+    let body = command c.deref-in-Repeat-2.result.now in
+    rw (c.in-Repeat.is, ← c.deref-in-Repeat.ensures, ← c.deref-in-Repeat-2.ensures)
+    (on_ok_weaker c.enter_loop.result (λ e. e ∙ ap (with_entry moment enter last.out) c.in_ok-append_turn-in-Repeat.ensures
+    ∙ repeat_written P c.args.body scopes (orders v0.items) o1 o2 first.begin last.out test body last.ensures.actions last.ensures.out moment step enter
+    (c.len-enter.ensures ∙ v0.ok.0 ∙ sym (length-map v0.items order)) first.ensures.actions first.ensures.begin) c.enter_loop.ensures)
 
 pub append_step-returns-clause-actions : goal.append_step-returns-clause-actions
 append_step-returns-clause-actions t c = grind (arith, common_steps, step_written)
