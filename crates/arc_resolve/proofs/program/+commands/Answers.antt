@@ -101,7 +101,7 @@ stepped-returns-clause-command t c =
     let test = option_map expr_tree c.args.test.now in
     let step = option_map expr_tree c.args.step.now in
     let count : c.saturating_sub-own.result ≡ (own.names - s.names) = c.saturating_sub-own.ensures ∙ ap (λ n. n - c.from-first.result) (c.from.ensures ∙ ap (λ q. q.names) c.in_ok-command.ensures.scope) ∙ ap (λ n. own.names - n) c.from-first.ensures in
-    let loop : checked.command c.in_ok-turns.field-0 ≡ spec.Repeat Before (tested own test) (stepped own step) (resolved_stmt own b) = c.in_ok-turns.ensures.command ∙ ap (λ p. spec.Repeat (tested p test) (stepped p step) (resolved_stmt p b)) c.in_ok-command.ensures.scope in
+    let loop : checked.command c.in_ok-turns.field-0 ≡ spec.Repeat Before (tested own test) (stepped own step) (resolved_stmt own b) = c.in_ok-turns.ensures.command ∙ ap (λ p. spec.Repeat Before (tested p test) (stepped p step) (resolved_stmt p b)) c.in_ok-command.ensures.scope in
     loop_command s own c.from-first.result c.saturating_sub-own.result c.push-2.new.self c.in_ok-command.field-0 c.in_ok-turns.field-0 (resolved_stmt s a) (spec.Repeat Before (tested own test) (stepped own step) (resolved_stmt own b))
     (c.in_ok-push-2.ensures.items ∙ ap (λ us. us ++ c.in_ok-turns.field-0 ∷ []) (c.in_ok-push.ensures.items ∙ ap (λ us. us ++ c.in_ok-command.field-0 ∷ []) c.new-all.ensures.items)) c.from-first.ensures count c.in_ok-command.ensures.command loop
 
