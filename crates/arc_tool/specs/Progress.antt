@@ -23,13 +23,9 @@ Takes p made taken rest = rest_of (run_of p (taken ++ rest) made) ≡ rest
 -- it goes on at an instruction that makes an object
 abbrev pub MakesObject : Program → Reached State → Type 0
 MakesObject p (Running s i t) = slice_get p.instrs s.at ≡ Some (Plain Alloc)
-MakesObject p (Ended n i t) = ⊥
-MakesObject p (Faulted f i t) = ⊥
-MakesObject p (Wedged i t) = ⊥
+MakesObject p _ = ⊥
 
 -- it goes on at an instruction that reads a byte
 abbrev pub ReadsByte : Program → Reached State → Type 0
 ReadsByte p (Running s i t) = IsAsking (step p s)
-ReadsByte p (Ended n i t) = ⊥
-ReadsByte p (Faulted f i t) = ⊥
-ReadsByte p (Wedged i t) = ⊥
+ReadsByte p _ = ⊥

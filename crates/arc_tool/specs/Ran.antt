@@ -39,9 +39,7 @@ Shown (Err Write) p input most made written =
 abbrev pub Meant : Result Stop IoFault → (written : List ℕ) → Sight → Type 0
 Meant (Ok (Ended n)) written m = (bytes_of m.trace ≡ written) × (m.stop ≡ Some (Ends n))
 Meant (Ok (Fault f)) written m = (bytes_of m.trace ≡ written) × (m.stop ≡ Some (Faults f))
-Meant (Ok StepsUsed) written m = Starts written (bytes_of m.trace)
-Meant (Ok NoHeap) written m = Starts written (bytes_of m.trace)
-Meant (Err f) written m = Starts written (bytes_of m.trace)
+Meant _ written m = Starts written (bytes_of m.trace)
 
 -- A run of the code, of at most so many steps. It took some first bytes of the reader's known ones, and added what it wrote to the writer's known ones;
 -- and whatever comes after the bytes that it took, the code takes exactly these, and shows what was written.

@@ -33,18 +33,15 @@ new_events m before = if nat_eq m.steps before then [] else m.events
 abbrev pub stop_seen : Left → Option correct.Stop
 stop_seen (Stopped (Ended n)) = Some (correct.Ends n)
 stop_seen (Stopped (Fault f)) = Some (correct.Faults f)
-stop_seen (Stopped StepsUsed) = None
-stop_seen (Stopped NoHeap) = None
-stop_seen Unread = None
+stop_seen _ = None
 
 -- how many of the steps that were allowed a run made that was left so: all, where they are used, and fewer where the next one had no room for an object or
 -- broke
 abbrev pub Within : Left → (made steps : ℕ) → Type 0
-Within (Stopped (Ended n)) made steps = made ≤ steps
-Within (Stopped (Fault f)) made steps = made ≤ steps
 Within (Stopped StepsUsed) made steps = made ≡ steps
 Within (Stopped NoHeap) made steps = made < steps
 Within Unread made steps = made < steps
+Within _ made steps = made ≤ steps
 
 -- where there was no room for an object, the code goes on with one, and where the reader failed, with an instruction that reads
 abbrev pub GoesOn : Left → Program → Reached State → Type 0
