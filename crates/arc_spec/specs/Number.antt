@@ -24,9 +24,7 @@ is_minus_one (negsuc n) = nat_eq n 0
 abbrev pub converted : Kind → ℤ → ℤ
 converted k.Bool z = if is_zero z then pos 0 else pos 1
 converted k.Int z = low_32 z
-converted k.Long z = z
-converted k.Object z = z
-converted k.Void z = z
+converted _ z = z
 
 -- the least number of a kind, where it is below the ones that its negation has place for
 abbrev pub is_least : Kind → ℤ → Bool
@@ -59,8 +57,7 @@ count_of_shift kind y = cast_unsigned w64 y % width kind
 abbrev pub is_same : ℤ → ℤ → Bool
 is_same (pos n) (pos m) = nat_eq n m
 is_same (negsuc n) (negsuc m) = nat_eq n m
-is_same (pos n) (negsuc m) = false
-is_same (negsuc n) (pos m) = false
+is_same _ _ = false
 
 -- the answer of a comparison (C99, sections 6.5.8 and 6.5.9)
 abbrev pub answer : Bool → ℤ
