@@ -10,7 +10,8 @@ use Rattle.arc_lex.specs.declared.token.AtWord.TheVariants as ats
 use Rattle.arc_lex.specs.declared.token.Mark.TheVariants as m
 use Rattle.arc_lex.specs.Bytes.{has, is_letter, is_digit}
 use Rattle.arc_lex.specs.Source.{IsToken, IsClosed, IsOpenQuoted, IsWrongInteger, Breaks}
-use Rattle.arc_lex.specs.Texts.{Part, Plain, number, largest}
+use Rattle.arc_lex.specs.Texts.{Part, Plain, number}
+use Rattle.arc_lex.specs.declared.number.TheConstants.{LARGEST}
 use Rattle.arc_lex.specs.Tokens.{Sort, Integer, Text, At, Sign}
 use Rattle.arc_lex.proofs.Faultless.{Begun, begun_first, wrong_first}
 use Rattle.arc_lex.proofs.Firsts.{head_is, tail_is, digit_not}
@@ -18,7 +19,7 @@ use Rattle.arc_lex.proofs.Firsts.{head_is, tail_is, digit_not}
 -- a digit alone is an integer
 digit_token : (b : ℕ) → is_digit b ≡ true → IsToken (b ∷ []) (Integer (pos (number bases.Ten (b ∷ []))) false)
 digit_token b e =
-    let small : nat_le (number bases.Ten (b ∷ [])) largest ≡ true = grind (arith, nat_tests) in
+    let small : nat_le (number bases.Ten (b ∷ [])) LARGEST ≡ true = grind (arith, nat_tests) in
     inl ((e, and_from (has c.InName b) true (or_right (is_letter b) (is_digit b) e) refl), rw (e, small) refl)
 
 -- the bytes with which a rule but BadByte can be broken, by rule

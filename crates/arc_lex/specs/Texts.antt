@@ -1,5 +1,6 @@
 -- Literals: which bytes they are written with, and what they stand for.
-use Rattle.std.specs.Prelude.{ℕ, ◌+◌, ◌-◌, ◌*◌, ℤ, pos, List, [], ◌∷◌, ◌++◌, take, drop, Bool, true, false, not, ◌&&◌, ◌||◌, nat_le, nat_eq, if◌then◌else◌, Option, Some, None}
+use Rattle.std.specs.Prelude.{ℕ, ◌+◌, ◌-◌, ◌*◌, ℤ, pos, List, [], ◌∷◌, flat_map, take, drop, Bool, true, false, not, ◌&&◌, ◌||◌, nat_le, nat_eq, if◌then◌else◌, Option, Some, None, option_map, option_and_then}
+use Rattle.std.specs.List.{list_all}
 use Rattle.arc_lex.specs.declared.bytes.Class.{Class}
 use Rattle.arc_lex.specs.declared.bytes.Class.TheVariants as c
 use Rattle.arc_lex.specs.declared.number.Base.{Base}
@@ -19,8 +20,7 @@ part_bytes (Plain b) = b ∷ []
 part_bytes (Escape b) = 92 ∷ b ∷ []
 
 abbrev pub parts_bytes : List Part → List ℕ
-parts_bytes [] = []
-parts_bytes (p ∷ ps) = part_bytes p ++ parts_bytes ps
+parts_bytes = flat_map part_bytes
 
 -- the part ends neither the literal nor its line: it is no such quote, no lone backslash and no newline
 abbrev pub goes_on : ℕ → Part → Bool
@@ -28,8 +28,7 @@ goes_on quote (Plain b) = not (nat_eq b quote) && (not (nat_eq b 92) && not (nat
 goes_on quote (Escape b) = not (nat_eq b 10)
 
 abbrev pub all_go_on : ℕ → List Part → Bool
-all_go_on quote [] = true
-all_go_on quote (p ∷ ps) = goes_on quote p && all_go_on quote ps
+all_go_on quote = list_all (goes_on quote)
 
 -- a byte that stands for itself between such quotes: a printed ASCII byte but the quote and the backslash, and in a text also a tab or a
 -- byte above ASCII (the choice of this project)
@@ -56,9 +55,7 @@ part_value quote (Escape b) = escape_value b
 
 -- a byte in front of bytes, if both are there
 abbrev pub put_front : Option ℕ → Option (List ℕ) → Option (List ℕ)
-put_front None bytes = None
-put_front (Some b) None = None
-put_front (Some b) (Some bs) = Some (b ∷ bs)
+put_front byte bytes = option_and_then (λ b. option_map (λ bs. b ∷ bs) bytes) byte
 
 -- the bytes that the parts stand for, if each is a right one (C99, section 6.4.5)
 abbrev pub parts_value : ℕ → List Part → Option (List ℕ)
@@ -88,21 +85,15 @@ number_after base n (d ∷ ds) = number_after base (n * factor base + digit_valu
 abbrev pub number : Base → List ℕ → ℕ
 number base ds = number_after base 0 ds
 
--- the largest integer
-abbrev pub largest : ℕ
-largest = LARGEST
-
 -- a 0 in front of a digit
 abbrev pub leads_with_zero : List ℕ → Bool
-leads_with_zero [] = false
-leads_with_zero (b ∷ []) = false
 leads_with_zero (b ∷ d ∷ bs) = nat_eq b 48 && is_digit d
+leads_with_zero _ = false
 
 -- `0x` or `0X`
 abbrev pub leads_with_x : List ℕ → Bool
-leads_with_x [] = false
-leads_with_x (b ∷ []) = false
 leads_with_x (b ∷ d ∷ bs) = nat_eq b 48 && (nat_eq d 120 || nat_eq d 88)
+leads_with_x _ = false
 
 -- nothing, or a suffix of C's long and long long integers: l, L, ll or LL (C99, section 6.4.4.1)
 abbrev pub may_follow : List ℕ → Bool
@@ -118,7 +109,7 @@ is_empty (b ∷ bs) = false
 -- the integer of a base that is written so, and whether it has a suffix: some digits, which are no more than the largest integer, and nothing or a suffix after them
 abbrev pub integer_of : Base → List ℕ → Option (ℤ × Bool)
 integer_of base bytes =
-    if (begins (digits_of base) bytes && nat_le (number base (take (run (digits_of base) bytes) bytes)) largest) && may_follow (after_run (digits_of base) bytes)
+    if (begins (digits_of base) bytes && nat_le (number base (take (run (digits_of base) bytes) bytes)) LARGEST) && may_follow (after_run (digits_of base) bytes)
     then Some (pos (number base (take (run (digits_of base) bytes) bytes)), not (is_empty (after_run (digits_of base) bytes)))
     else None
 

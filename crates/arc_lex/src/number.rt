@@ -1,6 +1,7 @@
 //! Integers.
 ghost use Rattle.std.specs.Prelude.{◌≡◌, ◌*◌, nat_le, pos, if◌then◌else◌};
-ghost use Rattle.arc_lex.specs.Texts.{number, largest, leads_with_zero, leads_with_x, may_follow, digits_of, factor, digit_value, integer_of, integer};
+ghost use Rattle.arc_lex.specs.Texts.{number, leads_with_zero, leads_with_x, may_follow, digits_of, factor, digit_value, integer_of, integer};
+ghost use Rattle.arc_lex.specs.declared.number.TheConstants.{LARGEST};
 
 use crate::bytes::{Class, begins, run};
 
@@ -39,7 +40,7 @@ fn digit_value(digit: u8) -> u8
 
 /// A number with one digit 0 more, if that is no larger than the largest integer.
 fn shifted(base: Base, n: u64) -> Option<u64>
-    ensures { result ≡ (if nat_le (n * factor base) largest then Some (n * factor base) else None) }
+    ensures { result ≡ (if nat_le (n * factor base) LARGEST then Some (n * factor base) else None) }
 {
     match base {
         Base::Ten => {
@@ -61,7 +62,7 @@ fn shifted(base: Base, n: u64) -> Option<u64>
 
 /// The number that digits are, if it is no larger than the largest integer.
 fn value(base: Base, digits: &[u8]) -> Option<i64>
-    ensures { result ≡ (if nat_le (number base digits.now) largest then Some (pos (number base digits.now)) else None) }
+    ensures { result ≡ (if nat_le (number base digits.now) LARGEST then Some (pos (number base digits.now)) else None) }
 {
     let mut n: u64 = 0;
     for digit in digits {
