@@ -1,10 +1,8 @@
 -- Literals: which bytes they are written with, and what they stand for.
-use Rattle.std.specs.Prelude.{ℕ, ◌+◌, ◌-◌, ◌*◌, ℤ, pos, List, [], ◌∷◌, flat_map, take, drop, Bool, true, false, not, ◌&&◌, ◌||◌, nat_le, nat_eq, if◌then◌else◌, Option, Some, None, option_map, option_and_then}
+use Rattle.std.specs.Prelude.{ℕ, ◌+◌, ◌-◌, ◌*◌, ℤ, pos, List, [], ◌∷◌, flat_map, fold, take, drop, Bool, true, false, not, ◌&&◌, ◌||◌, nat_le, nat_eq, if◌then◌else◌, Option, Some, None, option_map, option_and_then}
 use Rattle.std.specs.List.{list_all}
 use Rattle.arc_lex.specs.declared.bytes.Class.{Class}
 use Rattle.arc_lex.specs.declared.bytes.Class.TheVariants as c
-use Rattle.arc_lex.specs.declared.number.Base.{Base}
-use Rattle.arc_lex.specs.declared.number.Base.TheVariants as bases
 use Rattle.arc_lex.specs.declared.number.TheConstants.{LARGEST}
 use Rattle.arc_lex.specs.Bytes.{begins, run, after_run, is_digit}
 
@@ -64,26 +62,13 @@ parts_value quote (p ∷ ps) = put_front (part_value quote p) (parts_value quote
 
 -- ---- integers
 
-abbrev pub digits_of : Base → Class
-digits_of bases.Ten = c.Digit
-digits_of bases.Sixteen = c.Hexadecimal
-
-abbrev pub factor : Base → ℕ
-factor bases.Ten = 10
-factor bases.Sixteen = 16
-
 -- the value of a digit: 0 to 9, A to F and a to f
 abbrev pub digit_value : ℕ → ℕ
 digit_value d = if nat_le d 57 then d - 48 else if nat_le d 70 then d - 55 else d - 87
 
--- the number that is n, followed by these digits
-abbrev pub number_after : Base → ℕ → List ℕ → ℕ
-number_after base n [] = n
-number_after base n (d ∷ ds) = number_after base (n * factor base + digit_value d) ds
-
--- the number that digits are (C99, section 6.4.4.1)
-abbrev pub number : Base → List ℕ → ℕ
-number base ds = number_after base 0 ds
+-- the number of a base that is n, followed by these digits (C99, section 6.4.4.1)
+abbrev pub number_after : (base n : ℕ) → List ℕ → ℕ
+number_after base = fold (λ n d. n * base + digit_value d)
 
 -- a 0 in front of a digit
 abbrev pub leads_with_zero : List ℕ → Bool
@@ -106,14 +91,15 @@ abbrev pub is_empty : List ℕ → Bool
 is_empty [] = true
 is_empty (b ∷ bs) = false
 
--- the integer of a base that is written so, and whether it has a suffix: some digits, which are no more than the largest integer, and nothing or a suffix after them
-abbrev pub integer_of : Base → List ℕ → Option (ℤ × Bool)
-integer_of base bytes =
-    if (begins (digits_of base) bytes && nat_le (number base (take (run (digits_of base) bytes) bytes)) LARGEST) && may_follow (after_run (digits_of base) bytes)
-    then Some (pos (number base (take (run (digits_of base) bytes) bytes)), not (is_empty (after_run (digits_of base) bytes)))
-    else None
+-- the integer of a base that is written so with its digits, and whether it has a suffix: some digits, which are no more than the largest integer, and nothing or a
+-- suffix after them
+abbrev pub integer_of : (digits : Class) → (base : ℕ) → List ℕ → Option (ℤ × Bool)
+integer_of digits base bytes =
+    let value = number_after base 0 (take (run digits bytes) bytes) in
+    let suffix = after_run digits bytes in
+    if (begins digits bytes && nat_le value LARGEST) && may_follow suffix then Some (pos value, not (is_empty suffix)) else None
 
 -- the integer that is written so, and whether it has a suffix: 0x or 0X and hexadecimal digits, or decimal digits without a 0 in front (C99, section 6.4.4.1; the
 -- range, and that there are no octal integers, is this project's choice)
 abbrev pub integer : List ℕ → Option (ℤ × Bool)
-integer bytes = if leads_with_x bytes then integer_of bases.Sixteen (drop 2 bytes) else if leads_with_zero bytes then None else integer_of bases.Ten bytes
+integer bytes = if leads_with_x bytes then integer_of c.Hexadecimal 16 (drop 2 bytes) else if leads_with_zero bytes then None else integer_of c.Digit 10 bytes
