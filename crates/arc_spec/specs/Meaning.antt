@@ -1,6 +1,7 @@
 -- What a program means: the events that it shows on an input, and how it ends.
 use Rattle.std.specs.Prelude.{ℕ, zero, suc, ◌+◌, ◌-◌, ℤ, pos, List, [], ◌∷◌, ◌++◌, length, Option, Some, None, option_map, Bool, true, false, not, ◌&&◌, nat_eq, slice_get, slice_set, slice_index_or, if◌then◌else◌}
 use Rattle.std.specs.Fmt.{signed_decimal}
+use Rattle.std.specs.Option.{option_map_or}
 use Rattle.arc_ast.specs.declared.tree.BinaryOperator.{BinaryOperator}
 use Rattle.arc_ast.specs.declared.tree.Kind.{Kind}
 use Rattle.arc_ast.specs.declared.tree.Kind.TheVariants as k
@@ -164,9 +165,8 @@ made D (Some c) w = let class = slice_get D.classes c in
 
 -- the temporary before the last one is dropped
 abbrev pub second_dropped : Deeper → List ℕ → World → Outcome Finished
-second_dropped D [] w = Done finished w
-second_dropped D (r ∷ []) w = Done finished w
 second_dropped D (r ∷ made_first ∷ others) w = released D made_first (with_temporaries w (r ∷ others))
+second_dropped D _ w = Done finished w
 
 -- The root's `new` is `[[self alloc] init]`, without a level of its own. Of the two temporaries that these take the one that holds what `init` gives stays, as the caller's,
 -- and the one that holds what was made is dropped (OPL, "Allocating and Initializing Objects").
@@ -370,11 +370,8 @@ nothing_giving wanted = record { slots = 0; names = 0; parameters = 0; gives = w
 
 -- the function of a number, of which this is wanted; one that there isn't, or that gives something else, does nothing
 abbrev pub function_at : Program → (wanted : Gives) → ℕ → Function
-function_at P wanted f = function_of (slice_get P.functions f)
-  where
-    function_of : Option Function → Function
-    function_of None = nothing_giving wanted
-    function_of (Some g) = if same_gives g.gives wanted then g else nothing_giving wanted
+function_at P wanted f =
+    option_map_or (λ g. if same_gives g.gives wanted then g else nothing_giving wanted) (slice_get P.functions f) (nothing_giving wanted)
 
 -- how many strong places a function has but for its temporaries: its variables and, where it gives an object, the place of its result
 abbrev pub function_places : Function → ℕ
