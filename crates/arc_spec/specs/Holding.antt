@@ -2,7 +2,7 @@
 use Rattle.std.specs.Prelude.{◌≡◌, ◌<◌, ℕ, zero, suc, ◌-◌, ℤ, List, [], ◌∷◌, ◌++◌, length, take, drop, Bool, true, false, ◌&&◌, nat_eq, Option, Some, None, slice_get, slice_set, if◌then◌else◌}
 use Rattle.arc_spec.specs.declared.event.Fault.TheVariants.{NilField, FieldClass, Resurrected}
 use Rattle.arc_spec.specs.Classes.{Class, descends, strong_count}
-use Rattle.arc_spec.specs.Objects.{Object, Phase, Live, Dying, Gone, object_at, with_object, in_phase, with_fields, with_strong_fields, is_live, is_emptying, new_object, field_places}
+use Rattle.arc_spec.specs.Objects.{Object, Phase, Live, Dying, Gone, object_at, with_object, in_phase, is_live, is_emptying, new_object, field_places}
 pub use Rattle.arc_spec.specs.Objects.{is_there}
 pub use Rattle.arc_spec.specs.Classes.{count_of}
 use Rattle.arc_spec.specs.Stepping.{Next, Faults, Stuck, only_if}
@@ -102,11 +102,11 @@ on_reference (r ∷ rest) go = go r rest
 
 -- a further reference
 abbrev pub named : ℕ → Held → Held
-named r h = with_names h (r ∷ h.names)
+named r h = record h { names = r ∷ h.names }
 
 -- a further temporary takes this
 abbrev pub taken_by : ℕ → Held → Held
-taken_by r h = raised r (with_temporaries h (r ∷ h.temporaries))
+taken_by r h = raised r (record h { temporaries = r ∷ h.temporaries })
 
 -- the same, where it is nil or an object that isn't gone
 abbrev pub holds : {S : Type 0} → ℕ → Held → (Held → Next S) → Next S
@@ -114,14 +114,14 @@ holds r h go = on_named r h (go (taken_by r h))
 
 -- a further variable, which is nil, before all others; a function that has temporaries gets none
 abbrev pub declares : {S : Type 0} → List ℕ → Held → (Held → Next S) → Next S
-declares [] h go = go (raised 0 (with_variables h (0 ∷ h.variables)))
+declares [] h go = go (raised 0 (record h { variables = 0 ∷ h.variables }))
 declares (r ∷ others) h go = Stuck
 
 -- A place named this and doesn't any more: one holder less is counted. The last one less of an object whose dealloc hasn't begun is the beginning of its end.
 abbrev pub lets_go : {S : Type 0} → ℕ → Held → (stays : Held → Next S) → (ends : (o class : ℕ) → Held → Next S) → Next S
 lets_go zero h stays ends = stays (lowered 0 h)
 lets_go (suc k) h stays ends = on_object (object_at h.objects (suc k)) (λ o. if is_live (Some o) && nat_eq (h.counts (suc k)) 1
-    then ends (suc k) o.class (with_things (lowered (suc k) h) (with_object h.objects (suc k) (in_phase Dying o)))
+    then ends (suc k) o.class (record (lowered (suc k) h) { objects = with_object h.objects (suc k) (in_phase Dying o) })
     else stays (lowered (suc k) h))
 
 -- ---- functions that begin and are left
@@ -151,7 +151,7 @@ all_nil (suc k ∷ others) = false
 
 -- the running function is left: it has no temporary, and its variables, all of them nil, are no more
 abbrev pub on_left : {S : Type 0} → List ℕ → Held → (Held → Next S) → Next S
-on_left [] h go = only_if (all_nil h.variables) (go (with_variables h []))
+on_left [] h go = only_if (all_nil h.variables) (go (record h { variables = [] }))
 on_left (r ∷ others) h go = Stuck
 
 -- what the last of some places names, where the others are nil
@@ -163,19 +163,19 @@ on_last (suc k ∷ q ∷ others) go = Stuck
 
 -- The running function is left with an object: it has no temporary, and its variables, of which all but the last one, its result, are nil, are no more.
 abbrev pub on_result : {S : Type 0} → List ℕ → Held → (ℕ → Held → Next S) → Next S
-on_result [] h go = on_last h.variables (λ r. go r (with_variables h []))
+on_result [] h go = on_last h.variables (λ r. go r (record h { variables = [] }))
 on_result (r ∷ others) h go = Stuck
 
 -- a result is the last temporary, and the last reference names it: no place more or less names it than before it was handed over
 abbrev pub given_back : ℕ → Held → Held
-given_back r h = named r (with_temporaries h (r ∷ h.temporaries))
+given_back r h = named r (record h { temporaries = r ∷ h.temporaries })
 
 -- ---- objects
 
 -- an object is made, a further temporary takes it, and a further reference names it
 abbrev pub makes : List Class → (class : ℕ) → Held → Held
 makes classes class h = named (suc (length h.objects)) (taken_by (suc (length h.objects))
-    (with_things h (h.objects ++ new_object class (count_of (slice_get classes class)) (strong_count (slice_get classes class)) ∷ [])))
+    (record h { objects = h.objects ++ new_object class (count_of (slice_get classes class)) (strong_count (slice_get classes class)) ∷ [] }))
 
 -- a field of an object, whose own class this is
 abbrev pub on_field : {S : Type 0} → List Class → (class r : ℕ) → Held → (Object → Next S) → Next S
@@ -183,11 +183,11 @@ on_field classes class zero h go = Faults NilField
 on_field classes class (suc k) h go = on_object (object_at h.objects (suc k)) (λ o. if descends classes (Some o.class) class then go o else Faults FieldClass)
 
 abbrev pub with_field : Held → ℕ → Object → (index : ℕ) → ℤ → Held
-with_field h r o index v = with_things h (with_object h.objects r (with_fields o (slice_set o.fields index v)))
+with_field h r o index v = record h { objects = with_object h.objects r (record o { fields = slice_set o.fields index v }) }
 
 -- a field of an object names this now
 abbrev pub with_strong_field : Held → ℕ → Object → (index : ℕ) → ℕ → Held
-with_strong_field h r o index value = with_things h (with_object h.objects r (with_strong_fields o (slice_set o.strong index value)))
+with_strong_field h r o index value = record h { objects = with_object h.objects r (record o { strong = slice_set o.strong index value }) }
 
 -- what a place names, where there is that place
 abbrev pub on_place : {S : Type 0} → Option ℕ → Next S → (ℕ → Next S) → Next S

@@ -16,9 +16,9 @@ use Rattle.arc_spec.specs.declared.class.Gives.{Gives}
 use Rattle.arc_spec.specs.declared.class.Gives.TheVariants as gives
 use Rattle.arc_spec.specs.Classes.{Class, superclasses, ancestry, own_dealloc, lookup, or_else, same_gives, new_selector, init_selector, is_root_init, descends, class_at, count_of, strong_count, field_order}
 use Rattle.arc_spec.specs.Number.{converted, applied, combined, low_byte, is_zero}
-use Rattle.arc_spec.specs.Objects.{Object, Phase, Dying, Emptying, Gone, object_at, with_object, in_phase, with_fields, with_strong_fields, is_live, is_emptying, new_object, names}
+use Rattle.arc_spec.specs.Objects.{Object, Phase, Dying, Emptying, Gone, object_at, with_object, in_phase, is_live, is_emptying, new_object, names}
 use Rattle.arc_spec.specs.Resolved.{Piece, Bytes, Decimal, Character, Value, Number, ReadByte, Print, Applied, Combined, Choice, Converted, Location, Local, Global, Read, Assigned, Updated, Invoked, Sent, Receiver, ClassValue, ClassSuper, ObjectValue, ObjectSuper, Field, FieldAssigned, FieldUpdated, Differ, IsObject, Reference, Nil, Itself, Variable, Chosen, Stored, ObjectField, ObjectFieldStored, Made, New, ObjectInvoked, ObjectSent, Arguments, no_arguments, number_argument, object_argument, Command, Sequence, Evaluate, EvaluateReference, Begin, Return, Give, Choose, Repeat, Break, Continue, Commands, no_commands, and_command, Function, Program}
-use Rattle.arc_spec.specs.World.{World, Outcome, Done, Faulted, Cut, then_do, Finished, finished, shows, prints, places, first_world, Given, nothing_given, Answer, entered, left, takes, named_at, stores, with_objects, with_locals, with_globals, with_temporaries, local_at, name_at, next_number, has_read}
+use Rattle.arc_spec.specs.World.{World, Outcome, Done, Faulted, Cut, then_do, Finished, finished, shows, prints, places, first_world, Given, nothing_given, Answer, entered, left, takes, named_at, stores, local_at, name_at, next_number, has_read}
 
 -- what a format writes of these values, of which each number takes the next (C99, section 7.19.6.1)
 abbrev pub formatted : List Piece → List ℤ → List ℕ
@@ -53,8 +53,8 @@ held_at (Global i) w = local_at w.globals i
 
 -- a variable holds this number
 abbrev pub holds : Location → ℤ → World → World
-holds (Local i) x w = with_locals w (slice_set w.frame.locals i x)
-holds (Global i) x w = with_globals w (slice_set w.globals i x)
+holds (Local i) x w = record w { frame = record w.frame { locals = slice_set w.frame.locals i x } }
+holds (Global i) x w = record w { globals = slice_set w.globals i x }
 
 -- what a call does, one level deeper, with what it wants, the number of the function, its `self` and what it is given; what the end of an object does; and the classes of
 -- the program
@@ -72,7 +72,7 @@ released D r w = if is_live (object_at w.objects r) && not (names r (places w)) 
 -- temporaries are dropped, the last one that was taken first (the order is this project's own choice)
 abbrev pub temporaries_dropped : Deeper → List ℕ → World → Outcome Finished
 temporaries_dropped D [] w = Done finished w
-temporaries_dropped D (r ∷ others) w = then_do (released D r (with_temporaries w others)) (λ _ w1. temporaries_dropped D others w1)
+temporaries_dropped D (r ∷ others) w = then_do (released D r (record w { frame = record w.frame { temporaries = others } })) (λ _ w1. temporaries_dropped D others w1)
 
 -- the end of a full-expression (C99, section 6.8, paragraph 4; ARC, "Object operands")
 abbrev pub all_dropped : Deeper → World → Outcome Finished
@@ -161,11 +161,11 @@ next_object w = suc (length w.objects)
 abbrev pub made : Deeper → Option ℕ → World → Outcome ℕ
 made D None w = Faulted Unrecognized w
 made D (Some c) w = let class = slice_get D.classes c in
-    Done (next_object w) (takes (next_object w) (with_objects w (w.objects ++ new_object c (count_of class) (strong_count class) ∷ [])))
+    Done (next_object w) (takes (next_object w) (record w { objects = w.objects ++ new_object c (count_of class) (strong_count class) ∷ [] }))
 
 -- the temporary before the last one is dropped
 abbrev pub second_dropped : Deeper → List ℕ → World → Outcome Finished
-second_dropped D (r ∷ made_first ∷ others) w = released D made_first (with_temporaries w (r ∷ others))
+second_dropped D (r ∷ made_first ∷ others) w = released D made_first (record w { frame = record w.frame { temporaries = r ∷ others } })
 second_dropped D _ w = Done finished w
 
 -- The root's `new` is `[[self alloc] init]`, without a level of its own. Of the two temporaries that these take the one that holds what `init` gives stays, as the caller's,
@@ -194,7 +194,7 @@ field_read D r class index w = in_object D class (object_at w.objects r) (λ o. 
 
 abbrev pub field_set : Deeper → (r class index : ℕ) → ℤ → World → Outcome ℤ
 field_set D r class index v w =
-    in_object D class (object_at w.objects r) (λ o. Done v (with_objects w (with_object w.objects r (with_fields o (slice_set o.fields index v))))) w
+    in_object D class (object_at w.objects r) (λ o. Done v (record w { objects = with_object w.objects r (record o { fields = slice_set o.fields index v }) })) w
 
 -- a field that names an object is read, and a temporary takes what it names (ARC, "Object operands")
 abbrev pub object_field_read : Deeper → (r class index : ℕ) → World → Outcome ℕ
@@ -203,7 +203,7 @@ object_field_read D r class index w =
 
 -- a field of an object names this now
 abbrev pub field_stores : (r : ℕ) → Object → (index value : ℕ) → World → World
-field_stores r o index value w = with_objects w (with_object w.objects r (with_strong_fields o (slice_set o.strong index value)))
+field_stores r o index value w = record w { objects = with_object w.objects r (record o { strong = slice_set o.strong index value }) }
 
 -- A field takes a new value, and then the old one is dropped (ARC, "Assignment"). Where the fields of its object are being destroyed this is a fault (this project's
 -- own choice).
@@ -404,7 +404,7 @@ deallocs_run P D bound (class ∷ others) o w =
 -- an object in another phase
 abbrev pub turned : Phase → (o : ℕ) → Option Object → World → World
 turned phase o None w = w
-turned phase o (Some ob) w = with_objects w (with_object w.objects o (in_phase phase ob))
+turned phase o (Some ob) w = record w { objects = with_object w.objects o (in_phase phase ob) }
 
 -- an object is gone, unless a strong place names it again (this project's own choice)
 abbrev pub gone : (o : ℕ) → World → Outcome Finished

@@ -128,7 +128,7 @@ left before now = record now { frame = before.frame; waiting = before.waiting }
 
 -- a temporary takes an object; nil is taken too, and then the temporary names nothing (ARC, "Object operands")
 abbrev pub takes : ℕ → World → World
-takes r w = with_temporaries w (r ∷ w.frame.temporaries)
+takes r w = record w { frame = record w.frame { temporaries = r ∷ w.frame.temporaries } }
 
 -- what a variable names
 abbrev pub named_at : Location → World → ℕ
@@ -137,8 +137,8 @@ named_at (Global i) w = name_at w.strong_globals i
 
 -- a variable names this now
 abbrev pub stores : Location → ℕ → World → World
-stores (Local i) r w = with_strong w (slice_set w.frame.strong i r)
-stores (Global i) r w = with_strong_globals w (slice_set w.strong_globals i r)
+stores (Local i) r w = record w { frame = record w.frame { strong = slice_set w.frame.strong i r } }
+stores (Global i) r w = record w { strong_globals = slice_set w.strong_globals i r }
 
 -- how a part of a program ends: with a value, stopped by a fault, or cut where a loop would pass the bound on its turns
 pub data Outcome (A : Type 0) : Type 0 where
