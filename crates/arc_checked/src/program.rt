@@ -121,8 +121,8 @@ pub enum Command {
     Give(Reference),
     /// The first where the value isn't 0, else the second.
     Choose(Value, Box<Command>, Box<Command>),
-    /// Again and again, while the value, which is asked for before or after each turn, isn't 0: the body, which is the last one,
-    /// and then the step.
+    /// Again and again, while the value, which is asked for before or after each turn, isn't 0: the body, which is the
+    /// last one, and then the step.
     Repeat(Moment, Value, Box<Command>, Box<Command>),
     Break,
     Continue,
@@ -142,9 +142,9 @@ pub struct CheckedFunction {
     pub body: Vec<Command>,
 }
 
-/// A checked program: the source that it comes from, and the table of that; its functions with a body, in their order, and then
-/// its methods; which of them is `main`; what those of its global variables hold first that hold numbers;
-/// how many of its global variables name objects; and its classes, whose methods run functions.
+/// A checked program: the source that it comes from, and the table of that; its functions with a body, in their order,
+/// and then its methods; which of them is `main`; what those of its global variables hold first that hold numbers; how
+/// many of its global variables name objects; and its classes, whose methods run functions.
 #[derive(Drop)]
 pub struct Checked<'a, 't> {
     pub unit: &'a TranslationUnit,

@@ -33,19 +33,17 @@ repeated-append names (v ∷ xs) ys =
     ap (λ others. own ++ others) (repeated-append more xs ys) ∙ sym (append_assoc own (repeated more xs) (repeated (names_with more xs) ys))
 
 -- one variable more is put into a scope, of a list whose elements stand for variables
-pub variable_turn : {A : Type 0} (trees : List A → List VariableTree) (v : VariableTree) (names after : List ℕ → Bool) (xs : List A) (i : ℕ) (x : A) (so_far one now whole : Option Broken)
-    → trees (x ∷ drop (i + 1) xs) ≡ v ∷ trees (drop (i + 1) xs) → i < length xs → x ≡ get_or xs i x → one ≡ first (broken_if (names v.name) v.at 21) → after ≡ and_name v.name names → now ≡ earlier_of so_far one
-    → whole ≡ earlier_of so_far (first (repeated names (trees (drop i xs)))) → whole ≡ earlier_of now (first (repeated after (trees (drop (i + 1) xs))))
-variable_turn trees v names after xs i x so_far one now whole t l e o a n w =
+pub variable_turn : {A : Type 0} (trees : List A → List VariableTree) (v : VariableTree) (names after all : List ℕ → Bool) (xs : List A) (i : ℕ) (x : A) (name : List ℕ) (so_far one now whole : Option Broken)
+    → trees (x ∷ drop (i + 1) xs) ≡ v ∷ trees (drop (i + 1) xs) → i < length xs → x ≡ get_or xs i x → name ≡ v.name → one ≡ first (broken_if (names name) v.at 21) → after ≡ and_name name names → now ≡ earlier_of so_far one
+    → whole ≡ earlier_of so_far (first (repeated names (trees (drop i xs)))) → all ≡ names_with names (trees (drop i xs))
+    → (whole ≡ earlier_of now (first (repeated after (trees (drop (i + 1) xs))))) × (all ≡ names_with after (trees (drop (i + 1) xs)))
+variable_turn trees v names after all xs i x name so_far one now whole t l e r o a n w m =
     let rest = trees (drop (i + 1) xs) in
-    first_turn (broken_if (names v.name) v.at 21) (repeated (and_name v.name names) rest) so_far one now whole o n (w ∙ ap (λ us. earlier_of so_far (first (repeated names us))) (ap trees (drop_turn xs i x l e) ∙ t))
-    ∙ ap (λ p. earlier_of now (first (repeated p rest))) (sym a)
-
-pub names_turn : {A : Type 0} (trees : List A → List VariableTree) (v : VariableTree) (names after whole : List ℕ → Bool) (xs : List A) (i : ℕ) (x : A)
-    → trees (x ∷ drop (i + 1) xs) ≡ v ∷ trees (drop (i + 1) xs) → i < length xs → x ≡ get_or xs i x → after ≡ and_name v.name names
-    → whole ≡ names_with names (trees (drop i xs)) → whole ≡ names_with after (trees (drop (i + 1) xs))
-names_turn trees v names after whole xs i x t l e a w =
-    w ∙ ap (names_with names) (ap trees (drop_turn xs i x l e) ∙ t) ∙ ap (λ p. names_with p (trees (drop (i + 1) xs))) (sym a)
+    let split = ap trees (drop_turn xs i x l e) ∙ t in
+    let more = a ∙ ap (λ n. and_name n names) r in
+    ( first_turn (broken_if (names v.name) v.at 21) (repeated (and_name v.name names) rest) so_far one now whole (o ∙ ap (λ n. first (broken_if (names n) v.at 21)) r) n (w ∙ ap (λ us. earlier_of so_far (first (repeated names us))) split)
+      ∙ ap (λ p. earlier_of now (first (repeated p rest))) (sym more)
+    , m ∙ ap (names_with names) split ∙ ap (λ p. names_with p rest) (sym more) )
 
 -- what one statement more declares is put into a scope
 pub statement_turn : (vs : List VariableTree) (names after : List ℕ → Bool) (xs : List Stmt) (i : ℕ) (x : Stmt) (so_far one now whole : Option Broken)

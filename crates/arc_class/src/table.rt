@@ -110,8 +110,8 @@ pub(crate) fn type_class<'a>(names: &Names<'a>, written: &'a TypeName) -> Option
     ensures { result ≡ type_class_in names.now (type_tree written.now) }
 {
     match written {
-        TypeName::Bool | TypeName::Int | TypeName::Long | TypeName::Id => None,
         TypeName::Object(_, name) => class_id(class_number(names, name)),
+        _ => None,
     }
 }
 

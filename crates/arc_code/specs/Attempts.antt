@@ -3,7 +3,7 @@
 use Rattle.std.specs.Prelude.{◌≡◌, ◌⊎◌, ℕ, zero, suc, ◌+◌, ◌<◌, ◌≤◌, List, length, drop, Option, ⊤}
 use Rattle.arc_code.specs.declared.counted.TheConstants.{RETRIES}
 use Rattle.arc_code.specs.declared.device.Attempt.{Attempt}
-use Rattle.arc_code.specs.declared.device.Attempt.TheVariants.{Done, Interrupted, Failed}
+use Rattle.arc_code.specs.declared.device.Attempt.TheVariants.{Done, Interrupted}
 use Rattle.arc_code.specs.Calls.{IsUndone}
 
 -- so many calls in a row were interrupted
@@ -24,10 +24,8 @@ pub record Tried {T A : Type 0} (call : T → Attempt A → T → Type 0) (old :
 
 -- a write isn't done, or took no byte
 abbrev pub IsFailedWrite : Attempt ℕ → Type 0
-IsFailedWrite (Done zero) = ⊤
 IsFailedWrite (Done (suc n)) = ⊥
-IsFailedWrite Interrupted = ⊤
-IsFailedWrite Failed = ⊤
+IsFailedWrite _ = ⊤
 
 -- calls failed, which left the device so
 abbrev pub Fails : {T A : Type 0} → (call : T → Attempt A → T → Type 0) → (old new : T) → Type 0

@@ -1,5 +1,5 @@
 -- What a counted reader has left, what a counted writer holds, and how they change.
-use Rattle.std.specs.Prelude.{◌≡◌, ℕ, Bool, true, false, List, [], ◌∷◌, ◌++◌, None, Some, Option}
+use Rattle.std.specs.Prelude.{◌≡◌, ℕ, Bool, false, List, [], ◌∷◌, ◌++◌, None, Some, Option, if◌then◌else◌}
 use Rattle.std.specs.Io.KnownBytes.{Appends, Consumes, IsAtEnd}
 use Rattle.arc_code.specs.declared.counted.Counted.{Counted}
 
@@ -17,13 +17,9 @@ has_ended c = c.at_end
 abbrev pub fresh : {T : Type 0} → T → Counted T
 fresh inner = record { inner = inner; failures = 0; at_end = false }
 
-abbrev pub at_an_end : Bool → Option (List ℕ) → Option (List ℕ)
-at_an_end true known = Some []
-at_an_end false known = known
-
 -- the known bytes that a reader has left: none, once it has answered the end
 abbrev pub left_in : {T : Type 0} → (T → Option (List ℕ)) → Counted T → Option (List ℕ)
-left_in remaining c = at_an_end c.at_end (remaining c.inner)
+left_in remaining c = if c.at_end then Some [] else remaining c.inner
 
 -- the known bytes that a writer holds
 abbrev pub held_by : {T : Type 0} → (T → Option (List ℕ)) → Counted T → Option (List ℕ)

@@ -1,55 +1,17 @@
--- How code is listed, which is this project's own choice: a line for each instruction.
+-- How code is listed, which is this project's own choice: a line for each instruction. An operator, a kind and what is given go by their number in the order of
+-- their type's variants, counted from 0 (`tag_of`).
 use Rattle.std.specs.Prelude.{ℕ, suc, List, [], ◌∷◌, ◌++◌, codes, decimal}
 use Rattle.std.specs.Fmt.{signed_decimal}
-use Rattle.arc_ast.specs.declared.tree.Kind.{Kind}
-use Rattle.arc_ast.specs.declared.tree.Kind.TheVariants as k
-use Rattle.arc_ast.specs.declared.tree.UnaryOperator.{UnaryOperator}
-use Rattle.arc_ast.specs.declared.tree.UnaryOperator.TheVariants as u
-use Rattle.arc_ast.specs.declared.tree.BinaryOperator.{BinaryOperator}
-use Rattle.arc_ast.specs.declared.tree.BinaryOperator.TheVariants as o
+use denote.Enum.Declared.{tag_of}
+use Rattle.arc_ast.specs.contracts.tree.Kind as kinds
+use Rattle.arc_ast.specs.contracts.tree.UnaryOperator as unary
+use Rattle.arc_ast.specs.contracts.tree.BinaryOperator as binary
 use Rattle.arc_spec.specs.declared.class.Gives.{Gives}
-use Rattle.arc_spec.specs.declared.class.Gives.TheVariants as gives
+use Rattle.arc_spec.specs.contracts.class.Gives as results
 use Rattle.arc_code.specs.declared.instr.Op.{Op}
 use Rattle.arc_code.specs.declared.instr.Op.TheVariants.{Num, Bin, Un, Narrow, Pop, Get, Set, GetGlobal, SetGlobal, PrintNum, PrintByte, GetChar, Declare, Nil, ReadSelf, ReadRef, ReadGlobal, ReadField, Hold, Again, Forget, Alloc, Finds, GetField, SetField, Differ, IsObject}
 use Rattle.arc_code.specs.declared.instr.Instr.TheVariants.{Plain, PrintText, Jump, JumpZero, Call, Send, SendSuper, SendTo, SendToSuper, StoreStrong, StoreGlobal, StoreField, Empty, DropAll, Settle, Give, Return, EndStep}
 use Rattle.arc_code.specs.Running.{Instruction}
-
-abbrev pub gives_number : Gives → ℕ
-gives_number gives.Number = 0
-gives_number gives.Object = 1
-
-abbrev pub unary_number : UnaryOperator → ℕ
-unary_number u.Plus = 0
-unary_number u.Negate = 1
-unary_number u.Complement = 2
-unary_number u.Not = 3
-
-abbrev pub operator_number : BinaryOperator → ℕ
-operator_number o.Add = 0
-operator_number o.Subtract = 1
-operator_number o.Multiply = 2
-operator_number o.Divide = 3
-operator_number o.NotEqual = 4
-operator_number o.Remainder = 5
-operator_number o.ShiftLeft = 6
-operator_number o.ShiftRight = 7
-operator_number o.Less = 8
-operator_number o.LessOrEqual = 9
-operator_number o.Greater = 10
-operator_number o.GreaterOrEqual = 11
-operator_number o.Equal = 12
-operator_number o.BitAnd = 13
-operator_number o.BitXor = 14
-operator_number o.BitOr = 15
-operator_number o.And = 16
-operator_number o.Or = 17
-
-abbrev pub kind_number : Kind → ℕ
-kind_number k.Void = 0
-kind_number k.Bool = 1
-kind_number k.Int = 2
-kind_number k.Long = 3
-kind_number k.Object = 4
 
 -- a space, and a number
 abbrev pub operand : ℕ → List ℕ
@@ -58,9 +20,9 @@ operand n = codes " " ++ decimal n
 -- an instruction's name, and its operands
 abbrev pub op_parts : Op → List ℕ × List ℕ
 op_parts (Num n) = (codes "Num", codes " " ++ signed_decimal n)
-op_parts (Bin operator kind) = (codes "Bin", operand (operator_number operator) ++ operand (kind_number kind))
-op_parts (Un operator kind) = (codes "Un", operand (unary_number operator) ++ operand (kind_number kind))
-op_parts (Narrow kind) = (codes "Narrow", operand (kind_number kind))
+op_parts (Bin operator kind) = (codes "Bin", operand (tag_of binary.the_type operator) ++ operand (tag_of kinds.the_type kind))
+op_parts (Un operator kind) = (codes "Un", operand (tag_of unary.the_type operator) ++ operand (tag_of kinds.the_type kind))
+op_parts (Narrow kind) = (codes "Narrow", operand (tag_of kinds.the_type kind))
 op_parts Pop = (codes "Pop", [])
 op_parts (Get depth) = (codes "Get", operand depth)
 op_parts (Set depth) = (codes "Set", operand depth)
@@ -86,14 +48,14 @@ op_parts Differ = (codes "Differ", [])
 op_parts IsObject = (codes "IsObject", [])
 
 abbrev pub message_operands : (selector takes objects : ℕ) → Gives → List ℕ
-message_operands selector takes objects gives = operand selector ++ (operand takes ++ (operand objects ++ operand (gives_number gives)))
+message_operands selector takes objects gives = operand selector ++ (operand takes ++ (operand objects ++ operand (tag_of results.the_type gives)))
 
 abbrev pub parts : Instruction → List ℕ × List ℕ
 parts (Plain op) = op_parts op
 parts (PrintText piece) = (codes "PrintText", operand piece.from ++ operand piece.len)
 parts (Jump to) = (codes "Jump", operand to)
 parts (JumpZero to) = (codes "JumpZero", operand to)
-parts (Call to gives) = (codes "Call", operand to ++ operand (gives_number gives))
+parts (Call to gives) = (codes "Call", operand to ++ operand (tag_of results.the_type gives))
 parts (Send selector takes objects gives) = (codes "Send", message_operands selector takes objects gives)
 parts (SendSuper from selector takes objects gives) = (codes "SendSuper", operand from ++ message_operands selector takes objects gives)
 parts (SendTo selector takes objects gives) = (codes "SendTo", message_operands selector takes objects gives)
@@ -108,15 +70,9 @@ parts Give = (codes "Give", [])
 parts Return = (codes "Return", [])
 parts EndStep = (codes "EndStep", [])
 
-abbrev pub name : Instruction → List ℕ
-name instr = (parts instr).0
-
-abbrev pub operands : Instruction → List ℕ
-operands instr = (parts instr).1
-
 -- the instruction with this number
 abbrev pub line : ℕ → Instruction → List ℕ
-line number instr = decimal number ++ (codes " " ++ name instr) ++ operands instr ++ codes "\n"
+line number instr = decimal number ++ (codes " " ++ (parts instr).0) ++ (parts instr).1 ++ codes "\n"
 
 abbrev pub lines_from : ℕ → List Instruction → List ℕ
 lines_from number [] = []

@@ -4,14 +4,12 @@ ghost use Rattle.std.specs.Fmt.{signed_decimal};
 ghost use Rattle.arc_code.specs.Attempts.{HasFailedToWrite};
 ghost use Rattle.arc_code.specs.Counting.{failures_of, inner_of, held_by};
 ghost use Rattle.arc_code.specs.Written.{Written};
-ghost use Rattle.arc_code.specs.Listing.{gives_number, unary_number, operator_number, kind_number, op_parts, name, operand, operands, line, listing};
+ghost use Rattle.arc_code.specs.Listing.{op_parts, operand, parts, line, listing};
 
 use crate::code::{Code, Instruction, IoFault};
 use crate::counted::Counted;
 use crate::device::Output;
 use crate::instr::{Instr, Op};
-use arc_ast::tree::{BinaryOperator, Kind, UnaryOperator};
-use arc_spec::class::Gives;
 use itoa::Buffer;
 
 /// Writes a line for each instruction: its number, counted from 0, its name, and its operands in
@@ -50,7 +48,7 @@ fn put_line<W: Output>(
 
 fn put_operands<W: Output>(instr: Instruction, writer: &mut Counted<W>) -> Result<(), IoFault>
     requires { failures_of writer.old < 2 ^ 64 - 1 }
-    ensures { Written result (operands instr)
+    ensures { Written result (parts instr).1
         (held_by W.contents writer.old) (held_by W.contents writer.new)
         (failures_of writer.old) (failures_of writer.new)
         (HasFailedToWrite W.writes W.flushes (inner_of writer.new)) }
@@ -59,7 +57,7 @@ fn put_operands<W: Output>(instr: Instruction, writer: &mut Counted<W>) -> Resul
         Instr::Plain(op) => put_op_operands(op, writer),
         Instr::PrintText(piece) => put_pair(u64::from(piece.from), u64::from(piece.len), writer),
         Instr::Jump(to) | Instr::JumpZero(to) => put_operand(to as u64, writer),
-        Instr::Call(to, gives) => put_pair(to as u64, number_of_gives(gives), writer),
+        Instr::Call(to, gives) => put_pair(to as u64, gives as u64, writer),
         Instr::StoreStrong(number) | Instr::StoreGlobal(number) | Instr::Empty(number) => {
             put_operand(number as u64, writer)
         }
@@ -69,7 +67,7 @@ fn put_operands<W: Output>(instr: Instruction, writer: &mut Counted<W>) -> Resul
                 first as u64,
                 second as u64,
                 third as u64,
-                number_of_gives(gives),
+                gives as u64,
                 writer,
             )
         }
@@ -80,7 +78,7 @@ fn put_operands<W: Output>(instr: Instruction, writer: &mut Counted<W>) -> Resul
                 first as u64,
                 second as u64,
                 third as u64,
-                number_of_gives(gives),
+                gives as u64,
                 writer,
             )
         }
@@ -100,14 +98,14 @@ fn put_op_operands<W: Output>(op: Op, writer: &mut Counted<W>) -> Result<(), IoF
     match op {
         Op::Num(number) => put_signed(number, writer),
         Op::Bin(operator, kind) => put_pair(
-            number_of_operator(operator),
-            number_of_kind(kind),
+            operator as u64,
+            kind as u64,
             writer,
         ),
         Op::Un(operator, kind) => {
-            put_pair(number_of_unary(operator), number_of_kind(kind), writer)
+            put_pair(operator as u64, kind as u64, writer)
         }
-        Op::Narrow(kind) => put_operand(number_of_kind(kind), writer),
+        Op::Narrow(kind) => put_operand(kind as u64, writer),
         Op::Get(depth) | Op::Set(depth) => put_operand(depth as u64, writer),
         Op::GetGlobal(number)
         | Op::SetGlobal(number)
@@ -219,7 +217,7 @@ fn put_number<W: Output>(number: u64, writer: &mut Counted<W>) -> Result<(), IoF
 
 fn put_name<W: Output>(instr: Instruction, writer: &mut Counted<W>) -> Result<(), IoFault>
     requires { failures_of writer.old < 2 ^ 64 - 1 }
-    ensures { Written result (codes " " ++ name instr)
+    ensures { Written result (codes " " ++ (parts instr).0)
         (held_by W.contents writer.old) (held_by W.contents writer.new)
         (failures_of writer.old) (failures_of writer.new)
         (HasFailedToWrite W.writes W.flushes (inner_of writer.new)) }
@@ -253,7 +251,7 @@ fn put<W: Output>(bytes: &[u8], writer: &mut Counted<W>) -> Result<(), IoFault>
 }
 
 fn name_of(instr: Instruction) -> &'static str
-    ensures { result.now ≡ name instr }
+    ensures { result.now ≡ (parts instr).0 }
 {
     match instr {
         Instr::Plain(op) => name_of_op(op),
@@ -308,62 +306,5 @@ fn name_of_op(op: Op) -> &'static str
         Op::SetField(_, _) => "SetField",
         Op::Differ => "Differ",
         Op::IsObject => "IsObject",
-    }
-}
-
-fn number_of_gives(gives: Gives) -> u64
-    ensures { result ≡ gives_number gives }
-{
-    match gives {
-        Gives::Number => 0,
-        Gives::Object => 1,
-    }
-}
-
-fn number_of_unary(operator: UnaryOperator) -> u64
-    ensures { result ≡ unary_number operator }
-{
-    match operator {
-        UnaryOperator::Plus => 0,
-        UnaryOperator::Negate => 1,
-        UnaryOperator::Complement => 2,
-        UnaryOperator::Not => 3,
-    }
-}
-
-fn number_of_operator(operator: BinaryOperator) -> u64
-    ensures { result ≡ operator_number operator }
-{
-    match operator {
-        BinaryOperator::Add => 0,
-        BinaryOperator::Subtract => 1,
-        BinaryOperator::Multiply => 2,
-        BinaryOperator::Divide => 3,
-        BinaryOperator::NotEqual => 4,
-        BinaryOperator::Remainder => 5,
-        BinaryOperator::ShiftLeft => 6,
-        BinaryOperator::ShiftRight => 7,
-        BinaryOperator::Less => 8,
-        BinaryOperator::LessOrEqual => 9,
-        BinaryOperator::Greater => 10,
-        BinaryOperator::GreaterOrEqual => 11,
-        BinaryOperator::Equal => 12,
-        BinaryOperator::BitAnd => 13,
-        BinaryOperator::BitXor => 14,
-        BinaryOperator::BitOr => 15,
-        BinaryOperator::And => 16,
-        BinaryOperator::Or => 17,
-    }
-}
-
-fn number_of_kind(kind: Kind) -> u64
-    ensures { result ≡ kind_number kind }
-{
-    match kind {
-        Kind::Void => 0,
-        Kind::Bool => 1,
-        Kind::Int => 2,
-        Kind::Long => 3,
-        Kind::Object => 4,
     }
 }

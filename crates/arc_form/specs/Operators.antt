@@ -3,6 +3,8 @@ use Rattle.std.specs.Prelude.{ℕ, List, [], ◌∷◌, Option, Some, None, nat_
 use Rattle.arc_lex.specs.declared.token.Mark.{Mark}
 use Rattle.arc_lex.specs.Tokens.{Tok, Sort, Sign}
 use Rattle.arc_form.specs.Kinds.{Kinds, none, ◌∪◌, mark, kind, has, is}
+-- what is joined from the left
+pub use Rattle.std.specs.Prelude.{fold}
 
 -- A mark, its level, which is the higher the looser it binds, and the operator that it is.
 pub record Row (O : Type 0) : Type 0 where
@@ -33,8 +35,3 @@ operator_of other (r ∷ rows) t = if is (mark r.mark) t then r.operator else op
 -- and its place
 abbrev pub placed_operator : {O : Type 0} → O → List (Row O) → Tok → ℕ × O
 placed_operator other rows t = (t.from, operator_of other rows t)
-
--- what is joined from the left
-abbrev pub fold : {A B : Type 0} → (B → A → B) → B → List A → B
-fold join b [] = b
-fold join b (a ∷ others) = fold join (join b a) others

@@ -3,22 +3,22 @@ use Rattle.std.proofs.Common.{◌≡◌, inl, inr, ℕ, pos, List, [], ◌∷◌
 use Rattle.std.proofs.lemmas.Bool.{and_from, or_right}
 use Rattle.std.proofs.lemmas.Bool.Decides.{nat_tests}
 use Rattle.arc_lex.specs.declared.bytes.Class.TheVariants as c
-use Rattle.arc_lex.specs.declared.number.Base.TheVariants as bases
 use Rattle.arc_lex.specs.declared.piece.Rule.{Rule}
 use Rattle.arc_lex.specs.declared.piece.Rule.TheVariants as rules
 use Rattle.arc_lex.specs.declared.token.AtWord.TheVariants as ats
 use Rattle.arc_lex.specs.declared.token.Mark.TheVariants as m
 use Rattle.arc_lex.specs.Bytes.{has, is_letter, is_digit}
 use Rattle.arc_lex.specs.Source.{IsToken, IsClosed, IsOpenQuoted, IsWrongInteger, Breaks}
-use Rattle.arc_lex.specs.Texts.{Part, Plain, number, largest}
+use Rattle.arc_lex.specs.Texts.{Part, Plain, number_after}
+use Rattle.arc_lex.specs.declared.number.TheConstants.{LARGEST}
 use Rattle.arc_lex.specs.Tokens.{Sort, Integer, Text, At, Sign}
 use Rattle.arc_lex.proofs.Faultless.{Begun, begun_first, wrong_first}
 use Rattle.arc_lex.proofs.Firsts.{head_is, tail_is, digit_not}
 
 -- a digit alone is an integer
-digit_token : (b : ℕ) → is_digit b ≡ true → IsToken (b ∷ []) (Integer (pos (number bases.Ten (b ∷ []))) false)
+digit_token : (b : ℕ) → is_digit b ≡ true → IsToken (b ∷ []) (Integer (pos (number_after 10 0 (b ∷ []))) false)
 digit_token b e =
-    let small : nat_le (number bases.Ten (b ∷ [])) largest ≡ true = grind (arith, nat_tests) in
+    let small : nat_le (number_after 10 0 (b ∷ [])) LARGEST ≡ true = grind (arith, nat_tests) in
     inl ((e, and_from (has c.InName b) true (or_right (is_letter b) (is_digit b) e) refl), rw (e, small) refl)
 
 -- the bytes with which a rule but BadByte can be broken, by rule
@@ -68,7 +68,7 @@ module _ (starts : Bool) (b : ℕ) (bs : List ℕ) where
   not_bad rules.OpenLiteral h (inr (rest, e, closed)) = absurd (begun_first b bs (begun_apostrophe (head_is b 39 bs rest e)) h)
   not_bad rules.Literal h (inl (parts, (after, e, on), wrong)) = absurd (begun_first b bs (begun_quote (head_is b 34 bs _ e)) h)
   not_bad rules.Literal h (inr (inl (parts, (after, e, on), wrong))) = absurd (begun_first b bs (begun_apostrophe (head_is b 39 bs _ e)) h)
-  not_bad rules.Literal h (inr (inr k)) = absurd (begun_first b bs (inr (inl ([], Integer (pos (number bases.Ten (b ∷ []))) false, digit_token b (wrong_first b bs k)))) h)
+  not_bad rules.Literal h (inr (inr k)) = absurd (begun_first b bs (inr (inl ([], Integer (pos (number_after 10 0 (b ∷ []))) false, digit_token b (wrong_first b bs k)))) h)
   not_bad rules.Directive h (inl (rest, e, other)) = absurd (begun_first b bs (begun_at (head_is b 64 bs rest e)) h)
   not_bad rules.Directive h (inr (rest, e, other)) = absurd (begun_first b bs (inr (inr (head_is b 35 bs rest e))) h)
 

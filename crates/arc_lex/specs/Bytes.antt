@@ -1,5 +1,6 @@
 -- Sets of bytes, by their ASCII codes, and runs of them.
 use Rattle.std.specs.Prelude.{ℕ, ◌+◌, List, [], ◌∷◌, drop, Bool, true, false, not, ◌&&◌, ◌||◌, nat_le, nat_eq, if◌then◌else◌}
+use Rattle.std.specs.List.{list_all}
 use Rattle.arc_lex.specs.declared.bytes.Class.{Class}
 use Rattle.arc_lex.specs.declared.bytes.Class.TheVariants as c
 
@@ -29,8 +30,7 @@ has c.InLine b = not (nat_eq b 10)
 
 -- whether each byte is in the class
 abbrev pub all_in : Class → List ℕ → Bool
-all_in class [] = true
-all_in class (b ∷ bs) = has class b && all_in class bs
+all_in class = list_all (has class)
 
 -- whether the first byte is in the class
 abbrev pub begins : Class → List ℕ → Bool

@@ -1,5 +1,5 @@
 -- What the tokens of a source are, and where a source has none.
-use Rattle.std.specs.Prelude.{◌≡◌, ◌≤◌, ◌⊎◌, ℕ, ◌+◌, ℤ, pos, List, [], ◌∷◌, ◌++◌, length, slice_range, drop, codes, Bool, true, false, ◌&&◌, ◌||◌, nat_eq, if◌then◌else◌, Option, Some, None}
+use Rattle.std.specs.Prelude.{◌≡◌, ◌≤◌, ◌⊎◌, ℕ, ◌+◌, ℤ, pos, List, [], ◌∷◌, ◌++◌, length, slice_range, drop, codes, Bool, true, false, ◌&&◌, ◌||◌, nat_eq, if◌then◌else◌, Option, Some, None, option_map}
 use Rattle.std.specs.List.{starts_with}
 use Rattle.arc_lex.specs.declared.token.Word.{Word}
 use Rattle.arc_lex.specs.declared.token.AtWord.{AtWord}
@@ -50,15 +50,10 @@ pub record Longest (xs : List ℕ) (s : Sort) (rest : List ℕ) : Type 0 where
 abbrev pub IsComment : List ℕ → Type 0
 IsComment bytes = (b : ℕ) × (rest : List ℕ) × (bytes ≡ 47 ∷ b ∷ rest) × ((b ≡ 47) ⊎ (b ≡ 42))
 
--- one more, if there is a number
-abbrev pub one_more : Option ℕ → Option ℕ
-one_more None = None
-one_more (Some n) = Some (n + 1)
-
 -- how many bytes there are up to the first `*/` and with it, if there is one. `star` says whether a `*` stands right in front of the bytes
 abbrev pub to_close : Bool → List ℕ → Option ℕ
 to_close star [] = None
-to_close star (b ∷ bs) = if star && nat_eq b 47 then Some 1 else one_more (to_close (nat_eq b 42) bs)
+to_close star (b ∷ bs) = if star && nat_eq b 47 then Some 1 else option_map (λ n. n + 1) (to_close (nat_eq b 42) bs)
 
 -- `//`, and all up to the end of the line; a backslash there doesn't join the next line to it (C99, section 5.1.1.2, does)
 abbrev pub IsLineComment : List ℕ → List ℕ → Type 0

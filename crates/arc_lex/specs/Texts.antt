@@ -1,9 +1,8 @@
 -- Literals: which bytes they are written with, and what they stand for.
-use Rattle.std.specs.Prelude.{ℕ, ◌+◌, ◌-◌, ◌*◌, ℤ, pos, List, [], ◌∷◌, ◌++◌, take, drop, Bool, true, false, not, ◌&&◌, ◌||◌, nat_le, nat_eq, if◌then◌else◌, Option, Some, None}
+use Rattle.std.specs.Prelude.{ℕ, ◌+◌, ◌-◌, ◌*◌, ℤ, pos, List, [], ◌∷◌, flat_map, fold, take, drop, Bool, true, false, not, ◌&&◌, ◌||◌, nat_le, nat_eq, if◌then◌else◌, Option, Some, None, option_map, option_and_then}
+use Rattle.std.specs.List.{list_all}
 use Rattle.arc_lex.specs.declared.bytes.Class.{Class}
 use Rattle.arc_lex.specs.declared.bytes.Class.TheVariants as c
-use Rattle.arc_lex.specs.declared.number.Base.{Base}
-use Rattle.arc_lex.specs.declared.number.Base.TheVariants as bases
 use Rattle.arc_lex.specs.declared.number.TheConstants.{LARGEST}
 use Rattle.arc_lex.specs.Bytes.{begins, run, after_run, is_digit}
 
@@ -19,8 +18,7 @@ part_bytes (Plain b) = b ∷ []
 part_bytes (Escape b) = 92 ∷ b ∷ []
 
 abbrev pub parts_bytes : List Part → List ℕ
-parts_bytes [] = []
-parts_bytes (p ∷ ps) = part_bytes p ++ parts_bytes ps
+parts_bytes = flat_map part_bytes
 
 -- the part ends neither the literal nor its line: it is no such quote, no lone backslash and no newline
 abbrev pub goes_on : ℕ → Part → Bool
@@ -28,8 +26,7 @@ goes_on quote (Plain b) = not (nat_eq b quote) && (not (nat_eq b 92) && not (nat
 goes_on quote (Escape b) = not (nat_eq b 10)
 
 abbrev pub all_go_on : ℕ → List Part → Bool
-all_go_on quote [] = true
-all_go_on quote (p ∷ ps) = goes_on quote p && all_go_on quote ps
+all_go_on quote = list_all (goes_on quote)
 
 -- a byte that stands for itself between such quotes: a printed ASCII byte but the quote and the backslash, and in a text also a tab or a
 -- byte above ASCII (the choice of this project)
@@ -56,9 +53,7 @@ part_value quote (Escape b) = escape_value b
 
 -- a byte in front of bytes, if both are there
 abbrev pub put_front : Option ℕ → Option (List ℕ) → Option (List ℕ)
-put_front None bytes = None
-put_front (Some b) None = None
-put_front (Some b) (Some bs) = Some (b ∷ bs)
+put_front byte bytes = option_and_then (λ b. option_map (λ bs. b ∷ bs) bytes) byte
 
 -- the bytes that the parts stand for, if each is a right one (C99, section 6.4.5)
 abbrev pub parts_value : ℕ → List Part → Option (List ℕ)
@@ -67,42 +62,23 @@ parts_value quote (p ∷ ps) = put_front (part_value quote p) (parts_value quote
 
 -- ---- integers
 
-abbrev pub digits_of : Base → Class
-digits_of bases.Ten = c.Digit
-digits_of bases.Sixteen = c.Hexadecimal
-
-abbrev pub factor : Base → ℕ
-factor bases.Ten = 10
-factor bases.Sixteen = 16
-
 -- the value of a digit: 0 to 9, A to F and a to f
 abbrev pub digit_value : ℕ → ℕ
 digit_value d = if nat_le d 57 then d - 48 else if nat_le d 70 then d - 55 else d - 87
 
--- the number that is n, followed by these digits
-abbrev pub number_after : Base → ℕ → List ℕ → ℕ
-number_after base n [] = n
-number_after base n (d ∷ ds) = number_after base (n * factor base + digit_value d) ds
-
--- the number that digits are (C99, section 6.4.4.1)
-abbrev pub number : Base → List ℕ → ℕ
-number base ds = number_after base 0 ds
-
--- the largest integer
-abbrev pub largest : ℕ
-largest = LARGEST
+-- the number of a base that is n, followed by these digits (C99, section 6.4.4.1)
+abbrev pub number_after : (base n : ℕ) → List ℕ → ℕ
+number_after base = fold (λ n d. n * base + digit_value d)
 
 -- a 0 in front of a digit
 abbrev pub leads_with_zero : List ℕ → Bool
-leads_with_zero [] = false
-leads_with_zero (b ∷ []) = false
 leads_with_zero (b ∷ d ∷ bs) = nat_eq b 48 && is_digit d
+leads_with_zero _ = false
 
 -- `0x` or `0X`
 abbrev pub leads_with_x : List ℕ → Bool
-leads_with_x [] = false
-leads_with_x (b ∷ []) = false
 leads_with_x (b ∷ d ∷ bs) = nat_eq b 48 && (nat_eq d 120 || nat_eq d 88)
+leads_with_x _ = false
 
 -- nothing, or a suffix of C's long and long long integers: l, L, ll or LL (C99, section 6.4.4.1)
 abbrev pub may_follow : List ℕ → Bool
@@ -115,14 +91,15 @@ abbrev pub is_empty : List ℕ → Bool
 is_empty [] = true
 is_empty (b ∷ bs) = false
 
--- the integer of a base that is written so, and whether it has a suffix: some digits, which are no more than the largest integer, and nothing or a suffix after them
-abbrev pub integer_of : Base → List ℕ → Option (ℤ × Bool)
-integer_of base bytes =
-    if (begins (digits_of base) bytes && nat_le (number base (take (run (digits_of base) bytes) bytes)) largest) && may_follow (after_run (digits_of base) bytes)
-    then Some (pos (number base (take (run (digits_of base) bytes) bytes)), not (is_empty (after_run (digits_of base) bytes)))
-    else None
+-- the integer of a base that is written so with its digits, and whether it has a suffix: some digits, which are no more than the largest integer, and nothing or a
+-- suffix after them
+abbrev pub integer_of : (digits : Class) → (base : ℕ) → List ℕ → Option (ℤ × Bool)
+integer_of digits base bytes =
+    let value = number_after base 0 (take (run digits bytes) bytes) in
+    let suffix = after_run digits bytes in
+    if (begins digits bytes && nat_le value LARGEST) && may_follow suffix then Some (pos value, not (is_empty suffix)) else None
 
 -- the integer that is written so, and whether it has a suffix: 0x or 0X and hexadecimal digits, or decimal digits without a 0 in front (C99, section 6.4.4.1; the
 -- range, and that there are no octal integers, is this project's choice)
 abbrev pub integer : List ℕ → Option (ℤ × Bool)
-integer bytes = if leads_with_x bytes then integer_of bases.Sixteen (drop 2 bytes) else if leads_with_zero bytes then None else integer_of bases.Ten bytes
+integer bytes = if leads_with_x bytes then integer_of c.Hexadecimal 16 (drop 2 bytes) else if leads_with_zero bytes then None else integer_of c.Digit 10 bytes

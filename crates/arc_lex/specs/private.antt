@@ -1,3 +1,4 @@
 -- The vocabulary of private functions: no contract of a public call speaks of it.
+pub mod Bases
 pub mod Pieces
 pub mod Scans

@@ -1,6 +1,8 @@
 //! Integers.
 ghost use Rattle.std.specs.Prelude.{◌≡◌, ◌*◌, nat_le, pos, if◌then◌else◌};
-ghost use Rattle.arc_lex.specs.Texts.{number, largest, leads_with_zero, leads_with_x, may_follow, digits_of, factor, digit_value, integer_of, integer};
+ghost use Rattle.arc_lex.specs.Texts.{number_after, leads_with_zero, leads_with_x, may_follow, digit_value, integer_of, integer};
+ghost use Rattle.arc_lex.specs.private.Bases.{digits_of, factor};
+ghost use Rattle.arc_lex.specs.declared.number.TheConstants.{LARGEST};
 
 use crate::bytes::{Class, begins, run};
 
@@ -39,7 +41,7 @@ fn digit_value(digit: u8) -> u8
 
 /// A number with one digit 0 more, if that is no larger than the largest integer.
 fn shifted(base: Base, n: u64) -> Option<u64>
-    ensures { result ≡ (if nat_le (n * factor base) largest then Some (n * factor base) else None) }
+    ensures { result ≡ (if nat_le (n * factor base) LARGEST then Some (n * factor base) else None) }
 {
     match base {
         Base::Ten => {
@@ -61,7 +63,7 @@ fn shifted(base: Base, n: u64) -> Option<u64>
 
 /// The number that digits are, if it is no larger than the largest integer.
 fn value(base: Base, digits: &[u8]) -> Option<i64>
-    ensures { result ≡ (if nat_le (number base digits.now) largest then Some (pos (number base digits.now)) else None) }
+    ensures { result ≡ (if nat_le (number_after (factor base) 0 digits.now) LARGEST then Some (pos (number_after (factor base) 0 digits.now)) else None) }
 {
     let mut n: u64 = 0;
     for digit in digits {
@@ -107,7 +109,7 @@ fn may_follow(bytes: &[u8]) -> bool
 
 /// The integer of a base that is written so after `0x`, and whether it has a suffix.
 fn integer_of(base: Base, bytes: &[u8]) -> Option<(i64, bool)>
-    ensures { result ≡ integer_of base bytes.now }
+    ensures { result ≡ integer_of (digits_of base) (factor base) bytes.now }
 {
     let class = digits_of(base);
     let (digits, suffix) = bytes.split_at(run(class, bytes));

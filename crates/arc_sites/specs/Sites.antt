@@ -1,8 +1,8 @@
 -- The sites of a source: each node of its tree, with what surrounds it. They are this project's own words for the rules of later stages.
-use Rattle.std.specs.Prelude.{ℕ, List, [], ◌∷◌, ◌++◌, flat_map, Option, Some, None}
+use Rattle.std.specs.Prelude.{ℕ, List, [], ◌∷◌, ◌++◌, flat_map, Option, Some}
 use Rattle.std.specs.Option.{option_map_or}
 use Rattle.arc_ast.specs.declared.tree.Qualifiers.{Qualifiers}
-use Rattle.arc_ast.specs.Tree.{TypeTree, ExprTree, ExprTrees, Paren, Call, Unary, Cast, Binary, Conditional, Arrow, Assign, Update, Send, SendSuper, no_exprs, and_expr, VariableTree, StmtTree, StmtTrees, Block, Empty, Simple, Return, Variables, If, IfElse, While, For, Break, Continue, no_stmts, and_stmt, ParameterTree, ParametersTree, Listed, CountAndTexts, FunctionTree, GlobalTree, FieldTree, HeadTree, MethodTree, InterfaceTree, ImplementationTree, UnitTree}
+use Rattle.arc_ast.specs.Tree.{TypeTree, ExprTree, ExprTrees, Paren, Call, Unary, Cast, Binary, Conditional, Arrow, Assign, Update, Send, SendSuper, no_exprs, and_expr, VariableTree, StmtTree, StmtTrees, Block, Simple, Return, Variables, If, IfElse, While, For, no_stmts, and_stmt, ParameterTree, ParametersTree, Listed, CountAndTexts, FunctionTree, GlobalTree, FieldTree, HeadTree, MethodTree, InterfaceTree, ImplementationTree, UnitTree}
 
 -- ---- what surrounds a node
 
@@ -68,14 +68,12 @@ maybe_sites m a = option_map_or (sites m) a []
 
 -- the sites of a declaration's variables
 abbrev pub variable_sites : Enclosing → Qualifiers → TypeTree → List VariableTree → List Site
-variable_sites m qualifiers type [] = []
-variable_sites m qualifiers type (v ∷ others) = (site m (Variable qualifiers type v) ++ maybe_sites m v.initial) ++ variable_sites m qualifiers type others
+variable_sites m qualifiers type = flat_map (λ v. site m (Variable qualifiers type v) ++ maybe_sites m v.initial)
 
 -- the sites inside a statement, and of statements
 abbrev mutual
   pub within : Enclosing → StmtTree → List Site
   within m (Block at all) = all_sites m all
-  within m (Empty at) = []
   within m (Simple a) = sites m a
   within m (Return at a) = maybe_sites m a
   within m (Variables at qualifiers type all) = variable_sites m qualifiers type all
@@ -83,8 +81,7 @@ abbrev mutual
   within m (IfElse at c a b) = sites m c ++ ((site m (Statement a) ++ within m a) ++ (site m (Statement b) ++ within m b))
   within m (While at moment c a) = sites m c ++ (site m (Statement a) ++ within m a)
   within m (For at a c e b) = (site m (Statement a) ++ within m a) ++ (maybe_sites m c ++ (maybe_sites m e ++ (site m (Statement b) ++ within m b)))
-  within m (Break at) = []
-  within m (Continue at) = []
+  within m _ = []
 
   pub all_sites : Enclosing → StmtTrees → List Site
   all_sites m no_stmts = []
@@ -103,14 +100,10 @@ named_parameters CountAndTexts = []
 
 -- the sites of a body, if there is one; with its parameters it is one itself
 abbrev pub body_sites : Enclosing → List ParameterTree → Option StmtTrees → List Site
-body_sites m parameters None = []
-body_sites m parameters (Some body) = site m (Body parameters body) ++ all_sites m body
+body_sites m parameters body = option_map_or (λ all. site m (Body parameters all) ++ all_sites m all) body []
 
 abbrev pub function_sites : FunctionTree → List Site
 function_sites f = site InFunction (Function f) ++ body_sites InFunction (named_parameters f.parameters) f.body
-
-abbrev pub head_sites : (class : List ℕ) → HeadTree → List Site
-head_sites class h = site (InInterface class) (Declared h)
 
 abbrev pub method_sites : (class : List ℕ) → MethodTree → List Site
 method_sites class m = site (InMethod class m.head) (Defined m.head) ++ body_sites (InMethod class m.head) m.head.parameters (Some m.body)
@@ -118,15 +111,12 @@ method_sites class m = site (InMethod class m.head) (Defined m.head) ++ body_sit
 abbrev pub field_sites : Enclosing → List FieldTree → List Site
 field_sites m = flat_map (λ f. site m (Field f))
 
-abbrev pub global_sites : GlobalTree → List Site
-global_sites g = site InSource (Global g)
-
 abbrev pub interface_sites : InterfaceTree → List Site
-interface_sites i = field_sites (InInterface i.name) i.fields ++ flat_map (head_sites i.name) i.methods
+interface_sites i = field_sites (InInterface i.name) i.fields ++ flat_map (λ h. site (InInterface i.name) (Declared h)) i.methods
 
 abbrev pub implementation_sites : ImplementationTree → List Site
 implementation_sites i = field_sites (InImplementation i.name) i.fields ++ flat_map (method_sites i.name) i.methods
 
 -- the sites of a source
 abbrev pub unit_sites : UnitTree → List Site
-unit_sites u = flat_map function_sites u.functions ++ (flat_map global_sites u.globals ++ (flat_map interface_sites u.interfaces ++ flat_map implementation_sites u.implementations))
+unit_sites u = flat_map function_sites u.functions ++ (flat_map (λ g. site InSource (Global g)) u.globals ++ (flat_map interface_sites u.interfaces ++ flat_map implementation_sites u.implementations))

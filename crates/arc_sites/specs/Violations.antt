@@ -1,6 +1,7 @@
 -- Violations of rules, of which the first is reported (this project's own choice).
 use Rattle.std.specs.Prelude.{◌≡◌, ℕ, Bool, false, ◌&&◌, ◌||◌, nat_lt, nat_eq, List, [], ◌∷◌, Option, Some, None, if◌then◌else◌}
 use Rattle.std.specs.List.{All, Contains}
+use Rattle.std.specs.Option.{option_map_or}
 use Rattle.arc_sites.specs.declared.violation.Violation.{Violation}
 
 -- whether a is reported before b: it is at an earlier place, or at the same place with a lower number
@@ -32,5 +33,4 @@ at_if breaks at = if breaks then Some at else None
 
 -- the violation of the rule with a number, where there is a place that breaks it
 abbrev pub violates : (number : ℕ) → (place : Option ℕ) → List Violation
-violates number None = []
-violates number (Some at) = record { at = at; number = number } ∷ []
+violates number place = option_map_or (λ at. record { at = at; number = number } ∷ []) place []

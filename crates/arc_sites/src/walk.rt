@@ -244,7 +244,7 @@ fn functions<V: Visitor>(visitor: &mut V, all: &[Function]) -> Result<(), V::Err
 
 /// Visits some variables of the whole program.
 fn globals<V: Visitor>(visitor: &mut V, all: &[Global]) -> Result<(), V::Error>
-    ensures found { OnOk result (V.found visitor.new ≡ found_from (V.violations visitor.old) (V.found visitor.old) (flat_map sites.global_sites (global_trees all.now))) }
+    ensures found { OnOk result (V.found visitor.new ≡ found_from (V.violations visitor.old) (V.found visitor.old) (flat_map (λ g. sites.site sites.InSource (sites.Global g)) (global_trees all.now))) }
     ensures same { OnOk result (V.violations visitor.new ≡ V.violations visitor.old) }
 {
     for global in all {
@@ -270,7 +270,7 @@ fn heads<V: Visitor>(
     interface: &Interface,
     all: &[MethodHead],
 ) -> Result<(), V::Error>
-    ensures found { OnOk result (V.found visitor.new ≡ found_from (V.violations visitor.old) (V.found visitor.old) (flat_map (sites.head_sites interface.now.name.items) (head_trees all.now))) }
+    ensures found { OnOk result (V.found visitor.new ≡ found_from (V.violations visitor.old) (V.found visitor.old) (flat_map (λ h. sites.site (sites.InInterface interface.now.name.items) (sites.Declared h)) (head_trees all.now))) }
     ensures same { OnOk result (V.violations visitor.new ≡ V.violations visitor.old) }
 {
     for head in all {

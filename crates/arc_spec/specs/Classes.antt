@@ -1,6 +1,7 @@
 -- Classes, and the methods that messages find.
-use Rattle.std.specs.Prelude.{ℕ, zero, suc, ◌-◌, ℤ, pos, negsuc, Bool, true, false, ◌&&◌, nat_eq, nat_lt, List, [], ◌∷◌, ◌++◌, length, map, Option, Some, None, slice_get, if◌then◌else◌}
+use Rattle.std.specs.Prelude.{ℕ, zero, suc, ◌-◌, ℤ, pos, negsuc, Bool, true, false, ◌&&◌, nat_eq, nat_lt, List, [], ◌∷◌, ◌++◌, length, map, Option, Some, None, option_and_then, slice_get, if◌then◌else◌}
 use Rattle.std.specs.List.{list_any}
+use Rattle.std.specs.Option.{option_map_or, option_or}
 use Rattle.arc_ast.specs.declared.tree.Kind.{Kind}
 use Rattle.arc_ast.specs.declared.tree.Kind.TheVariants as k
 use Rattle.arc_ast.specs.declared.tree.Sign.{Sign}
@@ -54,8 +55,7 @@ found sign selector takes objects wanted (m ∷ others) =
 -- ---- the classes above a class
 
 abbrev pub and_above : (class : ℕ) → (superclass : Option (Option ℕ)) → (above : Option ℕ → List ℕ) → List ℕ
-and_above class None above = []
-and_above class (Some superclass) above = class ∷ above superclass
+and_above class superclass above = option_map_or (λ s. class ∷ above s) superclass []
 
 abbrev pub ancestry_within : (n : ℕ) → (superclasses : List (Option ℕ)) → (from : Option ℕ) → List ℕ
 ancestry_within n superclasses None = []
@@ -75,8 +75,7 @@ superclasses = map superclass_of
 
 -- the first of two, if there is one
 abbrev pub or_else : {X : Type 0} → Option X → Option X → Option X
-or_else (Some a) b = Some a
-or_else None b = b
+or_else = option_or
 
 -- what the first of these has that has something
 abbrev pub first_that_has : {X Y : Type 0} → (X → Option Y) → List X → Option Y
@@ -86,8 +85,7 @@ first_that_has has (x ∷ others) = or_else (has x) (first_that_has has others)
 -- ---- messages
 
 abbrev pub own_methods : Option Class → List Method
-own_methods None = []
-own_methods (Some c) = c.methods
+own_methods c = option_map_or (λ c. c.methods) c []
 
 -- What a message runs: the method of the first class that has one, from the class with this number up to the root (OPL, "How Messaging Works").
 abbrev pub lookup : List Class → Option ℕ → Sign → (selector takes objects : ℕ) → (wanted : Gives) → Option ℕ
@@ -109,8 +107,7 @@ is_root_init selector takes objects wanted =
 
 -- what the dealloc of a class runs
 abbrev pub own_dealloc : Option Class → Option ℕ
-own_dealloc None = None
-own_dealloc (Some c) = c.dealloc
+own_dealloc = option_and_then (λ c. c.dealloc)
 
 -- whether the class with this number is the other one, or comes from it (OPL, "Inheritance")
 abbrev pub descends : List Class → Option ℕ → (other : ℕ) → Bool
@@ -125,12 +122,10 @@ class_at (negsuc n) = None
 
 -- how many fields the objects of a class have that hold numbers, and how many that name objects
 abbrev pub count_of : Option Class → ℕ
-count_of None = 0
-count_of (Some c) = c.fields
+count_of c = option_map_or (λ c. c.fields) c 0
 
 abbrev pub strong_count : Option Class → ℕ
-strong_count None = 0
-strong_count (Some c) = c.strong_fields
+strong_count c = option_map_or (λ c. c.strong_fields) c 0
 
 -- so many numbers that follow one another, from the first one on
 abbrev pub numbers_from : (first count : ℕ) → List ℕ
@@ -149,13 +144,11 @@ order_of_fields count (n ∷ above) = numbers_from (lesser n count) (count - les
 
 -- how many fields each of these classes has that name objects
 abbrev pub strong_counts : List Class → List ℕ → List ℕ
-strong_counts classes [] = []
-strong_counts classes (class ∷ others) = strong_count (slice_get classes class) ∷ strong_counts classes others
+strong_counts classes = map (λ class. strong_count (slice_get classes class))
 
 -- the class above a class
 abbrev pub above_class : Option Class → Option ℕ
-above_class None = None
-above_class (Some c) = c.superclass
+above_class = option_and_then (λ c. c.superclass)
 
 -- the order in which the fields of an object of a class are destroyed that name objects
 abbrev pub field_order : List Class → (class : ℕ) → List ℕ

@@ -45,20 +45,19 @@ is_object kind.Object = true
 is_object _ = false
 
 -- a method of a family returns an object, and one of init is an instance method
-abbrev pub may_have : Family → Signature → Bool
-may_have family.Init signature = is_object signature.result && signature.instance
-may_have _ signature = is_object signature.result
+abbrev pub may_have : Sign → Family → Kind → Bool
+may_have signs.Class family.Init kind = false
+may_have _ _ kind = is_object kind
 
--- the family of a method
-abbrev pub family_of : (selector : List ℕ) → Signature → Family
-family_of selector signature =
-    let named = named_family (first_component (without_underscores selector)) in
-    if may_have named signature then named else family.None
-
--- the same, from its sign and the kind of what it gives
+-- the family of a method, from its sign, its selector and the kind of what it gives
 abbrev pub method_family : Sign → (selector : List ℕ) → Kind → Family
-method_family signs.Class selector kind = family_of selector (record { instance = false; result = kind })
-method_family signs.Instance selector kind = family_of selector (record { instance = true; result = kind })
+method_family sign selector kind =
+    let named = named_family (first_component (without_underscores selector)) in
+    if may_have sign named kind then named else family.None
+
+-- the same, of a signature
+abbrev pub family_of : (selector : List ℕ) → Signature → Family
+family_of selector signature = method_family (if signature.instance then signs.Instance else signs.Class) selector signature.result
 
 -- whether a method is one of init, whose `self` it owns (ARC, "Semantics of init")
 abbrev pub is_init : Family → Bool

@@ -1,6 +1,7 @@
 -- What a program means: the events that it shows on an input, and how it ends.
-use Rattle.std.specs.Prelude.{ℕ, zero, suc, ◌+◌, ◌-◌, ℤ, pos, List, [], ◌∷◌, ◌++◌, length, Option, Some, None, Bool, true, false, not, ◌&&◌, nat_eq, slice_get, slice_set, slice_index_or, if◌then◌else◌}
+use Rattle.std.specs.Prelude.{ℕ, zero, suc, ◌+◌, ◌-◌, ℤ, pos, List, [], ◌∷◌, ◌++◌, length, Option, Some, None, option_map, Bool, true, false, not, ◌&&◌, nat_eq, slice_get, slice_set, slice_index_or, if◌then◌else◌}
 use Rattle.std.specs.Fmt.{signed_decimal}
+use Rattle.std.specs.Option.{option_map_or}
 use Rattle.arc_ast.specs.declared.tree.BinaryOperator.{BinaryOperator}
 use Rattle.arc_ast.specs.declared.tree.Kind.{Kind}
 use Rattle.arc_ast.specs.declared.tree.Kind.TheVariants as k
@@ -23,9 +24,8 @@ use Rattle.arc_spec.specs.World.{World, Outcome, Done, Faulted, Cut, then_do, Fi
 abbrev pub formatted : List Piece → List ℤ → List ℕ
 formatted [] values = []
 formatted (Bytes bytes ∷ pieces) values = bytes ++ formatted pieces values
-formatted (Decimal ∷ pieces) [] = formatted pieces []
+formatted (_ ∷ pieces) [] = formatted pieces []
 formatted (Decimal ∷ pieces) (v ∷ values) = signed_decimal v ++ formatted pieces values
-formatted (Character ∷ pieces) [] = formatted pieces []
 formatted (Character ∷ pieces) (v ∷ values) = low_byte v ∷ formatted pieces values
 
 -- the number of bytes, as an int
@@ -124,8 +124,7 @@ runs_found D wanted (Some f) self selector given w = D.call wanted f self given 
 
 -- the class of an object
 abbrev pub class_in : Option Object → Option ℕ
-class_in None = None
-class_in (Some o) = Some o.class
+class_in = option_map (λ o. o.class)
 
 -- a message to what this names, which is looked up from a class; to nil it gives 0 or nil (OPL, "Sending Messages to nil")
 abbrev pub sent_from : Deeper → (wanted : Gives) → (from : Option ℕ) → (self selector : ℕ) → Given → World → Outcome Answer
@@ -166,9 +165,8 @@ made D (Some c) w = let class = slice_get D.classes c in
 
 -- the temporary before the last one is dropped
 abbrev pub second_dropped : Deeper → List ℕ → World → Outcome Finished
-second_dropped D [] w = Done finished w
-second_dropped D (r ∷ []) w = Done finished w
 second_dropped D (r ∷ made_first ∷ others) w = released D made_first (record w { frame = record w.frame { temporaries = r ∷ others } })
+second_dropped D _ w = Done finished w
 
 -- The root's `new` is `[[self alloc] init]`, without a level of its own. Of the two temporaries that these take the one that holds what `init` gives stays, as the caller's,
 -- and the one that holds what was made is dropped (OPL, "Allocating and Initializing Objects").
@@ -310,9 +308,7 @@ pub data Flow : Type 0 where
 -- what follows a statement that was left at its end
 abbrev pub if_normal : Flow → (World → Outcome Flow) → World → Outcome Flow
 if_normal Normal go w = go w
-if_normal Broken go w = Done Broken w
-if_normal Continued go w = Done Continued w
-if_normal (Returned v) go w = Done (Returned v) w
+if_normal flow go w = Done flow w
 
 -- one after the other
 abbrev pub in_turn : (one other : World → Outcome Flow) → World → Outcome Flow
@@ -320,10 +316,9 @@ in_turn one other w = then_do (one w) (λ flow w1. if_normal flow other w1)
 
 -- what follows the body of a loop: a `continue` leaves the body alone, and a `break` the loop (C99, sections 6.8.6.2 and 6.8.6.3)
 abbrev pub after_body : Flow → (World → Outcome Flow) → World → Outcome Flow
-after_body Normal go w = go w
-after_body Continued go w = go w
 after_body Broken go w = Done Normal w
 after_body (Returned v) go w = Done (Returned v) w
+after_body _ go w = go w
 
 -- a loop that begins with its test (C99, sections 6.8.5.1 and 6.8.5.3), which is cut where one turn more than the bound would begin
 abbrev pub turns : (bound : ℕ) → (World → Outcome ℤ) → (step body : World → Outcome Flow) → World → Outcome Flow
@@ -339,10 +334,8 @@ looped After (suc n) test step body w = then_do (body w) (λ flow w1. after_body
 
 -- a block's own variables are dropped at its end, and where a `break` or a `continue` leaves it; where a return does, the function drops them
 abbrev pub scope_left : Deeper → (first count : ℕ) → Flow → World → Outcome Flow
-scope_left D first count Normal w = then_do (variables_dropped D first count w) (λ _ w1. Done Normal w1)
-scope_left D first count Broken w = then_do (variables_dropped D first count w) (λ _ w1. Done Broken w1)
-scope_left D first count Continued w = then_do (variables_dropped D first count w) (λ _ w1. Done Continued w1)
 scope_left D first count (Returned v) w = Done (Returned v) w
+scope_left D first count flow w = then_do (variables_dropped D first count w) (λ _ w1. Done flow w1)
 
 abbrev pub normally : Outcome Finished → Outcome Flow
 normally o = then_do o (λ _ w. Done Normal w)
@@ -377,11 +370,8 @@ nothing_giving wanted = record { slots = 0; names = 0; parameters = 0; gives = w
 
 -- the function of a number, of which this is wanted; one that there isn't, or that gives something else, does nothing
 abbrev pub function_at : Program → (wanted : Gives) → ℕ → Function
-function_at P wanted f = function_of (slice_get P.functions f)
-  where
-    function_of : Option Function → Function
-    function_of None = nothing_giving wanted
-    function_of (Some g) = if same_gives g.gives wanted then g else nothing_giving wanted
+function_at P wanted f =
+    option_map_or (λ g. if same_gives g.gives wanted then g else nothing_giving wanted) (slice_get P.functions f) (nothing_giving wanted)
 
 -- how many strong places a function has but for its temporaries: its variables and, where it gives an object, the place of its result
 abbrev pub function_places : Function → ℕ

@@ -12,21 +12,22 @@ use Rattle.arc_ast.specs.declared.tree.BinaryOperator.TheVariants as o
 abbrev pub low_32 : ℤ → ℤ
 low_32 z = cast_signed w32 (cast_unsigned w64 z % 2 ^ 32)
 
+abbrev pub is_same : ℤ → ℤ → Bool
+is_same (pos n) (pos m) = nat_eq n m
+is_same (negsuc n) (negsuc m) = nat_eq n m
+is_same _ _ = false
+
 abbrev pub is_zero : ℤ → Bool
-is_zero (pos n) = nat_eq n 0
-is_zero (negsuc n) = false
+is_zero z = is_same z (pos 0)
 
 abbrev pub is_minus_one : ℤ → Bool
-is_minus_one (pos n) = false
-is_minus_one (negsuc n) = nat_eq n 0
+is_minus_one z = is_same z (negsuc 0)
 
 -- a number as one of a kind (C99, sections 6.3.1.2 and 6.3.1.3): an `int` keeps the low 32 bits, a long has all 64, and a BOOL is 1 for all but 0
 abbrev pub converted : Kind → ℤ → ℤ
 converted k.Bool z = if is_zero z then pos 0 else pos 1
 converted k.Int z = low_32 z
-converted k.Long z = z
-converted k.Object z = z
-converted k.Void z = z
+converted _ z = z
 
 -- the least number of a kind, where it is below the ones that its negation has place for
 abbrev pub is_least : Kind → ℤ → Bool
@@ -55,12 +56,6 @@ width _ = 64
 -- by how many bits a shift shifts (C99, section 6.5.7, leaves a count outside of the width undefined; that it is taken modulo the width is this project's own choice)
 abbrev pub count_of_shift : Kind → ℤ → ℕ
 count_of_shift kind y = cast_unsigned w64 y % width kind
-
-abbrev pub is_same : ℤ → ℤ → Bool
-is_same (pos n) (pos m) = nat_eq n m
-is_same (negsuc n) (negsuc m) = nat_eq n m
-is_same (pos n) (negsuc m) = false
-is_same (negsuc n) (pos m) = false
 
 -- the answer of a comparison (C99, sections 6.5.8 and 6.5.9)
 abbrev pub answer : Bool → ℤ

@@ -1,5 +1,6 @@
 -- Objects, and the places that hold them.
-use Rattle.std.specs.Prelude.{ℕ, zero, suc, ℤ, pos, List, [], ◌∷◌, ◌++◌, Bool, true, false, nat_eq, Option, Some, None, slice_get, slice_set, if◌then◌else◌}
+use Rattle.std.specs.Prelude.{ℕ, zero, suc, ℤ, pos, List, [], flat_map, replicate, Bool, true, false, nat_eq, Option, Some, None, slice_get, slice_set, if◌then◌else◌}
+use Rattle.std.specs.List.{list_any}
 
 -- how far an object is on its way (ARC, "Object liveness"): its dealloc hasn't begun; its deallocs run; its fields that name objects are destroyed; or it is gone
 pub data Phase : Type 0 where
@@ -33,43 +34,34 @@ with_fields o fields = record o { fields = fields }
 abbrev pub with_strong_fields : Object → List ℕ → Object
 with_strong_fields o strong = record o { strong = strong }
 
-abbrev pub object_live : Object → Bool
-object_live o = phase_live o.phase
-  where
-    phase_live : Phase → Bool
-    phase_live Live = true
-    phase_live Dying = false
-    phase_live Emptying = false
-    phase_live Gone = false
+-- whether the dealloc of an object hasn't begun
+abbrev pub is_whole : Phase → Bool
+is_whole Live = true
+is_whole _ = false
 
 -- whether the fields of an object that name objects are being destroyed, or are already
 abbrev pub is_emptying : Phase → Bool
 is_emptying Live = false
 is_emptying Dying = false
-is_emptying Emptying = true
-is_emptying Gone = true
+is_emptying _ = true
 
 -- whether an object isn't gone
 abbrev pub is_there : Phase → Bool
-is_there Live = true
-is_there Dying = true
-is_there Emptying = true
 is_there Gone = false
+is_there _ = true
 
--- whether the dealloc of an object hasn't begun
+-- whether there is an object whose dealloc hasn't begun
 abbrev pub is_live : Option Object → Bool
 is_live None = false
-is_live (Some o) = object_live o
+is_live (Some o) = is_whole o.phase
 
 -- so many numbers, all 0
 abbrev pub zeros : ℕ → List ℤ
-zeros zero = []
-zeros (suc n) = pos 0 ∷ zeros n
+zeros n = replicate n (pos 0)
 
 -- so many places, none of which names an object
 abbrev pub nils : ℕ → List ℕ
-nils zero = []
-nils (suc n) = 0 ∷ nils n
+nils n = replicate n 0
 
 -- an object of a class as it is made, with so many fields of each sort: all of them are 0 or nil (OPL, "Allocating and Initializing Objects")
 abbrev pub new_object : (class fields strong_fields : ℕ) → Object
@@ -81,10 +73,8 @@ fields_of o = if is_there o.phase then o.strong else []
 
 -- what the fields of all objects name that aren't gone: each of them is a strong place (ARC, "Ownership qualification")
 abbrev pub field_places : List Object → List ℕ
-field_places [] = []
-field_places (o ∷ others) = fields_of o ++ field_places others
+field_places = flat_map fields_of
 
 -- whether one of the places names the object
 abbrev pub names : ℕ → List ℕ → Bool
-names o [] = false
-names o (p ∷ others) = if nat_eq o p then true else names o others
+names o = list_any (nat_eq o)

@@ -49,9 +49,7 @@ follow Stuck i t = Wedged i t
 -- one step more, where the run isn't over
 abbrev pub further : {S : Type 0} → (S → Next S) → Reached S → Reached S
 further step (Running s i t) = follow (step s) i t
-further step (Ended n i t) = Ended n i t
-further step (Faulted f i t) = Faulted f i t
-further step (Wedged i t) = Wedged i t
+further step over = over
 
 -- n steps more
 abbrev pub after_steps : {S : Type 0} → (S → Next S) → ℕ → Reached S → Reached S
@@ -62,9 +60,8 @@ after_steps step (suc n) r = further step (after_steps step n r)
 abbrev pub Along : {S : Type 0} → (S → Type 0) → Next S → Type 0
 Along P (Goes s es) = P s
 Along P (Asks k) = (a : Option ℕ) → P (k a)
-Along P (Ends n) = Unit {0}
-Along P (Faults f) = Unit {0}
 Along P Stuck = ⊥
+Along P _ = Unit {0}
 
 -- for n steps, whatever is read, each state fits and has a step
 abbrev pub Safe : {S : Type 0} → (S → Next S) → (S → Type 0) → ℕ → S → Type 0

@@ -18,12 +18,12 @@ pub fn family(name: &str, signature: &Signature) -> Family
 pub fn family_of_selector(selector: &[u8], signature: &Signature) -> Family
     ensures { result ≡ families.family_of selector.now signature.now }
 {
-    let named = named_family(first_component(without_underscores(selector)));
-    if may_have(named, signature) {
-        named
+    let sign = if signature.instance {
+        Sign::Instance
     } else {
-        Family::None
-    }
+        Sign::Class
+    };
+    method_family(sign, selector, signature.result)
 }
 
 /// How many underscores lead the name.
@@ -91,14 +91,13 @@ fn named_family(component: &[u8]) -> Family
     }
 }
 
-/// Whether a method with the signature may have the family.
-fn may_have(family: Family, signature: &Signature) -> bool
-    ensures { result ≡ families.may_have family signature.now }
+/// Whether a method with the sign that gives a value of the kind may have the family.
+fn may_have(sign: Sign, family: Family, gives: Kind) -> bool
+    ensures { result ≡ families.may_have sign family gives }
 {
-    let is_object = matches!(signature.result, Kind::Object);
-    match family {
-        Family::Init => is_object && signature.instance,
-        _ => is_object,
+    match (sign, family) {
+        (Sign::Class, Family::Init) => false,
+        _ => matches!(gives, Kind::Object),
     }
 }
 
@@ -106,11 +105,12 @@ fn may_have(family: Family, signature: &Signature) -> bool
 pub fn method_family(sign: Sign, selector: &[u8], gives: Kind) -> Family
     ensures { result ≡ families.method_family sign selector.now gives }
 {
-    let signature = Signature {
-        instance: matches!(sign, Sign::Instance),
-        result: gives,
-    };
-    family_of_selector(selector, &signature)
+    let named = named_family(first_component(without_underscores(selector)));
+    if may_have(sign, named, gives) {
+        named
+    } else {
+        Family::None
+    }
 }
 
 /// Whether what a method gives is retained for who sent the message.

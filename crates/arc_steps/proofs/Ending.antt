@@ -128,7 +128,7 @@ pub reframed_stands : (at : ℕ → ℕ) (classes : List Class) (m : Memory) (h 
 reframed_stands at classes m h old new others t places known ends wait is m' e =
     let n = length h.objects in
     let words = slice_set m.frames 0 wait in
-    subst (λ m. Stands at classes m (new ∷ others) h) (sym e) (spelled_stands at classes m (with_frames m words) (old ∷ others) (new ∷ others) h h t refl refl (record {
+    subst (λ m. Stands at classes m (new ∷ others) h) (sym e) (spelled_stands at classes m (with_frames m words) (old ∷ others) (new ∷ others) h h t (record {
       places = t.places;
       temporaries = t.temporaries;
       variables = t.variables;

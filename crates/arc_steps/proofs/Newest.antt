@@ -180,39 +180,32 @@ makes_stands at classes m frames h t class r out blocks' change few above counte
     let none : h.counts (suc n) ≡ 0 = counted.counted n ∙ unheld n (all_places h) t.known_places in
     let one : (raised (suc n) h).counts (suc n) ≡ 1 = raised_there (suc n) h ∙ ap (λ k. k + 1) none in
     let known = λ (refs : List ℕ) (old : All (λ q. q ≤ n) refs). All-cons (λ q. q ≤ length objects') (suc n) refs (omega (arith, longer)) (All-weaker (λ q. q ≤ n) (λ q. q ≤ length objects') (λ q b. omega (arith, longer, b)) refs old) in
-    let words = λ (ws refs : List ℕ) (old : All (λ q. q ≤ n) refs) (e : ws ≡ map (place at) refs). ap (λ w. w ∷ ws) (sym (newest at n r)) ∙ ap (λ ws. at' n ∷ ws) (e ∙ same_places at n r refs old) in (
-      at',
-      record {
-        made = ap (λ k. k + 1) t.made ∙ sym longer;
-        some = λ k. some_place at n r k (nat_eq k n) above (t.some k);
-        kept = λ j o e. elim (get_append h.objects object j o e) [
-          | inl p ↦ subst (λ count. Kept o.phase (place at') classes blocks' (at' j) (suc j) count o)
-              (sym (raised_else (suc n) (suc j) h (λ same. let below = p.0 in omega (arith, below, same))))
-              (older_kept at classes m frames h t n refl class r out blocks' numbered o.phase j (h.counts (suc j)) o p.0 (λ here. subst (λ l. All (λ q. q ≤ n) l) (ap (λ (b : Bool). if b then o.strong else []) here) (known_fields at classes m frames h t j o p.1)) (t.kept j o p.1))
-          | inr p ↦ subst (λ j. Kept o.phase (place at') classes blocks' (at' j) (suc j) ((raised (suc n) h).counts (suc j)) o) (sym p.0)
-              (subst (λ (o : Object). Kept o.phase (place at') classes blocks' (at' n) (suc n) ((raised (suc n) h).counts (suc n)) o) (sym p.1)
-              (newest_stored at classes m frames h t n refl class r out blocks' numbered fields strong ((raised (suc n) h).counts (suc n)) refl refl few one))
-        ];
-        places = words m.places (stacked h) (known_stacked n h t.known_places) t.places;
-        temporaries = (let few = t.temporaries in omega (arith, few));
-        variables = t.variables;
-        names = words m.names h.names t.known_names t.names;
-        self = t.self ∙ same_place at n r h.self t.known_self;
-        waits = t.waits ∙ same_frames at n r frames t.known_frames;
-        all = t.all;
-        known_places =
-            let P : ℕ → Type 0 = λ q. q ≤ length objects' in
-            let weaker = λ (refs : List ℕ) (old : All (λ q. q ≤ n) refs). All-weaker (λ q. q ≤ n) P (λ q b. omega (arith, longer, b)) refs old in
-            let others = known_others n h t.known_places in
-            All-append P (suc n ∷ stacked h) (h.strong_globals ++ field_places objects') (known (stacked h) (known_stacked n h t.known_places))
-            (All-append P h.strong_globals (field_places objects') (weaker h.strong_globals (all_left (λ q. q ≤ n) h.strong_globals (field_places h.objects) others))
-            (all_fields_more P h.objects object (weaker (field_places h.objects) (all_right (λ q. q ≤ n) h.strong_globals (field_places h.objects) others)) (all_nils P strong (omega arith))));
-        known_names = known h.names t.known_names;
-        known_self = (let known = t.known_self in omega (arith, longer, known));
-        known_frames = All-weaker (IsKnown n) (IsKnown (length objects')) (known_more n (length objects') (omega (arith, longer))) frames t.known_frames;
-        ends = ends_more classes h.objects (object ∷ []) frames t.ends;
-        globals = t.globals;
-        strong_globals = t.strong_globals ∙ same_places at n r h.strong_globals (all_left (λ q. q ≤ n) h.strong_globals (field_places h.objects) (known_others n h t.known_places));
-        orders = t.orders;
-      },
-    )
+    let words = λ (ws refs : List ℕ) (old : All (λ q. q ≤ n) refs) (e : ws ≡ map (place at) refs). ap (λ w. w ∷ ws) (sym (newest at n r)) ∙ ap (λ ws. at' n ∷ ws) (e ∙ same_places at n r refs old) in
+    let made = ap (λ k. k + 1) t.made ∙ sym longer in
+    let some = λ (k : ℕ). some_place at n r k (nat_eq k n) above (t.some k) in
+    let kept : (j : ℕ) (o : Object) → slice_get objects' j ≡ Some o → Kept o.phase (place at') classes blocks' (at' j) (suc j) ((raised (suc n) h).counts (suc j)) o = λ j o e. elim (get_append h.objects object j o e) [
+      | inl p ↦ subst (λ count. Kept o.phase (place at') classes blocks' (at' j) (suc j) count o)
+          (sym (raised_else (suc n) (suc j) h (λ same. let below = p.0 in omega (arith, below, same))))
+          (older_kept at classes m frames h t n refl class r out blocks' numbered o.phase j (h.counts (suc j)) o p.0 (λ here. subst (λ l. All (λ q. q ≤ n) l) (ap (λ (b : Bool). if b then o.strong else []) here) (known_fields at classes m frames h t j o p.1)) (t.kept j o p.1))
+      | inr p ↦ subst (λ j. Kept o.phase (place at') classes blocks' (at' j) (suc j) ((raised (suc n) h).counts (suc j)) o) (sym p.0)
+          (subst (λ (o : Object). Kept o.phase (place at') classes blocks' (at' n) (suc n) ((raised (suc n) h).counts (suc n)) o) (sym p.1)
+          (newest_stored at classes m frames h t n refl class r out blocks' numbered fields strong ((raised (suc n) h).counts (suc n)) refl refl few one))
+    ] in
+    let places = words m.places (stacked h) (known_stacked n h t.known_places) t.places in
+    let temporaries : m.temporaries + 1 ≡ suc (length h.temporaries) = (let few = t.temporaries in omega (arith, few)) in
+    let names = words m.names h.names t.known_names t.names in
+    let self = t.self ∙ same_place at n r h.self t.known_self in
+    let waits = t.waits ∙ same_frames at n r frames t.known_frames in
+    let P : ℕ → Type 0 = λ q. q ≤ length objects' in
+    let weaker = λ (refs : List ℕ) (old : All (λ q. q ≤ n) refs). All-weaker (λ q. q ≤ n) P (λ q b. omega (arith, longer, b)) refs old in
+    let others = known_others n h t.known_places in
+    let globals = all_left (λ q. q ≤ n) h.strong_globals (field_places h.objects) others in
+    let known_places = All-append P (suc n ∷ stacked h) (h.strong_globals ++ field_places objects') (known (stacked h) (known_stacked n h t.known_places))
+        (All-append P h.strong_globals (field_places objects') (weaker h.strong_globals globals)
+        (all_fields_more P h.objects object (weaker (field_places h.objects) (all_right (λ q. q ≤ n) h.strong_globals (field_places h.objects) others)) (all_nils P strong (omega arith)))) in
+    let known_names = known h.names t.known_names in
+    let known_self : h.self ≤ length objects' = (let known = t.known_self in omega (arith, longer, known)) in
+    let known_frames = All-weaker (IsKnown n) (IsKnown (length objects')) (known_more n (length objects') (omega (arith, longer))) frames t.known_frames in
+    let ends = ends_more classes h.objects (object ∷ []) frames t.ends in
+    let strong_globals = t.strong_globals ∙ same_places at n r h.strong_globals globals in
+    (at', assumption (made, some, kept, places, temporaries, names, self, waits, known_places, known_names, known_self, known_frames, ends, strong_globals))

@@ -133,13 +133,13 @@ all_fields_at P (y ∷ xs) (suc k) o e h = all_fields_at P xs k o e (all_right P
 
 -- ---- memories
 
--- what isn't of functions: in a machine its store, how many objects were made, and the variables of the whole program
-abbrev pub kept_parts : Memory → Blocks × ℕ × List ℤ × List ℕ × List (List ℕ)
-kept_parts m = (m.store, m.made, m.globals, m.strong_globals, m.orders)
+-- a machine in which functions have what they have in this one
+abbrev pub functions_of : Memory → Memory → Memory
+functions_of f m = record m { places = f.places; temporaries = f.temporaries; variables = f.variables; names = f.names; self = f.self; frames = f.frames }
 
--- and in a state the objects, the counts, and these variables
-abbrev pub kept_things : Held → List Object × (ℕ → ℕ) × List ℤ × List ℕ
-kept_things h = (h.objects, h.counts, h.globals, h.strong_globals)
+-- and a state
+abbrev pub functions_in : Held → Held → Held
+functions_in f h = record h { temporaries = f.temporaries; variables = f.variables; self = f.self; places = f.places; names = f.names }
 
 abbrev pub with_counts : Held → (ℕ → ℕ) → Held
 with_counts h counts = record h { counts = counts }
@@ -170,60 +170,17 @@ pub known_others : (n : ℕ) (h : Held) → All (λ r. r ≤ n) (all_places h) �
 known_others n h known = all_right (λ r. r ≤ n) (stacked h) (others_named h) known
 
 -- the same blocks and objects, with these places and references
-pub spelled_stands : (at : ℕ → ℕ) (classes : List Class) (m m' : Memory) (frames frames' : List Frame) (h h' : Held) → Stands at classes m frames h → kept_parts m' ≡ kept_parts m → kept_things h' ≡ kept_things h → Spelled at classes m' frames' h'
-    → Stands at classes m' frames' h'
-spelled_stands at classes m m' frames frames' h h' t parts things is = record {
-  made = ap (λ x. x.1) parts ∙ t.made ∙ sym (ap (λ x. length x.0) things);
-  some = t.some;
-  kept = λ k o e. subst (λ (c : ℕ → ℕ). Kept o.phase (place at) classes m'.store (at k) (suc k) (c (suc k)) o) (sym (ap (λ x. x.1) things))
-      (subst (λ (b : Blocks). Kept o.phase (place at) classes b (at k) (suc k) (h.counts (suc k)) o) (sym (ap (λ x. x.0) parts)) (t.kept k o (sym (ap (λ x. slice_get x.0 k) things) ∙ e)));
-  places = is.places;
-  temporaries = is.temporaries;
-  variables = is.variables;
-  names = is.names;
-  self = is.self;
-  waits = is.waits;
-  all = is.all;
-  known_places =
-      let objects : h'.objects ≡ h.objects = ap (λ x. x.0) things in
-      let globals : h'.strong_globals ≡ h.strong_globals = ap (λ x. x.3) things in
-      let n = length h'.objects in
-      let same : others_named h ≡ others_named h' = sym (ap (λ l. l ++ field_places h'.objects) globals ∙ ap (λ os. h.strong_globals ++ field_places os) objects) in
-      let known = subst (λ (os : List Object). All (λ r. r ≤ length os) (others_named h)) (sym objects) (known_others (length h.objects) h t.known_places) in
-      All-append (λ r. r ≤ n) (stacked h') (others_named h') is.known_places (subst (λ l. All (λ r. r ≤ n) l) same known);
-  known_names = is.known_names;
-  known_self = is.known_self;
-  known_frames = is.known_frames;
-  ends = is.ends;
-  globals = ap (λ x. x.2) parts ∙ t.globals ∙ sym (ap (λ x. x.2) things);
-  strong_globals = ap (λ x. x.3) parts ∙ t.strong_globals ∙ ap (map (place at)) (sym (ap (λ x. x.3) things));
-  orders = ap (λ x. x.4) parts ∙ t.orders;
-}
+pub spelled_stands : (at : ℕ → ℕ) (classes : List Class) (m m' : Memory) (frames frames' : List Frame) (h h' : Held) → Stands at classes m frames h → Spelled at classes (functions_of m' m) frames' (functions_in h' h)
+    → Stands at classes (functions_of m' m) frames' (functions_in h' h)
+spelled_stands at classes m m' frames frames' h h' t is =
+    let known_places = All-append (λ r. r ≤ length h.objects) (stacked h') (others_named h) is.known_places (known_others (length h.objects) h t.known_places) in
+    assumption known_places
 
 module _ (at : ℕ → ℕ) (classes : List Class) (m : Memory) (frames : List Frame) (h : Held) (t : Stands at classes m frames h) where
   -- other blocks and counts, and other numbers in the variables of the whole program
   stored_stands : (blocks' : Blocks) (counts' : ℕ → ℕ) (words globals : List ℤ) → KeptAll classes blocks' at h.objects counts' → words ≡ globals
       → Stands at classes (record m { store = blocks'; globals = words }) frames (record h { counts = counts'; globals = globals })
-  stored_stands blocks' counts' words globals kept is = record {
-    made = t.made;
-    some = t.some;
-    kept = kept;
-    places = t.places;
-    temporaries = t.temporaries;
-    variables = t.variables;
-    names = t.names;
-    self = t.self;
-    waits = t.waits;
-    all = t.all;
-    known_places = t.known_places;
-    known_names = t.known_names;
-    known_self = t.known_self;
-    known_frames = t.known_frames;
-    ends = t.ends;
-    globals = is;
-    strong_globals = t.strong_globals;
-    orders = t.orders;
-  }
+  stored_stands blocks' counts' words globals kept is = assumption
 
   -- other numbers in the variables of the whole program
   pub globals_stands : (words globals : List ℤ) → words ≡ globals → Stands at classes (record m { globals = words }) frames (with_globals h globals)
@@ -273,7 +230,7 @@ module _ (at : ℕ → ℕ) (classes : List Class) (m : Memory) (frames : List F
       → All (λ r. r ≤ length h.objects) ((ts ++ vs) ++ h.places) → All (λ r. r ≤ length h.objects) ns
       → Stands at classes (record m { places = words; temporaries = a; variables = b; names = names }) frames (record h { temporaries = ts; variables = vs; names = ns })
   placed_stands ts vs ns words names a b is few fewer named known known_names =
-      spelled_stands at classes m (record m { places = words; temporaries = a; variables = b; names = names }) frames frames h (record h { temporaries = ts; variables = vs; names = ns }) t refl refl (record {
+      spelled_stands at classes m (record m { places = words; temporaries = a; variables = b; names = names }) frames frames h (record h { temporaries = ts; variables = vs; names = ns }) t (record {
         places = is;
         temporaries = few;
         variables = fewer;
@@ -297,26 +254,8 @@ module _ (at : ℕ → ℕ) (classes : List Class) (m : Memory) (frames : List F
   strong_globals_stands words names is known =
       let n = length h.objects in
       let rest = all_right (λ r. r ≤ n) h.strong_globals (field_places h.objects) (known_others n h t.known_places) in
-      record {
-        made = t.made;
-        some = t.some;
-        kept = t.kept;
-        places = t.places;
-        temporaries = t.temporaries;
-        variables = t.variables;
-        names = t.names;
-        self = t.self;
-        waits = t.waits;
-        all = t.all;
-        known_places = All-append (λ r. r ≤ n) (stacked h) (names ++ field_places h.objects) (known_stacked n h t.known_places) (All-append (λ r. r ≤ n) names (field_places h.objects) known rest);
-        known_names = t.known_names;
-        known_self = t.known_self;
-        known_frames = t.known_frames;
-        ends = t.ends;
-        globals = t.globals;
-        strong_globals = is;
-        orders = t.orders;
-      }
+      let known_places = All-append (λ r. r ≤ n) (stacked h) (names ++ field_places h.objects) (known_stacked n h t.known_places) (All-append (λ r. r ≤ n) names (field_places h.objects) known rest) in
+      assumption (is, known_places)
 
   -- one object is another now, and counted otherwise
   pub changed_stands : (k : ℕ) (o x : Object) (counts' : ℕ → ℕ) → slice_get h.objects k ≡ Some o → (number : IsNumbered m.store (at k) (suc k)) (blocks' : Blocks) (now : Option (List ℕ)) → Sets m.store blocks' (at k) now
@@ -325,30 +264,17 @@ module _ (at : ℕ → ℕ) (classes : List Class) (m : Memory) (frames : List F
   changed_stands k o x counts' there number blocks' now sets else_same kept ends known =
       let n = length h.objects in
       let same : length h.objects ≡ length (slice_set h.objects k x) = sym (length-set h.objects k x) in
-      record {
-        made = t.made ∙ same;
-        some = t.some;
-        kept = kept_set classes m.store blocks' at k number.0 now number.1 number.2 sets h.objects (slice_set h.objects k x) h.counts counts' x
-            (only_set h.objects k x) else_same t.kept kept;
-        places = t.places;
-        temporaries = t.temporaries;
-        variables = t.variables;
-        names = t.names;
-        self = t.self;
-        waits = t.waits;
-        all = t.all;
-        known_places = subst (λ n. All (λ r. r ≤ n) (stacked h ++ (h.strong_globals ++ field_places (slice_set h.objects k x)))) same
-            (All-append (λ r. r ≤ n) (stacked h) (h.strong_globals ++ field_places (slice_set h.objects k x)) (known_stacked n h t.known_places)
-            (All-append (λ r. r ≤ n) h.strong_globals (field_places (slice_set h.objects k x)) (all_left (λ r. r ≤ n) h.strong_globals (field_places h.objects) (known_others n h t.known_places))
-            (all_fields_set (λ r. r ≤ n) h.objects k x (all_right (λ r. r ≤ n) h.strong_globals (field_places h.objects) (known_others n h t.known_places)) known)));
-        known_names = subst (λ n. All (λ r. r ≤ n) h.names) same t.known_names;
-        known_self = subst (λ n. h.self ≤ n) same t.known_self;
-        known_frames = subst (λ n. All (IsKnown n) frames) same t.known_frames;
-        ends = ends;
-        globals = t.globals;
-        strong_globals = t.strong_globals;
-        orders = t.orders;
-      }
+      let made = t.made ∙ same in
+      let kept_all = kept_set classes m.store blocks' at k number.0 now number.1 number.2 sets h.objects (slice_set h.objects k x) h.counts counts' x
+          (only_set h.objects k x) else_same t.kept kept in
+      let known_places = subst (λ n. All (λ r. r ≤ n) (stacked h ++ (h.strong_globals ++ field_places (slice_set h.objects k x)))) same
+          (All-append (λ r. r ≤ n) (stacked h) (h.strong_globals ++ field_places (slice_set h.objects k x)) (known_stacked n h t.known_places)
+          (All-append (λ r. r ≤ n) h.strong_globals (field_places (slice_set h.objects k x)) (all_left (λ r. r ≤ n) h.strong_globals (field_places h.objects) (known_others n h t.known_places))
+          (all_fields_set (λ r. r ≤ n) h.objects k x (all_right (λ r. r ≤ n) h.strong_globals (field_places h.objects) (known_others n h t.known_places)) known))) in
+      let known_names = subst (λ n. All (λ r. r ≤ n) h.names) same t.known_names in
+      let known_self = subst (λ n. h.self ≤ n) same t.known_self in
+      let known_frames = subst (λ n. All (IsKnown n) frames) same t.known_frames in
+      assumption (made, kept_all, known_places, known_names, known_self, known_frames)
 
   -- what the fields of an object name
   pub known_fields : (k : ℕ) (o : Object) → slice_get h.objects k ≡ Some o → All (λ r. r ≤ length h.objects) (fields_of o)
