@@ -1,23 +1,20 @@
 -- The rules for the functions of a source.
+use denote.Enum.Declared.{tag_of}
 use Rattle.std.specs.Prelude.{ℕ, Bool, true, false, ◌&&◌, ◌||◌, not, List, [], ◌∷◌, ◌++◌, Option, Some, None, is_some, is_none, codes}
 use Rattle.std.specs.Bool.{nat_eq}
 use Rattle.std.specs.Option.{option_map_or}
 use Rattle.std.specs.Str.{bytes_eq}
 use Rattle.arc_ast.specs.declared.tree.Kind.{Kind}
-use Rattle.arc_ast.specs.declared.tree.Kind.TheVariants as k
+use Rattle.arc_ast.specs.contracts.tree.Kind as kinds
 use Rattle.arc_ast.specs.Tree.{FunctionTree}
 use Rattle.arc_class.specs.declared.table.Signature.{Signature}
 use Rattle.arc_class.specs.declared.table.Declared.{Declared}
 use Rattle.arc_class.specs.Broken.{Broken, broken_if}
 use Rattle.arc_class.specs.Names.{has_body, signature, known}
 
+-- whether two kinds are the same variant
 abbrev pub same_kind : Kind → Kind → Bool
-same_kind k.Void k.Void = true
-same_kind k.Bool k.Bool = true
-same_kind k.Int k.Int = true
-same_kind k.Long k.Long = true
-same_kind k.Object k.Object = true
-same_kind _ _ = false
+same_kind a b = nat_eq (tag_of kinds.the_type a) (tag_of kinds.the_type b)
 
 abbrev pub same_kinds : List Kind → List Kind → Bool
 same_kinds [] [] = true

@@ -30,14 +30,7 @@ pub struct Seen<'a> {
 pub(crate) fn same_kind(a: Kind, b: Kind) -> bool
     ensures { result ≡ rules.same_kind a b }
 {
-    matches!(
-        (a, b),
-        (Kind::Void, Kind::Void)
-            | (Kind::Bool, Kind::Bool)
-            | (Kind::Int, Kind::Int)
-            | (Kind::Long, Kind::Long)
-            | (Kind::Object, Kind::Object)
-    )
+    a == b
 }
 
 /// Whether the kinds of these parameters are those of the others, in their order.
