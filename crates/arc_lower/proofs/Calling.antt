@@ -46,7 +46,7 @@ waits_of w = waits_at w.frame
 
 -- what is held by these places and those that wait
 abbrev held_by : (rs : List ℕ) (self : ℕ) → World → world.Frame → List ℕ → Held
-held_by rs self w f waiting = record { temporaries = f.temporaries; variables = f.strong; self = self; places = waiting; names = rs; objects = w.objects; counts = λ k. holders k ((frame_places f ++ waiting) ++ (w.strong_globals ++ field_places w.objects)); globals = w.globals; strong_globals = w.strong_globals }
+held_by rs self w f waiting = record (counting rs w (λ k. holders k ((frame_places f ++ waiting) ++ (w.strong_globals ++ field_places w.objects)))) { temporaries = f.temporaries; variables = f.strong; self = self; places = waiting }
 
 -- a state by its own places and those that wait
 abbrev placed_at : List Frame → (rs : List ℕ) → (pc : ℕ) → List ℤ → (self : ℕ) → World → world.Frame → List ℕ → Reached State
@@ -54,7 +54,7 @@ placed_at frames rs pc stack self w f waiting = Running (at frames pc stack (hel
 
 -- what is held in the end of an object, between two deallocs
 abbrev ended_by : (rs : List ℕ) → (o : ℕ) → World → (all : List ℕ) → Held
-ended_by rs o w all = record { temporaries = []; variables = []; self = o; places = all; names = rs; objects = w.objects; counts = λ i. holders i (all ++ (w.strong_globals ++ field_places w.objects)); globals = w.globals; strong_globals = w.strong_globals }
+ended_by rs o w all = record (counting rs w (λ k. holders k (all ++ (w.strong_globals ++ field_places w.objects)))) { temporaries = []; variables = []; self = o; places = all }
 
 abbrev ended_held : (rs : List ℕ) → (o : ℕ) → World → Held
 ended_held rs o w = ended_by rs o w (stacked w)

@@ -3,6 +3,7 @@ use Rattle.std.proofs.Common.{◌≡◌, ℕ, ℤ, List, ◌++◌, length, appen
 use Rattle.std.proofs.Math.Seq.{take-append_seam, drop-append_seam}
 use Rattle.arc_spec.specs.Stepping.{Next, Goes, Asks, Ends, Faults, Stuck}
 use Rattle.arc_spec.specs.World.{World, places}
+pub use Rattle.arc_spec.specs.Holding.{counting}
 use Rattle.arc_spec.specs.Holding.{Held, Frame, Waiter, all_places, holders, resumed}
 use Rattle.arc_ir.specs.Acting.{Program, State, step, Action, lands, entry, linked, executes}
 use Rattle.arc_code.specs.Instructions as instructions
@@ -30,11 +31,7 @@ moves p s = recount (step p s)
 abbrev pub at : List Frame → ℕ → List ℤ → Held → State
 at frames pc stack held = record { at = pc; stack = stack; frames = frames; held = held }
 
--- what a world holds with these references, and with these counts
-abbrev pub counting : List ℕ → World → (ℕ → ℕ) → Held
-counting rs w c = record { temporaries = w.frame.temporaries; variables = w.frame.strong; self = w.frame.self; places = w.waiting; names = rs; objects = w.objects; counts = c; globals = w.globals; strong_globals = w.strong_globals }
-
--- the same, with the counts of its places
+-- what a world holds with these references, and with the counts of its places
 abbrev pub held_of : List ℕ → World → Held
 held_of rs w = counting rs w (λ k. holders k (places w))
 

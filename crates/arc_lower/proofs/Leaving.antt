@@ -26,7 +26,7 @@ use Rattle.arc_lower.specs.Lowered.{all_empty_orders, keep_orders, leaving_order
 use Rattle.arc_lower.specs.Size.{object_parameters, does_nothing}
 use Rattle.arc_lower.proofs.Leading as leading
 use Rattle.arc_lower.proofs.Leading.{Runs, leads_runs, stuck_runs, ends_here, then_runs, then_at, running, one_runs, quiet, quiet_runs, Passes, then_passes, one_passes, no_passes}
-use Rattle.arc_lower.proofs.Doing.{recount, moves, at, held_of, bare, HasAt, has_front, has_back}
+use Rattle.arc_lower.proofs.Doing.{recount, moves, at, counting, held_of, bare, HasAt, has_front, has_back}
 use Rattle.arc_lower.proofs.Stacking.{onto, get_below, set_below, keep_passes}
 use Rattle.arc_lower.proofs.Releasing.{Kept, Stays, only_runs, named_runs, emptied, empties_run, dropped_runs}
 use Rattle.arc_lower.proofs.Shaping.{push, Way, Out, left_by, same_depth}
@@ -158,7 +158,7 @@ module _ (p : Program) (frames : List Frame) (bound : ℕ) (R : resolved.Program
   bared_leaves wanted a w pc g none =
       let c = (held_of rs (bared w)).counts in
       let s = at frames 0 (a.number ∷ below) (held_of rs (bared w)) in
-      let held : (ts : List ℕ) (itself : ℕ) (waits : List ℕ) → Held = λ ts itself waits. record { temporaries = ts; variables = []; self = itself; places = waits; names = rs; objects = w.objects; counts = c; globals = w.globals; strong_globals = w.strong_globals } in
+      let held : (ts : List ℕ) (itself : ℕ) (waits : List ℕ) → Held = λ ts itself waits. record (counting rs w c) { temporaries = ts; variables = []; self = itself; places = waits } in
       counts_aside wanted frames pc (a.number ∷ below) (held_of rs w) (held_of rs (bared w)) (with_variables (held_of rs w) []) c a
       ∙ ap (λ ts. recount (leaves_with wanted s frames a (held ts w.frame.self w.waiting))) none
       ∙ ap (λ x. recount (leaves_with wanted s frames a (held [] x w.waiting))) g.0.itself

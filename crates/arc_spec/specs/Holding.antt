@@ -5,6 +5,7 @@ use Rattle.arc_spec.specs.Classes.{Class, descends, strong_count}
 use Rattle.arc_spec.specs.Objects.{Object, Phase, Live, Dying, Gone, object_at, with_object, in_phase, is_live, is_emptying, new_object, field_places}
 pub use Rattle.arc_spec.specs.Objects.{is_there}
 pub use Rattle.arc_spec.specs.Classes.{count_of}
+use Rattle.arc_spec.specs.World.{World}
 use Rattle.arc_spec.specs.Stepping.{Next, Faults, Stuck, only_if}
 
 -- The strong places and the references of the running functions. Of the one that runs: its temporaries, the last one first, what its variables that name objects
@@ -24,6 +25,10 @@ pub record Held : Type 0 where
 
 abbrev pub nothing_held : Held
 nothing_held = record { temporaries = []; variables = []; self = 0; places = []; names = []; objects = []; counts = λ o. 0; globals = []; strong_globals = [] }
+
+-- what a world holds, with these references, and with these counts
+abbrev pub counting : List ℕ → World → (ℕ → ℕ) → Held
+counting names w counts = record { temporaries = w.frame.temporaries; variables = w.frame.strong; self = w.frame.self; places = w.waiting; names = names; objects = w.objects; counts = counts; globals = w.globals; strong_globals = w.strong_globals }
 
 -- the strong places of all functions that were called
 abbrev pub stacked : Held → List ℕ
