@@ -1,6 +1,6 @@
 -- The rules of ownership: what a program can't say, since the compiler counts references for it. Each is a predicate on a site: the place at which the site
 -- breaks it, if it does.
-use Rattle.std.specs.Prelude.{ℕ, Bool, true, false, ◌||◌, ◌&&◌, not, List, [], ◌∷◌, ◌++◌, Option, Some, None, unwrap_or, codes, if◌then◌else◌}
+use Rattle.std.specs.Prelude.{ℕ, Bool, true, false, ◌||◌, ◌&&◌, not, List, [], ◌∷◌, ◌++◌, Option, Some, None, option_and_then, unwrap_or, codes, if◌then◌else◌}
 use Rattle.std.specs.Option.{option_map_or}
 use Rattle.std.specs.Str.{bytes_eq}
 use Rattle.arc_ast.specs.declared.tree.Kind.{Kind}
@@ -12,6 +12,7 @@ use Rattle.arc_ast.specs.Tree as t
 use Rattle.arc_ast.specs.Tree.{TypeTree, ResultTree, Assign, ParameterTree, FunctionTree, HeadTree, InterfaceTree, UnitTree}
 use Rattle.arc_ast.specs.Types.{type_kind, result_kind, both_qualifiers}
 use Rattle.arc_class.specs.Classes.{class_number, superclasses, any_result}
+use Rattle.arc_class.specs.SiteRules.{method_at}
 use Rattle.arc_sites.specs.declared.violation.Violation.{Violation}
 use Rattle.arc_sites.specs.Violations.{at_if, violates}
 use Rattle.arc_spec.specs.Classes.{same_sign, ancestry}
@@ -45,9 +46,7 @@ gives_unretained h = is_object (result_kind h.result) && not (is_owning (head_fa
 -- project's own choice)
 abbrev pub rule_60 : Node → Option ℕ
 rule_60 (Function f) = at_if (is_object (result_kind f.result)) f.at
-rule_60 (Declared h) = at_if (gives_unretained h) h.at
-rule_60 (Defined h) = at_if (gives_unretained h) h.at
-rule_60 _ = None
+rule_60 n = option_and_then (λ h. at_if (gives_unretained h) h.at) (method_at n)
 
 -- the selectors of the methods that count references by hand (ARC, "Memory management methods")
 abbrev pub is_manual : List ℕ → Bool
@@ -57,10 +56,8 @@ is_manual selector =
 -- 61 ManualMemory: such a method is declared or defined, at its `+` or `-`, or is sent, at the first part of the selector. ARC, "Memory management methods",
 -- refuses a definition and a message; that a declaration is refused too is this project's own choice.
 abbrev pub rule_61 : Node → Option ℕ
-rule_61 (Declared h) = at_if (is_manual h.selector) h.at
-rule_61 (Defined h) = at_if (is_manual h.selector) h.at
 rule_61 (Value a) = sends (λ m. is_manual m.selector) a
-rule_61 _ = None
+rule_61 n = option_and_then (λ h. at_if (is_manual h.selector) h.at) (method_at n)
 
 abbrev pub is_dealloc : List ℕ → Bool
 is_dealloc selector = bytes_eq selector (codes "dealloc")
@@ -130,9 +127,7 @@ rule_67 (Variable before type v) = at_if (is_misqualified (both_qualifiers befor
 rule_67 (Global g) = at_if (is_misqualified g.qualifiers (type_kind g.type)) g.at
 rule_67 (Field f) = at_if (is_misqualified f.qualifiers (type_kind f.type)) f.at
 rule_67 (Function f) = misqualified_among (named_parameters f.parameters)
-rule_67 (Declared h) = misqualified_among h.parameters
-rule_67 (Defined h) = misqualified_among h.parameters
-rule_67 _ = None
+rule_67 n = option_and_then (λ h. misqualified_among h.parameters) (method_at n)
 
 -- the rules that are broken at a site
 abbrev pub violations : UnitTree → Enclosing → Node → List Violation
