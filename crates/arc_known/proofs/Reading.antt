@@ -3,7 +3,8 @@ use Rattle.std.proofs.Common.{◌≡◌, ◌≤◌, ℕ, suc, List, [], ◌∷�
 use Rattle.std.proofs.lemmas.Bool.{leb-true}
 use Rattle.std.specs.Fmt.{digits}
 use Rattle.arc_lex.specs.declared.piece.Rule.{Rule}
-use Rattle.arc_lex.specs.Faults.{fault_number, fault_of}
+use Rattle.arc_lex.specs.Faults as lexing
+use Rattle.arc_lex.specs.Faults.{fault_of}
 use Rattle.arc_lex.specs.Source.{Tokens, most_bytes}
 use Rattle.arc_lex.specs.Tokens.{Tok}
 use Rattle.arc_lex.specs.private.Pieces.{piece, name_piece, number_piece, text_piece, character_piece, at_piece, line_piece, slash_piece, mark_piece}
@@ -102,7 +103,7 @@ of_tokens (Some ts) = of_read ts (read_whole body these unit ts)
 
 abbrev pub of_fault : List ℕ → Option (ℕ × Rule) → Option Violation
 of_fault source None = of_tokens (tokens_of (suc (length source)) 0 true source)
-of_fault source (Some f) = violation_at (fault_number (fault_of f.1 f.0)) f.0
+of_fault source (Some f) = violation_at ((lexing.report (fault_of f.1 f.0)).0) f.0
 
 -- the rule by which a source is refused, and the position
 abbrev pub refusal : List ℕ → Option Violation
@@ -117,7 +118,7 @@ at_in None = 0
 at_in (Some v) = v.at
 
 module _ (source : List ℕ) (number at : ℕ) (short : length source ≤ most_bytes) where
-  by_fault : (p : ℕ) (rule : Rule) → fault_in (suc (length source)) 0 true source ≡ Some (p, rule) → violation_at (fault_number (fault_of rule p)) p ≡ violation_at number at → IsRefused source number at
+  by_fault : (p : ℕ) (rule : Rule) → fault_in (suc (length source)) 0 true source ≡ Some (p, rule) → violation_at ((lexing.report (fault_of rule p)).0) p ≡ violation_at number at → IsRefused source number at
   by_fault p rule k e = subst (IsRefused source number) (ap at_in e) (in_tokens rule (short, breaks (suc (length source)) 0 true source p rule k) (ap number_in e))
 
   by_misfit : (ts rest : List Tok) → Tokens source ts → read_whole body these unit ts ≡ Err (misfit, rest) → violation_at (report (Unexpected 0)).number (place_of ts rest) ≡ violation_at number at

@@ -2,7 +2,8 @@
 use Rattle.std.specs.Prelude.{◌≡◌, ℕ, List, Option, Some}
 use Rattle.arc_lex.specs.Tokens.{Tok}
 use Rattle.arc_lex.specs.Source.{Tokens}
-use Rattle.arc_lex.specs.Faults.{fault_number, fault_of, IsFirst}
+use Rattle.arc_lex.specs.Faults as lexing
+use Rattle.arc_lex.specs.Faults.{fault_of, IsFirst}
 use Rattle.arc_lex.specs.declared.piece.Rule.{Rule}
 use Rattle.arc_ast.specs.Tree.{UnitTree}
 use Rattle.arc_fault.specs.declared.parse.ParseFault.TheVariants.{Unexpected, TooDeep}
@@ -30,7 +31,7 @@ reported tree = or_else (first (broken tree)) (or_else (first (broken_unit tree)
 -- The source is refused by the rule of this number, at this position: at the first byte where it breaks a rule for tokens; at the first token that doesn't fit, or
 -- that passes a limit; or because the tree that it spells breaks a rule, of which this one is reported.
 pub data IsRefused (source : List ℕ) (number at : ℕ) : Type 0 where
-  in_tokens : (rule : Rule) → IsFirst source at rule → fault_number (fault_of rule at) ≡ number → IsRefused source number at
+  in_tokens : (rule : Rule) → IsFirst source at rule → (lexing.report (fault_of rule at)).0 ≡ number → IsRefused source number at
   in_tree : (tokens : List Tok) → Tokens source tokens → FitsNoneAt tokens at → (report (Unexpected at)).number ≡ number → IsRefused source number at
   in_depth : (tokens : List Tok) → Tokens source tokens → TooDeepAt tokens at → (report (TooDeep at)).number ≡ number → IsRefused source number at
   in_rules : (tree : UnitTree) → Spelled source tree → reported tree ≡ Some (record { at = at; number = number }) → IsRefused source number at

@@ -17,15 +17,6 @@ report (f.Directive at) = (5, codes "Directive", at)
 report f.TooLong = (6, codes "TooLong", most_bytes)
 report f.Memory = (7, codes "Memory", 0)
 
-abbrev pub fault_number : LexFault → ℕ
-fault_number fault = (report fault).0
-
-abbrev pub fault_name : LexFault → List ℕ
-fault_name fault = (report fault).1
-
-abbrev pub fault_at : LexFault → ℕ
-fault_at fault = (report fault).2
-
 -- the fault of a broken rule at a place
 abbrev pub fault_of : Rule → ℕ → LexFault
 fault_of rules.BadByte at = f.BadByte at

@@ -1,6 +1,6 @@
 //! Why a source has no tokens.
 ghost use Rattle.std.specs.Prelude.{◌≡◌};
-ghost use Rattle.arc_lex.specs.Faults.{fault_number, fault_name, fault_at};
+ghost use Rattle.arc_lex.specs.Faults.{report};
 
 use crate::lex::MOST_BYTES;
 use std::alloc::{AllocError, AllocFailed};
@@ -35,7 +35,7 @@ pub enum LexFault {
 impl LexFault {
     /// The fault's number.
     pub fn number(&self) -> u8
-        ensures { result ≡ fault_number self.now }
+        ensures { result ≡ (report self.now).0 }
     {
         match self {
             LexFault::BadByte(_) => 1,
@@ -50,7 +50,7 @@ impl LexFault {
 
     /// The fault's name.
     pub fn name(&self) -> &'static str
-        ensures { result.now ≡ fault_name self.now }
+        ensures { result.now ≡ (report self.now).1 }
     {
         match self {
             LexFault::BadByte(_) => "BadByte",
@@ -66,7 +66,7 @@ impl LexFault {
     /// The byte that the fault names, counted from 0: the first one too many of a source that is too long, and 0 for
     /// want of memory.
     pub fn at(&self) -> usize
-        ensures { result ≡ fault_at self.now }
+        ensures { result ≡ (report self.now).2 }
     {
         match self {
             LexFault::BadByte(at) => *at,

@@ -34,7 +34,7 @@ IsTooLarge P = most_instrs < program_size P
 -- The refusal reports the fault of a stage, all stages before which have nothing to refuse. A stage to which memory is refused has a fault of its own for that,
 -- which says no more of the source.
 pub data IsRefusal (source : List ℕ) (r : Refusal) : Type 0 where
-  in_lexing : (f : LexFault) → lexing.IsLexFault source f → Reports (lexing.fault_number f) (lexing.fault_name f) (lexing.fault_at f) r → IsRefusal source r
+  in_lexing : (f : LexFault) → lexing.IsLexFault source f → Reports (lexing.report f).0 (lexing.report f).1 (lexing.report f).2 r → IsRefusal source r
   in_parsing : (f : ParseFault) (tokens : List Tok) → Tokens source tokens → parsing.IsRefused tokens f
       → Reports (parse_fault.report f).number (parse_fault.report f).name (parse_fault.report f).at r → IsRefusal source r
   in_building : (f : ClassFault) (tree : UnitTree) → Spelled source tree → building.Refuses (broken tree) f

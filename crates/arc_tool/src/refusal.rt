@@ -36,7 +36,7 @@ impl Refusal {
 }
 
 impl From<LexFault> for Refusal {
-    ghost from_gives = { λ f r. Reports (lexing.fault_number f) (lexing.fault_name f) (lexing.fault_at f) r };
+    ghost from_gives = { λ f r. Reports (lexing.report f).0 (lexing.report f).1 (lexing.report f).2 r };
 
     fn from(fault: LexFault) -> Refusal {
         Refusal {
