@@ -1,13 +1,13 @@
 //! The numbers and the names of faulty devices.
 ghost use Rattle.std.specs.Prelude.{◌≡◌};
-ghost use Rattle.arc_code.specs.Faulty.{fault_number, fault_name};
+ghost use Rattle.arc_code.specs.Faulty.{report};
 
 use crate::code::IoFault;
 
 impl IoFault {
     /// The number by which the fault is reported.
     pub fn number(self) -> u8
-        ensures { result ≡ fault_number self }
+        ensures { result ≡ (report self).0 }
     {
         match self {
             IoFault::Read => 91,
@@ -17,7 +17,7 @@ impl IoFault {
 
     /// The name by which the fault is reported.
     pub fn name(self) -> &'static str
-        ensures { result.now ≡ fault_name self }
+        ensures { result.now ≡ (report self).1 }
     {
         match self {
             IoFault::Read => "Read",

@@ -10,9 +10,3 @@ report NilField = (83, codes "NilField")
 report FieldClass = (84, codes "FieldClass")
 report Depth = (85, codes "Depth")
 report Resurrected = (86, codes "Resurrected")
-
-abbrev pub number_of : Fault → ℕ
-number_of fault = (report fault).0
-
-abbrev pub name_of : Fault → List ℕ
-name_of fault = (report fault).1

@@ -1,12 +1,12 @@
 //! The numbers and the names of faults.
 ghost use Rattle.std.specs.Prelude.{◌≡◌};
-ghost use Rattle.arc_machine.specs.FaultNames.{number_of, name_of};
+ghost use Rattle.arc_machine.specs.FaultNames.{report};
 
 use arc_spec::event::Fault;
 
 /// The number by which the fault is reported.
 pub fn fault_number(fault: Fault) -> u8
-    ensures { result ≡ number_of fault }
+    ensures { result ≡ (report fault).0 }
 {
     match fault {
         Fault::Arithmetic => 81,
@@ -20,7 +20,7 @@ pub fn fault_number(fault: Fault) -> u8
 
 /// The name by which the fault is reported.
 pub fn fault_name(fault: Fault) -> &'static str
-    ensures { result.now ≡ name_of fault }
+    ensures { result.now ≡ (report fault).1 }
 {
     match fault {
         Fault::Arithmetic => "Arithmetic",

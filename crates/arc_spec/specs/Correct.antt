@@ -7,8 +7,8 @@ use Rattle.arc_spec.specs.Stepping as stepping
 use Rattle.arc_spec.specs.Stepping.{Reached, Running}
 
 -- a starts b
-abbrev pub IsPrefix : List Event → List Event → Type 0
-IsPrefix a b = (c : List Event) × (b ≡ a ++ c)
+abbrev pub IsPrefix : {A : Type 0} → List A → List A → Type 0
+IsPrefix {A} a b = (c : List A) × (b ≡ a ++ c)
 
 -- why a run is over
 pub data Stop : Type 0 where

@@ -32,18 +32,18 @@ use Rattle.arc_tool.specs.Compiled.{Compiles}
 use Rattle.arc_tool.specs.declared.refusal.Refusal.{Refusal}
 use Rattle.arc_tool.specs.Refused.{IsRefusal}
 use Rattle.arc_tool.specs.Progress.{run_of, MakesObject, ReadsByte}
-use Rattle.arc_tool.specs.Ran.{Starts, Shown, Meant, RanCode, Ran, Answered, Becomes}
+use Rattle.arc_tool.specs.Ran.{Shown, Meant, RanCode, Ran, Answered, Becomes}
 use Rattle.arc_machine.proofs.Starting.{fresh_stands}
 use Rattle.arc_tool.proofs.Following.{takes_so, makes_so, read_broke}
 
 -- the bytes of more events
-starts_so : (a b : List Event) → IsPrefix a b → Starts (bytes_of a) (bytes_of b)
+starts_so : (a b : List Event) → IsPrefix a b → IsPrefix (bytes_of a) (bytes_of b)
 starts_so a b p = (bytes_of p.0, ap bytes_of p.1 ∙ bytes_of-append a p.0)
 
-starts_trans : (a b c : List ℕ) → Starts a b → Starts b c → Starts a c
+starts_trans : (a b c : List ℕ) → IsPrefix a b → IsPrefix b c → IsPrefix a c
 starts_trans a b c p q = (p.0 ++ q.0, q.1 ∙ ap (λ t. t ++ q.0) p.1 ∙ append_assoc a p.0 q.0)
 
-starts_along : (a b c : List ℕ) → a ≡ b → Starts a c → Starts b c
+starts_along : (a b c : List ℕ) → a ≡ b → IsPrefix a c → IsPrefix b c
 starts_along a b c e p = (p.0, p.1 ∙ ap (λ t. t ++ p.0) e)
 
 -- the bytes that one step more prints
@@ -234,10 +234,10 @@ module _ (source : List ℕ) (p : Program) (compiled : Compiles source p) (steps
       compiled.behaves.stops input (suc made) s (ap (λ (x : Sight). x.stop) same ∙ h) ∙ same
 
   -- a run shows some first ones of the meaning's bytes
-  on_way : (input : List ℕ) → Starts (bytes_of (seen p input (suc made)).trace) (bytes_of (meant compiled.program input (suc made)).trace)
+  on_way : (input : List ℕ) → IsPrefix (bytes_of (seen p input (suc made)).trace) (bytes_of (meant compiled.program input (suc made)).trace)
   on_way input = starts_so (seen p input (suc made)).trace (meant compiled.program input (suc made)).trace (compiled.behaves.follows input (suc made))
 
-  begun : (input written : List ℕ) → bytes_of (seen p input made).trace ≡ written → Starts written (bytes_of (meant compiled.program input (suc made)).trace)
+  begun : (input written : List ℕ) → bytes_of (seen p input made).trace ≡ written → IsPrefix written (bytes_of (meant compiled.program input (suc made)).trace)
   begun input written h =
       let now = bytes_of (seen p input made).trace in
       let next = bytes_of (seen p input (suc made)).trace in

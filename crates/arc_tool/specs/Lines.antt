@@ -32,10 +32,10 @@ dealloc_line names object class = named (codes "dealloc ") object (name_at names
 -- failed
 abbrev pub left_text : Left → List ℕ
 left_text (Stopped (stop.Ended n)) = codes "end " ++ signed_decimal n
-left_text (Stopped (stop.Fault f)) = named (codes "fault ") (stopped.number_of f) (stopped.name_of f)
+left_text (Stopped (stop.Fault f)) = named (codes "fault ") (stopped.report f).0 (stopped.report f).1
 left_text (Stopped stop.NoHeap) = codes "noheap"
 left_text (Stopped stop.StepsUsed) = codes "steps"
-left_text Unread = named (codes "io ") (faulty.fault_number Read) (faulty.fault_name Read)
+left_text Unread = named (codes "io ") (faulty.report Read).0 (faulty.report Read).1
 
 -- the end of a line of printed bytes, where one is open
 abbrev pub closing : Bool → List ℕ

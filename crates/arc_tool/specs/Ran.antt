@@ -1,7 +1,7 @@
 -- What a call that compiles a source and runs it did.
 use Rattle.std.specs.Prelude.{◌≡◌, ◌⊎◌, ℕ, suc, ◌+◌, ◌<◌, ◌≤◌, List, ◌++◌, codes, Option, Some, None, Result, Ok, Err}
 use Rattle.std.specs.Io.KnownBytes.{Appends, Consumes}
-use Rattle.arc_spec.specs.Correct.{Sight, Ends, Faults}
+use Rattle.arc_spec.specs.Correct.{Sight, Ends, Faults, IsPrefix}
 use Rattle.arc_code.specs.declared.code.IoFault.{IoFault}
 use Rattle.arc_code.specs.declared.code.IoFault.TheVariants.{Read, Write}
 use Rattle.arc_code.specs.Running.{Program, seen}
@@ -18,10 +18,6 @@ use Rattle.arc_tool.specs.Progress.{run_of, Takes, MakesObject, ReadsByte}
 use Rattle.arc_tool.specs.Refused.{IsRefusal}
 use Rattle.arc_tool.specs.Reports.{Names}
 
--- a is the first part of b
-abbrev pub Starts : (a b : List ℕ) → Type 0
-Starts a b = (later : List ℕ) × (b ≡ a ++ later)
-
 -- What was written is what the code prints in the steps made on this input, and the stop is its stop. Where an object had no room, the code goes on with one,
 -- and where the reader failed, with an instruction that reads; then fewer steps were made than were allowed. A step that the writer broke, one of those that
 -- were allowed, may have written some of its bytes.
@@ -32,14 +28,14 @@ Shown (Ok StepsUsed) p input most made written = (bytes_of (seen p input made).t
 Shown (Ok NoHeap) p input most made written = (bytes_of (seen p input made).trace ≡ written) × MakesObject p (run_of p input made) × (made < most)
 Shown (Err Read) p input most made written = (bytes_of (seen p input made).trace ≡ written) × ReadsByte p (run_of p input made) × (made < most)
 Shown (Err Write) p input most made written =
-    Starts (bytes_of (seen p input made).trace) written × Starts written (bytes_of (seen p input (suc made)).trace) × ((made < most) ⊎ (written ≡ bytes_of (seen p input made).trace))
+    IsPrefix (bytes_of (seen p input made).trace) written × IsPrefix written (bytes_of (seen p input (suc made)).trace) × ((made < most) ⊎ (written ≡ bytes_of (seen p input made).trace))
 
 -- What was written is what the program means to print, and the stop is the one that it means; of a program that goes on, or was left where there was no room
 -- for an object, it is the first part.
 abbrev pub Meant : Result Stop IoFault → (written : List ℕ) → Sight → Type 0
 Meant (Ok (Ended n)) written m = (bytes_of m.trace ≡ written) × (m.stop ≡ Some (Ends n))
 Meant (Ok (Fault f)) written m = (bytes_of m.trace ≡ written) × (m.stop ≡ Some (Faults f))
-Meant _ written m = Starts written (bytes_of m.trace)
+Meant _ written m = IsPrefix written (bytes_of m.trace)
 
 -- A run of the code, of at most so many steps. It took some first bytes of the reader's known ones, and added what it wrote to the writer's known ones;
 -- and whatever comes after the bytes that it took, the code takes exactly these, and shows what was written.

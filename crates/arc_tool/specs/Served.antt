@@ -26,7 +26,8 @@ use Rattle.arc_tool.specs.Compiled.{Compiles}
 use Rattle.arc_tool.specs.Refused.{IsRefusal}
 use Rattle.arc_tool.specs.Ran.{Answered}
 use Rattle.arc_tool.specs.Traced.{AnsweredTrace}
-use Rattle.arc_tool.specs.Status.{status_of, line_of}
+use Rattle.arc_tool.specs.Status as outcome
+use Rattle.arc_tool.specs.Status.{line_of}
 
 -- This text was printed, or the writer failed and has some first bytes of it.
 abbrev pub Prints : {W : Type 0} → (contents : W → Option (List ℕ)) → (writer_failed : Type 0) → Result (Unit {0}) IoFault → List ℕ → (o0 o1 : Counted W) → Type 0
@@ -110,4 +111,4 @@ device_of _ = None
 -- the status, and what is written on standard error: nothing, or trouble in one line, of which a failing device may take some first bytes alone
 abbrev pub Reported : {E : Type 0} → (contents : E → Option (List ℕ)) → (teller_failed : Type 0) → Result ℕ Trouble → (status : ℕ) → (e0 e1 : Counted E) → Type 0
 Reported contents failed (Ok s) status e0 e1 = (status ≡ s) × (e1 ≡ e0)
-Reported contents failed (Err t) status e0 e1 = (status ≡ status_of t) × ((answer : Result (Unit {0}) IoFault) × Prints contents failed answer (line_of t) e0 e1)
+Reported contents failed (Err t) status e0 e1 = (status ≡ (outcome.report t).0) × ((answer : Result (Unit {0}) IoFault) × Prints contents failed answer (line_of t) e0 e1)

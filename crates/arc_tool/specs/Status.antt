@@ -17,20 +17,14 @@ abbrev pub report : Trouble → ℕ × List ℕ
 report Usage = (101, codes "usage: check, run, trace or code, and FILE")
 report (Refused refusal) = (102, named (codes "refused ") refusal.number refusal.name.now ++ codes " at " ++ decimal refusal.at)
 report Memory = (102, codes "no memory")
-report (Fault fault) = (103, named (codes "fault ") (stopped.number_of fault) (stopped.name_of fault))
+report (Fault fault) = (103, named (codes "fault ") (stopped.report fault).0 (stopped.report fault).1)
 report NoHeap = (104, codes "no heap")
 report StepsUsed = (105, codes "steps used")
-report (Io fault) = (106, named (codes "io ") (faulty.fault_number fault) (faulty.fault_name fault))
+report (Io fault) = (106, named (codes "io ") (faulty.report fault).0 (faulty.report fault).1)
 report File = (106, named (codes "io ") 93 (codes "File"))
 
-abbrev pub status_of : Trouble → ℕ
-status_of trouble = (report trouble).0
-
-abbrev pub message_of : Trouble → List ℕ
-message_of trouble = (report trouble).1
-
 abbrev pub line_of : Trouble → List ℕ
-line_of trouble = codes "arcc: " ++ message_of trouble ++ codes "\n"
+line_of trouble = codes "arcc: " ++ (report trouble).1 ++ codes "\n"
 
 -- what a refusal becomes: a want of memory is reported as one
 abbrev pub BecomesTrouble : Refusal → Trouble → Type 0

@@ -6,7 +6,7 @@ ghost use Rattle.arc_code.specs.Counting.{failures_of, inner_of, held_by};
 ghost use Rattle.arc_code.specs.Written.{Written};
 ghost use Rattle.arc_code.specs.Faulty as faulty;
 ghost use Rattle.arc_machine.specs.FaultNames as stopped;
-ghost use Rattle.arc_tool.specs.Status.{status_of, line_of, message_of, named};
+ghost use Rattle.arc_tool.specs.Status.{report, line_of, named};
 ghost use Rattle.arc_code.specs.declared.code.IoFault.TheVariants as fault;
 
 use crate::refusal::Refusal;
@@ -81,7 +81,7 @@ impl From<IoFault> for Trouble {
 
 /// The status with which the program ends.
 pub fn status(trouble: &Trouble) -> u8
-    ensures { result ≡ status_of trouble.now }
+    ensures { result ≡ (report trouble.now).0 }
 {
     match trouble {
         Trouble::Usage => 101,
@@ -108,7 +108,7 @@ pub fn print_trouble<E: Output>(trouble: &Trouble, errors: &mut Counted<E>) -> R
 
 fn put_message<E: Output>(trouble: &Trouble, errors: &mut Counted<E>) -> Result<(), IoFault>
     requires { failures_of errors.old < 2 ^ 64 - 1 }
-    ensures { Written result (message_of trouble.now)
+    ensures { Written result (report trouble.now).1
         (held_by E.contents errors.old) (held_by E.contents errors.new)
         (failures_of errors.old) (failures_of errors.new)
         (HasFailedToWrite E.writes E.flushes (inner_of errors.new)) }
@@ -128,7 +128,7 @@ fn put_message<E: Output>(trouble: &Trouble, errors: &mut Counted<E>) -> Result<
 /// Writes why a program was stopped.
 pub(crate) fn put_fault<W: Output>(fault: Fault, writer: &mut Counted<W>) -> Result<(), IoFault>
     requires { failures_of writer.old < 2 ^ 64 - 1 }
-    ensures { Written result (named (codes "fault ") (stopped.number_of fault) (stopped.name_of fault))
+    ensures { Written result (named (codes "fault ") (stopped.report fault).0 (stopped.report fault).1)
         (held_by W.contents writer.old) (held_by W.contents writer.new)
         (failures_of writer.old) (failures_of writer.new)
         (HasFailedToWrite W.writes W.flushes (inner_of writer.new)) }
@@ -140,7 +140,7 @@ pub(crate) fn put_fault<W: Output>(fault: Fault, writer: &mut Counted<W>) -> Res
 /// Writes which device failed.
 pub(crate) fn put_broken<W: Output>(fault: IoFault, writer: &mut Counted<W>) -> Result<(), IoFault>
     requires { failures_of writer.old < 2 ^ 64 - 1 }
-    ensures { Written result (named (codes "io ") (faulty.fault_number fault) (faulty.fault_name fault))
+    ensures { Written result (named (codes "io ") (faulty.report fault).0 (faulty.report fault).1)
         (held_by W.contents writer.old) (held_by W.contents writer.new)
         (failures_of writer.old) (failures_of writer.new)
         (HasFailedToWrite W.writes W.flushes (inner_of writer.new)) }
