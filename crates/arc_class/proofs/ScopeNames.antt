@@ -40,10 +40,11 @@ pub variable_turn : {A : Type 0} (trees : List A → List VariableTree) (v : Var
 variable_turn trees v names after all xs i x name so_far one now whole t l e r o a n w m =
     let rest = trees (drop (i + 1) xs) in
     let split = ap trees (drop_turn xs i x l e) ∙ t in
-    let more = a ∙ ap (λ n. and_name n names) r in
-    ( first_turn (broken_if (names v.name) v.at 21) (repeated (and_name v.name names) rest) so_far one now whole (o ∙ ap (λ n. first (broken_if (names n) v.at 21)) r) n (w ∙ ap (λ us. earlier_of so_far (first (repeated names us))) split)
-      ∙ ap (λ p. earlier_of now (first (repeated p rest))) (sym more)
-    , m ∙ ap (names_with names) split ∙ ap (λ p. names_with p rest) (sym more) )
+    let more = a ∙ ap (λ n. and_name n names) r in (
+      first_turn (broken_if (names v.name) v.at 21) (repeated (and_name v.name names) rest) so_far one now whole (o ∙ ap (λ n. first (broken_if (names n) v.at 21)) r) n (w ∙ ap (λ us. earlier_of so_far (first (repeated names us))) split)
+          ∙ ap (λ p. earlier_of now (first (repeated p rest))) (sym more),
+      m ∙ ap (names_with names) split ∙ ap (λ p. names_with p rest) (sym more),
+    )
 
 -- what one statement more declares is put into a scope
 pub statement_turn : (vs : List VariableTree) (names after : List ℕ → Bool) (xs : List Stmt) (i : ℕ) (x : Stmt) (so_far one now whole : Option Broken)
