@@ -97,14 +97,8 @@ fn put_op_operands<W: Output>(op: Op, writer: &mut Counted<W>) -> Result<(), IoF
 {
     match op {
         Op::Num(number) => put_signed(number, writer),
-        Op::Bin(operator, kind) => put_pair(
-            operator as u64,
-            kind as u64,
-            writer,
-        ),
-        Op::Un(operator, kind) => {
-            put_pair(operator as u64, kind as u64, writer)
-        }
+        Op::Bin(operator, kind) => put_pair(operator as u64, kind as u64, writer),
+        Op::Un(operator, kind) => put_pair(operator as u64, kind as u64, writer),
         Op::Narrow(kind) => put_operand(kind as u64, writer),
         Op::Get(depth) | Op::Set(depth) => put_operand(depth as u64, writer),
         Op::GetGlobal(number)
