@@ -6,12 +6,11 @@ use Rattle.std.proofs.lemmas.List.{reverse-append, map-set, map-append, length-m
 use Rattle.std.proofs.lemmas.Option.{slice_get-map, slice_get_read, slice_get_past}
 use Rattle.std.proofs.lemmas.Bool.{ltb-true, ltb-false}
 use Rattle.std.specs.Borrow.{Bor}
-use Rattle.arc_spec.specs.declared.event.Event.{Event}
 use Rattle.arc_spec.specs.declared.event.Fault.TheVariants.{FieldClass, Resurrected}
 use Rattle.arc_spec.specs.Classes.{Class, count_of, descends, strong_count}
 use Rattle.arc_spec.specs.Objects as objects
 use Rattle.arc_spec.specs.Objects.{object_at, with_object, with_fields, with_strong_fields, is_emptying, new_object, names, field_places, nils, zeros}
-use Rattle.arc_spec.specs.World.{Frame, World, Outcome, Done, Faulted, takes, with_objects, name_at, first_frame, first_world}
+use Rattle.arc_spec.specs.World.{World, Outcome, Done, Faulted, takes, with_objects, name_at}
 use Rattle.arc_spec.specs.Meaning.{Deeper, class_in, next_object, made, in_object, field_read, field_set, field_stores}
 use Rattle.arc_plain.specs.declared.halt.Halt.{Halt}
 use Rattle.arc_plain.specs.declared.object.Object.{Object}
@@ -222,18 +221,3 @@ replaced_reported D classes r class index value o w all new before same is holds
     ∙ ap (λ b. if b then Faulted Resurrected w else Done (name_at o.strong index) (field_stores r o index value w)) phase
     ∙ ap (λ n. Done n (field_stores r o index value w)) (sym named)
     ∙ ap (λ l. Done before (with_objects w l)) (sym stored)
-
--- what a program begins with
-abbrev begin_with : (input : List ℕ) (trace : List Event) (globals : List ℤ) (names : List ℕ) (all : List objects.Object) (frame : Frame) (waiting : List ℕ) → World
-begin_with input trace globals names all frame waiting = record { input = input; trace = trace; globals = globals; strong_globals = names; objects = all; frame = frame; waiting = waiting }
-
-pub started : (input : List ℕ) (trace : List Event) (globals : List ℤ) (names : List ℕ) (all : List objects.Object) (frame : Frame) (waiting : List ℕ) (known : List ℤ) (count : ℕ)
-    → trace ≡ [] → globals ≡ known → names ≡ replicate count 0 → all ≡ [] → frame ≡ first_frame → waiting ≡ []
-    → record { input = input; trace = trace; globals = globals; strong_globals = names; objects = all; frame = frame; waiting = waiting } ≡ first_world known count input
-started input trace globals names all frame waiting known count nothing_shown numbers nothing_named nothing_made runs none_wait =
-    ap (λ x. begin_with input x globals names all frame waiting) nothing_shown
-    ∙ ap (λ x. begin_with input [] x names all frame waiting) numbers
-    ∙ ap (λ x. begin_with input [] known x all frame waiting) (nothing_named ∙ nils_are count)
-    ∙ ap (λ x. begin_with input [] known (nils count) x frame waiting) nothing_made
-    ∙ ap (λ x. begin_with input [] known (nils count) [] x waiting) runs
-    ∙ ap (λ x. begin_with input [] known (nils count) [] first_frame x) none_wait

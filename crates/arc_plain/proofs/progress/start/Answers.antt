@@ -1,9 +1,16 @@
-use Rattle.std.proofs.Common.{map, reverse, ap}
-use Rattle.arc_plain.specs.Views.{frame_of, object_of}
-use Rattle.arc_plain.proofs.Objects.{started}
+use Rattle.std.proofs.Common.{◌≡◌, ℕ, List, [], map, reverse, ap, ◌∙◌, rules}
+use Rattle.arc_spec.specs.Objects as objects
+use Rattle.arc_plain.specs.declared.object.Object.{Object}
+use Rattle.arc_plain.proofs.Objects.{nils_are}
 use Rattle.arc_plain.proofs.progress.start.Goals as goal
+
+none_mapped : (f : Object → objects.Object) (xs : List Object) → xs ≡ [] → map f xs ≡ []
+none_mapped f xs e = ap (map f) e
+
+none_reversed : (xs : List ℕ) → xs ≡ [] → reverse xs ≡ []
+none_reversed xs e = ap reverse e
 
 pub returns : goal.returns
 returns c =
-    started c.args.input.now c.new.result.items c.in_ok-from_slice.field-0.items c.in_ok-vec.field-0.items (map object_of c.new-2.result.items) (frame_of c.nothing_runs.result) (reverse c.new-3.result.items) c.args.globals.now c.args.strong_globals
-    c.new.ensures.items c.in_ok-from_slice.ensures.items (c.in_ok-vec.ensures.items_if_clones_equal (λ y h. h)) (ap (map object_of) c.new-2.ensures.items) c.nothing_runs.ensures (ap reverse c.new-3.ensures.items)
+    let names = c.in_ok-vec.ensures.items_if_clones_equal (λ y h. h) ∙ nils_are c.args.strong_globals in
+    search (rules, names, none_mapped, none_reversed)
