@@ -10,9 +10,10 @@ use Rattle.arc_class.specs.declared.kept.Source.{Source}
 use Rattle.arc_class.specs.declared.look.Seen.{Seen}
 use Rattle.arc_class.specs.Broken.{Broken, first, earlier_of}
 use Rattle.arc_class.specs.Names.{number_of, is_main}
-use Rattle.arc_class.specs.ClassRules.{broken_interfaces, broken_implementations, broken}
+use Rattle.arc_class.specs.ClassRules.{broken_interface, broken_implementation, broken}
+use Rattle.arc_class.specs.Broken.{in_order}
 use Rattle.arc_class.specs.Fault.{reported, Refuses}
-use Rattle.arc_class.specs.Functions.{duplicates, missing_main}
+use Rattle.arc_class.specs.Functions.{duplicate, missing_main}
 use Rattle.arc_class.specs.Kept.{Knows}
 use Rattle.arc_class.specs.private.Look.{Sums}
 use Rattle.arc_class.specs.SiteRules.{violations}
@@ -34,13 +35,13 @@ abbrev pub at_sites : UnitTree → List Broken
 at_sites u = violations_of (violations u) (unit_sites u)
 
 abbrev pub in_classes : UnitTree → List Broken
-in_classes u = broken_interfaces u [] u.interfaces ++ broken_implementations u [] u.implementations
+in_classes u = in_order (broken_interface u) [] u.interfaces ++ in_order (broken_implementation u) [] u.implementations
 
 -- the first of all broken rules, from those of the functions' names, a missing main's, those of sites and those of classes
 pub whole_known : (u : UnitTree) (seen : Seen) (own gone sites functions classes all : Option Broken) → Sums u.functions seen → gone ≡ first (missing_main seen.main) → own ≡ earlier_of (option_map reported seen.fault) gone
     → sites ≡ first (at_sites u) → functions ≡ earlier_of own sites → classes ≡ first (in_classes u) → all ≡ earlier_of functions classes → all ≡ first (broken u)
 whole_known u seen own gone sites functions classes all h m o s f k a =
-    let A = duplicates [] u.functions in
+    let A = in_order duplicate [] u.functions in
     let B = missing_main (number_of is_main u.functions) in
     let both : own ≡ first (A ++ B) = first_both A B (option_map reported seen.fault) gone own h.fault (m ∙ ap (λ o. first (missing_main o)) h.main) o in
     first_both (A ++ (B ++ at_sites u)) (in_classes u) functions classes all (first_both (A ++ B) (at_sites u) own sites functions both s f ∙ ap first (append_assoc A B (at_sites u))) k a

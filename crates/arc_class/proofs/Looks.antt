@@ -11,7 +11,8 @@ use Rattle.arc_class.specs.Fault.{reported}
 use Rattle.arc_class.specs.private.Look.{Sums, IsMore, or_number, joined, fault_with}
 use Rattle.arc_class.specs.Broken.{Broken, first, earlier_of}
 use Rattle.arc_class.specs.Classes.{bodies}
-use Rattle.arc_class.specs.Functions.{duplicate, duplicates, is_library, clashes}
+use Rattle.arc_class.specs.Functions.{duplicate, is_library, clashes}
+use Rattle.arc_class.specs.Broken.{in_order}
 use Rattle.arc_class.specs.Names.{has_body, signature, known, first_named, number_of, is_named, is_main}
 use Rattle.arc_class.specs.Table.{at_name}
 use Rattle.arc_class.proofs.Firsts.{first-append, earlier_of-none}
@@ -19,14 +20,14 @@ use Rattle.arc_class.proofs.Names.{self_eq, apart}
 
 -- ---- duplicates
 
-duplicates-push : (before xs : List FunctionTree) (f : FunctionTree) → duplicates before (xs ++ f ∷ []) ≡ duplicates before xs ++ duplicate (before ++ xs) f
+duplicates-push : (before xs : List FunctionTree) (f : FunctionTree) → in_order duplicate before (xs ++ f ∷ []) ≡ in_order duplicate before xs ++ duplicate (before ++ xs) f
 duplicates-push before [] f = append-nil (duplicate before f) ∙ ap (λ b. duplicate b f) (sym (append-nil before))
 duplicates-push before (x ∷ xs) f =
-    ap (λ d. duplicate before x ++ d) (duplicates-push (before ++ x ∷ []) xs f ∙ ap (λ b. duplicates (before ++ x ∷ []) xs ++ duplicate b f) (append_assoc before (x ∷ []) xs))
-    ∙ sym (append_assoc (duplicate before x) (duplicates (before ++ x ∷ []) xs) (duplicate (before ++ x ∷ xs) f))
+    ap (λ d. duplicate before x ++ d) (duplicates-push (before ++ x ∷ []) xs f ∙ ap (λ b. in_order duplicate (before ++ x ∷ []) xs ++ duplicate b f) (append_assoc before (x ∷ []) xs))
+    ∙ sym (append_assoc (duplicate before x) (in_order duplicate (before ++ x ∷ []) xs) (duplicate (before ++ x ∷ xs) f))
 
-first-push : (xs : List FunctionTree) (f : FunctionTree) → first (duplicates [] (xs ++ f ∷ [])) ≡ earlier_of (first (duplicates [] xs)) (first (duplicate xs f))
-first-push xs f = ap first (duplicates-push [] xs f) ∙ first-append (duplicates [] xs) (duplicate xs f)
+first-push : (xs : List FunctionTree) (f : FunctionTree) → first (in_order duplicate [] (xs ++ f ∷ [])) ≡ earlier_of (first (in_order duplicate [] xs)) (first (duplicate xs f))
+first-push xs f = ap first (duplicates-push [] xs f) ∙ first-append (in_order duplicate [] xs) (duplicate xs f)
 
 -- ---- names
 
@@ -126,7 +127,7 @@ fault_by : (found : Option Broken) (at : ℕ) (b : Bool)
 fault_by found at true = refl
 fault_by found at false = sym (earlier_of-none found)
 
-fault-more : (xs : List FunctionTree) (old : Seen) (f : FunctionTree) → Sums xs old → fault_with old.fault (at_name old.known f.name) f ≡ first (duplicates [] (xs ++ f ∷ []))
+fault-more : (xs : List FunctionTree) (old : Seen) (f : FunctionTree) → Sums xs old → fault_with old.fault (at_name old.known f.name) f ≡ first (in_order duplicate [] (xs ++ f ∷ []))
 fault-more xs old f h =
     ap (λ o. fault_with old.fault o f) (h.knows f.name) ∙ fault_by (option_map reported old.fault) f.at (is_library f.name || clashes (known xs f.name) f) ∙ ap (λ s. earlier_of s (first (duplicate xs f))) h.fault ∙ sym (first-push xs f)
 

@@ -13,7 +13,8 @@ use Rattle.arc_class.specs.declared.kept.Implemented.{Implemented}
 use Rattle.arc_class.specs.declared.table.Place.{Place}
 use Rattle.arc_class.specs.private.Scopes.{and_name}
 use Rattle.arc_class.specs.Broken.{broken_if, Broken, first, earlier_of}
-use Rattle.arc_class.specs.ClassRules.{broken_methods, broken_field, broken_fields, field_place, broken_interface, broken_interfaces, broken_implementation, broken_implementations, is_implemented}
+use Rattle.arc_class.specs.ClassRules.{broken_methods, broken_field, broken_fields, field_place, broken_interface, broken_implementation, is_implemented}
+use Rattle.arc_class.specs.Broken.{in_order}
 use Rattle.arc_class.specs.SiteRules.{interface_before}
 use Rattle.arc_class.specs.Classes.{heads, first_head, interface_number, class_number, is_root, or_else}
 use Rattle.arc_class.specs.Kept.{place_before, places, implemented_tree}
@@ -185,14 +186,14 @@ interface_there (y ∷ xs) (suc k) x l e = interface_there xs k x (omega (arith,
 
 pub interfaces_turn : (u : UnitTree) (xs : List Interface) (k : ℕ) (x : Interface) (so_far one now whole : Option Broken) → k < length xs → x ≡ get_or xs k x
     → one ≡ first (broken_interface u (interface_trees (take k xs)) (interface_tree x)) → now ≡ earlier_of so_far one
-    → whole ≡ earlier_of so_far (first (broken_interfaces u (interface_trees (take k xs)) (interface_trees (drop k xs)))) → whole ≡ earlier_of now (first (broken_interfaces u (interface_trees (take (k + 1) xs)) (interface_trees (drop (k + 1) xs))))
+    → whole ≡ earlier_of so_far (first (in_order (broken_interface u) (interface_trees (take k xs)) (interface_trees (drop k xs)))) → whole ≡ earlier_of now (first (in_order (broken_interface u) (interface_trees (take (k + 1) xs)) (interface_trees (drop (k + 1) xs))))
 interfaces_turn u xs k x so_far one now whole l e o n w =
     let before = interface_trees (take k xs) in
     let others = interface_trees (drop (k + 1) xs) in
     let i = interface_tree x in
-    first_turn (broken_interface u before i) (broken_interfaces u (before ++ i ∷ []) others) so_far one now whole o n
-    (w ∙ ap (λ us. earlier_of so_far (first (broken_interfaces u before (interface_trees us)))) (drop_turn xs k x l e))
-    ∙ ap (λ b. earlier_of now (first (broken_interfaces u b others))) (sym (interfaces_take xs k x l e))
+    first_turn (broken_interface u before i) (in_order (broken_interface u) (before ++ i ∷ []) others) so_far one now whole o n
+    (w ∙ ap (λ us. earlier_of so_far (first (in_order (broken_interface u) before (interface_trees us)))) (drop_turn xs k x l e))
+    ∙ ap (λ b. earlier_of now (first (in_order (broken_interface u) b others))) (sym (interfaces_take xs k x l e))
 
 pub interfaces_held : (xs : List Interface) (k : ℕ) (x : Interface) (old new : List ℕ → Bool) → k < length xs → x ≡ get_or xs k x → new ≡ and_name x.name.items old
     → ((name : List ℕ) → old name ≡ is_some (interface_number (interface_trees (take k xs)) name)) → (name : List ℕ) → new name ≡ is_some (interface_number (interface_trees (take (k + 1) xs)) name)
@@ -210,15 +211,15 @@ implementations_take xs k x l e = ap implementation_trees (take_more xs k x l �
 
 pub implementations_turn : (u : UnitTree) (xs : List Implementation) (k : ℕ) (x : Implementation) (so_far one now whole : Option Broken) → k < length xs → x ≡ get_or xs k x
     → one ≡ first (broken_implementation u (implementation_trees (take k xs)) (implementation_tree x)) → now ≡ earlier_of so_far one
-    → whole ≡ earlier_of so_far (first (broken_implementations u (implementation_trees (take k xs)) (implementation_trees (drop k xs))))
-    → whole ≡ earlier_of now (first (broken_implementations u (implementation_trees (take (k + 1) xs)) (implementation_trees (drop (k + 1) xs))))
+    → whole ≡ earlier_of so_far (first (in_order (broken_implementation u) (implementation_trees (take k xs)) (implementation_trees (drop k xs))))
+    → whole ≡ earlier_of now (first (in_order (broken_implementation u) (implementation_trees (take (k + 1) xs)) (implementation_trees (drop (k + 1) xs))))
 implementations_turn u xs k x so_far one now whole l e o n w =
     let before = implementation_trees (take k xs) in
     let others = implementation_trees (drop (k + 1) xs) in
     let i = implementation_tree x in
-    first_turn (broken_implementation u before i) (broken_implementations u (before ++ i ∷ []) others) so_far one now whole o n
-    (w ∙ ap (λ us. earlier_of so_far (first (broken_implementations u before (implementation_trees us)))) (drop_turn xs k x l e))
-    ∙ ap (λ b. earlier_of now (first (broken_implementations u b others))) (sym (implementations_take xs k x l e))
+    first_turn (broken_implementation u before i) (in_order (broken_implementation u) (before ++ i ∷ []) others) so_far one now whole o n
+    (w ∙ ap (λ us. earlier_of so_far (first (in_order (broken_implementation u) before (implementation_trees us)))) (drop_turn xs k x l e))
+    ∙ ap (λ b. earlier_of now (first (in_order (broken_implementation u) b others))) (sym (implementations_take xs k x l e))
 
 pub implementations_held : (xs : List Implementation) (k : ℕ) (x : Implementation) (old new : List ℕ → Bool) → k < length xs → x ≡ get_or xs k x → new ≡ and_name x.name.items old
     → ((name : List ℕ) → old name ≡ is_implemented (implementation_trees (take k xs)) name) → (name : List ℕ) → new name ≡ is_implemented (implementation_trees (take (k + 1) xs)) name

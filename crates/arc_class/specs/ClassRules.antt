@@ -12,7 +12,8 @@ use Rattle.arc_class.specs.Broken.{Broken, broken_if}
 use Rattle.arc_class.specs.Classes.{is_root, interface_number, class_number, superclasses, first_head}
 use Rattle.arc_class.specs.Fields.{own_fields, fields_declared, fields}
 use Rattle.arc_class.specs.Globals.{known_global, variable_before}
-use Rattle.arc_class.specs.Functions.{is_library, duplicates, missing_main}
+use Rattle.arc_class.specs.Functions.{is_library, duplicate, missing_main}
+use Rattle.arc_class.specs.Broken.{in_order}
 use Rattle.arc_class.specs.Names.{first_named, number_of, is_main}
 use Rattle.arc_class.specs.SiteRules.{stands_before, violations}
 
@@ -73,10 +74,6 @@ broken_members u class i = broken_if (nat_lt MOST_FIELDS (length (fields u class
 abbrev pub broken_interface : UnitTree → (before : List InterfaceTree) → InterfaceTree → List Broken
 broken_interface u before i = broken_names u before i ++ broken_members u (suc (length before)) i
 
-abbrev pub broken_interfaces : UnitTree → (before : List InterfaceTree) → List InterfaceTree → List Broken
-broken_interfaces u before [] = []
-broken_interfaces u before (i ∷ others) = broken_interface u before i ++ broken_interfaces u (before ++ i ∷ []) others
-
 -- 21 Duplicate: an implementation of the root, or a second one of a class, at its name. 22 UnknownClass: one of a class without an interface, at its name.
 -- (OPL, "Defining a Class"; the numbers are this project's own.)
 abbrev pub broken_own_names : UnitTree → (before : List ImplementationTree) → ImplementationTree → List Broken
@@ -87,11 +84,7 @@ broken_own_names u before i =
 abbrev pub broken_implementation : UnitTree → (before : List ImplementationTree) → ImplementationTree → List Broken
 broken_implementation u before i = broken_own_names u before i ++ broken_methods [] i.methods
 
-abbrev pub broken_implementations : UnitTree → (before : List ImplementationTree) → List ImplementationTree → List Broken
-broken_implementations u before [] = []
-broken_implementations u before (i ∷ others) = broken_implementation u before i ++ broken_implementations u (before ++ i ∷ []) others
-
 -- all that is wrong with a source before its types are looked at
 abbrev pub broken : UnitTree → List Broken
-broken u = (duplicates [] u.functions ++ (missing_main (number_of is_main u.functions) ++ violations_of (violations u) (unit_sites u)))
-    ++ (broken_interfaces u [] u.interfaces ++ broken_implementations u [] u.implementations)
+broken u = (in_order duplicate [] u.functions ++ (missing_main (number_of is_main u.functions) ++ violations_of (violations u) (unit_sites u)))
+    ++ (in_order (broken_interface u) [] u.interfaces ++ in_order (broken_implementation u) [] u.implementations)

@@ -40,11 +40,6 @@ clashes (Some earlier) f = (is_some earlier.body && has_body f) || not (same_sig
 abbrev pub duplicate : List FunctionTree → FunctionTree → List Broken
 duplicate before f = broken_if (is_library f.name || clashes (known before f.name) f) f.at 21
 
--- the duplicates of all that stand after some functions
-abbrev pub duplicates : (before : List FunctionTree) → List FunctionTree → List Broken
-duplicates before [] = []
-duplicates before (f ∷ others) = duplicate before f ++ duplicates (before ++ f ∷ []) others
-
 -- 29 NoMain: no `main` has a body, reported at 0 (C99, section 5.1.2.2.1)
 abbrev pub missing_main : Option ℕ → List Broken
 missing_main main = broken_if (is_none main) 0 29

@@ -57,9 +57,8 @@ is_int k.Int = true
 is_int _ = false
 
 abbrev pub starts_program : Option ℕ → Bool
-starts_program None = true
-starts_program (Some zero) = true
 starts_program (Some (suc n)) = false
+starts_program _ = true
 
 -- The function that a program begins with gives an int, and takes nothing or a count and the arguments' texts (C99, section 5.1.2.2.1).
 abbrev pub is_main : FunctionTree → Bool

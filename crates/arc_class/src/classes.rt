@@ -3,7 +3,8 @@ ghost use Rattle.std.specs.Prelude.{◌≡◌, ◌≤◌, ◌||◌, List, ℕ, [
 ghost use Rattle.arc_ast.specs.Tree.{InterfaceTree, ImplementationTree, unit_tree, function_tree, global_tree, interface_tree, implementation_tree};
 ghost use Rattle.arc_class.specs.Broken.{first};
 ghost use Rattle.arc_class.specs.ClassRules as rules;
-ghost use Rattle.arc_class.specs.ClassRules.{broken_names, broken_members, broken_interfaces, broken_own_names, broken_own_fields, broken_implementation, broken_implementations};
+ghost use Rattle.arc_class.specs.ClassRules.{broken_names, broken_members, broken_interface, broken_own_names, broken_own_fields, broken_implementation};
+ghost use Rattle.arc_class.specs.Broken.{in_order};
 ghost use Rattle.arc_class.specs.SiteRules as site_rules;
 ghost use Rattle.arc_class.specs.Classes as classes;
 ghost use Rattle.arc_class.specs.Classes.{interface_number};
@@ -196,7 +197,7 @@ impl<'a> Source<'a> {
         requires knows { Knows (unit_tree self.now.unit.now) self.now }
         requires fields { map fields_tree fields.now ≡ all_class_fields (unit_tree self.now.unit.now) }
         requires owners { FindsFields fields.now owners.now }
-        ensures { IfOk result (λ fault. option_map reported fault ≡ first (broken_interfaces (unit_tree self.now.unit.now) [] (unit_tree self.now.unit.now).interfaces)) }
+        ensures { IfOk result (λ fault. option_map reported fault ≡ first (in_order (broken_interface (unit_tree self.now.unit.now)) [] (unit_tree self.now.unit.now).interfaces)) }
     {
         let mut before = Scope::with_room(alloc, self.unit.interfaces.len())?;
         let mut fault = None;
@@ -249,7 +250,7 @@ impl<'a> Source<'a> {
     fn implementations_fault(&self, alloc: Global) -> Result<Option<ClassFault>, AllocError>
         requires { Knows (unit_tree self.now.unit.now) self.now }
         ensures { IfOk result (λ fault. option_map reported fault
-            ≡ first (broken_implementations (unit_tree self.now.unit.now) [] (unit_tree self.now.unit.now).implementations)) }
+            ≡ first (in_order (broken_implementation (unit_tree self.now.unit.now)) [] (unit_tree self.now.unit.now).implementations)) }
     {
         let mut before = Scope::with_room(alloc, self.unit.implementations.len())?;
         let mut fault = None;
@@ -271,8 +272,8 @@ impl<'a> Source<'a> {
         requires knows { Knows (unit_tree self.now.unit.now) self.now }
         requires fields { map fields_tree fields.now ≡ all_class_fields (unit_tree self.now.unit.now) }
         requires owners { FindsFields fields.now owners.now }
-        ensures { IfOk result (λ fault. option_map reported fault ≡ first (broken_interfaces (unit_tree self.now.unit.now) [] (unit_tree self.now.unit.now).interfaces
-            ++ broken_implementations (unit_tree self.now.unit.now) [] (unit_tree self.now.unit.now).implementations)) }
+        ensures { IfOk result (λ fault. option_map reported fault ≡ first (in_order (broken_interface (unit_tree self.now.unit.now)) [] (unit_tree self.now.unit.now).interfaces
+            ++ in_order (broken_implementation (unit_tree self.now.unit.now)) [] (unit_tree self.now.unit.now).implementations)) }
     {
         let interfaces = self.interfaces_fault(alloc, fields, owners)?;
         Ok(earlier(interfaces, self.implementations_fault(alloc)?))

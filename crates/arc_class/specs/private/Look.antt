@@ -9,7 +9,8 @@ use Rattle.arc_class.specs.declared.table.Declared.{Declared}
 use Rattle.arc_class.specs.Broken.{Broken, first, earlier_of}
 use Rattle.arc_class.specs.Classes.{bodies}
 use Rattle.arc_class.specs.Fault.{reported}
-use Rattle.arc_class.specs.Functions.{is_library, clashes, duplicates}
+use Rattle.arc_class.specs.Functions.{is_library, clashes, duplicate}
+use Rattle.arc_class.specs.Broken.{in_order}
 use Rattle.arc_class.specs.Names.{has_body, signature, known, number_of, is_main}
 use Rattle.arc_class.specs.Lookups.{at_name}
 
@@ -18,7 +19,7 @@ pub record Sums (functions : List FunctionTree) (seen : Seen) : Type 0 where
   pub knows : (name : List ℕ) → at_name seen.known name ≡ known functions name
   pub counts : seen.bodies ≡ bodies functions
   pub main : seen.main ≡ number_of is_main functions
-  pub fault : option_map reported seen.fault ≡ first (duplicates [] functions)
+  pub fault : option_map reported seen.fault ≡ first (in_order duplicate [] functions)
 
 -- a number that was found, or else that of a function which passes
 abbrev pub or_number : Option ℕ → Bool → ℕ → Option ℕ
