@@ -187,8 +187,8 @@ fn append_sequence(
     append_all_empty(actions, body.names, scope.first, scope.count)
 }
 
-/// Where a loop begins with its body, the action at `enter` goes over all up to the action at `out`, with which the test leaves
-/// the loop.
+/// Where a loop begins with its body, the action at `enter` goes over all up to the action at `out`, with which the
+/// test leaves the loop.
 fn enter_loop(
     actions: &mut Vec<Action>,
     moment: Moment,
@@ -227,8 +227,8 @@ fn append_own_step(
     append_command(alloc, actions, program, body, scopes, step)
 }
 
-/// Appends the actions of a loop's step, where there is one, and before them the jump over them to the test, unless the loop
-/// begins there; and the number of the action with which a turn begins.
+/// Appends the actions of a loop's step, where there is one, and before them the jump over them to the test, unless
+/// the loop begins there. The result is the number of the action with which a turn begins.
 #[cycle(statement)]
 fn append_step(
     alloc: Global,
