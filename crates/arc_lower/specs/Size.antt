@@ -105,14 +105,11 @@ new_size P None a = 7
 -- stored as an object is taken once more, and a variable that isn't there is nil, which is taken.
 abbrev mutual
   pub value_size : Program → Function → Value → Size
-  value_size P f (Number n) = plain 1
-  value_size P f ReadByte = plain 1
   value_size P f (Print pieces given) = arguments_size P f given and plain (print_size pieces (number_count given) (object_count given))
   value_size P f (Applied operator kind a) = value_size P f a and plain 1
   value_size P f (Combined operator kind a b) = value_size P f a and value_size P f b and plain 1
   value_size P f (Choice c a b) = value_size P f c and value_size P f a and value_size P f b and plain 2
   value_size P f (Converted kind a) = value_size P f a and plain (conversion_size (known_kind a) kind)
-  value_size P f (Read i) = plain 1
   value_size P f (Assigned i a) = value_size P f a and plain (by_variable i f.slots 2 0)
   value_size P f (Updated moment i operator computed kept a) =
       value_size P f a and plain (2 + copy_size moment + conversion_size (combined_kind operator computed) kept + by_variable i f.slots 2 0)
@@ -124,6 +121,7 @@ abbrev mutual
       reference_size P f a and value_size P f b and plain (4 + copy_size moment + conversion_size (combined_kind operator computed) kept)
   value_size P f (Differ a b) = reference_size P f a and reference_size P f b and plain 1
   value_size P f (IsObject a) = reference_size P f a and plain 1
+  value_size P f _ = plain 1
 
   pub reference_size : Program → Function → Reference → Size
   reference_size P f Nil = plain 1

@@ -1,6 +1,6 @@
 -- The text of a trace, which is this project's own choice: a line for the bytes that are printed between two deallocs, one for each dealloc, and one for how
 -- the run stopped.
-use Rattle.std.specs.Prelude.{ℕ, ◌/◌, ◌%◌, Bool, true, false, List, [], ◌∷◌, ◌++◌, get_or, codes}
+use Rattle.std.specs.Prelude.{ℕ, ◌/◌, ◌%◌, Bool, true, false, List, [], ◌∷◌, ◌++◌, get_or, codes, fold, if◌then◌else◌}
 use Rattle.std.specs.Fmt.{signed_decimal}
 use Rattle.arc_spec.specs.declared.event.Event.{Event}
 use Rattle.arc_spec.specs.declared.event.Event.TheVariants.{Byte, Dealloc}
@@ -39,13 +39,11 @@ left_text Unread = named (codes "io ") (faulty.report Read).0 (faulty.report Rea
 
 -- the end of a line of printed bytes, where one is open
 abbrev pub closing : Bool → List ℕ
-closing true = codes "\n"
-closing false = []
+closing begun = if begun then codes "\n" else []
 
 -- its beginning, where none is open
 abbrev pub opening : Bool → List ℕ
-opening true = []
-opening false = codes "out "
+opening begun = if begun then [] else codes "out "
 
 -- what an event adds to the text: a byte goes on with a line of printed bytes, where one is open, or begins one, and a dealloc ends it
 abbrev pub event_text : List (List ℕ) → (begun : Bool) → Event → List ℕ
@@ -63,8 +61,7 @@ events_text names begun [] = []
 events_text names begun (e ∷ events) = event_text names begun e ++ events_text names (leaves_open e) events
 
 abbrev pub open_after : (begun : Bool) → List Event → Bool
-open_after begun [] = begun
-open_after begun (e ∷ events) = open_after (leaves_open e) events
+open_after = fold (λ _ e. leaves_open e)
 
 -- the end of the text
 abbrev pub end_text : (begun : Bool) → Left → List ℕ
