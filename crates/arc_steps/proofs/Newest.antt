@@ -201,8 +201,8 @@ makes_stands at classes m frames h t class r out blocks' change few above counte
     let others = known_others n h t.known_places in
     let globals = all_left (λ q. q ≤ n) h.strong_globals (field_places h.objects) others in
     let known_places = All-append P (suc n ∷ stacked h) (h.strong_globals ++ field_places objects') (known (stacked h) (known_stacked n h t.known_places))
-        (All-append P h.strong_globals (field_places objects') (weaker h.strong_globals globals)
-        (all_fields_more P h.objects object (weaker (field_places h.objects) (all_right (λ q. q ≤ n) h.strong_globals (field_places h.objects) others)) (all_nils P strong (omega arith)))) in
+    (All-append P h.strong_globals (field_places objects') (weaker h.strong_globals globals)
+    (all_fields_more P h.objects object (weaker (field_places h.objects) (all_right (λ q. q ≤ n) h.strong_globals (field_places h.objects) others)) (all_nils P strong (omega arith)))) in
     let known_names = known h.names t.known_names in
     let known_self : h.self ≤ length objects' = (let known = t.known_self in omega (arith, longer, known)) in
     let known_frames = All-weaker (IsKnown n) (IsKnown (length objects')) (known_more n (length objects') (omega (arith, longer))) frames t.known_frames in

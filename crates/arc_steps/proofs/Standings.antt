@@ -266,11 +266,11 @@ module _ (at : ℕ → ℕ) (classes : List Class) (m : Memory) (frames : List F
       let same : length h.objects ≡ length (slice_set h.objects k x) = sym (length-set h.objects k x) in
       let made = t.made ∙ same in
       let kept_all = kept_set classes m.store blocks' at k number.0 now number.1 number.2 sets h.objects (slice_set h.objects k x) h.counts counts' x
-          (only_set h.objects k x) else_same t.kept kept in
+      (only_set h.objects k x) else_same t.kept kept in
       let known_places = subst (λ n. All (λ r. r ≤ n) (stacked h ++ (h.strong_globals ++ field_places (slice_set h.objects k x)))) same
-          (All-append (λ r. r ≤ n) (stacked h) (h.strong_globals ++ field_places (slice_set h.objects k x)) (known_stacked n h t.known_places)
-          (All-append (λ r. r ≤ n) h.strong_globals (field_places (slice_set h.objects k x)) (all_left (λ r. r ≤ n) h.strong_globals (field_places h.objects) (known_others n h t.known_places))
-          (all_fields_set (λ r. r ≤ n) h.objects k x (all_right (λ r. r ≤ n) h.strong_globals (field_places h.objects) (known_others n h t.known_places)) known))) in
+      (All-append (λ r. r ≤ n) (stacked h) (h.strong_globals ++ field_places (slice_set h.objects k x)) (known_stacked n h t.known_places)
+      (All-append (λ r. r ≤ n) h.strong_globals (field_places (slice_set h.objects k x)) (all_left (λ r. r ≤ n) h.strong_globals (field_places h.objects) (known_others n h t.known_places))
+      (all_fields_set (λ r. r ≤ n) h.objects k x (all_right (λ r. r ≤ n) h.strong_globals (field_places h.objects) (known_others n h t.known_places)) known))) in
       let known_names = subst (λ n. All (λ r. r ≤ n) h.names) same t.known_names in
       let known_self = subst (λ n. h.self ≤ n) same t.known_self in
       let known_frames = subst (λ n. All (IsKnown n) frames) same t.known_frames in
