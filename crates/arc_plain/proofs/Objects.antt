@@ -46,25 +46,20 @@ or_assoc : (a b c : Bool) → ((a || b) || c) ≡ (a || (b || c))
 or_assoc true b c = refl
 or_assoc false b c = refl
 
-name_first : (b : Bool) (x : Bool) → (if b then true else x) ≡ (b || x)
-name_first true x = refl
-name_first false x = refl
-
 names_append : (o : ℕ) (a b : List ℕ) → names o (a ++ b) ≡ (names o a || names o b)
 names_append o [] b = refl
 names_append o (p ∷ a) b =
-    ap (λ x. if nat_eq o p then true else x) (names_append o a b) ∙ name_first (nat_eq o p) (names o a || names o b)
-    ∙ sym (or_assoc (nat_eq o p) (names o a) (names o b)) ∙ ap (λ x. x || names o b) (sym (name_first (nat_eq o p) (names o a)))
+    ap (λ x. nat_eq o p || x) (names_append o a b) ∙ sym (or_assoc (nat_eq o p) (names o a) (names o b))
 
 names_one : (o p : ℕ) → names o (p ∷ []) ≡ nat_eq o p
-names_one o p = name_first (nat_eq o p) false ∙ sym (or_false (nat_eq o p))
+names_one o p = sym (or_false (nat_eq o p))
 
 names_reverse : (o : ℕ) (a : List ℕ) → names o (reverse a) ≡ names o a
 names_reverse o [] = refl
 names_reverse o (p ∷ a) =
     ap (names o) (reverse-append (p ∷ []) a) ∙ names_append o (reverse a) (p ∷ [])
     ∙ or_swap (names o (reverse a)) (names o (p ∷ []))
-    ∙ ap (λ x. x || names o (reverse a)) (names_one o p) ∙ ap (λ x. nat_eq o p || x) (names_reverse o a) ∙ sym (name_first (nat_eq o p) (names o a))
+    ∙ ap (λ x. x || names o (reverse a)) (names_one o p) ∙ ap (λ x. nat_eq o p || x) (names_reverse o a)
 
 -- whether a place names an object, of all kinds of places
 pub names_places : (o : ℕ) (t s w g f : List ℕ) → names o (((reverse t ++ s) ++ reverse w) ++ (g ++ f)) ≡ (names o t || (names o s || (names o w || (names o g || names o f))))
