@@ -1,5 +1,5 @@
 -- How many places name an object, and how many after a place or an object is changed.
-use Rattle.std.proofs.Common.{◌≡◌, ℕ, zero, suc, ◌+◌, ◌-◌, Bool, true, false, not, nat_eq, nat_lt, if◌then◌else◌, List, [], ◌∷◌, ◌++◌, length, Some, slice_get, slice_set, refl, sym, ap, ◌∙◌, arith, ◌<◌, Option}
+use Rattle.std.proofs.Common.{◌≡◌, ℕ, zero, suc, ◌+◌, ◌-◌, Bool, true, false, not, ◌||◌, nat_eq, nat_lt, if◌then◌else◌, List, [], ◌∷◌, ◌++◌, length, Some, slice_get, slice_set, refl, sym, ap, ◌∙◌, arith, ◌<◌, Option}
 use Rattle.std.proofs.Math.Dec.{eqb-suc-zero}
 use Rattle.std.proofs.lemmas.Bool.{eq-eqb, ne_eqb, lt-ltb}
 use Rattle.arc_spec.specs.Objects.{Object, Phase, Gone, nils, names, in_phase, with_strong_fields, is_live, is_there, fields_of, field_places, object_at}
@@ -47,7 +47,7 @@ holders_set k zero old r (p ∷ places) e =
     omega (arith, holders_head k r places, holders_head k p places, ap (tally k) same)
 holders_set k (suc depth) old r (p ∷ places) e = omega (arith, holders_set k depth old r places e, holders_head k p (slice_set places depth r), holders_head k p places)
 
-names_if : (b t : Bool) (n : ℕ) → t ≡ nat_lt 0 n → (if b then true else t) ≡ nat_lt 0 (if b then suc n else n)
+names_if : (b t : Bool) (n : ℕ) → t ≡ nat_lt 0 n → (b || t) ≡ nat_lt 0 (if b then suc n else n)
 names_if true t n e = sym (lt-ltb 0 (suc n) (omega arith))
 names_if false t n e = e
 

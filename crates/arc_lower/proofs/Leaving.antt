@@ -1,6 +1,6 @@
 -- A run does what a function does, and leaves it.
-use Rattle.std.proofs.Common.{◌≡◌, ℕ, zero, suc, ◌+◌, ◌-◌, ◌≤◌, ◌<◌, ℤ, Bool, true, false, not, ◌&&◌, inl, inr, if◌then◌else◌, List, [], ◌∷◌, ◌++◌, length, take, Some, None, slice_get, slice_set, refl, sym, ap, ◌∙◌, subst, arith, append_assoc, length-append}
-use Rattle.std.proofs.lemmas.Bool.{true≢false}
+use Rattle.std.proofs.Common.{◌≡◌, ℕ, zero, suc, ◌+◌, ◌-◌, ◌≤◌, ◌<◌, ℤ, Bool, true, false, not, ◌&&◌, ◌||◌, inl, inr, if◌then◌else◌, List, [], ◌∷◌, ◌++◌, length, take, Some, None, slice_get, slice_set, refl, sym, ap, ◌∙◌, subst, arith, append_assoc, length-append}
+use Rattle.std.proofs.lemmas.Bool.{eq-eqb, true≢false}
 use Rattle.std.proofs.Math.Seq.{take-nil}
 use Rattle.std.proofs.lemmas.Bool.Decides.{nat_tests}
 use Rattle.arc_ast.specs.declared.tree.Moment.{Moment}
@@ -29,7 +29,7 @@ use Rattle.arc_lower.proofs.Leading.{Runs, leads_runs, stuck_runs, ends_here, th
 use Rattle.arc_lower.proofs.Doing.{recount, moves, at, counting, held_of, bare, HasAt, has_front, has_back}
 use Rattle.arc_lower.proofs.Stacking.{onto, get_below, set_below, keep_passes}
 use Rattle.arc_lower.proofs.Releasing.{Kept, Stays, only_runs, named_runs, emptied, empties_run, dropped_runs}
-use Rattle.arc_lower.proofs.Shaping.{push, Way, Out, left_by, same_depth}
+use Rattle.arc_lower.proofs.Shaping.{push, Way, Out, left_by}
 use Rattle.arc_lower.proofs.Executing.{calm, body_is}
 use Rattle.arc_lower.proofs.Quiet.{takes_none, both_true}
 use Rattle.arc_lower.proofs.Running.{Deep, Good, Leaves, emptied_good, kept_good, block_runs}
@@ -286,7 +286,7 @@ module _ (p : Program) (frames : List Frame) (bound : ℕ) (R : resolved.Program
       let st1 = at frames (pc + 1) stack h1 in
       let after = raised self (with_variables h1 (self ∷ tail)) in
       let q = pc + 1 + 1 + 1 in
-      let held : released D self w3 ≡ Done finished w3 = released_named D self w3 (same_depth self true (names self ((tail ++ stacked before) ++ (w3.strong_globals ++ Rattle.arc_spec.specs.Objects.field_places w3.objects)))) in
+      let held : released D self w3 ≡ Done finished w3 = released_named D self w3 (ap (λ b. b || names self ((tail ++ stacked before) ++ (w3.strong_globals ++ Rattle.arc_spec.specs.Objects.field_places w3.objects))) (eq-eqb self self refl)) in
       let none : all_dropped D w2 ≡ Done finished w3 = ap (λ x. then_do x (λ _ w4. Done finished w4)) held in
       let dropped : Runs (moves p) bound (running frames rs q stack w2) end o =
       done_then (moves p) bound (running frames rs q stack w2) (Stays frames rs stack (q + 1) w3) end finished w3 o
