@@ -21,7 +21,7 @@ Kind = ℕ × List ℕ
 
 abbrev pub kind : Sort → Kind
 kind (Name bytes) = (0, main_or_none (bytes_eq bytes main_bytes))
-kind (Integer value suffixed) = (1, [])
+kind (Integer value) = (1, [])
 kind (Text bytes) = (2, [])
 kind (Key word) = (3, word_bytes word)
 kind (At word) = (4, at_bytes word)
