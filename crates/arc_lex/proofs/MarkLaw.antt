@@ -4,8 +4,9 @@ use Rattle.std.specs.List.{Contains}
 use Rattle.arc_lex.specs.declared.token.TheConstants.{MARKS, AT_WORDS}
 use Rattle.arc_lex.specs.declared.token.Mark.{Mark}
 use Rattle.arc_lex.specs.declared.token.AtWord.{AtWord}
+use Rattle.arc_lex.specs.declared.piece.Rule.TheVariants as rules
 use Rattle.arc_lex.specs.Bytes.{is_letter, is_digit, is_blank}
-use Rattle.arc_lex.specs.private.Pieces.{Blank, Whole, Law, first_front, itself, at_found, at_piece, mark_found, mark_piece}
+use Rattle.arc_lex.specs.private.Pieces.{Blank, Whole, Law, first_front, itself, unused_or, at_found, at_piece, mark_found, mark_piece}
 use Rattle.arc_lex.specs.Source.{IsToken, IsComment, NothingBegins, Faultless}
 use Rattle.arc_lex.specs.Spellings.{mark_bytes, at_bytes, unused}
 use Rattle.arc_lex.specs.Tokens.{Sort, At, Sign, Unused}
@@ -57,22 +58,25 @@ module _ (starts : Bool) (bs : List ℕ) where
   no_comment : IsComment (64 ∷ bs) → ⊥
   no_comment h = let k = comment_first 64 bs h in omega (arith, k)
 
-  at_law_of : (found : Option AtWord) (other : Option (List ℕ)) → first_front at_bytes AT_WORDS (64 ∷ bs) ≡ found → first_front itself unused (64 ∷ bs) ≡ other
-      → Law starts (64 ∷ bs) (at_found found other)
-  at_law_of None None e f = inl (bs, refl, no_token at_bytes AT_WORDS at_stands at_words_longest_first refl (64 ∷ bs) at_which e f)
-  at_law_of None (Some u) e f =
+  no_at_word : first_front at_bytes AT_WORDS (64 ∷ bs) ≡ None → (other : Option (List ℕ)) → first_front itself unused (64 ∷ bs) ≡ other
+      → Law starts (64 ∷ bs) (unused_or rules.Directive other)
+  no_at_word e None f = inl (bs, refl, no_token at_bytes AT_WORDS at_stands at_words_longest_first refl (64 ∷ bs) at_which e f)
+  no_at_word e (Some u) f =
       let (r, c) = front_sound itself unused (64 ∷ bs) u f in
       let t = unused_stands (64 ∷ bs) u f in
       whole starts (64 ∷ bs) u r Unused c t (unused_longest at_bytes AT_WORDS at_stands at_words_longest_first refl (64 ∷ bs) at_which e u f) no_comment (at_clean u r Unused c t)
-  at_law_of (Some word) other e f =
+
+  at_law_of : (found : Option AtWord) → first_front at_bytes AT_WORDS (64 ∷ bs) ≡ found → Law starts (64 ∷ bs) (at_found found (64 ∷ bs))
+  at_law_of None e = no_at_word e (first_front itself unused (64 ∷ bs)) refl
+  at_law_of (Some word) e =
       let (r, c) = front_sound at_bytes AT_WORDS (64 ∷ bs) word e in
       whole starts (64 ∷ bs) (at_bytes word) r (At word) c refl (entry_longest at_bytes AT_WORDS at_stands at_words_longest_first refl (64 ∷ bs) at_which word e) no_comment
       (at_clean (at_bytes word) r (At word) c refl)
 
 pub at_law : (starts : Bool) (b : ℕ) (bs : List ℕ) → b ≡ 64 → Law starts (b ∷ bs) (at_piece (b ∷ bs))
 unfolding at_piece
-at_law starts b bs e = subst (λ d. Law starts (d ∷ bs) (at_found (first_front at_bytes AT_WORDS (d ∷ bs)) (first_front itself unused (d ∷ bs)))) (sym e)
-    (at_law_of starts bs (first_front at_bytes AT_WORDS (64 ∷ bs)) (first_front itself unused (64 ∷ bs)) refl refl)
+at_law starts b bs e = subst (λ d. Law starts (d ∷ bs) (at_found (first_front at_bytes AT_WORDS (d ∷ bs)) (d ∷ bs))) (sym e)
+    (at_law_of starts bs (first_front at_bytes AT_WORDS (64 ∷ bs)) refl)
 
 -- ---- a blank
 
@@ -118,18 +122,20 @@ module _ (starts : Bool) (b : ℕ) (bs : List ℕ) (letter : is_letter b ≡ tru
           let t : Contains unused (b ∷ ys) = subst (IsToken (b ∷ ys)) g h in
           no_front (b ∷ []) bs Unused refl (subst (λ us. Contains unused (b ∷ us)) (unused_alone b ys letter at t) t)
 
-  mark_law_of : (found : Option Mark) (other : Option (List ℕ)) → first_front mark_bytes MARKS (b ∷ bs) ≡ found → first_front itself unused (b ∷ bs) ≡ other
-      → Law starts (b ∷ bs) (mark_found found other)
-  mark_law_of None None e f = nothing e f
-  mark_law_of None (Some u) e f =
+  no_mark : first_front mark_bytes MARKS (b ∷ bs) ≡ None → (other : Option (List ℕ)) → first_front itself unused (b ∷ bs) ≡ other → Law starts (b ∷ bs) (unused_or rules.BadByte other)
+  no_mark e None f = nothing e f
+  no_mark e (Some u) f =
       let (r, c) = front_sound itself unused (b ∷ bs) u f in
       let t = unused_stands (b ∷ bs) u f in
       whole starts (b ∷ bs) u r Unused c t (unused_longest mark_bytes MARKS mark_stands marks_longest_first refl (b ∷ bs) mark_which e u f) comment (mark_clean u r Unused c t)
-  mark_law_of (Some mark) other e f =
+
+  mark_law_of : (found : Option Mark) → first_front mark_bytes MARKS (b ∷ bs) ≡ found → Law starts (b ∷ bs) (mark_found found (b ∷ bs))
+  mark_law_of None e = no_mark e (first_front itself unused (b ∷ bs)) refl
+  mark_law_of (Some mark) e =
       let (r, c) = front_sound mark_bytes MARKS (b ∷ bs) mark e in
       whole starts (b ∷ bs) (mark_bytes mark) r (Sign mark) c refl (entry_longest mark_bytes MARKS mark_stands marks_longest_first refl (b ∷ bs) mark_which mark e) comment
       (mark_clean (mark_bytes mark) r (Sign mark) c refl)
 
   pub mark_law : Law starts (b ∷ bs) (mark_piece (b ∷ bs))
   unfolding mark_piece
-  mark_law = mark_law_of (first_front mark_bytes MARKS (b ∷ bs)) (first_front itself unused (b ∷ bs)) refl refl
+  mark_law = mark_law_of (first_front mark_bytes MARKS (b ∷ bs)) refl

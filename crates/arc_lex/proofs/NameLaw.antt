@@ -5,7 +5,7 @@ use Rattle.arc_lex.specs.declared.bytes.Class.TheVariants as c
 use Rattle.arc_lex.specs.declared.token.TheConstants.{WORDS}
 use Rattle.arc_lex.specs.declared.token.Word.{Word}
 use Rattle.arc_lex.specs.Bytes.{has, all_in, begins, run, is_letter, is_digit}
-use Rattle.arc_lex.specs.private.Pieces.{Whole, Law, first_equal, is_one, word_or_name, name_piece}
+use Rattle.arc_lex.specs.private.Pieces.{Whole, Law, first_equal, is_one, unused_or_name, word_or_name, name_piece}
 use Rattle.arc_lex.specs.Source.{IsToken, IsWordLike, Faultless}
 use Rattle.arc_lex.specs.Spellings.{word_bytes, unused}
 use Rattle.arc_lex.specs.Tokens.{Sort, Name, Key, Unused}
@@ -61,12 +61,15 @@ module _ (starts : Bool) (b : ℕ) (bs : List ℕ) (letter : is_letter b ≡ tru
   law_of : (o : Sort) → IsToken name o → Law starts (b ∷ bs) (Whole o (length name))
   law_of o t = (name, rest, ap (λ us. b ∷ us) (run_cut c.InName bs), refl, omega arith, record { token = t; longest = no_longer }, λ h. letter_not b 47 letter refl (comment_first b _ h), clean o t)
 
-  found : (w : Option Word) (other : Bool) → first_equal word_bytes WORDS name ≡ w → is_one unused name ≡ other → Law starts (b ∷ bs) (word_or_name w other name)
-  found (Some word) other e f = law_of (Key word) (sym (equal_sound word_bytes WORDS name word e))
-  found None true e f = law_of Unused (one_found unused name f)
-  found None false e f =
+  no_word : first_equal word_bytes WORDS name ≡ None → (other : Bool) → is_one unused name ≡ other → Law starts (b ∷ bs) (unused_or_name other name)
+  no_word e true f = law_of Unused (one_found unused name f)
+  no_word e false f =
       law_of (Name name) (refl, word_like, λ word same. equal_found word_bytes WORDS (word_stands word).0 name word (word_stands word).1 same e, none_found unused name f)
+
+  found : (w : Option Word) → first_equal word_bytes WORDS name ≡ w → Law starts (b ∷ bs) (word_or_name w name)
+  found (Some word) e = law_of (Key word) (sym (equal_sound word_bytes WORDS name word e))
+  found None e = no_word e (is_one unused name) refl
 
   pub name_law : Law starts (b ∷ bs) (name_piece (b ∷ bs))
   unfolding name_piece
-  name_law = rw run_name (found (first_equal word_bytes WORDS name) (is_one unused name) refl refl)
+  name_law = rw run_name (found (first_equal word_bytes WORDS name) refl)

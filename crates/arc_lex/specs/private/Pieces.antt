@@ -45,15 +45,17 @@ is_one texts xs = list_any (λ text. pointwise nat_eq text xs) texts
 abbrev pub itself : List ℕ → List ℕ
 itself text = text
 
--- a reserved word that is used, one that isn't, or a name
-abbrev pub word_or_name : Option Word → Bool → List ℕ → Piece
-word_or_name (Some word) found xs = Whole (Key word) (length xs)
-word_or_name None true xs = Whole Unused (length xs)
-word_or_name None false xs = Whole (Name xs) (length xs)
+-- an unused reserved word, or a name
+abbrev pub unused_or_name : Bool → List ℕ → Piece
+unused_or_name true xs = Whole Unused (length xs)
+unused_or_name false xs = Whole (Name xs) (length xs)
+
+abbrev pub word_or_name : Option Word → List ℕ → Piece
+word_or_name None xs = unused_or_name (is_one unused xs) xs
+word_or_name (Some word) xs = Whole (Key word) (length xs)
 
 unfoldable pub name_piece : List ℕ → Piece
-name_piece bytes =
-    word_or_name (first_equal word_bytes WORDS (take (run c.InName bytes) bytes)) (is_one unused (take (run c.InName bytes) bytes)) (take (run c.InName bytes) bytes)
+name_piece bytes = word_or_name (first_equal word_bytes WORDS (take (run c.InName bytes) bytes)) (take (run c.InName bytes) bytes)
 
 -- an unused word or mark, or the rule that is broken where there is none
 abbrev pub unused_or : Rule → Option (List ℕ) → Piece
@@ -102,19 +104,19 @@ unfoldable pub character_piece : List ℕ → Piece
 character_piece [] = Broken rules.OpenLiteral
 character_piece (b ∷ bs) = character_found (scan 39 false [] bs)
 
-abbrev pub at_found : Option AtWord → Option (List ℕ) → Piece
-at_found None other = unused_or rules.Directive other
-at_found (Some word) other = Whole (At word) (length (at_bytes word))
+abbrev pub at_found : Option AtWord → List ℕ → Piece
+at_found None bytes = unused_or rules.Directive (first_front itself unused bytes)
+at_found (Some word) bytes = Whole (At word) (length (at_bytes word))
 
 unfoldable pub at_piece : List ℕ → Piece
-at_piece bytes = at_found (first_front at_bytes AT_WORDS bytes) (first_front itself unused bytes)
+at_piece bytes = at_found (first_front at_bytes AT_WORDS bytes) bytes
 
-abbrev pub mark_found : Option Mark → Option (List ℕ) → Piece
-mark_found None other = unused_or rules.BadByte other
-mark_found (Some mark) other = Whole (Sign mark) (length (mark_bytes mark))
+abbrev pub mark_found : Option Mark → List ℕ → Piece
+mark_found None bytes = unused_or rules.BadByte (first_front itself unused bytes)
+mark_found (Some mark) bytes = Whole (Sign mark) (length (mark_bytes mark))
 
 unfoldable pub mark_piece : List ℕ → Piece
-mark_piece bytes = mark_found (first_front mark_bytes MARKS bytes) (first_front itself unused bytes)
+mark_piece bytes = mark_found (first_front mark_bytes MARKS bytes) bytes
 
 -- a `#`, and what is after it
 unfoldable pub line_piece : Bool → List ℕ → Piece
