@@ -1,6 +1,7 @@
 //! Actions for variables that name objects, for references and for temporaries.
-ghost use Rattle.std.specs.Prelude.{◌≡◌, ◌++◌, [], ◌∷◌, OnOk, IfOk, if◌then◌else◌};
+ghost use Rattle.std.specs.Prelude.{◌≡◌, ◌++◌, [], ◌∷◌, OnOk, nat_lt, if◌then◌else◌};
 ghost use Rattle.std.specs.List.{list_any};
+ghost use Rattle.arc_code.specs.Effects.{operation_effect};
 ghost use Rattle.arc_code.specs.declared.instr.Op.TheVariants.{Forget};
 ghost use Rattle.arc_code.specs.declared.instr.Instr.TheVariants.{Plain, DropAll};
 ghost use Rattle.arc_spec.specs.declared.location.Location.TheVariants.{Local};
@@ -9,9 +10,9 @@ ghost use Rattle.arc_lower.specs.Lowered.{declare_orders, forget_orders, nil_ord
 
 use crate::expression::append;
 use crate::variable::add_operands;
-use arc_code::effect::instr_effect;
 use arc_code::instr::{Instr, Op};
 use arc_ir::action::Action;
+use arc_spec::class::Gives;
 use arc_spec::event::NoMemory;
 use arc_spec::location::Location;
 
@@ -128,26 +129,48 @@ fn append_store_local(actions: &mut Vec<Action>, names: usize, index: usize) -> 
     }
 }
 
-/// Whether an action has a temporary take an object. NoMemory: the action takes more than can be counted.
-fn takes(action: &Action) -> Result<bool, NoMemory>
-    ensures { IfOk result (λ taken. taken ≡ order_takes (order action.now)) }
+/// Whether an operation has a temporary take an object.
+fn operation_takes(operation: Op) -> bool
+    ensures { result ≡ nat_lt 0 (operation_effect operation).temporaries }
 {
-    match instr_effect(action) {
-        Some(effect) => Ok(effect.temporaries > 0),
-        None => Err(NoMemory),
+    match operation {
+        Op::ReadSelf | Op::ReadRef(_) | Op::ReadGlobal(_) | Op::ReadField(_, _) => true,
+        Op::Hold | Op::Alloc => true,
+        Op::Num(_) | Op::Bin(_, _) | Op::Un(_, _) | Op::Narrow(_) | Op::Pop | Op::Get(_) => false,
+        Op::Set(_) | Op::GetGlobal(_) | Op::SetGlobal(_) | Op::PrintNum | Op::PrintByte => false,
+        Op::Again | Op::Forget | Op::GetField(_, _) | Op::SetField(_, _) | Op::Differ => false,
+        Op::GetChar | Op::Declare | Op::Nil | Op::IsObject | Op::Finds(_) => false,
     }
 }
 
-/// Whether one of these actions has a temporary take an object. NoMemory: one takes more than can be counted.
-pub(crate) fn take_some(actions: &[Action]) -> Result<bool, NoMemory>
-    ensures { IfOk result (λ taken. taken ≡ list_any order_takes (orders actions.now)) }
+/// Whether an action has a temporary take an object.
+fn takes(action: &Action) -> bool
+    ensures { result ≡ order_takes (order action.now) }
+{
+    match action {
+        Instr::Plain(operation) => operation_takes(*operation),
+        Instr::Call(_, gives)
+        | Instr::Send(_, _, _, gives)
+        | Instr::SendSuper(_, _, _, _, gives)
+        | Instr::SendTo(_, _, _, gives)
+        | Instr::SendToSuper(_, _, _, _, gives) => *gives == Gives::Object,
+        Instr::PrintText(_) | Instr::Jump(_) | Instr::JumpZero(_) => false,
+        Instr::StoreStrong(_) | Instr::StoreGlobal(_) => false,
+        Instr::StoreField(_, _) | Instr::Empty(_) => false,
+        Instr::DropAll | Instr::Settle | Instr::Give | Instr::Return | Instr::EndStep => false,
+    }
+}
+
+/// Whether one of these actions has a temporary take an object.
+pub(crate) fn take_some(actions: &[Action]) -> bool
+    ensures { result ≡ list_any order_takes (orders actions.now) }
 {
     for action in actions {
-        if takes(action)? {
-            return Ok(true);
+        if takes(action) {
+            return true;
         }
     }
-    Ok(false)
+    false
 }
 
 /// Appends the action that drops the temporaries, where some were taken.

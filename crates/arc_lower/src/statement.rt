@@ -40,7 +40,7 @@ fn append_whole(
     };
     let begin = actions.len();
     append_value(alloc, actions, program, frame, expression)?;
-    let taken = take_some(&actions[begin..])?;
+    let taken = take_some(&actions[begin..]);
     append_drops(actions, taken)
 }
 
@@ -62,7 +62,7 @@ fn append_evaluated(
     };
     let begin = actions.len();
     append_unused(alloc, actions, program, frame, expression)?;
-    let taken = take_some(&actions[begin..])?;
+    let taken = take_some(&actions[begin..]);
     append_drops(actions, taken)?;
     append(actions, Instr::Plain(Op::Pop))
 }
@@ -85,7 +85,7 @@ fn append_whole_reference(
     };
     let begin = actions.len();
     append_reference(alloc, actions, program, frame, expression)?;
-    let taken = take_some(&actions[begin..])?;
+    let taken = take_some(&actions[begin..]);
     append_forget(actions, taken)
 }
 
@@ -108,7 +108,7 @@ fn append_begin(
     };
     let begin = actions.len();
     append_reference(alloc, actions, program, frame, expression)?;
-    let taken = take_some(&actions[begin..])?;
+    let taken = take_some(&actions[begin..]);
     append_store(actions, body.names, Location::Local(index))?;
     append_forget(actions, taken)
 }
