@@ -2,6 +2,7 @@ pub mod Alike
 pub mod Closes
 pub mod Faultless
 pub mod Firsts
+pub mod Fronts
 pub mod Law
 pub mod MarkLaw
 pub mod Marks
@@ -17,4 +18,5 @@ pub mod SkipLaw
 pub mod Spans
 pub mod Tables
 pub mod TextLaw
+pub mod Unused
 pub mod Walks

@@ -1,15 +1,20 @@
 -- Bytes are a token of one sort, and one token stands at a place.
 use Rattle.std.proofs.Common.{◌≡◌, ◌⊎◌, inl, inr, ℕ, ℤ, pos, List, [], ◌∷◌, ◌++◌, length, take, drop, Bool, true, false, Option, Some, refl, sym, ap, subst, ◌∙◌, arith}
 use Rattle.std.proofs.lemmas.List.{take_at, drop_at}
+use Rattle.std.specs.List.{Contains}
+use Rattle.arc_lex.specs.declared.token.Mark.{Mark}
 use Rattle.arc_lex.specs.declared.token.Word.{Word}
+use Rattle.arc_lex.specs.declared.token.AtWord.{AtWord}
 use Rattle.arc_lex.specs.Bytes.{is_digit}
 use Rattle.arc_lex.specs.private.Pieces.{scan}
 use Rattle.arc_lex.specs.Source.{IsToken, IsQuoted, Longest}
+use Rattle.arc_lex.specs.Spellings.{unused}
 use Rattle.arc_lex.specs.Texts.{parts_bytes, parts_value}
-use Rattle.arc_lex.specs.Tokens.{Sort, Name, Integer, Text, Key, At, Sign}
-use Rattle.arc_lex.proofs.Firsts.{head_is, tail_is, first_opens, not_empty, opens, digit_not, by_letter, by_digit, by_quote, by_apostrophe, by_at, by_mark, mark_not_letter, mark_not_digit, mark_not}
+use Rattle.arc_lex.specs.Tokens.{Sort, Name, Integer, Text, Key, At, Sign, Unused}
+use Rattle.arc_lex.proofs.Firsts.{head_is, tail_is, first_opens, not_empty, opens, digit_not, by_letter, by_digit, by_quote, by_apostrophe, by_at, by_mark, mark_not_letter, mark_not_digit, mark_not, unused_not, unused_not_digit}
 use Rattle.arc_lex.proofs.Marks.{one_mark, one_word, one_at_word}
 use Rattle.arc_lex.proofs.TextLaw.{IsQuote, parts_go_on, scan_closed}
+use Rattle.arc_lex.proofs.Unused.{no_word, no_at_word, no_mark}
 
 same_integer : (v u : ℤ) (s o : Bool) → ◌≡◌ {A = Option (ℤ × Bool)} (Some (v, s)) (Some (u, o)) → Integer v s ≡ Integer u o
 same_integer v u s o e =
@@ -17,13 +22,23 @@ same_integer v u s o e =
     ap (λ (p : ℤ × Bool). Integer p.0 p.1) k
 
 module _ (b : ℕ) (bs : List ℕ) where
-  named : (n : List ℕ) (o : Sort) → IsToken (b ∷ bs) (Name n) → IsToken (b ∷ bs) o → ((m : List ℕ) × (o ≡ Name m)) ⊎ ((word : Word) × (o ≡ Key word)) → Name n ≡ o
+  named : (n : List ℕ) (o : Sort) → IsToken (b ∷ bs) (Name n) → IsToken (b ∷ bs) o → ((m : List ℕ) × (o ≡ Name m)) ⊎ (((word : Word) × (o ≡ Key word)) ⊎ (o ≡ Unused)) → Name n ≡ o
   named n o h k (inl (m, e)) = let other = subst (IsToken (b ∷ bs)) e k in ap Name (sym h.0 ∙ other.0) ∙ sym e
-  named n o h k (inr (word, e)) = absurd (h.2 word (subst (IsToken (b ∷ bs)) e k))
+  named n o h k (inr (inr e)) = absurd (h.3 (subst (IsToken (b ∷ bs)) e k))
+  named n o h k (inr (inl (word, e))) = absurd (h.2 word (subst (IsToken (b ∷ bs)) e k))
 
-  keyed : (w : Word) (o : Sort) → IsToken (b ∷ bs) (Key w) → IsToken (b ∷ bs) o → ((m : List ℕ) × (o ≡ Name m)) ⊎ ((word : Word) × (o ≡ Key word)) → Key w ≡ o
+  keyed : (w : Word) (o : Sort) → IsToken (b ∷ bs) (Key w) → IsToken (b ∷ bs) o → ((m : List ℕ) × (o ≡ Name m)) ⊎ (((word : Word) × (o ≡ Key word)) ⊎ (o ≡ Unused)) → Key w ≡ o
   keyed w o h k (inl (m, e)) = let other = subst (IsToken (b ∷ bs)) e k in absurd (other.2 w h)
-  keyed w o h k (inr (word, e)) = let other = subst (IsToken (b ∷ bs)) e k in ap Key (one_word w word (sym h ∙ other)) ∙ sym e
+  keyed w o h k (inr (inr e)) = absurd (no_word w (subst (Contains unused) h (subst (IsToken (b ∷ bs)) e k)))
+  keyed w o h k (inr (inl (word, e))) = let other = subst (IsToken (b ∷ bs)) e k in ap Key (one_word w word (sym h ∙ other)) ∙ sym e
+
+  directed : (w : AtWord) (o : Sort) → IsToken (b ∷ bs) (At w) → IsToken (b ∷ bs) o → ((word : AtWord) × (o ≡ At word)) ⊎ (o ≡ Unused) → At w ≡ o
+  directed w o h k (inl (word, e)) = let other = subst (IsToken (b ∷ bs)) e k in ap At (one_at_word w word (sym h ∙ other)) ∙ sym e
+  directed w o h k (inr e) = absurd (no_at_word w (subst (Contains unused) h (subst (IsToken (b ∷ bs)) e k)))
+
+  marked : (m : Mark) (o : Sort) → IsToken (b ∷ bs) (Sign m) → IsToken (b ∷ bs) o → ((mark : Mark) × (o ≡ Sign mark)) ⊎ (o ≡ Unused) → Sign m ≡ o
+  marked m o h k (inl (mark, e)) = let other = subst (IsToken (b ∷ bs)) e k in ap Sign (one_mark m mark (sym h ∙ other)) ∙ sym e
+  marked m o h k (inr e) = absurd (no_mark m (subst (Contains unused) h (subst (IsToken (b ∷ bs)) e k)))
 
   quoted : (q : ℕ) → IsQuote q → (t u : List ℕ) → IsQuoted q (b ∷ bs) t → IsQuoted q (b ∷ bs) u → t ≡ u
   quoted q line t u (ps, e, v) (qs, f, w) =
@@ -53,11 +68,17 @@ module _ (b : ℕ) (bs : List ℕ) where
   by_first (Integer v s) o h k (inl digit) other = let (u, t, e) = by_digit o b digit other in valued v u s t h (subst (IsToken (b ∷ bs)) e k) ∙ sym e
   by_first (Integer v s) o h k (inr quote) other = let (u, t, e) = by_apostrophe o b quote other in valued v u s t h (subst (IsToken (b ∷ bs)) e k) ∙ sym e
   by_first (Text t) o h k first other = let (u, e) = by_quote o b first other in ap Text (quoted 34 (refl, refl) t u h (subst (IsToken (b ∷ bs)) e k)) ∙ sym e
-  by_first (At w) o h k first other = let (u, e) = by_at o b first other in let that = subst (IsToken (b ∷ bs)) e k in ap At (one_at_word w u (sym h ∙ that)) ∙ sym e
+  by_first (At w) o h k first other = directed w o h k (by_at o b first other)
   by_first (Sign m) o h k first other =
-      let (u, e) = by_mark o b (mark_not_letter b first) (mark_not_digit b first) (mark_not b 34 first refl) (mark_not b 39 first refl) (mark_not b 64 first refl) other in
-      let that = subst (IsToken (b ∷ bs)) e k in
-      ap Sign (one_mark m u (sym h ∙ that)) ∙ sym e
+      marked m o h k (by_mark o b (mark_not_letter b first) (mark_not_digit b first) (mark_not b 34 first refl) (mark_not b 39 first refl) (mark_not b 64 first refl) other)
+  by_first Unused (Name n) h k first other = absurd (k.3 h)
+  by_first Unused (Key w) h k first other = absurd (no_word w (subst (Contains unused) k h))
+  by_first Unused (Integer v s) h k first (inl digit) = absurd (unused_not_digit b first digit)
+  by_first Unused (Integer v s) h k first (inr quote) = absurd (unused_not b 39 first refl quote)
+  by_first Unused (Text t) h k first other = absurd (unused_not b 34 first refl other)
+  by_first Unused (At w) h k first other = absurd (no_at_word w (subst (Contains unused) k h))
+  by_first Unused (Sign m) h k first other = absurd (no_mark m (subst (Contains unused) k h))
+  by_first Unused Unused h k first other = refl
 
 pub one_sort : (xs : List ℕ) (s o : Sort) → IsToken xs s → IsToken xs o → s ≡ o
 one_sort [] s o h k = absurd (not_empty s h)

@@ -2,8 +2,8 @@
 use Rattle.std.proofs.Common.{◌≡◌, ◌≤◌, ℕ, zero, suc, List, [], ◌∷◌, ◌++◌, length, take, drop, Bool, true, false, cond, ◌&&◌, leb, nat_eq, Option, Some, None, refl, sym, ap, subst, ◌∙◌, arith, not}
 use Rattle.std.specs.Cmp.Lexicographic.{pointwise}
 use Rattle.std.specs.List.{starts_with}
-use Rattle.std.proofs.lemmas.Bool.{and_parts, leb-true, true≢false, not-true}
-use Rattle.std.proofs.lemmas.List.{take-append-drop, take_at}
+use Rattle.std.proofs.lemmas.Bool.{and_parts, leb-true, leb-false, true≢false, not-true}
+use Rattle.std.proofs.lemmas.List.{take-append-drop, take-append-le, take_at}
 use Rattle.std.proofs.lemmas.Slice.Eq.{bytes_eq-Decides}
 use Rattle.arc_lex.specs.private.Pieces.{first_front, first_equal}
 
@@ -31,6 +31,18 @@ starts_sound xs p h =
 starts_complete : (xs p r : List ℕ) → xs ≡ p ++ r → starts_with nat_eq xs p ≡ true
 starts_complete xs p r c = (bytes_eq-Decides p (take (length p) xs)).1 (sym (ap (take (length p)) c ∙ take_at p r (length p) refl))
 
+-- of two fronts, the second is no longer where it doesn't begin with the first
+pub front_no_longer : (xs p q r : List ℕ) → starts_with nat_eq xs p ≡ true → xs ≡ q ++ r → not (starts_with nat_eq q p) ≡ true → length q ≤ length p
+front_no_longer xs p q r h c free = go (leb (length q) (length p)) refl
+  where
+    go : (t : Bool) → leb (length q) (length p) ≡ t → length q ≤ length p
+    go true e = leb-true (length q) (length p) e
+    go false e =
+        let long = leb-false (length q) (length p) e in
+        let same : take (length p) xs ≡ take (length p) q = ap (take (length p)) c ∙ take-append-le (length p) q r (omega (arith, long)) in
+        let begins : starts_with nat_eq q p ≡ true = (bytes_eq-Decides p (take (length p) q)).1 ((bytes_eq-Decides p (take (length p) xs)).0 h ∙ same) in
+        absurd (true≢false (sym begins ∙ not-true (starts_with nat_eq q p) free))
+
 module _ {A : Type 0} (bytes_of : A → List ℕ) where
   pub front_sound : (those : List A) (xs : List ℕ) (a : A) → first_front bytes_of those xs ≡ Some a → (rest : List ℕ) × (xs ≡ bytes_of a ++ rest)
   front_sound [] xs a e = cc
@@ -41,31 +53,44 @@ module _ {A : Type 0} (bytes_of : A → List ℕ) where
       go true h later k = let same : b ≡ a = cc in subst (λ x. (rest : List ℕ) × (xs ≡ bytes_of x ++ rest)) same (drop (length (bytes_of b)) xs, starts_sound xs (bytes_of b) h)
       go false h later k = later k
 
-  -- no entry is longer than one in front of it
-  abbrev pub no_longer : A → A → Bool
-  no_longer a b = leb (length (bytes_of b)) (length (bytes_of a))
+  -- no entry begins with one in front of it
+  abbrev pub no_front : A → A → Bool
+  no_front a b = not (starts_with nat_eq (bytes_of b) (bytes_of a))
 
-  abbrev pub descending : List A → Bool
-  descending [] = true
-  descending (a ∷ rest) = all_pass (no_longer a) rest && descending rest
+  abbrev pub longest_first : List A → Bool
+  longest_first [] = true
+  longest_first (a ∷ rest) = all_pass (no_front a) rest && longest_first rest
 
   -- the first entry that stands at the front is the longest
-  pub front_longest : (those : List A) (n : ℕ) (xs r : List ℕ) (o : A) → descending those ≡ true → nth n those ≡ Some o → xs ≡ bytes_of o ++ r
+  pub front_longest : (those : List A) (n : ℕ) (xs r : List ℕ) (o : A) → longest_first those ≡ true → nth n those ≡ Some o → xs ≡ bytes_of o ++ r
       → (a : A) × (first_front bytes_of those xs ≡ Some a) × (length (bytes_of o) ≤ length (bytes_of a))
   front_longest [] n xs r o d e c = cc
   front_longest (b ∷ those) n xs r o d e c =
-      let parts = and_parts (all_pass (no_longer b) those) (descending those) d in
+      let parts = and_parts (all_pass (no_front b) those) (longest_first those) d in
       go (starts_with nat_eq xs (bytes_of b)) refl n parts.0 (λ j k. front_longest those j xs r o parts.1 k c) e
     where
-      go : (t : Bool) → starts_with nat_eq xs (bytes_of b) ≡ t → (k : ℕ) → all_pass (no_longer b) those ≡ true
+      go : (t : Bool) → starts_with nat_eq xs (bytes_of b) ≡ t → (k : ℕ) → all_pass (no_front b) those ≡ true
           → ((j : ℕ) → nth j those ≡ Some o → (a : A) × (first_front bytes_of those xs ≡ Some a) × (length (bytes_of o) ≤ length (bytes_of a)))
           → nth k (b ∷ those) ≡ Some o → (a : A) × (cond t (Some b) (first_front bytes_of those xs) ≡ Some a) × (length (bytes_of o) ≤ length (bytes_of a))
       go true h zero shorter later k = let same : b ≡ o = cc in (b, refl, subst (λ x. length (bytes_of x) ≤ length (bytes_of b)) same (omega arith))
-      go true h (suc j) shorter later k = (b, refl, leb-true (length (bytes_of o)) (length (bytes_of b)) (passes (no_longer b) those j o shorter k))
+      go true h (suc j) shorter later k = (b, refl, front_no_longer xs (bytes_of b) (bytes_of o) r h c (passes (no_front b) those j o shorter k))
       go false h zero shorter later k =
           let same : b ≡ o = cc in
           absurd (true≢false (sym (starts_complete xs (bytes_of b) r (subst (λ x. xs ≡ bytes_of x ++ r) (sym same) c)) ∙ h))
       go false h (suc j) shorter later k = later j k
+
+  pub front_begins : (those : List A) (xs : List ℕ) (a : A) → first_front bytes_of those xs ≡ Some a → starts_with nat_eq xs (bytes_of a) ≡ true
+  front_begins those xs a e = let (rest, c) = front_sound those xs a e in starts_complete xs (bytes_of a) rest c
+
+  -- what is found is an entry
+  pub front_stands : (those : List A) (xs : List ℕ) (a : A) → first_front bytes_of those xs ≡ Some a → (n : ℕ) × (nth n those ≡ Some a)
+  front_stands [] xs a e = cc
+  front_stands (b ∷ those) xs a e = go (starts_with nat_eq xs (bytes_of b)) (front_stands those xs a) e
+    where
+      go : (t : Bool) → (first_front bytes_of those xs ≡ Some a → (n : ℕ) × (nth n those ≡ Some a)) → cond t (Some b) (first_front bytes_of those xs) ≡ Some a
+          → (n : ℕ) × (nth n (b ∷ those) ≡ Some a)
+      go true later k = (0, k)
+      go false later k = let (n, h) = later k in (suc n, h)
 
   pub equal_sound : (those : List A) (xs : List ℕ) (a : A) → first_equal bytes_of those xs ≡ Some a → bytes_of a ≡ xs
   equal_sound [] xs a e = cc

@@ -1,16 +1,15 @@
 -- What the tokens of a source are, and where a source has none.
 use Rattle.std.specs.Prelude.{◌≡◌, ◌≤◌, ◌⊎◌, ℕ, ◌+◌, ℤ, pos, List, [], ◌∷◌, ◌++◌, length, slice_range, drop, codes, Bool, true, false, ◌&&◌, ◌||◌, nat_eq, if◌then◌else◌, Option, Some, None, option_map}
-use Rattle.std.specs.List.{starts_with}
+use Rattle.std.specs.List.{starts_with, Contains}
 use Rattle.arc_lex.specs.declared.token.Word.{Word}
-use Rattle.arc_lex.specs.declared.token.AtWord.{AtWord}
 use Rattle.arc_lex.specs.declared.bytes.Class.TheVariants as c
 use Rattle.arc_lex.specs.declared.piece.Rule.{Rule}
 use Rattle.arc_lex.specs.declared.piece.Rule.TheVariants as rules
 use Rattle.arc_lex.specs.declared.lex.TheConstants.{MOST_BYTES}
 use Rattle.arc_lex.specs.Bytes.{has, all_in, begins, is_blank, after_run}
-use Rattle.arc_lex.specs.Spellings.{mark_bytes, word_bytes, at_bytes}
+use Rattle.arc_lex.specs.Spellings.{mark_bytes, word_bytes, at_bytes, unused}
 use Rattle.arc_lex.specs.Texts.{Part, parts_bytes, parts_value, all_go_on, integer}
-use Rattle.arc_lex.specs.Tokens.{Sort, Name, Integer, Text, Key, At, Sign, Tok}
+use Rattle.arc_lex.specs.Tokens.{Sort, Name, Integer, Text, Key, At, Sign, Unused, Tok}
 
 -- ---- tokens
 
@@ -32,12 +31,13 @@ IsCharacter xs value suffixed = (b : ℕ) × IsQuoted 39 xs (b ∷ []) × (value
 
 -- bytes that are a token of this sort (C99, section 6.4)
 abbrev pub IsToken : List ℕ → Sort → Type 0
-IsToken xs (Name bytes) = (xs ≡ bytes) × IsWordLike xs × ((word : Word) → xs ≡ word_bytes word → ⊥)
+IsToken xs (Name bytes) = (xs ≡ bytes) × IsWordLike xs × ((word : Word) → xs ≡ word_bytes word → ⊥) × (Contains unused xs → ⊥)
 IsToken xs (Integer value suffixed) = (IsNumberLike xs × (integer xs ≡ Some (value, suffixed))) ⊎ IsCharacter xs value suffixed
 IsToken xs (Text bytes) = IsQuoted 34 xs bytes
 IsToken xs (Key word) = xs ≡ word_bytes word
 IsToken xs (At word) = xs ≡ at_bytes word
 IsToken xs (Sign mark) = xs ≡ mark_bytes mark
+IsToken xs Unused = Contains unused xs
 
 -- the longest token at the front: no other front of the bytes that is a token is longer (C99, section 6.4, paragraph 4)
 pub record Longest (xs : List ℕ) (s : Sort) (rest : List ℕ) : Type 0 where
@@ -118,9 +118,9 @@ IsWrongCharacter bytes = (parts : List Part) × IsClosed 39 bytes parts × ((b :
 abbrev pub IsWrongInteger : List ℕ → Type 0
 IsWrongInteger bytes = (xs : List ℕ) × (rest : List ℕ) × (bytes ≡ xs ++ rest) × IsNumberLike xs × (begins c.InName rest ≡ false) × (integer xs ≡ None)
 
--- An `@` stands there, and none of the words after `@`.
+-- An `@` stands there, and no token.
 abbrev pub IsOtherDirective : List ℕ → Type 0
-IsOtherDirective bytes = (rest : List ℕ) × (bytes ≡ 64 ∷ rest) × ((word : AtWord) (r : List ℕ) → bytes ≡ at_bytes word ++ r → ⊥)
+IsOtherDirective bytes = (rest : List ℕ) × (bytes ≡ 64 ∷ rest) × ((xs r : List ℕ) (o : Sort) → bytes ≡ xs ++ r → IsToken xs o → ⊥)
 
 -- A `#` stands there whose line is not skipped.
 abbrev pub IsOtherLine : Bool → List ℕ → Type 0

@@ -1,5 +1,5 @@
 -- How the marks and the reserved words are written.
-use Rattle.std.specs.Prelude.{ℕ, List, codes}
+use Rattle.std.specs.Prelude.{ℕ, List, [], ◌∷◌, map, codes}
 use Rattle.arc_lex.specs.declared.token.Mark.{Mark}
 use Rattle.arc_lex.specs.declared.token.Mark.TheVariants as m
 use Rattle.arc_lex.specs.declared.token.Word.{Word}
@@ -7,7 +7,7 @@ use Rattle.arc_lex.specs.declared.token.Word.TheVariants as w
 use Rattle.arc_lex.specs.declared.token.AtWord.{AtWord}
 use Rattle.arc_lex.specs.declared.token.AtWord.TheVariants as ats
 
--- the bytes of a mark (C99, section 6.4.6)
+-- the bytes of a mark that is used (C99, section 6.4.6)
 abbrev pub mark_bytes : Mark → List ℕ
 mark_bytes m.OpenBrace = codes "{"
 mark_bytes m.CloseBrace = codes "}"
@@ -18,7 +18,6 @@ mark_bytes m.CloseSquare = codes "]"
 mark_bytes m.Semicolon = codes ";"
 mark_bytes m.Comma = codes ","
 mark_bytes m.Colon = codes ":"
-mark_bytes m.Dot = codes "."
 mark_bytes m.Arrow = codes "->"
 mark_bytes m.Question = codes "?"
 mark_bytes m.Less = codes "<"
@@ -55,70 +54,47 @@ mark_bytes m.Bar = codes "|"
 mark_bytes m.Or = codes "||"
 mark_bytes m.BarAssign = codes "|="
 
--- the bytes of a reserved word (C99, section 6.4.1; the others are names of Objective-C that this project reserves)
+-- the bytes of a reserved word that is used (C99, section 6.4.1; the others are names of Objective-C that this project reserves)
 abbrev pub word_bytes : Word → List ℕ
 word_bytes w.Bool = codes "BOOL"
 word_bytes w.No = codes "NO"
 word_bytes w.NsInteger = codes "NSInteger"
-word_bytes w.Null = codes "NULL"
 word_bytes w.Yes = codes "YES"
-word_bytes w.Auto = codes "auto"
 word_bytes w.Break = codes "break"
-word_bytes w.Case = codes "case"
 word_bytes w.Char = codes "char"
 word_bytes w.Const = codes "const"
 word_bytes w.Continue = codes "continue"
-word_bytes w.Default = codes "default"
 word_bytes w.Do = codes "do"
-word_bytes w.Double = codes "double"
 word_bytes w.Else = codes "else"
-word_bytes w.Enum = codes "enum"
-word_bytes w.Extern = codes "extern"
-word_bytes w.Float = codes "float"
 word_bytes w.For = codes "for"
-word_bytes w.Goto = codes "goto"
 word_bytes w.Id = codes "id"
 word_bytes w.If = codes "if"
-word_bytes w.Inline = codes "inline"
 word_bytes w.InstanceType = codes "instancetype"
 word_bytes w.Int = codes "int"
 word_bytes w.Long = codes "long"
 word_bytes w.Nil = codes "nil"
-word_bytes w.Register = codes "register"
-word_bytes w.Restrict = codes "restrict"
 word_bytes w.Return = codes "return"
 word_bytes w.SelfWord = codes "self"
-word_bytes w.Short = codes "short"
-word_bytes w.Signed = codes "signed"
-word_bytes w.Sizeof = codes "sizeof"
 word_bytes w.Static = codes "static"
-word_bytes w.Struct = codes "struct"
 word_bytes w.Super = codes "super"
-word_bytes w.Switch = codes "switch"
-word_bytes w.Typedef = codes "typedef"
-word_bytes w.Union = codes "union"
-word_bytes w.Unsigned = codes "unsigned"
 word_bytes w.Void = codes "void"
-word_bytes w.Volatile = codes "volatile"
 word_bytes w.While = codes "while"
 word_bytes w.Strong = codes "__strong"
-word_bytes w.Weak = codes "__weak"
-word_bytes w.Autoreleasing = codes "__autoreleasing"
-word_bytes w.UnsafeUnretained = codes "__unsafe_unretained"
 
--- the bytes of a word after `@`, with the `@` (OPL, "Compiler Directives")
+-- the bytes of a word after `@` that is used, with the `@` (OPL, "Compiler Directives")
 abbrev pub at_bytes : AtWord → List ℕ
 at_bytes ats.Class = codes "@class"
-at_bytes ats.Protocol = codes "@protocol"
 at_bytes ats.Interface = codes "@interface"
 at_bytes ats.Implementation = codes "@implementation"
 at_bytes ats.End = codes "@end"
-at_bytes ats.Property = codes "@property"
-at_bytes ats.Synthesize = codes "@synthesize"
 at_bytes ats.Public = codes "@public"
 at_bytes ats.Protected = codes "@protected"
 at_bytes ats.Private = codes "@private"
-at_bytes ats.Required = codes "@required"
-at_bytes ats.Optional = codes "@optional"
-at_bytes ats.Selector = codes "@selector"
-at_bytes ats.AutoreleasePool = codes "@autoreleasepool"
+
+-- how the other words and marks are written that this project reserves, but doesn't use: they stand in no line of its grammar (C99,
+-- sections 6.4.1, 6.4.6 and 7.17; ARC, "Ownership qualification"; OPL, "Compiler Directives")
+abbrev pub unused : List (List ℕ)
+unused = map codes (
+    "auto" ∷ "case" ∷ "default" ∷ "double" ∷ "enum" ∷ "extern" ∷ "float" ∷ "goto" ∷ "inline" ∷ "register" ∷ "restrict" ∷ "short" ∷ "signed" ∷ "sizeof" ∷ "struct"
+    ∷ "switch" ∷ "typedef" ∷ "union" ∷ "unsigned" ∷ "volatile" ∷ "." ∷ "NULL" ∷ "__weak" ∷ "__autoreleasing" ∷ "__unsafe_unretained"
+    ∷ "@autoreleasepool" ∷ "@optional" ∷ "@property" ∷ "@protocol" ∷ "@required" ∷ "@selector" ∷ "@synthesize" ∷ [])

@@ -7,7 +7,8 @@ use Rattle.arc_lex.specs.declared.token.TokenKind.{TokenKind}
 use Rattle.arc_lex.specs.declared.token.TokenKind.TheVariants as kinds
 use Rattle.arc_lex.specs.declared.token.Token.{Token}
 
--- what a token is (C99, section 6.4). An integer or a character has its value, and whether it has a suffix
+-- what a token is (C99, section 6.4). An integer or a character has its value, and whether it has a suffix. An unused word or mark of C or
+-- Objective-C is `Unused`, whichever it is
 pub data Sort : Type 0 where
   Name : List ℕ → Sort
   Integer : ℤ → Bool → Sort
@@ -15,6 +16,7 @@ pub data Sort : Type 0 where
   Key : Word → Sort
   At : AtWord → Sort
   Sign : Mark → Sort
+  Unused : Sort
 
 -- a token and its span, from its first byte up to the one after its last
 pub record Tok : Type 0 where
@@ -29,6 +31,7 @@ sort_of (kinds.Text bytes) = Text bytes.items
 sort_of (kinds.Word word) = Key word
 sort_of (kinds.At word) = At word
 sort_of (kinds.Mark mark) = Sign mark
+sort_of kinds.Unused = Unused
 
 abbrev pub tok : Token → Tok
 tok t = record { sort = sort_of t.kind; from = t.span.from; to = t.span.to }

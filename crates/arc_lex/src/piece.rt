@@ -1,12 +1,13 @@
 //! The piece at the front of bytes: a blank, a comment, a skipped line, a token, or a broken rule.
 ghost use Rattle.std.specs.Prelude.{◌≡◌, ◌∷◌, ◌<◌, ℕ, length, IfOk};
 ghost use Rattle.arc_lex.specs.private.Pieces as spec;
+ghost use Rattle.arc_lex.specs.Spellings.{unused};
 ghost use Rattle.arc_lex.specs.private.Scans.{seen_value};
 
 use crate::bytes::{Class, has, is_blank, run};
 use crate::number::integer;
 use crate::skipped::{is_skipped, to_close};
-use crate::spelling::{at_text, at_word_at, mark_at, mark_text, word_of};
+use crate::spelling::{at_text, at_word_at, is_unused, mark_at, mark_text, unused_at, word_of};
 use crate::text::{Scan, read_quoted};
 use crate::token::{NameBytes, TokenKind};
 use std::alloc::{AllocError, Global};
@@ -42,6 +43,7 @@ fn name_piece(alloc: Global, bytes: &[u8]) -> Result<Piece, AllocError>
     let (name, _) = bytes.split_at(n);
     match word_of(name) {
         Some(word) => Ok(Piece::Whole(TokenKind::Word(word), name.len())),
+        None if is_unused(name) => Ok(Piece::Whole(TokenKind::Unused, name.len())),
         None => Ok(Piece::Whole(
             TokenKind::Name(NameBytes::from_slice(alloc, name)?),
             name.len(),
@@ -103,13 +105,23 @@ fn character_piece(alloc: Global, bytes: &[u8]) -> Result<Piece, AllocError>
     }
 }
 
+/// An unused word or mark, or else this rule is broken.
+fn unused_or(rule: Rule, bytes: &[u8]) -> Piece
+    ensures { spec.seen result ≡ spec.unused_or rule (spec.first_front spec.itself unused bytes.now) }
+{
+    match unused_at(bytes) {
+        None => Piece::Broken(rule),
+        Some(text) => Piece::Whole(TokenKind::Unused, text.len()),
+    }
+}
+
 /// A word after `@`.
 #[tactic(auto, unfolding(crate::specs::private::Pieces::at_piece))]
 fn at_piece(bytes: &[u8]) -> Piece
     ensures { spec.seen result ≡ spec.at_piece bytes.now }
 {
     match at_word_at(bytes) {
-        None => Piece::Broken(Rule::Directive),
+        None => unused_or(Rule::Directive, bytes),
         Some(word) => Piece::Whole(TokenKind::At(word), at_text(word).len()),
     }
 }
@@ -120,7 +132,7 @@ fn mark_piece(bytes: &[u8]) -> Piece
     ensures { spec.seen result ≡ spec.mark_piece bytes.now }
 {
     match mark_at(bytes) {
-        None => Piece::Broken(Rule::BadByte),
+        None => unused_or(Rule::BadByte, bytes),
         Some(mark) => Piece::Whole(TokenKind::Mark(mark), mark_text(mark).len()),
     }
 }

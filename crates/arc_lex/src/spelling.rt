@@ -1,9 +1,45 @@
 //! How marks and reserved words are written, and which of them stands at the front of bytes.
-ghost use Rattle.std.specs.Prelude.{◌≡◌};
-ghost use Rattle.arc_lex.specs.private.Pieces.{first_front, first_equal};
-ghost use Rattle.arc_lex.specs.Spellings.{mark_bytes, word_bytes, at_bytes};
+ghost use Rattle.std.specs.Prelude.{◌≡◌, map, option_map};
+ghost use Rattle.arc_lex.specs.private.Pieces.{first_front, first_equal, is_one, itself, now};
+ghost use Rattle.arc_lex.specs.Spellings.{mark_bytes, word_bytes, at_bytes, unused};
 
 use crate::token::{AT_WORDS, AtWord, MARKS, Mark, WORDS, Word};
+
+/// How the words and marks that this project doesn't use are written.
+const UNUSED: [&str; 32] = [
+    "auto",
+    "case",
+    "default",
+    "double",
+    "enum",
+    "extern",
+    "float",
+    "goto",
+    "inline",
+    "register",
+    "restrict",
+    "short",
+    "signed",
+    "sizeof",
+    "struct",
+    "switch",
+    "typedef",
+    "union",
+    "unsigned",
+    "volatile",
+    ".",
+    "NULL",
+    "__weak",
+    "__autoreleasing",
+    "__unsafe_unretained",
+    "@autoreleasepool",
+    "@optional",
+    "@property",
+    "@protocol",
+    "@required",
+    "@selector",
+    "@synthesize",
+];
 
 /// The text of a mark.
 pub fn mark_text(mark: Mark) -> &'static str
@@ -19,7 +55,6 @@ pub fn mark_text(mark: Mark) -> &'static str
         Mark::Semicolon => ";",
         Mark::Comma => ",",
         Mark::Colon => ":",
-        Mark::Dot => ".",
         Mark::Arrow => "->",
         Mark::Question => "?",
         Mark::Less => "<",
@@ -66,51 +101,27 @@ fn word_text(word: Word) -> &'static str
         Word::Bool => "BOOL",
         Word::No => "NO",
         Word::NsInteger => "NSInteger",
-        Word::Null => "NULL",
         Word::Yes => "YES",
-        Word::Auto => "auto",
         Word::Break => "break",
-        Word::Case => "case",
         Word::Char => "char",
         Word::Const => "const",
         Word::Continue => "continue",
-        Word::Default => "default",
         Word::Do => "do",
-        Word::Double => "double",
         Word::Else => "else",
-        Word::Enum => "enum",
-        Word::Extern => "extern",
-        Word::Float => "float",
         Word::For => "for",
-        Word::Goto => "goto",
         Word::Id => "id",
         Word::If => "if",
-        Word::Inline => "inline",
         Word::InstanceType => "instancetype",
         Word::Int => "int",
         Word::Long => "long",
         Word::Nil => "nil",
-        Word::Register => "register",
-        Word::Restrict => "restrict",
         Word::Return => "return",
         Word::SelfWord => "self",
-        Word::Short => "short",
-        Word::Signed => "signed",
-        Word::Sizeof => "sizeof",
         Word::Static => "static",
-        Word::Struct => "struct",
         Word::Super => "super",
-        Word::Switch => "switch",
-        Word::Typedef => "typedef",
-        Word::Union => "union",
-        Word::Unsigned => "unsigned",
         Word::Void => "void",
-        Word::Volatile => "volatile",
         Word::While => "while",
         Word::Strong => "__strong",
-        Word::Weak => "__weak",
-        Word::Autoreleasing => "__autoreleasing",
-        Word::UnsafeUnretained => "__unsafe_unretained",
     }
 }
 
@@ -120,19 +131,12 @@ pub fn at_text(word: AtWord) -> &'static str
 {
     match word {
         AtWord::Class => "@class",
-        AtWord::Protocol => "@protocol",
         AtWord::Interface => "@interface",
         AtWord::Implementation => "@implementation",
         AtWord::End => "@end",
-        AtWord::Property => "@property",
-        AtWord::Synthesize => "@synthesize",
         AtWord::Public => "@public",
         AtWord::Protected => "@protected",
         AtWord::Private => "@private",
-        AtWord::Required => "@required",
-        AtWord::Optional => "@optional",
-        AtWord::Selector => "@selector",
-        AtWord::AutoreleasePool => "@autoreleasepool",
     }
 }
 
@@ -172,7 +176,32 @@ fn first_word(words: &[Word], name: &[u8]) -> Option<Word>
     None
 }
 
-/// The longest mark with which the bytes begin. One that a space ends, or that is sure with its second byte, is found at once.
+/// The first of the texts with which the bytes begin.
+fn first_text(texts: &[&'static str], bytes: &[u8]) -> Option<&'static str>
+    ensures { option_map now result ≡ first_front itself (map now texts.now) bytes.now }
+{
+    for text in texts {
+        if bytes.starts_with(text.as_bytes()) {
+            return Some(*text);
+        }
+    }
+    None
+}
+
+/// Whether one of the texts is this one.
+fn is_one(texts: &[&'static str], name: &[u8]) -> bool
+    ensures { result ≡ is_one (map now texts.now) name.now }
+{
+    for text in texts {
+        if text.as_bytes() == name {
+            return true;
+        }
+    }
+    false
+}
+
+/// The longest used mark with which the bytes begin. One that a space ends, or that is sure with its second byte, is
+/// found at once.
 pub fn mark_at(bytes: &[u8]) -> Option<Mark>
     ensures { result ≡ first_front mark_bytes MARKS bytes.now }
 {
@@ -186,7 +215,6 @@ pub fn mark_at(bytes: &[u8]) -> Option<Mark>
         [b';', ..] => Some(Mark::Semicolon),
         [b',', ..] => Some(Mark::Comma),
         [b':', ..] => Some(Mark::Colon),
-        [b'.', ..] => Some(Mark::Dot),
         [b'?', ..] => Some(Mark::Question),
         [b'~', ..] => Some(Mark::Tilde),
         [b'=', b' ', ..] => Some(Mark::Assign),
@@ -241,7 +269,7 @@ pub fn mark_at(bytes: &[u8]) -> Option<Mark>
     }
 }
 
-/// The longest word after `@` with which the bytes begin.
+/// The longest used word after `@` with which the bytes begin.
 pub fn at_word_at(bytes: &[u8]) -> Option<AtWord>
     ensures { result ≡ first_front at_bytes AT_WORDS bytes.now }
 {
@@ -249,21 +277,18 @@ pub fn at_word_at(bytes: &[u8]) -> Option<AtWord>
         [b'@', b'i', ..] => first_at_word(&[AtWord::Implementation, AtWord::Interface], bytes),
         [b'@', b'e', ..] => first_at_word(&[AtWord::End], bytes),
         [b'@', b'c', ..] => first_at_word(&[AtWord::Class], bytes),
-        [b'@', b'p', ..] => first_at_word(
-            &[
-                AtWord::Protected,
-                AtWord::Protocol,
-                AtWord::Property,
-                AtWord::Private,
-                AtWord::Public,
-            ],
-            bytes,
-        ),
         _ => first_at_word(&AT_WORDS, bytes),
     }
 }
 
-/// The reserved word that is written so. Those that most sources have most often are found at once.
+/// The unused word or mark with which the bytes begin.
+pub fn unused_at(bytes: &[u8]) -> Option<&'static str>
+    ensures { option_map now result ≡ first_front itself unused bytes.now }
+{
+    first_text(&UNUSED, bytes)
+}
+
+/// The used reserved word that is written so. Those that most sources have most often are found at once.
 pub fn word_of(name: &[u8]) -> Option<Word>
     ensures { result ≡ first_equal word_bytes WORDS name.now }
 {
@@ -272,54 +297,45 @@ pub fn word_of(name: &[u8]) -> Option<Word>
         [b'i', b'f'] => Some(Word::If),
         [b'r', b'e', b't', b'u', b'r', b'n'] => Some(Word::Return),
         [b'B', ..] => first_word(&[Word::Bool], name),
-        [b'N', ..] => first_word(&[Word::No, Word::NsInteger, Word::Null], name),
+        [b'N', ..] => first_word(&[Word::No, Word::NsInteger], name),
         [b'Y', ..] => first_word(&[Word::Yes], name),
-        [b'a', ..] => first_word(&[Word::Auto], name),
         [b'b', ..] => first_word(&[Word::Break], name),
-        [b'c', ..] => first_word(&[Word::Case, Word::Char, Word::Const, Word::Continue], name),
-        [b'd', ..] => first_word(&[Word::Default, Word::Do, Word::Double], name),
-        [b'e', ..] => first_word(&[Word::Else, Word::Enum, Word::Extern], name),
-        [b'f', ..] => first_word(&[Word::Float, Word::For], name),
-        [b'g', ..] => first_word(&[Word::Goto], name),
-        [b'i', ..] => first_word(
-            &[
-                Word::Id,
-                Word::If,
-                Word::Inline,
-                Word::InstanceType,
-                Word::Int,
-            ],
-            name,
-        ),
+        [b'c', ..] => first_word(&[Word::Char, Word::Const, Word::Continue], name),
+        [b'd', ..] => first_word(&[Word::Do], name),
+        [b'e', ..] => first_word(&[Word::Else], name),
+        [b'f', ..] => first_word(&[Word::For], name),
+        [b'i', ..] => first_word(&[Word::Id, Word::If, Word::InstanceType, Word::Int], name),
         [b'l', ..] => first_word(&[Word::Long], name),
         [b'n', ..] => first_word(&[Word::Nil], name),
-        [b'r', ..] => first_word(&[Word::Register, Word::Restrict, Word::Return], name),
-        [b's', ..] => first_word(
-            &[
-                Word::SelfWord,
-                Word::Short,
-                Word::Signed,
-                Word::Sizeof,
-                Word::Static,
-                Word::Struct,
-                Word::Super,
-                Word::Switch,
-            ],
-            name,
-        ),
-        [b't', ..] => first_word(&[Word::Typedef], name),
-        [b'u', ..] => first_word(&[Word::Union, Word::Unsigned], name),
-        [b'v', ..] => first_word(&[Word::Void, Word::Volatile], name),
+        [b'r', ..] => first_word(&[Word::Return], name),
+        [b's', ..] => first_word(&[Word::SelfWord, Word::Static, Word::Super], name),
+        [b'v', ..] => first_word(&[Word::Void], name),
         [b'w', ..] => first_word(&[Word::While], name),
-        [b'_', ..] => first_word(
-            &[
-                Word::Strong,
-                Word::Weak,
-                Word::Autoreleasing,
-                Word::UnsafeUnretained,
-            ],
-            name,
-        ),
+        [b'_', ..] => first_word(&[Word::Strong], name),
         _ => None,
+    }
+}
+
+/// Whether an unused word is written so.
+pub fn is_unused(name: &[u8]) -> bool
+    ensures { result ≡ is_one unused name.now }
+{
+    match name {
+        [b'N', ..] => is_one(&["NULL"], name),
+        [b'a', ..] => is_one(&["auto"], name),
+        [b'c', ..] => is_one(&["case"], name),
+        [b'd', ..] => is_one(&["default", "double"], name),
+        [b'e', ..] => is_one(&["enum", "extern"], name),
+        [b'f', ..] => is_one(&["float"], name),
+        [b'g', ..] => is_one(&["goto"], name),
+        [b'i', ..] => is_one(&["inline"], name),
+        [b'r', ..] => is_one(&["register", "restrict"], name),
+        [b's', ..] => is_one(&["short", "signed", "sizeof", "struct", "switch"], name),
+        [b't', ..] => is_one(&["typedef"], name),
+        [b'u', ..] => is_one(&["union", "unsigned"], name),
+        [b'v', ..] => is_one(&["volatile"], name),
+        [b'_', ..] => is_one(&["__weak", "__autoreleasing", "__unsafe_unretained"], name),
+        [b'@' | b'.', ..] => is_one(&UNUSED, name),
+        _ => false,
     }
 }

@@ -21,7 +21,6 @@ pub enum Mark {
     Semicolon,
     Comma,
     Colon,
-    Dot,
     Arrow,
     Question,
     Less,
@@ -59,80 +58,49 @@ pub enum Mark {
     BarAssign,
 }
 
-/// A reserved word: it is never a name.
+/// A reserved word that this project uses: it is never a name.
 #[derive(Clone, Copy, Debug, PartialEq, Eq)]
 pub enum Word {
     Bool,
     No,
     NsInteger,
-    Null,
     Yes,
-    Auto,
     Break,
-    Case,
     Char,
     Const,
     Continue,
-    Default,
     Do,
-    Double,
     Else,
-    Enum,
-    Extern,
-    Float,
     For,
-    Goto,
     Id,
     If,
-    Inline,
     InstanceType,
     Int,
     Long,
     Nil,
-    Register,
-    Restrict,
     Return,
     SelfWord,
-    Short,
-    Signed,
-    Sizeof,
     Static,
-    Struct,
     Super,
-    Switch,
-    Typedef,
-    Union,
-    Unsigned,
     Void,
-    Volatile,
     While,
     Strong,
-    Weak,
-    Autoreleasing,
-    UnsafeUnretained,
 }
 
-/// A word after `@`.
+/// A word after `@` that this project uses.
 #[derive(Clone, Copy, Debug, PartialEq, Eq)]
 pub enum AtWord {
     Class,
-    Protocol,
     Interface,
     Implementation,
     End,
-    Property,
-    Synthesize,
     Public,
     Protected,
     Private,
-    Required,
-    Optional,
-    Selector,
-    AutoreleasePool,
 }
 
 /// The marks, the longest first.
-pub const MARKS: [Mark; 45] = [
+pub const MARKS: [Mark; 44] = [
     Mark::ShiftLeftAssign,
     Mark::ShiftRightAssign,
     Mark::Arrow,
@@ -163,7 +131,6 @@ pub const MARKS: [Mark; 45] = [
     Mark::Semicolon,
     Mark::Comma,
     Mark::Colon,
-    Mark::Dot,
     Mark::Question,
     Mark::Less,
     Mark::Greater,
@@ -181,69 +148,38 @@ pub const MARKS: [Mark; 45] = [
 ];
 
 /// The reserved words.
-pub const WORDS: [Word; 48] = [
+pub const WORDS: [Word; 24] = [
     Word::Bool,
     Word::No,
     Word::NsInteger,
-    Word::Null,
     Word::Yes,
-    Word::Auto,
     Word::Break,
-    Word::Case,
     Word::Char,
     Word::Const,
     Word::Continue,
-    Word::Default,
     Word::Do,
-    Word::Double,
     Word::Else,
-    Word::Enum,
-    Word::Extern,
-    Word::Float,
     Word::For,
-    Word::Goto,
     Word::Id,
     Word::If,
-    Word::Inline,
     Word::InstanceType,
     Word::Int,
     Word::Long,
     Word::Nil,
-    Word::Register,
-    Word::Restrict,
     Word::Return,
     Word::SelfWord,
-    Word::Short,
-    Word::Signed,
-    Word::Sizeof,
     Word::Static,
-    Word::Struct,
     Word::Super,
-    Word::Switch,
-    Word::Typedef,
-    Word::Union,
-    Word::Unsigned,
     Word::Void,
-    Word::Volatile,
     Word::While,
     Word::Strong,
-    Word::Weak,
-    Word::Autoreleasing,
-    Word::UnsafeUnretained,
 ];
 
 /// The words after `@`, the longest first.
-pub const AT_WORDS: [AtWord; 14] = [
-    AtWord::AutoreleasePool,
+pub const AT_WORDS: [AtWord; 7] = [
     AtWord::Implementation,
-    AtWord::Synthesize,
     AtWord::Interface,
     AtWord::Protected,
-    AtWord::Protocol,
-    AtWord::Property,
-    AtWord::Required,
-    AtWord::Optional,
-    AtWord::Selector,
     AtWord::Private,
     AtWord::Public,
     AtWord::Class,
@@ -253,8 +189,8 @@ pub const AT_WORDS: [AtWord; 14] = [
 /// The bytes of a name. Most names are short, and need no memory of their own.
 pub type NameBytes = SmallVec<u8, 16>;
 
-/// What a token is. A name holds its bytes, an integer or a character its value and whether it has a suffix, and a text the bytes that
-/// it stands for.
+/// What a token is. A name holds its bytes, an integer or a character its value and whether it has a suffix, and a text
+/// the bytes that it stands for. `Unused` is any word or mark of C or Objective-C that this project doesn't use.
 #[derive(Debug, Drop)]
 pub enum TokenKind {
     Name(NameBytes),
@@ -263,6 +199,7 @@ pub enum TokenKind {
     Word(Word),
     At(AtWord),
     Mark(Mark),
+    Unused,
 }
 
 /// A token, and where it stands.

@@ -1,6 +1,7 @@
 -- The piece at the front of bytes, as the code finds it.
 use Rattle.std.specs.Prelude.{◌≡◌, ◌≤◌, ◌<◌, ◌++◌, length, ℕ, ◌+◌, ℤ, pos, List, [], ◌∷◌, take, Bool, true, false, ◌&&◌, nat_eq, if◌then◌else◌, Option, Some, None}
-use Rattle.std.specs.List.{starts_with}
+use Rattle.std.specs.Borrow.{Bor}
+use Rattle.std.specs.List.{starts_with, list_any}
 use Rattle.std.specs.Cmp.Lexicographic.{pointwise}
 use Rattle.arc_lex.specs.declared.token.Mark.{Mark}
 use Rattle.arc_lex.specs.declared.token.Word.{Word}
@@ -12,9 +13,9 @@ use Rattle.arc_lex.specs.declared.piece.Piece as lex
 use Rattle.arc_lex.specs.declared.piece.Piece.TheVariants as pieces
 use Rattle.arc_lex.specs.declared.token.TheConstants.{MARKS, WORDS, AT_WORDS}
 use Rattle.arc_lex.specs.Bytes.{has, run, is_blank}
-use Rattle.arc_lex.specs.Spellings.{mark_bytes, word_bytes, at_bytes}
+use Rattle.arc_lex.specs.Spellings.{mark_bytes, word_bytes, at_bytes, unused}
 use Rattle.arc_lex.specs.Texts.{Part, Plain, Escape, parts_bytes, parts_value, integer}
-use Rattle.arc_lex.specs.Tokens.{Sort, Name, Integer, Text, Key, At, Sign, sort_of}
+use Rattle.arc_lex.specs.Tokens.{Sort, Name, Integer, Text, Key, At, Sign, Unused, sort_of}
 use Rattle.arc_lex.specs.Source.{Longest, IsComment, Skipped, is_skipped, to_close, Faultless, Breaks}
 
 pub data Piece : Type 0 where
@@ -33,12 +34,31 @@ abbrev pub first_equal : {A : Type 0} → (A → List ℕ) → List A → List �
 first_equal bytes_of [] xs = None
 first_equal bytes_of (a ∷ rest) xs = if pointwise nat_eq (bytes_of a) xs then Some a else first_equal bytes_of rest xs
 
-abbrev pub word_or_name : Option Word → List ℕ → Piece
-word_or_name None xs = Whole (Name xs) (length xs)
-word_or_name (Some word) xs = Whole (Key word) (length xs)
+-- the bytes of a text of the code
+abbrev pub now : Bor (List ℕ) → List ℕ
+now text = text.now
+
+-- whether one of the texts is xs
+abbrev pub is_one : List (List ℕ) → List ℕ → Bool
+is_one texts xs = list_any (λ text. pointwise nat_eq text xs) texts
+
+abbrev pub itself : List ℕ → List ℕ
+itself text = text
+
+-- a reserved word that is used, one that isn't, or a name
+abbrev pub word_or_name : Option Word → Bool → List ℕ → Piece
+word_or_name (Some word) found xs = Whole (Key word) (length xs)
+word_or_name None true xs = Whole Unused (length xs)
+word_or_name None false xs = Whole (Name xs) (length xs)
 
 unfoldable pub name_piece : List ℕ → Piece
-name_piece bytes = word_or_name (first_equal word_bytes WORDS (take (run c.InName bytes) bytes)) (take (run c.InName bytes) bytes)
+name_piece bytes =
+    word_or_name (first_equal word_bytes WORDS (take (run c.InName bytes) bytes)) (is_one unused (take (run c.InName bytes) bytes)) (take (run c.InName bytes) bytes)
+
+-- an unused word or mark, or the rule that is broken where there is none
+abbrev pub unused_or : Rule → Option (List ℕ) → Piece
+unused_or rule None = Broken rule
+unused_or rule (Some text) = Whole Unused (length text)
 
 abbrev pub integer_found : Option (ℤ × Bool) → ℕ → Piece
 integer_found None n = Broken rules.Literal
@@ -82,19 +102,19 @@ unfoldable pub character_piece : List ℕ → Piece
 character_piece [] = Broken rules.OpenLiteral
 character_piece (b ∷ bs) = character_found (scan 39 false [] bs)
 
-abbrev pub at_found : Option AtWord → Piece
-at_found None = Broken rules.Directive
-at_found (Some word) = Whole (At word) (length (at_bytes word))
+abbrev pub at_found : Option AtWord → Option (List ℕ) → Piece
+at_found None other = unused_or rules.Directive other
+at_found (Some word) other = Whole (At word) (length (at_bytes word))
 
 unfoldable pub at_piece : List ℕ → Piece
-at_piece bytes = at_found (first_front at_bytes AT_WORDS bytes)
+at_piece bytes = at_found (first_front at_bytes AT_WORDS bytes) (first_front itself unused bytes)
 
-abbrev pub mark_found : Option Mark → Piece
-mark_found None = Broken rules.BadByte
-mark_found (Some mark) = Whole (Sign mark) (length (mark_bytes mark))
+abbrev pub mark_found : Option Mark → Option (List ℕ) → Piece
+mark_found None other = unused_or rules.BadByte other
+mark_found (Some mark) other = Whole (Sign mark) (length (mark_bytes mark))
 
 unfoldable pub mark_piece : List ℕ → Piece
-mark_piece bytes = mark_found (first_front mark_bytes MARKS bytes)
+mark_piece bytes = mark_found (first_front mark_bytes MARKS bytes) (first_front itself unused bytes)
 
 -- a `#`, and what is after it
 unfoldable pub line_piece : Bool → List ℕ → Piece
