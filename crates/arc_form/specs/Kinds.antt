@@ -4,7 +4,7 @@ use Rattle.arc_lex.specs.declared.token.Mark.{Mark}
 use Rattle.arc_lex.specs.declared.token.Word.{Word}
 use Rattle.arc_lex.specs.declared.token.AtWord.{AtWord}
 use Rattle.arc_lex.specs.Spellings.{mark_bytes, word_bytes, at_bytes}
-use Rattle.arc_lex.specs.Tokens.{Tok, Sort, Name, Integer, Text, Key, At, Sign}
+use Rattle.arc_lex.specs.Tokens.{Tok, Sort, Name, Integer, Text, Key, At, Sign, Unused}
 
 -- the bytes of `main`
 abbrev pub main_bytes : List ℕ
@@ -15,7 +15,7 @@ abbrev pub main_or_none : Bool → List ℕ
 main_or_none true = main_bytes
 main_or_none false = []
 
--- The kind of a token: what a grammar keeps apart. A word and a mark go by how they are written, an integer, a text and a name but `main` by what they are alone.
+-- The kind of a token: what a grammar keeps apart. A word and a mark go by how they are written, an integer, a text, a name but `main` and an unused token by what they are alone.
 abbrev pub Kind : Type 0
 Kind = ℕ × List ℕ
 
@@ -26,6 +26,7 @@ kind (Text bytes) = (2, [])
 kind (Key word) = (3, word_bytes word)
 kind (At word) = (4, at_bytes word)
 kind (Sign mark) = (5, mark_bytes mark)
+kind Unused = (6, [])
 
 abbrev pub same : Kind → Kind → Bool
 same a b = nat_eq a.0 b.0 && bytes_eq a.1 b.1

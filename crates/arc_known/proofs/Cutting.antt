@@ -5,7 +5,7 @@ use Rattle.std.proofs.lemmas.List.{append-nil}
 use Rattle.arc_lex.specs.declared.piece.Rule.{Rule}
 use Rattle.arc_lex.specs.Source.{Cuts, done, FaultAt, here}
 use Rattle.arc_lex.specs.Texts.{Part, Plain, Escape}
-use Rattle.arc_lex.specs.Tokens.{Tok, Sort, Name, Integer, Text, Key, At, Sign}
+use Rattle.arc_lex.specs.Tokens.{Tok, Sort, Name, Integer, Text, Key, At, Sign, Unused}
 use Rattle.arc_lex.specs.private.Pieces.{Piece, Blank, Skip, Whole, Broken, Law, piece, text_found, text_piece, character_found, character_piece, scan}
 use Rattle.arc_lex.proofs.Law.{piece_law}
 use Rattle.arc_lex.proofs.Walks.{blank_cuts, skip_cuts, token_cuts, blank_fault, skip_fault, token_fault}
@@ -124,6 +124,7 @@ sort_is (Integer (negsuc n) suffixed) go = refl
 sort_is (Key word) go = refl
 sort_is (At word) go = refl
 sort_is (Sign mark) go = refl
+sort_is Unused go = refl
 
 -- ---- tokens
 

@@ -3,7 +3,7 @@ use Rattle.std.proofs.Common.{◌≡◌, ℕ, List, [], ◌∷◌, ◌++◌, app
 use Rattle.arc_lex.specs.declared.token.Mark.TheVariants as m
 use Rattle.arc_lex.specs.declared.token.Word.TheVariants as w
 use Rattle.arc_ast.specs.declared.tree.Qualifiers.TheVariants.{Unqualified}
-use Rattle.arc_lex.specs.Tokens.{Tok, Sort, Name, Integer, Text, Key, At, Sign}
+use Rattle.arc_lex.specs.Tokens.{Tok, Sort, Name, Integer, Text, Key, At, Sign, Unused}
 use Rattle.arc_ast.specs.Tree.{ParameterTree, ParametersTree, Listed, Int, HeadTree, ResultTree, FunctionTree}
 use Rattle.arc_form.specs.Kinds.{main_bytes, main_or_none, kind, name, mark, word, ◌∪◌}
 use Rattle.arc_form.specs.Operators.{fold}
@@ -42,6 +42,7 @@ read_function type (t ∷ ts) = go t.sort refl
     go (Key w) e = rw e refl
     go (At w) e = rw e refl
     go (Sign m) e = rw e refl
+    go Unused e = rw e refl
 
 -- one part more, with its parameter
 abbrev and_typed : Typed → List ℕ × ParameterTree → Typed
