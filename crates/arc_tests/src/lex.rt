@@ -33,7 +33,7 @@ fn answer(rt: &HostRuntime, source: &[u8]) -> Result<String, Fail> {
 
 #[test]
 fn answers_small_sources(rt: HostRuntime) -> Result<(), Fail> {
-    let rows: [(&str, &str); 34] = [
+    let rows: [(&str, &str); 36] = [
         ("", "Ok([])"),
         (
             "x",
@@ -45,7 +45,15 @@ fn answers_small_sources(rt: HostRuntime) -> Result<(), Fail> {
         ),
         (
             " __weak",
-            "Ok([Token { kind: Word(Weak), span: Span { from: 1, to: 7 } }])",
+            "Ok([Token { kind: Unused, span: Span { from: 1, to: 7 } }])",
+        ),
+        (
+            "switch@propertyX.",
+            "Ok([Token { kind: Unused, span: Span { from: 0, to: 6 } }, Token { kind: Unused, span: Span { from: 6, to: 15 } }, Token { kind: Name([88]), span: Span { from: 15, to: 16 } }, Token { kind: Unused, span: Span { from: 16, to: 17 } }])",
+        ),
+        (
+            "switches",
+            "Ok([Token { kind: Name([115, 119, 105, 116, 99, 104, 101, 115]), span: Span { from: 0, to: 8 } }])",
         ),
         (
             "\"a\\n\\0\"",
@@ -114,6 +122,51 @@ fn answers_small_sources(rt: HostRuntime) -> Result<(), Fail> {
     for (source, want) in rows {
         let got = answer(&rt, source.as_bytes())?;
         assert_eq!(rt; got.as_str(), want, "at {source}");
+    }
+    Ok(())
+}
+
+#[test]
+fn answers_unused_words_and_marks(rt: HostRuntime) -> Result<(), Fail> {
+    let words = [
+        "NULL",
+        "__autoreleasing",
+        "__unsafe_unretained",
+        "__weak",
+        "auto",
+        "case",
+        "default",
+        "double",
+        "enum",
+        "extern",
+        "float",
+        "goto",
+        "inline",
+        "register",
+        "restrict",
+        "short",
+        "signed",
+        "sizeof",
+        "struct",
+        "switch",
+        "typedef",
+        "union",
+        "unsigned",
+        "volatile",
+        "@autoreleasepool",
+        "@optional",
+        "@property",
+        "@protocol",
+        "@required",
+        "@selector",
+        "@synthesize",
+        ".",
+    ];
+    for text in words {
+        let tokens = lex(rt.alloc(), text.as_bytes())?;
+        assert_eq!(rt; tokens.len(), 1, "at {text}");
+        assert!(rt; matches!(tokens[0].kind, TokenKind::Unused), "at {text}");
+        assert_eq!(rt; tokens[0].span.to, text.len(), "at {text}");
     }
     Ok(())
 }

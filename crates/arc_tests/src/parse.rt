@@ -34,6 +34,11 @@ fn refuses(rt: HostRuntime) {
         parse(alloc, &tokens).err(),
         Some(ParseFault::Unexpected(21))
     );
+    let tokens = lex(alloc, b"int main(void) { return 1 . 2; }").expect(&rt, "no tokens");
+    assert_eq!(rt;
+        parse(alloc, &tokens).err(),
+        Some(ParseFault::Unexpected(26))
+    );
 }
 
 #[test]
