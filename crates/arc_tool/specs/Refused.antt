@@ -34,14 +34,10 @@ IsTooLarge P = most_instrs < program_size P
 -- The refusal reports the fault of a stage, all stages before which have nothing to refuse. A stage to which memory is refused has a fault of its own for that,
 -- which says no more of the source.
 pub data IsRefusal (source : List ℕ) (r : Refusal) : Type 0 where
-  in_lexing : (f : LexFault) → lexing.IsLexFault source f → Reports (lexing.report f).0 (lexing.report f).1 (lexing.report f).2 r → IsRefusal source r
-  in_parsing : (f : ParseFault) (tokens : List Tok) → Tokens source tokens → parsing.IsRefused tokens f
-      → Reports (parse_fault.report f).number (parse_fault.report f).name (parse_fault.report f).at r → IsRefusal source r
-  in_building : (f : ClassFault) (tree : UnitTree) → Spelled source tree → building.Refuses (broken tree) f
-      → Reports (class_fault.report f).number (class_fault.report f).name (class_fault.report f).at r → IsRefusal source r
-  in_checking : (f : CheckFault) (tree : UnitTree) → Spelled source tree → broken tree ≡ [] → checking.Refuses (broken_unit tree) f
-      → Reports (check_fault.report f).number (check_fault.report f).name (check_fault.report f).at r → IsRefusal source r
-  in_owning : (f : OwnFault) (tree : UnitTree) → Spelled source tree → broken tree ≡ [] → broken_unit tree ≡ [] → owning.Refuses (ownership.broken tree) f
-      → Reports (own_fault.report f).number (own_fault.report f).name (own_fault.report f).at r → IsRefusal source r
-  too_large : (program : Accepted source) → IsTooLarge (program_meant program) → Reports 71 (codes "TooLarge") 0 r → IsRefusal source r
-  no_memory : (program : Accepted source) → Reports 72 (codes "Memory") 0 r → IsRefusal source r
+  in_lexing : (f : LexFault) → lexing.IsLexFault source f → Reports (record { number = (lexing.report f).0; name = (lexing.report f).1; at = (lexing.report f).2 }) r → IsRefusal source r
+  in_parsing : (f : ParseFault) (tokens : List Tok) → Tokens source tokens → parsing.IsRefused tokens f → Reports (parse_fault.report f) r → IsRefusal source r
+  in_building : (f : ClassFault) (tree : UnitTree) → Spelled source tree → building.Refuses (broken tree) f → Reports (class_fault.report f) r → IsRefusal source r
+  in_checking : (f : CheckFault) (tree : UnitTree) → Spelled source tree → broken tree ≡ [] → checking.Refuses (broken_unit tree) f → Reports (check_fault.report f) r → IsRefusal source r
+  in_owning : (f : OwnFault) (tree : UnitTree) → Spelled source tree → broken tree ≡ [] → broken_unit tree ≡ [] → owning.Refuses (ownership.broken tree) f → Reports (own_fault.report f) r → IsRefusal source r
+  too_large : (program : Accepted source) → IsTooLarge (program_meant program) → Reports (record { number = 71; name = codes "TooLarge"; at = 0 }) r → IsRefusal source r
+  no_memory : (program : Accepted source) → Reports (record { number = 72; name = codes "Memory"; at = 0 }) r → IsRefusal source r

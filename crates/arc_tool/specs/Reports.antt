@@ -1,12 +1,13 @@
 -- How a refusal is reported, which is this project's own choice.
 use Rattle.std.specs.Prelude.{◌≡◌, ℕ, List}
+use Rattle.arc_fault.specs.Report.{Report}
 use Rattle.arc_tool.specs.declared.refusal.Refusal.{Refusal}
 
 abbrev pub Names : List ℕ → Refusal → Type 0
 Names name r = r.name.now ≡ name
 
 -- the refusal has this number, this name and this place
-pub record Reports (number : ℕ) (name : List ℕ) (at : ℕ) (r : Refusal) : Type 0 where
-  pub number_is : r.number ≡ number
-  pub name_is : Names name r
-  pub at_is : r.at ≡ at
+pub record Reports (report : Report) (r : Refusal) : Type 0 where
+  pub number_is : r.number ≡ report.number
+  pub name_is : Names report.name r
+  pub at_is : r.at ≡ report.at

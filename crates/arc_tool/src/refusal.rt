@@ -36,7 +36,7 @@ impl Refusal {
 }
 
 impl From<LexFault> for Refusal {
-    ghost from_gives = { λ f r. Reports (lexing.report f).0 (lexing.report f).1 (lexing.report f).2 r };
+    ghost from_gives = { λ f r. Reports (record { number = (lexing.report f).0; name = (lexing.report f).1; at = (lexing.report f).2 }) r };
 
     fn from(fault: LexFault) -> Refusal {
         Refusal {
@@ -48,7 +48,7 @@ impl From<LexFault> for Refusal {
 }
 
 impl From<ParseFault> for Refusal {
-    ghost from_gives = { λ f r. Reports (parse_fault.report f).number (parse_fault.report f).name (parse_fault.report f).at r };
+    ghost from_gives = { λ f r. Reports (parse_fault.report f) r };
 
     fn from(fault: ParseFault) -> Refusal {
         Refusal {
@@ -60,7 +60,7 @@ impl From<ParseFault> for Refusal {
 }
 
 impl From<ClassFault> for Refusal {
-    ghost from_gives = { λ f r. Reports (class_fault.report f).number (class_fault.report f).name (class_fault.report f).at r };
+    ghost from_gives = { λ f r. Reports (class_fault.report f) r };
 
     fn from(fault: ClassFault) -> Refusal {
         Refusal {
@@ -72,7 +72,7 @@ impl From<ClassFault> for Refusal {
 }
 
 impl From<CheckFault> for Refusal {
-    ghost from_gives = { λ f r. Reports (check_fault.report f).number (check_fault.report f).name (check_fault.report f).at r };
+    ghost from_gives = { λ f r. Reports (check_fault.report f) r };
 
     fn from(fault: CheckFault) -> Refusal {
         Refusal {
@@ -84,7 +84,7 @@ impl From<CheckFault> for Refusal {
 }
 
 impl From<OwnFault> for Refusal {
-    ghost from_gives = { λ f r. Reports (own_fault.report f).number (own_fault.report f).name (own_fault.report f).at r };
+    ghost from_gives = { λ f r. Reports (own_fault.report f) r };
 
     fn from(fault: OwnFault) -> Refusal {
         Refusal {
@@ -96,7 +96,7 @@ impl From<OwnFault> for Refusal {
 }
 
 impl From<NoMemory> for Refusal {
-    ghost from_gives = { λ _ r. Reports 72 (codes "Memory") 0 r };
+    ghost from_gives = { λ _ r. Reports (record { number = 72; name = codes "Memory"; at = 0 }) r };
 
     fn from(_fault: NoMemory) -> Refusal {
         Refusal {
@@ -108,7 +108,7 @@ impl From<NoMemory> for Refusal {
 }
 
 impl From<EmitFault> for Refusal {
-    ghost from_gives = { λ f r. Reports (emitting.fault_number f) (emitting.fault_name f) 0 r };
+    ghost from_gives = { λ f r. Reports (record { number = emitting.fault_number f; name = emitting.fault_name f; at = 0 }) r };
 
     fn from(fault: EmitFault) -> Refusal {
         Refusal {
