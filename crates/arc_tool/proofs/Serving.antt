@@ -1,6 +1,5 @@
 -- What the program answers where a stage before the end refuses, or a device fails.
-use Rattle.std.proofs.Common.{◌≡◌, ℕ, List, Option, Result, Err, refl, sym, subst, ⊎_elim}
-use Rattle.arc_code.specs.declared.counted.Counted.{Counted}
+use Rattle.std.proofs.Common.{◌≡◌, ℕ, List, Result, Err, refl, sym, subst, ⊎_elim}
 use Rattle.arc_machine.specs.declared.stop.Stop.{Stop}
 use Rattle.arc_tool.specs.declared.refusal.Refusal.{Refusal}
 use Rattle.arc_tool.specs.declared.report.Trouble.{Trouble}
@@ -9,24 +8,17 @@ use Rattle.arc_tool.specs.declared.run.ToolFault.TheVariants.{Refused, Memory, I
 use Rattle.arc_tool.specs.Refused.{IsRefusal}
 use Rattle.arc_tool.specs.Ran.{Untouched, Blames, blamed}
 use Rattle.arc_tool.specs.Status.{BecomesTrouble, trouble_of}
-use Rattle.arc_tool.specs.Served.{Checks, Lists, RunsTo, device_of}
+use Rattle.arc_tool.specs.Served.{RunsTo, UnlessRefused, device_of}
 
-module _ {W : Type 0} (contents : W → Option (List ℕ)) (failed : Type 0) (source : List ℕ) (o : Counted W) (r : Refusal) (t : Trouble) (is : IsRefusal source r) (becomes : BecomesTrouble r t) where
-  pub check_refused : Checks contents failed source (Err t) o o
-  check_refused = ⊎_elim
-      (λ memory. subst (λ x. Checks contents failed source (Err x) o o) (sym memory.1) refl)
-      (λ other. subst (λ x. Checks contents failed source (Err x) o o) (sym other.1) (is, refl))
-      becomes
-
-  pub list_refused : Lists contents failed source (Err t) o o
-  list_refused = ⊎_elim
-      (λ memory. subst (λ x. Lists contents failed source (Err x) o o) (sym memory.1) refl)
-      (λ other. subst (λ x. Lists contents failed source (Err x) o o) (sym other.1) (is, refl))
-      becomes
+pub refused_so : (source : List ℕ) (r : Refusal) (t : Trouble) (kept : Type 0) (done : Trouble → Type 0) → IsRefusal source r → BecomesTrouble r t → kept → UnlessRefused source (Err t) kept (done t)
+refused_so source r t kept done is becomes k = ⊎_elim
+    (λ memory. subst (λ x. UnlessRefused source (Err x) kept (done x)) (sym memory.1) k)
+    (λ other. subst (λ x. UnlessRefused source (Err x) kept (done x)) (sym other.1) (is, k))
+    becomes
 
 -- nothing was run, or a device failed in a run
 pub not_run : {I O : Type 0} (source : List ℕ) (answered : Result Stop ToolFault → Type 0) (i0 i1 : I) (o0 o1 : O) (f : ToolFault) → ((r : Refusal) → answered (Err (Refused r)) → IsRefusal source r)
-    → answered (Err f) → Untouched (Err f) i0 i1 o0 o1 → RunsTo source (Err (trouble_of f)) answered ((i1 ≡ i0) × (o1 ≡ o0))
+    → answered (Err f) → Untouched (Err f) i0 i1 o0 o1 → UnlessRefused source (Err (trouble_of f)) ((i1 ≡ i0) × (o1 ≡ o0)) (RunsTo (Err (trouble_of f)) answered)
 not_run source answered i0 i1 o0 o1 (Refused r) refused h u = (refused r h, u)
 not_run source answered i0 i1 o0 o1 Memory refused h u = u
 not_run source answered i0 i1 o0 o1 (Io f) refused h u = h

@@ -33,33 +33,26 @@ use Rattle.arc_tool.specs.Status.{line_of}
 abbrev pub Prints : {W : Type 0} → (contents : W → Option (List ℕ)) → (writer_failed : Type 0) → Result (Unit {0}) IoFault → List ℕ → (o0 o1 : Counted W) → Type 0
 Prints contents failed answer text o0 o1 = Written answer text (held_by contents o0) (held_by contents o1) (failures_of o0) (failures_of o1) failed
 
--- `check` says `ok` of a program
-abbrev pub Checks : {W : Type 0} → (contents : W → Option (List ℕ)) → (writer_failed : Type 0) → List ℕ → Result ℕ Trouble → (o0 o1 : Counted W) → Type 0
-Checks contents failed source (Ok s) o0 o1 = (s ≡ 0) × Accepted source × Prints contents failed (Ok tt) (codes "ok\n") o0 o1
-Checks contents failed source (Err (Io f)) o0 o1 = Accepted source × Prints contents failed (Err f) (codes "ok\n") o0 o1
-Checks contents failed source (Err (Refused r)) o0 o1 = IsRefusal source r × (o1 ≡ o0)
-Checks contents failed source (Err Memory) o0 o1 = o1 ≡ o0
-Checks contents failed source (Err _) o0 o1 = ⊥
+-- This text is the answer, with the status 0, or the writer failed.
+abbrev pub Says : {W : Type 0} → (contents : W → Option (List ℕ)) → (writer_failed : Type 0) → List ℕ → Result ℕ Trouble → (o0 o1 : Counted W) → Type 0
+Says contents failed text (Ok s) o0 o1 = (s ≡ 0) × Prints contents failed (Ok tt) text o0 o1
+Says contents failed text (Err (Io f)) o0 o1 = Prints contents failed (Err f) text o0 o1
+Says contents failed text (Err _) o0 o1 = ⊥
 
--- `code` lists the code of a program
-abbrev pub Lists : {W : Type 0} → (contents : W → Option (List ℕ)) → (writer_failed : Type 0) → List ℕ → Result ℕ Trouble → (o0 o1 : Counted W) → Type 0
-Lists contents failed source (Ok s) o0 o1 = (code : Program) × (s ≡ 0) × Compiles source code × Prints contents failed (Ok tt) (listing code.instrs) o0 o1
-Lists contents failed source (Err (Io f)) o0 o1 = (code : Program) × Compiles source code × Prints contents failed (Err f) (listing code.instrs) o0 o1
-Lists contents failed source (Err (Refused r)) o0 o1 = IsRefusal source r × (o1 ≡ o0)
-Lists contents failed source (Err Memory) o0 o1 = o1 ≡ o0
-Lists contents failed source (Err _) o0 o1 = ⊥
+-- `run` and `trace` answer what `run_text` and `trace_text` do, with the low 8 bits of the number with which the program ends as the status
+abbrev pub RunsTo : Result ℕ Trouble → (answered : Result Stop ToolFault → Type 0) → Type 0
+RunsTo (Ok s) answered = (n : ℤ) × (s ≡ low_byte n) × answered (Ok (stop.Ended n))
+RunsTo (Err (Fault f)) answered = answered (Ok (stop.Fault f))
+RunsTo (Err NoHeap) answered = answered (Ok stop.NoHeap)
+RunsTo (Err StepsUsed) answered = answered (Ok stop.StepsUsed)
+RunsTo (Err (Io f)) answered = answered (Err (tool_fault.Io f))
+RunsTo (Err _) answered = ⊥
 
--- `run` and `trace` answer what `run_text` and `trace_text` do, with the low 8 bits of the number with which the program ends as the status; where nothing was
--- run, all devices are as they were
-abbrev pub RunsTo : List ℕ → Result ℕ Trouble → (answered : Result Stop ToolFault → Type 0) → (kept : Type 0) → Type 0
-RunsTo source (Ok s) answered kept = (n : ℤ) × (s ≡ low_byte n) × answered (Ok (stop.Ended n))
-RunsTo source (Err (Fault f)) answered kept = answered (Ok (stop.Fault f))
-RunsTo source (Err NoHeap) answered kept = answered (Ok stop.NoHeap)
-RunsTo source (Err StepsUsed) answered kept = answered (Ok stop.StepsUsed)
-RunsTo source (Err (Io f)) answered kept = answered (Err (tool_fault.Io f))
-RunsTo source (Err (Refused r)) answered kept = IsRefusal source r × kept
-RunsTo source (Err Memory) answered kept = kept
-RunsTo source (Err _) answered kept = ⊥
+-- Where the source is refused, or memory was, the devices are kept as they were; else this is done with it.
+abbrev pub UnlessRefused : List ℕ → Result ℕ Trouble → (kept done : Type 0) → Type 0
+UnlessRefused source (Err (Refused r)) kept done = IsRefusal source r × kept
+UnlessRefused source (Err Memory) kept done = kept
+UnlessRefused source _ kept done = done
 
 -- the status of an end, or the trouble
 abbrev pub ended_with : Stop → Result ℕ Trouble
@@ -68,24 +61,21 @@ ended_with (stop.Fault f) = Err (Fault f)
 ended_with stop.NoHeap = Err NoHeap
 ended_with stop.StepsUsed = Err StepsUsed
 
+-- `check` says `ok` of a program, and `code` lists its code
 abbrev pub Obeyed : {R W : Type 0} → (remaining : R → Option (List ℕ)) → (contents : W → Option (List ℕ)) → (writer_failed : Type 0)
     → Command → List ℕ → (steps : ℕ) → Result ℕ Trouble → (i0 i1 : Counted R) → (o0 o1 : Counted W) → Type 0
-Obeyed remaining contents failed Check source steps answer i0 i1 o0 o1 = Checks contents failed source answer o0 o1 × (i1 ≡ i0)
+Obeyed remaining contents failed Check source steps answer i0 i1 o0 o1 = UnlessRefused source answer (o1 ≡ o0) (Accepted source × Says contents failed (codes "ok\n") answer o0 o1) × (i1 ≡ i0)
 Obeyed remaining contents failed Run source steps answer i0 i1 o0 o1 =
-    RunsTo source answer (λ a. Answered source steps a (left_in remaining i0) (left_in remaining i1) (held_by contents o0) (held_by contents o1)) ((i1 ≡ i0) × (o1 ≡ o0))
+    UnlessRefused source answer ((i1 ≡ i0) × (o1 ≡ o0)) (RunsTo answer (λ a. Answered source steps a (left_in remaining i0) (left_in remaining i1) (held_by contents o0) (held_by contents o1)))
 Obeyed remaining contents failed Trace source steps answer i0 i1 o0 o1 =
-    RunsTo source answer (λ a. AnsweredTrace source steps a (left_in remaining i0) (left_in remaining i1) (held_by contents o0) (held_by contents o1) (failures_of o0) (failures_of o1) failed) ((i1 ≡ i0) × (o1 ≡ o0))
-Obeyed remaining contents failed Code source steps answer i0 i1 o0 o1 = Lists contents failed source answer o0 o1 × (i1 ≡ i0)
+    UnlessRefused source answer ((i1 ≡ i0) × (o1 ≡ o0))
+    (RunsTo answer (λ a. AnsweredTrace source steps a (left_in remaining i0) (left_in remaining i1) (held_by contents o0) (held_by contents o1) (failures_of o0) (failures_of o1) failed))
+Obeyed remaining contents failed Code source steps answer i0 i1 o0 o1 =
+    UnlessRefused source answer (o1 ≡ o0) ((code : Program) × Compiles source code × Says contents failed (listing code.instrs) answer o0 o1) × (i1 ≡ i0)
 
 -- this trouble, and nothing is read or printed
 abbrev pub Only : {I O : Type 0} → Trouble → Result ℕ Trouble → (i0 i1 : I) → (o0 o1 : O) → Type 0
 Only trouble answer i0 i1 o0 o1 = (answer ≡ Err trouble) × (i1 ≡ i0) × (o1 ≡ o0)
-
--- help is printed, with the status 0
-abbrev pub Helps : {W : Type 0} → (contents : W → Option (List ℕ)) → (writer_failed : Type 0) → List ℕ → Result ℕ Trouble → (o0 o1 : Counted W) → Type 0
-Helps contents failed text (Ok s) o0 o1 = (s ≡ 0) × Prints contents failed (Ok tt) text o0 o1
-Helps contents failed text (Err (Io f)) o0 o1 = Prints contents failed (Err f) text o0 o1
-Helps contents failed text (Err _) o0 o1 = ⊥
 
 -- the bytes of the file, or why there are none
 abbrev pub source_or : {B : Type 0} → Result B FileFault → Result B Trouble
@@ -98,7 +88,7 @@ abbrev pub Attempted : {R W : Type 0} → (remaining : R → Option (List ℕ)) 
     → Result Words WordsFault → Result (Bor (List ℕ)) FileFault → Result ℕ Trouble → (i0 i1 : Counted R) → (o0 o1 : Counted W) → Type 0
 Attempted remaining contents failed (Err words_fault.Usage) file answer i0 i1 o0 o1 = Only Usage answer i0 i1 o0 o1
 Attempted remaining contents failed (Err words_fault.Memory) file answer i0 i1 o0 o1 = Only Memory answer i0 i1 o0 o1
-Attempted remaining contents failed (Err (words_fault.Help text)) file answer i0 i1 o0 o1 = Helps contents failed (string_bytes text) answer o0 o1 × (i1 ≡ i0)
+Attempted remaining contents failed (Err (words_fault.Help text)) file answer i0 i1 o0 o1 = Says contents failed (string_bytes text) answer o0 o1 × (i1 ≡ i0)
 Attempted remaining contents failed (Ok words) (Err file_fault.Failed) answer i0 i1 o0 o1 = Only File answer i0 i1 o0 o1
 Attempted remaining contents failed (Ok words) (Err file_fault.NoMemory) answer i0 i1 o0 o1 = Only Memory answer i0 i1 o0 o1
 Attempted remaining contents failed (Ok words) (Ok source) answer i0 i1 o0 o1 = Obeyed remaining contents failed words.command source.now words.steps answer i0 i1 o0 o1

@@ -1,10 +1,14 @@
 //! The whole program, but for reading its file.
-ghost use Rattle.std.specs.Prelude.{◌≡◌, ◌-◌, ◌^◌, ◌<◌, ℕ, Result, Err};
+ghost use Rattle.std.specs.Prelude.{◌≡◌, ◌-◌, ◌^◌, ◌<◌, ℕ, Result, Err, codes};
 ghost use Rattle.arc_code.specs.Attempts.{HasFailedToRead, HasFailedToWrite};
 ghost use Rattle.arc_code.specs.Counting.{failures_of, inner_of};
+ghost use Rattle.arc_code.specs.Listing.{listing};
+ghost use Rattle.arc_code.specs.Running.{Program};
+ghost use Rattle.arc_source.specs.Accepted.{Accepted};
+ghost use Rattle.arc_tool.specs.Compiled.{Compiles};
 ghost use Rattle.arc_tool.specs.declared.report.Trouble.{Trouble};
 ghost use Rattle.arc_tool.specs.Ran.{Blames, blamed_by};
-ghost use Rattle.arc_tool.specs.Served.{Attempted, Obeyed, Prints, Reported, Checks, Lists, device_of, source_or, ended_with};
+ghost use Rattle.arc_tool.specs.Served.{Attempted, Obeyed, Prints, Reported, Says, UnlessRefused, device_of, source_or, ended_with};
 
 use crate::accept::accept;
 use crate::compile::compile;
@@ -147,8 +151,9 @@ fn check_source<W: Output>(
     output: &mut Counted<W>,
 ) -> Result<u8, Trouble>
     requires { failures_of output.old < 2 ^ 64 - 1 }
-    ensures checks { Checks W.contents (HasFailedToWrite W.writes W.flushes (inner_of output.new))
-        source.now result output.old output.new }
+    ensures checks { UnlessRefused source.now result (output.new ≡ output.old) (Accepted source.now
+        × Says W.contents (HasFailedToWrite W.writes W.flushes (inner_of output.new)) (codes "ok\n")
+        result output.old output.new) }
     ensures blamed { Blames (blamed_by device_of result) 0 0 (failures_of output.old) (failures_of output.new) ⊥
         (HasFailedToWrite W.writes W.flushes (inner_of output.new)) }
 {
@@ -164,8 +169,9 @@ fn list_source<W: Output>(
     output: &mut Counted<W>,
 ) -> Result<u8, Trouble>
     requires { failures_of output.old < 2 ^ 64 - 1 }
-    ensures lists { Lists W.contents (HasFailedToWrite W.writes W.flushes (inner_of output.new))
-        source.now result output.old output.new }
+    ensures lists { UnlessRefused source.now result (output.new ≡ output.old) ((code : Program) × Compiles source.now code
+        × Says W.contents (HasFailedToWrite W.writes W.flushes (inner_of output.new)) (listing code.instrs)
+        result output.old output.new) }
     ensures blamed { Blames (blamed_by device_of result) 0 0 (failures_of output.old) (failures_of output.new) ⊥
         (HasFailedToWrite W.writes W.flushes (inner_of output.new)) }
 {

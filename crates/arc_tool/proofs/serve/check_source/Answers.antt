@@ -1,12 +1,13 @@
+use Rattle.std.proofs.Common.{refl}
 use Rattle.std.proofs.lemmas.Result.{err_from_is_err_and}
 use Rattle.arc_code.specs.Counting.{failures_of}
-use Rattle.arc_tool.proofs.Serving.{check_refused, refused_blamed}
+use Rattle.arc_tool.proofs.Serving.{refused_so, refused_blamed}
 use Rattle.arc_tool.proofs.serve.check_source.Goals as goal
 
 pub returns-in_err-accept-clause-checks : goal.returns-in_err-accept-clause-checks
 returns-in_err-accept-clause-checks g c =
     let p = err_from_is_err_and c.from_residual.result c.from_residual.ensures.1 in
-    rw p.1 (check_refused g.W.Output.contents _ c.args.source.now c.args.output.now c.in_err-accept.field-0.0 p.0 c.in_err-accept.ensures.refused p.2)
+    rw p.1 (refused_so c.args.source.now c.in_err-accept.field-0.0 p.0 _ _ c.in_err-accept.ensures.refused p.2 refl)
 
 pub returns-in_err-accept-clause-blamed : goal.returns-in_err-accept-clause-blamed
 returns-in_err-accept-clause-blamed g c =
