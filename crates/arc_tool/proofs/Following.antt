@@ -26,7 +26,8 @@ use Rattle.arc_machine.proofs.Starting.{fresh_stands}
 use Rattle.arc_tool.specs.declared.lines.Left.{Left}
 use Rattle.arc_tool.specs.declared.lines.Left.TheVariants.{Stopped, Unread}
 use Rattle.arc_tool.specs.Progress.{run_of, rest_of, Takes, MakesObject, ReadsByte}
-use Rattle.arc_tool.specs.Traced.{Follows, Within, GoesOn, stop_seen, new_events}
+use Rattle.arc_tool.specs.SourceRun.{Follows, Within, GoesOn, stop_seen}
+use Rattle.arc_tool.specs.Traced.{new_events}
 
 -- something that may be left
 leavable : (i : Option (List ℕ)) → (rest : List ℕ) × Leaves i rest
@@ -158,18 +159,23 @@ goes_on_so p run answer.NoHeap s i t is makes asks = subst (MakesObject p) (sym 
 pub makes_so : {S : Type 0} → (out : S → Blocks) (p : Program) (m : Seen S) (s : State) → m.program ≡ p → StandsAs out m s → slice_get m.program.instrs m.spot.at ≡ Some (Plain Alloc) → slice_get p.instrs s.at ≡ Some (Plain Alloc)
 makes_so out p m s program stands makes = ap (slice_get p.instrs) (sym stands.at) ∙ ap (λ (q : Program). slice_get q.instrs m.spot.at) (sym program) ∙ makes
 
+-- the moves of a machine that was made for the code are a run of it
+abbrev pub follows_moves : {S : Type 0} → (out : S → Blocks) (p : Program) (store : S) (m : Seen S) (i0 i1 o0 o1 : Option (List ℕ)) (made : ℕ) (taken : List ℕ) (events : List Event)
+    → Moves out (fresh p store) m (start p) i0 i1 o0 o1 made taken events → (m.answer ≡ answer.NoHeap → slice_get m.program.instrs m.spot.at ≡ Some (Plain Alloc)) → Follows p made (left_of m.answer) i0 i1 events
+follows_moves out p store m i0 i1 o0 o1 made taken events moves makes = record {
+  taken = taken;
+  reads = moves.reads;
+  takes = λ rest l. takes_so p made taken rest m.answer moves.state events (moves.run rest l);
+  shown = λ rest l. ap run_seen (moves.run rest l) ∙ seen_of m.answer moves.state rest events;
+  goes_on = λ rest l.
+      goes_on_so p (run_of p (taken ++ rest) made) m.answer moves.state rest events (moves.run rest l)
+      (λ full. makes_so out p m moves.state moves.program moves.stands (makes full))
+      (λ broke. subst (λ (q : Program). IsAsking (step q moves.state)) moves.program (moves.asks broke));
+}
+
 pub follows : {S : Type 0} → (out : S → Blocks) (p : Program) (m : Seen S) (i0 i1 : Option (List ℕ)) (events : List Event) → Reaches out p m i0 i1 events
     → (m.answer ≡ answer.NoHeap → slice_get m.program.instrs m.spot.at ≡ Some (Plain Alloc)) → Follows p m.steps (left_of m.answer) i0 i1 events
-follows out p m i0 i1 events way makes = record {
-  taken = way.taken;
-  reads = way.moves.reads;
-  takes = λ rest l. takes_so p m.steps way.taken rest m.answer way.moves.state events (way.moves.run rest l);
-  shown = λ rest l. ap run_seen (way.moves.run rest l) ∙ seen_of m.answer way.moves.state rest events;
-  goes_on = λ rest l.
-      goes_on_so p (run_of p (way.taken ++ rest) m.steps) m.answer way.moves.state rest events (way.moves.run rest l)
-      (λ full. makes_so out p m way.moves.state way.moves.program way.moves.stands (makes full))
-      (λ broke. subst (λ (q : Program). IsAsking (step q way.moves.state)) way.moves.program (way.moves.asks broke));
-}
+follows out p m i0 i1 events way makes = follows_moves out p way.store m i0 i1 None None m.steps way.taken events way.moves makes
 
 -- what a machine had shown before is what such a run had
 pub follows_before : {S : Type 0} → (out : S → Blocks) (p : Program) (m : Seen S) (i0 i1 : Option (List ℕ)) (events earlier : List Event) (way : Reaches out p m i0 i1 events)
@@ -217,6 +223,14 @@ read_broke (answer.Faulted f) e = absurd (cc)
 read_broke (answer.Broken f) e = let there : f ≡ Read = cc in ap answer.Broken there
 read_broke answer.NoHeap e = absurd (cc)
 
+-- nor the writer
+pub write_broke : (a : Answer) → said a ≡ Err Write → a ≡ answer.Broken Write
+write_broke answer.Going e = absurd (cc)
+write_broke (answer.Ended n) e = absurd (cc)
+write_broke (answer.Faulted f) e = absurd (cc)
+write_broke (answer.Broken f) e = let there : f ≡ Write = cc in ap answer.Broken there
+write_broke answer.NoHeap e = absurd (cc)
+
 pub unread : (a : Answer) → said a ≡ Err Read → is_stopped a ≡ true
 unread a e = ap is_stopped (read_broke a e)
 
@@ -261,6 +275,15 @@ takes_none (suc n) some failed = failed
 pub never_fails : {T : Type 0} (new : T) → HasFailedToWrite {T = T} (λ bytes _ answer _. answer ≡ Done (length bytes)) (λ _ answer _. answer ≡ Done tt) new → ⊥
 never_fails new (inl (old, bytes, (some, answer, failed, tried))) = takes_none (length bytes) some (subst IsFailedWrite tried.decides failed)
 never_fails new (inr (old, (answer, undone, tried))) = subst IsUndone tried.decides undone
+
+-- how many steps a run made, by the answer of its machine
+pub within_so : (a : Answer) (made steps : ℕ) → made ≤ steps → (a ≡ answer.Going → made ≡ steps) → (is_stopped a ≡ true → made < steps) → (a ≡ answer.Broken Write → ⊥) → Within (left_of a) made steps
+within_so answer.Going made steps most used held written = used refl
+within_so (answer.Ended n) made steps most used held written = most
+within_so (answer.Faulted f) made steps most used held written = most
+within_so (answer.Broken Read) made steps most used held written = held refl
+within_so (answer.Broken Write) made steps most used held written = absurd (written refl)
+within_so answer.NoHeap made steps most used held written = held refl
 
 -- how many steps a run made that stopped before they were used
 pub within_stop : (t : Stop) (a : Answer) (made steps : ℕ) → said a ≡ Ok t → (t ≡ stop.StepsUsed → ⊥) → made ≤ steps → (is_stopped a ≡ true → made < steps) → Within (Stopped t) made steps

@@ -4,6 +4,7 @@ pub mod Lining
 pub mod Flushing
 pub mod Following
 pub mod Showing
+pub mod Meant
 pub mod Tracing
 pub mod Running
 pub mod Serving

@@ -1,15 +1,13 @@
--- What a run of compiled code shows, and that it is what the source means.
+-- What a run of compiled code prints, and that it is what the source means.
 use Rattle.std.proofs.Common.{◌≡◌, ℕ, suc, ◌⊎◌, ◌+◌, ◌-◌, ◌^◌, ◌<◌, ◌≤◌, ℤ, true, List, [], ◌∷◌, ◌++◌, Option, Some, None, Result, Ok, Err, refl, sym, ap, ◌∙◌, subst, append_assoc, ⊎_elim, arith, inl, inr}
 use Rattle.std.specs.Prelude.{slice_get}
 use Rattle.std.proofs.lemmas.List.{append-nil}
-use Rattle.std.specs.Io.KnownBytes.{Appends, Consumes, Keeps}
+use Rattle.std.specs.Io.KnownBytes.{Appends, Keeps}
 use Rattle.std.proofs.KnownBytes.{Appends-kept}
 use Rattle.arc_spec.specs.declared.event.Event.{Event}
-use Rattle.arc_spec.specs.Stepping.{Next, Goes, Asks, Ends, Faults, Stuck, Running, follow, further, on_top}
-use Rattle.arc_spec.specs.Correct as correct
+use Rattle.arc_spec.specs.Stepping.{Next, Goes, Asks, Ends, Faults, Stuck, follow, further, on_top}
 use Rattle.arc_spec.specs.Classes.{class_at}
-use Rattle.arc_spec.specs.Correct.{IsPrefix, Sight, run_seen}
-use Rattle.arc_spec.proofs.Steadiness.{steady}
+use Rattle.arc_spec.specs.Correct.{IsPrefix, run_seen}
 use Rattle.arc_code.specs.declared.code.IoFault.{IoFault}
 use Rattle.arc_code.specs.declared.code.IoFault.TheVariants.{Read, Write}
 use Rattle.arc_code.specs.declared.instr.Op.TheVariants.{Alloc}
@@ -18,7 +16,7 @@ use Rattle.arc_code.specs.Running.{Program, State, start, executes, step, alloca
 use Rattle.arc_heap.specs.Blocks.{Blocks}
 use Rattle.arc_heap.specs.Stock.{Stock}
 use Rattle.arc_machine.specs.declared.stop.Stop.{Stop}
-use Rattle.arc_machine.specs.declared.stop.Stop.TheVariants as stop
+use Rattle.arc_machine.specs.declared.stop.Stop.TheVariants.{StepsUsed}
 use Rattle.arc_steps.specs.declared.answer.Answer.{Answer}
 use Rattle.arc_steps.specs.declared.answer.Answer.TheVariants as answer
 use Rattle.arc_steps.specs.Views.{Seen, fresh}
@@ -26,15 +24,21 @@ use Rattle.arc_machine.specs.Said.{said}
 use Rattle.arc_turns.specs.Runs.{Leaves, Writes, Moves, IsAsking, Runs, Lacks, is_stopped, reached, next_events}
 use Rattle.arc_steps.specs.Steps.{bytes_of}
 use Rattle.arc_turns.proofs.Farther.{bytes_of-append}
+use Rattle.arc_tool.specs.declared.lines.Left.{Left}
+use Rattle.arc_tool.specs.declared.lines.Left.TheVariants.{Stopped, Unread}
 use Rattle.arc_tool.specs.declared.run.ToolFault.{ToolFault}
+use Rattle.arc_tool.specs.declared.run.ToolFault.TheVariants.{Io}
 use Rattle.arc_source.specs.Accepted.{meant}
 use Rattle.arc_tool.specs.Compiled.{Compiles}
 use Rattle.arc_tool.specs.declared.refusal.Refusal.{Refusal}
 use Rattle.arc_tool.specs.Refused.{IsRefusal}
-use Rattle.arc_tool.specs.Progress.{run_of, MakesObject, ReadsByte}
-use Rattle.arc_tool.specs.Ran.{Shown, Meant, RanCode, Ran, Answered, Becomes}
+use Rattle.arc_tool.specs.Progress.{run_of}
+use Rattle.arc_tool.specs.Printed.{Printed, PrintedPart, RanCode}
+use Rattle.arc_tool.specs.Ran.{PrintsAll, PrintsPart, Answered, Becomes}
+use Rattle.arc_tool.specs.SourceRun.{Follows}
 use Rattle.arc_machine.proofs.Starting.{fresh_stands}
-use Rattle.arc_tool.proofs.Following.{takes_so, makes_so, read_broke}
+use Rattle.arc_tool.proofs.Following.{follows_moves, left_of, left_stopped, left_unread, makes_so, read_broke, write_broke, within_so}
+use Rattle.arc_tool.proofs.Meant.{source_run}
 
 -- the bytes of more events
 starts_so : (a b : List Event) → IsPrefix a b → IsPrefix (bytes_of a) (bytes_of b)
@@ -42,9 +46,6 @@ starts_so a b p = (bytes_of p.0, ap bytes_of p.1 ∙ bytes_of-append a p.0)
 
 starts_trans : (a b c : List ℕ) → IsPrefix a b → IsPrefix b c → IsPrefix a c
 starts_trans a b c p q = (p.0 ++ q.0, q.1 ∙ ap (λ t. t ++ q.0) p.1 ∙ append_assoc a p.0 q.0)
-
-starts_along : (a b c : List ℕ) → a ≡ b → IsPrefix a c → IsPrefix b c
-starts_along a b c e p = (p.0, p.1 ∙ ap (λ t. t ++ p.0) e)
 
 -- the bytes that one step more prints
 follow_bytes : (n : Next State) (i : List ℕ) (t : List Event) → bytes_of (run_seen (follow n i t)).trace ≡ bytes_of t ++ bytes_of (next_events n)
@@ -54,13 +55,6 @@ follow_bytes (Asks k) (b ∷ i) t = sym (append-nil (bytes_of t))
 follow_bytes (Ends v) i t = sym (append-nil (bytes_of t))
 follow_bytes (Faults f) i t = sym (append-nil (bytes_of t))
 follow_bytes Stuck i t = sym (append-nil (bytes_of t))
-
-reached_trace : (a : Answer) (s : State) (i : List ℕ) (t : List Event) → (run_seen (reached a s i t)).trace ≡ t
-reached_trace answer.Going s i t = refl
-reached_trace (answer.Ended n) s i t = refl
-reached_trace (answer.Faulted f) s i t = refl
-reached_trace (answer.Broken f) s i t = refl
-reached_trace answer.NoHeap s i t = refl
 
 -- ---- an instruction that makes an object shows nothing
 
@@ -87,94 +81,18 @@ asking_silent (Ends n) asks = absurd asks
 asking_silent (Faults f) asks = absurd asks
 asking_silent Stuck asks = absurd asks
 
--- ---- a run of code
-
-module _ (p : Program) (steps made : ℕ) (within : made ≤ steps) (in0 in1 out0 out1 out2 : Option (List ℕ)) (taken : List ℕ) (trace given : List Event) (s : State) (reads : Consumes in0 in1 taken) (kept : Keeps out1 out2) where
-  abbrev pub Runs_to : Answer → Type 0
-  Runs_to a = (rest : List ℕ) → Leaves in1 rest → run_of p (taken ++ rest) made ≡ reached a s rest trace
-
-  grown : (input : List ℕ) → IsPrefix (seen p input made).trace (seen p input (suc made)).trace
-  grown input = (steady (step p) (start p)).grows input made (suc made) (omega arith)
-
-  -- from what it wrote and showed
-  ran : (b : Answer) → Runs_to b → (a : Result Stop IoFault) (written : List ℕ) → Appends out0 out1 written → ((rest : List ℕ) → Leaves in1 rest → Shown a p (taken ++ rest) steps made written) → RanCode p steps a in0 in1 out0 out2
-  ran b run a written writes shown = record {
-    made = made;
-    within = within;
-    taken = taken;
-    written = written;
-    reads = reads;
-    writes = Appends-kept out0 out1 out2 written writes kept;
-    takes = λ rest l. takes_so p made taken rest b s trace (run rest l);
-    shown = shown;
-  }
-
-  -- all bytes of the steps were written, and yet the writer failed
-  all_written : (a : Answer) → Runs_to a → Appends out0 out1 (bytes_of trace) → RanCode p steps (Err Write) in0 in1 out0 out2
-  all_written a run writes = ran a run (Err Write) (bytes_of trace) writes (λ rest l.
-      let input = taken ++ rest in
-      let now : (seen p input made).trace ≡ trace = ap (λ r. (run_seen r).trace) (run rest l) ∙ reached_trace a s rest trace in
-      let same : bytes_of (seen p input made).trace ≡ bytes_of trace = ap bytes_of now in
-      let next = starts_so (seen p input made).trace (seen p input (suc made)).trace (grown input) in
-      (([], sym same ∙ sym (append-nil (bytes_of (seen p input made).trace))), starts_along (bytes_of (seen p input made).trace) (bytes_of trace) (bytes_of (seen p input (suc made)).trace) same next, inr (sym same)))
-
-  -- a step was stopped that had given some of its events
-  part_written : (a : Answer) → Runs_to a → is_stopped a ≡ true → made < steps → Writes true (step p s) trace given out0 out1 → RanCode p steps (Err Write) in0 in1 out0 out2
-  part_written a run held fewer (others, split, writes) = ran a run (Err Write) (bytes_of (trace ++ given)) writes (λ rest l.
-      let input = taken ++ rest in
-      let here = run rest l ∙ stands a s rest trace held in
-      let now : bytes_of (seen p input made).trace ≡ bytes_of trace = ap (λ r. bytes_of (run_seen r).trace) here in
-      let next : bytes_of (seen p input (suc made)).trace ≡ bytes_of trace ++ bytes_of (next_events (step p s)) =
-      ap (λ r. bytes_of (run_seen (further (step p) r)).trace) here ∙ follow_bytes (step p s) rest trace in
-      let both = bytes_of-append trace given in
-      let all = ap (λ es. bytes_of trace ++ bytes_of es) split ∙ ap (λ t. bytes_of trace ++ t) (bytes_of-append given others) ∙ sym (append_assoc (bytes_of trace) (bytes_of given) (bytes_of others)) in
-      ((bytes_of given, both ∙ ap (λ t. t ++ bytes_of given) (sym now)), (bytes_of others, next ∙ all ∙ ap (λ t. t ++ bytes_of others) (sym both)), inl fewer))
-    where
-      stands : (a : Answer) (s : State) (i : List ℕ) (t : List Event) → is_stopped a ≡ true → reached a s i t ≡ Running s i t
-      stands answer.Going s i t held = absurd (cc)
-      stands (answer.Ended n) s i t held = absurd (cc)
-      stands (answer.Faulted f) s i t held = absurd (cc)
-      stands (answer.Broken f) s i t held = refl
-      stands answer.NoHeap s i t held = refl
-
-  -- no device failed
-  pub stopped : (a : Answer) (t : Stop) → said a ≡ Ok t → Runs_to a → Writes (is_stopped a) (step p s) trace given out0 out1 → (a ≡ answer.Going → made ≡ steps)
-      → (a ≡ answer.NoHeap → (slice_get p.instrs s.at ≡ Some (Plain Alloc)) × (made < steps)) → RanCode p steps (Ok t) in0 in1 out0 out2
-  stopped answer.Going t is run writes used lacks =
-      let there : stop.StepsUsed ≡ t = cc in
-      subst (λ x. RanCode p steps (Ok x) in0 in1 out0 out2) there
-      (ran answer.Going run (Ok stop.StepsUsed) (bytes_of trace) writes (λ rest l. (ap (λ r. bytes_of (run_seen r).trace) (run rest l), ap (λ r. (run_seen r).stop) (run rest l), used refl)))
-  stopped (answer.Ended n) t is run writes used lacks =
-      let there : stop.Ended n ≡ t = cc in
-      subst (λ x. RanCode p steps (Ok x) in0 in1 out0 out2) there
-      (ran (answer.Ended n) run (Ok (stop.Ended n)) (bytes_of trace) writes (λ rest l. (ap (λ r. bytes_of (run_seen r).trace) (run rest l), ap (λ r. (run_seen r).stop) (run rest l))))
-  stopped (answer.Faulted f) t is run writes used lacks =
-      let there : stop.Fault f ≡ t = cc in
-      subst (λ x. RanCode p steps (Ok x) in0 in1 out0 out2) there
-      (ran (answer.Faulted f) run (Ok (stop.Fault f)) (bytes_of trace) writes (λ rest l. (ap (λ r. bytes_of (run_seen r).trace) (run rest l), ap (λ r. (run_seen r).stop) (run rest l))))
-  stopped (answer.Broken f) t is run writes used lacks = absurd (cc)
-  stopped answer.NoHeap t is run (others, split, writes) used lacks =
-      let there : stop.NoHeap ≡ t = cc in
-      let stood = lacks refl in
-      let none : trace ++ given ≡ trace = ap (λ es. trace ++ es) (silent p s given others stood.0 split) ∙ append-nil trace in
-      subst (λ x. RanCode p steps (Ok x) in0 in1 out0 out2) there
-      (ran answer.NoHeap run (Ok stop.NoHeap) (bytes_of trace) (subst (λ es. Appends out0 out1 (bytes_of es)) none writes)
-      (λ rest l. (ap (λ r. bytes_of (run_seen r).trace) (run rest l), subst (MakesObject p) (sym (run rest l)) stood.0, stood.1)))
-
-  -- the writer failed, in the run or after it
-  pub unwritten : (a : Answer) → Runs_to a → (is_stopped a ≡ true → made < steps) → Writes (is_stopped a) (step p s) trace given out0 out1 → RanCode p steps (Err Write) in0 in1 out0 out2
-  unwritten answer.Going run held writes = all_written answer.Going run writes
-  unwritten (answer.Ended n) run held writes = all_written (answer.Ended n) run writes
-  unwritten (answer.Faulted g) run held writes = all_written (answer.Faulted g) run writes
-  unwritten answer.NoHeap run held writes = part_written answer.NoHeap run refl (held refl) writes
-  unwritten (answer.Broken g) run held writes = part_written (answer.Broken g) run refl (held refl) writes
-
-  -- the reader failed
-  pub unread_at : Runs_to (answer.Broken Read) → Writes true (step p s) trace given out0 out1 → IsAsking (step p s) → made < steps → RanCode p steps (Err Read) in0 in1 out0 out2
-  unread_at run (others, split, writes) asks fewer =
-      let none : trace ++ given ≡ trace = ap (λ es. trace ++ es) (none_given given others (sym split ∙ asking_silent (step p s) asks)) ∙ append-nil trace in
-      ran (answer.Broken Read) run (Err Read) (bytes_of trace) (subst (λ es. Appends out0 out1 (bytes_of es)) none writes)
-      (λ rest l. (ap (λ r. bytes_of (run_seen r).trace) (run rest l), subst (ReadsByte p) (sym (run rest l)) asks, fewer))
+-- all that was shown was written, but where the writer failed
+all_written : (p : Program) (s : State) (trace given : List Event) (o0 o1 : Option (List ℕ)) (a : Answer) → (a ≡ answer.NoHeap → slice_get p.instrs s.at ≡ Some (Plain Alloc))
+    → (a ≡ answer.Broken Read → IsAsking (step p s)) → (a ≡ answer.Broken Write → ⊥) → Writes (is_stopped a) (step p s) trace given o0 o1 → Appends o0 o1 (bytes_of trace)
+all_written p s trace given o0 o1 answer.Going makes asks written writes = writes
+all_written p s trace given o0 o1 (answer.Ended n) makes asks written writes = writes
+all_written p s trace given o0 o1 (answer.Faulted f) makes asks written writes = writes
+all_written p s trace given o0 o1 (answer.Broken Read) makes asks written (others, split, writes) =
+    let none = none_given given others (sym split ∙ asking_silent (step p s) (asks refl)) in
+    subst (λ es. Appends o0 o1 (bytes_of es)) (ap (λ es. trace ++ es) none ∙ append-nil trace) writes
+all_written p s trace given o0 o1 (answer.Broken Write) makes asks written writes = absurd (written refl)
+all_written p s trace given o0 o1 answer.NoHeap makes asks written (others, split, writes) =
+    subst (λ es. Appends o0 o1 (bytes_of es)) (ap (λ es. trace ++ es) (silent p s given others (makes refl) split) ∙ append-nil trace) writes
 
 -- ---- a run of a machine that was made for the code
 
@@ -203,59 +121,101 @@ module _ {S : Type 0} (out : S → Blocks) (stock : S → Option Stock) (refuses
   fewer : is_stopped new.answer ≡ true → runs.0 < steps
   fewer stopped = let made : new.steps ≡ 0 + runs.0 = runs.4.steps in omega (arith, held going stopped, none, made)
 
-  no_room_at : new.answer ≡ answer.NoHeap → (slice_get p.instrs runs.4.state.at ≡ Some (Plain Alloc)) × (runs.0 < steps)
-  no_room_at full =
-      (makes_so out p new runs.4.state runs.4.program runs.4.stands (lacking going full).op, fewer (ap is_stopped full))
+  makes : new.answer ≡ answer.NoHeap → slice_get new.program.instrs new.spot.at ≡ Some (Plain Alloc)
+  makes full = (lacking going full).op
 
-  for_machine : (a : Result Stop IoFault) → RanCode p steps a in0 in1 out0 out2 → RanCode old.program steps a in0 in1 out0 out2
-  for_machine a run = subst (λ q. RanCode q steps a in0 in1 out0 out2) (sym (ap (λ (m : Seen S). m.program) first)) run
+  asks : new.answer ≡ answer.Broken Read → IsAsking (step p runs.4.state)
+  asks broke = subst (λ (q : Program). IsAsking (step q runs.4.state)) runs.4.program (runs.4.asks broke)
 
-  pub machine_stopped : (t : Stop) → said new.answer ≡ Ok t → RanCode old.program steps (Ok t) in0 in1 out0 out2
-  machine_stopped t is = for_machine (Ok t) (stopped p steps runs.0 runs.3 in0 in1 out0 out1 out2 runs.1 runs.2 new.events runs.4.state runs.4.reads kept new.answer t is runs.4.run wrote all_made no_room_at)
+  -- the machine's moves, as a run of the code
+  abbrev run : Follows p runs.0 (left_of new.answer) in0 in1 runs.2
+  run = follows_moves out p store new in0 in1 out0 out1 runs.0 runs.1 runs.2 runs.4 makes
 
-  pub machine_unwritten : (f : IoFault) → f ≡ Write → RanCode old.program steps (Err f) in0 in1 out0 out2
-  machine_unwritten f is = subst (λ f. RanCode old.program steps (Err f) in0 in1 out0 out2) (sym is)
-      (for_machine (Err Write) (unwritten p steps runs.0 runs.3 in0 in1 out0 out1 out2 runs.1 runs.2 new.events runs.4.state runs.4.reads kept new.answer runs.4.run fewer wrote))
+  program_is : p ≡ old.program
+  program_is = sym (ap (λ (m : Seen S). m.program) first)
 
-  pub machine_unread : said new.answer ≡ Err Read → RanCode old.program steps (Err Read) in0 in1 out0 out2
-  machine_unread is =
-      let broke = read_broke new.answer is in
-      let asks = subst (λ (q : Program). IsAsking (step q runs.4.state)) runs.4.program (runs.4.asks broke) in
-      for_machine (Err Read) (unread_at p steps runs.0 runs.3 in0 in1 out0 out1 out2 runs.1 runs.2 new.events runs.4.state runs.4.reads kept
-      (λ rest l. runs.4.run rest l ∙ ap (λ a. reached a runs.4.state rest runs.2) broke) (subst (λ a. Writes (is_stopped a) (step p runs.4.state) runs.2 new.events out0 out1) broke wrote) asks (fewer (ap is_stopped broke)))
+  -- the writer didn't fail in the run
+  printed : (left : Left) → left_of new.answer ≡ left → (new.answer ≡ answer.Broken Write → ⊥) → Printed old.program steps left in0 in1 out0 out2
+  printed left is written =
+      let all : Appends out0 out1 (bytes_of runs.2) = all_written p runs.4.state runs.2 new.events out0 out1 new.answer
+      (λ full. makes_so out p new runs.4.state runs.4.program runs.4.stands (makes full)) asks written wrote in
+      subst (λ q. Printed q steps left in0 in1 out0 out2) program_is (subst (λ l. Printed p steps l in0 in1 out0 out2) is (record {
+        made = runs.0;
+        within = within_so new.answer runs.0 steps runs.3 all_made fewer written;
+        events = runs.2;
+        follows = run;
+        writes = Appends-kept out0 out1 out2 (bytes_of runs.2) all kept;
+      }))
+
+  pub machine_stopped : (t : Stop) → said new.answer ≡ Ok t → Printed old.program steps (Stopped t) in0 in1 out0 out2
+  machine_stopped t is = printed (Stopped t) (left_stopped new.answer t is) (λ broke. absurd (let no = sym (ap said broke) ∙ is in cc))
+
+  pub machine_unread : said new.answer ≡ Err Read → Printed old.program steps Unread in0 in1 out0 out2
+  machine_unread is = printed Unread (left_unread new.answer is) (λ broke. absurd (let no = sym (ap said broke) ∙ is in cc))
+
+  -- the flush failed after it
+  pub machine_held : (f : IoFault) → f ≡ Write → (t : Stop) → said new.answer ≡ Ok t → RanCode old.program steps (Err f) in0 in1 out0 out2
+  machine_held f is t stopped = subst (λ e. RanCode old.program steps (Err e) in0 in1 out0 out2) (sym is) (inr (t, machine_stopped t stopped))
+
+  -- the writer failed in a step
+  abbrev part : List ℕ
+  part = bytes_of new.events
+
+  abbrev Begins : Left → Type 0
+  Begins left =
+      (r : Follows p runs.0 left in0 in1 runs.2)
+      × ((rest : List ℕ) → Leaves in1 rest → IsPrefix (bytes_of runs.2 ++ part) (bytes_of (seen p (r.taken ++ rest) (suc runs.0)).trace))
+
+  broken_in : new.answer ≡ answer.Broken Write → (others : List Event) → next_events (step p runs.4.state) ≡ new.events ++ others → (rest : List ℕ) → Leaves in1 rest
+      → IsPrefix (bytes_of runs.2 ++ part) (bytes_of (seen p (runs.1 ++ rest) (suc runs.0)).trace)
+  broken_in broke others split rest l =
+      let here = runs.4.run rest l ∙ ap (λ a. reached a runs.4.state rest runs.2) broke in
+      let next : bytes_of (seen p (runs.1 ++ rest) (suc runs.0)).trace ≡ bytes_of runs.2 ++ bytes_of (next_events (step p runs.4.state)) =
+      ap (λ r. bytes_of (run_seen (further (step p) r)).trace) here ∙ follow_bytes (step p runs.4.state) rest runs.2 in
+      let all = ap (λ es. bytes_of runs.2 ++ bytes_of es) split ∙ ap (λ t. bytes_of runs.2 ++ t) (bytes_of-append new.events others) ∙ sym (append_assoc (bytes_of runs.2) part (bytes_of others)) in
+      (bytes_of others, next ∙ all)
+
+  pub machine_broken : said new.answer ≡ Err Write → RanCode old.program steps (Err Write) in0 in1 out0 out1
+  machine_broken is =
+      let broke = write_broke new.answer is in
+      let w = subst (λ a. Writes (is_stopped a) (step p runs.4.state) runs.2 new.events out0 out1) broke wrote in
+      let b = subst (λ a. Begins (left_of a)) broke (run, broken_in broke w.0 w.1) in
+      inl (subst (λ q. PrintedPart q steps in0 in1 out0 out1) program_is (record {
+        made = runs.0;
+        fewer = fewer (ap is_stopped broke);
+        events = runs.2;
+        follows = b.0;
+        part = part;
+        writes = subst (Appends out0 out1) (bytes_of-append runs.2 new.events) w.2;
+        begins = b.1;
+      }))
 
 -- ---- what the program means
 
-module _ (source : List ℕ) (p : Program) (compiled : Compiles source p) (steps made : ℕ) where
-  -- a run that is over shows the meaning
-  over : (input : List ℕ) (s : correct.Stop) → (seen p input made).stop ≡ Some s → meant compiled.program input (suc made) ≡ seen p input made
-  over input s h =
-      let same = compiled.steady.stays input made (suc made) s (omega arith) h in
-      compiled.behaves.stops input (suc made) s (ap (λ (x : Sight). x.stop) same ∙ h) ∙ same
+module _ (source : List ℕ) (p : Program) (compiled : Compiles source p) (steps : ℕ) (i0 i1 o0 o1 : Option (List ℕ)) where
+  pub prints_all : (left : Left) → Printed p steps left i0 i1 o0 o1 → PrintsAll source steps left i0 i1 o0 o1
+  prints_all left run = (source_run source p compiled steps run.made left i0 i1 run.events run.within run.follows, run.writes)
 
-  -- a run shows some first ones of the meaning's bytes
-  on_way : (input : List ℕ) → IsPrefix (bytes_of (seen p input (suc made)).trace) (bytes_of (meant compiled.program input (suc made)).trace)
-  on_way input = starts_so (seen p input (suc made)).trace (meant compiled.program input (suc made)).trace (compiled.behaves.follows input (suc made))
+  prints_part : PrintedPart p steps i0 i1 o0 o1 → PrintsPart source steps i0 i1 o0 o1
+  prints_part run = record {
+    made = run.made;
+    fewer = run.fewer;
+    run = source_run source p compiled run.made run.made (Stopped StepsUsed) i0 i1 run.events refl run.follows;
+    part = run.part;
+    writes = run.writes;
+    begins = run.begins;
+    means = λ rest l.
+        let input = run.follows.taken ++ rest in
+        let next = (seen p input (suc run.made)).trace in
+        let whole = (meant compiled.program input (suc run.made)).trace in
+        starts_trans (bytes_of run.events ++ run.part) (bytes_of next) (bytes_of whole) (run.begins rest l) (starts_so next whole (compiled.behaves.follows input (suc run.made)));
+  }
 
-  begun : (input written : List ℕ) → bytes_of (seen p input made).trace ≡ written → IsPrefix written (bytes_of (meant compiled.program input (suc made)).trace)
-  begun input written h =
-      let now = bytes_of (seen p input made).trace in
-      let next = bytes_of (seen p input (suc made)).trace in
-      let all = bytes_of (meant compiled.program input (suc made)).trace in
-      starts_along now written all h (starts_trans now next all (starts_so (seen p input made).trace (seen p input (suc made)).trace (compiled.steady.grows input made (suc made) (omega arith))) (on_way input))
-
-  meant_so : (a : Result Stop IoFault) (written input : List ℕ) → Shown a p input steps made written → Meant a written (meant compiled.program input (suc made))
-  meant_so (Ok (stop.Ended n)) written input h = let e = over input (correct.Ends n) h.1 in (ap (λ (x : Sight). bytes_of x.trace) e ∙ h.0, ap (λ (x : Sight). x.stop) e ∙ h.1)
-  meant_so (Ok (stop.Fault f)) written input h = let e = over input (correct.Faults f) h.1 in (ap (λ (x : Sight). bytes_of x.trace) e ∙ h.0, ap (λ (x : Sight). x.stop) e ∙ h.1)
-  meant_so (Ok stop.StepsUsed) written input h = begun input written h.0
-  meant_so (Ok stop.NoHeap) written input h = begun input written h.0
-  meant_so (Err Read) written input h = begun input written h.0
-  meant_so (Err Write) written input h = starts_trans written (bytes_of (seen p input (suc made)).trace) (bytes_of (meant compiled.program input (suc made)).trace) h.1 (on_way input)
-
--- a run of the source's code
-pub ran_source : (source : List ℕ) (p : Program) → Compiles source p → (steps : ℕ) (a : Result Stop IoFault) (in0 in1 out0 out1 : Option (List ℕ)) → RanCode p steps a in0 in1 out0 out1 → Ran source steps a in0 in1 out0 out1
-ran_source source p compiled steps a in0 in1 out0 out1 run =
-    record { code = p; compiled = compiled; run = run; means = λ rest l. meant_so source p compiled steps run.made a run.written (run.taken ++ rest) (run.shown rest l) }
+  -- a device failed
+  pub prints_failed : (f : IoFault) → RanCode p steps (Err f) i0 i1 o0 o1 → Answered source steps (Err (Io f)) i0 i1 o0 o1
+  prints_failed Read run = prints_all Unread run
+  prints_failed Write (inl run) = inl (prints_part run)
+  prints_failed Write (inr (t, run)) = inr (t, prints_all (Stopped t) run)
 
 -- ---- a source that is refused
 

@@ -14,9 +14,10 @@ use Rattle.arc_steps.specs.Views.{Seen, fresh}
 use Rattle.arc_turns.specs.Runs.{Runs, Leaves, is_stopped}
 use Rattle.arc_tool.specs.declared.lines.Left.{Left}
 use Rattle.arc_tool.specs.Lines.{events_text, open_after}
-use Rattle.arc_tool.specs.Traced.{new_events, Follows, Followed, Interrupted, Within, Reads}
+use Rattle.arc_tool.specs.SourceRun.{Follows, Within}
+use Rattle.arc_tool.specs.Traced.{new_events, Followed, Interrupted, Reads}
 use Rattle.arc_tool.proofs.Lining.{more_events, open_further}
-use Rattle.arc_tool.proofs.Following.{Reaches, starts, goes_on, follows, follows_before, left_of}
+use Rattle.arc_tool.proofs.Following.{Reaches, starts, goes_on, follows, follows_before, left_of, within_so}
 
 -- the machine's steps are steps of the code, and their events were written
 pub record Shows {S : Type 0} (out : S → Blocks) (p : Program) (names : List (List ℕ)) (m : Seen S) (begun : Bool) (in0 in1 out0 out1 : Option (List ℕ)) (writes0 writes1 : ℕ) : Type 0 where
@@ -87,6 +88,7 @@ module _ {S : Type 0} (out : S → Blocks) (p : Program) (names : List (List ℕ
         earlier = way.events;
         last = shown;
         within = within;
+        last_made = within_so new.answer (suc old.steps) (suc old.steps) (omega arith) (λ going. refl) (λ stopped. absurd (was_made more stopped)) (λ broke. absurd (was_made more (ap is_stopped broke)));
         follows = run.0;
         shown = run.1;
         held = o1;

@@ -2,8 +2,10 @@ pub mod Reports
 pub mod Compiled
 pub mod Refused
 pub mod Progress
-pub mod Ran
 pub mod Status
 pub mod Lines
+pub mod SourceRun
+pub mod Printed
+pub mod Ran
 pub mod Traced
 pub mod Served

@@ -1,62 +1,28 @@
 -- What a call that compiles a source and shows its run in lines did.
-use Rattle.std.specs.Prelude.{◌≡◌, ◌⊎◌, ℕ, suc, ◌+◌, ◌<◌, ◌≤◌, List, ◌++◌, codes, Bool, false, nat_eq, if◌then◌else◌, [], Option, Some, None, Result, Ok, Err, ⊤}
-use Rattle.std.specs.Io.KnownBytes.{Appends, Consumes}
+use Rattle.std.specs.Prelude.{◌≡◌, ◌⊎◌, ℕ, suc, ◌+◌, ◌<◌, List, ◌++◌, codes, Bool, false, nat_eq, if◌then◌else◌, [], Option, Result, Ok, Err, ⊤}
+use Rattle.std.specs.Io.KnownBytes.{Appends}
 use Rattle.arc_spec.specs.declared.event.Event.{Event}
-use Rattle.arc_spec.specs.Stepping.{Reached}
-use Rattle.arc_spec.specs.Correct as correct
-use Rattle.arc_spec.specs.Correct.{Sight, IsPrefix}
 use Rattle.arc_code.specs.declared.code.IoFault.{IoFault}
 use Rattle.arc_code.specs.declared.code.IoFault.TheVariants.{Read, Write}
 use Rattle.arc_code.specs.Counting.{AppendsPart}
-use Rattle.arc_code.specs.Running.{Program, State, seen}
+use Rattle.arc_code.specs.Running.{Program, seen}
 use Rattle.arc_code.specs.Written.{Written}
 use Rattle.arc_machine.specs.declared.stop.Stop.{Stop}
-use Rattle.arc_machine.specs.declared.stop.Stop.TheVariants.{Ended, Fault, StepsUsed, NoHeap}
 use Rattle.arc_turns.specs.Runs.{Leaves}
 use Rattle.arc_steps.specs.Views.{Seen}
 use Rattle.arc_tool.specs.declared.lines.Left.{Left}
 use Rattle.arc_tool.specs.declared.lines.Left.TheVariants.{Stopped, Unread}
 use Rattle.arc_tool.specs.declared.run.ToolFault.{ToolFault}
 use Rattle.arc_tool.specs.declared.run.ToolFault.TheVariants.{Refused, Memory, Io}
-use Rattle.arc_source.specs.Accepted.{meant}
-use Rattle.arc_tool.specs.Compiled.{Compiles, class_names}
+use Rattle.arc_tool.specs.Compiled.{class_names}
 use Rattle.arc_tool.specs.Lines.{trace_text, events_text, end_text, open_after}
-use Rattle.arc_tool.specs.Progress.{run_of, Takes, MakesObject, ReadsByte}
 use Rattle.arc_tool.specs.Refused.{IsRefusal}
 use Rattle.arc_tool.specs.Reports.{Names}
+use Rattle.arc_tool.specs.SourceRun.{Follows, SourceRun, Within}
 
 -- the events that a machine has of a step, where it has made one since it had made so many
 abbrev pub new_events : {S : Type 0} → Seen S → (before : ℕ) → List Event
 new_events m before = if nat_eq m.steps before then [] else m.events
-
--- the stop that is seen of a run that was left so, where it is over
-abbrev pub stop_seen : Left → Option correct.Stop
-stop_seen (Stopped (Ended n)) = Some (correct.Ends n)
-stop_seen (Stopped (Fault f)) = Some (correct.Faults f)
-stop_seen _ = None
-
--- how many of the steps that were allowed a run made that was left so: all, where they are used, and fewer where the next one had no room for an object or
--- broke
-abbrev pub Within : Left → (made steps : ℕ) → Type 0
-Within (Stopped StepsUsed) made steps = made ≡ steps
-Within (Stopped NoHeap) made steps = made < steps
-Within Unread made steps = made < steps
-Within _ made steps = made ≤ steps
-
--- where there was no room for an object, the code goes on with one, and where the reader failed, with an instruction that reads
-abbrev pub GoesOn : Left → Program → Reached State → Type 0
-GoesOn (Stopped NoHeap) p r = MakesObject p r
-GoesOn Unread p r = ReadsByte p r
-GoesOn _ p r = ⊤
-
--- A run of so many steps of the code, which took some first bytes of the reader's known ones: whatever comes after these, it takes exactly these, shows these
--- events, and is over where it was left so.
-pub record Follows (code : Program) (made : ℕ) (left : Left) (in0 in1 : Option (List ℕ)) (events : List Event) : Type 0 where
-  pub taken : List ℕ
-  pub reads : Consumes in0 in1 taken
-  pub takes : (rest : List ℕ) → Leaves in1 rest → Takes code made taken rest
-  pub shown : (rest : List ℕ) → Leaves in1 rest → seen code (taken ++ rest) made ≡ record { trace = events; stop = stop_seen left }
-  pub goes_on : (rest : List ℕ) → Leaves in1 rest → GoesOn left code (run_of code (taken ++ rest) made)
 
 -- the reader's failures rose by one where it failed, and else they are the same
 abbrev pub Reads : Left → (reads0 reads1 : ℕ) → (reader_failed : Type 0) → Type 0
@@ -81,6 +47,7 @@ pub record Interrupted (code : Program) (names : List (List ℕ)) (steps : ℕ) 
   pub earlier : List Event
   pub last : List Event
   pub within : made < steps
+  pub last_made : Within left (suc made) (suc made)
   pub follows : Follows code (suc made) left in0 in1 (earlier ++ last)
   pub shown : (rest : List ℕ) → Leaves in1 rest → (seen code (follows.taken ++ rest) made).trace ≡ earlier
   pub held : Option (List ℕ)
@@ -88,27 +55,25 @@ pub record Interrupted (code : Program) (names : List (List ℕ)) (steps : ℕ) 
   pub whole : Written (Ok tt) (events_text names false earlier) out0 held writes0 writes ⊤
   pub part : Written (Err fault) (events_text names (open_after false earlier) last) held out1 writes writes1 writer_failed
 
--- what a run showed, with its stop, is what the program means to show; where it had none, these are the first events
-abbrev pub Means : Option correct.Stop → List Event → Sight → Type 0
-Means (Some s) events m = m ≡ record { trace = events; stop = Some s }
-Means None events m = IsPrefix events m.trace
+-- the text of a run
+abbrev pub text_of : {source : List ℕ} {steps : ℕ} (left : Left) {in0 in1 : Option (List ℕ)} → SourceRun source steps left in0 in1 → List ℕ
+text_of left run = trace_text (class_names run.compiled.program.tree) run.events left
 
--- A run of the source's code, of so many steps, that was left so; whatever comes after the bytes that it took, its events and its stop are those of the
--- program's meaning on that input, or the first ones. This is the text of them.
-pub record Traced (source : List ℕ) (made : ℕ) (left : Left) (in0 in1 : Option (List ℕ)) (text : List ℕ) : Type 0 where
-  pub code : Program
-  pub compiled : Compiles source code
-  pub events : List Event
-  pub follows : Follows code made left in0 in1 events
-  pub means : (rest : List ℕ) → Leaves in1 rest → Means (stop_seen left) events (meant compiled.program (follows.taken ++ rest) (suc made))
-  pub lines : text ≡ trace_text (class_names compiled.program.tree) events left
-
--- A run of the source's code, of at most so many steps, in which the writer failed within the lines of the last step's events, with what the program means.
-pub record BrokenOff (source : List ℕ) (steps : ℕ) (in0 in1 out0 out1 : Option (List ℕ)) (writes0 writes1 : ℕ) (writer_failed : Type 0) : Type 0 where
-  pub code : Program
-  pub compiled : Compiles source code
-  pub run : Interrupted code (class_names compiled.program.tree) steps Write in0 in1 out0 out1 writes0 writes1 writer_failed
-  pub means : (rest : List ℕ) → Leaves in1 rest → Means (stop_seen run.left) (run.earlier ++ run.last) (meant compiled.program (run.follows.taken ++ rest) (suc (suc run.made)))
+-- A run of the source's code, of at most so many steps, in which the writer failed within the lines of the last step's events: those of the steps before it
+-- were written whole, and some first bytes of its own. No further step was made.
+pub record BrokenOff (source : List ℕ) (steps : ℕ) (in0 in1 out0 out1 : Option (List ℕ)) : Type 0 where
+  pub before : ℕ
+  pub fewer : before < steps
+  pub left : Left
+  pub run : SourceRun source (suc before) left in0 in1
+  pub made : run.made ≡ suc before
+  pub earlier : List Event
+  pub last : List Event
+  pub all : run.events ≡ earlier ++ last
+  pub shown : (rest : List ℕ) → Leaves in1 rest → (seen run.code (run.follows.taken ++ rest) before).trace ≡ earlier
+  pub held : Option (List ℕ)
+  pub whole : Appends out0 held (events_text (class_names run.compiled.program.tree) false earlier)
+  pub part : AppendsPart held out1 (events_text (class_names run.compiled.program.tree) (open_after false earlier) last)
 
 -- a text was written, or where the writer failed some first bytes of it
 abbrev pub Reports : List ℕ → (out0 out1 : Option (List ℕ)) → (writes0 writes1 : ℕ) → (writer_failed : Type 0) → Type 0
@@ -128,9 +93,8 @@ abbrev pub AnsweredTrace : List ℕ → (steps : ℕ) → Result Stop ToolFault 
 AnsweredTrace source steps (Err (Refused r)) i0 i1 o0 o1 w0 w1 failed = IsRefusal source r × (Names (codes "Memory") r → ⊥)
 AnsweredTrace source steps (Err Memory) i0 i1 o0 o1 w0 w1 failed = Unit {0}
 AnsweredTrace source steps (Err (Io Read)) i0 i1 o0 o1 w0 w1 failed =
-    (made : ℕ) × (text : List ℕ) × Within Unread made steps × Traced source made Unread i0 i1 text × Reports text o0 o1 w0 w1 failed
+    (run : SourceRun source steps Unread i0 i1) × Reports (text_of Unread run) o0 o1 w0 w1 failed
 AnsweredTrace source steps (Err (Io Write)) i0 i1 o0 o1 w0 w1 failed =
-    BrokenOff source steps i0 i1 o0 o1 w0 w1 failed
-    ⊎ ((made : ℕ) × (stop : Stop) × (text : List ℕ) × Within (Stopped stop) made steps × Traced source made (Stopped stop) i0 i1 text × AppendsPart o0 o1 text)
+    BrokenOff source steps i0 i1 o0 o1 ⊎ ((stop : Stop) × (run : SourceRun source steps (Stopped stop) i0 i1) × AppendsPart o0 o1 (text_of (Stopped stop) run))
 AnsweredTrace source steps (Ok stop) i0 i1 o0 o1 w0 w1 failed =
-    (made : ℕ) × (text : List ℕ) × Within (Stopped stop) made steps × Traced source made (Stopped stop) i0 i1 text × Appends o0 o1 text
+    (run : SourceRun source steps (Stopped stop) i0 i1) × Appends o0 o1 (text_of (Stopped stop) run)

@@ -6,7 +6,8 @@ ghost use Rattle.arc_code.specs.Running.{IsSound, Program};
 ghost use Rattle.arc_turns.specs.Runs.{Lacks};
 ghost use Rattle.arc_steps.specs.Views.{fresh};
 ghost use Rattle.arc_machine.specs.declared.stop.Stop.TheVariants.{NoHeap};
-ghost use Rattle.arc_tool.specs.Ran.{RanCode, Answered, Blames, Untouched, blamed, blamed_by};
+ghost use Rattle.arc_tool.specs.Printed.{RanCode};
+ghost use Rattle.arc_tool.specs.Ran.{Answered, Blames, Untouched, blamed, blamed_by};
 
 use crate::compile::compile;
 use crate::refusal::Refusal;

@@ -1,8 +1,9 @@
 use Rattle.std.proofs.Common.{sym, subst, ap}
 use Rattle.std.proofs.lemmas.Result.{err_from_is_err_and}
 use Rattle.arc_code.specs.Running.{Program}
+use Rattle.arc_tool.specs.declared.lines.Left.TheVariants.{Stopped}
 use Rattle.arc_tool.specs.Compiled.{Compiles}
-use Rattle.arc_tool.proofs.Running.{ran_source, refused_so}
+use Rattle.arc_tool.proofs.Running.{prints_all, prints_failed, refused_so}
 use Rattle.arc_tool.proofs.run.run_text.Goals as goal
 
 pub returns-in_err-code-clause-answered : goal.returns-in_err-code-clause-answered
@@ -14,9 +15,9 @@ pub returns-in_err-stop-clause-answered : goal.returns-in_err-stop-clause-answer
 returns-in_err-stop-clause-answered g c =
     let p = err_from_is_err_and c.from_residual-in_err-stop.result c.from_residual-in_err-stop.ensures.1 in
     let compiled = subst (λ (q : Program). Compiles c.args.source.now q) (sym (ap (λ m. m.program) c.in_ok-machine.ensures)) c.in_ok-code.ensures.compiled in
-    rw (p.1, p.2) (ran_source c.args.source.now c.in_ok-machine.machine.program compiled c.args.steps _ _ _ _ _ c.in_err-stop.ensures.ran)
+    rw (p.1, p.2) (prints_failed c.args.source.now c.in_ok-machine.machine.program compiled c.args.steps _ _ _ _ c.in_err-stop.field-0.0 c.in_err-stop.ensures.ran)
 
 pub returns-clause-answered : goal.returns-clause-answered
 returns-clause-answered g c =
     let compiled = subst (λ (q : Program). Compiles c.args.source.now q) (sym (ap (λ m. m.program) c.in_ok-machine.ensures)) c.in_ok-code.ensures.compiled in
-    ran_source c.args.source.now c.in_ok-machine.machine.program compiled c.args.steps _ _ _ _ _ c.in_ok-stop.ensures.ran
+    prints_all c.args.source.now c.in_ok-machine.machine.program compiled c.args.steps _ _ _ _ (Stopped c.in_ok-stop.stop) c.in_ok-stop.ensures.ran
