@@ -25,14 +25,14 @@ not_run source answered i0 i1 o0 o1 (Io f) refused h u = h
 
 -- ---- which device is at fault
 
-pub refused_blamed : (w : ℕ) (W : Type 0) (r : Refusal) (t : Trouble) → BecomesTrouble r t → Blames (device_of t) 0 0 w w ⊥ W
+pub refused_blamed : (w : ℕ) (W : Type 0) (r : Refusal) (t : Trouble) → BecomesTrouble r t → Blames (device_of (Err t)) 0 0 w w ⊥ W
 refused_blamed w W r t becomes = ⊎_elim
-    (λ memory. subst (λ x. Blames (device_of x) 0 0 w w ⊥ W) (sym memory.1) (refl, refl))
-    (λ other. subst (λ x. Blames (device_of x) 0 0 w w ⊥ W) (sym other.1) (refl, refl))
+    (λ memory. subst (λ x. Blames (device_of (Err x)) 0 0 w w ⊥ W) (sym memory.1) (refl, refl))
+    (λ other. subst (λ x. Blames (device_of (Err x)) 0 0 w w ⊥ W) (sym other.1) (refl, refl))
     becomes
 
 module _ (r0 r1 w0 w1 : ℕ) (R W : Type 0) where
-  pub same_device : (f : ToolFault) → Blames (blamed f) r0 r1 w0 w1 R W → Blames (device_of (trouble_of f)) r0 r1 w0 w1 R W
+  pub same_device : (f : ToolFault) → Blames (blamed (Err f)) r0 r1 w0 w1 R W → Blames (device_of (Err (trouble_of f))) r0 r1 w0 w1 R W
   same_device (Refused r) h = h
   same_device Memory h = h
   same_device (Io f) h = h

@@ -17,7 +17,7 @@ use Rattle.arc_tool.specs.declared.run.ToolFault.TheVariants.{Refused, Memory, I
 use Rattle.arc_tool.specs.Compiled.{CompilesNamed}
 use Rattle.arc_tool.specs.Lines.{trace_text, events_text, end_text, open_after}
 use Rattle.arc_tool.specs.Ran as ran
-use Rattle.arc_tool.specs.Ran.{Becomes, Untouched, Blames, blamed_by}
+use Rattle.arc_tool.specs.Ran.{Becomes, Untouched, Blames}
 use Rattle.arc_tool.specs.Refused.{IsRefusal}
 use Rattle.arc_tool.specs.SourceRun.{SourceRun}
 use Rattle.arc_tool.specs.Traced.{Followed, Interrupted, AnsweredTrace, EndsTrace, text_of}
@@ -80,7 +80,7 @@ module _ (source : List ℕ) (p : Program) (names : List (List ℕ)) (compiled :
     ended Unread (Err Memory) run end = absurd end
 
     -- which device is at fault
-    pub blamed : (left : Left) (r : Result Stop ToolFault) → Followed p names steps left begun i0 i1 o0 o1 r0 r1 w0 w1 R → EndsTrace left begun r o1 o2 w1 w2 W → Blames (blamed_by ran.blamed r) r0 r1 w0 w2 R W
+    pub blamed : (left : Left) (r : Result Stop ToolFault) → Followed p names steps left begun i0 i1 o0 o1 r0 r1 w0 w1 R → EndsTrace left begun r o1 o2 w1 w2 W → Blames (ran.blamed r) r0 r1 w0 w2 R W
     blamed (Stopped t) (Ok s) run end = (run.reader, end.1.1 ∙ run.written.1)
     blamed (Stopped t) (Err (Io Write)) run end = (run.reader, end.2 ∙ ap (λ w. w + 1) run.written.1, end.3)
     blamed (Stopped t) (Err (Io Read)) run end = absurd (let no = end.0 in cc)

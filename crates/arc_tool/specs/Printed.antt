@@ -1,5 +1,5 @@
 -- A run of code, and what it printed.
-use Rattle.std.specs.Prelude.{◌⊎◌, ℕ, suc, ◌<◌, List, ◌++◌, Option, Result, Ok, Err}
+use Rattle.std.specs.Prelude.{◌⊎◌, ℕ, suc, ◌<◌, List, ◌++◌, Option, None, Some, Result, Ok, Err}
 use Rattle.std.specs.Io.KnownBytes.{Appends}
 use Rattle.arc_spec.specs.declared.event.Event.{Event}
 use Rattle.arc_spec.specs.Correct.{IsPrefix}
@@ -37,3 +37,8 @@ abbrev pub RanCode : Program → (steps : ℕ) → Result Stop IoFault → (in0 
 RanCode code steps (Ok stop) i0 i1 o0 o1 = Printed code steps (Stopped stop) i0 i1 o0 o1
 RanCode code steps (Err Read) i0 i1 o0 o1 = Printed code steps Unread i0 i1 o0 o1
 RanCode code steps (Err Write) i0 i1 o0 o1 = PrintedPart code steps i0 i1 o0 o1 ⊎ ((stop : Stop) × Printed code steps (Stopped stop) i0 i1 o0 o1)
+
+-- the device that failed, if one did
+abbrev pub failed_device : Result Stop IoFault → Option IoFault
+failed_device (Ok stop) = None
+failed_device (Err fault) = Some fault

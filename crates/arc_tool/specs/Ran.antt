@@ -48,13 +48,9 @@ Untouched (Ok stop) r0 r1 w0 w1 = Unit {0}
 Untouched (Err (Io f)) r0 r1 w0 w1 = Unit {0}
 Untouched (Err _) r0 r1 w0 w1 = (r1 ≡ r0) × (w1 ≡ w0)
 
--- the device that an answer blames, if it does, where this says which one a fault blames
-abbrev pub blamed_by : {A E : Type 0} → (E → Option IoFault) → Result A E → Option IoFault
-blamed_by of (Ok answer) = None
-blamed_by of (Err fault) = of fault
-
-abbrev pub blamed : ToolFault → Option IoFault
-blamed (Io fault) = Some fault
+-- the device that an answer blames, if it does
+abbrev pub blamed : Result Stop ToolFault → Option IoFault
+blamed (Err (Io fault)) = Some fault
 blamed _ = None
 
 -- A device is blamed only where it has failed and its failures rose by one; the reader's stay where the writer is blamed, and both devices' where none is.

@@ -93,9 +93,9 @@ Attempted remaining contents failed (Ok words) (Err file_fault.Failed) answer i0
 Attempted remaining contents failed (Ok words) (Err file_fault.NoMemory) answer i0 i1 o0 o1 = Only Memory answer i0 i1 o0 o1
 Attempted remaining contents failed (Ok words) (Ok source) answer i0 i1 o0 o1 = Obeyed remaining contents failed words.command source.now words.steps answer i0 i1 o0 o1
 
--- the device that trouble blames, if it does
-abbrev pub device_of : Trouble → Option IoFault
-device_of (Io fault) = Some fault
+-- the device that an answer blames, if it does
+abbrev pub device_of : Result ℕ Trouble → Option IoFault
+device_of (Err (Io fault)) = Some fault
 device_of _ = None
 
 -- the status, and what is written on standard error: nothing, or trouble in one line, of which a failing device may take some first bytes alone

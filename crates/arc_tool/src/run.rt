@@ -1,13 +1,13 @@
 //! Compiles a source and runs it.
-ghost use Rattle.std.specs.Prelude.{◌≡◌, ◌-◌, ◌^◌, ◌<◌, Ok, Some};
+ghost use Rattle.std.specs.Prelude.{◌≡◌, ◌-◌, ◌^◌, ◌<◌, Ok};
 ghost use Rattle.arc_code.specs.Attempts.{HasFailedToRead, HasFailedToWrite};
 ghost use Rattle.arc_code.specs.Counting.{failures_of, inner_of, left_in, held_by};
 ghost use Rattle.arc_code.specs.Running.{IsSound, Program};
 ghost use Rattle.arc_turns.specs.Runs.{Lacks};
 ghost use Rattle.arc_steps.specs.Views.{fresh};
 ghost use Rattle.arc_machine.specs.declared.stop.Stop.TheVariants.{NoHeap};
-ghost use Rattle.arc_tool.specs.Printed.{RanCode};
-ghost use Rattle.arc_tool.specs.Ran.{Answered, Blames, Untouched, blamed, blamed_by};
+ghost use Rattle.arc_tool.specs.Printed.{RanCode, failed_device};
+ghost use Rattle.arc_tool.specs.Ran.{Answered, Blames, Untouched, blamed};
 
 use crate::compile::compile;
 use crate::refusal::Refusal;
@@ -90,7 +90,7 @@ pub fn run_text<R: Input, W: Output>(
         (left_in R.remaining reader.old) (left_in R.remaining reader.new)
         (held_by W.contents writer.old) (held_by W.contents writer.new) }
     ensures untouched { Untouched result reader.old reader.new writer.old writer.new }
-    ensures caused { Blames (blamed_by blamed result) (failures_of reader.old) (failures_of reader.new)
+    ensures caused { Blames (blamed result) (failures_of reader.old) (failures_of reader.new)
         (failures_of writer.old) (failures_of writer.new)
         (HasFailedToRead R.reads (inner_of reader.new))
         (HasFailedToWrite W.writes W.flushes (inner_of writer.new)) }
@@ -116,7 +116,7 @@ fn run_machine<S: Store + Drop, R: Input, W: Output>(
         (left_in R.remaining reader.old) (left_in R.remaining reader.new)
         (held_by W.contents writer.old) (held_by W.contents writer.new) }
     ensures lacks { result ≡ Ok NoHeap → Lacks S.out S.stock S.refuses machine.new }
-    ensures caused { Blames (blamed_by (λ fault. Some fault) result) (failures_of reader.old) (failures_of reader.new)
+    ensures caused { Blames (failed_device result) (failures_of reader.old) (failures_of reader.new)
         (failures_of writer.old) (failures_of writer.new)
         (HasFailedToRead R.reads (inner_of reader.new))
         (HasFailedToWrite W.writes W.flushes (inner_of writer.new)) }

@@ -7,7 +7,7 @@ ghost use Rattle.arc_code.specs.Running.{Program};
 ghost use Rattle.arc_source.specs.Accepted.{Accepted};
 ghost use Rattle.arc_tool.specs.Compiled.{Compiles};
 ghost use Rattle.arc_tool.specs.declared.report.Trouble.{Trouble};
-ghost use Rattle.arc_tool.specs.Ran.{Blames, blamed_by};
+ghost use Rattle.arc_tool.specs.Ran.{Blames};
 ghost use Rattle.arc_tool.specs.Served.{Attempted, Obeyed, Prints, Reported, Says, UnlessRefused, device_of, source_or, ended_with};
 
 use crate::accept::accept;
@@ -47,7 +47,7 @@ pub fn serve<R: Input, W: Output, E: Output>(
     ensures { (answer : Result ℕ Trouble)
         × Attempted R.remaining W.contents (HasFailedToWrite W.writes W.flushes (inner_of output.new))
         words file.entry answer input.old input.new output.old output.new
-        × Blames (blamed_by device_of answer) (failures_of input.old) (failures_of input.new) (failures_of output.old) (failures_of output.new)
+        × Blames (device_of answer) (failures_of input.old) (failures_of input.new) (failures_of output.old) (failures_of output.new)
         (HasFailedToRead R.reads (inner_of input.new)) (HasFailedToWrite W.writes W.flushes (inner_of output.new))
         × Reported E.contents (HasFailedToWrite E.writes E.flushes (inner_of errors.new))
         answer result errors.old errors.new }
@@ -85,7 +85,7 @@ fn attempt<R: Input, W: Output>(
     requires writes { failures_of output.old < 2 ^ 64 - 1 }
     ensures attempted { Attempted R.remaining W.contents (HasFailedToWrite W.writes W.flushes (inner_of output.new))
         words file.entry result input.old input.new output.old output.new }
-    ensures blamed { Blames (blamed_by device_of result) (failures_of input.old) (failures_of input.new)
+    ensures blamed { Blames (device_of result) (failures_of input.old) (failures_of input.new)
         (failures_of output.old) (failures_of output.new)
         (HasFailedToRead R.reads (inner_of input.new)) (HasFailedToWrite W.writes W.flushes (inner_of output.new)) }
 {
@@ -126,7 +126,7 @@ fn obey<R: Input, W: Output>(
     requires writes { failures_of output.old < 2 ^ 64 - 1 }
     ensures obeyed { Obeyed R.remaining W.contents (HasFailedToWrite W.writes W.flushes (inner_of output.new))
         words.now.command source.now words.now.steps result input.old input.new output.old output.new }
-    ensures blamed { Blames (blamed_by device_of result) (failures_of input.old) (failures_of input.new)
+    ensures blamed { Blames (device_of result) (failures_of input.old) (failures_of input.new)
         (failures_of output.old) (failures_of output.new)
         (HasFailedToRead R.reads (inner_of input.new)) (HasFailedToWrite W.writes W.flushes (inner_of output.new)) }
 {
@@ -154,7 +154,7 @@ fn check_source<W: Output>(
     ensures checks { UnlessRefused source.now result (output.new ≡ output.old) (Accepted source.now
         × Says W.contents (HasFailedToWrite W.writes W.flushes (inner_of output.new)) (codes "ok\n")
         result output.old output.new) }
-    ensures blamed { Blames (blamed_by device_of result) 0 0 (failures_of output.old) (failures_of output.new) ⊥
+    ensures blamed { Blames (device_of result) 0 0 (failures_of output.old) (failures_of output.new) ⊥
         (HasFailedToWrite W.writes W.flushes (inner_of output.new)) }
 {
     accept(alloc, source)?;
@@ -172,7 +172,7 @@ fn list_source<W: Output>(
     ensures lists { UnlessRefused source.now result (output.new ≡ output.old) ((code : Program) × Compiles source.now code
         × Says W.contents (HasFailedToWrite W.writes W.flushes (inner_of output.new)) (listing code.instrs)
         result output.old output.new) }
-    ensures blamed { Blames (blamed_by device_of result) 0 0 (failures_of output.old) (failures_of output.new) ⊥
+    ensures blamed { Blames (device_of result) 0 0 (failures_of output.old) (failures_of output.new) ⊥
         (HasFailedToWrite W.writes W.flushes (inner_of output.new)) }
 {
     let code = compile(alloc, source)?;

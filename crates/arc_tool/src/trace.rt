@@ -8,7 +8,7 @@ ghost use Rattle.arc_turns.specs.Runs.{Lacks};
 ghost use Rattle.arc_steps.specs.Views.{fresh};
 ghost use Rattle.arc_machine.specs.declared.stop.Stop.TheVariants.{NoHeap};
 ghost use Rattle.arc_tool.specs.Compiled.{bytes_of_name};
-ghost use Rattle.arc_tool.specs.Ran.{Blames, Untouched, blamed, blamed_by};
+ghost use Rattle.arc_tool.specs.Ran.{Blames, Untouched, blamed};
 ghost use Rattle.arc_tool.specs.declared.lines.Left.TheVariants.{Stopped};
 ghost use Rattle.arc_tool.specs.Lines.{events_text, open_after};
 ghost use Rattle.arc_tool.specs.Traced.{AnsweredTrace, EndsTrace, Followed, Interrupted, new_events};
@@ -49,7 +49,7 @@ pub fn trace_text<R: Input, W: Output>(
         (failures_of writer.old) (failures_of writer.new)
         (HasFailedToWrite W.writes W.flushes (inner_of writer.new)) }
     ensures untouched { Untouched result reader.old reader.new writer.old writer.new }
-    ensures caused { Blames (blamed_by blamed result) (failures_of reader.old) (failures_of reader.new)
+    ensures caused { Blames (blamed result) (failures_of reader.old) (failures_of reader.new)
         (failures_of writer.old) (failures_of writer.new)
         (HasFailedToRead R.reads (inner_of reader.new))
         (HasFailedToWrite W.writes W.flushes (inner_of writer.new)) }
