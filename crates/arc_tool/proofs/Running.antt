@@ -1,5 +1,5 @@
 -- What a run of compiled code prints, and that it is what the source means.
-use Rattle.std.proofs.Common.{◌≡◌, ℕ, suc, ◌⊎◌, ◌+◌, ◌-◌, ◌^◌, ◌<◌, ◌≤◌, ℤ, true, List, [], ◌∷◌, ◌++◌, Option, Some, None, Result, Ok, Err, refl, sym, ap, ◌∙◌, subst, append_assoc, ⊎_elim, arith, inl, inr}
+use Rattle.std.proofs.Common.{◌≡◌, ℕ, suc, ◌⊎◌, ◌+◌, ◌-◌, ◌^◌, ◌<◌, ◌≤◌, ℤ, true, List, [], ◌∷◌, ◌++◌, Option, Some, None, Ok, Err, refl, sym, ap, ◌∙◌, subst, append_assoc, ⊎_elim, arith, inl, inr}
 use Rattle.std.specs.Prelude.{slice_get}
 use Rattle.std.proofs.lemmas.List.{append-nil}
 use Rattle.std.specs.Io.KnownBytes.{Appends, Keeps}
@@ -27,17 +27,17 @@ use Rattle.arc_turns.proofs.Farther.{bytes_of-append}
 use Rattle.arc_tool.specs.declared.lines.Left.{Left}
 use Rattle.arc_tool.specs.declared.lines.Left.TheVariants.{Stopped, Unread}
 use Rattle.arc_tool.specs.declared.run.ToolFault.{ToolFault}
-use Rattle.arc_tool.specs.declared.run.ToolFault.TheVariants.{Io}
+use Rattle.arc_tool.specs.declared.run.ToolFault.TheVariants.{Refused, Memory, Io}
 use Rattle.arc_source.specs.Accepted.{meant}
 use Rattle.arc_tool.specs.Compiled.{Compiles}
 use Rattle.arc_tool.specs.declared.refusal.Refusal.{Refusal}
 use Rattle.arc_tool.specs.Refused.{IsRefusal}
-use Rattle.arc_tool.specs.Progress.{run_of}
+use Rattle.arc_tool.specs.Reports.{Becomes}
 use Rattle.arc_tool.specs.Printed.{Printed, PrintedPart, RanCode}
-use Rattle.arc_tool.specs.Ran.{PrintsAll, PrintsPart, Answered, Becomes}
+use Rattle.arc_tool.specs.Ran.{PrintsAll, PrintsPart, Answered}
 use Rattle.arc_tool.specs.SourceRun.{Follows}
 use Rattle.arc_machine.proofs.Starting.{fresh_stands}
-use Rattle.arc_tool.proofs.Following.{follows_moves, left_of, left_stopped, left_unread, makes_so, read_broke, write_broke, within_so}
+use Rattle.arc_tool.proofs.Following.{follows_moves, left_of, left_stopped, left_unread, makes_so, write_broke, within_so}
 use Rattle.arc_tool.proofs.Meant.{source_run}
 
 -- the bytes of more events
@@ -219,7 +219,7 @@ module _ (source : List ℕ) (p : Program) (compiled : Compiles source p) (steps
 
 -- ---- a source that is refused
 
-pub refused_so : (source : List ℕ) (steps : ℕ) (in0 in1 out0 out1 : Option (List ℕ)) (r : Refusal) (f : ToolFault) → IsRefusal source r → Becomes r f → Answered source steps (Err f) in0 in1 out0 out1
+pub refused_so : (source : List ℕ) (steps : ℕ) (in0 in1 out0 out1 : Option (List ℕ)) (r : Refusal) (f : ToolFault) → IsRefusal source r → Becomes Memory Refused r f → Answered source steps (Err f) in0 in1 out0 out1
 refused_so source steps in0 in1 out0 out1 r f is becomes = ⊎_elim
     (λ memory. subst (λ x. Answered source steps (Err x) in0 in1 out0 out1) (sym memory.1) tt)
     (λ other. subst (λ x. Answered source steps (Err x) in0 in1 out0 out1) (sym other.1) (is, other.0))

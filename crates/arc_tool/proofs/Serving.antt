@@ -3,17 +3,19 @@ use Rattle.std.proofs.Common.{◌≡◌, ℕ, List, Result, Err, refl, sym, subs
 use Rattle.arc_machine.specs.declared.stop.Stop.{Stop}
 use Rattle.arc_tool.specs.declared.refusal.Refusal.{Refusal}
 use Rattle.arc_tool.specs.declared.report.Trouble.{Trouble}
+use Rattle.arc_tool.specs.declared.report.Trouble.TheVariants as trouble
 use Rattle.arc_tool.specs.declared.run.ToolFault.{ToolFault}
 use Rattle.arc_tool.specs.declared.run.ToolFault.TheVariants.{Refused, Memory, Io}
 use Rattle.arc_tool.specs.Refused.{IsRefusal}
+use Rattle.arc_tool.specs.Reports.{Becomes}
 use Rattle.arc_tool.specs.Ran.{Untouched, Blames, blamed}
-use Rattle.arc_tool.specs.Status.{BecomesTrouble, trouble_of}
+use Rattle.arc_tool.specs.Status.{trouble_of}
 use Rattle.arc_tool.specs.Served.{RunsTo, UnlessRefused, device_of}
 
-pub refused_so : (source : List ℕ) (r : Refusal) (t : Trouble) (kept : Type 0) (done : Trouble → Type 0) → IsRefusal source r → BecomesTrouble r t → kept → UnlessRefused source (Err t) kept (done t)
+pub refused_so : (source : List ℕ) (r : Refusal) (t : Trouble) (kept done : Type 0) → IsRefusal source r → Becomes trouble.Memory trouble.Refused r t → kept → UnlessRefused source (Err t) kept done
 refused_so source r t kept done is becomes k = ⊎_elim
-    (λ memory. subst (λ x. UnlessRefused source (Err x) kept (done x)) (sym memory.1) k)
-    (λ other. subst (λ x. UnlessRefused source (Err x) kept (done x)) (sym other.1) (is, k))
+    (λ memory. subst (λ x. UnlessRefused source (Err x) kept done) (sym memory.1) k)
+    (λ other. subst (λ x. UnlessRefused source (Err x) kept done) (sym other.1) (is, k))
     becomes
 
 -- nothing was run, or a device failed in a run
@@ -25,7 +27,7 @@ not_run source answered i0 i1 o0 o1 (Io f) refused h u = h
 
 -- ---- which device is at fault
 
-pub refused_blamed : (w : ℕ) (W : Type 0) (r : Refusal) (t : Trouble) → BecomesTrouble r t → Blames (device_of (Err t)) 0 0 w w ⊥ W
+pub refused_blamed : (w : ℕ) (W : Type 0) (r : Refusal) (t : Trouble) → Becomes trouble.Memory trouble.Refused r t → Blames (device_of (Err t)) 0 0 w w ⊥ W
 refused_blamed w W r t becomes = ⊎_elim
     (λ memory. subst (λ x. Blames (device_of (Err x)) 0 0 w w ⊥ W) (sym memory.1) (refl, refl))
     (λ other. subst (λ x. Blames (device_of (Err x)) 0 0 w w ⊥ W) (sym other.1) (refl, refl))

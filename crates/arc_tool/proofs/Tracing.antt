@@ -17,8 +17,9 @@ use Rattle.arc_tool.specs.declared.run.ToolFault.TheVariants.{Refused, Memory, I
 use Rattle.arc_tool.specs.Compiled.{CompilesNamed}
 use Rattle.arc_tool.specs.Lines.{trace_text, events_text, end_text, open_after}
 use Rattle.arc_tool.specs.Ran as ran
-use Rattle.arc_tool.specs.Ran.{Becomes, Untouched, Blames}
+use Rattle.arc_tool.specs.Ran.{Untouched, Blames}
 use Rattle.arc_tool.specs.Refused.{IsRefusal}
+use Rattle.arc_tool.specs.Reports.{Becomes}
 use Rattle.arc_tool.specs.SourceRun.{SourceRun}
 use Rattle.arc_tool.specs.Traced.{Followed, Interrupted, AnsweredTrace, EndsTrace, text_of}
 use Rattle.arc_tool.proofs.Meant.{source_run}
@@ -103,7 +104,7 @@ run_untouched Unread begun (Err Memory) o1 o2 w1 w2 W a b c d end = absurd end
 
 -- ---- a source that is refused
 
-pub no_trace : (source : List ℕ) (steps : ℕ) (i0 i1 o0 o1 : Option (List ℕ)) (w0 w1 : ℕ) (W : Type 0) (r : Refusal) (f : ToolFault) → IsRefusal source r → Becomes r f → AnsweredTrace source steps (Err f) i0 i1 o0 o1 w0 w1 W
+pub no_trace : (source : List ℕ) (steps : ℕ) (i0 i1 o0 o1 : Option (List ℕ)) (w0 w1 : ℕ) (W : Type 0) (r : Refusal) (f : ToolFault) → IsRefusal source r → Becomes Memory Refused r f → AnsweredTrace source steps (Err f) i0 i1 o0 o1 w0 w1 W
 no_trace source steps i0 i1 o0 o1 w0 w1 W r f is becomes = ⊎_elim
     (λ memory. subst (λ x. AnsweredTrace source steps (Err x) i0 i1 o0 o1 w0 w1 W) (sym memory.1) tt)
     (λ other. subst (λ x. AnsweredTrace source steps (Err x) i0 i1 o0 o1 w0 w1 W) (sym other.1) (is, other.0))

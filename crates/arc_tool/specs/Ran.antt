@@ -11,7 +11,6 @@ use Rattle.arc_turns.specs.Runs.{Leaves}
 use Rattle.arc_steps.specs.Steps.{bytes_of}
 use Rattle.arc_tool.specs.declared.lines.Left.{Left}
 use Rattle.arc_tool.specs.declared.lines.Left.TheVariants.{Stopped, Unread}
-use Rattle.arc_tool.specs.declared.refusal.Refusal.{Refusal}
 use Rattle.arc_tool.specs.declared.run.ToolFault.{ToolFault}
 use Rattle.arc_tool.specs.declared.run.ToolFault.TheVariants.{Refused, Memory, Io}
 use Rattle.arc_source.specs.Accepted.{meant}
@@ -24,7 +23,7 @@ abbrev pub PrintsAll : List ℕ → (steps : ℕ) → Left → (in0 in1 out0 out
 PrintsAll source steps left i0 i1 o0 o1 = (run : SourceRun source steps left i0 i1) × Appends o0 o1 (bytes_of run.events)
 
 -- The writer failed in the step after those of a run, one of those that were allowed: what they printed was written, and some first bytes of what that step
--- prints; and these are the first ones that the program means to print.
+-- prints; and all of these are first ones of what the program means to print.
 pub record PrintsPart (source : List ℕ) (steps : ℕ) (in0 in1 out0 out1 : Option (List ℕ)) : Type 0 where
   pub made : ℕ
   pub fewer : made < steps
@@ -58,7 +57,3 @@ abbrev pub Blames : Option IoFault → (reads0 reads1 writes0 writes1 : ℕ) →
 Blames (Some Read) r0 r1 w0 w1 reader writer = (r1 ≡ r0 + 1) × reader
 Blames (Some Write) r0 r1 w0 w1 reader writer = (r1 ≡ r0) × (w1 ≡ w0 + 1) × writer
 Blames None r0 r1 w0 w1 reader writer = (r1 ≡ r0) × (w1 ≡ w0)
-
--- what a refusal becomes: a want of memory is reported as one
-abbrev pub Becomes : Refusal → ToolFault → Type 0
-Becomes r f = (Names (codes "Memory") r × (f ≡ Memory)) ⊎ ((Names (codes "Memory") r → ⊥) × (f ≡ Refused r))

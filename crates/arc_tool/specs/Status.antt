@@ -1,11 +1,9 @@
 -- The status with which the program ends, and the line that it writes on standard error, which are this project's own choice.
-use Rattle.std.specs.Prelude.{◌≡◌, ◌⊎◌, ℕ, List, ◌++◌, codes, decimal}
+use Rattle.std.specs.Prelude.{ℕ, List, ◌++◌, codes, decimal}
 use Rattle.arc_code.specs.Faulty as faulty
 use Rattle.arc_machine.specs.FaultNames as stopped
-use Rattle.arc_tool.specs.declared.refusal.Refusal.{Refusal}
 use Rattle.arc_tool.specs.declared.run.ToolFault.{ToolFault}
 use Rattle.arc_tool.specs.declared.run.ToolFault.TheVariants as tool_fault
-use Rattle.arc_tool.specs.Reports.{Names}
 use Rattle.arc_tool.specs.declared.report.Trouble.{Trouble}
 use Rattle.arc_tool.specs.declared.report.Trouble.TheVariants.{Usage, Refused, Memory, Fault, NoHeap, StepsUsed, Io, File}
 
@@ -25,10 +23,6 @@ report File = (106, named (codes "io ") 93 (codes "File"))
 
 abbrev pub line_of : Trouble → List ℕ
 line_of trouble = codes "arcc: " ++ (report trouble).1 ++ codes "\n"
-
--- what a refusal becomes: a want of memory is reported as one
-abbrev pub BecomesTrouble : Refusal → Trouble → Type 0
-BecomesTrouble r t = (Names (codes "Memory") r × (t ≡ Memory)) ⊎ ((Names (codes "Memory") r → ⊥) × (t ≡ Refused r))
 
 abbrev pub trouble_of : ToolFault → Trouble
 trouble_of (tool_fault.Refused r) = Refused r

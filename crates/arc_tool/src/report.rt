@@ -40,9 +40,10 @@ pub enum Trouble {
 }
 
 impl From<Refusal> for Trouble {
-    ghost use Rattle.arc_tool.specs.Status.{BecomesTrouble};
+    ghost use Rattle.arc_tool.specs.Reports.{Becomes};
+    ghost use Rattle.arc_tool.specs.declared.report.Trouble.TheVariants.{Memory, Refused};
 
-    ghost from_gives = { λ r t. BecomesTrouble r t };
+    ghost from_gives = { λ r t. Becomes Memory Refused r t };
 
     fn from(refusal: Refusal) -> Trouble {
         if refusal.is_memory() {

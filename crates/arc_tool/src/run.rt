@@ -38,9 +38,10 @@ pub enum ToolFault {
 }
 
 impl From<Refusal> for ToolFault {
-    ghost use Rattle.arc_tool.specs.Ran.{Becomes};
+    ghost use Rattle.arc_tool.specs.Reports.{Becomes};
+    ghost use Rattle.arc_tool.specs.declared.run.ToolFault.TheVariants.{Memory, Refused};
 
-    ghost from_gives = { λ r f. Becomes r f };
+    ghost from_gives = { λ r f. Becomes Memory Refused r f };
 
     fn from(refusal: Refusal) -> ToolFault {
         if refusal.is_memory() {
