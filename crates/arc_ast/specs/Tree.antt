@@ -1,5 +1,5 @@
 -- Trees without where they lie in memory.
-use Rattle.std.specs.Prelude.{ℕ, ℤ, List, [], ◌∷◌, Bool, Option, option_map}
+use Rattle.std.specs.Prelude.{ℕ, ℤ, List, [], ◌∷◌, map, Bool, Option, option_map}
 use Rattle.arc_ast.specs.declared.tree.BinaryOperator.{BinaryOperator}
 use Rattle.arc_ast.specs.declared.tree.UnaryOperator.{UnaryOperator}
 use Rattle.arc_ast.specs.declared.tree.Moment.{Moment}
@@ -243,8 +243,7 @@ abbrev pub variable_tree : Variable → VariableTree
 variable_tree v = record { at = v.at; qualifiers = v.qualifiers; name = v.name.items; initial = option_map expr_tree v.initial }
 
 abbrev pub variable_trees : List Variable → List VariableTree
-variable_trees [] = []
-variable_trees (v ∷ others) = variable_tree v ∷ variable_trees others
+variable_trees = map variable_tree
 
 abbrev mutual
   pub stmt_tree : Stmt → StmtTree
@@ -272,8 +271,7 @@ abbrev pub parameter_tree : Parameter → ParameterTree
 parameter_tree a = record { at = a.at; type = type_tree a.type_name; qualifiers = a.qualifiers; name = a.name.items }
 
 abbrev pub parameter_trees : List Parameter → List ParameterTree
-parameter_trees [] = []
-parameter_trees (a ∷ others) = parameter_tree a ∷ parameter_trees others
+parameter_trees = map parameter_tree
 
 abbrev pub parameters_tree : Parameters → ParametersTree
 parameters_tree (p.Listed all) = Listed (parameter_trees all.items)
@@ -284,51 +282,44 @@ function_tree f =
     record { at = f.at; name = f.name.items; result = result_tree f.result; parameters = parameters_tree f.parameters; body = option_map (λ b. stmt_trees b.items) f.body }
 
 abbrev pub function_trees : List Function → List FunctionTree
-function_trees [] = []
-function_trees (f ∷ others) = function_tree f ∷ function_trees others
+function_trees = map function_tree
 
 abbrev pub global_tree : Global → GlobalTree
 global_tree g = record { at = g.at; type = type_tree g.type_name; qualifiers = g.qualifiers; name = g.name.items; initial = g.initial }
 
 abbrev pub global_trees : List Global → List GlobalTree
-global_trees [] = []
-global_trees (g ∷ others) = global_tree g ∷ global_trees others
+global_trees = map global_tree
 
 abbrev pub head_tree : MethodHead → HeadTree
 head_tree h = record { at = h.at; sign = h.sign; selector = h.selector.items; result = result_tree h.result; parameters = parameter_trees h.parameters.items }
 
 abbrev pub head_trees : List MethodHead → List HeadTree
-head_trees [] = []
-head_trees (h ∷ others) = head_tree h ∷ head_trees others
+head_trees = map head_tree
 
 abbrev pub method_tree : Method → MethodTree
 method_tree m = record { head = head_tree m.head; body = stmt_trees m.body.items }
 
 abbrev pub method_trees : List Method → List MethodTree
-method_trees [] = []
-method_trees (m ∷ others) = method_tree m ∷ method_trees others
+method_trees = map method_tree
 
 abbrev pub field_tree : Field → FieldTree
 field_tree f = record { at = f.at; type = type_tree f.type_name; qualifiers = f.qualifiers; name = f.name.items; visibility = f.visibility }
 
 abbrev pub field_trees : List Field → List FieldTree
-field_trees [] = []
-field_trees (f ∷ others) = field_tree f ∷ field_trees others
+field_trees = map field_tree
 
 abbrev pub interface_tree : Interface → InterfaceTree
 interface_tree i =
     record { at = i.at; name = i.name.items; superclass_at = i.superclass_at; superclass = i.superclass.items; fields = field_trees i.fields.items; methods = head_trees i.methods.items }
 
 abbrev pub interface_trees : List Interface → List InterfaceTree
-interface_trees [] = []
-interface_trees (i ∷ others) = interface_tree i ∷ interface_trees others
+interface_trees = map interface_tree
 
 abbrev pub implementation_tree : Implementation → ImplementationTree
 implementation_tree i = record { at = i.at; name = i.name.items; fields = field_trees i.fields.items; methods = method_trees i.methods.items }
 
 abbrev pub implementation_trees : List Implementation → List ImplementationTree
-implementation_trees [] = []
-implementation_trees (i ∷ others) = implementation_tree i ∷ implementation_trees others
+implementation_trees = map implementation_tree
 
 abbrev pub unit_tree : TranslationUnit → UnitTree
 unit_tree u =
