@@ -17,7 +17,7 @@ use Rattle.arc_spec.specs.Meaning.{chosen}
 use Rattle.arc_spec.specs.Number.{converted, applied, combined, counted, low_byte, byte_or_end, is_zero}
 use Rattle.arc_spec.specs.Objects.{Object, Dying, Emptying, Gone, object_at, with_object, with_fields, with_strong_fields, in_phase, is_live, is_emptying, fields_of}
 use Rattle.arc_spec.specs.Resolved as resolved
-use Rattle.arc_spec.specs.Holding.{Held, nothing_held, Frame, Calling, Ending, Clearing, Waiter, Counted, holders, is_there, stacked, with_strong_globals, with_strong_field, on_place, turned_in, with_temporaries, with_variables, with_names, with_things, with_globals, lowered, raised, named, taken_by, gone_in, on_named, on_reference, on_field, declares, lets_go, resumed, all_nil, on_left, on_last, on_result, given_back, makes, with_field}
+use Rattle.arc_spec.specs.Holding.{Held, nothing_held, Frame, Calling, Ending, Clearing, Waiter, Counted, holders, is_there, stacked, with_strong_globals, with_strong_field, on_place, turned_in, with_temporaries, with_variables, with_names, with_things, with_globals, lowered, raised, named, taken_by, gone_in, on_named, on_field, declares, lets_go, resumed, all_nil, on_left, on_last, on_result, given_back, makes, with_field}
 use Rattle.arc_spec.specs.Stepping.{Next, Goes, Asks, Faults, Stuck, Along, Safe, Sound, on_top, on_found, only_if}
 use Rattle.arc_ir.specs.Acting.{Action, Program, State, lands, start, step, entry, keeps, goes, or_fault, has_level, enters, answers, taken, sends, allocates, difference, operates, begins_end, releases, runs_dealloc, clears, after_deallocs, clears_next, ends_class, end_goes_on, leaves, executes}
 use Rattle.arc_code.specs.declared.effect.Height.{Height}
@@ -308,8 +308,8 @@ module _ (p : Program) (R : resolved.Program) where
   found_leads (a ∷ list) zero go lt h = h a refl
   found_leads (a ∷ list) (suc i) go lt h = found_leads list i go (omega (arith, lt)) h
 
-  reference_leads : (r : ℕ) (names rest : List ℕ) (go : ℕ → List ℕ → Next State) → names ≡ r ∷ rest → Leads (go r rest) → Leads (on_reference names go)
-  reference_leads r names rest go e h = subst (λ l. Leads (on_reference l go)) (sym e) h
+  reference_leads : (r : ℕ) (names rest : List ℕ) (go : ℕ → List ℕ → Next State) → names ≡ r ∷ rest → Leads (go r rest) → Leads (on_top names go)
+  reference_leads r names rest go e h = subst (λ l. Leads (on_top l go)) (sym e) h
 
   named_leads : (r : ℕ) (held : Held) (next : Next State) → IsThere held.objects r → Leads next → Leads (on_named r held next)
   named_leads r held next there h = subst Leads (sym (named_goes r held next there)) h

@@ -10,7 +10,7 @@ use Rattle.arc_spec.specs.Number.{combined, is_zero}
 use Rattle.arc_spec.specs.Meaning.{chosen}
 use Rattle.arc_spec.specs.Objects.{Object, Dying, object_at, with_object, in_phase, is_live, is_emptying}
 use Rattle.arc_spec.specs.Stepping.{Next, Goes, Faults, on_top, on_two, on_found, only_if, Asks, Ends, Reached, Running, Ended, Faulted, Wedged, Along, fed, follow, further, after_steps}
-use Rattle.arc_spec.specs.Holding.{Held, Frame, Calling, Ending, Clearing, Waiter, with_strong_globals, with_strong_field, on_place, Counted, holders, all_places, is_there, all_nil, with_things, with_temporaries, with_variables, on_object, on_named, on_reference, named, declares, lets_go, on_left, on_last, on_result, on_field, with_names, resumed, gone_in}
+use Rattle.arc_spec.specs.Holding.{Held, Frame, Calling, Ending, Clearing, Waiter, with_strong_globals, with_strong_field, on_place, Counted, holders, all_places, is_there, all_nil, with_things, with_temporaries, with_variables, on_object, on_named, named, declares, lets_go, on_left, on_last, on_result, on_field, with_names, resumed, gone_in}
 use Rattle.arc_ir.specs.Acting.{Action, linked, Program, State, entry, or_fault, keeps, has_level, enters, answers, taken, sends, begins_end, releases, drops_all, ends_object, runs_dealloc, clears, after_deallocs, clears_next, ends_class, end_goes_on, leaves, allocates, executes, IsSound, start, step, seen}
 use Rattle.arc_code.specs.Instructions as instructions
 use Rattle.arc_code.specs.declared.instr.Op.TheVariants as ops
@@ -62,7 +62,7 @@ object_agrees : (found : Option Object) (go go' : Object → Next State) → ((o
 object_agrees None go go' h = refl
 object_agrees (Some o) go go' h = only_agrees (is_there o.phase) (go o) (go' o) (h o)
 
-reference_agrees : (names : List ℕ) (go go' : ℕ → List ℕ → Next State) → ((r : ℕ) (rest : List ℕ) → Agree (go r rest) (go' r rest)) → Agree (on_reference names go) (on_reference names go')
+reference_agrees : (names : List ℕ) (go go' : ℕ → List ℕ → Next State) → ((r : ℕ) (rest : List ℕ) → Agree (go r rest) (go' r rest)) → Agree (on_top names go) (on_top names go')
 reference_agrees [] go go' h = refl
 reference_agrees (r ∷ rest) go go' h = h r rest
 

@@ -100,11 +100,6 @@ abbrev pub on_named : {S : Type 0} → ℕ → Held → Next S → Next S
 on_named zero h next = next
 on_named (suc k) h next = on_object (object_at h.objects (suc k)) (λ _. next)
 
--- the last reference, and those before it
-abbrev pub on_reference : {S : Type 0} → List ℕ → (ℕ → List ℕ → Next S) → Next S
-on_reference [] go = Stuck
-on_reference (r ∷ rest) go = go r rest
-
 -- a further reference
 abbrev pub named : ℕ → Held → Held
 named r h = record h { names = r ∷ h.names }

@@ -11,8 +11,8 @@ pub data Next (S : Type 0) : Type 0 where
   Faults : faults.Fault → Next S
   Stuck : Next S
 
--- a step that needs a number on the stack, and the rest of it
-abbrev pub on_top : {S : Type 0} → List ℤ → (ℤ → List ℤ → Next S) → Next S
+-- a step that needs a number or a reference on its stack, and the rest of that
+abbrev pub on_top : {S A : Type 0} → List A → (A → List A → Next S) → Next S
 on_top [] go = Stuck
 on_top (v ∷ rest) go = go v rest
 
