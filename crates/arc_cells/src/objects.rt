@@ -1,7 +1,6 @@
 //! The objects of a running program, the places that name them, what waits, and the variables of the whole program.
 ghost use Rattle.std.specs.Prelude.{◌≡◌, ◌≢◌, ◌+◌, ◌-◌, ◌^◌, ◌<◌, ◌≤◌, ℕ, List, ◌∷◌, ◌++◌, Option, Some, IsNone, IsTrue, ◌↔◌, length, take, drop, nat_lt, slice_get, slice_set, slice_index_or, pos, get_or, IfOk};
 ghost use Rattle.std.specs.Int.{w64, cast_signed};
-ghost use Rattle.arc_spec.specs.Meaning.{most_levels};
 ghost use Rattle.arc_code.specs.Running.{program_of};
 ghost use Rattle.arc_cells.specs.declared.waiting.Waiting.{Waiting};
 ghost use Rattle.arc_cells.specs.declared.waiting.Waiting.TheVariants as waits;
@@ -45,7 +44,6 @@ pub struct Objects<S: Store + Drop> {
 
 impl<S: Store + Drop> Model for Objects<S> {
     ghost use Rattle.std.specs.Prelude.{◌≤◌, map};
-    ghost use Rattle.arc_spec.specs.Meaning.{most_levels};
     ghost use Rattle.arc_cells.specs.Standing.{Parts, items_of};
 
     ghost Value = { Parts S };
@@ -66,7 +64,7 @@ impl<S: Store + Drop> Model for Objects<S> {
       orders = map items_of a.orders.items;
     } };
 
-    ghost invariant = { λ a. most_levels ≤ a.frames.room };
+    ghost invariant = { λ a. MOST_LEVELS ≤ a.frames.room };
 }
 
 impl<S: Store + Drop> Objects<S> {
@@ -303,7 +301,7 @@ impl<S: Store + Drop> Objects<S> {
     /// Whether one call or end more may run.
     #[inline(always)]
     pub fn have_level(&self) -> bool
-        ensures { result ≡ nat_lt (length self.now.frames) most_levels }
+        ensures { result ≡ nat_lt (length self.now.frames) MOST_LEVELS }
     {
         self.frames.len() < MOST_LEVELS
     }
@@ -311,7 +309,7 @@ impl<S: Store + Drop> Objects<S> {
     /// A call that goes back to this instruction, of a function with this `self`.
     #[inline(always)]
     pub fn call(&mut self, back: usize, receiver: u64)
-        requires { length self.old.frames < most_levels }
+        requires { length self.old.frames < MOST_LEVELS }
         ensures { self.new ≡ entering self.old receiver (waits.Call back (words_of self.old)) }
     {
         let waiter = self.waiter();
@@ -322,7 +320,7 @@ impl<S: Store + Drop> Objects<S> {
     /// of this class, of so many. The object is `self`.
     #[inline(always)]
     pub fn enter_end(&mut self, back: usize, object: u64, class: usize, classes: usize)
-        requires { length self.old.frames < most_levels }
+        requires { length self.old.frames < MOST_LEVELS }
         ensures { self.new ≡ entering self.old object (waits.End back (words_of self.old) object (Some class) classes) }
     {
         let waiter = self.waiter();
@@ -353,7 +351,7 @@ impl<S: Store + Drop> Objects<S> {
     /// A function runs with this `self`, for which this waits.
     #[inline(always)]
     fn enter(&mut self, receiver: u64, frame: Waiting)
-        requires { length self.old.frames < most_levels }
+        requires { length self.old.frames < MOST_LEVELS }
         ensures { self.new ≡ entering self.old receiver frame }
     {
         self.frames.push(frame);

@@ -10,7 +10,7 @@ use Rattle.arc_spec.specs.declared.class.Gives.TheVariants as gives
 use Rattle.arc_spec.specs.Classes.{Class, class_at, lookup, same_gives, init_selector, is_root_init, field_order}
 use Rattle.arc_spec.specs.Objects.{Object, object_at}
 use Rattle.arc_spec.specs.Number.{is_zero}
-use Rattle.arc_spec.specs.Meaning.{most_levels}
+use Rattle.arc_spec.specs.declared.limits.TheConstants.{MOST_LEVELS}
 use Rattle.arc_spec.specs.Stepping.{Next, Goes, Asks, Ends, Faults, Stuck, Safe, Sound, Reached, Running, Ended, Faulted, Wedged, fed, follow, further, after_steps}
 use Rattle.arc_spec.specs.Holding.{Held, Frame, Calling, Ending, Clearing, Waiter, Counted, stacked, with_temporaries, with_names, raised, lowered, resumed, with_strong_field, stores_field}
 use Rattle.arc_code.specs.declared.instr.Instr.{Instr}
@@ -29,8 +29,8 @@ times_rise (suc j) zero n le = absurd (omega (arith, le))
 times_rise (suc j) (suc k) n le = let h = times_rise j k n (omega (arith, le)) in let a = times_more j n in let b = times_more k n in omega (arith, h, a, b)
 
 -- what runs and what waits have together no more than the room
-below_room : (most own rest frames : ℕ) → own ≤ most → rest ≤ frames * most → frames ≤ most_levels → own + rest ≤ room_for most
-below_room most own rest frames few waits levels = omega (arith, few, waits, times_rise frames most_levels most levels, times_more most_levels most)
+below_room : (most own rest frames : ℕ) → own ≤ most → rest ≤ frames * most → frames ≤ MOST_LEVELS → own + rest ≤ room_for most
+below_room most own rest frames few waits levels = omega (arith, few, waits, times_rise frames MOST_LEVELS most levels, times_more MOST_LEVELS most)
 
 -- what the root's own `init` takes and gives
 root_init_takes : (selector takes objects : ℕ) (g : Gives) → is_root_init selector takes objects g ≡ true → (takes ≡ 0) × (objects ≡ 0)
@@ -91,14 +91,14 @@ module _ {J F T : Type 0} (p : Program J F T) (height : ℕ → Height) (result 
   -- a state within the tables
   pub record Within (s : State) : Type 0 where
     pub above : Above (height s.at) (result s.at) s.frames s.stack s.held
-    pub levels : length s.frames ≤ most_levels
+    pub levels : length s.frames ≤ MOST_LEVELS
     pub waits : AllWait (result s.at) s.frames
 
   pub start_within : Within (start p)
   start_within = record { above = (omega arith, omega arith, omega arith, omega arith, omega arith); levels = omega arith; waits = tt }
 
   -- where a function runs that gives this
-  here : (s : State) (g : Gives) → result s.at ≡ g → Above (height s.at) g s.frames s.stack s.held → length s.frames ≤ most_levels → AllWait g s.frames → Within s
+  here : (s : State) (g : Gives) → result s.at ≡ g → Above (height s.at) g s.frames s.stack s.held → length s.frames ≤ MOST_LEVELS → AllWait g s.frames → Within s
   here s g e above levels waits = record {
     above = subst (λ k. Above (height s.at) k s.frames s.stack s.held) (sym e) above;
     levels = levels;
@@ -165,7 +165,7 @@ module _ {J F T : Type 0} (p : Program J F T) (height : ℕ → Height) (result 
       enters_within to self false is begins = tt
       enters_within to self true is begins =
           let a = above_at (s.at + 1) same in
-          let more = ltb-true (length s.frames) most_levels is in
+          let more = ltb-true (length s.frames) MOST_LEVELS is in
           here _ g begins.2
           (omega (arith, a.0, begins.0, fit.0.numbers, fit.1.0), omega (arith, a.1, d, e, begins.1, fit.0.names, fit.1.1), omega arith, omega arith, omega (arith, a.4, all_length s.held))
           (omega (arith, more)) (((omega (arith, a.2, fit.0.temporaries), omega (arith, a.3, fit.0.variables)), fit.1.0, fit.1.1), waits_at (s.at + 1) same)
@@ -199,7 +199,7 @@ module _ {J F T : Type 0} (p : Program J F T) (height : ℕ → Height) (result 
     begins_end_within back o class h false is a waits = tt
     begins_end_within back o class h true is a waits = record {
       above = (omega (arith, a.0), omega (arith, a.1), omega arith, omega arith, omega (arith, a.4, all_length h));
-      levels = let more = ltb-true (length s.frames) most_levels is in omega (arith, more);
+      levels = let more = ltb-true (length s.frames) MOST_LEVELS is in omega (arith, more);
       waits = ((omega (arith, a.2), a.3), waits);
     }
 
@@ -245,7 +245,7 @@ module _ {J F T : Type 0} (p : Program J F T) (height : ℕ → Height) (result 
   -- what an end or a return does, where nothing of the running function is left
   module _ (s : State) where
     abbrev Stands : List Frame → Type 0
-    Stands frames = Above no_height (result s.at) frames s.stack s.held × (length frames ≤ most_levels) × AllWait (result s.at) frames
+    Stands frames = Above no_height (result s.at) frames s.stack s.held × (length frames ≤ MOST_LEVELS) × AllWait (result s.at) frames
 
     ends_object_within : (back : ℕ) (w : Waiter) (o : ℕ) (others : List Frame) → Stands (Ending back w o None 0 ∷ others) → After Within (ends_object s back w o others)
     ends_object_within back w o others h = if_after Within (nat_eq (s.held.counts o) 0) _ _

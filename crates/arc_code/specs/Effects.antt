@@ -5,7 +5,7 @@ use Rattle.arc_ast.specs.declared.tree.Sign.TheVariants as signs
 use Rattle.arc_spec.specs.declared.class.Gives.{Gives}
 use Rattle.arc_spec.specs.declared.class.Gives.TheVariants as gives
 use Rattle.arc_spec.specs.Classes.{lookup}
-use Rattle.arc_spec.specs.Meaning.{most_levels}
+use Rattle.arc_spec.specs.declared.limits.TheConstants.{MOST_LEVELS}
 use Rattle.arc_spec.specs.Stepping.{Next, Goes, Asks, Ends, Faults, Stuck, Reached, Running, Ended, Faulted, Wedged, after_steps}
 use Rattle.arc_code.specs.declared.instr.Op.{Op}
 use Rattle.arc_code.specs.declared.instr.Op.TheVariants.{Num, Bin, Un, Narrow, Pop, Get, Set, GetGlobal, SetGlobal, PrintNum, PrintByte, GetChar, Declare, Nil, ReadSelf, ReadRef, ReadGlobal, ReadField, Hold, Again, Forget, Alloc, Finds, GetField, SetField, Differ, IsObject}
@@ -200,7 +200,7 @@ module _ {J F T : Type 0} (p : Program J F T) (height : ℕ → Height) (result 
 
 -- the room for what runs on all levels and for the program's start, each of which has at most so many
 abbrev pub room_for : (most : ℕ) → ℕ
-room_for most = suc most_levels * most
+room_for most = suc MOST_LEVELS * most
 
 -- where a run is, there are at most so many numbers, references and places
 abbrev pub HasAtMost : (numbers names places : ℕ) → Reached State → Type 0

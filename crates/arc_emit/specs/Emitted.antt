@@ -47,10 +47,6 @@ code_of p = record {
   classes = p.classes;
 }
 
--- the most instructions that code may have
-abbrev pub most_instrs : ℕ
-most_instrs = MOST_INSTRS
-
 -- there are more actions than code may have instructions
 abbrev pub IsLarge : acting.Program → Type 0
-IsLarge p = most_instrs < length p.actions
+IsLarge p = MOST_INSTRS < length p.actions

@@ -4,7 +4,7 @@ ghost use Rattle.arc_spec.specs.Correct.{Refines, Steady};
 ghost use Rattle.arc_ir.specs.Acting as acting;
 ghost use Rattle.arc_code.specs.Running as running;
 ghost use Rattle.arc_code.specs.Running.{program_of};
-ghost use Rattle.arc_emit.specs.Emitted.{code_of, most_instrs, IsLarge};
+ghost use Rattle.arc_emit.specs.Emitted.{code_of, IsLarge};
 
 use crate::classes::copy_classes;
 use crate::fault::EmitFault;
@@ -27,7 +27,7 @@ pub fn emit(alloc: Global, ir: &Ir, _table: &ClassTable) -> Result<Code, EmitFau
     ensures sound { IfOk result (λ code. running.IsSound (program_of code)) }
     ensures refines { IfOk result (λ code. Refines (acting.seen (acting.program_of ir.now)) (running.seen (program_of code))) }
     ensures steady { IfOk result (λ code. Steady (running.seen (program_of code))) }
-    ensures few_instrs { IfOk result (λ code. length code.instrs.items ≤ most_instrs) }
+    ensures few_instrs { IfOk result (λ code. length code.instrs.items ≤ MOST_INSTRS) }
     ensures large { IsErrOf result EmitFault.TooLarge → IsLarge (acting.program_of ir.now) }
 {
     write_code(alloc, ir)
@@ -35,8 +35,8 @@ pub fn emit(alloc: Global, ir: &Ir, _table: &ClassTable) -> Result<Code, EmitFau
 
 /// Whether code may have so many instructions. TooLarge: there would be over 16,777,216.
 pub fn fits(instrs: usize) -> Result<(), EmitFault>
-    ensures few { IfOk result (λ _. instrs ≤ most_instrs) }
-    ensures large { IfErr result (λ fault. (fault ≡ EmitFault.TooLarge) × (most_instrs < instrs)) }
+    ensures few { IfOk result (λ _. instrs ≤ MOST_INSTRS) }
+    ensures large { IfErr result (λ fault. (fault ≡ EmitFault.TooLarge) × (MOST_INSTRS < instrs)) }
 {
     if instrs > MOST_INSTRS {
         Err(EmitFault::TooLarge)
@@ -48,7 +48,7 @@ pub fn fits(instrs: usize) -> Result<(), EmitFault>
 /// The code of a program, whether it is sound or not.
 fn write_code(alloc: Global, ir: &Ir) -> Result<Code, EmitFault>
     ensures code { IfOk result (λ code. program_of code ≡ code_of (acting.program_of ir.now)) }
-    ensures few_instrs { IfOk result (λ code. length code.instrs.items ≤ most_instrs) }
+    ensures few_instrs { IfOk result (λ code. length code.instrs.items ≤ MOST_INSTRS) }
     ensures large { IsErrOf result EmitFault.TooLarge → IsLarge (acting.program_of ir.now) }
 {
     fits(ir.actions.len())?;

@@ -5,7 +5,7 @@ use Rattle.std.specs.Fmt.{digits}
 use Rattle.arc_lex.specs.declared.piece.Rule.{Rule}
 use Rattle.arc_lex.specs.Faults as lexing
 use Rattle.arc_lex.specs.Faults.{fault_of}
-use Rattle.arc_lex.specs.Source.{Tokens, most_bytes}
+use Rattle.arc_lex.specs.Source.{Tokens}
 use Rattle.arc_lex.specs.Tokens.{Tok}
 use Rattle.arc_lex.specs.private.Pieces.{piece, name_piece, number_piece, text_piece, character_piece, at_piece, line_piece, slash_piece, mark_piece}
 use Rattle.arc_ast.specs.Tree.{UnitTree}
@@ -30,6 +30,7 @@ use Rattle.arc_spec.specs.Meaning.{mean}
 use Rattle.arc_source.specs.Accepted.{Spelled}
 use Rattle.arc_known.specs.Known.{HasTrace, IsRefused, in_tokens, in_tree, in_depth, in_rules, reported}
 use Rattle.arc_known.proofs.Cutting.{tokens_of, cuts, fault_in, breaks}
+use Rattle.arc_lex.specs.declared.lex.TheConstants.{MOST_BYTES}
 
 -- `unfolding reading` opens what the computing of a tree and its meaning calls
 unfoldable pub reading : Unit {0}
@@ -48,7 +49,7 @@ tree_in (Some ts) = tree_read (read_whole body these unit ts)
 abbrev pub tree_of : List ℕ → Option UnitTree
 tree_of source = tree_in (tokens_of (suc (length source)) 0 true source)
 
-spelled : (source : List ℕ) (tree : UnitTree) → nat_le (length source) most_bytes ≡ true → tree_of source ≡ Some tree → Spelled source tree
+spelled : (source : List ℕ) (tree : UnitTree) → nat_le (length source) MOST_BYTES ≡ true → tree_of source ≡ Some tree → Spelled source tree
 spelled source tree short e = from_tokens (tokens_of (suc (length source)) 0 true source) refl e
   where
     from_tree : (ts : List Tok) (x : Read UnitTree) → read_whole body these unit ts ≡ x → tree_read x ≡ Some tree → (r : List Tok) × (read_whole body these unit ts ≡ Ok (tree, r))
@@ -59,7 +60,7 @@ spelled source tree short e = from_tokens (tokens_of (suc (length source)) 0 tru
     from_tokens None k f = cc
     from_tokens (Some ts) k f =
         let whole = from_tree ts (read_whole body these unit ts) refl f in
-        record { tokens = ts; cut = (leb-true (length source) most_bytes short, cuts (suc (length source)) 0 true source ts k); spelled = within ts tree whole.0 whole.1 }
+        record { tokens = ts; cut = (leb-true (length source) MOST_BYTES short, cuts (suc (length source)) 0 true source ts k); spelled = within ts tree whole.0 whole.1 }
 
 -- what is seen of a tree's meaning, where it breaks no rule
 abbrev pub unless_broken : (declared checked owned : List Violation) → Sight → Option Sight
@@ -77,7 +78,7 @@ unbroken [] (x ∷ b) c seen s e = cc
 unbroken (x ∷ a) b c seen s e = cc
 
 -- what is computed of a source is what its definition says
-pub known : (source input : List ℕ) (turns : ℕ) (events : List Event) (stop : Stop) → nat_le (length source) most_bytes ≡ true
+pub known : (source input : List ℕ) (turns : ℕ) (events : List Event) (stop : Stop) → nat_le (length source) MOST_BYTES ≡ true
     → seen_in input turns (tree_of source) ≡ Some (record { trace = events; stop = Some stop }) → HasTrace source input turns events stop
 known source input turns events stop short e = go (tree_of source) refl e
   where
@@ -117,7 +118,7 @@ abbrev at_in : Option Violation → ℕ
 at_in None = 0
 at_in (Some v) = v.at
 
-module _ (source : List ℕ) (number at : ℕ) (short : length source ≤ most_bytes) where
+module _ (source : List ℕ) (number at : ℕ) (short : length source ≤ MOST_BYTES) where
   by_fault : (p : ℕ) (rule : Rule) → fault_in (suc (length source)) 0 true source ≡ Some (p, rule) → violation_at ((lexing.report (fault_of rule p)).0) p ≡ violation_at number at → IsRefused source number at
   by_fault p rule k e = subst (IsRefused source number) (ap at_in e) (in_tokens rule (short, breaks (suc (length source)) 0 true source p rule k) (ap number_in e))
 
@@ -142,5 +143,5 @@ module _ (source : List ℕ) (number at : ℕ) (short : length source ≤ most_b
   by_any None k e = by_tokens (tokens_of (suc (length source)) 0 true source) refl e
   by_any (Some f) k e = by_fault f.0 f.1 k e
 
-pub refused : (source : List ℕ) (number at : ℕ) → nat_le (length source) most_bytes ≡ true → refusal source ≡ violation_at number at → IsRefused source number at
-refused source number at short e = by_any source number at (leb-true (length source) most_bytes short) (fault_in (suc (length source)) 0 true source) refl e
+pub refused : (source : List ℕ) (number at : ℕ) → nat_le (length source) MOST_BYTES ≡ true → refusal source ≡ violation_at number at → IsRefused source number at
+refused source number at short e = by_any source number at (leb-true (length source) MOST_BYTES short) (fault_in (suc (length source)) 0 true source) refl e

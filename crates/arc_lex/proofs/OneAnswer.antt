@@ -8,12 +8,13 @@ use Rattle.arc_lex.specs.declared.piece.Rule.TheVariants as rules
 use Rattle.arc_lex.specs.declared.bytes.Class.TheVariants as c
 use Rattle.arc_lex.specs.Bytes.{all_in, begins, run, is_blank}
 use Rattle.arc_lex.specs.Faults.{fault_of, IsFirst, IsLexFault, OnlyTokens, OnlyFault}
-use Rattle.arc_lex.specs.Source.{Tokens, most_bytes, IsToken, IsComment, Skipped, to_close, Breaks, Cuts, done, blank, skipped, token, FaultAt, here, after_blank, after_skipped, after_token}
+use Rattle.arc_lex.specs.Source.{Tokens, IsToken, IsComment, Skipped, to_close, Breaks, Cuts, done, blank, skipped, token, FaultAt, here, after_blank, after_skipped, after_token}
 use Rattle.arc_lex.specs.Tokens.{Sort, Tok}
 use Rattle.arc_lex.proofs.Firsts.{head_is, tail_is, first_opens, not_empty, blank_not, blank_opens_none, line_opens_none}
 use Rattle.arc_lex.proofs.OneRule.{one_rule, none_at_end}
 use Rattle.arc_lex.proofs.OneSort.{one_longest}
 use Rattle.arc_lex.proofs.Runs.{run_is}
+use Rattle.arc_lex.specs.declared.lex.TheConstants.{MOST_BYTES}
 
 -- no token begins with a blank, and none is empty
 no_blank : (b : ℕ) (rest xs : List ℕ) (s : Sort) (r : List ℕ) → is_blank b ≡ true → IsToken xs s → b ∷ rest ≡ xs ++ r → ⊥
@@ -184,7 +185,7 @@ record ByRule (source : List ℕ) (fault : LexFault) : Type 0 where
   is : fault ≡ fault_of rule at
   first : IsFirst source at rule
 
-by_rule : (source : List ℕ) (fault : LexFault) → IsLexFault source fault → ByRule source fault ⊎ (((fault ≡ f.TooLong) × (most_bytes < length source)) ⊎ (fault ≡ f.Memory))
+by_rule : (source : List ℕ) (fault : LexFault) → IsLexFault source fault → ByRule source fault ⊎ (((fault ≡ f.TooLong) × (MOST_BYTES < length source)) ⊎ (fault ≡ f.Memory))
 by_rule source (f.BadByte at) h = inl (record { at = at; rule = rules.BadByte; is = refl; first = h })
 by_rule source (f.OpenComment at) h = inl (record { at = at; rule = rules.OpenComment; is = refl; first = h })
 by_rule source (f.OpenLiteral at) h = inl (record { at = at; rule = rules.OpenLiteral; is = refl; first = h })
@@ -196,7 +197,7 @@ by_rule source f.Memory h = inr (inr refl)
 pub only_tokens : (source : List ℕ) (ts : List Tok) → Tokens source ts → OnlyTokens source ts
 only_tokens source ts (short, cut) = (λ others (_, other). sym (one_cut 0 true source ts cut 0 true source others refl refl refl other), λ other h. none other (by_rule source other h))
   where
-    none : (other : LexFault) → ByRule source other ⊎ (((other ≡ f.TooLong) × (most_bytes < length source)) ⊎ (other ≡ f.Memory)) → other ≡ f.Memory
+    none : (other : LexFault) → ByRule source other ⊎ (((other ≡ f.TooLong) × (MOST_BYTES < length source)) ⊎ (other ≡ f.Memory)) → other ≡ f.Memory
     none other (inl k) = absurd (cut_or_fault 0 true source ts cut 0 true source k.at k.rule refl refl k.first.1)
     none other (inr (inl (e, long))) = absurd (omega (arith, short, long))
     none other (inr (inr e)) = e
@@ -204,8 +205,8 @@ only_tokens source ts (short, cut) = (λ others (_, other). sym (one_cut 0 true 
 pub only_fault : (source : List ℕ) (fault : LexFault) → IsLexFault source fault → OnlyFault source fault
 only_fault source fault h = (λ ts (short, cut). (only_tokens source ts (short, cut)).1 fault h, λ other k. both other (by_rule source fault h) (by_rule source other k))
   where
-    both : (other : LexFault) → ByRule source fault ⊎ (((fault ≡ f.TooLong) × (most_bytes < length source)) ⊎ (fault ≡ f.Memory))
-        → ByRule source other ⊎ (((other ≡ f.TooLong) × (most_bytes < length source)) ⊎ (other ≡ f.Memory)) → (other ≡ fault) ⊎ ((other ≡ f.Memory) ⊎ (fault ≡ f.Memory))
+    both : (other : LexFault) → ByRule source fault ⊎ (((fault ≡ f.TooLong) × (MOST_BYTES < length source)) ⊎ (fault ≡ f.Memory))
+        → ByRule source other ⊎ (((other ≡ f.TooLong) × (MOST_BYTES < length source)) ⊎ (other ≡ f.Memory)) → (other ≡ fault) ⊎ ((other ≡ f.Memory) ⊎ (fault ≡ f.Memory))
     both other (inl a) (inl b) =
         let same = one_fault 0 true source a.at a.rule a.first.1 0 true source b.at b.rule refl refl refl b.first.1 in
         let at = same.0 in

@@ -4,8 +4,9 @@ use Rattle.arc_lex.specs.declared.fault.LexFault.{LexFault}
 use Rattle.arc_lex.specs.declared.fault.LexFault.TheVariants as f
 use Rattle.arc_lex.specs.declared.piece.Rule.{Rule}
 use Rattle.arc_lex.specs.declared.piece.Rule.TheVariants as rules
-use Rattle.arc_lex.specs.Source.{FaultAt, Tokens, most_bytes}
+use Rattle.arc_lex.specs.Source.{FaultAt, Tokens}
 use Rattle.arc_lex.specs.Tokens.{Tok}
+use Rattle.arc_lex.specs.declared.lex.TheConstants.{MOST_BYTES}
 
 -- a fault's number and its name, by which the compiler's users know it, and the byte that it names, counted from 0
 abbrev pub report : LexFault → ℕ × List ℕ × ℕ
@@ -14,7 +15,7 @@ report (f.OpenComment at) = (2, codes "OpenComment", at)
 report (f.OpenLiteral at) = (3, codes "OpenLiteral", at)
 report (f.Literal at) = (4, codes "Literal", at)
 report (f.Directive at) = (5, codes "Directive", at)
-report f.TooLong = (6, codes "TooLong", most_bytes)
+report f.TooLong = (6, codes "TooLong", MOST_BYTES)
 report f.Memory = (7, codes "Memory", 0)
 
 -- the fault of a broken rule at a place
@@ -27,7 +28,7 @@ fault_of rules.Directive at = f.Directive at
 
 -- the source is not too long, and this is the first place where a rule is broken, and the rule
 abbrev pub IsFirst : List ℕ → ℕ → Rule → Type 0
-IsFirst source at rule = (length source ≤ most_bytes) × FaultAt 0 true source at rule
+IsFirst source at rule = (length source ≤ MOST_BYTES) × FaultAt 0 true source at rule
 
 -- when each fault is answered. Want of memory may come at any source
 abbrev pub IsLexFault : List ℕ → LexFault → Type 0
@@ -36,7 +37,7 @@ IsLexFault source (f.OpenComment at) = IsFirst source at rules.OpenComment
 IsLexFault source (f.OpenLiteral at) = IsFirst source at rules.OpenLiteral
 IsLexFault source (f.Literal at) = IsFirst source at rules.Literal
 IsLexFault source (f.Directive at) = IsFirst source at rules.Directive
-IsLexFault source f.TooLong = most_bytes < length source
+IsLexFault source f.TooLong = MOST_BYTES < length source
 IsLexFault source f.Memory = Unit {0}
 
 -- But for want of memory the source has these tokens alone, and no fault.

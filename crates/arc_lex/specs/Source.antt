@@ -162,13 +162,9 @@ pub data FaultAt : ℕ → Bool → List ℕ → ℕ → Rule → Type 0 where
   after_token : (at : ℕ) (starts : Bool) (xs : List ℕ) (s : Sort) (rest : List ℕ) (p : ℕ) (rule : Rule) → Longest xs s rest → (IsComment (xs ++ rest) → ⊥)
       → Faultless starts (xs ++ rest) → FaultAt (at + length xs) false rest p rule → FaultAt at starts (xs ++ rest) p rule
 
--- the most bytes that a source has (the choice of this project)
-abbrev pub most_bytes : ℕ
-most_bytes = MOST_BYTES
-
 -- the tokens of a source
 abbrev pub Tokens : List ℕ → List Tok → Type 0
-Tokens source ts = (length source ≤ most_bytes) × Cuts 0 true source ts
+Tokens source ts = (length source ≤ MOST_BYTES) × Cuts 0 true source ts
 
 -- the bytes of each token's span are that token
 abbrev pub SpansSpell : List ℕ → List Tok → Type 0

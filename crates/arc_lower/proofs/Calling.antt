@@ -8,7 +8,7 @@ use Rattle.arc_spec.specs.declared.class.Gives.TheVariants as gives
 use Rattle.arc_spec.specs.Classes.{Class, superclass_of, superclasses, ancestry_within, lookup, field_order}
 use Rattle.arc_spec.specs.Objects.{Object, Emptying, Gone, object_at, with_object, in_phase, with_strong_fields, is_there, fields_of, field_places, names}
 use Rattle.arc_spec.specs.Resolved as resolved
-use Rattle.arc_spec.specs.Meaning.{function_at, called, released, field_stores, field_dropped, fields_dropped, emptied, class_in, dealloc_run, deallocs_run, turned, gone, dying, level, most_levels}
+use Rattle.arc_spec.specs.Meaning.{function_at, called, released, field_stores, field_dropped, fields_dropped, emptied, class_in, dealloc_run, deallocs_run, turned, gone, dying, level}
 use Rattle.arc_spec.specs.World as world
 use Rattle.arc_spec.specs.World.{World, Outcome, Done, Faulted, Finished, finished, then_do, Given, nothing_given, places, stacked, frame_places, with_objects, first_locals, first_names, entered}
 use Rattle.arc_spec.specs.Holding.{Held, Frame, Calling, Ending, Clearing, Waiter, holders, with_things, with_strong_field, on_place, lets_go, raised, resumed, turned_in, gone_in, given_back}
@@ -28,6 +28,7 @@ use Rattle.arc_lower.proofs.Releasing.{Kept, kept_trans, Ends, laid, dying_in, t
 use Rattle.arc_lower.proofs.Running.{after_call, Returns, answered, Deep, same_put}
 use Rattle.arc_lower.proofs.Leaving.{leaving, Left, function_runs}
 use Rattle.arc_lower.proofs.Linking.{Begins, call_enters, function_gives, Stub, Meets, Same, Linked, lookup_meets, descent_same, fields_same, strong_fields_same, order_same, found_same}
+use Rattle.arc_spec.specs.declared.limits.TheConstants.{MOST_LEVELS}
 
 then_thrice : {A B C E : Type 0} (o : Outcome A) (f : A → World → Outcome B) (g : B → World → Outcome C) (h : C → World → Outcome E) → then_do o (λ a w. then_do (then_do (f a w) g) h) ≡ then_do (then_do (then_do o f) g) h
 then_thrice (Done a w) f g h = refl
@@ -108,7 +109,7 @@ module _ (p : Program) (R : resolved.Program) (bound : ℕ) (begins : (wanted : 
   entry wanted f = entry_of (begins wanted f).place (function_at R wanted f)
 
   -- the step of a call
-  call_steps : (wanted : Gives) (f pc : ℕ) (frames : List Frame) (stack : List ℤ) (held : Held) (b : Bool) → HasAt p pc (Call (number_of R wanted f) wanted ∷ []) → nat_lt (length frames) most_levels ≡ b → moves p (at frames pc stack held) ≡ recount (enters (at frames pc stack held) (entry wanted f) 0 b)
+  call_steps : (wanted : Gives) (f pc : ℕ) (frames : List Frame) (stack : List ℤ) (held : Held) (b : Bool) → HasAt p pc (Call (number_of R wanted f) wanted ∷ []) → nat_lt (length frames) MOST_LEVELS ≡ b → moves p (at frames pc stack held) ≡ recount (enters (at frames pc stack held) (entry wanted f) 0 b)
   call_steps wanted f pc frames stack held b has e = ap recount (call_enters p R wanted f (begins wanted f) pc frames stack held b has e)
 
   -- a stub makes its function ready, and leads there
@@ -178,12 +179,12 @@ module _ (p : Program) (R : resolved.Program) (bound : ℕ) (begins : (wanted : 
   abbrev SendsMessage : (rs : List ℕ) (levels : ℕ) (frames : List Frame) (meant stands : Option ℕ) (wanted : Gives) (values objects self : ℕ) (given : Given) (stack : List ℤ) (w : World) (pc : ℕ) → Type 0
   SendsMessage rs levels frames meant stands wanted values objects self given stack w pc = Meets p R wanted values objects meant stands → Runs (moves p) bound (follow (recount (answers (at frames pc (onto given.numbers stack) (held_of (onto given.objects rs) w)) self stands)) w.input w.trace) (Returns wanted frames rs pc stack w) (answered (level R bound levels) wanted meant self given w)
 
-  last_finds : (rs : List ℕ) (frames : List Frame) → length frames + 0 ≡ most_levels → (meant stands : Option ℕ) (wanted : Gives) (values objects self : ℕ) (given : Given) (stack : List ℤ) (w : World) (pc : ℕ) → SendsMessage rs zero frames meant stands wanted values objects self given stack w pc
+  last_finds : (rs : List ℕ) (frames : List Frame) → length frames + 0 ≡ MOST_LEVELS → (meant stands : Option ℕ) (wanted : Gives) (values objects self : ℕ) (given : Given) (stack : List ℤ) (w : World) (pc : ℕ) → SendsMessage rs zero frames meant stands wanted values objects self given stack w pc
   last_finds rs frames full None None wanted values objects self given stack w pc meets = inr (leads_same (moves p) _ _ refl)
-  last_finds rs frames full (Some f) (Some to) wanted values objects self given stack w pc meets = inr (leads_same (moves p) _ _ (ap (enters_at (onto given.objects rs) frames pc to self (onto given.numbers stack) w) (le-ltb (length frames) most_levels (omega (arith, full)))))
+  last_finds rs frames full (Some f) (Some to) wanted values objects self given stack w pc meets = inr (leads_same (moves p) _ _ (ap (enters_at (onto given.objects rs) frames pc to self (onto given.numbers stack) w) (le-ltb (length frames) MOST_LEVELS (omega (arith, full)))))
   last_finds rs frames full _ _ wanted values objects self given stack w pc meets = absurd meets
 
-  level_finds : (rs : List ℕ) (levels : ℕ) (frames : List Frame) → length frames + suc levels ≡ most_levels → (meant stands : Option ℕ) (wanted : Gives) (values objects self : ℕ) (given : Given) (stack : List ℤ) (w : World) (pc : ℕ) → Deep p (Calling (pc + 1) (waits_of w) ∷ frames) bound R (level R bound levels) → length given.numbers ≡ values → length given.objects ≡ objects → SendsMessage rs (suc levels) frames meant stands wanted values objects self given stack w pc
+  level_finds : (rs : List ℕ) (levels : ℕ) (frames : List Frame) → length frames + suc levels ≡ MOST_LEVELS → (meant stands : Option ℕ) (wanted : Gives) (values objects self : ℕ) (given : Given) (stack : List ℤ) (w : World) (pc : ℕ) → Deep p (Calling (pc + 1) (waits_of w) ∷ frames) bound R (level R bound levels) → length given.numbers ≡ values → length given.objects ≡ objects → SendsMessage rs (suc levels) frames meant stands wanted values objects self given stack w pc
   level_finds rs levels frames full None None wanted values objects self given stack w pc deep size few meets = inr (leads_same (moves p) _ _ refl)
   level_finds rs levels frames full (Some f) (Some to) wanted values objects self given stack w pc deep size few meets =
       let inner = Calling (pc + 1) (waits_of w) ∷ frames in
@@ -192,7 +193,7 @@ module _ (p : Program) (R : resolved.Program) (bound : ℕ) (begins : (wanted : 
       let w1 = entered (slots_of R wanted f) 0 0 false self given w in
       let from = enters_at names1 frames pc to self all w in
       let into = leads_trans (moves p) (from true) (running inner names1 to all w1) (begun_at rs wanted f self inner given stack w) (quiet p inner bound names1 to all w1) (stub_leads rs inner wanted values objects f to given stack w1 size few meets) in
-      subst (λ b. Runs (moves p) bound (from b) (Returns wanted frames rs pc stack w) ((level R bound (suc levels)).call wanted f self given w)) (sym (lt-ltb (length frames) most_levels (omega (arith, full))))
+      subst (λ b. Runs (moves p) bound (from b) (Returns wanted frames rs pc stack w) ((level R bound (suc levels)).call wanted f self given w)) (sym (lt-ltb (length frames) MOST_LEVELS (omega (arith, full))))
       (leads_runs (moves p) bound (from true) (begun_at rs wanted f self inner given stack w) (Returns wanted frames rs pc stack w) ((level R bound (suc levels)).call wanted f self given w) into (method_runs rs levels wanted f pc self frames given stack w deep))
   level_finds rs levels frames full _ _ wanted values objects self given stack w pc deep size few meets = absurd meets
 
@@ -440,11 +441,11 @@ module _ (p : Program) (R : resolved.Program) (bound : ℕ) (begins : (wanted : 
 
   module _ (links : Linked p R) (has_end : HasAt p p.end_step (EndStep ∷ [])) where
     -- the end of an object at the last level
-    last_ends : (frames : List Frame) → length frames + 0 ≡ most_levels → Ends p frames bound (level R bound zero)
+    last_ends : (frames : List Frame) → length frames + 0 ≡ MOST_LEVELS → Ends p frames bound (level R bound zero)
     last_ends frames full f0 waiting k ob c h0 rs stack w pc back e found =
-        inr (leads_same (moves p) _ _ (ap (λ b. follow (recount (begins_end p (at frames pc stack h0) back (suc k) ob.class (dying_in rs (laid w f0 waiting) k ob c) b)) w.input w.trace) (le-ltb (length frames) most_levels (omega (arith, full)))))
+        inr (leads_same (moves p) _ _ (ap (λ b. follow (recount (begins_end p (at frames pc stack h0) back (suc k) ob.class (dying_in rs (laid w f0 waiting) k ob c) b)) w.input w.trace) (le-ltb (length frames) MOST_LEVELS (omega (arith, full)))))
 
-    level_ends : (levels : ℕ) (frames : List Frame) → length frames + suc levels ≡ most_levels → ((frame : Frame) → Deep p (frame ∷ frames) bound R (level R bound levels)) → Ends p frames bound (level R bound (suc levels))
+    level_ends : (levels : ℕ) (frames : List Frame) → length frames + suc levels ≡ MOST_LEVELS → ((frame : Frame) → Deep p (frame ∷ frames) bound R (level R bound levels)) → Ends p frames bound (level R bound (suc levels))
     level_ends levels frames full deep f0 waiting k ob c h0 rs stack w pc back e found =
         let n = length (superclasses R.classes) in
         let waits1 = waits_at f0 in
@@ -457,7 +458,7 @@ module _ (p : Program) (R : resolved.Program) (bound : ℕ) (begins : (wanted : 
         let runs = end_runs rs back f0 waiting (suc k) levels frames stack deep links has_end n (Some ob.class) w1 e in
         let from = follow (recount (begins_end p s back (suc k) ob.class h (has_level s))) w.input w.trace in
         let path : from ≡ at_end rs inner1 (suc k) stack w1 =
-        ap (λ b. follow (recount (begins_end p s back (suc k) ob.class h b)) w.input w.trace) (lt-ltb (length frames) most_levels (omega (arith, full)))
+        ap (λ b. follow (recount (begins_end p s back (suc k) ob.class h b)) w.input w.trace) (lt-ltb (length frames) MOST_LEVELS (omega (arith, full)))
         ∙ ap (λ m. Running (at (Ending back waits1 (suc k) (Some ob.class) m ∷ frames) p.end_step stack (ended_by rs (suc k) w1 (frame_places f0 ++ waiting))) w.input w1.trace) (links.count ∙ sym (length-map R.classes superclass_of))
         ∙ ap (λ l. Running (at inner1 p.end_step stack (ended_by rs (suc k) w1 l)) w.input w1.trace) e
         in
@@ -466,12 +467,12 @@ module _ (p : Program) (R : resolved.Program) (bound : ℕ) (begins : (wanted : 
         (leads_runs (moves p) bound from (at_end rs inner1 (suc k) stack w1) (λ done w2 to. (to ≡ running frames rs back stack (laid w2 f0 waiting)) × Kept w w2) o (leads_same (moves p) _ _ path)
         (better_runs (moves p) bound (at_end rs inner1 (suc k) stack w1) (λ done w2 to. (to ≡ running frames rs back stack (laid w2 f0 waiting)) × Kept w1 w2) (λ done w2 to. (to ≡ running frames rs back stack (laid w2 f0 waiting)) × Kept w w2) o runs (λ done w2 to m. (m.0, record { frame = m.1.frame; waiting = m.1.waiting }))))
 
-    pub calls_run : (levels : ℕ) (frames : List Frame) → length frames + levels ≡ most_levels → Deep p frames bound R (level R bound levels)
+    pub calls_run : (levels : ℕ) (frames : List Frame) → length frames + levels ≡ MOST_LEVELS → Deep p frames bound R (level R bound levels)
     calls_run zero frames full = record {
       invokes = λ wanted f given stack rs w pc has.
           let s = onto (first_locals (slots_of R wanted f) given.numbers) stack in
           let names1 = onto (first_names (parameters_of R wanted f) given.objects) rs in
-          inr (leads_step (moves p) (at frames pc s (held_of names1 w)) w.input w.trace (enters (at frames pc s (held_of names1 w)) (entry wanted f) 0 false) (call_steps wanted f pc frames s (held_of names1 w) false has (le-ltb (length frames) most_levels (omega (arith, full)))));
+          inr (leads_step (moves p) (at frames pc s (held_of names1 w)) w.input w.trace (enters (at frames pc s (held_of names1 w)) (entry wanted f) 0 false) (call_steps wanted f pc frames s (held_of names1 w) false has (le-ltb (length frames) MOST_LEVELS (omega (arith, full)))));
       says = λ sign from selector arguments objects wanted self given stack rs w pc size few.
           last_finds rs frames full (lookup R.classes from sign selector arguments objects wanted) (lookup p.classes from sign selector arguments objects wanted) wanted (passes sign arguments) objects self given stack w pc (lookup_meets p R links sign from selector arguments objects wanted);
       ends = last_ends frames full;
@@ -489,7 +490,7 @@ module _ (p : Program) (R : resolved.Program) (bound : ℕ) (begins : (wanted : 
           let w1 = entered (slots_of R wanted f) 0 0 false 0 given w in
           let next = Goes (at inner1 (entry wanted f) s (held_of names1 w1)) [] in
           let begun1 = begun_at rs wanted f 0 inner1 given stack w in
-          let into = leads_trans (moves p) (running frames names1 pc s w) (follow next w.input w.trace) begun1 (leads_step (moves p) (at frames pc s (held_of names1 w)) w.input w.trace next (call_steps wanted f pc frames s (held_of names1 w) true has (lt-ltb (length frames) most_levels (omega (arith, full))))) (quiet p inner1 bound names1 (entry wanted f) s w1) in
+          let into = leads_trans (moves p) (running frames names1 pc s w) (follow next w.input w.trace) begun1 (leads_step (moves p) (at frames pc s (held_of names1 w)) w.input w.trace next (call_steps wanted f pc frames s (held_of names1 w) true has (lt-ltb (length frames) MOST_LEVELS (omega (arith, full))))) (quiet p inner1 bound names1 (entry wanted f) s w1) in
           leads_runs (moves p) bound (running frames names1 pc s w) begun1 (Returns wanted frames rs pc stack w) ((level R bound (suc levels)).call wanted f 0 given w) into (method_runs rs levels wanted f pc 0 frames given stack w (calls_run levels inner1 (omega (arith, full))));
       says = λ sign from selector arguments objects wanted self given stack rs w pc size few.
           level_finds rs levels frames full (lookup R.classes from sign selector arguments objects wanted) (lookup p.classes from sign selector arguments objects wanted) wanted (passes sign arguments) objects self given stack w pc (calls_run levels (Calling (pc + 1) (waits_of w) ∷ frames) (omega (arith, full))) size few (lookup_meets p R links sign from selector arguments objects wanted);

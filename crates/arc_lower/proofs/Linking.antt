@@ -8,7 +8,7 @@ use Rattle.arc_spec.specs.declared.class.Method.{Method}
 use Rattle.arc_spec.specs.declared.class.Gives.{Gives}
 use Rattle.arc_spec.specs.declared.class.Gives.TheVariants as gives
 use Rattle.arc_spec.specs.Classes.{Class, superclasses, ancestry, first_that_has, own_methods, same_sign, same_gives, answers, found, or_else, lookup, descends, strong_count, strong_counts, order_of_fields, above_class, field_order}
-use Rattle.arc_spec.specs.Meaning.{function_at, nothing_giving, most_levels}
+use Rattle.arc_spec.specs.Meaning.{function_at, nothing_giving}
 use Rattle.arc_spec.specs.Holding.{count_of, Held, Frame}
 use Rattle.arc_spec.specs.Resolved as resolved
 use Rattle.arc_ir.specs.Acting.{Program, has_level, enters, step}
@@ -23,6 +23,7 @@ use Rattle.arc_code.specs.declared.instr.Instr.TheVariants.{Call, Return, EndSte
 use Rattle.arc_lower.specs.Order.{Order, orders}
 use Rattle.arc_lower.proofs.Rows.{call_length}
 use Rattle.arc_lower.proofs.Callees.{with_functions}
+use Rattle.arc_spec.specs.declared.limits.TheConstants.{MOST_LEVELS}
 
 -- a function's stub for so many numbers stands at a place
 abbrev pub Stub : Program → resolved.Program → (wanted : Gives) → (values objects f place : ℕ) → Type 0
@@ -205,7 +206,7 @@ pub record Begins (p : Program) (R : resolved.Program) (n : ℕ) (f : Function) 
   pub code : HasAt p place (function_orders R place f)
 
 -- the step of a call
-pub call_enters : (p : Program) (R : resolved.Program) (wanted : Gives) (f : ℕ) (b : Begins p R (number_of R wanted f) (function_at R wanted f)) (pc : ℕ) (frames : List Frame) (stack : List ℤ) (held : Held) (more : Bool) → HasAt p pc (Call (number_of R wanted f) wanted ∷ []) → nat_lt (length frames) most_levels ≡ more → step p (at frames pc stack held) ≡ enters (at frames pc stack held) (entry_of b.place (function_at R wanted f)) 0 more
+pub call_enters : (p : Program) (R : resolved.Program) (wanted : Gives) (f : ℕ) (b : Begins p R (number_of R wanted f) (function_at R wanted f)) (pc : ℕ) (frames : List Frame) (stack : List ℤ) (held : Held) (more : Bool) → HasAt p pc (Call (number_of R wanted f) wanted ∷ []) → nat_lt (length frames) MOST_LEVELS ≡ more → step p (at frames pc stack held) ≡ enters (at frames pc stack held) (entry_of b.place (function_at R wanted f)) 0 more
 call_enters p R wanted f b pc frames stack held more has e =
     let s = at frames pc stack held in
     has.0 frames stack held ∙ ap (λ to. enters s to 0 (has_level s)) b.entry ∙ ap (enters s (entry_of b.place (function_at R wanted f)) 0) e

@@ -9,7 +9,7 @@ use Rattle.arc_spec.specs.Number.{converted}
 use Rattle.arc_spec.specs.Resolved as resolved
 use Rattle.arc_spec.specs.World as world
 use Rattle.arc_spec.specs.World.{World, Outcome, Done, Faulted, Cut, first_frame, first_world, first_locals, first_names, nothing_given}
-use Rattle.arc_spec.specs.Meaning.{level, most_levels, mean}
+use Rattle.arc_spec.specs.Meaning.{level, mean}
 use Rattle.arc_spec.specs.Holding.{all_nil, on_left}
 use Rattle.arc_spec.specs.Stepping.{Next, Reached, Running, Ends, Ended, only_if, after_steps}
 use Rattle.arc_ir.specs.Acting.{Program, State, step, start, seen}
@@ -24,6 +24,7 @@ use Rattle.arc_lower.proofs.Running.{Returns}
 use Rattle.arc_lower.proofs.Linking.{has_start, has_end, has_stubs, begins, Linked, linked}
 use Rattle.arc_lower.proofs.Calling.{calls_run}
 use Rattle.arc_lower.proofs.Transferring.{room_suffices, seen_moves, never_wedged}
+use Rattle.arc_spec.specs.declared.limits.TheConstants.{MOST_LEVELS}
 
 -- some steps show what is meant, and no fewer than the bound where that isn't over
 pub record Shows (seen : ℕ → Sight) (bound : ℕ) (meant : Sight) : Type 0 where
@@ -102,10 +103,10 @@ module _ (p : Program) (R : resolved.Program) (is : orders p.actions ≡ lowered
       let last = subst (λ n. HasAt p n last_orders) size later in
       let s = onto (first_locals (slots_of R gives.Number R.main) []) [] in
       let names = onto (first_names (parameters_of R gives.Number R.main) []) [] in
-      let o = (level R bound most_levels).call gives.Number R.main 0 nothing_given w in
+      let o = (level R bound MOST_LEVELS).call gives.Number R.main 0 nothing_given w in
       let end = Returns gives.Number [] [] q [] w in
       let ready = passing_leads p [] (slots_of R gives.Number R.main) (parameters_of R gives.Number R.main) 0 0 nothing_given [] [] w 0 refl refl (has_front p 0 fits call has_call) in
-      let called = (calls_run p R bound (begins p R is entries) links (has_end p R is entries end_at) most_levels [] none).invokes gives.Number R.main nothing_given [] [] w q (has_back p 0 fits call has_call) in
+      let called = (calls_run p R bound (begins p R is entries) links (has_end p R is entries end_at) MOST_LEVELS [] none).invokes gives.Number R.main nothing_given [] [] w q (has_back p 0 fits call has_call) in
       then_runs (moves p) bound (running [] [] 0 [] w) end Ends_with o (λ a w1. Done (converted k.Int a.number) w1)
       (leads_runs (moves p) bound (running [] [] 0 [] w) (running [] names q s w) end o ready called)
       (λ a w1 to m.
@@ -114,7 +115,7 @@ module _ (p : Program) (R : resolved.Program) (is : orders p.actions ≡ lowered
       leads_runs (moves p) bound to from Ends_with (Done (converted k.Int v) w1) (leads_same (moves p) to from m.0)
       (inr (Ended (converted k.Int v) w1.input w1.trace, leads_step (moves p) (at [] (q + 1) (v ∷ []) (held_of [] w1)) w1.input w1.trace (Ends (converted k.Int v)) (ap recount (last.0 [] (v ∷ []) (held_of [] w1)) ∙ main_ends v w1 m.1.frame), refl)))
     where
-      none : 0 + most_levels ≡ most_levels
+      none : 0 + MOST_LEVELS ≡ MOST_LEVELS
       none = omega arith
 
   -- no step lacks what it needs

@@ -446,11 +446,7 @@ level P bound (suc n) = record {
   classes = P.classes;
 }
 
--- how many calls of functions and methods and ends of objects may run within one another, the call of main being the first (this project's own limit)
-abbrev pub most_levels : ℕ
-most_levels = MOST_LEVELS
-
 -- the meaning of a program on an input, with a bound on the turns of each loop: main's value, as an int
 abbrev pub mean : Program → List ℕ → (bound : ℕ) → Outcome ℤ
 mean P input bound =
-    then_do ((level P bound most_levels).call gives.Number P.main 0 nothing_given (first_world P.globals P.strong_globals input)) (λ a w. Done (converted k.Int a.number) w)
+    then_do ((level P bound MOST_LEVELS).call gives.Number P.main 0 nothing_given (first_world P.globals P.strong_globals input)) (λ a w. Done (converted k.Int a.number) w)

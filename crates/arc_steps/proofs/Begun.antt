@@ -5,7 +5,7 @@ use Rattle.arc_spec.specs.declared.event.Event.{Event}
 use Rattle.arc_spec.specs.declared.event.Fault.TheVariants.{Depth}
 use Rattle.arc_spec.specs.Objects.{Object, Live, Dying, in_phase}
 use Rattle.arc_spec.specs.Holding.{Held, Ending, is_there, lowered, with_things, waiter_of}
-use Rattle.arc_spec.specs.Meaning.{most_levels}
+use Rattle.arc_spec.specs.declared.limits.TheConstants.{MOST_LEVELS}
 use Rattle.arc_spec.specs.Stepping.{Next, Goes}
 use Rattle.arc_code.specs.Running.{Program, State, has_level, begins_end}
 use Rattle.arc_heap.specs.Blocks.{Blocks}
@@ -24,22 +24,22 @@ abbrev pub begins : Program → State → (back k : ℕ) → Object → Held →
 begins p s back k o h = begins_end p s back (suc k) o.class (with_things (lowered (suc k) h) (slice_set h.objects k (in_phase Dying o))) (has_level s)
 
 module _ {S : Type 0} (out : S → Blocks) (p : Program) (old : Spot S) (s : State) (is : IsAt out p.classes old s) where
-  pub level_is : (b : Bool) → nat_lt (length old.parts.frames) most_levels ≡ b → has_level s ≡ b
+  pub level_is : (b : Bool) → nat_lt (length old.parts.frames) MOST_LEVELS ≡ b → has_level s ≡ b
   level_is b e =
       let t = is.memory.1 in
       let same : length old.parts.frames ≡ length s.frames = ap length t.waits ∙ length-map s.frames (waiting is.memory.0) in
-      ap (λ n. nat_lt n most_levels) (sym same) ∙ e
+      ap (λ n. nat_lt n MOST_LEVELS) (sym same) ∙ e
 
   module _ (n : Next State) (back k : ℕ) (o : Object) (h : Held) (next : n ≡ begins p s back k o h) where
     -- one level more than there are
-    pub faults_went : (new : Spot S) (a : Answer) (event : Option Event) → nat_lt (length old.parts.frames) most_levels ≡ false → a ≡ Faulted Depth → new ≡ old → Went out p.classes n a (shown event) old new
+    pub faults_went : (new : Spot S) (a : Answer) (event : Option Event) → nat_lt (length old.parts.frames) MOST_LEVELS ≡ false → a ≡ Faulted Depth → new ≡ old → Went out p.classes n a (shown event) old new
     faults_went new a event level answer stays =
         subst (λ a. Went out p.classes n a (shown event) old new) (sym answer)
         (next ∙ ap (begins_end p s back (suc k) o.class (with_things (lowered (suc k) h) (slice_set h.objects k (in_phase Dying o)))) (level_is false level), stays)
 
     -- the end begins
     pub begun_went : (m : Parts S) → Stands is.memory.0 p.classes (memory_of out m) s.frames h → sizes m ≡ sizes old.parts → slice_get h.objects k ≡ Some o → o.phase ≡ Live → (w : ℕ) → w ≡ is.memory.0 k
-        → (new : Spot S) (a : Answer) (event : Option Event) → nat_lt (length old.parts.frames) most_levels ≡ true → a ≡ Going → new.at ≡ p.end_step → new.stack ≡ old.stack
+        → (new : Spot S) (a : Answer) (event : Option Event) → nat_lt (length old.parts.frames) MOST_LEVELS ≡ true → a ≡ Going → new.at ≡ p.end_step → new.stack ≡ old.stack
         → ((c : Cell) → IsCell (out m.store) w c → Begins out m new.parts w back (length p.classes) event c) → Went out p.classes n a (shown event) old new
     begun_went m t same found live w word new a event level answer at stack begin =
         let stored = block_of is.memory.0 p.classes (memory_of out m) s.frames h t k o found (ap is_there live) in

@@ -4,7 +4,7 @@ use Rattle.std.proofs.lemmas.Bool.{cases_eq}
 use Rattle.std.proofs.lemmas.List.{length-set}
 use Rattle.arc_spec.specs.Classes.{Class}
 use Rattle.arc_spec.specs.declared.event.Event.{Event}
-use Rattle.arc_spec.specs.Meaning.{most_levels}
+use Rattle.arc_spec.specs.declared.limits.TheConstants.{MOST_LEVELS}
 use Rattle.arc_code.specs.declared.instr.Instr.TheVariants.{EndStep}
 use Rattle.arc_code.specs.Running.{Program}
 use Rattle.arc_heap.specs.Blocks.{Blocks}
@@ -72,11 +72,11 @@ module _ {S : Type 0} (out : S → Blocks) (p : Program) (old : Spot S) (back : 
       subst (λ (m : Parts S). (c : Cell) × IsCell (out m.store) l.name c × (0 < c.count)) (sym clears.now) still
 
   -- as many wait as before
-  pub last_level : (l : LastField out p.classes old.parts object left) (mid : Parts S) → Clears out old.parts mid back waiter object l.slot (left - 1) → (b : Bool) → nat_lt (length old.parts.frames) most_levels ≡ b → nat_lt (length mid.frames) most_levels ≡ b
+  pub last_level : (l : LastField out p.classes old.parts object left) (mid : Parts S) → Clears out old.parts mid back waiter object l.slot (left - 1) → (b : Bool) → nat_lt (length old.parts.frames) MOST_LEVELS ≡ b → nat_lt (length mid.frames) MOST_LEVELS ≡ b
   last_level l mid clears b level =
       let wait = Clear back waiter object (left - 1) in
       let many : length mid.frames ≡ length old.parts.frames = ap (λ (m : Parts S). length m.frames) clears.now ∙ length-set clears.mid.frames 0 wait ∙ ap (λ m. length m.frames) clears.field.others in
-      ap (λ n. nat_lt n most_levels) many ∙ level
+      ap (λ n. nat_lt n MOST_LEVELS) many ∙ level
 
 -- an instruction that was executed from the same place
 pub executed : {S : Type 0} (out : S → Blocks) (p : Program) (old now new : Spot S) (a b : Answer) (event shows : Option Event) → now ≡ old → b ≡ a → shows ≡ event → Executes out p EndStep a (shown event) now new → Executes out p EndStep b (shown shows) old new

@@ -24,13 +24,14 @@ use Rattle.arc_lower.proofs.Sizes.{actions_counted}
 use Rattle.arc_emit.specs.declared.fault.EmitFault.{EmitFault}
 use Rattle.arc_emit.specs.declared.fault.EmitFault.TheVariants as f
 use Rattle.arc_emit.specs.Faults as emitting
-use Rattle.arc_emit.specs.Emitted.{most_instrs, IsLarge}
+use Rattle.arc_emit.specs.Emitted.{IsLarge}
 use Rattle.arc_code.specs.Running.{Program, seen, IsSound}
 use Rattle.arc_tool.specs.declared.refusal.Refusal.{Refusal}
 use Rattle.arc_source.specs.Accepted.{Spelled, Accepted, program_meant, meant}
 use Rattle.arc_tool.specs.Compiled.{Compiles, CompilesNamed, class_names}
 use Rattle.arc_tool.specs.Refused.{IsTooLarge, IsRefusal, too_large, no_memory}
 use Rattle.arc_tool.specs.Reports.{Reports}
+use Rattle.arc_emit.specs.declared.emit.TheConstants.{MOST_INSTRS}
 
 -- the tokens of the source, as they were passed on
 pub passed : (source : List ℕ) (items these_tokens : List Token) → these_tokens ≡ items → Tokens source (toks items) → Tokens source (toks these_tokens)
@@ -39,12 +40,12 @@ passed source items these_tokens same h = subst (λ ts. Tokens source (toks ts))
 -- ---- how large a program is
 
 too_many : (P : resolved.Program) (actions : acting.Program) → orders actions.actions ≡ lowered P → IsLarge actions → IsTooLarge P
-too_many P actions is large = subst (λ n. most_instrs < n) (sym (length-map actions.actions order.order) ∙ ap length is ∙ actions_counted P) large
+too_many P actions is large = subst (λ n. MOST_INSTRS < n) (sym (length-map actions.actions order.order) ∙ ap length is ∙ actions_counted P) large
 
 -- a program that becomes so many actions, where there is no room for them
 pub too_long : (source : List ℕ) (program : Accepted source) (count : ℕ) → count ≡ length (lowered (program_meant program)) → (e : EmitFault) (r : Refusal)
-    → (e ≡ f.TooLarge) × (most_instrs < count) → Reports (record { number = emitting.fault_number e; name = emitting.fault_name e; at = 0 }) r → IsRefusal source r
-too_long source program count is f.TooLarge r large reports = too_large program (subst (λ n. most_instrs < n) (is ∙ actions_counted (program_meant program)) large.1) reports
+    → (e ≡ f.TooLarge) × (MOST_INSTRS < count) → Reports (record { number = emitting.fault_number e; name = emitting.fault_name e; at = 0 }) r → IsRefusal source r
+too_long source program count is f.TooLarge r large reports = too_large program (subst (λ n. MOST_INSTRS < n) (is ∙ actions_counted (program_meant program)) large.1) reports
 too_long source program count is f.Memory r large reports = no_memory program reports
 
 -- ---- the stages

@@ -22,14 +22,14 @@ use Rattle.arc_family.specs.Fault as owning
 use Rattle.arc_family.specs.Rules as ownership
 use Rattle.arc_spec.specs.Resolved as resolved
 use Rattle.arc_lower.specs.Size.{program_size}
-use Rattle.arc_emit.specs.Emitted.{most_instrs}
+use Rattle.arc_emit.specs.declared.emit.TheConstants.{MOST_INSTRS}
 use Rattle.arc_tool.specs.declared.refusal.Refusal.{Refusal}
 use Rattle.arc_source.specs.Accepted.{Spelled, Accepted, program_meant}
 use Rattle.arc_tool.specs.Reports.{Reports}
 
 -- the program becomes more actions than code may have instructions
 abbrev pub IsTooLarge : resolved.Program → Type 0
-IsTooLarge P = most_instrs < program_size P
+IsTooLarge P = MOST_INSTRS < program_size P
 
 -- The refusal reports the fault of a stage, all stages before which have nothing to refuse. A stage to which memory is refused has a fault of its own for that,
 -- which says no more of the source.

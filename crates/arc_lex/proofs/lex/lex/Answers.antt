@@ -2,7 +2,7 @@ use Rattle.std.proofs.Common.{◌≡◌, ◌∷◌, ◌+◌, ◌≤◌, ℕ, len
 use Rattle.std.proofs.lemmas.List.{append-nil}
 use Rattle.arc_lex.specs.Faults.{fault_of, IsLexFault}
 use Rattle.arc_lex.specs.private.Pieces.{Law, Blank, Skip, Whole, Broken, piece}
-use Rattle.arc_lex.specs.Source.{Cuts, FaultAt, done, here, most_bytes}
+use Rattle.arc_lex.specs.Source.{Cuts, FaultAt, done, here}
 use Rattle.arc_lex.specs.Tokens.{tok, toks, sort_of}
 use Rattle.arc_lex.specs.declared.piece.Rule.{Rule}
 use Rattle.arc_lex.specs.declared.piece.Rule.TheVariants as rules
@@ -13,6 +13,7 @@ use Rattle.arc_lex.proofs.OneAnswer.{only_tokens, only_fault}
 use Rattle.arc_lex.proofs.Spans.{spans_spell}
 use Rattle.arc_lex.proofs.Walks.{blank_cuts, skip_cuts, token_cuts, blank_fault, skip_fault, token_fault, toks_push}
 use Rattle.arc_lex.proofs.lex.lex.Goals as goal
+use Rattle.arc_lex.specs.declared.lex.TheConstants.{MOST_BYTES}
 
 space_law : (starts : Bool) (bs : List ℕ) → Law starts (32 ∷ bs) (Blank false)
 unfolding piece
@@ -81,7 +82,7 @@ pieces-preserved c =
       fault = λ p rule h. c.pieces.invariant.fault p rule (token_fault starts at n (sort_of kind) rest law p rule (subst (λ us. FaultAt (at + n) false us p rule) back h));
     }
 
-first_fault : (source : List ℕ) (at : ℕ) (rule : Rule) → length source ≤ most_bytes → FaultAt 0 true source at rule → IsLexFault source (fault_of rule at)
+first_fault : (source : List ℕ) (at : ℕ) (rule : Rule) → length source ≤ MOST_BYTES → FaultAt 0 true source at rule → IsLexFault source (fault_of rule at)
 first_fault source at rules.BadByte short h = (short, h)
 first_fault source at rules.OpenComment short h = (short, h)
 first_fault source at rules.OpenLiteral short h = (short, h)
