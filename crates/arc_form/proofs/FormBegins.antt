@@ -3,7 +3,7 @@ use Rattle.std.proofs.Common.{◌≡◌, ℕ, suc, ◌<◌, ◌≤◌, ◌+◌, 
 use Rattle.std.proofs.lemmas.Bool.Decides.{nat_tests}
 use Rattle.arc_lex.specs.Tokens.{Tok}
 use Rattle.arc_form.specs.Kinds.{Kinds, ◌∪◌, is}
-use Rattle.arc_form.specs.Reader.{Read, Reader, Fault, misfit, too_deep, is_above, allowed, bind, ◌>>=◌, ret, second_unexpected, sees, sees_second, taken, loop, cut, up_to}
+use Rattle.arc_form.specs.Reader.{Read, Reader, Fault, misfit, too_deep, is_above, allowed, bind, ◌>>=◌, ret, second_unexpected, sees, taken, loop, cut, up_to}
 use Rattle.arc_form.specs.Form.{Limits, unlimited, Form, Bodies, token, give, call, map, ◌⨾◌, into, choose, many, or_none, nest, bounded, two_ahead, avoid, run, read}
 use Rattle.arc_form.proofs.Sets.{among, sees_among, sees_or}
 use Rattle.arc_form.proofs.Static.{Facts, if_so, nullable, begins, Decided, Holds, Heads, second, Fits}
@@ -166,8 +166,8 @@ module _ {N : Type 0} {Node : N → Type 0} (facts : N → Facts) (body : Bodies
   front o A (nest m T f) (d, h) ts x z = rw (nested_is (under o).depth m T (reading body o f) ts, sees_same (begins facts f) T ts h.1.0 h.1.1) (front_nest o m (sees T ts) (reading body o f ts) ts (headed o T f h ts x z))
   front o A (bounded f) (d, n) ts x z = front_cut o (sees (begins facts f) ts) (reading body None f ts) ts z (some None f n ts x free)
   front o A (two_ahead T U f g) (d, (d', (h, (p, (n, q))))) ts (x, y) z =
-      front_two o (sees T ts) (sees_second U ts) (sees (begins facts g) ts) (reading body o f ts) (reading body o g ts) ts (sees_among T (begins facts g) ts q) (more_of o (sees T ts) (reading body o f ts) ts (headed o T f h ts x z)) (some o g n ts y z)
-  front o A (avoid T U f) (d, (e, (n, (q, p)))) ts x z = front_two o (sees T ts) (sees_second U ts) (sees (begins facts f) ts) (second_unexpected ts) (reading body o f ts) ts (sees_among T (begins facts f) ts q) (second_more o ts) (some o f n ts x z)
+      front_two o (sees T ts) (sees U (drop 1 ts)) (sees (begins facts g) ts) (reading body o f ts) (reading body o g ts) ts (sees_among T (begins facts g) ts q) (more_of o (sees T ts) (reading body o f ts) ts (headed o T f h ts x z)) (some o g n ts y z)
+  front o A (avoid T U f) (d, (e, (n, (q, p)))) ts x z = front_two o (sees T ts) (sees U (drop 1 ts)) (sees (begins facts f) ts) (second_unexpected ts) (reading body o f ts) ts (sees_among T (begins facts f) ts q) (second_more o ts) (some o f n ts x z)
     where
       second_more : (o : Option Limits) (ts : List Tok) → sees T ts ≡ true → More {A = A} o (second_unexpected ts) ts
       second_more (Some limits) ts s = tt
@@ -194,7 +194,7 @@ module _ {N : Type 0} {Node : N → Type 0} (facts : N → Facts) (body : Bodies
       ]) (by_reading facts body sure FrontAt front (Some limits) A f d ts positive)
 
   -- and after it one that comes second
-  pub deep_second : (limits : Limits) → Positive limits → (U : Kinds) (A : Type 0) (f : Form N Node A) → Decided facts f → Holds (second facts U f) → (ts r : List Tok) → run (read body) limits f ts ≡ Err (too_deep, r) → sees_second U ts ≡ true
+  pub deep_second : (limits : Limits) → Positive limits → (U : Kinds) (A : Type 0) (f : Form N Node A) → Decided facts f → Holds (second facts U f) → (ts r : List Tok) → run (read body) limits f ts ≡ Err (too_deep, r) → sees U (drop 1 ts) ≡ true
   deep_second limits positive U A (map {A = B} h f) d e ts r q = deep_second limits positive U B f d e ts r (map_fails (run (read body) limits f ts) h (too_deep, r) q)
   deep_second limits positive U A (◌⨾◌ {A = B} {B = C} (token V v) g) d e [] r q = let no = ap (λ (y : Read (B × C)). fault_of y) q in cc
   deep_second limits positive U A (◌⨾◌ {A = B} {B = C} (token V v) g) (i, (d, o)) (n, (w, k)) (t ∷ ts) r q = go (is V t) q
@@ -205,7 +205,7 @@ module _ {N : Type 0} {Node : N → Type 0} (facts : N → Facts) (body : Bodies
   deep_second limits positive U A f d e ts r q = cc
 
   -- and where the second token is of those that come second, that one too
-  pub takes_two : (T U : Kinds) (A : Type 0) (f : Form N Node A) → Decided facts f → Holds (second facts U f) → (ts : List Tok) → sees (begins facts f) ts ≡ true → sees_second U ts ≡ true → length (rest_of (run (read body) unlimited f ts)) + 2 ≤ length ts
+  pub takes_two : (T U : Kinds) (A : Type 0) (f : Form N Node A) → Decided facts f → Holds (second facts U f) → (ts : List Tok) → sees (begins facts f) ts ≡ true → sees U (drop 1 ts) ≡ true → length (rest_of (run (read body) unlimited f ts)) + 2 ≤ length ts
   takes_two T U A (map {A = B} h f) d s ts e n = omega (arith, ret_left (reading body None f ts) h, takes_two T U B f d s ts e n)
   takes_two T U A (◌⨾◌ {A = B} {B = C} (token V v) g) d s [] e n = cc
   takes_two T U A (◌⨾◌ {A = B} {B = C} (token V v) g) (i, (d, o)) (m, (w, a)) (t ∷ ts) e n =

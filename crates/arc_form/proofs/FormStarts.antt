@@ -1,9 +1,9 @@
 -- Derivations of any height: what the right side of a rule spells, the rule does; how the tokens begin that a form spells, before
 -- which others they spell the same, and that each form spells something.
-use Rattle.std.proofs.Common.{arith, ◌≤◌, length, length-append, ◌≡◌, ◌⊎◌, inl, inr, List, [], ◌∷◌, ◌++◌, Bool, true, false, not, ◌&&◌, refl, sym, ap, subst, ◌∙◌, ℕ, zero, suc, ◌+◌, append-nil, ◌||◌}
+use Rattle.std.proofs.Common.{arith, ◌≤◌, length, length-append, ◌≡◌, ◌⊎◌, inl, inr, List, [], ◌∷◌, ◌++◌, Bool, true, false, not, ◌&&◌, refl, sym, ap, subst, ◌∙◌, ℕ, zero, suc, ◌+◌, append-nil, ◌||◌, drop}
 use Rattle.arc_lex.specs.Tokens.{Tok}
 use Rattle.arc_form.specs.Kinds.{Kinds, ◌∪◌, is}
-use Rattle.arc_form.specs.Reader.{first, sees, sees_second, sees_two}
+use Rattle.arc_form.specs.Reader.{first, sees, sees_two}
 use Rattle.arc_form.specs.Form.{Limits, unlimited, Form, Bodies, token, give, call, map, ◌⨾◌, into, choose, many, or_none, nest, bounded, two_ahead, avoid}
 use Rattle.arc_form.specs.Meaning.{Spelling, SpellsAll, SpellsBy, Spells, AtMost, Within}
 use Rattle.arc_form.proofs.Sets.{and_no, both, sees_among, sees_none, sees_nothing, sees_left, sees_right, sees_neither, sees_alike, sees_more, apart, sees_other}
@@ -216,10 +216,10 @@ module _ {N : Type 0} {Node : N → Type 0} (facts : N → Facts) where
     longs limits A f d e a rest xs x = cc
 
     -- the second token of what has two heads
-    pub second_starts : (U : Kinds) (limits : Limits) (A : Type 0) (f : Form N Node A) → Decided facts f → Holds (second facts U f) → (a : A) (rest xs : List Tok) → SpellsBy L limits f a rest xs → sees_second U xs ≡ true
+    pub second_starts : (U : Kinds) (limits : Limits) (A : Type 0) (f : Form N Node A) → Decided facts f → Holds (second facts U f) → (a : A) (rest xs : List Tok) → SpellsBy L limits f a rest xs → sees U (drop 1 xs) ≡ true
     second_starts U limits A (map {A = B} h f) d e b rest xs (a, v, x) = second_starts U limits B f d e a rest xs x
     second_starts U limits A (◌⨾◌ {A = B} {B = C} (token V v) g) (i, (d, p)) e a rest xs (ys, zs, c, (t, o, j, w), y) =
-        ap (sees_second U) (c ∙ ap (λ u. u ++ zs) o) ∙ head_starts limits U g d e a.1 rest zs y
+        ap (λ ts. sees U (drop 1 ts)) (c ∙ ap (λ u. u ++ zs) o) ∙ head_starts limits U g d e a.1 rest zs y
     second_starts U limits A f d e a rest xs x = cc
 
     -- where rules' tokens spell the same before others, so do a form's

@@ -1,11 +1,11 @@
 -- Tests on sets of kinds, which compute.
-use Rattle.std.proofs.Common.{◌≤◌, length, ◌≡◌, List, [], ◌∷◌, ◌++◌, Bool, true, false, not, ◌&&◌, ◌||◌, nat_eq, refl, sym, ap, subst, ap₂, arith}
+use Rattle.std.proofs.Common.{◌≤◌, length, ◌≡◌, List, [], ◌∷◌, ◌++◌, Bool, true, false, not, ◌&&◌, ◌||◌, nat_eq, refl, sym, ap, subst, ap₂, arith, drop, if◌then◌else◌}
 use Rattle.std.proofs.lemmas.Bool.{eqb-true}
 use Rattle.std.proofs.lemmas.Slice.Eq.{bytes_eq-Decides}
 use Rattle.std.specs.Str.{bytes_eq}
 use Rattle.arc_lex.specs.Tokens.{Tok}
-use Rattle.arc_form.specs.Kinds.{Kind, Kinds, main_or_none, none, one, ◌∪◌, same, has, kind, is, name}
-use Rattle.arc_form.specs.Reader.{first, sees, sees_second, sees_two}
+use Rattle.arc_form.specs.Kinds.{Kind, Kinds, none, one, ◌∪◌, same, has, kind, is, name}
+use Rattle.arc_form.specs.Reader.{first, sees, sees_two}
 
 -- ---- tests
 
@@ -47,7 +47,7 @@ apart_has none B k e h = cc
 apart_has (one a) B k e h = subst (λ x. has B x ≡ false) (sym (same_is k a h)) (grind arith)
 apart_has (A ∪ C) B k e h = grind (arith, apart_has A B k, apart_has C B k)
 
-pub name_has : (b : Bool) → has name (0, main_or_none b) ≡ true
+pub name_has : (b : Bool) → has name (0, if b then main_bytes else []) ≡ true
 name_has true = refl
 name_has false = refl
 
@@ -106,7 +106,7 @@ pub sees_more : (T : Kinds) (xs rest : List Tok) → sees T xs ≡ true → sees
 sees_more T [] rest e = cc
 sees_more T (t ∷ xs) rest e = e
 
-pub second_more : (U : Kinds) (xs rest : List Tok) → sees_second U xs ≡ true → sees_second U (xs ++ rest) ≡ true
+pub second_more : (U : Kinds) (xs rest : List Tok) → sees U (drop 1 xs) ≡ true → sees U (drop 1 (xs ++ rest)) ≡ true
 second_more U [] rest e = cc
 second_more U (t ∷ xs) rest e = sees_more U xs rest e
 
@@ -120,7 +120,7 @@ two_less T U (t ∷ u ∷ xs) r e = e
 pub two_alike : (T U : Kinds) (b more rest : List Tok) → first more ≡ first rest → (sees T (b ++ rest) ≡ true → 1 ≤ length b) → sees_two T U (b ++ more) ≡ sees_two T U (b ++ rest)
 two_alike T U [] more rest e k = go (sees T rest) refl (sees_alike T more rest e)
   where
-    go : (b : Bool) → sees T rest ≡ b → sees T more ≡ sees T rest → (sees T more && sees_second U more) ≡ (sees T rest && sees_second U rest)
+    go : (b : Bool) → sees T rest ≡ b → sees T more ≡ sees T rest → (sees T more && sees U (drop 1 more)) ≡ (sees T rest && sees U (drop 1 rest))
     go true q f = let p = k q in absurd (omega (arith, p))
     go false q f = grind arith
 two_alike T U (t ∷ []) more rest e k = ap (λ b. is T t && b) (sees_alike U more rest e)

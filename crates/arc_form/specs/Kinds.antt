@@ -1,5 +1,5 @@
 -- Kinds of tokens, and sets of them.
-use Rattle.std.specs.Prelude.{ℕ, List, [], Bool, true, false, ◌&&◌, ◌||◌, nat_eq, bytes_eq, codes}
+use Rattle.std.specs.Prelude.{ℕ, List, [], Bool, true, false, ◌&&◌, ◌||◌, nat_eq, bytes_eq, codes, if◌then◌else◌}
 use Rattle.arc_lex.specs.declared.token.Mark.{Mark}
 use Rattle.arc_lex.specs.declared.token.Word.{Word}
 use Rattle.arc_lex.specs.declared.token.AtWord.{AtWord}
@@ -10,17 +10,12 @@ use Rattle.arc_lex.specs.Tokens.{Tok, Sort, Name, Integer, Text, Key, At, Sign, 
 abbrev pub main_bytes : List ℕ
 main_bytes = codes "main"
 
--- what a grammar knows of a name: whether it is `main`
-abbrev pub main_or_none : Bool → List ℕ
-main_or_none true = main_bytes
-main_or_none false = []
-
--- The kind of a token: what a grammar keeps apart. A word and a mark go by how they are written, an integer, a text, a name but `main` and an unused token by what they are alone.
+-- The kind of a token: what a grammar keeps apart. A word, a mark and the name `main` go by how they are written, any other name, an integer, a text and an unused token by what they are alone.
 abbrev pub Kind : Type 0
 Kind = ℕ × List ℕ
 
 abbrev pub kind : Sort → Kind
-kind (Name bytes) = (0, main_or_none (bytes_eq bytes main_bytes))
+kind (Name bytes) = (0, if bytes_eq bytes main_bytes then main_bytes else [])
 kind (Integer value suffixed) = (1, [])
 kind (Text bytes) = (2, [])
 kind (Key word) = (3, word_bytes word)

@@ -57,14 +57,9 @@ abbrev pub sees : Kinds → List Tok → Bool
 sees T [] = false
 sees T (t ∷ ts) = is T t
 
--- whether there is a second token and it is of these kinds
-abbrev pub sees_second : Kinds → List Tok → Bool
-sees_second U [] = false
-sees_second U (t ∷ ts) = sees U ts
-
 -- whether a token of T is ahead, and after it one of U
 abbrev pub sees_two : Kinds → Kinds → List Tok → Bool
-sees_two T U ts = sees T ts && sees_second U ts
+sees_two T U ts = sees T ts && sees U (drop 1 ts)
 
 -- refuses the second token
 abbrev pub second_unexpected : {A : Type 0} → Reader A

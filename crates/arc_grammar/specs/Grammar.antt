@@ -210,6 +210,10 @@ begins_value_type = name ∪ begins_plain_type
 abbrev pub begins_qualifier : Kinds
 begins_qualifier = word w.Strong
 
+-- what begins qualifiers, if there are any, and a type
+abbrev pub begins_qualified_type : Kinds
+begins_qualified_type = begins_qualifier ∪ begins_value_type
+
 -- `__strong`, the only one that is read
 unfoldable pub qualifier : Part Qual
 qualifier = map (λ at. quals.Strong) (key w.Strong)
@@ -270,15 +274,12 @@ by_one at o moment a = Update at o.0 moment o.1 a (Integer o.0 (pos 1) false)
 unfoldable pub field_name : Part (ℕ × List ℕ)
 field_name = map (λ (arrow, n). n) (the m.Arrow ⨾ called)
 
-abbrev pub with_field : ExprTree → ℕ × List ℕ → ExprTree
-with_field object n = Arrow (begins object) n.0 object n.1
-
 -- what may come after a primary expression (6.5.2)
 abbrev pub begins_suffix : Kinds
 begins_suffix = mark m.Arrow ∪ begins_counting
 
 unfoldable pub suffix : Part (ExprTree → ExprTree)
-suffix = choose (mark m.Arrow) (map (λ n object. with_field object n) field_name) (map (λ o a. by_one (begins a) o Before a) counting)
+suffix = choose (mark m.Arrow) (map (λ n object. Arrow (begins object) n.0 object n.1) field_name) (map (λ o a. by_one (begins a) o Before a) counting)
 
 unfoldable pub suffixes : Part (ExprTree → ExprTree)
 suffixes = map (λ all a. fold (λ b make. make b) a all) (many begins_suffix suffix)
@@ -464,12 +465,9 @@ initial = choose (mark m.Assign) (map (λ (sign, e). Some e) (the m.Assign ⨾ f
 unfoldable pub variable : Part VariableTree
 variable = map (λ (q, (n, e)). record { at = n.0; qualifiers = q; name = n.1; initial = e }) (qualifiers ⨾ called ⨾ initial)
 
-abbrev pub class_named : ℕ × List ℕ → ℕ × TypeTree
-class_named n = (n.0, Object n.0 n.1)
-
 -- the type before names that are declared: a class's name, where each name has a `*` of its own, or a type that names no class; with its place
 unfoldable pub declared_type : Bool → Part (ℕ × TypeTree)
-declared_type true = token name (λ t. class_named (readers.named t))
+declared_type true = token name (λ t. (t.from, Object t.from (readers.bytes_of t.sort)))
 declared_type false = plain_type
 
 -- what is declared, which has a `*` where its type is a class's (6.7.5.1)
@@ -597,9 +595,6 @@ parameter_of q type n = record { at = n.0; type = type; qualifiers = q; name = n
 unfoldable pub parameter : Part ParameterTree
 parameter = map (λ (before, (type, (q, n))). parameter_of (both_qualifiers before q) type.1 n) (qualifiers ⨾ value_type ⨾ qualifiers ⨾ called)
 
-abbrev pub begins_parameter : Kinds
-begins_parameter = begins_qualifier ∪ begins_value_type
-
 -- `name[]` or `*name`
 unfoldable pub texts_name : Part (Unit {0})
 texts_name = choose (mark m.Star) (map (λ _. tt) (the m.Star ⨾ called)) (map (λ _. tt) (called ⨾ the m.OpenSquare ⨾ the m.CloseSquare))
@@ -623,7 +618,7 @@ listed_parameters false = map Listed (listed parameter)
 
 -- what a function takes
 unfoldable pub parameters : Bool → Part ParametersTree
-parameters of_main = choose (word w.Void) (map (λ void. Listed []) (key w.Void)) (choose begins_parameter (listed_parameters of_main) (give (Listed [])))
+parameters of_main = choose (word w.Void) (map (λ void. Listed []) (key w.Void)) (choose begins_qualified_type (listed_parameters of_main) (give (Listed [])))
 
 -- the block of a function or a method, whose statements are at depth 2
 unfoldable pub braces : Part StmtTrees
@@ -797,14 +792,11 @@ typed_fields of_class = map (λ (type, (names, end)) q. OfType (q, type.1) names
 unfoldable pub qualified_fields : Part FieldGroup
 qualified_fields = map (λ (q, make). make q) (qualifiers ⨾ choose name (typed_fields true) (typed_fields false))
 
-abbrev pub begins_fields : Kinds
-begins_fields = begins_qualifier ∪ begins_value_type
-
 unfoldable pub group : Part FieldGroup
-group = choose begins_fields qualified_fields (map OfWord (token begins_visibility (λ t. visibility_of t.sort)))
+group = choose begins_qualified_type qualified_fields (map OfWord (token begins_visibility (λ t. visibility_of t.sort)))
 
 unfoldable pub groups : Part (List FieldGroup)
-groups = many (begins_fields ∪ begins_visibility) group
+groups = many (begins_qualified_type ∪ begins_visibility) group
 
 -- no fields, or braces with them; those before any word are visible so
 unfoldable pub fields : Visibility → Part (List FieldTree)
@@ -877,29 +869,19 @@ begins_top = at words.Class ∪ at words.Interface ∪ at words.Implementation �
 unfoldable pub tops : Part (List TopTree)
 tops = many begins_top top
 
--- the functions among these, in their order
-abbrev pub functions_of : List TopTree → List FunctionTree
-functions_of [] = []
-functions_of (OfFunction f ∷ others) = f ∷ functions_of others
-functions_of (_ ∷ others) = functions_of others
+-- a unit, and after it one thing more
+abbrev pub and_top : UnitTree → TopTree → UnitTree
+and_top u OfNames = u
+and_top u (OfFunction f) = record u { functions = add u.functions f }
+and_top u (OfGlobals all) = record u { globals = u.globals ++ all }
+and_top u (OfInterface i) = record u { interfaces = add u.interfaces i }
+and_top u (OfImplementation i) = record u { implementations = add u.implementations i }
 
-abbrev pub globals_of : List TopTree → List GlobalTree
-globals_of [] = []
-globals_of (OfGlobals all ∷ others) = all ++ globals_of others
-globals_of (_ ∷ others) = globals_of others
-
-abbrev pub interfaces_of : List TopTree → List InterfaceTree
-interfaces_of [] = []
-interfaces_of (OfInterface i ∷ others) = i ∷ interfaces_of others
-interfaces_of (_ ∷ others) = interfaces_of others
-
-abbrev pub implementations_of : List TopTree → List ImplementationTree
-implementations_of [] = []
-implementations_of (OfImplementation i ∷ others) = i ∷ implementations_of others
-implementations_of (_ ∷ others) = implementations_of others
+abbrev pub empty_unit : UnitTree
+empty_unit = record { functions = []; globals = []; interfaces = []; implementations = [] }
 
 unfoldable pub unit : Part UnitTree
-unit = map (λ all. record { functions = functions_of all; globals = globals_of all; interfaces = interfaces_of all; implementations = implementations_of all }) tops
+unit = map (λ all. fold and_top empty_unit all) tops
 
 -- ---- the rules
 

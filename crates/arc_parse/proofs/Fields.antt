@@ -8,7 +8,7 @@ use Rattle.arc_ast.specs.Tree.{FieldTree}
 use Rattle.arc_form.specs.Form.{map}
 use Rattle.arc_form.specs.Operators.{fold}
 use Rattle.arc_form.specs.Reader.{Read, Reader, bind, ◌>>=◌, ret, sees, if_sees, take_one}
-use Rattle.arc_grammar.specs.Grammar.{QualifiedType, QualifiedName, FieldGroup, OfWord, OfType, reads, qualifiers, begins_fields, listed, commas, typed_fields, qualified_fields, group, groups, field_of, fields_of, named_fields, visibility_of, begins_visibility}
+use Rattle.arc_grammar.specs.Grammar.{QualifiedType, QualifiedName, FieldGroup, OfWord, OfType, reads, qualifiers, begins_qualified_type, listed, commas, typed_fields, qualified_fields, group, groups, field_of, fields_of, named_fields, visibility_of, begins_visibility}
 use Rattle.arc_grammar.proofs.Fits.{taking}
 use Rattle.arc_grammar.proofs.Loops.{one_more}
 use Rattle.arc_form.specs.Joining.{joining}
@@ -39,12 +39,12 @@ read_either false v q made ts = read_typed_fields false v q made ts
 abbrev pub word_on : List FieldTree → Reader (Visibility × List FieldTree)
 word_on made = take_one begins_visibility (λ t. visibility_of t.sort) >>= (λ next. ret (next, made))
 
-group_is : (v : Visibility) (made : List FieldTree) (ts : List Tok) → group_on (v, made) ts ≡ if_sees begins_fields (reads qualifiers >>= (λ q us. either_fields (sees name us) v q made us)) (word_on made) ts
+group_is : (v : Visibility) (made : List FieldTree) (ts : List Tok) → group_on (v, made) ts ≡ if_sees begins_qualified_type (reads qualifiers >>= (λ q us. either_fields (sees name us) v q made us)) (word_on made) ts
 unfolding group qualified_fields
 group_is v made ts = simp (bind_if, bind_twice)
 
-pub read_group : (v : Visibility) (made : List FieldTree) (ts : List Tok) → group_on (v, made) ts ≡ if_sees begins_fields (reads qualifiers >>= (λ q us. (typed_fields_on (sees name us) v q made >>= (λ all. ret (v, all))) us)) (word_on made) ts
-read_group v made ts = group_is v made ts ∙ ap (λ x. cond (sees begins_fields ts) x (word_on made ts)) (bind_alike (reads qualifiers ts) _ _ (λ q us. read_either (sees name us) v q made us))
+pub read_group : (v : Visibility) (made : List FieldTree) (ts : List Tok) → group_on (v, made) ts ≡ if_sees begins_qualified_type (reads qualifiers >>= (λ q us. (typed_fields_on (sees name us) v q made >>= (λ all. ret (v, all))) us)) (word_on made) ts
+read_group v made ts = group_is v made ts ∙ ap (λ x. cond (sees begins_qualified_type ts) x (word_on made ts)) (bind_alike (reads qualifiers ts) _ _ (λ q us. read_either (sees name us) v q made us))
 
 -- ---- the fields of a class
 

@@ -1,5 +1,5 @@
 -- Variables of the whole program: the loop that reads them, and what reports them from a function.
-use Rattle.std.proofs.Common.{◌≡◌, List, [], ◌∷◌, ◌++◌, map as list_map, append_assoc, append-nil, Bool, true, false, ◌&&◌, ◌||◌, cond, sym, ap, ◌∙◌}
+use Rattle.std.proofs.Common.{◌≡◌, List, [], ◌∷◌, ◌++◌, map as list_map, append_assoc, append-nil, Bool, true, false, ◌&&◌, ◌||◌, cond, sym, ap, ◌∙◌, drop}
 use Rattle.arc_lex.specs.Tokens.{Tok}
 use Rattle.arc_lex.specs.declared.token.Mark.TheVariants as m
 use Rattle.arc_ast.specs.declared.tree.Qualifiers.{Qualifiers}
@@ -7,7 +7,7 @@ use Rattle.arc_ast.specs.declared.tree.Qualifiers.TheVariants.{Unqualified}
 use Rattle.arc_ast.specs.Tree.{TypeTree, ResultTree, FunctionTree, GlobalTree, Value}
 use Rattle.arc_form.specs.Kinds.{mark, main, name, other_name}
 use Rattle.arc_form.specs.Operators.{fold}
-use Rattle.arc_form.specs.Reader.{Read, bind, ◌>>=◌, ret, sees, sees_second, if_sees, take_one, from}
+use Rattle.arc_form.specs.Reader.{Read, bind, ◌>>=◌, ret, sees, if_sees, take_one, from}
 use Rattle.arc_form.specs.Joining.{joining}
 use Rattle.arc_form.proofs.Binding.{bind_twice, bind_alike}
 use Rattle.arc_grammar.specs.Grammar.{Part, QualifiedType, OfFunction, OfGlobals, reads, some_qualifiers, value_type_of, of_function, of_globals, main_function, other_function, function, global, after_comma, commas, globals, typed_top, of_type, typed_globals, of_qualified}
@@ -37,7 +37,7 @@ read_globals c type ts = simp (bind_twice, all_made)
 read_typed : (type : TypeTree) (variables : Part (QualifiedType → List GlobalTree)) (ts : List Tok) → reads_after (typed_top variables) type ts ≡ typed_on variables type ts
 unfolding typed_top function
 read_typed type variables [] = simp bind_twice
-read_typed type variables (t ∷ ts) = go (sees main (t ∷ ts)) (sees other_name (t ∷ ts)) (sees_second (mark m.OpenParen) (t ∷ ts)) (reads main_function (t ∷ ts)) (reads other_function (t ∷ ts)) (reads variables (t ∷ ts))
+read_typed type variables (t ∷ ts) = go (sees main (t ∷ ts)) (sees other_name (t ∷ ts)) (sees (mark m.OpenParen) (drop 1 (t ∷ ts))) (reads main_function (t ∷ ts)) (reads other_function (t ∷ ts)) (reads variables (t ∷ ts))
   where
     go : (is_main is_other opens : Bool) (f g : Read (ResultTree → FunctionTree)) (all : Read (QualifiedType → List GlobalTree))
         → bind (cond (is_main && opens) (bind f (λ make. ret (of_function make))) (cond (is_other && opens) (bind g (λ make. ret (of_function make))) (bind all (λ make. ret (of_globals make))))) (λ make. ret (make type))

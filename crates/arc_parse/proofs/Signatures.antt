@@ -1,18 +1,18 @@
 -- What reads the rest of a function, and the parts of a selector, which a loop appends to those that are there.
-use Rattle.std.proofs.Common.{◌≡◌, ℕ, List, [], ◌∷◌, ◌++◌, append_assoc, append-nil, bytes_eq, Bool, true, false, cond, ◌&&◌, Ok, Err, refl, sym, ap, ap₂, ◌∙◌}
+use Rattle.std.proofs.Common.{◌≡◌, ℕ, List, [], ◌∷◌, ◌++◌, append_assoc, append-nil, bytes_eq, Bool, true, false, cond, ◌&&◌, Ok, Err, refl, sym, ap, ap₂, ◌∙◌, if◌then◌else◌}
 use Rattle.arc_lex.specs.declared.token.Mark.TheVariants as m
 use Rattle.arc_lex.specs.declared.token.Word.TheVariants as w
 use Rattle.arc_ast.specs.declared.tree.Qualifiers.TheVariants.{Unqualified}
 use Rattle.arc_lex.specs.Tokens.{Tok, Sort, Name, Integer, Text, Key, At, Sign, Unused}
 use Rattle.arc_ast.specs.Tree.{ParameterTree, ParametersTree, Listed, Int, HeadTree, ResultTree, FunctionTree}
-use Rattle.arc_form.specs.Kinds.{main_bytes, main_or_none, kind, name, mark, word, ◌∪◌}
+use Rattle.arc_form.specs.Kinds.{main_bytes, kind, name, mark, word, ◌∪◌}
 use Rattle.arc_form.specs.Operators.{fold}
 use Rattle.arc_form.specs.Reader.{Read, Reader, bind, ◌>>=◌, ret, take_one, from, sees, if_sees, sees_two, bytes_of, named}
 use Rattle.arc_form.specs.Joining.{joining}
 use Rattle.arc_form.proofs.Sets.{name_has}
 use Rattle.arc_form.proofs.Binding.{bind_twice, bind_if, bind_alike}
 use Rattle.arc_form.proofs.Joining.{push}
-use Rattle.arc_grammar.specs.Grammar.{Typed, reads, enclosed, with_result, listed, parameter, parameter_of, second, texts, begins_method, next_head, method_head, counted_parameters, listed_parameters, parameters, begins_parameter, function_body, main_function, other_function, function, typed, next_typed, typed_parts, selector_of, seconds}
+use Rattle.arc_grammar.specs.Grammar.{Typed, reads, enclosed, with_result, listed, parameter, parameter_of, second, texts, begins_method, next_head, method_head, counted_parameters, listed_parameters, parameters, begins_qualified_type, function_body, main_function, other_function, function, typed, next_typed, typed_parts, selector_of, seconds}
 use Rattle.arc_grammar.proofs.Fits.{taking}
 use Rattle.arc_grammar.proofs.Loops.{one_more, listed_after}
 use Rattle.arc_parse.specs.private.Declaring.{reads_after}
@@ -27,7 +27,7 @@ unfolding function main_function other_function enclosed_to
 read_function type [] = refl
 read_function type (t ∷ ts) = go t.sort refl
   where
-    signed : (called : List ℕ) (is_main : Bool) → kind t.sort ≡ (0, main_or_none is_main) → bytes_of t.sort ≡ called
+    signed : (called : List ℕ) (is_main : Bool) → kind t.sort ≡ (0, if is_main then main_bytes else []) → bytes_of t.sort ≡ called
         → reads_after function type (t ∷ ts) ≡ bind {A = ParametersTree} (reads (enclosed (parameters is_main)) ts) (λ ps. reads function_body >>= (λ b. ret (with_result ((t.from, called), (ps, b)) type)))
     signed called true k b = rw (k, b) (simp bind_twice)
     signed called false k b = rw (k, b) (simp bind_twice)
@@ -76,7 +76,7 @@ read_after made ts = sym (bind_twice (reads (listed parameter) ts) (λ others. r
 
 -- what a function takes
 pub read_parameters : (of_main : Bool) (ts : List Tok) → reads (parameters of_main) ts
-    ≡ if_sees (word w.Void) (take_one (word w.Void) from >>= (λ void. ret (Listed []))) (if_sees begins_parameter (λ ts. cond (of_main && sees_two (word w.Int) name ts) (reads counted_parameters ts) (parameters_on [] ts)) (ret (Listed []))) ts
+    ≡ if_sees (word w.Void) (take_one (word w.Void) from >>= (λ void. ret (Listed []))) (if_sees begins_qualified_type (λ ts. cond (of_main && sees_two (word w.Int) name ts) (reads counted_parameters ts) (parameters_on [] ts)) (ret (Listed []))) ts
 unfolding parameters listed_parameters
 read_parameters true ts = rw (← read_after [] ts) refl
 read_parameters false ts = rw (← read_after [] ts) refl

@@ -4,4 +4,3 @@ pub mod Signatures
 pub mod Fields
 pub mod Globals
 pub mod Tops
-pub mod Views

@@ -5,10 +5,9 @@ ghost use Rattle.arc_ast.specs.Tree.{unit_tree};
 ghost use Rattle.arc_form.specs.declared.fail.Fail.TheVariants.{Memory};
 ghost use Rattle.arc_form.specs.Reader.{Gives};
 ghost use Rattle.arc_form.specs.Whole.{read_whole};
-ghost use Rattle.arc_grammar.specs.Grammar.{these, reads};
+ghost use Rattle.arc_grammar.specs.Grammar.{and_top, these, reads};
 ghost use Rattle.arc_grammar.specs.Grammar as grammar;
 ghost use Rattle.arc_parse.specs.private.Tops.{top_tree};
-ghost use Rattle.arc_parse.specs.private.Views.{and_top};
 
 use crate::top::{Top, any_top, begins_top};
 use arc_ast::tree::TranslationUnit;

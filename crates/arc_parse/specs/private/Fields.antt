@@ -7,12 +7,12 @@ use Rattle.arc_ast.specs.declared.tree.Qualifiers.{Qualifiers}
 use Rattle.arc_form.specs.Kinds.{Kinds, ◌∪◌, mark}
 use Rattle.arc_form.specs.Operators.{fold}
 use Rattle.arc_form.specs.Reader.{Reader, ◌>>=◌, ret, take_one, from}
-use Rattle.arc_grammar.specs.Grammar.{QualifiedType, QualifiedName, FieldGroup, OfWord, OfType, field_of, reads, declared_type, begins_fields, after_comma, called, starred_name, group, begins_visibility}
+use Rattle.arc_grammar.specs.Grammar.{QualifiedType, QualifiedName, FieldGroup, OfWord, OfType, field_of, reads, declared_type, begins_qualified_type, after_comma, called, starred_name, group, begins_visibility}
 use Rattle.arc_form.specs.Joining.{joining}
 
 -- what a group of fields begins with
 abbrev pub begins_group : Kinds
-begins_group = begins_fields ∪ begins_visibility
+begins_group = begins_qualified_type ∪ begins_visibility
 
 -- fields, and after them one of this type and this name that is visible so
 abbrev pub add_field : Visibility → QualifiedType → List FieldTree → QualifiedName → List FieldTree
