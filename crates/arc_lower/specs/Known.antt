@@ -7,6 +7,9 @@ use Rattle.arc_ast.specs.declared.tree.UnaryOperator.{UnaryOperator}
 use Rattle.arc_ast.specs.declared.tree.UnaryOperator.TheVariants as u
 use Rattle.arc_ast.specs.declared.tree.BinaryOperator.{BinaryOperator}
 use Rattle.arc_ast.specs.declared.tree.BinaryOperator.TheVariants as o
+use Rattle.arc_ast.specs.declared.tree.OperatorSort.{OperatorSort}
+use Rattle.arc_ast.specs.declared.tree.OperatorSort.TheVariants.{Arithmetic, Shift}
+use Rattle.arc_ast.specs.Operators.{sort_of}
 use Rattle.arc_spec.specs.Number.{converted, is_same}
 use Rattle.arc_spec.specs.Resolved.{Value, Number, Print, Applied, Combined, Choice, Converted, Assigned, FieldAssigned, Differ, IsObject}
 
@@ -37,19 +40,17 @@ abbrev pub applied_kind : UnaryOperator → Kind → Kind
 applied_kind u.Not kind = k.Bool
 applied_kind _ kind = kind
 
--- the same; a quotient, a remainder and what is shifted to the right aren't converted to that kind
+abbrev pub kind_by : OperatorSort → Kind → Kind
+kind_by Arithmetic kind = kind
+kind_by Shift kind = kind
+kind_by _ kind = k.Bool
+
+-- what an operator between its operands gives; a quotient, a remainder and what is shifted to the right aren't converted to that kind
 abbrev pub combined_kind : BinaryOperator → Kind → Kind
 combined_kind o.Divide kind = k.Long
 combined_kind o.Remainder kind = k.Long
 combined_kind o.ShiftRight kind = k.Long
-combined_kind o.Add kind = kind
-combined_kind o.Subtract kind = kind
-combined_kind o.Multiply kind = kind
-combined_kind o.ShiftLeft kind = kind
-combined_kind o.BitAnd kind = kind
-combined_kind o.BitXor kind = kind
-combined_kind o.BitOr kind = kind
-combined_kind _ kind = k.Bool
+combined_kind operator kind = kind_by (sort_of operator) kind
 
 -- The kind of the least rank that the form shows. Of a variable, a field, a call and a message it shows none, nor of a byte that is read.
 abbrev pub known_kind : Value → Kind
