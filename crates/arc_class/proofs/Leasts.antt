@@ -2,13 +2,14 @@
 use Rattle.std.proofs.Common.{◌≡◌, ℕ, Bool, true, false, ◌&&◌, ◌||◌, nat_lt, nat_eq, if◌then◌else◌, List, [], ◌∷◌, Option, Some, None, refl, sym, ap, ◌∙◌, arith}
 use Rattle.std.proofs.lemmas.Bool.Decides.{nat_tests}
 use Rattle.std.proofs.lemmas.Option.{none-some}
-use Rattle.arc_spec.specs.Classes.{or_else, first_that_has}
+use Rattle.arc_spec.specs.Classes.{first_that_has}
 use Rattle.arc_class.specs.Lookups.{least_of, least_among}
 use Rattle.std.specs.List.{flat_map}
 use Rattle.arc_class.specs.Broken.{Broken, is_before, earlier, earlier_of, first}
 use Rattle.arc_class.specs.ClassRules.{broken_pair}
 use Rattle.arc_class.proofs.Firsts.{first-append}
 use Rattle.arc_class.proofs.Lessers.{lesser-assoc}
+use Rattle.std.specs.Option.{option_or}
 
 below_both : (a b c : ℕ) → nat_lt b a ≡ true → nat_lt c b ≡ true → nat_lt c a ≡ true
 below_both a b c p q = grind (arith, nat_tests)
@@ -42,11 +43,11 @@ nothing_least own place none (class ∷ others) e =
     ap (λ o. least_of o (least_among place others)) (none class (own_none (own class) (first_that_has own others) e))
     ∙ nothing_least own place none others (rest_none (own class) (first_that_has own others) e)
   where
-    own_none : {X : Type 0} (a b : Option X) → or_else a b ≡ None → a ≡ None
+    own_none : {X : Type 0} (a b : Option X) → option_or a b ≡ None → a ≡ None
     own_none None b h = refl
     own_none (Some x) b h = absurd (none-some x (sym h))
 
-    rest_none : {X : Type 0} (a b : Option X) → or_else a b ≡ None → b ≡ None
+    rest_none : {X : Type 0} (a b : Option X) → option_or a b ≡ None → b ≡ None
     rest_none None b h = h
     rest_none (Some x) b h = absurd (none-some x (sym h))
 

@@ -1,7 +1,7 @@
 -- The classes of a source, their methods and their selectors.
 use Rattle.std.specs.Prelude.{ℕ, zero, suc, ◌+◌, Bool, true, false, ◌&&◌, ◌||◌, nat_lt, List, [], ◌∷◌, ◌++◌, length, map, fold, flat_map, Option, Some, None, option_map, option_and_then, slice_get, codes, if◌then◌else◌}
 use Rattle.std.specs.List.{find, list_any}
-use Rattle.std.specs.Option.{option_map_or}
+use Rattle.std.specs.Option.{option_map_or, option_or}
 use Rattle.std.specs.Str.{bytes_eq}
 use Rattle.arc_ast.specs.declared.tree.Kind.{Kind}
 use Rattle.arc_ast.specs.declared.tree.Kind.TheVariants as k
@@ -13,7 +13,6 @@ use Rattle.arc_class.specs.declared.table.ClassId.{ClassId}
 use Rattle.arc_class.specs.declared.table.MethodResult.{MethodResult}
 use Rattle.arc_spec.specs.Families.{method_family, gives_related, is_object}
 use Rattle.arc_spec.specs.Classes.{same_sign, ancestry, first_that_has}
-pub use Rattle.arc_spec.specs.Classes.{or_else}
 use Rattle.arc_class.specs.Names.{has_body, first_named, parameter_kinds}
 
 -- the one root class, which is built in (this project's own choice)
@@ -138,7 +137,7 @@ abbrev pub nearest_result : UnitTree → Option ℕ → Sign → List ℕ → Op
 nearest_result u from sign selector = first_that_has (λ class. result_in u class sign selector) (ancestry (superclasses u.interfaces) from)
 
 abbrev pub known_result : UnitTree → Option ℕ → Sign → List ℕ → Option MethodResult
-known_result u from sign selector = option_and_then (λ class. or_else (counting_given selector) (nearest_result u (Some class) sign selector)) from
+known_result u from sign selector = option_and_then (λ class. option_or (counting_given selector) (nearest_result u (Some class) sign selector)) from
 
 -- the methods of all interfaces, and those of all implementations
 abbrev pub declared : List InterfaceTree → List HeadTree
@@ -150,16 +149,16 @@ defined = flat_map (λ i. heads i.methods)
 -- What a message to an object gives of which no class is known (OPL, "Dynamic Typing"): where it counts owners as that is known, and else as the first method
 -- of objects does that is declared, or else defined, or built in. All of these give the same.
 abbrev pub source_result : UnitTree → List ℕ → Option Kind
-source_result u selector = or_else (option_map result_of (first_head signs.Instance selector (declared u.interfaces)))
-    (or_else (option_map result_of (first_head signs.Instance selector (defined u.implementations))) (built_in_result signs.Instance selector))
+source_result u selector = option_or (option_map result_of (first_head signs.Instance selector (declared u.interfaces)))
+    (option_or (option_map result_of (first_head signs.Instance selector (defined u.implementations))) (built_in_result signs.Instance selector))
 
 abbrev pub any_result : UnitTree → List ℕ → Option Kind
-any_result u selector = or_else (counting_result selector) (source_result u selector)
+any_result u selector = option_or (counting_result selector) (source_result u selector)
 
 -- the kinds of the parameters of the methods of a sign with a selector, of which all have those of the first that is declared, or else defined
 abbrev pub kinds_passed : UnitTree → Sign → List ℕ → List Kind
 kinds_passed u sign selector =
-    option_map_or (λ h. parameter_kinds h.parameters) (or_else (first_head sign selector (declared u.interfaces)) (first_head sign selector (defined u.implementations))) []
+    option_map_or (λ h. parameter_kinds h.parameters) (option_or (first_head sign selector (declared u.interfaces)) (first_head sign selector (defined u.implementations))) []
 
 -- ---- selectors
 

@@ -1,5 +1,5 @@
 -- A run calls functions and methods, and ends objects, to the most levels.
-use Rattle.std.proofs.Common.{◌≡◌, ℕ, zero, suc, ◌+◌, ℤ, Bool, true, false, not, nat_eq, nat_lt, if◌then◌else◌, List, [], ◌∷◌, ◌++◌, length, Option, Some, None, slice_get, slice_set, slice_index_or, refl, sym, ap, ◌∙◌, subst, arith, inr}
+use Rattle.std.proofs.Common.{◌≡◌, ℕ, zero, suc, ◌+◌, ℤ, pos, Bool, true, false, not, nat_eq, nat_lt, if◌then◌else◌, List, [], ◌∷◌, ◌++◌, length, Option, Some, None, slice_get, slice_set, slice_index_or, refl, sym, ap, ◌∙◌, subst, arith, inr}
 use Rattle.std.proofs.lemmas.Bool.{lt-ltb, le-ltb}
 use Rattle.std.proofs.lemmas.List.{append-nil, length-map, set-set}
 use Rattle.arc_spec.specs.declared.event.Fault.TheVariants.{Resurrected}
@@ -10,8 +10,8 @@ use Rattle.arc_spec.specs.Objects.{Object, Emptying, Gone, object_at, with_objec
 use Rattle.arc_spec.specs.Resolved as resolved
 use Rattle.arc_spec.specs.Meaning.{function_at, called, released, field_stores, field_dropped, fields_dropped, emptied, class_in, dealloc_run, deallocs_run, turned, gone, dying, level}
 use Rattle.arc_spec.specs.World as world
-use Rattle.arc_spec.specs.World.{World, Outcome, Done, Faulted, Finished, finished, then_do, Given, nothing_given, places, stacked, frame_places, with_objects, first_locals, first_names, entered}
-use Rattle.arc_spec.specs.Holding.{Held, Frame, Calling, Ending, Clearing, Waiter, holders, with_things, with_strong_field, on_place, lets_go, raised, resumed, turned_in, gone_in, given_back}
+use Rattle.arc_spec.specs.World.{World, Outcome, Done, Faulted, Finished, finished, then_do, Given, nothing_given, places, stacked, frame_places, with_objects, entered, padded}
+use Rattle.arc_spec.specs.Holding.{Held, Frame, Calling, Ending, Clearing, Waiter, holders, with_things, with_strong_field, on_place, lets_go, raised, resumed, turned_in, given_back}
 use Rattle.arc_spec.specs.Stepping.{Next, Goes, Faults, Reached, Running, follow}
 use Rattle.arc_spec.proofs.Deallocs.{dealloc_and_above, deallocs_from}
 use Rattle.arc_ir.specs.Acting.{Program, State, has_level, enters, answers, begins_end, clears, after_deallocs, clears_next, runs_dealloc, ends_class}
@@ -22,7 +22,7 @@ use Rattle.arc_lower.specs.Lowered.{number_of, slots_of, parameters_of, entry_of
 use Rattle.arc_lower.proofs.CountsPlaces.{no_one, there_fields, raised_count, field_moves, set_here}
 use Rattle.arc_lower.proofs.Leading.{Leads, leads_same, leads_trans, leads_step, Runs, leads_runs, ends_here, then_runs, better_runs, running, quiet}
 use Rattle.arc_lower.proofs.Doing.{recounted, recount, moves, at, counting, held_of, resumed_as, HasAt, has_front, has_back}
-use Rattle.arc_lower.proofs.Stacking.{onto, first_length, passing_leads}
+use Rattle.arc_lower.proofs.Stacking.{onto, padded_length, passing_leads}
 use Rattle.arc_lower.proofs.Shaping.{then_twice}
 use Rattle.arc_lower.proofs.Releasing.{Kept, kept_trans, Ends, laid, dying_in, there_runs, place_takes, lets_runs}
 use Rattle.arc_lower.proofs.Running.{after_call, Returns, answered, Deep, same_put}
@@ -100,7 +100,7 @@ resumed_is : (f : world.Frame) (waiting : List ℕ) (h : Held) → h.places ≡ 
 resumed_is f waiting h e = resumed_as (waits_at f) h f.temporaries f.strong waiting e refl refl
 
 -- an object is gone, where there is such an object
-turned_is : (objects : List Object) (o : ℕ) (found : Option Object) (w : World) → object_at objects o ≡ found → w.objects ≡ objects → turned Gone o found w ≡ record w { objects = gone_in objects o }
+turned_is : (objects : List Object) (o : ℕ) (found : Option Object) (w : World) → object_at objects o ≡ found → w.objects ≡ objects → turned Gone o found w ≡ record w { objects = turned_in Gone objects o }
 turned_is objects o None w e same = ap (λ l. record w { objects = l }) same ∙ rw e refl
 turned_is objects o (Some ob) w e same = rw e (rw same refl)
 
@@ -114,13 +114,13 @@ module _ (p : Program) (R : resolved.Program) (bound : ℕ) (begins : (wanted : 
 
   -- a stub makes its function ready, and leads there
   stub_leads : (rs : List ℕ) (frames : List Frame) (wanted : Gives) (values objects f to : ℕ) (given : Given) (stack : List ℤ) (w : World) → length given.numbers ≡ values → length given.objects ≡ objects → Stub p R wanted values objects f to
-      → Leads (moves p) (running frames (onto given.objects rs) to (onto given.numbers stack) w) (running frames (onto (first_names (parameters_of R wanted f) given.objects) rs) (entry wanted f) (onto (first_locals (slots_of R wanted f) given.numbers) stack) w)
+      → Leads (moves p) (running frames (onto given.objects rs) to (onto given.numbers stack) w) (running frames (onto (padded 0 (parameters_of R wanted f) given.objects) rs) (entry wanted f) (onto (padded (pos 0) (slots_of R wanted f) given.numbers) stack) w)
   stub_leads rs frames wanted values objects f to given stack w size few has =
       let fits = passing_orders R wanted f values objects in
       let place = slice_index_or (entries_of R) (number_of R wanted f) 0 in
       let q = to + length fits in
-      let s = onto (first_locals (slots_of R wanted f) given.numbers) stack in
-      let names1 = onto (first_names (parameters_of R wanted f) given.objects) rs in
+      let s = onto (padded (pos 0) (slots_of R wanted f) given.numbers) stack in
+      let names1 = onto (padded 0 (parameters_of R wanted f) given.objects) rs in
       let start = running frames (onto given.objects rs) to (onto given.numbers stack) w in
       let next = Goes (at frames place s (held_of names1 w)) [] in
       let last = has_back p to fits (Jump (target.At place) ∷ []) has in
@@ -134,7 +134,7 @@ module _ (p : Program) (R : resolved.Program) (bound : ℕ) (begins : (wanted : 
 
   -- a function as it is entered
   abbrev begun_at : (rs : List ℕ) (wanted : Gives) (f self : ℕ) (frames : List Frame) (given : Given) (stack : List ℤ) → World → Reached State
-  begun_at rs wanted f self frames given stack w = running frames (onto (first_names (parameters_of R wanted f) given.objects) rs) (entry wanted f) (onto (first_locals (slots_of R wanted f) given.numbers) stack) (entered (slots_of R wanted f) 0 0 false self given w)
+  begun_at rs wanted f self frames given stack w = running frames (onto (padded 0 (parameters_of R wanted f) given.objects) rs) (entry wanted f) (onto (padded (pos 0) (slots_of R wanted f) given.numbers) stack) (entered (slots_of R wanted f) 0 0 false self given w)
 
   -- a function that was entered comes to its last step
   body_runs : (rs : List ℕ) (levels : ℕ) (wanted : Gives) (f self : ℕ) (frames : List Frame) (given : Given) (stack : List ℤ) (w : World) (deep : Deep p frames bound R (level R bound levels)) → Runs (moves p) bound (begun_at rs wanted f self frames given stack w) (Left_by rs wanted f self frames stack w levels deep) (called (level R bound levels) bound (function_at R wanted f) self given w)
@@ -145,7 +145,7 @@ module _ (p : Program) (R : resolved.Program) (bound : ℕ) (begins : (wanted : 
       let leave = leave_orders F in
       let body = body_orders R place (entry wanted f) F in
       subst (λ g. Runs (moves p) bound (begun_at rs wanted f self frames given stack w) (Left p frames bound R F self w stack rs D deep place g) (called D bound F self given w)) (function_gives R wanted f)
-      (function_runs p frames bound R F self w stack rs D deep place (entry wanted f) given (first_length F.slots given.numbers) (has_front p place leave body (begins wanted f).code) (has_back p place leave body (begins wanted f).code))
+      (function_runs p frames bound R F self w stack rs D deep place (entry wanted f) given (padded_length (pos 0) F.slots given.numbers) (has_front p place leave body (begins wanted f).code) (has_back p place leave body (begins wanted f).code))
 
   -- after a call its object is the last temporary
   abbrev given_at : List Frame → (rs : List ℕ) → (pc : ℕ) → List ℤ → (object : ℕ) → World → world.Frame → List ℕ → Reached State
@@ -226,12 +226,12 @@ module _ (p : Program) (R : resolved.Program) (bound : ℕ) (begins : (wanted : 
 
     -- after the end
     abbrev goes_back : World → Next State
-    goes_back w = Goes (at frames back stack (resumed waits (with_things (ended_held rs o w) (gone_in w.objects o)))) []
+    goes_back w = Goes (at frames back stack (resumed waits (with_things (ended_held rs o w) (turned_in Gone w.objects o)))) []
 
     last_by : (b : Bool) (w : World) → Still w → Runs (moves p) bound (follow (recount (if not b then goes_back w else Faults Resurrected)) w.input w.trace) (Back w) (if b then Faulted Resurrected w else Done finished (turned Gone o (object_at w.objects o) w))
     last_by true w still = inr (leads_same (moves p) _ _ refl)
     last_by false w still =
-        let w2 : World = record w { objects = gone_in w.objects o } in
+        let w2 : World = record w { objects = turned_in Gone w.objects o } in
         let from = recount (goes_back w) in
         let path : follow from w.input w.trace ≡ running frames rs back stack (laid w2 f0 waiting) =
         ap (λ t. Running (at frames back stack (recounted (resumed waits (with_things (ended_held rs o w) w2.objects)))) w.input t) (append-nil w.trace)
@@ -470,8 +470,8 @@ module _ (p : Program) (R : resolved.Program) (bound : ℕ) (begins : (wanted : 
     pub calls_run : (levels : ℕ) (frames : List Frame) → length frames + levels ≡ MOST_LEVELS → Deep p frames bound R (level R bound levels)
     calls_run zero frames full = record {
       invokes = λ wanted f given stack rs w pc has.
-          let s = onto (first_locals (slots_of R wanted f) given.numbers) stack in
-          let names1 = onto (first_names (parameters_of R wanted f) given.objects) rs in
+          let s = onto (padded (pos 0) (slots_of R wanted f) given.numbers) stack in
+          let names1 = onto (padded 0 (parameters_of R wanted f) given.objects) rs in
           inr (leads_step (moves p) (at frames pc s (held_of names1 w)) w.input w.trace (enters (at frames pc s (held_of names1 w)) (entry wanted f) 0 false) (call_steps wanted f pc frames s (held_of names1 w) false has (le-ltb (length frames) MOST_LEVELS (omega (arith, full)))));
       says = λ sign from selector arguments objects wanted self given stack rs w pc size few.
           last_finds rs frames full (lookup R.classes from sign selector arguments objects wanted) (lookup p.classes from sign selector arguments objects wanted) wanted (passes sign arguments) objects self given stack w pc (lookup_meets p R links sign from selector arguments objects wanted);
@@ -485,8 +485,8 @@ module _ (p : Program) (R : resolved.Program) (bound : ℕ) (begins : (wanted : 
     calls_run (suc levels) frames full = record {
       invokes = λ wanted f given stack rs w pc has.
           let inner1 = Calling (pc + 1) (waits_of w) ∷ frames in
-          let s = onto (first_locals (slots_of R wanted f) given.numbers) stack in
-          let names1 = onto (first_names (parameters_of R wanted f) given.objects) rs in
+          let s = onto (padded (pos 0) (slots_of R wanted f) given.numbers) stack in
+          let names1 = onto (padded 0 (parameters_of R wanted f) given.objects) rs in
           let w1 = entered (slots_of R wanted f) 0 0 false 0 given w in
           let next = Goes (at inner1 (entry wanted f) s (held_of names1 w1)) [] in
           let begun1 = begun_at rs wanted f 0 inner1 given stack w in

@@ -1,5 +1,5 @@
 -- A run does what a function does, and leaves it.
-use Rattle.std.proofs.Common.{◌≡◌, ℕ, zero, suc, ◌+◌, ◌-◌, ◌≤◌, ◌<◌, ℤ, Bool, true, false, not, ◌&&◌, ◌||◌, inl, inr, if◌then◌else◌, List, [], ◌∷◌, ◌++◌, length, take, Some, None, slice_get, slice_set, refl, sym, ap, ◌∙◌, subst, arith, append_assoc, length-append}
+use Rattle.std.proofs.Common.{◌≡◌, ℕ, zero, suc, ◌+◌, ◌-◌, ◌≤◌, ◌<◌, ℤ, pos, Bool, true, false, not, ◌&&◌, ◌||◌, inl, inr, if◌then◌else◌, List, [], ◌∷◌, ◌++◌, length, take, Some, None, slice_get, slice_set, refl, sym, ap, ◌∙◌, subst, arith, append_assoc, length-append}
 use Rattle.std.proofs.lemmas.Bool.{eq-eqb, true≢false}
 use Rattle.std.proofs.Math.Seq.{take-nil}
 use Rattle.std.proofs.lemmas.Bool.Decides.{nat_tests}
@@ -12,7 +12,7 @@ use Rattle.arc_spec.specs.Resolved.{Value, Command, Sequence, Give, Choose, Repe
 use Rattle.arc_spec.specs.Resolved as resolved
 use Rattle.arc_spec.specs.Meaning.{Deeper, Flow, given, answer, released, all_dropped, variables_dropped, function_places, called, all_executed}
 use Rattle.arc_spec.specs.World as world
-use Rattle.arc_spec.specs.World.{World, Outcome, Done, Finished, finished, then_do, Given, stacked, places, name_at, first_frame, first_locals, first_names, and_self, takes, entered, left}
+use Rattle.arc_spec.specs.World.{World, Outcome, Done, Finished, finished, then_do, Given, stacked, places, name_at, first_frame, and_self, takes, entered, left, padded}
 use Rattle.arc_spec.specs.Holding.{Held, Frame, Calling, Ending, Clearing, all_nil, on_left, on_last, on_result, on_named, named, raised, with_variables}
 use Rattle.arc_spec.specs.Stepping.{Next, Reached, follow, on_found}
 use Rattle.arc_code.specs.Instructions as instructions
@@ -27,17 +27,12 @@ use Rattle.arc_lower.specs.Size.{object_parameters, does_nothing}
 use Rattle.arc_lower.proofs.Leading as leading
 use Rattle.arc_lower.proofs.Leading.{Runs, leads_runs, stuck_runs, ends_here, then_runs, then_at, running, one_runs, quiet, quiet_runs, Passes, then_passes, one_passes, no_passes}
 use Rattle.arc_lower.proofs.Doing.{recount, moves, at, counting, held_of, bare, HasAt, has_front, has_back}
-use Rattle.arc_lower.proofs.Stacking.{onto, get_below, set_below, keep_passes}
+use Rattle.arc_lower.proofs.Stacking.{onto, padded_length, get_below, set_below, keep_passes}
 use Rattle.arc_lower.proofs.Releasing.{Kept, Stays, only_runs, named_runs, emptied, empties_run, dropped_runs}
 use Rattle.arc_lower.proofs.Shaping.{push, Way, Out, left_by}
 use Rattle.arc_lower.proofs.Executing.{calm, body_is}
 use Rattle.arc_lower.proofs.Quiet.{takes_none, both_true}
 use Rattle.arc_lower.proofs.Running.{Deep, Good, Leaves, emptied_good, kept_good, block_runs}
-
-pub names_length : (n : ℕ) (objects : List ℕ) → length (first_names n objects) ≡ n
-names_length zero objects = refl
-names_length (suc n) [] = ap suc (names_length n [])
-names_length (suc n) (r ∷ objects) = ap suc (names_length n objects)
 
 nils_split : (a b n : ℕ) → a ≤ n → b ≡ n - a → nils n ≡ nils a ++ nils b
 nils_split zero b n le e = let same : n ≡ b = omega (arith, e) in ap nils same
@@ -226,7 +221,7 @@ module _ (p : Program) (frames : List Frame) (bound : ℕ) (R : resolved.Program
 
   -- the function as it begins, with so many variables that are nil, and others
   abbrev begun_with : Given → (strong : List ℕ) → World
-  begun_with given_to strong = record before { frame = record { self = self; locals = first_locals F.slots given_to.numbers; strong = strong; temporaries = [] }; waiting = stacked before }
+  begun_with given_to strong = record before { frame = record { self = self; locals = padded (pos 0) F.slots given_to.numbers; strong = strong; temporaries = [] }; waiting = stacked before }
 
   declares_pass : (n m : ℕ) (given_to : Given) (names1 : List ℕ) (stack : List ℤ) → Passes p frames bound names1 (declare_orders n) stack (begun_with given_to (nils m)) stack (begun_with given_to (nils (n + m)))
   declares_pass zero m given_to names1 stack = let e : m ≡ 0 + m = omega arith in no_passes p frames bound names1 stack (begun_with given_to (nils m)) stack (begun_with given_to (nils (0 + m))) refl (ap (λ k. begun_with given_to (nils k)) e)
@@ -300,37 +295,37 @@ module _ (p : Program) (frames : List Frame) (bound : ℕ) (R : resolved.Program
       one_runs p frames bound rs (Plain ReadSelf) pc stack w end o (has.0, tt)
       (named_runs p bound w.input w.trace end o self (named self (held_of rs w)) _ (quiet_runs p frames bound names1 (pc + 1) stack w1 end o stored))
 
-  rest_nil : (k : ℕ) → nils k ≡ first_names k []
+  rest_nil : (k : ℕ) → nils k ≡ padded 0 k []
   rest_nil zero = refl
   rest_nil (suc k) = ap (λ l. 0 ∷ l) (rest_nil k)
 
   -- what the first variables took, and nil for all others
-  firsts_are : (n more parameters : ℕ) (objects : List ℕ) → n ≤ parameters → (1 ≤ more → parameters ≡ n) → first_names n objects ++ nils more ≡ first_names (n + more) (take parameters objects)
+  firsts_are : (n more parameters : ℕ) (objects : List ℕ) → n ≤ parameters → (1 ≤ more → parameters ≡ n) → padded 0 n objects ++ nils more ≡ padded 0 (n + more) (take parameters objects)
   firsts_are zero zero parameters objects le only = refl
   firsts_are zero (suc more) parameters objects le only =
       let none = only (omega arith) in
       let size : suc more ≡ 0 + suc more = omega arith in
-      rest_nil (suc more) ∙ ap (λ k. first_names k (take 0 objects)) size ∙ ap (λ k. first_names (0 + suc more) (take k objects)) (sym none)
+      rest_nil (suc more) ∙ ap (λ k. padded 0 k (take 0 objects)) size ∙ ap (λ k. padded 0 (0 + suc more) (take k objects)) (sym none)
   firsts_are (suc n) more zero objects le only = absurd (omega (arith, le))
   firsts_are (suc n) more (suc parameters) [] le only =
       let size : suc (n + more) ≡ suc n + more = omega arith in
-      ap (λ l. 0 ∷ l) (firsts_are n more parameters [] (omega (arith, le)) (λ some. let same = only some in omega (arith, same))) ∙ ap (λ l. first_names (suc (n + more)) (0 ∷ l)) (take-nil {A = ℕ} parameters) ∙ ap (λ k. first_names k []) size
+      ap (λ l. 0 ∷ l) (firsts_are n more parameters [] (omega (arith, le)) (λ some. let same = only some in omega (arith, same))) ∙ ap (λ l. padded 0 (suc (n + more)) (0 ∷ l)) (take-nil {A = ℕ} parameters) ∙ ap (λ k. padded 0 k []) size
   firsts_are (suc n) more (suc parameters) (x ∷ objects) le only =
       let size : suc (n + more) ≡ suc n + more = omega arith in
-      ap (λ l. x ∷ l) (firsts_are n more parameters objects (omega (arith, le)) (λ some. let same = only some in omega (arith, same))) ∙ ap (λ k. first_names k (x ∷ take parameters objects)) size
+      ap (λ l. x ∷ l) (firsts_are n more parameters objects (omega (arith, le)) (λ some. let same = only some in omega (arith, same))) ∙ ap (λ k. padded 0 k (x ∷ take parameters objects)) size
 
-  first_are : (n count parameters : ℕ) (objects : List ℕ) → n ≡ lesser parameters count → first_names n objects ++ nils (count - n) ≡ first_names count (take parameters objects)
+  first_are : (n count parameters : ℕ) (objects : List ℕ) → n ≡ lesser parameters count → padded 0 n objects ++ nils (count - n) ≡ padded 0 count (take parameters objects)
   first_are n count parameters objects e =
       let parts = fewest parameters count in
       let size : n + (count - n) ≡ count = omega (arith, e, parts.1) in
-      firsts_are n (count - n) parameters objects (omega (arith, e, parts.0)) (λ some. omega (arith, e, parts.2, some)) ∙ ap (λ k. first_names k (take parameters objects)) size
+      firsts_are n (count - n) parameters objects (omega (arith, e, parts.0)) (λ some. omega (arith, e, parts.2, some)) ∙ ap (λ k. padded 0 k (take parameters objects)) size
 
   -- what a function begins with, where it owns `self` and where it doesn't
   abbrev opens : (owns : Bool) → (count few : ℕ) → List Order
   opens owns count few = declare_orders count ++ (take_orders (if owns then 1 else 0) few ++ (if owns then own_orders count else []))
 
   abbrev first_strong : (owns : Bool) → (count : ℕ) → Given → List ℕ
-  first_strong owns count arguments = first_names count (and_self owns self (take F.parameters arguments.objects))
+  first_strong owns count arguments = padded 0 count (and_self owns self (take F.parameters arguments.objects))
 
   declared_leads : (head : List ℕ) (count few rest : ℕ) (arguments : Given) (all_names : List ℕ) (stack : List ℤ) (entry : ℕ) → nils count ≡ head ++ (nils few ++ nils rest) → HasAt p entry (declare_orders count)
       → leading.Leads (moves p) (running frames all_names entry stack (begun_with arguments [])) (running frames all_names (entry + length (declare_orders count)) stack (begun_with arguments (head ++ (nils few ++ nils rest))))
@@ -343,12 +338,12 @@ module _ (p : Program) (frames : List Frame) (bound : ℕ) (R : resolved.Program
 
   opening_runs : {A : Type 0} (owns : Bool) (count few : ℕ) (arguments : Given) (stack : List ℤ) (entry : ℕ) (end : A → World → Reached State → Type 0) (o : Outcome A) → few ≡ lesser F.parameters (count - (if owns then 1 else 0)) → HasAt p entry (opens owns count few)
       → Runs (moves p) bound (running frames rs (entry + length (opens owns count few)) stack (begun_with arguments (first_strong owns count arguments))) end o
-      → Runs (moves p) bound (running frames (onto (first_names few arguments.objects) rs) entry stack (begun_with arguments [])) end o
+      → Runs (moves p) bound (running frames (onto (padded 0 few arguments.objects) rs) entry stack (begun_with arguments [])) end o
   opening_runs false count few arguments stack entry end o few_is has go =
       let e : count - 0 ≡ count = omega arith in
       let is : few ≡ lesser F.parameters count = few_is ∙ ap (lesser F.parameters) e in
       let le : few ≤ count = omega (arith, is, few_of F.parameters count) in
-      let objects = first_names few arguments.objects in
+      let objects = padded 0 few arguments.objects in
       let all_names = onto objects rs in
       let declares = declare_orders count in
       let takes1 = take_orders 0 few in
@@ -357,20 +352,20 @@ module _ (p : Program) (frames : List Frame) (bound : ℕ) (R : resolved.Program
       let same : objects ++ nils (count - few) ≡ first_strong false count arguments = first_are few count F.parameters arguments.objects is in
       leads_runs (moves p) bound (running frames all_names entry stack (begun_with arguments [])) (running frames all_names middle stack (begun_with arguments (nils few ++ nils (count - few)))) end o
       (declared_leads [] count few (count - few) arguments all_names stack entry (nils_split few (count - few) count le refl) (has_front p entry declares (takes1 ++ []) has))
-      (takes_run [] few objects (nils (count - few)) arguments stack middle end o (names_length few arguments.objects) (has_front p middle takes1 [] (has_back p entry declares (takes1 ++ []) has))
+      (takes_run [] few objects (nils (count - few)) arguments stack middle end o (padded_length 0 few arguments.objects) (has_front p middle takes1 [] (has_back p entry declares (takes1 ++ []) has))
       (subst (λ q. Runs (moves p) bound (running frames rs q stack (begun_with arguments (objects ++ nils (count - few)))) end o) (sym there)
       (subst (λ l. Runs (moves p) bound (running frames rs (entry + length (opens false count few)) stack (begun_with arguments l)) end o) (sym same) go)))
   opening_runs true zero few arguments stack entry end o few_is has go =
       let e : 0 - 1 ≡ 0 = omega arith in
       let is : few ≡ lesser F.parameters 0 = few_is ∙ ap (lesser F.parameters) e in
       let none : 0 ≡ few = omega (arith, is, few_of F.parameters 0) in
-      subst (λ n. Runs (moves p) bound (running frames rs (entry + length (opens true zero n)) stack (begun_with arguments [])) end o → Runs (moves p) bound (running frames (onto (first_names n arguments.objects) rs) entry stack (begun_with arguments [])) end o) none
+      subst (λ n. Runs (moves p) bound (running frames rs (entry + length (opens true zero n)) stack (begun_with arguments [])) end o → Runs (moves p) bound (running frames (onto (padded 0 n arguments.objects) rs) entry stack (begun_with arguments [])) end o) none
       (λ go1. subst (λ q. Runs (moves p) bound (running frames rs q stack (begun_with arguments [])) end o) (omega arith) go1) go
   opening_runs true (suc m) few arguments stack entry end o few_is has go =
       let e : suc m - 1 ≡ m = omega arith in
       let is : few ≡ lesser F.parameters m = few_is ∙ ap (lesser F.parameters) e in
       let le : few ≤ m = omega (arith, is, few_of F.parameters m) in
-      let objects = first_names few arguments.objects in
+      let objects = padded 0 few arguments.objects in
       let all_names = onto objects rs in
       let declares = declare_orders (suc m) in
       let takes1 = take_orders 1 few in
@@ -380,18 +375,18 @@ module _ (p : Program) (frames : List Frame) (bound : ℕ) (R : resolved.Program
       let q = middle + length takes1 in
       let there : q + 1 + 1 + 1 + 1 ≡ entry + length (declares ++ (takes1 ++ owned)) = omega (arith, length-append declares (takes1 ++ owned), length-append takes1 owned, four) in
       let tail = objects ++ nils (m - few) in
-      let same : tail ≡ first_names m (take F.parameters arguments.objects) = first_are few m F.parameters arguments.objects is in
+      let same : tail ≡ padded 0 m (take F.parameters arguments.objects) = first_are few m F.parameters arguments.objects is in
       let has_after = has_back p entry declares (takes1 ++ owned) has in
       leads_runs (moves p) bound (running frames all_names entry stack (begun_with arguments [])) (running frames all_names middle stack (begun_with arguments (0 ∷ (nils few ++ nils (m - few))))) end o
       (declared_leads (0 ∷ []) (suc m) few (m - few) arguments all_names stack entry (ap (λ l. 0 ∷ l) (nils_split few (m - few) m le refl)) (has_front p entry declares (takes1 ++ owned) has))
-      (takes_run (0 ∷ []) few objects (nils (m - few)) arguments stack middle end o (names_length few arguments.objects) (has_front p middle takes1 owned has_after)
+      (takes_run (0 ∷ []) few objects (nils (m - few)) arguments stack middle end o (padded_length 0 few arguments.objects) (has_front p middle takes1 owned has_after)
       (owns_run tail arguments stack q end o (has_back p middle takes1 owned has_after)
       (subst (λ n. Runs (moves p) bound (running frames rs n stack (begun_with arguments (self ∷ tail))) end o) (sym there)
       (subst (λ l. Runs (moves p) bound (running frames rs (entry + length (opens true (suc m) few)) stack (begun_with arguments (self ∷ l))) end o) (sym same) go))))
 
   -- a function that is entered comes to its last step
-  pub function_runs : (entry : ℕ) (arguments : Given) → length (first_locals F.slots arguments.numbers) ≡ F.slots → HasAt p exit (leave_orders F) → HasAt p entry (body_orders R exit entry F)
-      → Runs (moves p) bound (running frames (onto (first_names (object_parameters F) arguments.objects) rs) entry (onto (first_locals F.slots arguments.numbers) below) (entered F.slots 0 0 false self arguments before)) (Left F.gives) (called D bound F self arguments before)
+  pub function_runs : (entry : ℕ) (arguments : Given) → length (padded (pos 0) F.slots arguments.numbers) ≡ F.slots → HasAt p exit (leave_orders F) → HasAt p entry (body_orders R exit entry F)
+      → Runs (moves p) bound (running frames (onto (padded 0 (object_parameters F) arguments.objects) rs) entry (onto (padded (pos 0) F.slots arguments.numbers) below) (entered F.slots 0 0 false self arguments before)) (Left F.gives) (called D bound F self arguments before)
   function_runs entry arguments size leave has =
       let count = function_places F in
       let opening = opening_orders F in
@@ -401,10 +396,10 @@ module _ (p : Program) (frames : List Frame) (bound : ℕ) (R : resolved.Program
       let xs = flat R F.slots count spot b in
       let none_given = nothing_given exit in
       let w0 = entered F.slots count F.parameters F.owns self arguments before in
-      let stack = onto (first_locals F.slots arguments.numbers) below in
+      let stack = onto (padded (pos 0) F.slots arguments.numbers) below in
       let s = calm rs in
       let meant = called D bound F self arguments before in
-      let strong : length w0.frame.strong ≡ count = names_length count (and_self F.owns self (take F.parameters arguments.objects)) in
+      let strong : length w0.frame.strong ≡ count = padded_length 0 count (and_self F.owns self (take F.parameters arguments.objects)) in
       let good : Fine true w0 = (record { locals = size; strong = strong; itself = refl; waits = refl }, λ x. refl) in
       let end = Leaves p frames bound R F.slots count self (stacked before) below D deep no_turn true (place + length xs) in
       let o = then_do (all_executed D bound F.body w0) (λ flow w1. Done (given flow) w1) in

@@ -7,7 +7,7 @@ use Rattle.arc_ast.specs.declared.tree.Sign.TheVariants as signs
 use Rattle.arc_spec.specs.declared.class.Method.{Method}
 use Rattle.arc_spec.specs.declared.class.Gives.{Gives}
 use Rattle.arc_spec.specs.declared.class.Gives.TheVariants as gives
-use Rattle.arc_spec.specs.Classes.{Class, superclasses, ancestry, first_that_has, own_methods, same_sign, same_gives, answers, found, or_else, lookup, descends, strong_count, strong_counts, order_of_fields, above_class, field_order}
+use Rattle.arc_spec.specs.Classes.{Class, superclasses, ancestry, first_that_has, own_methods, same_sign, same_gives, answers, found, lookup, descends, strong_count, strong_counts, order_of_fields, above_class, field_order}
 use Rattle.arc_spec.specs.Meaning.{function_at, nothing_giving}
 use Rattle.arc_spec.specs.Holding.{count_of, Held, Frame}
 use Rattle.arc_spec.specs.Resolved as resolved
@@ -24,6 +24,7 @@ use Rattle.arc_lower.specs.Order.{Order, orders}
 use Rattle.arc_lower.proofs.Rows.{call_length}
 use Rattle.arc_lower.proofs.Callees.{with_functions}
 use Rattle.arc_spec.specs.declared.limits.TheConstants.{MOST_LEVELS}
+use Rattle.std.specs.Option.{option_or}
 
 -- a function's stub for so many numbers stands at a place
 abbrev pub Stub : Program → resolved.Program → (wanted : Gives) → (values objects f place : ℕ) → Type 0
@@ -129,7 +130,7 @@ module _ (p : Program) (R : resolved.Program) where
 
   -- ---- lookups
 
-  else_meets : (wanted : Gives) (values objects : ℕ) (a b x y : Option ℕ) → Meets p R wanted values objects a b → Meets p R wanted values objects x y → Meets p R wanted values objects (or_else a x) (or_else b y)
+  else_meets : (wanted : Gives) (values objects : ℕ) (a b x y : Option ℕ) → Meets p R wanted values objects a b → Meets p R wanted values objects x y → Meets p R wanted values objects (option_or a x) (option_or b y)
   else_meets wanted values objects None None x y first above = above
   else_meets wanted values objects (Some f) (Some place) x y first above = first
   else_meets wanted values objects _ _ x y first above = absurd first

@@ -7,7 +7,7 @@ use Rattle.arc_ast.specs.declared.tree.Sign.{Sign}
 use Rattle.arc_spec.specs.declared.class.Gives.{Gives}
 use Rattle.arc_spec.specs.declared.class.Gives.TheVariants as gives
 use Rattle.arc_spec.specs.declared.class.Method.{Method}
-use Rattle.arc_spec.specs.Classes.{Class, answers, found, own_methods, or_else, first_that_has, superclasses, ancestry, lookup, lesser, same_gives}
+use Rattle.arc_spec.specs.Classes.{Class, answers, found, own_methods, first_that_has, superclasses, ancestry, lookup, lesser, same_gives}
 use Rattle.arc_spec.specs.Resolved.{Function, Commands}
 use Rattle.arc_spec.specs.Resolved as resolved
 use Rattle.arc_spec.specs.Meaning.{function_at, function_places}
@@ -26,6 +26,7 @@ use Rattle.arc_lower.proofs.Typing.{heights_same, slots_same, parameters_same, n
 use Rattle.arc_lower.proofs.HeightsEnd.{last_append, Keeps, block_ends}
 use Rattle.arc_lower.proofs.Forms.{nothing_types, commands_type}
 use Rattle.arc_lower.proofs.Stepping.{some_same, HasPart, part_front, part_back, has_whole, Takes, Clears, Stands, Goes, Free, free_at, Steps, StepsAt, AllStep, step_then, IsLeave, leaves_keep, opens_goes, none_goes, Row, row_of, row_front, row_back, typed_steps, AllTake, takes_stand, takes_step, block_steps}
+use Rattle.std.specs.Option.{option_or}
 
 heights_length : (R : resolved.Program) (base : Height) (w : Walk) (xs : List Order) → length (walk_heights R base w xs) ≡ length xs
 heights_length R base w [] = refl
@@ -474,7 +475,7 @@ module _ (R : resolved.Program) where
   first_of Q go to one [] e = cc
   first_of Q go to one (c ∷ cs) e = by (first_of Q go to one cs) (go c) refl e
     where
-      by : (first_that_has go cs ≡ Some to → Q) → (o : Option ℕ) → go c ≡ o → or_else o (first_that_has go cs) ≡ Some to → Q
+      by : (first_that_has go cs ≡ Some to → Q) → (o : Option ℕ) → go c ≡ o → option_or o (first_that_has go cs) ≡ Some to → Q
       by rest None is e = rest e
       by rest (Some a) is e = one c (is ∙ e)
 

@@ -16,7 +16,7 @@ use Rattle.arc_spec.specs.declared.location.Location.TheVariants.{Local, Global}
 use Rattle.arc_spec.specs.Resolved.{Piece}
 use Rattle.arc_spec.specs.Meaning.{Deeper, held_at, holds, chosen, temporaries_dropped, released, and_number, field_stores, dispatched, finds, gives_object, runs_found, class_in, sent, sent_from, object_given, next_object, made, made_new, second_dropped, result_place, in_object, difference, formatted, byte_count, or_fault, assigned, all_dropped, variables_dropped}
 use Rattle.arc_spec.specs.World as world
-use Rattle.arc_spec.specs.World.{World, Outcome, Done, Faulted, Finished, finished, then_do, Given, nothing_given, prints, next_number, after_next, with_locals, with_objects, with_temporaries, local_at, name_at, named_at, first_locals, first_names, with_strong_globals, takes, stores}
+use Rattle.arc_spec.specs.World.{World, Outcome, Done, Faulted, Finished, finished, then_do, Given, nothing_given, prints, next_number, with_locals, with_objects, with_temporaries, local_at, name_at, named_at, with_strong_globals, takes, stores, padded}
 use Rattle.arc_spec.specs.Holding.{Frame, is_there, on_field, count_of, with_strong_field, on_place, named, raised, with_variables}
 use Rattle.arc_spec.specs.Stepping.{Next, Goes, Faults, Reached, follow, fed, on_found}
 use Rattle.arc_ir.specs.declared.action.Target.{Target}
@@ -42,6 +42,7 @@ use Rattle.arc_lower.proofs.Stacking.{onto, Peels, peels_onto, drop_onto, withou
 use Rattle.arc_lower.proofs.Releasing.{Kept, kept_same, Ends, Stays, object_runs, there_runs, place_takes, named_runs, global_runs, strong_field_runs, emptied, empties, dropped_runs, settled_runs, no_variable, changes_runs, empties_run}
 use Rattle.arc_lower.proofs.Shaping.{Operands, push, name, Way, On, Out, Quits, Turns, Lost, left_by, on_way, and_then, only_on, after_turn, on_test, top_of, taken_of, on_given, pushes, answers_left, passes_by, operation, message_sent, block_turns, loop_entered, block}
 use Rattle.arc_lower.proofs.Quiet.{takes_none, quiet_flat}
+use Rattle.std.specs.Prelude.{drop}
 
 -- after a call, with its number on top, or with its object, which the last reference names and the last temporary
 abbrev pub after_call : (wanted : Gives) (frames : List Frame) (rs : List ℕ) (pc : ℕ) (stack : List ℤ) → world.Answer → World → Reached State
@@ -73,7 +74,7 @@ onto_none (v ∷ values) rest e = absurd (omega (arith, e))
 -- calls of functions, messages and ends of objects do what is meant, and classes are as they are meant
 pub record Deep (p : Program) (frames : List Frame) (bound : ℕ) (R : resolved.Program) (D : Deeper) : Type 0 where
   pub invokes : (wanted : Gives) (f : ℕ) (given : Given) (stack : List ℤ) (rs : List ℕ) (w : World) (pc : ℕ) → HasAt p pc (Call (number_of R wanted f) wanted ∷ [])
-      → Runs (moves p) bound (running frames (onto (first_names (parameters_of R wanted f) given.objects) rs) pc (onto (first_locals (slots_of R wanted f) given.numbers) stack) w) (Returns wanted frames rs pc stack w) (D.call wanted f 0 given w)
+      → Runs (moves p) bound (running frames (onto (padded 0 (parameters_of R wanted f) given.objects) rs) pc (onto (padded (pos 0) (slots_of R wanted f) given.numbers) stack) w) (Returns wanted frames rs pc stack w) (D.call wanted f 0 given w)
   pub says : (sign : Sign) (from : Option ℕ) (selector arguments objects : ℕ) (wanted : Gives) (self : ℕ) (given : Given) (stack : List ℤ) (rs : List ℕ) (w : World) (pc : ℕ) → length given.numbers ≡ passes sign arguments → length given.objects ≡ objects
       → Runs (moves p) bound (follow (recount (answers (at frames pc (onto given.numbers stack) (held_of (onto given.objects rs) w)) self (lookup p.classes from sign selector arguments objects wanted))) w.input w.trace) (Returns wanted frames rs pc stack w) (answered D wanted (lookup D.classes from sign selector arguments objects wanted) self given w)
   pub ends : Ends p frames bound D
@@ -181,7 +182,7 @@ module _ (p : Program) (frames : List Frame) (bound : ℕ) (R : resolved.Program
   faulting turn calm None pc all s w g = inr (leads_same (moves p) _ _ refl)
   faulting turn calm (Some v) pc all s w g = quietly turn calm (pc + 1) (push v s) w g
 
-  reading : (turn : Turn) (calm : Bool) (pc : ℕ) (s : Operands) (w : World) (i : List ℕ) → w.input ≡ i → Good calm w → Goes_on turn calm (fed (λ answer. fresh (onward (state pc s w) (byte_or_end answer ∷ (s.numbers ++ vars w)))) i w.trace) (pc + 1) (Done (On (push (next_number i) s)) (record w { input = after_next i }))
+  reading : (turn : Turn) (calm : Bool) (pc : ℕ) (s : Operands) (w : World) (i : List ℕ) → w.input ≡ i → Good calm w → Goes_on turn calm (fed (λ answer. fresh (onward (state pc s w) (byte_or_end answer ∷ (s.numbers ++ vars w)))) i w.trace) (pc + 1) (Done (On (push (next_number i) s)) (record w { input = drop 1 i }))
   reading turn calm pc s w [] e g = here turn calm (pc + 1) (push (next_number []) s) (record w { input = [] }) (record { locals = g.0.locals; strong = g.0.strong; itself = g.0.itself; waits = g.0.waits }, g.1)
   reading turn calm pc s w (b ∷ i) e g = here turn calm (pc + 1) (push (pos b) s) (record w { input = i }) (record { locals = g.0.locals; strong = g.0.strong; itself = g.0.itself; waits = g.0.waits }, g.1)
 
@@ -376,7 +377,7 @@ module _ (p : Program) (frames : List Frame) (bound : ℕ) (R : resolved.Program
       let call : List Order = Call (number_of R wanted f) wanted ∷ [] in
       let q = pc + length fits in
       let start = running frames (onto given.objects s.names) pc (onto given.numbers stack) w in
-      let from = running frames (onto (first_names (parameters_of R wanted f) given.objects) s.names) q (onto (first_locals (slots_of R wanted f) given.numbers) stack) w in
+      let from = running frames (onto (padded 0 (parameters_of R wanted f) given.objects) s.names) q (onto (padded (pos 0) (slots_of R wanted f) given.numbers) stack) w in
       let meant = answers_left wanted s (D.call wanted f 0 given w) in
       subst (λ k. Goes_on turn calm start k meant) (omega (arith, length-append fits call))
       (leads_runs (moves p) bound start from (Leaves turn calm (q + 1)) meant (passing_leads p frames (slots_of R wanted f) (parameters_of R wanted f) n m given stack s.names w pc e1 e2 (has_front p pc fits call has))

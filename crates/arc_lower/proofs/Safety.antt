@@ -17,7 +17,7 @@ use Rattle.arc_spec.specs.Meaning.{chosen}
 use Rattle.arc_spec.specs.Number.{converted, applied, combined, counted, low_byte, byte_or_end, is_zero}
 use Rattle.arc_spec.specs.Objects.{Object, Dying, Emptying, Gone, object_at, with_object, with_fields, with_strong_fields, in_phase, is_live, is_emptying, fields_of}
 use Rattle.arc_spec.specs.Resolved as resolved
-use Rattle.arc_spec.specs.Holding.{Held, nothing_held, Frame, Calling, Ending, Clearing, Waiter, Counted, holders, is_there, stacked, with_strong_globals, with_strong_field, on_place, turned_in, with_temporaries, with_variables, with_names, with_things, with_globals, lowered, raised, named, taken_by, gone_in, on_named, on_field, declares, lets_go, resumed, all_nil, on_left, on_last, on_result, given_back, makes, with_field}
+use Rattle.arc_spec.specs.Holding.{Held, nothing_held, Frame, Calling, Ending, Clearing, Waiter, Counted, holders, is_there, stacked, with_strong_globals, with_strong_field, on_place, turned_in, with_temporaries, with_variables, with_names, with_things, with_globals, lowered, raised, named, taken_by, on_named, on_field, declares, lets_go, resumed, all_nil, on_left, on_last, on_result, given_back, makes, with_field}
 use Rattle.arc_spec.specs.Stepping.{Next, Goes, Asks, Faults, Stuck, Along, Safe, Sound, on_top, on_found, only_if}
 use Rattle.arc_ir.specs.Acting.{Action, Program, State, lands, start, step, entry, keeps, goes, or_fault, has_level, enters, answers, taken, sends, allocates, difference, operates, begins_end, releases, runs_dealloc, clears, after_deallocs, clears_next, ends_class, end_goes_on, leaves, executes}
 use Rattle.arc_code.specs.declared.effect.Height.{Height}
@@ -935,13 +935,13 @@ module _ (p : Program) (R : resolved.Program) where
 
     -- an object is gone, whose fields name nothing
     ends_lead : (b : Bool) (back : ℕ) (w : Waiter) (o : ℕ) (others frames : List Frame) (ob : Object) → object_at held.objects o ≡ Some ob → ((k : ℕ) → holders (suc k) (fields_of ob) ≡ 0) → AllDying held.objects (ending others) → nat_eq (held.counts o) 0 ≡ b → Later back w o others
-        → Leads (if b then on_left held.temporaries held (λ h. Goes (record { at = back; stack = stack; frames = others; held = resumed w (with_things h (gone_in h.objects o)) }) []) else Faults Resurrected)
+        → Leads (if b then on_left held.temporaries held (λ h. Goes (record { at = back; stack = stack; frames = others; held = resumed w (with_things h (turned_in Gone h.objects o)) }) []) else Faults Resurrected)
     ends_lead false back w o others frames ob found none_named dying e later = tt
     ends_lead true back w zero others frames ob found none_named dying e later = cc
     ends_lead true back w (suc k) others frames ob found none_named dying e later =
         let x = in_phase Gone ob in
         let objects = slice_set held.objects k x in
-        let gone_is : gone_in held.objects (suc k) ≡ objects = rw found refl in
+        let gone_is : turned_in Gone held.objects (suc k) ≡ objects = rw found refl in
         let still : AllDying objects (ending others) = apart_dying held.objects k x (ending others) later.0 dying in
         let h1 = with_things held objects in
         let h = with_variables h1 [] in

@@ -9,7 +9,7 @@ use Rattle.arc_ast.specs.declared.tree.Kind.TheVariants as k
 use Rattle.arc_spec.specs.declared.event.Event.TheVariants.{Byte}
 use Rattle.arc_spec.specs.Number.{converted, counted, low_byte}
 use Rattle.arc_spec.specs.Meaning.{byte_count, formatted}
-use Rattle.arc_spec.specs.World.{World, prints, local_at, Given, first_locals, first_names}
+use Rattle.arc_spec.specs.World.{World, prints, local_at, Given, padded}
 use Rattle.std.specs.Fmt.{signed_decimal}
 use Rattle.arc_spec.specs.Resolved.{Piece, Bytes, Decimal, Character}
 use Rattle.arc_spec.specs.Stepping.{follow, on_found}
@@ -215,14 +215,14 @@ module _ (p : Program) (frames : List Frame) (bound : ℕ) (rs : List ℕ) where
 -- ---- A run makes what is given to a function its variables.
 
 module _ (p : Program) (frames : List Frame) (bound : ℕ) (rs : List ℕ) where
-  pub zeros_pass : (n : ℕ) (stack : List ℤ) (w : World) → Passes p frames bound rs (zero_orders n) stack w (onto (first_locals n []) stack) w
+  pub zeros_pass : (n : ℕ) (stack : List ℤ) (w : World) → Passes p frames bound rs (zero_orders n) stack w (onto (padded (pos 0) n []) stack) w
   zeros_pass zero stack w = no_passes p frames bound rs stack w stack w refl refl
   zeros_pass (suc n) stack w =
-      then_passes p frames bound rs (Plain (Num (pos 0)) ∷ []) (zero_orders n) stack w (pos 0 ∷ stack) w (onto (first_locals n []) (pos 0 ∷ stack)) w
+      then_passes p frames bound rs (Plain (Num (pos 0)) ∷ []) (zero_orders n) stack w (pos 0 ∷ stack) w (onto (padded (pos 0) n []) (pos 0 ∷ stack)) w
       (one_passes p frames bound rs (Plain (Num (pos 0))) stack w (pos 0 ∷ stack) w (λ pc. quiet p frames bound rs (pc + 1) (pos 0 ∷ stack) w))
       (zeros_pass n (pos 0 ∷ stack) w)
 
-  fits_by : (slots : ℕ) (given stack : List ℤ) (w : World) (pops zeros : ℕ) → pops ≡ length given - slots → zeros ≡ slots - length given → Passes p frames bound rs (pop_orders pops ++ zero_orders zeros) (onto given stack) w (onto (first_locals slots given) stack) w
+  fits_by : (slots : ℕ) (given stack : List ℤ) (w : World) (pops zeros : ℕ) → pops ≡ length given - slots → zeros ≡ slots - length given → Passes p frames bound rs (pop_orders pops ++ zero_orders zeros) (onto given stack) w (onto (padded (pos 0) slots given) stack) w
   fits_by zero given stack w pops zeros e1 e2 =
       let n2 : 0 ≡ zeros = omega arith in
       subst (λ m. Passes p frames bound rs (pop_orders m ++ zero_orders zeros) (onto given stack) w stack w) (omega arith)
@@ -231,11 +231,11 @@ module _ (p : Program) (frames : List Frame) (bound : ℕ) (rs : List ℕ) where
   fits_by (suc n) [] stack w pops zeros e1 e2 =
       let n1 : 0 ≡ pops = omega arith in
       let n2 : suc n ≡ zeros = omega arith in
-      subst (λ m. Passes p frames bound rs (pop_orders m ++ zero_orders zeros) stack w (onto (first_locals (suc n) []) stack) w) n1
-      (subst (λ m. Passes p frames bound rs (zero_orders m) stack w (onto (first_locals (suc n) []) stack) w) n2 (zeros_pass (suc n) stack w))
+      subst (λ m. Passes p frames bound rs (pop_orders m ++ zero_orders zeros) stack w (onto (padded (pos 0) (suc n) []) stack) w) n1
+      (subst (λ m. Passes p frames bound rs (zero_orders m) stack w (onto (padded (pos 0) (suc n) []) stack) w) n2 (zeros_pass (suc n) stack w))
   fits_by (suc n) (v ∷ given) stack w pops zeros e1 e2 = fits_by n given (v ∷ stack) w pops zeros (omega arith) (omega arith)
 
-  pub fit_passes : (slots : ℕ) (given stack : List ℤ) (w : World) → Passes p frames bound rs (fit_orders (length given) slots) (onto given stack) w (onto (first_locals slots given) stack) w
+  pub fit_passes : (slots : ℕ) (given stack : List ℤ) (w : World) → Passes p frames bound rs (fit_orders (length given) slots) (onto given stack) w (onto (padded (pos 0) slots given) stack) w
   fit_passes slots given stack w = fits_by slots given stack w (length given - slots) (slots - length given) refl refl
 
 -- ---- references
@@ -247,12 +247,12 @@ module _ (p : Program) (frames : List Frame) where
   forgets_shift (suc n) (r ∷ rs) rest stack w h =
       then_shifts p frames (Plain Forget ∷ []) (forget_orders n) (r ∷ rs) rs rest stack w (one_shifts p frames (Plain Forget) (r ∷ rs) rs stack w (λ pc. quiet p frames 0 rs (pc + 1) stack w)) (forgets_shift n rs rest stack w h)
 
-  nils_shift : (n : ℕ) (rs : List ℕ) (stack : List ℤ) (w : World) → Shifts p frames (nil_orders n) rs stack w (onto (first_names n []) rs)
+  nils_shift : (n : ℕ) (rs : List ℕ) (stack : List ℤ) (w : World) → Shifts p frames (nil_orders n) rs stack w (onto (padded 0 n []) rs)
   nils_shift zero rs stack w = no_shifts p frames rs rs stack w refl
   nils_shift (suc n) rs stack w =
-      then_shifts p frames (Plain Nil ∷ []) (nil_orders n) rs (0 ∷ rs) (onto (first_names n []) (0 ∷ rs)) stack w (one_shifts p frames (Plain Nil) rs (0 ∷ rs) stack w (λ pc. quiet p frames 0 (0 ∷ rs) (pc + 1) stack w)) (nils_shift n (0 ∷ rs) stack w)
+      then_shifts p frames (Plain Nil ∷ []) (nil_orders n) rs (0 ∷ rs) (onto (padded 0 n []) (0 ∷ rs)) stack w (one_shifts p frames (Plain Nil) rs (0 ∷ rs) stack w (λ pc. quiet p frames 0 (0 ∷ rs) (pc + 1) stack w)) (nils_shift n (0 ∷ rs) stack w)
 
-  objects_by : (parameters : ℕ) (given rs : List ℕ) (stack : List ℤ) (w : World) (forgets nils : ℕ) → forgets ≡ length given - parameters → nils ≡ parameters - length given → Shifts p frames (forget_orders forgets ++ nil_orders nils) (onto given rs) stack w (onto (first_names parameters given) rs)
+  objects_by : (parameters : ℕ) (given rs : List ℕ) (stack : List ℤ) (w : World) (forgets nils : ℕ) → forgets ≡ length given - parameters → nils ≡ parameters - length given → Shifts p frames (forget_orders forgets ++ nil_orders nils) (onto given rs) stack w (onto (padded 0 parameters given) rs)
   objects_by zero given rs stack w forgets nils e1 e2 =
       let n2 : 0 ≡ nils = omega arith in
       subst (λ m. Shifts p frames (forget_orders m ++ nil_orders nils) (onto given rs) stack w rs) (omega arith)
@@ -261,26 +261,26 @@ module _ (p : Program) (frames : List Frame) where
   objects_by (suc n) [] rs stack w forgets nils e1 e2 =
       let n1 : 0 ≡ forgets = omega arith in
       let n2 : suc n ≡ nils = omega arith in
-      subst (λ m. Shifts p frames (forget_orders m ++ nil_orders nils) rs stack w (onto (first_names (suc n) []) rs)) n1
-      (subst (λ m. Shifts p frames (nil_orders m) rs stack w (onto (first_names (suc n) []) rs)) n2 (nils_shift (suc n) rs stack w))
+      subst (λ m. Shifts p frames (forget_orders m ++ nil_orders nils) rs stack w (onto (padded 0 (suc n) []) rs)) n1
+      (subst (λ m. Shifts p frames (nil_orders m) rs stack w (onto (padded 0 (suc n) []) rs)) n2 (nils_shift (suc n) rs stack w))
   objects_by (suc n) (r ∷ given) rs stack w forgets nils e1 e2 = objects_by n given (r ∷ rs) stack w forgets nils (omega arith) (omega arith)
 
   -- numbers and references become what a function takes
   pub passing_leads : (slots parameters n m : ℕ) (given : Given) (stack : List ℤ) (rs : List ℕ) (w : World) (pc : ℕ) → length given.numbers ≡ n → length given.objects ≡ m → HasAt p pc (fit_orders n slots ++ fit_object_orders m parameters)
-      → Leads (moves p) (running frames (onto given.objects rs) pc (onto given.numbers stack) w) (running frames (onto (first_names parameters given.objects) rs) (pc + length (fit_orders n slots ++ fit_object_orders m parameters)) (onto (first_locals slots given.numbers) stack) w)
+      → Leads (moves p) (running frames (onto given.objects rs) pc (onto given.numbers stack) w) (running frames (onto (padded 0 parameters given.objects) rs) (pc + length (fit_orders n slots ++ fit_object_orders m parameters)) (onto (padded (pos 0) slots given.numbers) stack) w)
   passing_leads slots parameters n m given stack rs w pc e f has =
       let xs = fit_orders n slots in
       let ys = fit_object_orders m parameters in
       let names = onto given.objects rs in
-      let s = onto (first_locals slots given.numbers) stack in
+      let s = onto (padded (pos 0) slots given.numbers) stack in
       let size : pc + length xs + length ys ≡ pc + length (xs ++ ys) = omega (arith, length-append xs ys) in
       let first = subst (λ k. HasAt p pc (fit_orders k slots) → Leads (moves p) (running frames names pc (onto given.numbers stack) w) (running frames names (pc + length (fit_orders k slots)) s w)) e (fit_passes p frames 0 names slots given.numbers stack w pc) (has_front p pc xs ys has) in
-      let next = subst (λ k. HasAt p (pc + length xs) (fit_object_orders k parameters) → Leads (moves p) (running frames names (pc + length xs) s w) (running frames (onto (first_names parameters given.objects) rs) (pc + length xs + length (fit_object_orders k parameters)) s w)) f
+      let next = subst (λ k. HasAt p (pc + length xs) (fit_object_orders k parameters) → Leads (moves p) (running frames names (pc + length xs) s w) (running frames (onto (padded 0 parameters given.objects) rs) (pc + length xs + length (fit_object_orders k parameters)) s w)) f
       ((objects_by parameters given.objects rs s w (length given.objects - parameters) (parameters - length given.objects) refl refl) (pc + length xs)) (has_back p pc xs ys has) in
-      leads_trans (moves p) (running frames names pc (onto given.numbers stack) w) (running frames names (pc + length xs) s w) (running frames (onto (first_names parameters given.objects) rs) (pc + length (xs ++ ys)) s w) first
-      (subst (λ q. Leads (moves p) (running frames names (pc + length xs) s w) (running frames (onto (first_names parameters given.objects) rs) q s w)) size next)
+      leads_trans (moves p) (running frames names pc (onto given.numbers stack) w) (running frames names (pc + length xs) s w) (running frames (onto (padded 0 parameters given.objects) rs) (pc + length (xs ++ ys)) s w) first
+      (subst (λ q. Leads (moves p) (running frames names (pc + length xs) s w) (running frames (onto (padded 0 parameters given.objects) rs) q s w)) size next)
 
-pub first_length : (slots : ℕ) (given : List ℤ) → length (first_locals slots given) ≡ slots
-first_length zero given = refl
-first_length (suc n) [] = let h = first_length n [] in omega (arith, h)
-first_length (suc n) (v ∷ given) = let h = first_length n given in omega (arith, h)
+pub padded_length : {A : Type 0} (none : A) (n : ℕ) (given : List A) → length (padded none n given) ≡ n
+padded_length none zero given = refl
+padded_length none (suc n) [] = ap suc (padded_length none n [])
+padded_length none (suc n) (a ∷ given) = ap suc (padded_length none n given)

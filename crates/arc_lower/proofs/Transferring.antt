@@ -8,9 +8,9 @@ use Rattle.arc_spec.specs.Classes.{Class, class_at, lookup, is_root_init, descen
 use Rattle.arc_spec.specs.World.{name_at}
 use Rattle.arc_spec.specs.Number.{combined, is_zero}
 use Rattle.arc_spec.specs.Meaning.{chosen}
-use Rattle.arc_spec.specs.Objects.{Object, Dying, object_at, with_object, in_phase, is_live, is_emptying}
+use Rattle.arc_spec.specs.Objects.{Gone, Object, Dying, object_at, with_object, in_phase, is_live, is_emptying}
 use Rattle.arc_spec.specs.Stepping.{Next, Goes, Faults, on_top, on_two, on_found, only_if, Asks, Ends, Reached, Running, Ended, Faulted, Wedged, Along, fed, follow, further, after_steps}
-use Rattle.arc_spec.specs.Holding.{Held, Frame, Calling, Ending, Clearing, Waiter, with_strong_globals, with_strong_field, on_place, Counted, holders, all_places, is_there, all_nil, with_things, with_temporaries, with_variables, on_object, on_named, named, declares, lets_go, on_left, on_last, on_result, on_field, with_names, resumed, gone_in}
+use Rattle.arc_spec.specs.Holding.{Held, Frame, Calling, Ending, Clearing, Waiter, with_strong_globals, with_strong_field, on_place, Counted, holders, all_places, is_there, all_nil, with_things, with_temporaries, with_variables, on_object, on_named, named, declares, lets_go, on_left, on_last, on_result, on_field, with_names, resumed, turned_in}
 use Rattle.arc_ir.specs.Acting.{Action, linked, Program, State, entry, or_fault, keeps, has_level, enters, answers, taken, sends, begins_end, releases, drops_all, ends_object, runs_dealloc, clears, after_deallocs, clears_next, ends_class, end_goes_on, leaves, allocates, executes, IsSound, start, step, seen}
 use Rattle.arc_code.specs.Instructions as instructions
 use Rattle.arc_code.specs.declared.instr.Op.TheVariants as ops
@@ -181,7 +181,7 @@ module _ (p : Program) (s : State) (right : Counted s.held) where
 
   -- an object is gone
   abbrev goes_back : (back : ℕ) → Waiter → (k : ℕ) → List Frame → Held → Next State
-  goes_back back waits k others h = Goes (record { at = back; stack = s.stack; frames = others; held = resumed waits (with_things h (gone_in h.objects (suc k))) }) []
+  goes_back back waits k others h = Goes (record { at = back; stack = s.stack; frames = others; held = resumed waits (with_things h (turned_in Gone h.objects (suc k))) }) []
 
   ends_object_agrees : (back : ℕ) (waits : Waiter) (k : ℕ) (others : List Frame) → Agree (ends_object s back waits (suc k) others) (ends_object t back waits (suc k) others)
   ends_object_agrees back waits k others =

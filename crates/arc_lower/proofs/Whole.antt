@@ -1,5 +1,5 @@
 -- When steps that show what is meant behave as it is meant.
-use Rattle.std.proofs.Common.{◌≡◌, ℕ, ◌≤◌, ◌<◌, List, Option, Some, None, refl, sym, ap, ◌∙◌, subst, arith, ⊎_elim, ◌+◌, ℤ, [], ◌∷◌, ◌++◌, length, length-append, inl, inr}
+use Rattle.std.proofs.Common.{◌≡◌, ℕ, ◌≤◌, ◌<◌, List, Option, Some, None, refl, sym, ap, ◌∙◌, subst, arith, ⊎_elim, ◌+◌, ℤ, pos, [], ◌∷◌, ◌++◌, length, length-append, inl, inr}
 use Rattle.std.proofs.lemmas.Bool.{cases_lt}
 use Rattle.arc_spec.specs.Correct.{IsPrefix, Stop, Sight, Behaves, Steady, meaning_seen, run_seen}
 use Rattle.arc_spec.proofs.Steadiness.{prefix_refl, steady}
@@ -8,7 +8,7 @@ use Rattle.arc_spec.specs.declared.class.Gives.TheVariants as gives
 use Rattle.arc_spec.specs.Number.{converted}
 use Rattle.arc_spec.specs.Resolved as resolved
 use Rattle.arc_spec.specs.World as world
-use Rattle.arc_spec.specs.World.{World, Outcome, Done, Faulted, Cut, first_frame, first_world, first_locals, first_names, nothing_given}
+use Rattle.arc_spec.specs.World.{World, Outcome, Done, Faulted, Cut, first_frame, first_world, nothing_given, padded}
 use Rattle.arc_spec.specs.Meaning.{level, mean}
 use Rattle.arc_spec.specs.Holding.{all_nil, on_left}
 use Rattle.arc_spec.specs.Stepping.{Next, Reached, Running, Ends, Ended, only_if, after_steps}
@@ -101,8 +101,8 @@ module _ (p : Program) (R : resolved.Program) (is : orders p.actions ≡ lowered
       let later = has_back p 0 (fits ++ call) last_orders has in
       let size : 0 + length (fits ++ call) ≡ q + 1 = omega (arith, length-append fits call) in
       let last = subst (λ n. HasAt p n last_orders) size later in
-      let s = onto (first_locals (slots_of R gives.Number R.main) []) [] in
-      let names = onto (first_names (parameters_of R gives.Number R.main) []) [] in
+      let s = onto (padded (pos 0) (slots_of R gives.Number R.main) []) [] in
+      let names = onto (padded 0 (parameters_of R gives.Number R.main) []) [] in
       let o = (level R bound MOST_LEVELS).call gives.Number R.main 0 nothing_given w in
       let end = Returns gives.Number [] [] q [] w in
       let ready = passing_leads p [] (slots_of R gives.Number R.main) (parameters_of R gives.Number R.main) 0 0 nothing_given [] [] w 0 refl refl (has_front p 0 fits call has_call) in

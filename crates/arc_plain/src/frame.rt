@@ -1,7 +1,7 @@
 //! The running function.
-ghost use Rattle.std.specs.Prelude.{◌≡◌, ◌∷◌, [], ℕ, suc, take, IfOk};
+ghost use Rattle.std.specs.Prelude.{◌≡◌, ◌∷◌, [], ℕ, suc, pos, take, IfOk};
 ghost use Rattle.arc_spec.specs.Meaning.{function_places};
-ghost use Rattle.arc_spec.specs.World.{first_frame, first_locals, first_names, and_self};
+ghost use Rattle.arc_spec.specs.World.{first_frame, and_self, padded};
 ghost use Rattle.arc_plain.specs.Views.{frame_of, given_of, function_of};
 
 use crate::given::Given;
@@ -68,7 +68,7 @@ pub fn begin(
     itself: usize,
     given: &Given,
 ) -> Result<Frame, NoMemory>
-    ensures { IfOk result (λ frame. frame_of frame ≡ record { self = itself; locals = first_locals function.now.slots (given_of given.now).numbers; strong = first_names (function_places (function_of function.now)) (and_self function.now.owns itself (take function.now.parameters (given_of given.now).objects)); temporaries = [] }) }
+    ensures { IfOk result (λ frame. frame_of frame ≡ record { self = itself; locals = padded (pos 0) function.now.slots (given_of given.now).numbers; strong = padded 0 (function_places (function_of function.now)) (and_self function.now.owns itself (take function.now.parameters (given_of given.now).objects)); temporaries = [] }) }
 {
     let named = first_named(alloc, function, itself, given)?;
     Ok(Frame {
@@ -81,7 +81,7 @@ pub fn begin(
 
 /// The variables of a function that begins: what it was given, and 0 for all others.
 fn begin_locals(alloc: Global, slots: usize, arguments: &[i64]) -> Result<Vec<i64>, NoMemory>
-    ensures { IfOk result (λ locals. locals.items ≡ first_locals slots arguments.now) }
+    ensures { IfOk result (λ locals. locals.items ≡ padded (pos 0) slots arguments.now) }
 {
     let mut locals = Vec::new(alloc);
     let mut rest = arguments;
@@ -95,7 +95,7 @@ fn begin_locals(alloc: Global, slots: usize, arguments: &[i64]) -> Result<Vec<i6
 
 /// The first of the numbers, and those after it; where there is none, it counts as 0.
 fn take_number(numbers: &[i64]) -> (i64, &[i64])
-    ensures { (slots : ℕ) → first_locals (suc slots) numbers.now ≡ result.0 ∷ first_locals slots result.1.now }
+    ensures { (slots : ℕ) → padded (pos 0) (suc slots) numbers.now ≡ result.0 ∷ padded (pos 0) slots result.1.now }
 {
     match numbers.split_first() {
         Some((number, others)) => (*number, others),
@@ -116,7 +116,7 @@ fn first_objects(objects: &[usize], count: usize) -> &[usize]
 
 /// The variables of a function that begins that name objects: what it was given, and nil for all others.
 fn begin_names(alloc: Global, count: usize, objects: &[usize]) -> Result<Vec<usize>, NoMemory>
-    ensures { IfOk result (λ names. names.items ≡ first_names count objects.now) }
+    ensures { IfOk result (λ names. names.items ≡ padded 0 count objects.now) }
 {
     let mut names = Vec::new(alloc);
     let mut rest = objects;
@@ -130,7 +130,7 @@ fn begin_names(alloc: Global, count: usize, objects: &[usize]) -> Result<Vec<usi
 
 /// The first of the objects, and those after it; where there is none, it counts as nil.
 fn take_object(objects: &[usize]) -> (usize, &[usize])
-    ensures { (count : ℕ) → first_names (suc count) objects.now ≡ result.0 ∷ first_names count result.1.now }
+    ensures { (count : ℕ) → padded 0 (suc count) objects.now ≡ result.0 ∷ padded 0 count result.1.now }
 {
     match objects.split_first() {
         Some((object, others)) => (*object, others),

@@ -3,7 +3,8 @@ use Rattle.std.proofs.Common.{◌≡◌, ℕ, suc, ◌+◌, ◌-◌, ◌<◌, Li
 use Rattle.std.proofs.lemmas.List.{length-map}
 use Rattle.std.proofs.lemmas.Option.{slice_get-map}
 use Rattle.arc_spec.specs.declared.class.Class as declared
-use Rattle.arc_spec.specs.Classes.{class_of, classes_of, superclass_of, superclasses, and_above, ancestry, ancestry_within, or_else}
+use Rattle.arc_spec.specs.Classes.{class_of, classes_of, superclass_of, superclasses, and_above, ancestry, ancestry_within}
+use Rattle.std.specs.Option.{option_or}
 
 module _ (rows : List (Option ℕ)) where
   further_up : (n k class : ℕ) → k < n
@@ -50,10 +51,10 @@ all_classes all from =
 
 -- ---- the first that has something
 
-pub own_first : {X : Type 0} (own : Option X) (all above : Option X) (there : is_some own ≡ true) (e : Option X) → own ≡ e → all ≡ or_else e above → own ≡ all
+pub own_first : {X : Type 0} (own : Option X) (all above : Option X) (there : is_some own ≡ true) (e : Option X) → own ≡ e → all ≡ option_or e above → own ≡ all
 own_first None all above there e same is = absurd (true≢false (sym there))
-own_first (Some a) all above there e same is = sym (is ∙ ap (λ o. or_else o above) (sym same))
+own_first (Some a) all above there e same is = sym (is ∙ ap (λ o. option_or o above) (sym same))
 
-pub above_next : {X : Type 0} (own : Option X) (all above : Option X) (missing : is_some own ≡ false) (e : Option X) → own ≡ e → all ≡ or_else e above → all ≡ above
-above_next None all above missing e same is = is ∙ ap (λ o. or_else o above) (sym same)
+pub above_next : {X : Type 0} (own : Option X) (all above : Option X) (missing : is_some own ≡ false) (e : Option X) → own ≡ e → all ≡ option_or e above → all ≡ above
+above_next None all above missing e same is = is ∙ ap (λ o. option_or o above) (sym same)
 above_next (Some a) all above missing e same is = absurd (true≢false missing)

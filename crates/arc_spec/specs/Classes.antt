@@ -1,13 +1,15 @@
 -- Classes, and the methods that messages find.
 use Rattle.std.specs.Prelude.{ℕ, zero, suc, ◌-◌, ℤ, pos, negsuc, Bool, true, false, ◌&&◌, nat_eq, nat_lt, List, [], ◌∷◌, ◌++◌, length, map, Option, Some, None, option_and_then, slice_get, if◌then◌else◌}
 use Rattle.std.specs.List.{list_any}
+use denote.Enum.Declared.{tag_of}
 use Rattle.std.specs.Option.{option_map_or, option_or}
 use Rattle.arc_ast.specs.declared.tree.Kind.{Kind}
 use Rattle.arc_ast.specs.declared.tree.Kind.TheVariants as k
 use Rattle.arc_ast.specs.declared.tree.Sign.{Sign}
-use Rattle.arc_ast.specs.declared.tree.Sign.TheVariants as signs
+use Rattle.arc_ast.specs.contracts.tree.Sign as sign
 use Rattle.arc_spec.specs.declared.class.Gives.{Gives}
 use Rattle.arc_spec.specs.declared.class.Gives.TheVariants as gives
+use Rattle.arc_spec.specs.contracts.class.Gives as result
 use Rattle.arc_spec.specs.declared.class.Method.{Method}
 use Rattle.arc_spec.specs.declared.class.Class as declared
 
@@ -27,9 +29,7 @@ abbrev pub classes_of : List declared.Class → List Class
 classes_of = map class_of
 
 abbrev pub same_sign : Sign → Sign → Bool
-same_sign signs.Class signs.Class = true
-same_sign signs.Instance signs.Instance = true
-same_sign a b = false
+same_sign a b = nat_eq (tag_of sign.the_type a) (tag_of sign.the_type b)
 
 -- what gives a value of a kind, or no value: what has no result gives the number 0
 abbrev pub gives_of : Kind → Gives
@@ -37,9 +37,7 @@ gives_of k.Object = gives.Object
 gives_of _ = gives.Number
 
 abbrev pub same_gives : Gives → Gives → Bool
-same_gives gives.Number gives.Number = true
-same_gives gives.Object gives.Object = true
-same_gives a b = false
+same_gives a b = nat_eq (tag_of result.the_type a) (tag_of result.the_type b)
 
 -- whether a method answers a message of this sign with this selector, and so many numbers and objects as arguments, which wants a number or an object of it
 abbrev pub answers : Sign → (selector takes objects : ℕ) → (wanted : Gives) → Method → Bool
@@ -73,14 +71,10 @@ superclass_of c = c.superclass
 abbrev pub superclasses : List Class → List (Option ℕ)
 superclasses = map superclass_of
 
--- the first of two, if there is one
-abbrev pub or_else : {X : Type 0} → Option X → Option X → Option X
-or_else = option_or
-
 -- what the first of these has that has something
 abbrev pub first_that_has : {X Y : Type 0} → (X → Option Y) → List X → Option Y
 first_that_has has [] = None
-first_that_has has (x ∷ others) = or_else (has x) (first_that_has has others)
+first_that_has has (x ∷ others) = option_or (has x) (first_that_has has others)
 
 -- ---- messages
 

@@ -1,5 +1,7 @@
 -- Objects whose holders are counted: what actions and instructions do to them, and to the places that hold them.
 use Rattle.std.specs.Prelude.{◌≡◌, ◌<◌, ℕ, zero, suc, ◌-◌, ℤ, List, [], ◌∷◌, ◌++◌, length, take, drop, Bool, true, false, ◌&&◌, nat_eq, Option, Some, None, slice_get, slice_set, if◌then◌else◌}
+use Rattle.std.specs.List.{list_all}
+use Rattle.std.specs.Option.{option_map_or}
 use Rattle.arc_spec.specs.declared.event.Fault.TheVariants.{NilField, FieldClass, Resurrected}
 use Rattle.arc_spec.specs.Classes.{Class, descends, strong_count}
 use Rattle.arc_spec.specs.Objects.{Object, Phase, Live, Dying, Gone, object_at, with_object, in_phase, is_live, is_emptying, new_object, field_places}
@@ -145,9 +147,7 @@ resumed w h = record h {
 
 -- whether all of these are nil
 abbrev pub all_nil : List ℕ → Bool
-all_nil [] = true
-all_nil (zero ∷ others) = all_nil others
-all_nil (suc k ∷ others) = false
+all_nil = list_all (nat_eq 0)
 
 -- the running function is left: it has no temporary, and its variables, all of them nil, are no more
 abbrev pub on_left : {S : Type 0} → List ℕ → Held → (Held → Next S) → Next S
@@ -201,17 +201,9 @@ stores_field r o index value h stays ends = if is_emptying o.phase then Faults R
 
 -- an object in another phase
 abbrev pub turned_in : Phase → List Object → ℕ → List Object
-turned_in phase objects o = changed (object_at objects o)
-  where
-    changed : Option Object → List Object
-    changed None = objects
-    changed (Some ob) = with_object objects o (in_phase phase ob)
+turned_in phase objects o = option_map_or (λ ob. with_object objects o (in_phase phase ob)) (object_at objects o) objects
 
 -- a field of an object whose fields are destroyed is nil, and what it named is let go
 abbrev pub clears_field : {S : Type 0} → (r index : ℕ) → Held → (stays : Held → Next S) → (ends : (o class : ℕ) → Held → Next S) → Next S
 clears_field r index h stays ends = on_object (object_at h.objects r) (λ o.
     on_place (slice_get o.strong index) (stays h) (λ old. lets_go old (raised 0 (with_strong_field h r o index 0)) stays ends))
-
--- an object is gone
-abbrev pub gone_in : List Object → ℕ → List Object
-gone_in = turned_in Gone

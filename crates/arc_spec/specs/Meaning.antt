@@ -1,7 +1,7 @@
 -- What a program means: the events that it shows on an input, and how it ends.
 use Rattle.std.specs.Prelude.{ℕ, zero, suc, ◌+◌, ◌-◌, ℤ, pos, List, [], ◌∷◌, ◌++◌, length, Option, Some, None, option_map, Bool, true, false, not, ◌&&◌, nat_eq, slice_get, slice_set, slice_index_or, if◌then◌else◌}
 use Rattle.std.specs.Fmt.{signed_decimal}
-use Rattle.std.specs.Option.{option_map_or}
+use Rattle.std.specs.Option.{option_map_or, option_or}
 use Rattle.arc_ast.specs.declared.tree.BinaryOperator.{BinaryOperator}
 use Rattle.arc_ast.specs.declared.tree.Kind.{Kind}
 use Rattle.arc_ast.specs.declared.tree.Kind.TheVariants as k
@@ -14,7 +14,7 @@ use Rattle.arc_spec.specs.declared.event.Fault.TheVariants.{Arithmetic, Unrecogn
 use Rattle.arc_spec.specs.declared.limits.TheConstants.{MOST_LEVELS}
 use Rattle.arc_spec.specs.declared.class.Gives.{Gives}
 use Rattle.arc_spec.specs.declared.class.Gives.TheVariants as gives
-use Rattle.arc_spec.specs.Classes.{Class, superclasses, ancestry, own_dealloc, lookup, or_else, same_gives, new_selector, init_selector, is_root_init, descends, class_at, count_of, strong_count, field_order}
+use Rattle.arc_spec.specs.Classes.{Class, superclasses, ancestry, own_dealloc, lookup, same_gives, new_selector, init_selector, is_root_init, descends, class_at, count_of, strong_count, field_order}
 use Rattle.arc_spec.specs.Number.{converted, applied, combined, low_byte, is_zero}
 use Rattle.arc_spec.specs.Objects.{Object, Phase, Dying, Emptying, Gone, object_at, with_object, in_phase, is_live, is_emptying, new_object, names}
 use Rattle.arc_spec.specs.Resolved.{Piece, Bytes, Decimal, Character, Value, Number, ReadByte, Print, Applied, Combined, Choice, Converted, Location, Local, Global, Read, Assigned, Updated, Invoked, Sent, Receiver, ClassValue, ClassSuper, ObjectValue, ObjectSuper, Field, FieldAssigned, FieldUpdated, Differ, IsObject, Reference, Nil, Itself, Variable, Chosen, Stored, ObjectField, ObjectFieldStored, Made, New, ObjectInvoked, ObjectSent, Arguments, no_arguments, number_argument, object_argument, Command, Sequence, Evaluate, EvaluateReference, Begin, Return, Give, Choose, Repeat, Break, Continue, Commands, no_commands, and_command, Function, Program}
@@ -182,7 +182,7 @@ new_found D None class w = made_new D (class_at class) w
 new_found D (Some f) class w = object_given (D.call gives.Object f 0 (and_number class nothing_given) w)
 
 abbrev pub new_sent : Deeper → (from : Option ℕ) → (class : ℤ) → World → Outcome ℕ
-new_sent D from class w = new_found D (finds D gives.Object (or_else from (class_at class)) signs.Class new_selector nothing_given) class w
+new_sent D from class w = new_found D (finds D gives.Object (option_or from (class_at class)) signs.Class new_selector nothing_given) class w
 
 -- an object's field is used, whose own class this is: nil has none, and an object of another class hasn't this one (this project's own choice)
 abbrev pub in_object : {A : Type 0} → Deeper → (class : ℕ) → Option Object → (Object → Outcome A) → World → Outcome A

@@ -1,10 +1,11 @@
 -- What a running program can change and show, and how a part of it ends.
-use Rattle.std.specs.Prelude.{ℕ, zero, suc, Bool, if◌then◌else◌, slice_index_or, ℤ, pos, negsuc, List, [], ◌∷◌, ◌++◌, map, take, slice_set}
+use Rattle.std.specs.Prelude.{ℕ, zero, suc, Bool, if◌then◌else◌, slice_get, slice_index_or, ℤ, pos, negsuc, List, [], ◌∷◌, ◌++◌, map, take, slice_set, drop}
 use Rattle.arc_spec.specs.declared.event.Event.{Event}
 use Rattle.arc_spec.specs.declared.event.Event.TheVariants.{Byte}
 use Rattle.arc_spec.specs.declared.event.Fault as faults
 use Rattle.arc_spec.specs.declared.location.Location.{Location}
 use Rattle.arc_spec.specs.declared.location.Location.TheVariants.{Local, Global}
+use Rattle.arc_spec.specs.Number.{byte_or_end}
 use Rattle.arc_spec.specs.Objects.{Object, nils, field_places}
 
 -- The running function: in a method of objects `self`, the variables that hold numbers, those that name objects, of which its parameters are the first, and the
@@ -85,17 +86,12 @@ local_at locals i = slice_index_or locals i (pos 0)
 abbrev pub name_at : List ℕ → ℕ → ℕ
 name_at strong i = slice_index_or strong i 0
 
--- the variables of a function that begins: what it was given, and 0 for all others (this project's own choice, where C99, section 6.7.8, leaves them open)
-abbrev pub first_locals : (slots : ℕ) → List ℤ → List ℤ
-first_locals zero given = []
-first_locals (suc n) [] = pos 0 ∷ first_locals n []
-first_locals (suc n) (v ∷ given) = v ∷ first_locals n given
-
--- the same of those that name objects: what it was given, and nil for all others
-abbrev pub first_names : (count : ℕ) → List ℕ → List ℕ
-first_names zero given = []
-first_names (suc n) [] = 0 ∷ first_names n []
-first_names (suc n) (r ∷ given) = r ∷ first_names n given
+-- So many, the first of which are given: what the variables of a function that begins hold and name. All others are 0 or nil (this project's own choice, where C99,
+-- section 6.7.8, leaves them open).
+abbrev pub padded : {A : Type 0} → (none : A) → (count : ℕ) → (given : List A) → List A
+padded none zero given = []
+padded none (suc n) [] = none ∷ padded none n []
+padded none (suc n) (a ∷ given) = a ∷ padded none n given
 
 -- what a function or a method is given: its arguments that are numbers, and those that are objects or nil
 pub record Given : Type 0 where
@@ -118,7 +114,7 @@ and_self owns self given = if owns then self ∷ given else given
 -- running one waits for it.
 abbrev pub entered : (slots count parameters : ℕ) → (owns : Bool) → (self : ℕ) → Given → World → World
 entered slots count parameters owns self given w = record w {
-  frame = record { self = self; locals = first_locals slots given.numbers; strong = first_names count (and_self owns self (take parameters given.objects)); temporaries = [] };
+  frame = record { self = self; locals = padded (pos 0) slots given.numbers; strong = padded 0 count (and_self owns self (take parameters given.objects)); temporaries = [] };
   waiting = stacked w;
 }
 
@@ -165,12 +161,7 @@ prints bytes w = shows (map Byte bytes) w
 
 -- getchar (C99, section 7.19.7.6): the next byte of the input, or -1 at its end
 abbrev pub next_number : List ℕ → ℤ
-next_number [] = negsuc 0
-next_number (b ∷ rest) = pos b
-
-abbrev pub after_next : List ℕ → List ℕ
-after_next [] = []
-after_next (b ∷ rest) = rest
+next_number input = byte_or_end (slice_get input 0)
 
 abbrev pub has_read : World → World
-has_read w = record w { input = after_next w.input }
+has_read w = record w { input = drop 1 w.input }

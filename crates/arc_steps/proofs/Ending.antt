@@ -6,7 +6,7 @@ use Rattle.std.proofs.lemmas.List.Elements.{All-nil, All-cons, All-head, All-tai
 use Rattle.std.proofs.lemmas.Option.{slice_get_within}
 use Rattle.arc_spec.specs.Classes.{Class, field_order}
 use Rattle.arc_spec.specs.Objects.{Object, Live, Dying, Emptying, Gone, object_at, in_phase, fields_of}
-use Rattle.arc_spec.specs.Holding.{Held, Frame, Calling, Ending, Clearing, Waiter, is_there, lowered, waiter_of, entered, resumed, with_variables, with_things, gone_in, turned_in}
+use Rattle.arc_spec.specs.Holding.{Held, Frame, Calling, Ending, Clearing, Waiter, is_there, lowered, waiter_of, entered, resumed, with_variables, with_things, turned_in}
 use Rattle.arc_spec.specs.Stepping.{Goes}
 use Rattle.arc_code.specs.Running.{Program, State, end_goes_on, ends_class, after_deallocs, runs_dealloc}
 use Rattle.arc_cells.specs.declared.waiting.Waiter.{Waiter as Words}
@@ -169,7 +169,7 @@ pub emptying_object : (classes : List Class) (fields : List ℕ) (objects : List
 emptying_object classes fields objects zero d = absurd d
 emptying_object classes fields objects (suc k) d = (k, refl, emptying_found classes fields (slice_get objects k) d)
 
-gone_is : (objects : List Object) (k : ℕ) (o : Object) → slice_get objects k ≡ Some o → gone_in objects (suc k) ≡ slice_set objects k (in_phase Gone o)
+gone_is : (objects : List Object) (k : ℕ) (o : Object) → slice_get objects k ≡ Some o → turned_in Gone objects (suc k) ≡ slice_set objects k (in_phase Gone o)
 gone_is objects k o there = rw there refl
 
 pub turned_is : (objects : List Object) (k : ℕ) (o : Object) → slice_get objects k ≡ Some o → turned_in Emptying objects (suc k) ≡ slice_set objects k (in_phase Emptying o)
@@ -179,7 +179,7 @@ turned_is objects k o there = rw there refl
 module _ (at : ℕ → ℕ) (classes : List Class) (m : Memory) (h : Held) (frame : Frame) (w : Waiter) (k : ℕ) (others : List Frame) (t : Stands at classes m (frame ∷ others) h) (places : waiting_places (frame ∷ others) ≡ w.temporaries + w.variables + waiting_places others)
     (known : w.self ≤ length h.objects) (unended : All (EndsOther (suc k)) others) (ends : Ends classes h.objects others) where
   pub gone_stands : h.temporaries ≡ [] → (o : Object) → slice_get h.objects k ≡ Some o → is_there o.phase ≡ true → h.counts (suc k) ≡ 0 → (word : ℕ) → word ≡ at k → (m' : Memory) → Sets m.store m'.store word None
-      → m' ≡ resuming (undeclaring (with_store m m'.store)) (waiter_words at w) → Stands at classes m' others (resumed w (with_things (with_variables h []) (gone_in h.objects (suc k))))
+      → m' ≡ resuming (undeclaring (with_store m m'.store)) (waiter_words at w) → Stands at classes m' others (resumed w (with_things (with_variables h []) (turned_in Gone h.objects (suc k))))
   gone_stands bare o there here none word is m' sets e =
       let n = length h.objects in
       let stored = block_of at classes m (frame ∷ others) h t k o there here in

@@ -6,8 +6,8 @@ use Rattle.std.proofs.lemmas.List.{length-set}
 use Rattle.std.proofs.lemmas.Option.{slice_get_within}
 use Rattle.arc_spec.specs.declared.event.Fault.TheVariants.{Resurrected}
 use Rattle.arc_spec.specs.Classes.{Class, field_order}
-use Rattle.arc_spec.specs.Objects.{Object, Emptying, in_phase, object_at}
-use Rattle.arc_spec.specs.Holding.{Held, Frame, Calling, Clearing, Waiter, is_there, resumed, on_left, with_variables, with_things, gone_in, turned_in}
+use Rattle.arc_spec.specs.Objects.{Gone, Object, Emptying, in_phase, object_at}
+use Rattle.arc_spec.specs.Holding.{Held, Frame, Calling, Clearing, Waiter, is_there, resumed, on_left, with_variables, with_things, turned_in}
 use Rattle.arc_spec.specs.Stepping.{Next, Goes, Faults, Along}
 use Rattle.arc_code.specs.Running.{Program, State, Fits, ends_object, clears}
 use Rattle.arc_heap.specs.Blocks.{Blocks}
@@ -79,7 +79,7 @@ module _ {S : Type 0} (out : S → Blocks) (p : Program) (old : Spot S) (s : Sta
       let stored = block_of at p.classes (memory_of out old.parts) s.frames s.held t k o found here in
       let cell = cell_of o (s.held.counts (suc k)) (suc k) stored.fields in
       let step = last cell (subst (λ w. IsCell (out old.parts.store) w cell) (sym word) stored.block) in
-      let goes_back : Held → Next State = λ h. Goes (record { at = back; stack = s.stack; frames = others; held = resumed w (with_things h (gone_in h.objects (suc k))) }) [] in
+      let goes_back : Held → Next State = λ h. Goes (record { at = back; stack = s.stack; frames = others; held = resumed w (with_things h (turned_in Gone h.objects (suc k))) }) [] in
       let bare : Next State = on_left s.held.temporaries s.held goes_back in
       let tests : Bool → Next State = λ b. if b then bare else Faults Resurrected in
       elim (cases_eq (s.held.counts (suc k)) 0) [
@@ -89,7 +89,7 @@ module _ {S : Type 0} (out : S → Blocks) (p : Program) (old : Spot S) (s : Sta
             let left_bare = left_there (Fits p) s.held.temporaries s.held goes_back (subst (λ (n : Next State). Along (Fits p) n) is_bare along) in
             let memory = leaves.waits ∙ ap (resuming (undeclaring (with_store (memory_of out old.parts) (out new.parts.store)))) words in
             subst (λ a. Went out p.classes n a [] old new) (sym gone.0) (
-              record { at = back; stack = s.stack; frames = others; held = resumed w (with_things (with_variables s.held []) (gone_in s.held.objects (suc k))) },
+              record { at = back; stack = s.stack; frames = others; held = resumed w (with_things (with_variables s.held []) (turned_in Gone s.held.objects (suc k))) },
               is_bare ∙ left_bare.1,
               record {
                 at = gone.1;

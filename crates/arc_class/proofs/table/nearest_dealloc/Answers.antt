@@ -1,10 +1,11 @@
 use Rattle.std.proofs.Common.{◌≡◌, ℕ, ◌∙◌, ◌-◌, ◌+◌, refl, sym, ap, length, slice_get, None, Some}
 use Rattle.std.proofs.lemmas.Option.{slice_get_past, slice_get_read}
 use Rattle.std.proofs.lemmas.Bool.{ltb-false, ltb-true}
-use Rattle.arc_spec.specs.Classes.{classes_of, superclasses, ancestry_within, first_that_has, or_else, own_dealloc}
+use Rattle.arc_spec.specs.Classes.{classes_of, superclasses, ancestry_within, first_that_has, own_dealloc}
 use Rattle.arc_spec.proofs.Ancestry.{all_classes, no_class, in_class, class_there, superclass_there}
 use Rattle.arc_class.proofs.Keeping.{own_first, above_next}
 use Rattle.arc_class.proofs.table.nearest_dealloc.Goals as goal
+use Rattle.std.specs.Option.{option_or}
 
 pub loop-passed-init : goal.loop-passed-init
 loop-passed-init c = ap (first_that_has (λ class. own_dealloc (slice_get (classes_of c.args.classes.now) class))) (all_classes c.args.classes.now c.args.class)
@@ -34,7 +35,7 @@ returns-in-Some-dealloc c =
     own_first known.dealloc c.in-Some-dealloc.function _ _ c.in-Some-dealloc.is
     (c.loop-passed.invariant ∙ ap (λ n. first_that_has own (ancestry_within (length all - passed) above n)) c.in-Some.is
     ∙ ap (first_that_has own) (in_class above (length all) passed number known.superclass c.loop-passed-test.true (superclass_there all number (Some known) there))
-    ∙ ap (λ o. or_else (own_dealloc o) further) (class_there all number (Some known) there))
+    ∙ ap (λ o. option_or (own_dealloc o) further) (class_there all number (Some known) there))
 
 pub loop-passed-preserved : goal.loop-passed-preserved
 loop-passed-preserved c =
@@ -50,4 +51,4 @@ loop-passed-preserved c =
     above_next known.dealloc _ _ c.in_default-dealloc.is
     (c.loop-passed.invariant ∙ ap (λ n. first_that_has own (ancestry_within (length all - passed) above n)) c.in-Some.is
     ∙ ap (first_that_has own) (in_class above (length all) passed number known.superclass c.loop-passed-test.true (superclass_there all number (Some known) there))
-    ∙ ap (λ o. or_else (own_dealloc o) further) (class_there all number (Some known) there))
+    ∙ ap (λ o. option_or (own_dealloc o) further) (class_there all number (Some known) there))

@@ -1,11 +1,12 @@
 use Rattle.std.proofs.Common.{◌≡◌, ℕ, ◌∙◌, ◌-◌, ◌+◌, refl, sym, ap, length, map, slice_get, Some}
 use Rattle.std.proofs.lemmas.Option.{slice_get_read}
 use Rattle.std.proofs.lemmas.Bool.{ltb-true}
-use Rattle.arc_spec.specs.Classes.{ancestry_within, first_that_has, or_else}
+use Rattle.arc_spec.specs.Classes.{ancestry_within, first_that_has}
 use Rattle.arc_spec.proofs.Ancestry.{all_rows, in_row}
 use Rattle.arc_class.specs.Lookups.{superclass_of_entry, own_given_in}
 use Rattle.arc_class.proofs.Keeping.{own_first, above_next}
 use Rattle.arc_class.proofs.table.result_from.Goals as goal
+use Rattle.std.specs.Option.{option_or}
 
 pub loop-passed-init : goal.loop-passed-init
 loop-passed-init c =
@@ -26,7 +27,7 @@ loop-passed-preserved c =
     slice_get_read all (length all) number known refl (ltb-true _ _ (sym c.in-Some-get.ensures.lookup.0)) c.in-Some-get.ensures.lookup.1 in
     above_next (own_given_in names number (Some known) sign name) _ _ (sym c.own_result.ensures ∙ c.in_default-own_result.is)
     (c.loop-passed.invariant ∙ ap (λ n. first_that_has own (ancestry_within (length all - passed) (map superclass_of_entry all) n)) c.in-Some.is
-    ∙ ap (first_that_has own) (in_row superclass_of_entry all passed number known c.loop-passed-test.true there) ∙ ap (λ o. or_else (own_given_in names number o sign name) further) there)
+    ∙ ap (first_that_has own) (in_row superclass_of_entry all passed number known c.loop-passed-test.true there) ∙ ap (λ o. option_or (own_given_in names number o sign name) further) there)
 
 pub returns-in-Some-own_result : goal.returns-in-Some-own_result
 returns-in-Some-own_result c =
@@ -43,4 +44,4 @@ returns-in-Some-own_result c =
     slice_get_read all (length all) number known refl (ltb-true _ _ (sym c.in-Some-get.ensures.lookup.0)) c.in-Some-get.ensures.lookup.1 in
     own_first (own_given_in names number (Some known) sign name) c.in-Some-own_result.given _ _ (sym c.own_result.ensures ∙ c.in-Some-own_result.is)
     (c.loop-passed.invariant ∙ ap (λ n. first_that_has own (ancestry_within (length all - passed) (map superclass_of_entry all) n)) c.in-Some.is
-    ∙ ap (first_that_has own) (in_row superclass_of_entry all passed number known c.loop-passed-test.true there) ∙ ap (λ o. or_else (own_given_in names number o sign name) further) there)
+    ∙ ap (first_that_has own) (in_row superclass_of_entry all passed number known c.loop-passed-test.true there) ∙ ap (λ o. option_or (own_given_in names number o sign name) further) there)
