@@ -4,7 +4,7 @@ use Rattle.std.proofs.lemmas.Bool.{eqb-true}
 use Rattle.std.proofs.lemmas.Slice.Eq.{bytes_eq-Decides}
 use Rattle.std.specs.Str.{bytes_eq}
 use Rattle.arc_lex.specs.Tokens.{Tok}
-use Rattle.arc_form.specs.Kinds.{Kind, Kinds, none, one, ◌∪◌, same, has, kind, is, name}
+use Rattle.arc_form.specs.Kinds.{Kind, Kinds, main_bytes, none, one, ◌∪◌, same, has, kind, is, name}
 use Rattle.arc_form.specs.Reader.{first, sees, sees_two}
 
 -- ---- tests
