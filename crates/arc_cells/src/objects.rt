@@ -44,6 +44,7 @@ pub struct Objects<S: Store + Drop> {
 
 impl<S: Store + Drop> Model for Objects<S> {
     ghost use Rattle.std.specs.Prelude.{◌≤◌, map};
+    ghost use Rattle.arc_spec.specs.declared.limits.TheConstants.{MOST_LEVELS};
     ghost use Rattle.arc_cells.specs.Standing.{Parts, items_of};
 
     ghost Value = { Parts S };
