@@ -6,11 +6,12 @@ use Rattle.arc_spec.specs.Classes.{and_above, ancestry, ancestry_within, first_t
 use Rattle.arc_class.specs.declared.owners.Map.{Map}
 use Rattle.arc_class.specs.declared.owners.Maps.{Maps}
 use Rattle.arc_class.specs.declared.owners.Owners.{Owners}
-use Rattle.arc_class.specs.Classes.{or_else, number_among}
+use Rattle.arc_class.specs.Classes.{number_among}
 use Rattle.arc_class.specs.Numbered.{at_number, IsWithin}
 use Rattle.arc_class.specs.Owners.{names_in, at_number_of, in_map, IsMap, Keeps, Adds, view_of, views, IsOwners, joined, view_at, has_at, with_own, own_of, owner_by, Finds}
 use Rattle.arc_class.proofs.Digits.{none_within, at_none}
 use Rattle.arc_class.proofs.Keeping.{or_none}
+use Rattle.std.specs.Option.{option_or}
 
 -- ---- maps with no parts
 
@@ -25,7 +26,7 @@ empty_is_map maps map e = record {
 }
 
 pub empty_view : (maps : Maps) (otherwise : Option ℕ) → in_map maps (record { first = None; otherwise = otherwise }) ≡ (λ name. otherwise)
-empty_view maps otherwise = fun_ext (λ name. ap (λ o. or_else o otherwise) (nothing_at maps (number_among (names_in maps) name)))
+empty_view maps otherwise = fun_ext (λ name. ap (λ o. option_or o otherwise) (nothing_at maps (number_among (names_in maps) name)))
 
 -- ---- one class more
 
@@ -88,7 +89,7 @@ module _ {X : Type 0} (superclasses : List (Option ℕ)) (own : ℕ → List ℕ
 
   -- a class, and what is nearest above it
   class_first : (n class : ℕ) (name : List ℕ) (superclass : Option ℕ) → slice_get superclasses class ≡ Some superclass
-      → first_that_has (λ c. own c name) (ancestry_within (suc n) superclasses (Some class)) ≡ or_else (own class name) (first_that_has (λ c. own c name) (ancestry_within n superclasses superclass))
+      → first_that_has (λ c. own c name) (ancestry_within (suc n) superclasses (Some class)) ≡ option_or (own class name) (first_that_has (λ c. own c name) (ancestry_within n superclasses superclass))
   class_first n class name superclass e = ap (λ s. first_that_has (λ c. own c name) (and_above class s (λ above. ancestry_within n superclasses above))) e
 
   -- with nothing above it, a class has only its own
@@ -119,10 +120,10 @@ module _ {X : Type 0} (superclasses : List (Option ℕ)) (own : ℕ → List ℕ
 
     -- a class's own, or what is above it, is what its map names
     chosen : (name : List ℕ) (rest : Option X) (further : Option ℕ) → rest ≡ own_of (λ c. own c name) further
-        → or_else (own class name) rest ≡ own_of (λ c. own c name) (if passes name then Some class else further)
+        → option_or (own class name) rest ≡ own_of (λ c. own c name) (if passes name then Some class else further)
     chosen name rest further e = go (own class name) refl
       where
-        go : (o : Option X) → own class name ≡ o → or_else o rest ≡ own_of (λ c. own c name) (if passes name then Some class else further)
+        go : (o : Option X) → own class name ≡ o → option_or o rest ≡ own_of (λ c. own c name) (if passes name then Some class else further)
         go None h = e ∙ sym (ap (λ b. own_of (λ c. own c name) (if b then Some class else further)) (has name ∙ ap is_some h))
         go (Some x) h = sym (ap (λ b. own_of (λ c. own c name) (if b then Some class else further)) (has name ∙ ap is_some h) ∙ h)
 
@@ -184,7 +185,7 @@ first_owner own [] = refl
 first_owner {X} own (c ∷ others) = go (own c) refl (first_owner own others)
   where
     go : (x : Option X) → own c ≡ x → first_that_has own others ≡ own_of own (first_that_has (λ c. option_map (λ found. c) (own c)) others)
-        → or_else x (first_that_has own others) ≡ own_of own (or_else (option_map (λ found. c) x) (first_that_has (λ c. option_map (λ found. c) (own c)) others))
+        → option_or x (first_that_has own others) ≡ own_of own (option_or (option_map (λ found. c) x) (first_that_has (λ c. option_map (λ found. c) (own c)) others))
     go None e h = h
     go (Some a) e h = sym e
 

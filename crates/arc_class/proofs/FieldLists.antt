@@ -1,6 +1,6 @@
 -- The fields of classes, a class at a time.
 use Rattle.std.proofs.Common.{◌≡◌, ℕ, zero, suc, ◌+◌, ◌<◌, ◌≤◌, Bool, true, false, List, [], ◌∷◌, ◌++◌, length, map, reverse, nat_lt, slice_get, Option, Some, None, option_map, Vec, Global, if◌then◌else◌, refl, sym, ap, subst, ◌∙◌, arith}
-use Rattle.std.specs.Option.{option_and_then, option_map_or}
+use Rattle.std.specs.Option.{option_and_then, option_map_or, option_or}
 use Rattle.std.proofs.Math.Path.{fun_ext}
 use Rattle.std.proofs.lemmas.Bool.{lt-ltb, le-ltb}
 use Rattle.std.proofs.lemmas.Bool.Decides.{nat_tests, Decides-ltb}
@@ -21,7 +21,7 @@ use Rattle.arc_class.specs.declared.table.FoundField.{FoundField}
 use Rattle.arc_class.specs.ClassRules.{field_place}
 use Rattle.arc_class.specs.Lookups.{least_among}
 use Rattle.arc_class.specs.private.Entries.{inherited_place}
-use Rattle.arc_class.specs.Classes.{class_number, superclass, superclasses, or_else}
+use Rattle.arc_class.specs.Classes.{class_number, superclass, superclasses}
 use Rattle.arc_class.specs.private.Entries.{FieldsTree, fields_tree, root_fields, class_fields, class_fields_from, class_fields_with, all_class_fields, counted_at, counted_among}
 use Rattle.arc_class.specs.Fields.{ClassField, fields_declared, own_fields, owned, if_before, earlier_superclasses_from, earlier_superclasses, own_class_fields, inherited_by, fields, all_fields_from, inherited, kinds_of_fields, written_kinds, field_after, numbered, own_field, known_field}
 use Rattle.arc_class.specs.Sorts.{none_counted, with_one, with_all, counts}
@@ -167,7 +167,7 @@ root_is places named counted p n c =
 -- those of a class, by the maps that are made of its fields in two parts
 pub fields_made : (u : UnitTree) (class : ℕ) (inherited next counted : SortCounts) (i : InterfaceTree) (xs ys : List FieldTree) (superclass : Option ℕ) (places : Named ℕ) (named : Named FoundField)
     → superclass ≡ class_number u.interfaces i.superclass → xs ++ ys ≡ fields_declared u class i → ((name : List ℕ) → at_name places name ≡ field_place name (xs ++ ys))
-    → ((name : List ℕ) → at_name named name ≡ or_else (numbered u.interfaces class inherited xs name) (numbered u.interfaces class next ys name))
+    → ((name : List ℕ) → at_name named name ≡ option_or (numbered u.interfaces class inherited xs name) (numbered u.interfaces class next ys name))
     → next ≡ with_all inherited (written_kinds xs) → counted ≡ with_all next (written_kinds ys)
     → fields_tree (record { superclass = superclass; places = places; named = named; counted = counted }) ≡ class_fields_with u class inherited i
 fields_made u class inherited next counted i xs ys superclass places named s d p n e c =
@@ -178,15 +178,15 @@ fields_made u class inherited next counted i xs ys superclass places named s d p
     c ∙ ap (λ m. with_all m (written_kinds ys)) e ∙ counts_of_parts inherited xs ys ∙ ap (λ fs. with_all inherited (written_kinds fs)) d in
     ap (λ o. whole o (at_name places) (at_name named) counted) s ∙ ap (λ f. whole above f (at_name named) counted) (fun_ext (λ name. p name ∙ ap (field_place name) d))
     ∙ ap (λ f. whole above (λ name. field_place name own) f counted) (fun_ext (λ name. n name
-    ∙ ap (λ m. or_else (numbers inherited xs name) (numbers m ys name)) e ∙ sym (numbered_append inherited xs ys name) ∙ ap (λ fs. numbers inherited fs name) d))
+    ∙ ap (λ m. option_or (numbers inherited xs name) (numbers m ys name)) e ∙ sym (numbered_append inherited xs ys name) ∙ ap (λ fs. numbers inherited fs name) d))
     ∙ ap (whole above (λ name. field_place name own) (numbers inherited own)) all
   where
     numbered_append : (k : SortCounts) (xs ys : List FieldTree) (name : List ℕ)
-        → numbered u.interfaces class k (xs ++ ys) name ≡ or_else (numbered u.interfaces class k xs name) (numbered u.interfaces class (with_all k (written_kinds xs)) ys name)
+        → numbered u.interfaces class k (xs ++ ys) name ≡ option_or (numbered u.interfaces class k xs name) (numbered u.interfaces class (with_all k (written_kinds xs)) ys name)
     numbered_append k [] ys name = refl
     numbered_append k (x ∷ xs) ys name = go (bytes_eq name x.name) (field_after u.interfaces class k x) _ _ _ (numbered_append (with_one (type_kind x.type) k) xs ys name)
       where
-        go : (b : Bool) (found : FoundField) (p q r : Option FoundField) → p ≡ or_else q r → (if b then Some found else p) ≡ or_else (if b then Some found else q) r
+        go : (b : Bool) (found : FoundField) (p q r : Option FoundField) → p ≡ option_or q r → (if b then Some found else p) ≡ option_or (if b then Some found else q) r
         go true found p q r h = refl
         go false found p q r h = h
 

@@ -14,13 +14,14 @@ use Rattle.std.proofs.lemmas.Slice.Eq.{bytes_eq-Decides}
 use Rattle.arc_class.specs.declared.owners.Map.{Map}
 use Rattle.arc_class.specs.declared.owners.Maps.{Maps}
 use Rattle.arc_class.specs.declared.numbered.Node.{Node}
-use Rattle.arc_class.specs.Classes.{or_else, among, and_name, number_among}
+use Rattle.arc_class.specs.Classes.{among, and_name, number_among}
 use Rattle.arc_class.specs.ByName.{Named, at_name}
 use Rattle.arc_class.specs.Numbered.{at_number, IsWithin, Puts}
 use Rattle.arc_class.specs.Owners.{names_in, at_number_of, in_map, IsMap, Keeps, Adds}
 use Rattle.arc_class.proofs.Digits.{IsWithin-append, at_number-append}
 use Rattle.arc_class.proofs.Names.{self_eq, apart}
 use Rattle.arc_class.proofs.Parted.{or_append}
+use Rattle.std.specs.Option.{option_or}
 
 -- ---- names and their numbers
 
@@ -131,7 +132,7 @@ module _ (old grown : Maps) (map : Map) (name : List ℕ) (number class at : ℕ
       within = let P : List Node → Type 0 = λ ns. IsWithin old.levels ns other.first in subst P (sym p.extends.is) (IsWithin-append old.levels old.nodes.items p.extends.more other.first h.within);
       unnamed = λ sought le lt. same_at other h sought ∙ h.unnamed sought (omega (arith, grows)) lt;
     };
-    same = λ other h sought. ap (λ o. or_else o other.otherwise) (kept_at other h sought);
+    same = λ other h sought. ap (λ o. option_or o other.otherwise) (kept_at other h sought);
   }
 
   abbrev made : Map
@@ -170,12 +171,12 @@ module _ (old grown : Maps) (map : Map) (name : List ℕ) (number class at : ℕ
           let same : sought ≡ name = (bytes_eq-Decides sought name).0 e in
           let there : number_among (names_in new) sought ≡ Some number = ap (number_among (names_in new)) same ∙ k in
           let lt : number < 2 ^ old.levels = omega (arith, numbered_within) in
-          ap (λ o. or_else (at_number_of new (Some at) o) map.otherwise) there
-          ∙ ap (λ o. or_else o map.otherwise) (p.found number lt ∙ ap (λ b. if b then Some class else at_number old.levels old.nodes.items map.first number) ((Decides-eqb number number).1 refl))
+          ap (λ o. option_or (at_number_of new (Some at) o) map.otherwise) there
+          ∙ ap (λ o. option_or o map.otherwise) (p.found number lt ∙ ap (λ b. if b then Some class else at_number old.levels old.nodes.items map.first number) ((Decides-eqb number number).1 refl))
       go false e =
           let there : number_among (names_in new) sought ≡ number_among (names_in old) sought = ap (λ ns. number_among ns sought) n ∙ other_number (names_in old) name sought e in
-          ap (λ o. or_else (at_number_of new (Some at) o) map.otherwise) there
-          ∙ ap (λ o. or_else o map.otherwise) (found_of sought e (number_among (names_in old) sought) refl)
+          ap (λ o. option_or (at_number_of new (Some at) o) map.otherwise) there
+          ∙ ap (λ o. option_or o map.otherwise) (found_of sought e (number_among (names_in old) sought) refl)
 
   pub adds_name : Adds old new map made (λ sought. bytes_eq sought name) class
   adds_name = record { keeps = all_kept; is_map = made_is_map; found = found_at }
@@ -244,6 +245,6 @@ any_named (e ∷ names) sought = go (bytes_eq sought (e.0).now) (is_eq (slice_cm
 pub more_named : {V : Type 0} (part others : Named V) (sought : List ℕ) → is_some (at_name (part ++ others) sought) ≡ (is_some (at_name part sought) || is_some (at_name others sought))
 more_named part others sought = ap is_some (or_append part others sought) ∙ either (at_name part sought) (at_name others sought)
   where
-    either : {V : Type 0} (a b : Option V) → is_some (or_else a b) ≡ (is_some a || is_some b)
+    either : {V : Type 0} (a b : Option V) → is_some (option_or a b) ≡ (is_some a || is_some b)
     either (Some x) b = refl
     either None b = refl

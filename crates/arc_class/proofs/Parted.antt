@@ -10,7 +10,7 @@ use Rattle.std.specs.Cmp.Lexicographic.{slice_cmp}
 use Rattle.std.specs.Ordering.{nat_cmp, is_eq}
 use Rattle.std.specs.Map.{update}
 use Rattle.std.specs.Str.{bytes_eq}
-use Rattle.arc_class.specs.Classes.{or_else}
+use Rattle.std.specs.Option.{option_or}
 use Rattle.arc_class.specs.ByName.{at_name, part_of, all_parts, IsPlaced}
 use Rattle.arc_class.proofs.Keeping.{or_none}
 
@@ -19,12 +19,12 @@ abbrev pub at_part : {X : Type 0} → Option (BTreeMap (Bor (List ℕ)) X) → L
 at_part None name = None
 at_part (Some part) name = at_name part.entries name
 
-pub or_append : {X : Type 0} (xs ys : List (Bor (List ℕ) × X)) (name : List ℕ) → at_name (xs ++ ys) name ≡ or_else (at_name xs name) (at_name ys name)
+pub or_append : {X : Type 0} (xs ys : List (Bor (List ℕ) × X)) (name : List ℕ) → at_name (xs ++ ys) name ≡ option_or (at_name xs name) (at_name ys name)
 or_append [] ys name = refl
 or_append {X} (e ∷ xs) ys name = go (is_eq (slice_cmp nat_cmp name (e.0).now)) (or_append xs ys name)
   where
-    go : (b : Bool) → at_name (xs ++ ys) name ≡ or_else (at_name xs name) (at_name ys name)
-        → cond b (Some e.1) (at_name (xs ++ ys) name) ≡ or_else (cond b (Some e.1) (at_name xs name)) (at_name ys name)
+    go : (b : Bool) → at_name (xs ++ ys) name ≡ option_or (at_name xs name) (at_name ys name)
+        → cond b (Some e.1) (at_name (xs ++ ys) name) ≡ option_or (cond b (Some e.1) (at_name xs name)) (at_name ys name)
     go true h = refl
     go false h = h
 
@@ -32,7 +32,7 @@ none_at : {X : Type 0} (parts : List (BTreeMap (Bor (List ℕ)) X)) (name : List
     → ((i : ℕ) (part : BTreeMap (Bor (List ℕ)) X) → slice_get parts i ≡ Some part → at_name part.entries name ≡ None) → at_name (all_parts parts) name ≡ None
 none_at [] name h = refl
 none_at (p ∷ parts) name h =
-    or_append p.entries (all_parts parts) name ∙ ap (λ o. or_else o (at_name (all_parts parts) name)) (h 0 p refl) ∙ none_at parts name (λ i part e. h (suc i) part e)
+    or_append p.entries (all_parts parts) name ∙ ap (λ o. option_or o (at_name (all_parts parts) name)) (h 0 p refl) ∙ none_at parts name (λ i part e. h (suc i) part e)
 
 further : {X : Type 0} (home i : ℕ) → (suc home ≡ suc i) ⊎ X → (home ≡ i) ⊎ X
 further home i (inl e) = inl (cc)
@@ -51,9 +51,9 @@ found_at : {X : Type 0} (parts : List (BTreeMap (Bor (List ℕ)) X)) (home : ℕ
     → at_name (all_parts parts) name ≡ at_part (slice_get parts home) name
 found_at [] home name h = refl
 found_at (p ∷ parts) zero name h =
-    or_append p.entries (all_parts parts) name ∙ ap (or_else (at_name p.entries name)) (none_at parts name (λ i part e. other_zero i (h (suc i) part e))) ∙ or_none (at_name p.entries name)
+    or_append p.entries (all_parts parts) name ∙ ap (option_or (at_name p.entries name)) (none_at parts name (λ i part e. other_zero i (h (suc i) part e))) ∙ or_none (at_name p.entries name)
 found_at (p ∷ parts) (suc home) name h =
-    or_append p.entries (all_parts parts) name ∙ ap (λ o. or_else o (at_name (all_parts parts) name)) (other_suc home (h 0 p refl))
+    or_append p.entries (all_parts parts) name ∙ ap (λ o. option_or o (at_name (all_parts parts) name)) (other_suc home (h 0 p refl))
     ∙ found_at parts home name (λ i part e. further home i (h (suc i) part e))
 
 -- what is there at a name stands in the part of the name

@@ -16,7 +16,7 @@ use Rattle.arc_class.specs.Broken.{broken_if, Broken, first, earlier_of}
 use Rattle.arc_class.specs.ClassRules.{broken_methods, broken_field, broken_fields, field_place, broken_interface, broken_implementation, is_implemented}
 use Rattle.arc_class.specs.Broken.{in_order}
 use Rattle.arc_class.specs.SiteRules.{interface_before}
-use Rattle.arc_class.specs.Classes.{heads, first_head, interface_number, class_number, is_root, or_else}
+use Rattle.arc_class.specs.Classes.{heads, first_head, interface_number, class_number, is_root}
 use Rattle.arc_class.specs.Kept.{place_before, places, implemented_tree}
 use Rattle.arc_class.specs.Running.{implemented}
 use Rattle.arc_class.specs.Table.{at_name, class_number_in}
@@ -24,6 +24,7 @@ use Rattle.arc_class.proofs.Firsts.{first_turn}
 use Rattle.arc_class.proofs.Keeping.{first_head-append}
 use Rattle.arc_class.proofs.Lists.{drop_turn}
 use Rattle.arc_class.proofs.Names.{eq_turned}
+use Rattle.std.specs.Option.{option_or}
 
 -- ---- names that stand before
 
@@ -131,10 +132,10 @@ methods_turn xs k x so_far one now whole l e o n w =
     ∙ ap (λ b. earlier_of now (first (broken_methods b others))) (sym (heads_take xs k x l e))
 
 pub methods_held : (xs : List Method) (k : ℕ) (x : Method) (old new : Sign → List ℕ → Option HeadTree) → k < length xs → x ≡ get_or xs k x
-    → ((sign : Sign) (selector : List ℕ) → new sign selector ≡ or_else (old sign selector) (first_head sign selector (head_tree x.head ∷ [])))
+    → ((sign : Sign) (selector : List ℕ) → new sign selector ≡ option_or (old sign selector) (first_head sign selector (head_tree x.head ∷ [])))
     → ((sign : Sign) (selector : List ℕ) → old sign selector ≡ first_head sign selector (heads (method_trees (take k xs)))) → (sign : Sign) (selector : List ℕ) → new sign selector ≡ first_head sign selector (heads (method_trees (take (k + 1) xs)))
 methods_held xs k x old new l e n h sign selector =
-    n sign selector ∙ ap (λ o. or_else o (first_head sign selector (head_tree x.head ∷ []))) (h sign selector)
+    n sign selector ∙ ap (λ o. option_or o (first_head sign selector (head_tree x.head ∷ []))) (h sign selector)
     ∙ sym (ap (first_head sign selector) (heads_take xs k x l e) ∙ first_head-append sign selector (heads (method_trees (take k xs))) (head_tree x.head ∷ []))
 
 -- ---- fields
@@ -152,12 +153,12 @@ broken_fields-append u above all (x ∷ xs) ys =
     ap (λ bs. broken_field u above all x.at x.name ++ bs) (broken_fields-append u above all xs ys)
     ∙ sym (append_assoc (broken_field u above all x.at x.name) (broken_fields u above all xs) (broken_fields u above all ys))
 
-pub field_place-append : (name : List ℕ) (xs ys : List FieldTree) → field_place name (xs ++ ys) ≡ or_else (field_place name xs) (field_place name ys)
+pub field_place-append : (name : List ℕ) (xs ys : List FieldTree) → field_place name (xs ++ ys) ≡ option_or (field_place name xs) (field_place name ys)
 field_place-append name [] ys = refl
 field_place-append name (x ∷ xs) ys = go (bytes_eq name x.name) (field_place-append name xs ys)
   where
-    go : (b : Bool) → field_place name (xs ++ ys) ≡ or_else (field_place name xs) (field_place name ys)
-        → (if b then Some x.at else field_place name (xs ++ ys)) ≡ or_else (if b then Some x.at else field_place name xs) (field_place name ys)
+    go : (b : Bool) → field_place name (xs ++ ys) ≡ option_or (field_place name xs) (field_place name ys)
+        → (if b then Some x.at else field_place name (xs ++ ys)) ≡ option_or (if b then Some x.at else field_place name xs) (field_place name ys)
     go true h = refl
     go false h = h
 

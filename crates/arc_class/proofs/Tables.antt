@@ -1,6 +1,6 @@
 -- From the parts of a table to what it is a table of.
 use Rattle.std.proofs.Common.{◌≡◌, ℕ, zero, suc, List, [], ◌∷◌, map, slice_get, Option, Some, None, option_map, refl, sym, ap, ◌∙◌}
-use Rattle.std.specs.Option.{option_and_then}
+use Rattle.std.specs.Option.{option_and_then, option_or}
 use Rattle.arc_class.specs.ByName.{Named}
 use Rattle.std.proofs.Math.Path.{fun_ext}
 use Rattle.std.proofs.lemmas.Option.{slice_get-map}
@@ -13,7 +13,7 @@ use Rattle.arc_class.specs.declared.table.ClassTable.{ClassTable}
 use Rattle.arc_class.specs.declared.table.Entry.{Entry}
 use Rattle.arc_class.specs.declared.table.MethodResult.{MethodResult}
 use Rattle.arc_class.specs.declared.table.Place.{Place}
-use Rattle.arc_class.specs.Classes.{superclass, own_result, result_in, result_of, built_in_result, built_in_given, counting_result, counting_given, class_of_result, nearest_result, known_result, any_result, superclasses, class_number, or_else, first_head, declared, defined}
+use Rattle.arc_class.specs.Classes.{superclass, own_result, result_in, result_of, built_in_result, built_in_given, counting_result, counting_given, class_of_result, nearest_result, known_result, any_result, superclasses, class_number, first_head, declared, defined}
 use Rattle.arc_class.specs.private.Entries.{EntryTree, entry_tree, root_entry, class_entry}
 use Rattle.arc_class.specs.Kept.{head_in, function_kept}
 use Rattle.arc_class.specs.Names.{first_named}
@@ -89,7 +89,7 @@ among_is u table from sign selector e =
 pub result_is : (u : UnitTree) (table : ClassTable) (from : Option ℕ) (sign : Sign) (selector : List ℕ) → map (entry_tree table.names) table.entries.items ≡ root_entry ∷ map (class_entry u) u.interfaces
     → result_in_table table from sign selector ≡ known_result u from sign selector
 result_is u table None sign selector e = refl
-result_is u table (Some class) sign selector e = ap (or_else (counting_given selector)) (among_is u table (Some class) sign selector e)
+result_is u table (Some class) sign selector e = ap (option_or (counting_given selector)) (among_is u table (Some class) sign selector e)
 
 -- the class of what functions give
 pub function_class_is : (u : UnitTree) (table : ClassTable) (name : List ℕ) → ((sought : List ℕ) → class_number_in table.names sought ≡ class_number u.interfaces sought)
@@ -104,6 +104,6 @@ pub any_is : (u : UnitTree) (table : ClassTable) (selector : List ℕ) → head_
 any_is u table selector d e =
     let one : result_at table.declared signs.Instance selector ≡ option_map result_of (first_head signs.Instance selector (declared u.interfaces)) = sym (result_kept table.declared signs.Instance selector) ∙ ap (option_map result_of) d in
     let other : result_at table.defined signs.Instance selector ≡ option_map result_of (first_head signs.Instance selector (defined u.implementations)) = sym (result_kept table.defined signs.Instance selector) ∙ ap (option_map result_of) e in
-    ap (or_else (counting_result selector))
-    (ap (λ o. or_else o (or_else (result_at table.defined signs.Instance selector) (built_in_result signs.Instance selector))) one
-    ∙ ap (λ o. or_else (option_map result_of (first_head signs.Instance selector (declared u.interfaces))) (or_else o (built_in_result signs.Instance selector))) other)
+    ap (option_or (counting_result selector))
+    (ap (λ o. option_or o (option_or (result_at table.defined signs.Instance selector) (built_in_result signs.Instance selector))) one
+    ∙ ap (λ o. option_or (option_map result_of (first_head signs.Instance selector (declared u.interfaces))) (option_or o (built_in_result signs.Instance selector))) other)

@@ -7,9 +7,10 @@ use Rattle.arc_class.specs.declared.table.Entry.{Entry}
 use Rattle.arc_class.specs.declared.owners.Map.{Map}
 use Rattle.arc_class.specs.declared.owners.Maps.{Maps}
 use Rattle.arc_class.specs.declared.owners.Owners.{Owners}
-use Rattle.arc_class.specs.Classes.{or_else, number_among}
+use Rattle.arc_class.specs.Classes.{number_among}
 use Rattle.arc_class.specs.Numbered.{at_number, IsWithin}
 use Rattle.arc_class.specs.Lookups.{head_at, superclass_of_entry, own_result_in, superclass_of_fields, own_field_in, names_of}
+use Rattle.std.specs.Option.{option_or}
 
 -- the names that maps have, in the order of their numbers
 abbrev pub names_in : Maps → List (List ℕ)
@@ -22,7 +23,7 @@ at_number_of maps first (Some number) = at_number maps.levels maps.nodes.items f
 
 -- what a map has at a name
 abbrev pub in_map : Maps → Map → List ℕ → Option ℕ
-in_map maps map name = or_else (at_number_of maps map.first (number_among (names_in maps) name)) map.otherwise
+in_map maps map name = option_or (at_number_of maps map.first (number_among (names_in maps) name)) map.otherwise
 
 -- nothing is shared yet
 pub record no_maps (maps : Maps) : Type 0 where

@@ -1,7 +1,7 @@
 -- The rules that a site of a source breaks by itself: names of one scope, functions, global variables and methods beside others of their names, classes of
 -- types, and calls of functions that have no body. Each says what is broken at a node.
 use Rattle.std.specs.Prelude.{ℕ, Bool, false, ◌&&◌, ◌||◌, not, nat_lt, List, [], ◌∷◌, ◌++◌, map, flat_map, Option, Some, None, is_none, codes, if◌then◌else◌}
-use Rattle.std.specs.Option.{option_map_or}
+use Rattle.std.specs.Option.{option_map_or, option_or}
 use Rattle.std.specs.Str.{bytes_eq}
 use Rattle.arc_ast.specs.declared.tree.Kind.{Kind}
 use Rattle.arc_ast.specs.declared.tree.Kind.TheVariants as k
@@ -13,7 +13,7 @@ use Rattle.arc_sites.specs.Sites.{Enclosing, Node, Value, Statement, Body, Funct
 use Rattle.arc_spec.specs.Classes.{same_sign}
 use Rattle.arc_class.specs.declared.table.Declared as table
 use Rattle.arc_class.specs.Broken.{Broken, broken_if}
-use Rattle.arc_class.specs.Classes.{is_root, class_number, first_head, result_of, built_in_result, or_else, declared, defined}
+use Rattle.arc_class.specs.Classes.{is_root, class_number, first_head, result_of, built_in_result, declared, defined}
 use Rattle.arc_class.specs.Functions.{is_library, same_kind, same_kinds}
 use Rattle.arc_class.specs.Globals.{known_global, variable_before}
 use Rattle.arc_class.specs.Names.{known, first_named, parameter_kinds, listed_kinds}
@@ -133,7 +133,7 @@ asked_kind sign selector = if same_sign sign signs.Instance && asks_class select
 
 -- what the methods of the root give, which are built in
 abbrev pub built_in_kind : Sign → List ℕ → Option Kind
-built_in_kind sign selector = or_else (built_in_result sign selector) (asked_kind sign selector)
+built_in_kind sign selector = option_or (built_in_result sign selector) (asked_kind sign selector)
 
 -- 24 SelectorKinds: a method whose result or one of whose parameters is of another kind than that of an earlier method of its sign with its selector, those of
 -- the root being built in, at its `+` or `-` (this project's own choice)

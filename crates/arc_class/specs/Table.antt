@@ -1,7 +1,7 @@
 -- What a table of a source is.
 pub use Rattle.arc_class.specs.Lookups.{number_of_class, number_of_selector, number_of_method, at_name, class_number_in, type_class_in, head_at, result_class_in, result_at, own_result_in, own_given_in, superclass_among, superclass_of_entry, given_among, own_field_in, own_place_in, superclass_of_fields, field_among, place_among, field_tree, list_of, items_at, list_at, list_among, nearest_dealloc, ends_object, built_in_at, names_of, built_in_from}
 use Rattle.std.specs.Prelude.{◌≡◌, ℕ, List, [], position, slice_get, Option, Some, None, option_and_then, if◌then◌else◌}
-use Rattle.std.specs.Option.{option_map_or}
+use Rattle.std.specs.Option.{option_map_or, option_or}
 use Rattle.std.specs.Str.{bytes_eq}
 use Rattle.std.specs.Borrow.{Bor}
 use Rattle.arc_ast.specs.declared.tree.Kind.{Kind}
@@ -20,7 +20,7 @@ use Rattle.arc_class.specs.declared.table.FoundField.{FoundField}
 use Rattle.arc_class.specs.declared.table.MethodResult.{MethodResult}
 use Rattle.arc_class.specs.declared.table.Variable.{Variable}
 use Rattle.arc_class.specs.Kept.{function_kept, head_in}
-use Rattle.arc_class.specs.Classes.{kinds_passed, and_name, class_number, superclass, or_else, built_in_result, result_of, counting_result, counting_given, known_result, any_result, class_of_result, selector_number, function_count}
+use Rattle.arc_class.specs.Classes.{kinds_passed, and_name, class_number, superclass, built_in_result, result_of, counting_result, counting_given, known_result, any_result, class_of_result, selector_number, function_count}
 use Rattle.arc_class.specs.Fields.{ClassField, fields, known_field}
 use Rattle.arc_class.specs.Globals.{known_global}
 use Rattle.arc_class.specs.Names.{known, parameter_kinds, listed_kinds, kinds_of_parameters, number_of, is_main}
@@ -40,7 +40,7 @@ abbrev pub parameters_in : ClassTable → List ℕ → List Kind
 parameters_in table name = option_map_or listed_kinds (function_kept table.first_functions name) []
 
 abbrev pub passed_in : ClassTable → Sign → List ℕ → List Kind
-passed_in table sign selector = option_map_or (λ h. parameter_kinds h.parameters) (or_else (head_in table.declared sign selector) (head_in table.defined sign selector)) []
+passed_in table sign selector = option_map_or (λ h. parameter_kinds h.parameters) (option_or (head_in table.declared sign selector) (head_in table.defined sign selector)) []
 
 abbrev pub class_in : ClassTable → List ℕ → Option ℕ
 class_in table = class_number_in table.names
@@ -61,7 +61,7 @@ nearest_result_in table class = given_among table.names table.entries.items (Som
 
 abbrev pub result_in_table : ClassTable → Option ℕ → Sign → List ℕ → Option MethodResult
 result_in_table table None sign selector = None
-result_in_table table (Some class) sign selector = or_else (counting_given selector) (nearest_result_in table class sign selector)
+result_in_table table (Some class) sign selector = option_or (counting_given selector) (nearest_result_in table class sign selector)
 
 -- which class has the nearest method of a sign, by a table
 abbrev pub owners_in : ClassTable → Sign → Owners
@@ -70,8 +70,8 @@ owners_in table signs.Instance = table.instance_methods
 
 -- what a message to an object gives of which no class is known
 abbrev pub any_result_in : ClassTable → List ℕ → Option Kind
-any_result_in table selector = or_else (counting_result selector)
-    (or_else (result_at table.declared signs.Instance selector) (or_else (result_at table.defined signs.Instance selector) (built_in_result signs.Instance selector)))
+any_result_in table selector = option_or (counting_result selector)
+    (option_or (result_at table.declared signs.Instance selector) (option_or (result_at table.defined signs.Instance selector) (built_in_result signs.Instance selector)))
 
 abbrev pub field_in_table : ClassTable → Option ℕ → List ℕ → Option FoundField
 field_in_table table = field_among table.named_fields.items
@@ -96,7 +96,7 @@ look_up_passing table class sign selector passed wanted =
 -- what the methods of a sign with a selector give
 abbrev pub gives_in : ClassTable → Sign → List ℕ → Gives
 gives_in table sign selector =
-    option_map_or (λ h. gives_of (result_of h)) (or_else (head_in table.declared sign selector) (head_in table.defined sign selector)) Number
+    option_map_or (λ h. gives_of (result_of h)) (option_or (head_in table.declared sign selector) (head_in table.defined sign selector)) Number
 
 abbrev pub defined_in : ClassTable → (class : ℕ) → Sign → (selector : ℕ) → Option ℕ
 defined_in table class sign selector =
@@ -108,7 +108,7 @@ built_in_method table class sign selector =
     if descends (classes_of table.classes.items) (Some class) 0 then built_in_at table.built_in sign (selector_name table selector) else None
 
 abbrev pub method_in : ClassTable → (class : ℕ) → Sign → (selector : ℕ) → Option ℕ
-method_in table class sign selector = or_else (defined_in table class sign selector) (built_in_method table class sign selector)
+method_in table class sign selector = option_or (defined_in table class sign selector) (built_in_method table class sign selector)
 
 abbrev pub selector_names : ClassTable → List (List ℕ)
 selector_names table = names_of table.selectors.keys

@@ -3,7 +3,7 @@ ghost use Rattle.std.specs.Prelude.{◌≡◌, ℕ, List, ◌++◌, length, map,
 ghost use Rattle.arc_ast.specs.Tree.{UnitTree, FieldTree, InterfaceTree, unit_tree, interface_tree, field_tree as written_field, field_trees};
 ghost use Rattle.arc_ast.specs.Types.{type_kind};
 ghost use Rattle.arc_class.specs.Broken.{first};
-ghost use Rattle.arc_class.specs.Classes.{class_number, or_else};
+ghost use Rattle.arc_class.specs.Classes.{class_number};
 ghost use Rattle.arc_class.specs.ClassRules as rules;
 ghost use Rattle.arc_class.specs.ClassRules.{broken_field, broken_fields, broken_pair};
 ghost use Rattle.arc_fault.specs.declared.class.ClassFault.TheVariants.{Memory};
@@ -28,6 +28,7 @@ use arc_ast::tree::{Interface, Kind, Qual};
 use arc_fault::class::ClassFault;
 use arc_sites::violation::earlier;
 use std::alloc::{AllocError, Global};
+ghost use Rattle.std.specs.Option.{option_or};
 
 /// The place of the first field of each name.
 pub type FieldPlaces<'a> = ByName<'a, usize>;
@@ -58,7 +59,7 @@ fn keep_places<'a>(
     fields: &'a [tree::Field],
 ) -> Result<(), AllocError>
     ensures { OnOk result ((sought : List ℕ)
-        → at_name places.new sought ≡ or_else (at_name places.old sought) (rules.field_place sought (field_trees fields.now))) }
+        → at_name places.new sought ≡ option_or (at_name places.old sought) (rules.field_place sought (field_trees fields.now))) }
 {
     for field in fields {
         keep_first(places, &field.name, field.at)?;
@@ -107,7 +108,7 @@ fn keep_fields<'a>(
     fields: &'a [tree::Field],
 ) -> Result<SortCounts, ClassFault>
     ensures kept { (interfaces : List InterfaceTree) → ((sought : List ℕ) → class_number_in names.now sought ≡ class_number interfaces sought) → OnOk result ((sought : List ℕ)
-        → at_name named.new sought ≡ or_else (at_name named.old sought) (numbered interfaces (number_of_class owner) before (field_trees fields.now) sought)) }
+        → at_name named.new sought ≡ option_or (at_name named.old sought) (numbered interfaces (number_of_class owner) before (field_trees fields.now) sought)) }
     ensures counted { IfOk result (λ counted. counted ≡ with_all before (written_kinds (field_trees fields.now))) }
     ensures refused { IfErr result (λ fault. fault ≡ Memory) }
 {

@@ -2,7 +2,7 @@
 ghost use Rattle.std.specs.Prelude.{◌≡◌, ℕ, List, [], ◌∷◌, None, IfOk, OnOk};
 ghost use Rattle.arc_ast.specs.declared.tree.Sign.{Sign};
 ghost use Rattle.arc_ast.specs.Tree.{head_tree, head_trees, method_trees};
-ghost use Rattle.arc_class.specs.Classes.{heads, first_head, is_related, or_else};
+ghost use Rattle.arc_class.specs.Classes.{heads, first_head, is_related};
 ghost use Rattle.arc_class.specs.Kept.{one_at, head_in};
 ghost use Rattle.arc_class.specs.Table.{at_name, head_at};
 
@@ -11,6 +11,7 @@ use crate::table::at_name;
 use arc_ast::tree::{Kind, Method, MethodHead, ResultType, Sign, TypeName};
 use arc_spec::family::{gives_related, method_family};
 use std::alloc::{AllocError, Global};
+ghost use Rattle.std.specs.Option.{option_or};
 
 /// Keeps the value for the name, unless there is one.
 pub fn keep_first<'a, V: Copy>(
@@ -18,7 +19,7 @@ pub fn keep_first<'a, V: Copy>(
     name: &'a [u8],
     value: V,
 ) -> Result<(), AllocError>
-    ensures { OnOk result ((sought : List ℕ) → at_name map.new sought ≡ or_else (at_name map.old sought) (one_at name.now value sought)) }
+    ensures { OnOk result ((sought : List ℕ) → at_name map.new sought ≡ option_or (at_name map.old sought) (one_at name.now value sought)) }
 {
     if map.get(name).is_some() {
         return Ok(());
@@ -78,7 +79,7 @@ impl<'a> Heads<'a> {
     /// Keeps the method, unless there is one of its sign with its selector.
     pub fn keep(&mut self, head: &'a MethodHead) -> Result<(), AllocError>
         ensures { OnOk result ((sign : Sign) (selector : List ℕ)
-            → head_in self.new sign selector ≡ or_else (head_in self.old sign selector) (first_head sign selector (head_tree head.now ∷ []))) }
+            → head_in self.new sign selector ≡ option_or (head_in self.old sign selector) (first_head sign selector (head_tree head.now ∷ []))) }
     {
         match head.sign {
             Sign::Class => keep_first(&mut self.class_methods, &head.selector, head),
@@ -89,7 +90,7 @@ impl<'a> Heads<'a> {
     /// Keeps the first of the methods of each sign with each selector.
     pub fn keep_heads(&mut self, heads: &'a [MethodHead]) -> Result<(), AllocError>
         ensures { OnOk result ((sign : Sign) (selector : List ℕ)
-            → head_in self.new sign selector ≡ or_else (head_in self.old sign selector) (first_head sign selector (head_trees heads.now))) }
+            → head_in self.new sign selector ≡ option_or (head_in self.old sign selector) (first_head sign selector (head_trees heads.now))) }
     {
         for head in heads {
             self.keep(head)?;
@@ -100,7 +101,7 @@ impl<'a> Heads<'a> {
     /// Keeps the first of the methods of each sign with each selector.
     pub fn keep_methods(&mut self, methods: &'a [Method]) -> Result<(), AllocError>
         ensures { OnOk result ((sign : Sign) (selector : List ℕ)
-            → head_in self.new sign selector ≡ or_else (head_in self.old sign selector) (first_head sign selector (heads (method_trees methods.now)))) }
+            → head_in self.new sign selector ≡ option_or (head_in self.old sign selector) (first_head sign selector (heads (method_trees methods.now)))) }
     {
         for method in methods {
             self.keep(&method.head)?;

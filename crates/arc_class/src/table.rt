@@ -12,7 +12,7 @@ ghost use Rattle.arc_class.specs.Functions.{missing_main};
 ghost use Rattle.arc_class.specs.Kept.{Knows};
 ghost use Rattle.arc_class.specs.Names.{parameter_kinds, number_of, is_main};
 ghost use Rattle.arc_ast.specs.declared.tree.Sign.TheVariants as signs;
-ghost use Rattle.arc_class.specs.Classes.{or_else};
+ghost use Rattle.std.specs.Option.{option_or};
 ghost use Rattle.arc_class.specs.Lookups.{head_at, at_name, class_number_in, type_class_in, result_class_in, given_in, own_given_in, result_at, given_among, field_tree, items_at, ends_object, nearest_dealloc, number_of_class, number_of_selector, number_of_method};
 ghost use Rattle.arc_class.specs.Owners.{FindsMethods, FindsFields};
 ghost use Rattle.std.proofs.Props.{props};
@@ -421,7 +421,7 @@ impl<'a> ClassTable<'a> {
 
     /// The first method of the sign with the selector that is declared, or else defined.
     fn first_method(&self, sign: Sign, selector: &'a [u8]) -> Option<&'a MethodHead>
-        ensures { result ≡ or_else (head_at self.now.declared sign selector.now) (head_at self.now.defined sign selector.now) }
+        ensures { result ≡ option_or (head_at self.now.declared sign selector.now) (head_at self.now.defined sign selector.now) }
     {
         match self.declared.get(sign, selector) {
             Some(head) => Some(head),

@@ -11,7 +11,7 @@ use Rattle.arc_fault.specs.Parse.{report}
 use Rattle.arc_parse.specs.Refusal.{FitsNoneAt, TooDeepAt}
 use Rattle.arc_sites.specs.declared.violation.Violation.{Violation}
 use Rattle.arc_class.specs.Broken.{first}
-use Rattle.arc_class.specs.Classes.{or_else}
+use Rattle.std.specs.Option.{option_or}
 use Rattle.arc_class.specs.ClassRules.{broken}
 use Rattle.arc_judge.specs.Rules.{broken_unit}
 use Rattle.arc_family.specs.Rules as ownership
@@ -26,7 +26,7 @@ pub record HasTrace (source input : List ℕ) (turns : ℕ) (events : List Event
 
 -- the violation that is reported: the first of those of the first stage that has some
 abbrev pub reported : UnitTree → Option Violation
-reported tree = or_else (first (broken tree)) (or_else (first (broken_unit tree)) (first (ownership.broken tree)))
+reported tree = option_or (first (broken tree)) (option_or (first (broken_unit tree)) (first (ownership.broken tree)))
 
 -- The source is refused by the rule of this number, at this position: at the first byte where it breaks a rule for tokens; at the first token that doesn't fit, or
 -- that passes a limit; or because the tree that it spells breaks a rule, of which this one is reported.

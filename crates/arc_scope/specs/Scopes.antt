@@ -1,6 +1,6 @@
 -- What names mean at a place of a body.
 use Rattle.std.specs.Prelude.{ℕ, suc, ◌+◌, Bool, true, false, ◌||◌, nat_lt, nat_eq, List, fold, Option, Some, None, is_some, option_map, option_and_then, unwrap_or, codes, if◌then◌else◌}
-use Rattle.std.specs.Option.{option_map_or}
+use Rattle.std.specs.Option.{option_map_or, option_or}
 use Rattle.std.specs.Str.{bytes_eq}
 use Rattle.arc_ast.specs.declared.tree.Kind.{Kind}
 use Rattle.arc_ast.specs.declared.tree.Kind.TheVariants as k
@@ -19,7 +19,6 @@ use Rattle.arc_class.specs.declared.table.Declared.{Declared}
 use Rattle.arc_class.specs.declared.table.FoundField.{FoundField}
 use Rattle.arc_class.specs.declared.table.MethodResult.{MethodResult}
 use Rattle.arc_class.specs.declared.table.Variable.{Variable}
-use Rattle.arc_class.specs.Classes.{or_else}
 use Rattle.arc_class.specs.Functions.{same_number}
 use Rattle.arc_class.specs.Table.{number_of_class}
 use Rattle.arc_scope.specs.Kinds.{is_object}
@@ -176,7 +175,7 @@ of_global v = if is_object (Some v.kind) then Object (location.Global v.number) 
 -- the variable that a name means: one of the body, or else one of the whole program, where no field of `self` has the name (C99, section 6.2.1; it is known in the
 -- whole source, which is this project's own choice)
 abbrev pub variable : Scope → List ℕ → Option Local
-variable s name = or_else (s.variables name) (if is_some (own_field s name) then None else option_map of_global (s.known.global name))
+variable s name = option_or (s.variables name) (if is_some (own_field s name) then None else option_map of_global (s.known.global name))
 
 -- Where a field may be named (OPL, "The Scope of Instance Variables"): public ones everywhere, private ones in the methods of the class whose own they are, and
 -- protected ones in those of classes that come from it, too.
@@ -253,6 +252,6 @@ class_of s (Arrow at name_at a name) = field_class (s.known.field (class_of s a)
 class_of s (Assign at sign a b) = class_of s a
 class_of s (Call at name arguments) = s.known.function_class name
 class_of s (Send at part receiver selector arguments) =
-    class_given (or_else (class_receiver s receiver) (class_of s receiver)) (sent_result s.known (class_receiver s receiver) (class_of s receiver) selector)
+    class_given (option_or (class_receiver s receiver) (class_of s receiver)) (sent_result s.known (class_receiver s receiver) (class_of s receiver) selector)
 class_of s (SendSuper at part super_at selector arguments) = class_given s.class (super_result s selector)
 class_of s _ = None

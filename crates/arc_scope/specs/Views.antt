@@ -6,7 +6,7 @@ use Rattle.arc_ast.specs.declared.tree.Kind.{Kind}
 use Rattle.arc_ast.specs.declared.tree.Parameter.{Parameter}
 use Rattle.arc_ast.specs.declared.tree.Sign.TheVariants as signs
 use Rattle.arc_ast.specs.Tree.{parameter_trees}
-use Rattle.arc_class.specs.Classes.{or_else}
+use Rattle.std.specs.Option.{option_or}
 use Rattle.arc_class.specs.Names.{parameter_kinds}
 use Rattle.arc_class.specs.declared.table.ClassTable.{ClassTable}
 use Rattle.arc_class.specs.Table.{function_in, global_in, parameters_in, passed_in, class_in, superclass_in, function_class_in, result_in_table, any_result_in, field_in_table, selector_in, number_of_class}
@@ -44,7 +44,7 @@ abbrev pub sent_kind : Known → (class static : Option ℕ) → List ℕ → Op
 sent_kind known class static selector = kind_given (sent_result known class static selector)
 
 abbrev pub sent_class : Known → (class static : Option ℕ) → List ℕ → Option ℕ
-sent_class known class static selector = class_given (or_else class static) (sent_result known class static selector)
+sent_class known class static selector = class_given (option_or class static) (sent_result known class static selector)
 
 -- the same of a message to `super`, which goes to `self`
 abbrev pub super_kind : Scope → List ℕ → Option Kind

@@ -1,11 +1,10 @@
 //! The methods that messages may have, and the static classes of what they give.
 ghost use Rattle.std.specs.Prelude.{◌≡◌, None, false, option_map};
-ghost use Rattle.std.specs.Option.{option_and_then};
+ghost use Rattle.std.specs.Option.{option_and_then, option_or};
 ghost use Rattle.arc_ast.specs.Tree.{expr_tree, type_tree};
 ghost use Rattle.arc_class.specs.declared.table.ClassTable.{ClassTable};
 ghost use Rattle.arc_class.specs.Table.{number_of_class};
 ghost use Rattle.arc_scope.specs.Scopes as scopes;
-ghost use Rattle.arc_class.specs.Classes.{or_else};
 ghost use Rattle.arc_scope.specs.Views as views;
 ghost use Rattle.arc_scope.specs.Views.{known_in, seen};
 
@@ -156,7 +155,7 @@ fn class_given(receiver: Option<ClassId>, given: Option<MethodResult>) -> Option
 
 /// The class or, with none, the static class.
 fn given_to(class: Option<ClassId>, static_class: Option<ClassId>) -> Option<ClassId>
-    ensures { option_map number_of_class result ≡ or_else (option_map number_of_class class) (option_map number_of_class static_class) }
+    ensures { option_map number_of_class result ≡ option_or (option_map number_of_class class) (option_map number_of_class static_class) }
 {
     match class {
         None => static_class,

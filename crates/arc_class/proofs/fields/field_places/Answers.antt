@@ -1,6 +1,6 @@
 use Rattle.std.proofs.Common.{ap, sym, ◌∙◌}
 use Rattle.arc_ast.specs.Tree.{field_trees}
-use Rattle.arc_class.specs.Classes.{or_else}
+use Rattle.std.specs.Option.{option_or}
 use Rattle.arc_class.specs.ClassRules.{field_place}
 use Rattle.arc_class.proofs.Parts.{kept_none}
 use Rattle.arc_class.proofs.Rules.{field_place-append}
@@ -11,5 +11,5 @@ returns c sought =
     let xs = field_trees c.args.own.now.earlier.now in
     let ys = field_trees c.args.own.now.later.now in
     c.in_ok-keep_places-2.ensures sought
-    ∙ ap (λ o. or_else o (field_place sought ys)) (c.in_ok-keep_places.ensures sought ∙ ap (λ o. or_else o (field_place sought xs)) (kept_none c.new-places.result sought c.new-places.ensures))
+    ∙ ap (λ o. option_or o (field_place sought ys)) (c.in_ok-keep_places.ensures sought ∙ ap (λ o. option_or o (field_place sought xs)) (kept_none c.new-places.result sought c.new-places.ensures))
     ∙ sym (field_place-append sought xs ys)

@@ -1,7 +1,7 @@
 use Rattle.std.proofs.Common.{◌≡◌, ◌+◌, drop, sym, ap, ◌∙◌}
 use Rattle.arc_ast.specs.Tree.{type_tree, field_tree, field_trees}
 use Rattle.arc_ast.specs.Types.{type_kind}
-use Rattle.arc_class.specs.Classes.{or_else}
+use Rattle.std.specs.Option.{option_or}
 use Rattle.arc_class.specs.Fields.{field_after, numbered, written_kinds}
 use Rattle.arc_class.specs.Kept.{one_at}
 use Rattle.arc_class.specs.Sorts.{with_one, with_all}
@@ -25,10 +25,10 @@ loop-field-preserved c =
           let found = field_after interfaces owner before (field_tree x) in
           let rest = numbered interfaces owner c.in_ok-counted.counted (field_trees (drop (k + 1) xs)) sought in
           kept_turn old (one_at x.name.items found sought) _ rest _
-          (c.in_ok-keep_first.ensures sought ∙ ap (λ f. or_else old (one_at c.deref.result.now f sought)) (c.field_after-found.ensures.field interfaces names) ∙ ap (λ n. or_else old (one_at n found sought)) c.deref.ensures.value)
-          (c.loop-field.invariant.kept interfaces names sought ∙ ap (or_else old) (ap (λ us. numbered interfaces owner before (field_trees us) sought) (drop_turn xs k x c.loop-field-test.true c.field-item.is)
+          (c.in_ok-keep_first.ensures sought ∙ ap (λ f. option_or old (one_at c.deref.result.now f sought)) (c.field_after-found.ensures.field interfaces names) ∙ ap (λ n. option_or old (one_at n found sought)) c.deref.ensures.value)
+          (c.loop-field.invariant.kept interfaces names sought ∙ ap (option_or old) (ap (λ us. numbered interfaces owner before (field_trees us) sought) (drop_turn xs k x c.loop-field-test.true c.field-item.is)
           ∙ or_one x.name.items found (numbered interfaces owner (with_one kind before) (field_trees (drop (k + 1) xs)) sought) sought
-          ∙ ap (λ n. or_else (one_at x.name.items found sought) (numbered interfaces owner n (field_trees (drop (k + 1) xs)) sought)) (sym next)));
+          ∙ ap (λ n. option_or (one_at x.name.items found sought) (numbered interfaces owner n (field_trees (drop (k + 1) xs)) sought)) (sym next)));
       counted = c.loop-field.invariant.counted ∙ ap (λ us. with_all before (written_kinds (field_trees us))) (drop_turn xs k x c.loop-field-test.true c.field-item.is)
           ∙ ap (λ n. with_all n (written_kinds (field_trees (drop (k + 1) xs)))) (sym next);
     }

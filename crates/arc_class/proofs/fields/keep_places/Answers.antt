@@ -1,6 +1,6 @@
 use Rattle.std.proofs.Common.{◌+◌, drop, ap, ◌∙◌}
 use Rattle.arc_ast.specs.Tree.{field_trees}
-use Rattle.arc_class.specs.Classes.{or_else}
+use Rattle.std.specs.Option.{option_or}
 use Rattle.arc_class.specs.ClassRules.{field_place}
 use Rattle.arc_class.specs.Kept.{one_at}
 use Rattle.arc_class.specs.Table.{at_name}
@@ -15,5 +15,5 @@ loop-field-preserved c sought =
     let x = c.field-item.result in
     let old = at_name c.loop-field.places sought in
     let rest = field_place sought (field_trees (drop (k + 1) xs)) in
-    kept_turn old (one_at x.name.items x.at sought) _ rest _ (c.in_ok-keep_first.ensures sought ∙ ap (λ n. or_else old (one_at n x.at sought)) c.deref.ensures.value)
-    (c.loop-field.invariant sought ∙ ap (or_else old) (ap (λ us. field_place sought (field_trees us)) (drop_turn xs k x c.loop-field-test.true c.field-item.is) ∙ or_one x.name.items x.at rest sought))
+    kept_turn old (one_at x.name.items x.at sought) _ rest _ (c.in_ok-keep_first.ensures sought ∙ ap (λ n. option_or old (one_at n x.at sought)) c.deref.ensures.value)
+    (c.loop-field.invariant sought ∙ ap (option_or old) (ap (λ us. field_place sought (field_trees us)) (drop_turn xs k x c.loop-field-test.true c.field-item.is) ∙ or_one x.name.items x.at rest sought))

@@ -1,7 +1,7 @@
 use Rattle.std.proofs.Common.{◌≡◌, ◌+◌, ℕ, List, drop}
 use Rattle.arc_ast.specs.Tree.{interface_trees}
 use Rattle.arc_class.specs.Kept.{places}
-use Rattle.arc_class.specs.Classes.{or_else}
+use Rattle.std.specs.Option.{option_or}
 use Rattle.arc_class.specs.Table.{at_name}
 use Rattle.arc_class.proofs.kept.class_places.Given as goal
 
@@ -9,5 +9,5 @@ use Rattle.arc_class.proofs.kept.class_places.Given as goal
 abbrev pub invariant-loop-interface : goal.invariant-loop-interface
 invariant-loop-interface l = record {
   counted : l.number ≡ l.interface-index;
-  kept : (sought : List ℕ) → places 1 (interface_trees l.interfaces) sought ≡ or_else (at_name l.map sought) (places (l.number + 1) (interface_trees (drop l.interface-index l.interfaces)) sought);
+  kept : (sought : List ℕ) → places 1 (interface_trees l.interfaces) sought ≡ option_or (at_name l.map sought) (places (l.number + 1) (interface_trees (drop l.interface-index l.interfaces)) sought);
 }

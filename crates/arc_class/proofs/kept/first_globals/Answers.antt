@@ -1,7 +1,7 @@
 use Rattle.std.proofs.Common.{◌≡◌, ◌+◌, drop, sym, ap, ◌∙◌}
 use Rattle.arc_ast.specs.Tree.{type_tree, global_tree, global_trees}
 use Rattle.arc_ast.specs.Types.{type_kind}
-use Rattle.arc_class.specs.Classes.{or_else}
+use Rattle.std.specs.Option.{option_or}
 use Rattle.arc_class.specs.Globals.{variable_after, variables}
 use Rattle.arc_class.specs.Kept.{one_at}
 use Rattle.arc_class.specs.Sorts.{with_one}
@@ -22,7 +22,7 @@ loop-global-preserved c = λ interfaces names sought.
     let found = variable_after interfaces before (global_tree x) in
     let others = global_trees (drop (k + 1) xs) in
     kept_turn old (one_at x.name.items found sought) _ (variables interfaces c.in_ok-before.before others sought) _
-    (c.in_ok-keep_first.ensures sought ∙ ap (λ v. or_else old (one_at c.deref.result.now v sought)) (c.variable-variable.ensures.variable interfaces names) ∙ ap (λ n. or_else old (one_at n found sought)) c.deref.ensures.value)
-    (c.loop-global.invariant interfaces names sought ∙ ap (or_else old) (ap (λ us. variables interfaces before (global_trees us) sought) (drop_turn xs k x c.loop-global-test.true c.global-item.is)
+    (c.in_ok-keep_first.ensures sought ∙ ap (λ v. option_or old (one_at c.deref.result.now v sought)) (c.variable-variable.ensures.variable interfaces names) ∙ ap (λ n. option_or old (one_at n found sought)) c.deref.ensures.value)
+    (c.loop-global.invariant interfaces names sought ∙ ap (option_or old) (ap (λ us. variables interfaces before (global_trees us) sought) (drop_turn xs k x c.loop-global-test.true c.global-item.is)
     ∙ or_one x.name.items found (variables interfaces (with_one kind before) others sought) sought
-    ∙ ap (λ n. or_else (one_at x.name.items found sought) (variables interfaces n others sought)) (sym next)))
+    ∙ ap (λ n. option_or (one_at x.name.items found sought) (variables interfaces n others sought)) (sym next)))

@@ -1,10 +1,11 @@
 use Rattle.std.proofs.Common.{◌∷◌, [], ◌+◌, drop, ap, ◌∙◌}
 use Rattle.arc_ast.specs.Tree.{head_tree, head_trees}
-use Rattle.arc_class.specs.Classes.{first_head, or_else}
+use Rattle.arc_class.specs.Classes.{first_head}
 use Rattle.arc_class.specs.Kept.{head_in}
 use Rattle.arc_class.proofs.Keeping.{kept_turn, first_head-append}
 use Rattle.arc_class.proofs.Lists.{drop_turn}
 use Rattle.arc_class.proofs.heads.Heads.keep_heads.Goals as goal
+use Rattle.std.specs.Option.{option_or}
 
 pub loop-head-preserved : goal.loop-head-preserved
 loop-head-preserved c sign sought =
@@ -13,5 +14,5 @@ loop-head-preserved c sign sought =
     let x = c.head-item.result in
     let old = head_in c.loop-head.self sign sought in
     kept_turn old (first_head sign sought (head_tree x ∷ [])) _ _ _ (c.in_ok-keep.ensures sign sought)
-    (c.loop-head.invariant sign sought ∙ ap (or_else old) (ap (λ us. first_head sign sought (head_trees us)) (drop_turn xs i x c.loop-head-test.true c.head-item.is)
+    (c.loop-head.invariant sign sought ∙ ap (option_or old) (ap (λ us. first_head sign sought (head_trees us)) (drop_turn xs i x c.loop-head-test.true c.head-item.is)
     ∙ first_head-append sign sought (head_tree x ∷ []) (head_trees (drop (i + 1) xs))))

@@ -1,12 +1,13 @@
 use Rattle.std.proofs.Common.{◌≡◌, ℕ, List, ap, ◌∙◌}
 use Rattle.arc_ast.specs.Tree.{unit_tree, interface_tree, field_trees}
-use Rattle.arc_class.specs.Classes.{class_number, or_else}
+use Rattle.arc_class.specs.Classes.{class_number}
 use Rattle.arc_class.specs.Fields.{numbered}
 use Rattle.arc_class.specs.Table.{class_number_in}
 use Rattle.arc_class.proofs.FieldLists.{fields_made}
 use Rattle.arc_class.proofs.Parts.{kept_none}
 use Rattle.arc_class.proofs.Rules.{class_number_kept}
 use Rattle.arc_class.proofs.kept.Source.fields_of.Goals as goal
+use Rattle.std.specs.Option.{option_or}
 
 pub returns-clause-known : goal.returns-clause-known
 returns-clause-known c =
@@ -23,6 +24,6 @@ returns-clause-known c =
     fields_made u class first next c.in_ok-counted.counted (interface_tree x) xs ys c.class_number-superclass.result c.in_ok-places.places c.keep_fields-2.new.named
     (c.class_number-superclass.ensures ∙ ap (class_number_in source.names) c.deref.ensures.value ∙ class_number_kept source.names u.interfaces x.superclass.items (c.requires.class_places x.superclass.items))
     c.own_fields-own.ensures c.in_ok-places.ensures
-    (λ name. c.in_ok-counted.ensures.kept u.interfaces names name ∙ ap (λ o. or_else o (numbered u.interfaces class next ys name)) (c.in_ok-before.ensures.kept u.interfaces names name
-    ∙ ap (λ o. or_else o (numbered u.interfaces class first xs name)) (kept_none c.new-named.result name c.new-named.ensures)))
+    (λ name. c.in_ok-counted.ensures.kept u.interfaces names name ∙ ap (λ o. option_or o (numbered u.interfaces class next ys name)) (c.in_ok-before.ensures.kept u.interfaces names name
+    ∙ ap (λ o. option_or o (numbered u.interfaces class first xs name)) (kept_none c.new-named.result name c.new-named.ensures)))
     c.in_ok-before.ensures.counted c.in_ok-counted.ensures.counted

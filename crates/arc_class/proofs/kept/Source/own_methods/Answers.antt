@@ -1,9 +1,10 @@
 use Rattle.std.proofs.Common.{◌≡◌, Bool, true, false, List, ◌++◌, option_map, if◌then◌else◌, sym, ap, ◌∙◌}
 use Rattle.arc_ast.specs.Tree.{HeadTree, unit_tree, head_tree, head_trees}
-use Rattle.arc_class.specs.Classes.{heads, first_head, defined_by, implemented_before, or_else}
+use Rattle.arc_class.specs.Classes.{heads, first_head, defined_by, implemented_before}
 use Rattle.arc_class.specs.Kept.{head_in}
 use Rattle.arc_class.proofs.Keeping.{both_kept}
 use Rattle.arc_class.proofs.kept.Source.own_methods.Goals as goal
+use Rattle.std.specs.Option.{option_or}
 
 abbrev in_order : (declared defined : List HeadTree) → Bool → List HeadTree
 in_order declared defined before = if before then defined ++ declared else declared ++ defined
@@ -17,8 +18,8 @@ returns-then-implemented_before c sign sought =
     let here : implemented_before u.implementations i.name.items i.at ≡ true =
     ap (λ n. implemented_before u.implementations n i.at) (sym c.deref-2.ensures.value) ∙ sym c.implemented_before.ensures ∙ c.if-implemented_before.true in
     both_kept sign sought own declared _ _ _ (ap (option_map (λ h. head_tree h.now)) (c.new-map.ensures sign sought))
-    (c.in_ok-keep_methods.ensures sign sought ∙ ap (λ hs. or_else (head_in c.new-map.result sign sought) (first_head sign sought hs)) (ap heads (c.defined_methods-defined.ensures ∙ ap (defined_by u.implementations) c.deref.ensures.value)))
-    (c.in_ok-keep_heads.ensures sign sought ∙ ap (λ us. or_else (head_in c.keep_methods.new.self sign sought) (first_head sign sought (head_trees us))) c.deref-then-implemented_before.ensures.value)
+    (c.in_ok-keep_methods.ensures sign sought ∙ ap (λ hs. option_or (head_in c.new-map.result sign sought) (first_head sign sought hs)) (ap heads (c.defined_methods-defined.ensures ∙ ap (defined_by u.implementations) c.deref.ensures.value)))
+    (c.in_ok-keep_heads.ensures sign sought ∙ ap (λ us. option_or (head_in c.keep_methods.new.self sign sought) (first_head sign sought (head_trees us))) c.deref-then-implemented_before.ensures.value)
     ∙ sym (ap (λ b. first_head sign sought (in_order declared own b)) here)
 
 pub returns : goal.returns
@@ -30,6 +31,6 @@ returns c sign sought =
     let here : implemented_before u.implementations i.name.items i.at ≡ false =
     ap (λ n. implemented_before u.implementations n i.at) (sym c.deref-2.ensures.value) ∙ sym c.implemented_before.ensures ∙ c.if-implemented_before.false in
     both_kept sign sought declared own _ _ _ (ap (option_map (λ h. head_tree h.now)) (c.new-map.ensures sign sought))
-    (c.in_ok-keep_heads-2.ensures sign sought ∙ ap (λ us. or_else (head_in c.new-map.result sign sought) (first_head sign sought (head_trees us))) c.deref-3.ensures.value)
-    (c.in_ok-keep_methods-2.ensures sign sought ∙ ap (λ hs. or_else (head_in c.keep_heads-2.new.self sign sought) (first_head sign sought hs)) (ap heads (c.defined_methods-defined.ensures ∙ ap (defined_by u.implementations) c.deref.ensures.value)))
+    (c.in_ok-keep_heads-2.ensures sign sought ∙ ap (λ us. option_or (head_in c.new-map.result sign sought) (first_head sign sought (head_trees us))) c.deref-3.ensures.value)
+    (c.in_ok-keep_methods-2.ensures sign sought ∙ ap (λ hs. option_or (head_in c.keep_heads-2.new.self sign sought) (first_head sign sought hs)) (ap heads (c.defined_methods-defined.ensures ∙ ap (defined_by u.implementations) c.deref.ensures.value)))
     ∙ sym (ap (λ b. first_head sign sought (in_order declared own b)) here)

@@ -1,5 +1,5 @@
 use Rattle.std.proofs.Common.{◌≡◌, List, [], Option, refl, ap, subst, ◌∙◌}
-use Rattle.std.specs.Option.{option_map_or}
+use Rattle.std.specs.Option.{option_map_or, option_or}
 use Rattle.arc_ast.specs.Tree.{HeadTree, unit_tree}
 use Rattle.arc_ast.specs.declared.tree.Sign.TheVariants as signs
 use Rattle.arc_class.specs.declared.table.ClassTable.{ClassTable}
@@ -7,7 +7,7 @@ use Rattle.arc_class.specs.declared.table.Entry.{Entry}
 use Rattle.arc_class.specs.Lookups.{superclass_among}
 use Rattle.arc_class.specs.Owners.{FindsMethods}
 use Rattle.arc_class.proofs.Asking.{root_is_top}
-use Rattle.arc_class.specs.Classes.{number_among, or_else}
+use Rattle.arc_class.specs.Classes.{number_among}
 use Rattle.arc_class.specs.Names.{parameter_kinds, listed_kinds}
 use Rattle.arc_class.specs.Table.{built_in_from}
 use Rattle.arc_class.proofs.FieldLists.{field_kept, lists_kept}
@@ -16,7 +16,7 @@ use Rattle.arc_class.proofs.Rules.{class_number_kept}
 use Rattle.arc_class.proofs.Tables.{function_class_is, superclass_is, result_is, any_is}
 use Rattle.arc_class.proofs.table.ClassTable.of.Goals as goal
 
-first_passed : {a b x y : Option HeadTree} → a ≡ x → b ≡ y → option_map_or (λ h. parameter_kinds h.parameters) (or_else a b) [] ≡ option_map_or (λ h. parameter_kinds h.parameters) (or_else x y) []
+first_passed : {a b x y : Option HeadTree} → a ≡ x → b ≡ y → option_map_or (λ h. parameter_kinds h.parameters) (option_or a b) [] ≡ option_map_or (λ h. parameter_kinds h.parameters) (option_or x y) []
 first_passed e f = rw (e, f) refl
 
 pub method_owners-requires : goal.method_owners-requires
