@@ -15,6 +15,7 @@ ghost use Rattle.arc_class.specs.Kept.{Knows};
 ghost use Rattle.arc_class.specs.Lookups.{at_name, class_number_in, own_field_in, own_place_in, field_among, place_among, field_tree, list_of, list_among, number_of_class, least_of};
 ghost use Rattle.arc_class.specs.Owners.{FindsFields};
 ghost use Rattle.arc_class.specs.Sorts.{with_all};
+ghost use Rattle.std.specs.Option.{option_or};
 
 use crate::by_name::ByName;
 use crate::fault::fault_if;
@@ -28,7 +29,6 @@ use arc_ast::tree::{Interface, Kind, Qual};
 use arc_fault::class::ClassFault;
 use arc_sites::violation::earlier;
 use std::alloc::{AllocError, Global};
-ghost use Rattle.std.specs.Option.{option_or};
 
 /// The place of the first field of each name.
 pub type FieldPlaces<'a> = ByName<'a, usize>;

@@ -5,13 +5,13 @@ ghost use Rattle.arc_ast.specs.Tree.{head_tree, head_trees, method_trees};
 ghost use Rattle.arc_class.specs.Classes.{heads, first_head, is_related};
 ghost use Rattle.arc_class.specs.Kept.{one_at, head_in};
 ghost use Rattle.arc_class.specs.Table.{at_name, head_at};
+ghost use Rattle.std.specs.Option.{option_or};
 
 use crate::by_name::ByName;
 use crate::table::at_name;
 use arc_ast::tree::{Kind, Method, MethodHead, ResultType, Sign, TypeName};
 use arc_spec::family::{gives_related, method_family};
 use std::alloc::{AllocError, Global};
-ghost use Rattle.std.specs.Option.{option_or};
 
 /// Keeps the value for the name, unless there is one.
 pub fn keep_first<'a, V: Copy>(
