@@ -74,6 +74,7 @@ fn is_unasked(node: Node) -> bool
 
 /// The first rule that a site breaks.
 #[inline(never)]
+#[tactic(auto, using(crate::proofs::Both::both))]
 fn first_broken(table: &ClassTable, enclosing: Enclosing, node: Node) -> Option<OwnFault>
     ensures { (u : UnitTree) → IsTableOf u table.now → option_map reported result ≡ first (rules.violations u (enclosing_of enclosing.entry) (node_of node.entry)) }
 {

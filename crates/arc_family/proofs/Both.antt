@@ -1,0 +1,8 @@
+-- The first violation of the rules of two lists.
+use Rattle.std.proofs.Common.{◌≡◌, List, ◌++◌}
+use Rattle.arc_sites.specs.declared.violation.Violation.{Violation}
+use Rattle.arc_sites.specs.Violations.{earlier_of, first}
+use Rattle.arc_sites.proofs.Firsts.{first-append}
+
+pub both : (xs ys : List Violation) → first (xs ++ ys) ≡ earlier_of (first xs) (first ys)
+both xs ys = first-append xs ys
