@@ -1,14 +1,14 @@
--- The tokens of a source, or its first broken rule, computed: a piece at a time.
+-- The tokens of a source, up to its end or its first broken rule, computed: a piece at a time.
 use Rattle.std.proofs.Common.{◌≡◌, ℕ, zero, suc, ◌+◌, pos, negsuc, List, [], ◌∷◌, ◌++◌, append_assoc, drop, Bool, true, false, cond, ◌||◌, nat_eq, Option, Some, None, refl, sym, ap, subst, ◌∙◌, arith}
 use Rattle.std.proofs.lemmas.Bool.{eqb-true}
 use Rattle.std.proofs.lemmas.List.{append-nil}
 use Rattle.arc_lex.specs.declared.piece.Rule.{Rule}
-use Rattle.arc_lex.specs.Source.{Cuts, done, FaultAt, here}
+use Rattle.arc_lex.specs.Source.{Cuts, done, breaks}
 use Rattle.arc_lex.specs.Texts.{Part, Plain, Escape}
 use Rattle.arc_lex.specs.Tokens.{Tok, Sort, Name, Integer, Text, Key, At, Sign, Unused}
 use Rattle.arc_lex.specs.private.Pieces.{Piece, Blank, Skip, Whole, Broken, Law, piece, text_found, text_piece, character_found, character_piece, scan}
 use Rattle.arc_lex.proofs.Law.{piece_law}
-use Rattle.arc_lex.proofs.Walks.{blank_cuts, skip_cuts, token_cuts, blank_fault, skip_fault, token_fault}
+use Rattle.arc_lex.proofs.Walks.{blank_cuts, skip_cuts, token_cuts}
 
 -- ---- texts
 
@@ -126,91 +126,63 @@ sort_is (At word) go = refl
 sort_is (Sign mark) go = refl
 sort_is Unused go = refl
 
--- ---- tokens
+-- ---- tokens, up to the end or to the first place where a rule is broken
+
+-- what a source is cut into, if it has no more pieces than were allowed
+pub data Found : Type 0 where
+  too_many : Found
+  in_pieces : List Tok → Option (ℕ × Rule) → Found
+
+abbrev pub token_before : Tok → Found → Found
+token_before t too_many = too_many
+token_before t (in_pieces ts broken) = in_pieces (t ∷ ts) broken
 
 -- what follows from a place on, where `starts` says whether only blanks stand before it on its line
-abbrev pub Later : Type 0 → Type 0
-Later A = (at : ℕ) → (starts : Bool) → List ℕ → Option A
+abbrev pub Later : Type 0
+Later = (at : ℕ) → (starts : Bool) → List ℕ → Found
 
-abbrev pub next : Later (List Tok) → ℕ → Bool → List ℕ → Piece → Option (List Tok)
+abbrev pub next : Later → ℕ → Bool → List ℕ → Piece → Found
 next go at starts bytes (Blank newline) = with_number (at + 1) (λ later. go later (newline || starts) (drop 1 bytes))
 next go at starts bytes (Skip n) = with_number (at + n) (λ later. go later false (drop n bytes))
 next go at starts bytes (Whole s n) =
-    with_sort s (λ sort. with_number (at + n) (λ to. in_front (record { sort = sort; from = at; to = to }) (go to false (drop n bytes))))
-next go at starts bytes (Broken rule) = None
+    with_sort s (λ sort. with_number (at + n) (λ to. token_before (record { sort = sort; from = at; to = to }) (go to false (drop n bytes))))
+next go at starts bytes (Broken rule) = in_pieces [] (Some (at, rule))
 
-whole_is : (go : Later (List Tok)) (at : ℕ) (starts : Bool) (bytes : List ℕ) (s : Sort) (n : ℕ)
-    → next go at starts bytes (Whole s n) ≡ in_front (record { sort = s; from = at; to = at + n }) (go (at + n) false (drop n bytes))
-whole_is go at starts bytes s n = sort_is s (λ sort. with_number (at + n) (λ to. in_front (record { sort = sort; from = at; to = to }) (go to false (drop n bytes))))
-    ∙ number_is (at + n) (λ to. in_front (record { sort = s; from = at; to = to }) (go to false (drop n bytes)))
+whole_is : (go : Later) (at : ℕ) (starts : Bool) (bytes : List ℕ) (s : Sort) (n : ℕ)
+    → next go at starts bytes (Whole s n) ≡ token_before (record { sort = s; from = at; to = at + n }) (go (at + n) false (drop n bytes))
+whole_is go at starts bytes s n = sort_is s (λ sort. with_number (at + n) (λ to. token_before (record { sort = sort; from = at; to = to }) (go to false (drop n bytes))))
+    ∙ number_is (at + n) (λ to. token_before (record { sort = s; from = at; to = to }) (go to false (drop n bytes)))
 
--- the tokens from a place on, of at most so many pieces
-abbrev pub tokens_of : (most : ℕ) → Later (List Tok)
-tokens_of zero at starts bytes = None
-tokens_of (suc most) at starts [] = Some []
-tokens_of (suc most) at starts (b ∷ bs) = next (λ later first rest. tokens_of most later first rest) at starts (b ∷ bs) (front starts b bs)
+-- what is found from a place on, in at most so many pieces
+abbrev pub found_in : (most : ℕ) → Later
+found_in zero at starts bytes = too_many
+found_in (suc most) at starts [] = in_pieces [] None
+found_in (suc most) at starts (b ∷ bs) = next (λ later first rest. found_in most later first rest) at starts (b ∷ bs) (front starts b bs)
 
-pub cuts : (most at : ℕ) (starts : Bool) (bytes : List ℕ) (ts : List Tok) → tokens_of most at starts bytes ≡ Some ts → Cuts at starts bytes ts
-cuts zero at starts bytes ts e = cc
-cuts (suc most) at starts [] ts e = let none : [] ≡ ts = cc in subst (Cuts at starts []) none (done at starts)
-cuts (suc most) at starts (b ∷ bs) ts e = go (front starts b bs) (front_law starts b bs) e (λ later first rest others k. cuts most later first rest others k)
+-- what is found is a cutting
+abbrev Is : ℕ → Bool → List ℕ → Found → Type 0
+Is at starts bytes too_many = Unit {0}
+Is at starts bytes (in_pieces ts broken) = Cuts at starts bytes ts broken
+
+pub cuts : (most at : ℕ) (starts : Bool) (bytes : List ℕ) (ts : List Tok) (broken : Option (ℕ × Rule)) → found_in most at starts bytes ≡ in_pieces ts broken → Cuts at starts bytes ts broken
+cuts zero at starts bytes ts broken e = cc
+cuts (suc most) at starts [] ts broken e = subst (Is at starts []) e (done at starts)
+cuts (suc most) at starts (b ∷ bs) ts broken e = go (front starts b bs) (front_law starts b bs) e (λ place first rest others end k. cuts most place first rest others end k)
   where
     All : Type 0
-    All = (later : ℕ) (first : Bool) (rest : List ℕ) (others : List Tok) → tokens_of most later first rest ≡ Some others → Cuts later first rest others
+    All = (place : ℕ) (first : Bool) (rest : List ℕ) (others : List Tok) (end : Option (ℕ × Rule)) → found_in most place first rest ≡ in_pieces others end → Cuts place first rest others end
 
-    go : (p : Piece) → Law starts (b ∷ bs) p → next (λ later first rest. tokens_of most later first rest) at starts (b ∷ bs) p ≡ Some ts → All → Cuts at starts (b ∷ bs) ts
-    go (Blank newline) law f all = blank_cuts starts newline at (b ∷ bs) law ts
-        (all (at + 1) (newline || starts) bs ts (sym (number_is (at + 1) (λ later. tokens_of most later (newline || starts) bs)) ∙ f))
-    go (Skip n) law f all = skip_cuts starts at n (b ∷ bs) law ts
-        (all (at + n) false (drop n (b ∷ bs)) ts (sym (number_is (at + n) (λ later. tokens_of most later false (drop n (b ∷ bs)))) ∙ f))
+    after : All → (n : ℕ) (first : Bool) (rest : List ℕ) → with_number (at + n) (λ place. found_in most place first rest) ≡ in_pieces ts broken → Cuts (at + n) first rest ts broken
+    after all n first rest f = all (at + n) first rest ts broken (sym (number_is (at + n) (λ place. found_in most place first rest)) ∙ f)
+
+    go : (p : Piece) → Law starts (b ∷ bs) p → next (λ place first rest. found_in most place first rest) at starts (b ∷ bs) p ≡ in_pieces ts broken → All → Cuts at starts (b ∷ bs) ts broken
+    go (Blank newline) law f all = blank_cuts at starts (b ∷ bs) bs ts broken newline law refl (after all 1 (newline || starts) bs f)
+    go (Skip n) law f all = skip_cuts at starts (b ∷ bs) _ ts broken n refl (after all n false (drop n (b ∷ bs)) f) law
+    go (Broken rule) law f all = subst (Is at starts (b ∷ bs)) f (breaks at starts (b ∷ bs) rule law)
     go (Whole s n) law f all =
-        first (tokens_of most (at + n) false (drop n (b ∷ bs))) refl (sym (whole_is (λ later first rest. tokens_of most later first rest) at starts (b ∷ bs) s n) ∙ f)
+        first (found_in most (at + n) false (drop n (b ∷ bs))) refl (sym (whole_is (λ place first rest. found_in most place first rest) at starts (b ∷ bs) s n) ∙ f)
       where
-        first : (found : Option (List Tok)) → tokens_of most (at + n) false (drop n (b ∷ bs)) ≡ found → in_front (record { sort = s; from = at; to = at + n }) found ≡ Some ts
-            → Cuts at starts (b ∷ bs) ts
-        first None k f = cc
-        first (Some others) k f =
-            let same : record { sort = s; from = at; to = at + n } ∷ others ≡ ts = cc in
-            subst (Cuts at starts (b ∷ bs)) same (token_cuts starts at n s (b ∷ bs) law others (all (at + n) false (drop n (b ∷ bs)) others k))
-    go (Broken rule) law f all = cc
-
--- ---- the first place where a rule for tokens is broken
-
-abbrev pub next_fault : Later (ℕ × Rule) → ℕ → Bool → List ℕ → Piece → Option (ℕ × Rule)
-next_fault go at starts bytes (Blank newline) = with_number (at + 1) (λ later. go later (newline || starts) (drop 1 bytes))
-next_fault go at starts bytes (Skip n) = with_number (at + n) (λ later. go later false (drop n bytes))
-next_fault go at starts bytes (Whole s n) = with_number (at + n) (λ later. go later false (drop n bytes))
-next_fault go at starts bytes (Broken rule) = Some (at, rule)
-
-abbrev pub fault_in : (most : ℕ) → Later (ℕ × Rule)
-fault_in zero at starts bytes = None
-fault_in (suc most) at starts [] = None
-fault_in (suc most) at starts (b ∷ bs) = next_fault (λ later first rest. fault_in most later first rest) at starts (b ∷ bs) (front starts b bs)
-
-pub breaks : (most at : ℕ) (starts : Bool) (bytes : List ℕ) (p : ℕ) (rule : Rule) → fault_in most at starts bytes ≡ Some (p, rule) → FaultAt at starts bytes p rule
-breaks zero at starts bytes p rule e = cc
-breaks (suc most) at starts [] p rule e = cc
-breaks (suc most) at starts (b ∷ bs) p rule e = go (front starts b bs) (front_law starts b bs) e (λ later first rest k. breaks most later first rest p rule k)
-  where
-    All : Type 0
-    All = (later : ℕ) (first : Bool) (rest : List ℕ) → fault_in most later first rest ≡ Some (p, rule) → FaultAt later first rest p rule
-
-    place : Option (ℕ × Rule) → ℕ
-    place None = 0
-    place (Some found) = found.0
-
-    of_rule : Option (ℕ × Rule) → Rule
-    of_rule None = rule
-    of_rule (Some found) = found.1
-
-    after : (n : ℕ) → with_number (at + n) (λ later. fault_in most later false (drop n (b ∷ bs))) ≡ Some (p, rule) → All → FaultAt (at + n) false (drop n (b ∷ bs)) p rule
-    after n f all = all (at + n) false (drop n (b ∷ bs)) (sym (number_is (at + n) (λ later. fault_in most later false (drop n (b ∷ bs)))) ∙ f)
-
-    go : (x : Piece) → Law starts (b ∷ bs) x → next_fault (λ later first rest. fault_in most later first rest) at starts (b ∷ bs) x ≡ Some (p, rule) → All
-        → FaultAt at starts (b ∷ bs) p rule
-    go (Blank newline) law f all = blank_fault starts newline at (b ∷ bs) law p rule
-        (all (at + 1) (newline || starts) bs (sym (number_is (at + 1) (λ later. fault_in most later (newline || starts) bs)) ∙ f))
-    go (Skip n) law f all = skip_fault starts at n (b ∷ bs) law p rule (after n f all)
-    go (Whole s n) law f all = token_fault starts at n s (b ∷ bs) law p rule (after n f all)
-    go (Broken other) law f all = subst (λ q. FaultAt at starts (b ∷ bs) q rule) (ap place f)
-        (subst (FaultAt at starts (b ∷ bs) at) (ap of_rule f) (here at starts (b ∷ bs) other law))
+        first : (found : Found) → found_in most (at + n) false (drop n (b ∷ bs)) ≡ found → token_before (record { sort = s; from = at; to = at + n }) found ≡ in_pieces ts broken
+            → Cuts at starts (b ∷ bs) ts broken
+        first too_many k f = cc
+        first (in_pieces others end) k f = subst (Is at starts (b ∷ bs)) f (token_cuts at starts (b ∷ bs) _ others end n refl (all (at + n) false (drop n (b ∷ bs)) others end k) s law)

@@ -2,7 +2,6 @@
 use Rattle.std.proofs.Common.{◌≡◌, ◌≤◌, ℕ, suc, List, [], ◌∷◌, length, true, nat_le, Option, Some, None, Ok, Err, refl, ap, subst, ◌∙◌}
 use Rattle.std.proofs.lemmas.Bool.{leb-true}
 use Rattle.std.specs.Fmt.{digits}
-use Rattle.arc_lex.specs.declared.piece.Rule.{Rule}
 use Rattle.arc_lex.specs.Faults as lexing
 use Rattle.arc_lex.specs.Faults.{fault_of}
 use Rattle.arc_lex.specs.Source.{Tokens}
@@ -29,7 +28,7 @@ use Rattle.arc_spec.specs.Correct.{Sight, Stop, meaning_seen}
 use Rattle.arc_spec.specs.Meaning.{mean}
 use Rattle.arc_source.specs.Accepted.{Spelled}
 use Rattle.arc_known.specs.Known.{HasTrace, IsRefused, in_tokens, in_tree, in_depth, in_rules, reported}
-use Rattle.arc_known.proofs.Cutting.{tokens_of, cuts, fault_in, breaks}
+use Rattle.arc_known.proofs.Cutting.{Found, too_many, in_pieces, found_in, cuts}
 use Rattle.arc_lex.specs.declared.lex.TheConstants.{MOST_BYTES}
 
 -- `unfolding reading` opens what the computing of a tree and its meaning calls
@@ -41,26 +40,28 @@ abbrev pub tree_read : Read UnitTree → Option UnitTree
 tree_read (Ok x) = Some x.0
 tree_read (Err e) = None
 
-abbrev pub tree_in : Option (List Tok) → Option UnitTree
-tree_in None = None
-tree_in (Some ts) = tree_read (read_whole body these unit ts)
+abbrev pub tree_in : Found → Option UnitTree
+tree_in too_many = None
+tree_in (in_pieces ts None) = tree_read (read_whole body these unit ts)
+tree_in (in_pieces ts (Some fault)) = None
 
 -- the tree that a source spells
 abbrev pub tree_of : List ℕ → Option UnitTree
-tree_of source = tree_in (tokens_of (suc (length source)) 0 true source)
+tree_of source = tree_in (found_in (suc (length source)) 0 true source)
 
 spelled : (source : List ℕ) (tree : UnitTree) → nat_le (length source) MOST_BYTES ≡ true → tree_of source ≡ Some tree → Spelled source tree
-spelled source tree short e = from_tokens (tokens_of (suc (length source)) 0 true source) refl e
+spelled source tree short e = from_found (found_in (suc (length source)) 0 true source) refl e
   where
     from_tree : (ts : List Tok) (x : Read UnitTree) → read_whole body these unit ts ≡ x → tree_read x ≡ Some tree → (r : List Tok) × (read_whole body these unit ts ≡ Ok (tree, r))
     from_tree ts (Ok x) k f = let same : x.0 ≡ tree = cc in (x.1, k ∙ ap (λ u. Ok (u, x.1)) same)
     from_tree ts (Err x) k f = cc
 
-    from_tokens : (found : Option (List Tok)) → tokens_of (suc (length source)) 0 true source ≡ found → tree_in found ≡ Some tree → Spelled source tree
-    from_tokens None k f = cc
-    from_tokens (Some ts) k f =
+    from_found : (found : Found) → found_in (suc (length source)) 0 true source ≡ found → tree_in found ≡ Some tree → Spelled source tree
+    from_found too_many k f = cc
+    from_found (in_pieces ts (Some fault)) k f = cc
+    from_found (in_pieces ts None) k f =
         let whole = from_tree ts (read_whole body these unit ts) refl f in
-        record { tokens = ts; cut = (leb-true (length source) MOST_BYTES short, cuts (suc (length source)) 0 true source ts k); spelled = within ts tree whole.0 whole.1 }
+        record { tokens = ts; cut = (leb-true (length source) MOST_BYTES short, cuts (suc (length source)) 0 true source ts None k); spelled = within ts tree whole.0 whole.1 }
 
 -- what is seen of a tree's meaning, where it breaks no rule
 abbrev pub unless_broken : (declared checked owned : List Violation) → Sight → Option Sight
@@ -98,17 +99,14 @@ of_read ts (Ok x) = reported x.0
 of_read ts (Err (misfit, rest)) = violation_at (report (Unexpected 0)).number (place_of ts rest)
 of_read ts (Err (too_deep, rest)) = violation_at (report (TooDeep 0)).number (place_of ts rest)
 
-abbrev pub of_tokens : Option (List Tok) → Option Violation
-of_tokens None = None
-of_tokens (Some ts) = of_read ts (read_whole body these unit ts)
-
-abbrev pub of_fault : List ℕ → Option (ℕ × Rule) → Option Violation
-of_fault source None = of_tokens (tokens_of (suc (length source)) 0 true source)
-of_fault source (Some f) = violation_at ((lexing.report (fault_of f.1 f.0)).0) f.0
+abbrev pub of_found : Found → Option Violation
+of_found too_many = None
+of_found (in_pieces ts None) = of_read ts (read_whole body these unit ts)
+of_found (in_pieces ts (Some (place, rule))) = violation_at ((lexing.report (fault_of rule place)).0) place
 
 -- the rule by which a source is refused, and the position
 abbrev pub refusal : List ℕ → Option Violation
-refusal source = of_fault source (fault_in (suc (length source)) 0 true source)
+refusal source = of_found (found_in (suc (length source)) 0 true source)
 
 abbrev number_in : Option Violation → ℕ
 number_in None = 0
@@ -119,9 +117,6 @@ at_in None = 0
 at_in (Some v) = v.at
 
 module _ (source : List ℕ) (number at : ℕ) (short : length source ≤ MOST_BYTES) where
-  by_fault : (p : ℕ) (rule : Rule) → fault_in (suc (length source)) 0 true source ≡ Some (p, rule) → violation_at ((lexing.report (fault_of rule p)).0) p ≡ violation_at number at → IsRefused source number at
-  by_fault p rule k e = subst (IsRefused source number) (ap at_in e) (in_tokens rule (short, breaks (suc (length source)) 0 true source p rule k) (ap number_in e))
-
   by_misfit : (ts rest : List Tok) → Tokens source ts → read_whole body these unit ts ≡ Err (misfit, rest) → violation_at (report (Unexpected 0)).number (place_of ts rest) ≡ violation_at number at
       → IsRefused source number at
   by_misfit ts rest cut k e = subst (IsRefused source number) (ap at_in e) (in_tree ts cut (unfit ts rest k) (ap number_in e))
@@ -135,13 +130,11 @@ module _ (source : List ℕ) (number at : ℕ) (short : length source ≤ MOST_B
   by_read ts cut (Err (misfit, rest)) k e = by_misfit ts rest cut k e
   by_read ts cut (Err (too_deep, rest)) k e = by_depth ts rest cut k e
 
-  by_tokens : (found : Option (List Tok)) → tokens_of (suc (length source)) 0 true source ≡ found → of_tokens found ≡ violation_at number at → IsRefused source number at
-  by_tokens None k e = cc
-  by_tokens (Some ts) k e = by_read ts (short, cuts (suc (length source)) 0 true source ts k) (read_whole body these unit ts) refl e
-
-  by_any : (found : Option (ℕ × Rule)) → fault_in (suc (length source)) 0 true source ≡ found → of_fault source found ≡ violation_at number at → IsRefused source number at
-  by_any None k e = by_tokens (tokens_of (suc (length source)) 0 true source) refl e
-  by_any (Some f) k e = by_fault f.0 f.1 k e
+  by_found : (found : Found) → found_in (suc (length source)) 0 true source ≡ found → of_found found ≡ violation_at number at → IsRefused source number at
+  by_found too_many k e = cc
+  by_found (in_pieces ts None) k e = by_read ts (short, cuts (suc (length source)) 0 true source ts None k) (read_whole body these unit ts) refl e
+  by_found (in_pieces ts (Some (place, rule))) k e =
+      subst (IsRefused source number) (ap at_in e) (in_tokens rule (ts, short, cuts (suc (length source)) 0 true source ts (Some (place, rule)) k) (ap number_in e))
 
 pub refused : (source : List ℕ) (number at : ℕ) → nat_le (length source) MOST_BYTES ≡ true → refusal source ≡ violation_at number at → IsRefused source number at
-refused source number at short e = by_any source number at (leb-true (length source) MOST_BYTES short) (fault_in (suc (length source)) 0 true source) refl e
+refused source number at short e = by_found source number at (leb-true (length source) MOST_BYTES short) (found_in (suc (length source)) 0 true source) refl e

@@ -1,5 +1,5 @@
 -- A source has one list of tokens, or one first fault.
-use Rattle.std.proofs.Common.{◌≡◌, ◌<◌, ◌⊎◌, inl, inr, ℕ, ◌+◌, List, [], ◌∷◌, ◌++◌, length, take, drop, Bool, true, false, ◌||◌, nat_eq, Some, refl, sym, ap, subst, ◌∙◌, arith}
+use Rattle.std.proofs.Common.{◌≡◌, ◌<◌, ◌⊎◌, inl, inr, ℕ, ◌+◌, List, [], ◌∷◌, ◌++◌, length, take, drop, Bool, true, false, ◌||◌, nat_eq, Option, Some, None, refl, sym, ap, subst, ◌∙◌, arith}
 use Rattle.std.proofs.lemmas.List.{take_at, drop_at}
 use Rattle.arc_lex.specs.declared.fault.LexFault.{LexFault}
 use Rattle.arc_lex.specs.declared.fault.LexFault.TheVariants as f
@@ -8,7 +8,7 @@ use Rattle.arc_lex.specs.declared.piece.Rule.TheVariants as rules
 use Rattle.arc_lex.specs.declared.bytes.Class.TheVariants as c
 use Rattle.arc_lex.specs.Bytes.{all_in, begins, run, is_blank}
 use Rattle.arc_lex.specs.Faults.{fault_of, IsFirst, IsLexFault, OnlyTokens, OnlyFault}
-use Rattle.arc_lex.specs.Source.{Tokens, IsToken, IsComment, Skipped, to_close, Breaks, Cuts, done, blank, skipped, token, FaultAt, here, after_blank, after_skipped, after_token}
+use Rattle.arc_lex.specs.Source.{Tokens, IsToken, IsComment, Skipped, to_close, Breaks, Cuts, done, breaks, blank, skipped, token}
 use Rattle.arc_lex.specs.Tokens.{Sort, Tok}
 use Rattle.arc_lex.proofs.Firsts.{head_is, tail_is, first_opens, not_empty, blank_not, blank_opens_none, line_opens_none}
 use Rattle.arc_lex.proofs.OneRule.{one_rule, none_at_end}
@@ -94,89 +94,48 @@ skip_size starts xs rest ys r (inr (inr (body, e, s, a, d))) (inr (inl (other, f
 one_skip : (starts : Bool) (xs rest ys r : List ℕ) → Skipped starts xs rest → Skipped starts ys r → xs ++ rest ≡ ys ++ r → (xs ≡ ys) × (rest ≡ r)
 one_skip starts xs rest ys r h k c = same_front xs rest ys r c (skip_size starts xs rest ys r h k c)
 
--- ---- one row of tokens, or one fault
+-- ---- one row of tokens with one end
 
-pub one_cut : (at : ℕ) (s : Bool) (bytes : List ℕ) (ts : List Tok) → Cuts at s bytes ts → (there : ℕ) (z : Bool) (others : List ℕ) (us : List Tok) → at ≡ there → s ≡ z → bytes ≡ others
-    → Cuts there z others us → ts ≡ us
-one_cut at s _ _ (done _ _) there z _ _ p q e (done _ _) = refl
-one_cut at s _ _ (done _ _) there z _ _ p q e (blank _ _ b r _ is clean more) = cc
-one_cut at s _ _ (done _ _) there z _ _ p q e (skipped _ _ xs r _ is clean more) = absurd (skip_no_end z xs r is e)
-one_cut at s _ _ (done _ _) there z _ _ p q e (token _ _ xs o r _ g free clean more) = absurd (no_end xs o r g.token e)
-one_cut at s _ _ (blank _ _ b rest _ is clean more) there z _ _ p q e (done _ _) = cc
-one_cut at s _ _ (blank _ _ b rest ts _ _ more) there z _ _ p q e (blank _ _ d r us _ _ other) =
-    let same : b ≡ d = head_is b d rest r e in
-    one_cut (at + 1) (nat_eq b 10 || s) rest ts more (there + 1) (nat_eq d 10 || z) r us (ap (λ n. n + 1) p) (ap (λ u. nat_eq u 10 || s) same ∙ ap (λ u. nat_eq d 10 || u) q) (tail_is b d rest r e) other
-one_cut at s _ _ (blank _ _ b rest _ is clean more) there z _ _ p q e (skipped _ _ xs r _ also _ other) = absurd (skip_no_blank z b rest xs r is also e)
-one_cut at s _ _ (blank _ _ b rest _ is clean more) there z _ _ p q e (token _ _ xs o r _ g free _ other) = absurd (no_blank b rest xs o r is g.token e)
-one_cut at s _ _ (skipped _ _ xs rest _ is clean more) there z _ _ p q e (done _ _) = absurd (skip_no_end s xs rest is (sym e))
-one_cut at s _ _ (skipped _ _ xs rest _ is clean more) there z _ _ p q e (blank _ _ b r _ also _ other) = absurd (skip_no_blank s b r xs rest also is (sym e))
-one_cut at s _ _ (skipped _ _ xs rest ts is clean more) there z _ _ p q e (skipped _ _ ys r us also _ other) =
-    let same = one_skip s xs rest ys r is (subst (λ u. Skipped u ys r) (sym q) also) e in
-    one_cut (at + length xs) false rest ts more (there + length ys) false r us (omega (arith, p, ap length same.0)) refl same.1 other
-one_cut at s _ _ (skipped _ _ xs rest _ is clean more) there z _ _ p q e (token _ _ ys o r _ g free _ other) = absurd (token_no_skip s ys o r xs rest g.token free is (sym e))
-one_cut at s _ _ (token _ _ xs o rest _ g free clean more) there z _ _ p q e (done _ _) = absurd (no_end xs o rest g.token (sym e))
-one_cut at s _ _ (token _ _ xs o rest _ g free clean more) there z _ _ p q e (blank _ _ b r _ is _ other) = absurd (no_blank b r xs o rest is g.token (sym e))
-one_cut at s _ _ (token _ _ xs o rest _ g free clean more) there z _ _ p q e (skipped _ _ ys r _ is _ other) = absurd (token_no_skip z xs o rest ys r g.token free is e)
-one_cut at s _ _ (token _ _ xs o rest ts g free _ more) there z _ _ p q e (token _ _ ys u r us k _ _ other) =
+-- where a rule is broken, no token is cut, and this rule is what ends the row
+stops : (at : ℕ) (s : Bool) (bytes : List ℕ) (ts : List Tok) (x : Option (ℕ × Rule)) (rule : Rule) → Cuts at s bytes ts x → Breaks s rule bytes → (ts ≡ []) × (x ≡ Some (at, rule))
+stops at s _ _ _ rule (done _ _) h = absurd (none_at_end s rule h)
+stops at s _ _ _ rule (breaks _ _ bytes q k) h = (refl, ap (λ r. Some (at, r)) (one_rule s bytes q rule k h))
+stops at s _ _ _ rule (blank _ _ b rest _ _ is clean more) h = absurd (clean rule h)
+stops at s _ _ _ rule (skipped _ _ xs rest _ _ is clean more) h = absurd (clean rule h)
+stops at s _ _ _ rule (token _ _ xs o rest _ _ g free clean more) h = absurd (clean rule h)
+
+pub one_cut : (at : ℕ) (s : Bool) (bytes : List ℕ) (ts : List Tok) (x : Option (ℕ × Rule)) → Cuts at s bytes ts x → (others : List ℕ) (us : List Tok) (y : Option (ℕ × Rule)) → bytes ≡ others
+    → Cuts at s others us y → (ts ≡ us) × (x ≡ y)
+one_cut at s bytes ts x cut _ _ _ e (breaks _ _ _ rule h) = stops at s bytes ts x rule cut (subst (Breaks s rule) (sym e) h)
+one_cut at s _ _ _ (breaks _ _ _ rule h) others us y e cut = let same = stops at s others us y rule cut (subst (Breaks s rule) e h) in (sym same.0, sym same.1)
+one_cut at s _ _ _ (done _ _) _ _ _ e (done _ _) = (refl, refl)
+one_cut at s _ _ _ (done _ _) _ _ _ e (blank _ _ b r _ _ is clean more) = cc
+one_cut at s _ _ _ (done _ _) _ _ _ e (skipped _ _ xs r _ _ is clean more) = absurd (skip_no_end s xs r is e)
+one_cut at s _ _ _ (done _ _) _ _ _ e (token _ _ xs o r _ _ g free clean more) = absurd (no_end xs o r g.token e)
+one_cut at s _ _ _ (blank _ _ b rest _ _ is clean more) _ _ _ e (done _ _) = cc
+one_cut at s _ _ _ (blank _ _ b rest ts x is clean more) _ _ _ e (blank _ _ d r us y _ _ other) =
+    one_cut (at + 1) (nat_eq b 10 || s) rest ts x more r us y (tail_is b d rest r e) (subst (λ c. Cuts (at + 1) (nat_eq c 10 || s) r us y) (sym (head_is b d rest r e)) other)
+one_cut at s _ _ _ (blank _ _ b rest _ _ is clean more) _ _ _ e (skipped _ _ xs r _ _ also _ other) = absurd (skip_no_blank s b rest xs r is also e)
+one_cut at s _ _ _ (blank _ _ b rest _ _ is clean more) _ _ _ e (token _ _ xs o r _ _ g free _ other) = absurd (no_blank b rest xs o r is g.token e)
+one_cut at s _ _ _ (skipped _ _ xs rest _ _ is clean more) _ _ _ e (done _ _) = absurd (skip_no_end s xs rest is (sym e))
+one_cut at s _ _ _ (skipped _ _ xs rest _ _ is clean more) _ _ _ e (blank _ _ b r _ _ also _ other) = absurd (skip_no_blank s b r xs rest also is (sym e))
+one_cut at s _ _ _ (skipped _ _ xs rest ts x is clean more) _ _ _ e (skipped _ _ ys r us y also _ other) =
+    let same = one_skip s xs rest ys r is also e in
+    one_cut (at + length xs) false rest ts x more r us y same.1 (subst (λ vs. Cuts (at + length vs) false r us y) (sym same.0) other)
+one_cut at s _ _ _ (skipped _ _ xs rest _ _ is clean more) _ _ _ e (token _ _ ys o r _ _ g free _ other) = absurd (token_no_skip s ys o r xs rest g.token free is (sym e))
+one_cut at s _ _ _ (token _ _ xs o rest _ _ g free clean more) _ _ _ e (done _ _) = absurd (no_end xs o rest g.token (sym e))
+one_cut at s _ _ _ (token _ _ xs o rest _ _ g free clean more) _ _ _ e (blank _ _ b r _ _ is _ other) = absurd (no_blank b r xs o rest is g.token (sym e))
+one_cut at s _ _ _ (token _ _ xs o rest _ _ g free clean more) _ _ _ e (skipped _ _ ys r _ _ is _ other) = absurd (token_no_skip s xs o rest ys r g.token free is e)
+one_cut at s _ _ _ (token _ _ xs o rest ts x g free _ more) _ _ _ e (token _ _ ys u r us y k _ _ other) =
     let same = one_longest xs o rest ys u r g k e in
-    let n : at + length xs ≡ there + length ys = omega (arith, p, ap length same.0) in
-    let tail : ts ≡ us = one_cut (at + length xs) false rest ts more (there + length ys) false r us n refl same.2 other in
+    let later = one_cut (at + length xs) false rest ts x more r us y same.2 (subst (λ vs. Cuts (at + length vs) false r us y) (sym same.0) other) in
+    let front = same.0 in
     let sort = same.1 in
-    cc
+    let tail = later.0 in
+    (cc, later.1)
 
--- what breaks a rule breaks it at the same bytes elsewhere
-moved : (s z : Bool) (bytes others : List ℕ) (rule : Rule) → s ≡ z → bytes ≡ others → Breaks z rule others → Breaks s rule bytes
-moved s z bytes others rule q e h = subst (λ u. Breaks u rule bytes) (sym q) (subst (Breaks z rule) (sym e) h)
-
-pub cut_or_fault : (at : ℕ) (s : Bool) (bytes : List ℕ) (ts : List Tok) → Cuts at s bytes ts → (there : ℕ) (z : Bool) (others : List ℕ) (p : ℕ) (rule : Rule) → s ≡ z → bytes ≡ others
-    → FaultAt there z others p rule → ⊥
-cut_or_fault at s bytes _ (done _ _) there z others p rule q e (here _ _ _ _ h) = none_at_end s rule (moved s z [] others rule q e h)
-cut_or_fault at s bytes _ (blank _ _ b rest _ is clean more) there z others p rule q e (here _ _ _ _ h) = clean rule (moved s z bytes others rule q e h)
-cut_or_fault at s bytes _ (skipped _ _ xs rest _ is clean more) there z others p rule q e (here _ _ _ _ h) = clean rule (moved s z bytes others rule q e h)
-cut_or_fault at s bytes _ (token _ _ xs o rest _ g free clean more) there z others p rule q e (here _ _ _ _ h) = clean rule (moved s z bytes others rule q e h)
-cut_or_fault at s _ _ (done _ _) there z _ p rule q e (after_blank _ _ d r _ _ also _ other) = cc
-cut_or_fault at s _ _ (blank _ _ b rest ts is clean more) there z _ p rule q e (after_blank _ _ d r _ _ also _ other) =
-    let same : b ≡ d = head_is b d rest r e in
-    cut_or_fault (at + 1) (nat_eq b 10 || s) rest ts more (there + 1) (nat_eq d 10 || z) r p rule (ap (λ u. nat_eq u 10 || s) same ∙ ap (λ u. nat_eq d 10 || u) q) (tail_is b d rest r e) other
-cut_or_fault at s _ _ (skipped _ _ xs rest _ is clean more) there z _ p rule q e (after_blank _ _ d r _ _ also _ other) = skip_no_blank s d r xs rest also is (sym e)
-cut_or_fault at s _ _ (token _ _ xs o rest _ g free clean more) there z _ p rule q e (after_blank _ _ d r _ _ also _ other) = no_blank d r xs o rest also g.token (sym e)
-cut_or_fault at s _ _ (done _ _) there z _ p rule q e (after_skipped _ _ ys r _ _ also _ other) = skip_no_end z ys r also e
-cut_or_fault at s _ _ (blank _ _ b rest ts is clean more) there z _ p rule q e (after_skipped _ _ ys r _ _ also _ other) = skip_no_blank z b rest ys r is also e
-cut_or_fault at s _ _ (skipped _ _ xs rest ts is clean more) there z _ p rule q e (after_skipped _ _ ys r _ _ also _ other) =
-    let same = one_skip s xs rest ys r is (subst (λ u. Skipped u ys r) (sym q) also) e in
-    cut_or_fault (at + length xs) false rest ts more (there + length ys) false r p rule refl same.1 other
-cut_or_fault at s _ _ (token _ _ xs o rest _ g free clean more) there z _ p rule q e (after_skipped _ _ ys r _ _ also _ other) = token_no_skip z xs o rest ys r g.token free also e
-cut_or_fault at s _ _ (done _ _) there z _ p rule q e (after_token _ _ ys u r _ _ k _ _ other) = no_end ys u r k.token e
-cut_or_fault at s _ _ (blank _ _ b rest ts is clean more) there z _ p rule q e (after_token _ _ ys u r _ _ k _ _ other) = no_blank b rest ys u r is k.token e
-cut_or_fault at s _ _ (skipped _ _ xs rest _ is clean more) there z _ p rule q e (after_token _ _ ys u r _ _ k free _ other) = token_no_skip s ys u r xs rest k.token free is (sym e)
-cut_or_fault at s _ _ (token _ _ xs o rest ts g free clean more) there z _ p rule q e (after_token _ _ ys u r _ _ k _ _ other) =
-    let same = one_longest xs o rest ys u r g k e in
-    cut_or_fault (at + length xs) false rest ts more (there + length ys) false r p rule refl same.2 other
-
-pub one_fault : (at : ℕ) (s : Bool) (bytes : List ℕ) (p : ℕ) (r : Rule) → FaultAt at s bytes p r → (there : ℕ) (z : Bool) (others : List ℕ) (q : ℕ) (t : Rule) → at ≡ there → s ≡ z → bytes ≡ others
-    → FaultAt there z others q t → (p ≡ q) × (r ≡ t)
-one_fault at s _ _ r (here _ _ bytes _ h) there z _ _ t l i e (here _ _ others _ k) = (l, one_rule s bytes r t h (moved s z bytes others t i e k))
-one_fault at s bytes p r (after_blank _ _ b rest _ _ is clean more) there z others _ t l i e (here _ _ _ _ k) = absurd (clean t (moved s z bytes others t i e k))
-one_fault at s bytes p r (after_skipped _ _ xs rest _ _ is clean more) there z others _ t l i e (here _ _ _ _ k) = absurd (clean t (moved s z bytes others t i e k))
-one_fault at s bytes p r (after_token _ _ xs o rest _ _ g free clean more) there z others _ t l i e (here _ _ _ _ k) = absurd (clean t (moved s z bytes others t i e k))
-one_fault at s bytes _ r (here _ _ _ _ h) there z others q t l i e (after_blank _ _ d o _ _ is clean other) = absurd (clean r (moved z s others bytes r (sym i) (sym e) h))
-one_fault at s _ p r (after_blank _ _ b rest _ _ is clean more) there z _ q t l i e (after_blank _ _ d o _ _ also _ other) =
-    let same : b ≡ d = head_is b d rest o e in
-    one_fault (at + 1) (nat_eq b 10 || s) rest p r more (there + 1) (nat_eq d 10 || z) o q t (ap (λ n. n + 1) l) (ap (λ u. nat_eq u 10 || s) same ∙ ap (λ u. nat_eq d 10 || u) i) (tail_is b d rest o e) other
-one_fault at s _ p r (after_skipped _ _ xs rest _ _ is clean more) there z _ q t l i e (after_blank _ _ d o _ _ also _ other) = absurd (skip_no_blank s d o xs rest also is (sym e))
-one_fault at s _ p r (after_token _ _ xs u rest _ _ g free clean more) there z _ q t l i e (after_blank _ _ d o _ _ also _ other) = absurd (no_blank d o xs u rest also g.token (sym e))
-one_fault at s bytes _ r (here _ _ _ _ h) there z others q t l i e (after_skipped _ _ ys o _ _ is clean other) = absurd (clean r (moved z s others bytes r (sym i) (sym e) h))
-one_fault at s _ p r (after_blank _ _ b rest _ _ is clean more) there z _ q t l i e (after_skipped _ _ ys o _ _ also _ other) = absurd (skip_no_blank z b rest ys o is also e)
-one_fault at s _ p r (after_skipped _ _ xs rest _ _ is clean more) there z _ q t l i e (after_skipped _ _ ys o _ _ also _ other) =
-    let same = one_skip s xs rest ys o is (subst (λ u. Skipped u ys o) (sym i) also) e in
-    one_fault (at + length xs) false rest p r more (there + length ys) false o q t (omega (arith, l, ap length same.0)) refl same.1 other
-one_fault at s _ p r (after_token _ _ xs u rest _ _ g free clean more) there z _ q t l i e (after_skipped _ _ ys o _ _ also _ other) = absurd (token_no_skip z xs u rest ys o g.token free also e)
-one_fault at s bytes _ r (here _ _ _ _ h) there z others q t l i e (after_token _ _ ys o rest _ _ g free clean other) = absurd (clean r (moved z s others bytes r (sym i) (sym e) h))
-one_fault at s _ p r (after_blank _ _ b rest _ _ is clean more) there z _ q t l i e (after_token _ _ ys o tail _ _ g free _ other) = absurd (no_blank b rest ys o tail is g.token e)
-one_fault at s _ p r (after_skipped _ _ xs rest _ _ is clean more) there z _ q t l i e (after_token _ _ ys o tail _ _ g free _ other) = absurd (token_no_skip s ys o tail xs rest g.token free is (sym e))
-one_fault at s _ p r (after_token _ _ xs o rest _ _ g free clean more) there z _ q t l i e (after_token _ _ ys u tail _ _ k _ _ other) =
-    let same = one_longest xs o rest ys u tail g k e in
-    one_fault (at + length xs) false rest p r more (there + length ys) false tail q t (omega (arith, l, ap length same.0)) refl same.2 other
+same_fault : (x y : ℕ × Rule) → Some x ≡ Some y → fault_of x.1 x.0 ≡ fault_of y.1 y.0
+same_fault x y e = let same : x ≡ y = cc in ap (λ z. fault_of z.1 z.0) same
 
 -- what a fault says of a rule, if it speaks of one
 record ByRule (source : List ℕ) (fault : LexFault) : Type 0 where
@@ -195,10 +154,10 @@ by_rule source f.TooLong h = inr (inl (refl, h))
 by_rule source f.Memory h = inr (inr refl)
 
 pub only_tokens : (source : List ℕ) (ts : List Tok) → Tokens source ts → OnlyTokens source ts
-only_tokens source ts (short, cut) = (λ others (_, other). sym (one_cut 0 true source ts cut 0 true source others refl refl refl other), λ other h. none other (by_rule source other h))
+only_tokens source ts (short, cut) = (λ others (_, other). sym (one_cut 0 true source ts None cut source others None refl other).0, λ other h. none other (by_rule source other h))
   where
     none : (other : LexFault) → ByRule source other ⊎ (((other ≡ f.TooLong) × (MOST_BYTES < length source)) ⊎ (other ≡ f.Memory)) → other ≡ f.Memory
-    none other (inl k) = absurd (cut_or_fault 0 true source ts cut 0 true source k.at k.rule refl refl k.first.1)
+    none other (inl k) = let same = (one_cut 0 true source ts None cut source k.first.0 (Some (k.at, k.rule)) refl k.first.2).1 in cc
     none other (inr (inl (e, long))) = absurd (omega (arith, short, long))
     none other (inr (inr e)) = e
 
@@ -208,14 +167,10 @@ only_fault source fault h = (λ ts (short, cut). (only_tokens source ts (short, 
     both : (other : LexFault) → ByRule source fault ⊎ (((fault ≡ f.TooLong) × (MOST_BYTES < length source)) ⊎ (fault ≡ f.Memory))
         → ByRule source other ⊎ (((other ≡ f.TooLong) × (MOST_BYTES < length source)) ⊎ (other ≡ f.Memory)) → (other ≡ fault) ⊎ ((other ≡ f.Memory) ⊎ (fault ≡ f.Memory))
     both other (inl a) (inl b) =
-        let same = one_fault 0 true source a.at a.rule a.first.1 0 true source b.at b.rule refl refl refl b.first.1 in
-        let at = same.0 in
-        let rule = same.1 in
-        let one = a.is in
-        let two = b.is in
-        inl cc
-    both other (inl a) (inr (inl (e, long))) = let short = a.first.0 in absurd (omega (arith, short, long))
-    both other (inr (inl (e, long))) (inl b) = let short = b.first.0 in absurd (omega (arith, short, long))
+        let same = one_cut 0 true source a.first.0 (Some (a.at, a.rule)) a.first.2 source b.first.0 (Some (b.at, b.rule)) refl b.first.2 in
+        inl (b.is ∙ (same_fault (b.at, b.rule) (a.at, a.rule) (sym same.1) ∙ sym a.is))
+    both other (inl a) (inr (inl (e, long))) = let short = a.first.1 in absurd (omega (arith, short, long))
+    both other (inr (inl (e, long))) (inl b) = let short = b.first.1 in absurd (omega (arith, short, long))
     both other (inr (inl (e, long))) (inr (inl (k, also))) = inl (k ∙ sym e)
     both other a (inr (inr e)) = inr (inl e)
     both other (inr (inr e)) b = inr (inr e)

@@ -1,10 +1,10 @@
 -- One piece further.
-use Rattle.std.proofs.Common.{◌≡◌, ℕ, ◌+◌, List, [], ◌∷◌, ◌++◌, length, length-append, drop, Bool, false, ◌||◌, refl, sym, ap, subst, ◌∙◌, arith}
+use Rattle.std.proofs.Common.{◌≡◌, ℕ, ◌+◌, List, [], ◌∷◌, ◌++◌, length, length-append, drop, Bool, false, ◌||◌, Option, refl, sym, ap, subst, ◌∙◌, arith}
 use Rattle.std.proofs.lemmas.List.{drop_at}
 use Rattle.arc_lex.specs.declared.piece.Rule.{Rule}
 use Rattle.arc_lex.specs.declared.token.Token.{Token}
 use Rattle.arc_lex.specs.private.Pieces.{Piece, Blank, Skip, Whole, Broken, Law, Fits}
-use Rattle.arc_lex.specs.Source.{Cuts, blank, skipped, token, FaultAt, after_blank, after_skipped, after_token}
+use Rattle.arc_lex.specs.Source.{Cuts, blank, skipped, token}
 use Rattle.arc_lex.specs.Tokens.{Sort, Tok, tok, toks}
 
 pub law_fits : (starts : Bool) (bytes : List ℕ) (p : Piece) → Law starts bytes p → Fits p (length bytes)
@@ -13,49 +13,24 @@ law_fits starts bytes (Skip n) (xs, rest, c, l, some, is, clean) = let e = ap le
 law_fits starts bytes (Whole s n) (xs, rest, c, l, some, g, free, clean) = let e = ap length c in (some, omega (arith, e, l, length-append xs rest))
 law_fits starts bytes (Broken rule) h = tt
 
--- what is after the front
-after_run : (xs r : List ℕ) (n : ℕ) (rest : List ℕ) → rest ≡ xs ++ r → length xs ≡ n → drop n rest ≡ r
-after_run xs r n rest c l = ap (drop n) c ∙ drop_at xs r n l
+-- one piece further, the rest is cut in the same way
+module _ (at : ℕ) (starts : Bool) (bytes rest : List ℕ) (ts : List Tok) (broken : Option (ℕ × Rule)) where
+  pub blank_cuts : (newline : Bool) → Law starts bytes (Blank newline) → rest ≡ drop 1 bytes → Cuts (at + 1) (newline || starts) rest ts broken → Cuts at starts bytes ts broken
+  blank_cuts newline (b, r, c, is, newline_is, clean) back h =
+      subst (λ us. Cuts at starts us ts broken) (sym c)
+      (blank at starts b r ts broken is clean (subst (λ u. Cuts (at + 1) (u || starts) r ts broken) newline_is (subst (λ us. Cuts (at + 1) (newline || starts) us ts broken) (back ∙ ap (drop 1) c) h)))
 
-module _ (starts newline : Bool) (at : ℕ) (rest : List ℕ) (law : Law starts rest (Blank newline)) where
-  pub blank_cuts : (ts : List Tok) → Cuts (at + 1) (newline || starts) (drop 1 rest) ts → Cuts at starts rest ts
-  blank_cuts ts h =
-      let (b, r, c, is, newline_is, clean) = law in
-      subst (λ us. Cuts at starts us ts) (sym c)
-      (blank at starts b r ts is clean (subst (λ u. Cuts (at + 1) (u || starts) r ts) newline_is (subst (λ us. Cuts (at + 1) (newline || starts) us ts) (ap (drop 1) c) h)))
+  module _ (n : ℕ) (back : rest ≡ drop n bytes) (h : Cuts (at + n) false rest ts broken) where
+    after_front : (xs r : List ℕ) → bytes ≡ xs ++ r → length xs ≡ n → Cuts (at + length xs) false r ts broken
+    after_front xs r c l = subst (λ j. Cuts (at + j) false r ts broken) (sym l) (subst (λ us. Cuts (at + n) false us ts broken) (back ∙ (ap (drop n) c ∙ drop_at xs r n l)) h)
 
-  pub blank_fault : (p : ℕ) (rule : Rule) → FaultAt (at + 1) (newline || starts) (drop 1 rest) p rule → FaultAt at starts rest p rule
-  blank_fault p rule h =
-      let (b, r, c, is, newline_is, clean) = law in
-      subst (λ us. FaultAt at starts us p rule) (sym c)
-      (after_blank at starts b r p rule is clean (subst (λ u. FaultAt (at + 1) (u || starts) r p rule) newline_is (subst (λ us. FaultAt (at + 1) (newline || starts) us p rule) (ap (drop 1) c) h)))
+    pub skip_cuts : Law starts bytes (Skip n) → Cuts at starts bytes ts broken
+    skip_cuts (xs, r, c, l, some, is, clean) = subst (λ us. Cuts at starts us ts broken) (sym c) (skipped at starts xs r ts broken is clean (after_front xs r c l))
 
-module _ (starts : Bool) (at n : ℕ) (rest : List ℕ) (law : Law starts rest (Skip n)) where
-  pub skip_cuts : (ts : List Tok) → Cuts (at + n) false (drop n rest) ts → Cuts at starts rest ts
-  skip_cuts ts h =
-      let (xs, r, c, l, some, is, clean) = law in
-      subst (λ us. Cuts at starts us ts) (sym c)
-      (skipped at starts xs r ts is clean (subst (λ j. Cuts (at + j) false r ts) (sym l) (subst (λ us. Cuts (at + n) false us ts) (after_run xs r n rest c l) h)))
-
-  pub skip_fault : (p : ℕ) (rule : Rule) → FaultAt (at + n) false (drop n rest) p rule → FaultAt at starts rest p rule
-  skip_fault p rule h =
-      let (xs, r, c, l, some, is, clean) = law in
-      subst (λ us. FaultAt at starts us p rule) (sym c)
-      (after_skipped at starts xs r p rule is clean (subst (λ j. FaultAt (at + j) false r p rule) (sym l) (subst (λ us. FaultAt (at + n) false us p rule) (after_run xs r n rest c l) h)))
-
-module _ (starts : Bool) (at n : ℕ) (s : Sort) (rest : List ℕ) (law : Law starts rest (Whole s n)) where
-  pub token_cuts : (ts : List Tok) → Cuts (at + n) false (drop n rest) ts → Cuts at starts rest (record { sort = s; from = at; to = at + n } ∷ ts)
-  token_cuts ts h =
-      let (xs, r, c, l, some, g, free, clean) = law in
-      subst (λ us. Cuts at starts us (record { sort = s; from = at; to = at + n } ∷ ts)) (sym c)
-      (subst (λ j. Cuts at starts (xs ++ r) (record { sort = s; from = at; to = at + j } ∷ ts)) l
-      (token at starts xs s r ts g free clean (subst (λ j. Cuts (at + j) false r ts) (sym l) (subst (λ us. Cuts (at + n) false us ts) (after_run xs r n rest c l) h))))
-
-  pub token_fault : (p : ℕ) (rule : Rule) → FaultAt (at + n) false (drop n rest) p rule → FaultAt at starts rest p rule
-  token_fault p rule h =
-      let (xs, r, c, l, some, g, free, clean) = law in
-      subst (λ us. FaultAt at starts us p rule) (sym c)
-      (after_token at starts xs s r p rule g free clean (subst (λ j. FaultAt (at + j) false r p rule) (sym l) (subst (λ us. FaultAt (at + n) false us p rule) (after_run xs r n rest c l) h)))
+    pub token_cuts : (s : Sort) → Law starts bytes (Whole s n) → Cuts at starts bytes (record { sort = s; from = at; to = at + n } ∷ ts) broken
+    token_cuts s (xs, r, c, l, some, g, free, clean) =
+        subst (λ us. Cuts at starts us (record { sort = s; from = at; to = at + n } ∷ ts) broken) (sym c)
+        (subst (λ j. Cuts at starts (xs ++ r) (record { sort = s; from = at; to = at + j } ∷ ts) broken) l (token at starts xs s r ts broken g free clean (after_front xs r c l)))
 
 pub toks_push : (ts : List Token) (t : Token) (more : List Tok) → toks (ts ++ t ∷ []) ++ more ≡ toks ts ++ (tok t ∷ more)
 toks_push [] t more = refl

@@ -1,10 +1,10 @@
 -- What an answer of the lexer that is no list of tokens says.
-use Rattle.std.specs.Prelude.{◌≡◌, ◌⊎◌, ℕ, ◌≤◌, ◌<◌, List, length, true, codes}
+use Rattle.std.specs.Prelude.{◌≡◌, ◌⊎◌, ℕ, ◌≤◌, ◌<◌, List, length, true, codes, Some}
 use Rattle.arc_lex.specs.declared.fault.LexFault.{LexFault}
 use Rattle.arc_lex.specs.declared.fault.LexFault.TheVariants as f
 use Rattle.arc_lex.specs.declared.piece.Rule.{Rule}
 use Rattle.arc_lex.specs.declared.piece.Rule.TheVariants as rules
-use Rattle.arc_lex.specs.Source.{FaultAt, Tokens}
+use Rattle.arc_lex.specs.Source.{Cuts, Tokens}
 use Rattle.arc_lex.specs.Tokens.{Tok}
 use Rattle.arc_lex.specs.declared.lex.TheConstants.{MOST_BYTES}
 
@@ -26,9 +26,9 @@ fault_of rules.OpenLiteral at = f.OpenLiteral at
 fault_of rules.Literal at = f.Literal at
 fault_of rules.Directive at = f.Directive at
 
--- the source is not too long, and this is the first place where a rule is broken, and the rule
+-- The source is not too long, and is cut up to this place, the first where a rule is broken, and this is the rule.
 abbrev pub IsFirst : List ℕ → ℕ → Rule → Type 0
-IsFirst source at rule = (length source ≤ MOST_BYTES) × FaultAt 0 true source at rule
+IsFirst source at rule = (ts : List Tok) × (length source ≤ MOST_BYTES) × Cuts 0 true source ts (Some (at, rule))
 
 -- when each fault is answered. Want of memory may come at any source
 abbrev pub IsLexFault : List ℕ → LexFault → Type 0

@@ -140,31 +140,22 @@ Faultless starts bytes = (rule : Rule) → Breaks starts rule bytes → ⊥
 
 -- ---- sources
 
--- From this place on the bytes are cut into these tokens: at each place stands a blank, a comment, a skipped line or, where no comment
--- stands, the longest token, no rule is broken there, and the next place is right after it. `starts` says whether only blanks stand in
--- front on the line.
-pub data Cuts : ℕ → Bool → List ℕ → List Tok → Type 0 where
-  done : (at : ℕ) (starts : Bool) → Cuts at starts [] []
-  blank : (at : ℕ) (starts : Bool) (b : ℕ) (rest : List ℕ) (ts : List Tok) → is_blank b ≡ true → Faultless starts (b ∷ rest) → Cuts (at + 1) (nat_eq b 10 || starts) rest ts
-      → Cuts at starts (b ∷ rest) ts
-  skipped : (at : ℕ) (starts : Bool) (xs rest : List ℕ) (ts : List Tok) → Skipped starts xs rest → Faultless starts (xs ++ rest) → Cuts (at + length xs) false rest ts
-      → Cuts at starts (xs ++ rest) ts
-  token : (at : ℕ) (starts : Bool) (xs : List ℕ) (s : Sort) (rest : List ℕ) (ts : List Tok) → Longest xs s rest → (IsComment (xs ++ rest) → ⊥) → Faultless starts (xs ++ rest)
-      → Cuts (at + length xs) false rest ts → Cuts at starts (xs ++ rest) (record { sort = s; from = at; to = at + length xs } ∷ ts)
-
--- From a place on, p is the first place where a rule is broken, and this is the rule.
-pub data FaultAt : ℕ → Bool → List ℕ → ℕ → Rule → Type 0 where
-  here : (at : ℕ) (starts : Bool) (bytes : List ℕ) (rule : Rule) → Breaks starts rule bytes → FaultAt at starts bytes at rule
-  after_blank : (at : ℕ) (starts : Bool) (b : ℕ) (rest : List ℕ) (p : ℕ) (rule : Rule) → is_blank b ≡ true → Faultless starts (b ∷ rest)
-      → FaultAt (at + 1) (nat_eq b 10 || starts) rest p rule → FaultAt at starts (b ∷ rest) p rule
-  after_skipped : (at : ℕ) (starts : Bool) (xs rest : List ℕ) (p : ℕ) (rule : Rule) → Skipped starts xs rest → Faultless starts (xs ++ rest)
-      → FaultAt (at + length xs) false rest p rule → FaultAt at starts (xs ++ rest) p rule
-  after_token : (at : ℕ) (starts : Bool) (xs : List ℕ) (s : Sort) (rest : List ℕ) (p : ℕ) (rule : Rule) → Longest xs s rest → (IsComment (xs ++ rest) → ⊥)
-      → Faultless starts (xs ++ rest) → FaultAt (at + length xs) false rest p rule → FaultAt at starts (xs ++ rest) p rule
+-- From this place on the bytes are cut into these tokens, up to their end or up to the first place where a rule is broken, which is given with
+-- the rule: at each place before stands a blank, a comment, a skipped line or, where no comment stands, the longest token, no rule is broken there,
+-- and the next place is right after it. `starts` says whether only blanks stand in front on the line.
+pub data Cuts : ℕ → Bool → List ℕ → List Tok → Option (ℕ × Rule) → Type 0 where
+  done : (at : ℕ) (starts : Bool) → Cuts at starts [] [] None
+  breaks : (at : ℕ) (starts : Bool) (bytes : List ℕ) (rule : Rule) → Breaks starts rule bytes → Cuts at starts bytes [] (Some (at, rule))
+  blank : (at : ℕ) (starts : Bool) (b : ℕ) (rest : List ℕ) (ts : List Tok) (broken : Option (ℕ × Rule)) → is_blank b ≡ true → Faultless starts (b ∷ rest)
+      → Cuts (at + 1) (nat_eq b 10 || starts) rest ts broken → Cuts at starts (b ∷ rest) ts broken
+  skipped : (at : ℕ) (starts : Bool) (xs rest : List ℕ) (ts : List Tok) (broken : Option (ℕ × Rule)) → Skipped starts xs rest → Faultless starts (xs ++ rest)
+      → Cuts (at + length xs) false rest ts broken → Cuts at starts (xs ++ rest) ts broken
+  token : (at : ℕ) (starts : Bool) (xs : List ℕ) (s : Sort) (rest : List ℕ) (ts : List Tok) (broken : Option (ℕ × Rule)) → Longest xs s rest → (IsComment (xs ++ rest) → ⊥)
+      → Faultless starts (xs ++ rest) → Cuts (at + length xs) false rest ts broken → Cuts at starts (xs ++ rest) (record { sort = s; from = at; to = at + length xs } ∷ ts) broken
 
 -- the tokens of a source
 abbrev pub Tokens : List ℕ → List Tok → Type 0
-Tokens source ts = (length source ≤ MOST_BYTES) × Cuts 0 true source ts
+Tokens source ts = (length source ≤ MOST_BYTES) × Cuts 0 true source ts None
 
 -- the bytes of each token's span are that token
 abbrev pub SpansSpell : List ℕ → List Tok → Type 0

@@ -1,8 +1,8 @@
-use Rattle.std.proofs.Common.{◌≡◌, ◌∷◌, ◌+◌, ◌≤◌, ℕ, length, List, [], ◌++◌, drop, Bool, true, false, ◌||◌, refl, sym, ap, subst, ◌∙◌, arith}
+use Rattle.std.proofs.Common.{◌≡◌, ◌∷◌, ◌+◌, ℕ, length, List, [], ◌++◌, drop, Bool, true, false, Some, None, refl, sym, ap, subst, ◌∙◌, arith}
 use Rattle.std.proofs.lemmas.List.{append-nil}
-use Rattle.arc_lex.specs.Faults.{fault_of, IsLexFault}
+use Rattle.arc_lex.specs.Faults.{fault_of, IsFirst, IsLexFault}
 use Rattle.arc_lex.specs.private.Pieces.{Law, Blank, Skip, Whole, Broken, piece}
-use Rattle.arc_lex.specs.Source.{Cuts, FaultAt, done, here}
+use Rattle.arc_lex.specs.Source.{Cuts, done, breaks}
 use Rattle.arc_lex.specs.Tokens.{tok, toks, sort_of}
 use Rattle.arc_lex.specs.declared.piece.Rule.{Rule}
 use Rattle.arc_lex.specs.declared.piece.Rule.TheVariants as rules
@@ -11,9 +11,8 @@ use Rattle.arc_lex.specs.declared.token.Token.{Token}
 use Rattle.arc_lex.proofs.Law.{piece_law}
 use Rattle.arc_lex.proofs.OneAnswer.{only_tokens, only_fault}
 use Rattle.arc_lex.proofs.Spans.{spans_spell}
-use Rattle.arc_lex.proofs.Walks.{blank_cuts, skip_cuts, token_cuts, blank_fault, skip_fault, token_fault, toks_push}
+use Rattle.arc_lex.proofs.Walks.{blank_cuts, skip_cuts, token_cuts, toks_push}
 use Rattle.arc_lex.proofs.lex.lex.Goals as goal
-use Rattle.arc_lex.specs.declared.lex.TheConstants.{MOST_BYTES}
 
 space_law : (starts : Bool) (bs : List ℕ) → Law starts (32 ∷ bs) (Blank false)
 unfolding piece
@@ -30,8 +29,7 @@ pieces-preserved-in-Some c =
     record {
       short = c.pieces.invariant.short;
       count = omega (arith, ap length front, c.pieces.invariant.count);
-      cut = λ ts h. c.pieces.invariant.cut ts (blank_cuts starts false at rest law ts (subst (λ us. Cuts (at + 1) starts us ts) back h));
-      fault = λ p rule h. c.pieces.invariant.fault p rule (blank_fault starts false at rest law p rule (subst (λ us. FaultAt (at + 1) starts us p rule) back h));
+      cut = λ ts broken h. c.pieces.invariant.cut ts broken (blank_cuts at starts rest c.in-Some.after.now ts broken false law back h);
     }
 
 pub pieces-preserved-in-Blank : goal.pieces-preserved-in-Blank
@@ -45,8 +43,7 @@ pieces-preserved-in-Blank c =
     record {
       short = c.pieces.invariant.short;
       count = omega (arith, c.split_at.ensures.back_len, c.pieces.invariant.count);
-      cut = λ ts h. c.pieces.invariant.cut ts (blank_cuts starts newline at rest law ts (subst (λ us. Cuts (at + 1) (newline || starts) us ts) back h));
-      fault = λ p rule h. c.pieces.invariant.fault p rule (blank_fault starts newline at rest law p rule (subst (λ us. FaultAt (at + 1) (newline || starts) us p rule) back h));
+      cut = λ ts broken h. c.pieces.invariant.cut ts broken (blank_cuts at starts rest _ ts broken newline law back h);
     }
 
 pub pieces-preserved-in-Skip : goal.pieces-preserved-in-Skip
@@ -59,8 +56,7 @@ pieces-preserved-in-Skip c =
     record {
       short = c.pieces.invariant.short;
       count = omega (arith, c.split_at-in-Skip.ensures.back_len, c.pieces.invariant.count);
-      cut = λ ts h. c.pieces.invariant.cut ts (skip_cuts c.pieces.starts at n rest law ts (subst (λ us. Cuts (at + n) false us ts) back h));
-      fault = λ p rule h. c.pieces.invariant.fault p rule (skip_fault c.pieces.starts at n rest law p rule (subst (λ us. FaultAt (at + n) false us p rule) back h));
+      cut = λ ts broken h. c.pieces.invariant.cut ts broken (skip_cuts at c.pieces.starts rest _ ts broken n back h law);
     }
 
 pub pieces-preserved : goal.pieces-preserved
@@ -77,23 +73,24 @@ pieces-preserved c =
     record {
       short = c.pieces.invariant.short;
       count = omega (arith, c.split_at-in-Whole.ensures.back_len, c.pieces.invariant.count);
-      cut = λ ts h. subst (Cuts 0 true c.args.source.now) (sym (ap (λ us. toks us ++ ts) c.in_ok-push-in-Whole.ensures.items ∙ toks_push c.pieces.tokens.items t ts))
-          (c.pieces.invariant.cut (tok t ∷ ts) (token_cuts starts at n (sort_of kind) rest law ts (subst (λ us. Cuts (at + n) false us ts) back h)));
-      fault = λ p rule h. c.pieces.invariant.fault p rule (token_fault starts at n (sort_of kind) rest law p rule (subst (λ us. FaultAt (at + n) false us p rule) back h));
+      cut = λ ts broken h. subst (λ us. Cuts 0 true c.args.source.now us broken) (sym (ap (λ us. toks us ++ ts) c.in_ok-push-in-Whole.ensures.items ∙ toks_push c.pieces.tokens.items t ts))
+          (c.pieces.invariant.cut (tok t ∷ ts) broken (token_cuts at starts rest _ ts broken n back h (sort_of kind) law));
     }
 
-first_fault : (source : List ℕ) (at : ℕ) (rule : Rule) → length source ≤ MOST_BYTES → FaultAt 0 true source at rule → IsLexFault source (fault_of rule at)
-first_fault source at rules.BadByte short h = (short, h)
-first_fault source at rules.OpenComment short h = (short, h)
-first_fault source at rules.OpenLiteral short h = (short, h)
-first_fault source at rules.Literal short h = (short, h)
-first_fault source at rules.Directive short h = (short, h)
+first_fault : (source : List ℕ) (at : ℕ) (rule : Rule) → IsFirst source at rule → IsLexFault source (fault_of rule at)
+first_fault source at rules.BadByte h = h
+first_fault source at rules.OpenComment h = h
+first_fault source at rules.OpenLiteral h = h
+first_fault source at rules.Literal h = h
+first_fault source at rules.Directive h = h
 
 pub returns-in-Broken-clause-fault : goal.returns-in-Broken-clause-fault
 returns-in-Broken-clause-fault c =
-    let law : Law c.pieces.starts c.pieces.rest.now (Broken c.in-Broken.rule) = rw c.in-Broken.is at c.in_ok-newline.ensures.law in
-    subst (IsLexFault c.args.source.now) (sym c.fault_of.ensures)
-    (first_fault c.args.source.now c.pieces.at c.in-Broken.rule c.pieces.invariant.short (c.pieces.invariant.fault _ _ (here c.pieces.at c.pieces.starts c.pieces.rest.now c.in-Broken.rule law)))
+    let at = c.pieces.at in
+    let rule = c.in-Broken.rule in
+    let law : Law c.pieces.starts c.pieces.rest.now (Broken rule) = rw c.in-Broken.is at c.in_ok-newline.ensures.law in
+    let cut = c.pieces.invariant.cut [] (Some (at, rule)) (breaks at c.pieces.starts c.pieces.rest.now rule law) in
+    subst (IsLexFault c.args.source.now) (sym c.fault_of.ensures) (first_fault c.args.source.now at rule (_, c.pieces.invariant.short, cut))
 
 empty : (rest : List ℕ) → length rest ≡ 0 → rest ≡ []
 empty [] e = refl
@@ -103,8 +100,8 @@ pub returns-clause-tokens : goal.returns-clause-tokens
 returns-clause-tokens c =
     let none : c.pieces.rest.now ≡ [] = empty c.pieces.rest.now (omega (arith, c.pieces.invariant.count)) in (
       c.pieces.invariant.short,
-      subst (Cuts 0 true c.args.source.now) (append-nil (toks c.pieces.tokens.items))
-          (c.pieces.invariant.cut [] (subst (λ us. Cuts c.pieces.at c.pieces.starts us []) (sym none) (done c.pieces.at c.pieces.starts))),
+      subst (λ us. Cuts 0 true c.args.source.now us None) (append-nil (toks c.pieces.tokens.items))
+          (c.pieces.invariant.cut [] None (subst (λ us. Cuts c.pieces.at c.pieces.starts us [] None) (sym none) (done c.pieces.at c.pieces.starts))),
     )
 
 pub returns-in-Broken-clause-only_fault : goal.returns-in-Broken-clause-only_fault

@@ -1,5 +1,5 @@
-use Rattle.std.proofs.Common.{◌≡◌, ◌≤◌, ◌+◌, ◌++◌, ℕ, List, length, true}
-use Rattle.arc_lex.specs.Source.{Cuts, FaultAt}
+use Rattle.std.proofs.Common.{◌≡◌, ◌≤◌, ◌+◌, ◌++◌, ℕ, List, length, true, Option}
+use Rattle.arc_lex.specs.Source.{Cuts}
 use Rattle.arc_lex.specs.Tokens.{Tok, toks}
 use Rattle.arc_lex.specs.declared.piece.Rule.{Rule}
 use Rattle.arc_lex.proofs.lex.lex.Given as goal
@@ -10,8 +10,7 @@ abbrev pub invariant-pieces : goal.invariant-pieces
 invariant-pieces l = record {
   short : length l.source ≤ MOST_BYTES;
   count : l.at + length l.rest ≡ length l.source;
-  cut : (ts : List Tok) → Cuts l.at l.starts l.rest ts → Cuts 0 true l.source (toks l.tokens.items ++ ts);
-  fault : (p : ℕ) (rule : Rule) → FaultAt l.at l.starts l.rest p rule → FaultAt 0 true l.source p rule;
+  cut : (ts : List Tok) (broken : Option (ℕ × Rule)) → Cuts l.at l.starts l.rest ts broken → Cuts 0 true l.source (toks l.tokens.items ++ ts) broken;
 }
 
 abbrev pub decreases-pieces : goal.decreases-pieces
