@@ -1,20 +1,20 @@
 -- A source has one list of tokens, or one first fault.
-use Rattle.std.proofs.Common.{◌≡◌, ◌<◌, ◌⊎◌, inl, inr, ℕ, ◌+◌, List, [], ◌∷◌, ◌++◌, length, take, drop, Bool, true, false, ◌||◌, nat_eq, Option, Some, None, refl, sym, ap, subst, ◌∙◌, arith}
+use Rattle.std.proofs.Common.{◌≡◌, ◌<◌, ◌⊎◌, inl, inr, ℕ, suc, ◌+◌, List, [], ◌∷◌, ◌++◌, length, take, drop, Bool, true, false, ◌||◌, nat_eq, if◌then◌else◌, Option, Some, None, option_map, refl, sym, ap, subst, ◌∙◌, arith}
 use Rattle.std.proofs.lemmas.List.{take_at, drop_at}
 use Rattle.arc_lex.specs.declared.fault.LexFault.{LexFault}
 use Rattle.arc_lex.specs.declared.fault.LexFault.TheVariants as f
 use Rattle.arc_lex.specs.declared.piece.Rule.{Rule}
 use Rattle.arc_lex.specs.declared.piece.Rule.TheVariants as rules
 use Rattle.arc_lex.specs.declared.bytes.Class.TheVariants as c
-use Rattle.arc_lex.specs.Bytes.{all_in, begins, run, is_blank}
+use Rattle.arc_lex.specs.Bytes.{run, is_blank}
 use Rattle.arc_lex.specs.Faults.{fault_of, IsFirst, IsLexFault, OnlyTokens, OnlyFault}
 use Rattle.arc_lex.specs.Source.{Tokens, IsToken, IsComment, Skipped, to_close, Breaks, Cuts, done, breaks, blank, skipped, token}
 use Rattle.arc_lex.specs.Tokens.{Sort, Tok}
+use Rattle.arc_lex.specs.declared.lex.TheConstants.{MOST_BYTES}
 use Rattle.arc_lex.proofs.Firsts.{head_is, tail_is, first_opens, not_empty, blank_not, blank_opens_none, line_opens_none}
 use Rattle.arc_lex.proofs.OneRule.{one_rule, none_at_end}
 use Rattle.arc_lex.proofs.OneSort.{one_longest}
 use Rattle.arc_lex.proofs.Runs.{run_is}
-use Rattle.arc_lex.specs.declared.lex.TheConstants.{MOST_BYTES}
 
 -- no token begins with a blank, and none is empty
 no_blank : (b : ℕ) (rest xs : List ℕ) (s : Sort) (r : List ℕ) → is_blank b ≡ true → IsToken xs s → b ∷ rest ≡ xs ++ r → ⊥
@@ -59,40 +59,22 @@ same_front : (xs rest ys r : List ℕ) → xs ++ rest ≡ ys ++ r → length xs 
 same_front xs rest ys r c n =
     (sym (take_at xs rest (length ys) n) ∙ (ap (take (length ys)) c ∙ take_at ys r (length ys) refl), sym (drop_at xs rest (length ys) n) ∙ (ap (drop (length ys)) c ∙ drop_at ys r (length ys) refl))
 
--- lines that end are of one length
-same_line : (body rest other r : List ℕ) → body ++ rest ≡ other ++ r → all_in c.InLine body ≡ true → begins c.InLine rest ≡ false → all_in c.InLine other ≡ true → begins c.InLine r ≡ false
-    → length body ≡ length other
-same_line body rest other r e a b d f = sym (run_is c.InLine body rest a b) ∙ (ap (run c.InLine) e ∙ run_is c.InLine other r d f)
+-- how many bytes a comment has after its first, and how many are skipped
+abbrev comment_length : List ℕ → Option ℕ
+comment_length [] = None
+comment_length (b ∷ bs) = if nat_eq b 47 then Some (suc (run c.InLine bs)) else option_map suc (to_close false bs)
 
-skip_size : (starts : Bool) (xs rest ys r : List ℕ) → Skipped starts xs rest → Skipped starts ys r → xs ++ rest ≡ ys ++ r → length xs ≡ length ys
-skip_size starts xs rest ys r (inl (body, e, a, b)) (inl (other, f, d, g)) c =
-    let k : 47 ∷ 47 ∷ (body ++ rest) ≡ 47 ∷ 47 ∷ (other ++ r) = sym (ap (λ us. us ++ rest) e) ∙ (c ∙ ap (λ us. us ++ r) f) in
-    let n = same_line body rest other r (ap (drop 2) k) a b d g in
-    omega (arith, n, ap length e, ap length f)
-skip_size starts xs rest ys r (inr (inl (body, e, a))) (inr (inl (other, f, b))) c =
-    let k : 47 ∷ 42 ∷ (body ++ rest) ≡ 47 ∷ 42 ∷ (other ++ r) = sym (ap (λ us. us ++ rest) e) ∙ (c ∙ ap (λ us. us ++ r) f) in
-    let n : Some (length body) ≡ Some (length other) = sym a ∙ (ap (λ us. to_close false (drop 2 us)) k ∙ b) in
-    let j : length body ≡ length other = cc in
-    omega (arith, j, ap length e, ap length f)
-skip_size starts xs rest ys r (inr (inr (body, e, s, a, b))) (inr (inr (other, f, t, d, g))) c =
-    let k : 35 ∷ (body ++ rest) ≡ 35 ∷ (other ++ r) = sym (ap (λ us. us ++ rest) e) ∙ (c ∙ ap (λ us. us ++ r) f) in
-    let n = same_line body rest other r (ap (drop 1) k) a b d g in
-    omega (arith, n, ap length e, ap length f)
-skip_size starts xs rest ys r (inl (body, e, a, d)) (inr (inl (other, f, b))) c =
-    let k : 47 ∷ 47 ∷ (body ++ rest) ≡ 47 ∷ 42 ∷ (other ++ r) = sym (ap (λ us. us ++ rest) e) ∙ (c ∙ ap (λ us. us ++ r) f) in cc
-skip_size starts xs rest ys r (inl (body, e, a, d)) (inr (inr (other, f, s, b, g))) c =
-    let k : 47 ∷ 47 ∷ (body ++ rest) ≡ 35 ∷ (other ++ r) = sym (ap (λ us. us ++ rest) e) ∙ (c ∙ ap (λ us. us ++ r) f) in cc
-skip_size starts xs rest ys r (inr (inl (body, e, a))) (inl (other, f, b, d)) c =
-    let k : 47 ∷ 42 ∷ (body ++ rest) ≡ 47 ∷ 47 ∷ (other ++ r) = sym (ap (λ us. us ++ rest) e) ∙ (c ∙ ap (λ us. us ++ r) f) in cc
-skip_size starts xs rest ys r (inr (inl (body, e, a))) (inr (inr (other, f, s, b, g))) c =
-    let k : 47 ∷ 42 ∷ (body ++ rest) ≡ 35 ∷ (other ++ r) = sym (ap (λ us. us ++ rest) e) ∙ (c ∙ ap (λ us. us ++ r) f) in cc
-skip_size starts xs rest ys r (inr (inr (body, e, s, a, d))) (inl (other, f, b, g)) c =
-    let k : 35 ∷ (body ++ rest) ≡ 47 ∷ 47 ∷ (other ++ r) = sym (ap (λ us. us ++ rest) e) ∙ (c ∙ ap (λ us. us ++ r) f) in cc
-skip_size starts xs rest ys r (inr (inr (body, e, s, a, d))) (inr (inl (other, f, b))) c =
-    let k : 35 ∷ (body ++ rest) ≡ 47 ∷ 42 ∷ (other ++ r) = sym (ap (λ us. us ++ rest) e) ∙ (c ∙ ap (λ us. us ++ r) f) in cc
+abbrev skip_length : List ℕ → Option ℕ
+skip_length [] = None
+skip_length (b ∷ bs) = if nat_eq b 35 then Some (suc (run c.InLine bs)) else option_map suc (comment_length bs)
+
+skip_size : (starts : Bool) (xs rest : List ℕ) → Skipped starts xs rest → skip_length (xs ++ rest) ≡ Some (length xs)
+skip_size starts xs rest (inl (body, e, a, b)) = rw e (ap (λ n. Some (suc (suc n))) (run_is c.InLine body rest a b))
+skip_size starts xs rest (inr (inl (body, e, a))) = rw e (ap (λ o. option_map suc (option_map suc o)) a)
+skip_size starts xs rest (inr (inr (body, e, s, a, b))) = rw e (ap (λ n. Some (suc n)) (run_is c.InLine body rest a b))
 
 one_skip : (starts : Bool) (xs rest ys r : List ℕ) → Skipped starts xs rest → Skipped starts ys r → xs ++ rest ≡ ys ++ r → (xs ≡ ys) × (rest ≡ r)
-one_skip starts xs rest ys r h k c = same_front xs rest ys r c (skip_size starts xs rest ys r h k c)
+one_skip starts xs rest ys r h k c = let size : Some (length xs) ≡ Some (length ys) = sym (skip_size starts xs rest h) ∙ (ap skip_length c ∙ skip_size starts ys r k) in same_front xs rest ys r c cc
 
 -- ---- one row of tokens with one end
 
@@ -137,40 +119,37 @@ one_cut at s _ _ _ (token _ _ xs o rest ts x g free _ more) _ _ _ e (token _ _ y
 same_fault : (x y : ℕ × Rule) → Some x ≡ Some y → fault_of x.1 x.0 ≡ fault_of y.1 y.0
 same_fault x y e = let same : x ≡ y = cc in ap (λ z. fault_of z.1 z.0) same
 
--- what a fault says of a rule, if it speaks of one
-record ByRule (source : List ℕ) (fault : LexFault) : Type 0 where
-  at : ℕ
-  rule : Rule
-  is : fault ≡ fault_of rule at
-  first : IsFirst source at rule
+-- what a fault says of the source
+data Says (source : List ℕ) : LexFault → Type 0 where
+  by_rule : (at : ℕ) (rule : Rule) → IsFirst source at rule → Says source (fault_of rule at)
+  too_long : MOST_BYTES < length source → Says source f.TooLong
+  memory : Says source f.Memory
 
-by_rule : (source : List ℕ) (fault : LexFault) → IsLexFault source fault → ByRule source fault ⊎ (((fault ≡ f.TooLong) × (MOST_BYTES < length source)) ⊎ (fault ≡ f.Memory))
-by_rule source (f.BadByte at) h = inl (record { at = at; rule = rules.BadByte; is = refl; first = h })
-by_rule source (f.OpenComment at) h = inl (record { at = at; rule = rules.OpenComment; is = refl; first = h })
-by_rule source (f.OpenLiteral at) h = inl (record { at = at; rule = rules.OpenLiteral; is = refl; first = h })
-by_rule source (f.Literal at) h = inl (record { at = at; rule = rules.Literal; is = refl; first = h })
-by_rule source (f.Directive at) h = inl (record { at = at; rule = rules.Directive; is = refl; first = h })
-by_rule source f.TooLong h = inr (inl (refl, h))
-by_rule source f.Memory h = inr (inr refl)
+says : (source : List ℕ) (fault : LexFault) → IsLexFault source fault → Says source fault
+says source (f.BadByte at) h = by_rule at rules.BadByte h
+says source (f.OpenComment at) h = by_rule at rules.OpenComment h
+says source (f.OpenLiteral at) h = by_rule at rules.OpenLiteral h
+says source (f.Literal at) h = by_rule at rules.Literal h
+says source (f.Directive at) h = by_rule at rules.Directive h
+says source f.TooLong h = too_long h
+says source f.Memory h = memory
 
 pub only_tokens : (source : List ℕ) (ts : List Tok) → Tokens source ts → OnlyTokens source ts
-only_tokens source ts (short, cut) = (λ others (_, other). sym (one_cut 0 true source ts None cut source others None refl other).0, λ other h. none other (by_rule source other h))
+only_tokens source ts (short, cut) = (λ others (_, other). sym (one_cut 0 true source ts None cut source others None refl other).0, λ other h. none other (says source other h))
   where
-    none : (other : LexFault) → ByRule source other ⊎ (((other ≡ f.TooLong) × (MOST_BYTES < length source)) ⊎ (other ≡ f.Memory)) → other ≡ f.Memory
-    none other (inl k) = let same = (one_cut 0 true source ts None cut source k.first.0 (Some (k.at, k.rule)) refl k.first.2).1 in cc
-    none other (inr (inl (e, long))) = absurd (omega (arith, short, long))
-    none other (inr (inr e)) = e
+    none : (other : LexFault) → Says source other → other ≡ f.Memory
+    none _ (by_rule at rule (us, _, other)) = let same = (one_cut 0 true source ts None cut source us (Some (at, rule)) refl other).1 in cc
+    none _ (too_long long) = absurd (omega (arith, short, long))
+    none _ memory = refl
 
 pub only_fault : (source : List ℕ) (fault : LexFault) → IsLexFault source fault → OnlyFault source fault
-only_fault source fault h = (λ ts (short, cut). (only_tokens source ts (short, cut)).1 fault h, λ other k. both other (by_rule source fault h) (by_rule source other k))
+only_fault source fault h = (λ ts tokens. (only_tokens source ts tokens).1 fault h, λ other k. both fault (says source fault h) other (says source other k))
   where
-    both : (other : LexFault) → ByRule source fault ⊎ (((fault ≡ f.TooLong) × (MOST_BYTES < length source)) ⊎ (fault ≡ f.Memory))
-        → ByRule source other ⊎ (((other ≡ f.TooLong) × (MOST_BYTES < length source)) ⊎ (other ≡ f.Memory)) → (other ≡ fault) ⊎ ((other ≡ f.Memory) ⊎ (fault ≡ f.Memory))
-    both other (inl a) (inl b) =
-        let same = one_cut 0 true source a.first.0 (Some (a.at, a.rule)) a.first.2 source b.first.0 (Some (b.at, b.rule)) refl b.first.2 in
-        inl (b.is ∙ (same_fault (b.at, b.rule) (a.at, a.rule) (sym same.1) ∙ sym a.is))
-    both other (inl a) (inr (inl (e, long))) = let short = a.first.1 in absurd (omega (arith, short, long))
-    both other (inr (inl (e, long))) (inl b) = let short = b.first.1 in absurd (omega (arith, short, long))
-    both other (inr (inl (e, long))) (inr (inl (k, also))) = inl (k ∙ sym e)
-    both other a (inr (inr e)) = inr (inl e)
-    both other (inr (inr e)) b = inr (inr e)
+    both : (fault : LexFault) → Says source fault → (other : LexFault) → Says source other → (other ≡ fault) ⊎ ((other ≡ f.Memory) ⊎ (fault ≡ f.Memory))
+    both _ (by_rule at rule (ts, _, cut)) _ (by_rule p q (us, _, other)) =
+        inl (same_fault (p, q) (at, rule) (one_cut 0 true source us (Some (p, q)) other source ts (Some (at, rule)) refl cut).1)
+    both _ (by_rule at rule (ts, short, cut)) _ (too_long long) = absurd (omega (arith, short, long))
+    both _ (too_long long) _ (by_rule p q (us, short, other)) = absurd (omega (arith, short, long))
+    both _ (too_long _) _ (too_long _) = inl refl
+    both _ _ _ memory = inr (inl refl)
+    both _ memory _ _ = inr (inr refl)
