@@ -47,7 +47,8 @@ pub data ResultTree : Type 0 where
 
 mutual
   -- An expression, with the place of its first byte (C99, section 6.5). An integer has its value, and whether it is written with a suffix. The places of operators (`sign`),
-  -- of fields' names, of selectors' first parts and of `super` are named; a selector is written with all its colons. `++` and `--` are updates by 1 (sections 6.5.2.4 and 6.5.3.1), of which the former kind gives what was before.
+  -- of fields' names, of selectors' first parts and of `super` are named; a selector is written with all its colons. `++` and `--` are updates by 1:
+  -- after their operand they give the number before (section 6.5.2.4), before it the new one (6.5.3.1).
   pub data ExprTree : Type 0 where
     Integer : ℕ → ℤ → Bool → ExprTree
     Text : ℕ → List ℕ → ExprTree
@@ -188,8 +189,8 @@ begins (Update at _ _ _ _ _) = at
 begins (Send at _ _ _ _) = at
 begins (SendSuper at _ _ _ _) = at
 
--- the place at which an expression is reported that breaks a rule: an assignment's `=`, a field's name, a message's first selector part, and else the first byte
--- (this project's own choice)
+-- the place at which an expression is reported that breaks a rule: an assignment's `=`, an update's operator (but the first byte, where `++` or `--` comes after the
+-- operand), a field's name, a message's first selector part, and else the first byte (this project's own choice)
 abbrev pub place : ExprTree → ℕ
 place (Arrow _ name _ _) = name
 place (Assign _ sign _ _) = sign

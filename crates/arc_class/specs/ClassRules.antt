@@ -84,7 +84,7 @@ broken_own_names u before i =
 abbrev pub broken_implementation : UnitTree → (before : List ImplementationTree) → ImplementationTree → List Broken
 broken_implementation u before i = broken_own_names u before i ++ broken_methods [] i.methods
 
--- all that is wrong with a source before its types are looked at
+-- all that is wrong with what a source declares (21 to 30), before its bodies are looked at
 abbrev pub broken : UnitTree → List Broken
 broken u = (in_order duplicate [] u.functions ++ (missing_main (number_of is_main u.functions) ++ violations_of (violations u) (unit_sites u)))
     ++ (in_order (broken_interface u) [] u.interfaces ++ in_order (broken_implementation u) [] u.implementations)

@@ -77,12 +77,12 @@ fields u class = flat_map (own_class_fields u) (reverse (ancestry (earlier_super
 abbrev pub inherited_by : UnitTree → (class : ℕ) → (superclass : Option ℕ) → List ClassField
 inherited_by u class superclass = option_map_or (fields u) (if_before class superclass) []
 
--- the same of so many classes, from one on
+-- the fields of the objects of so many classes, from this class on
 abbrev pub all_fields_from : UnitTree → (class count : ℕ) → List (List ClassField)
 all_fields_from u class zero = []
 all_fields_from u class (suc n) = fields u class ∷ all_fields_from u (suc class) n
 
--- those of its superclass
+-- the fields that a class inherits
 abbrev pub inherited : UnitTree → (class : ℕ) → List ClassField
 inherited u class = inherited_by u class (superclass u.interfaces class)
 

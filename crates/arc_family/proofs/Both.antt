@@ -1,4 +1,4 @@
--- The first violation of the rules of two lists.
+-- The first violation of two lists in a row, under a name of this crate, by which `first_broken` is proved.
 use Rattle.std.proofs.Common.{◌≡◌, List, ◌++◌}
 use Rattle.arc_sites.specs.declared.violation.Violation.{Violation}
 use Rattle.arc_sites.specs.Violations.{earlier_of, first}

@@ -1,4 +1,4 @@
--- What an answer that is no checked program is known by.
+-- The number, the name and the position of each fault of `check`.
 use Rattle.std.specs.Prelude.{codes}
 use Rattle.arc_fault.specs.declared.check.CheckFault.{CheckFault}
 use Rattle.arc_fault.specs.declared.check.CheckFault.TheVariants as f

@@ -1,4 +1,4 @@
--- What an answer that is no table is known by.
+-- The number, the name and the position of each fault of `build`.
 use Rattle.std.specs.Prelude.{codes}
 use Rattle.arc_fault.specs.declared.class.ClassFault.{ClassFault}
 use Rattle.arc_fault.specs.declared.class.ClassFault.TheVariants as f

@@ -1,4 +1,4 @@
--- What an answer that is no program is known by.
+-- The number, the name and the position of each fault of `own`.
 use Rattle.std.specs.Prelude.{codes}
 use Rattle.arc_fault.specs.declared.own.OwnFault.{OwnFault}
 use Rattle.arc_fault.specs.declared.own.OwnFault.TheVariants as f

@@ -1,4 +1,4 @@
--- What an answer that is no tree is known by.
+-- The number, the name and the position of each fault of `parse`.
 use Rattle.std.specs.Prelude.{codes}
 use Rattle.arc_fault.specs.declared.parse.ParseFault.{ParseFault}
 use Rattle.arc_fault.specs.declared.parse.ParseFault.TheVariants as f

@@ -70,6 +70,6 @@ unfoldable pub deep : {N : Type 0} {Node : N → Type 0} → Bodies N Node → �
 deep body zero = λ limits rule. unexpected
 deep body (suc n) = λ limits rule. run (deep body n) limits (body rule)
 
--- the rules without that bound: each but the first comes after a token, so there are no more than tokens and one
+-- the rules without that bound: between two calls a token is taken, so no more are under way than there are tokens, and one
 unfoldable pub read : {N : Type 0} {Node : N → Type 0} → Bodies N Node → Limits → Rules N Node
 read body limits rule = λ ts. deep body (suc (length ts)) limits rule ts

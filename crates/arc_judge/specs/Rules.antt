@@ -1,4 +1,4 @@
--- The rules for functions and methods: names, kinds, counts of arguments, formats, and the number of variables.
+-- The rules for bodies and for first constants: names, kinds, counts of arguments, formats, fields, loops, and the numbers of parameters, variables and objects.
 use Rattle.std.specs.Prelude.{ℕ, Bool, true, false, ◌&&◌, ◌||◌, not, List, [], ◌∷◌, ◌++◌, length, flat_map, drop, Option, Some, None, is_some, is_none, option_map, option_and_then, nat_lt, nat_eq, slice_get, if◌then◌else◌}
 use Rattle.std.specs.Option.{option_map_or}
 use Rattle.arc_ast.specs.declared.tree.UnaryOperator.{UnaryOperator}
@@ -341,7 +341,7 @@ broken_global g = option_map_or (broken_constant (need_of (type_kind g.type))) g
 
 -- ---- functions, methods and classes
 
--- 45 ArgumentCount too: a function with more parameters than are allowed, at its name (this project's own choice); those of a mere declaration are counted alone
+-- 45 ArgumentCount too: a function with more parameters than are allowed, at its name (this project's own choice); those of a mere declaration are only counted
 abbrev pub broken_function : Known → FunctionTree → List Broken
 broken_function known f =
     broken_if (nat_lt MOST_PARAMETERS (length (named_parameters f.parameters))) f.at 45

@@ -30,6 +30,7 @@ reported tree = option_or (first (broken tree)) (option_or (first (broken_unit t
 
 -- The source is refused by the rule of this number, at this position: at the first byte where it breaks a rule for tokens; at the first token that doesn't fit, or
 -- that passes a limit; or because the tree that it spells breaks a rule, of which this one is reported.
+-- That no limit is passed before a token that doesn't fit isn't said here (`ReportsLimit` of arc_parse says it).
 pub data IsRefused (source : List ℕ) (number at : ℕ) : Type 0 where
   in_tokens : (rule : Rule) → IsFirst source at rule → (lexing.report (fault_of rule at)).0 ≡ number → IsRefused source number at
   in_tree : (tokens : List Tok) → Tokens source tokens → FitsNoneAt tokens at → (report (Unexpected at)).number ≡ number → IsRefused source number at

@@ -22,7 +22,7 @@ use Rattle.arc_lower.proofs.Cases.{by_test}
 
 -- ---- numbers of kinds
 
--- a number as one of a kind is one already
+-- a number is one of a kind: made one of that kind, it is the same
 abbrev pub IsOf : Kind → ℤ → Type 0
 IsOf kind v = converted kind v ≡ v
 

@@ -192,7 +192,7 @@ updated moment operator (Gives kind place) a =
 
 -- ---- messages
 
--- the value of a receiver that is the class of a number: that number, where it is a name, and else `self`, the first int of a class method
+-- the value of a receiver that is the class of a number: that number, where it is a name, and else `self`, the first number of a class method
 abbrev pub class_value : ExprTree → (class : ℕ) → Value
 class_value (Name at name) class = Number (pos class)
 class_value _ class = Read (Local 0)
@@ -329,8 +329,8 @@ abbrev mutual
   resolved_stmts s no_stmts = no_commands
   resolved_stmts s (and_stmt a others) = and_command (resolved_stmt s a) (resolved_stmts (scope_after s a) others)
 
--- a function, in whose scope its parameters are; it has as many variables as have got numbers, and those of its variables that name objects are its parameters that have
--- got theirs before its body
+-- A function, from the scope after its parameters: it has as many variables of each sort as have got numbers at its end, and as many parameters that name objects as
+-- have got such numbers before its body, but for that of an owned `self`.
 abbrev pub resolved_body : Scope → StmtTrees → Function
 resolved_body s body = record {
   slots = (scope_after_all s body).next;

@@ -126,7 +126,8 @@ runs_found D wanted (Some f) self selector given w = D.call wanted f self given 
 abbrev pub class_in : Option Object → Option ℕ
 class_in = option_map (λ o. o.class)
 
--- a message to what this names, which is looked up from a class; to nil it gives 0 or nil (OPL, "Sending Messages to nil")
+-- a message to what this names, which is looked up from a class; to nil it gives 0 or nil (OPL, "Sending Messages to nil"); so does one to `super`
+-- whose `self` is nil (this project's own choice)
 abbrev pub sent_from : Deeper → (wanted : Gives) → (from : Option ℕ) → (self selector : ℕ) → Given → World → Outcome Answer
 sent_from D wanted from zero selector given w = Done (gives_object 0) w
 sent_from D wanted from (suc k) selector given w = runs_found D wanted (finds D wanted from signs.Instance selector given) (suc k) selector given w

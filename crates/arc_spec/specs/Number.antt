@@ -29,7 +29,7 @@ converted k.Bool z = if is_zero z then pos 0 else pos 1
 converted k.Int z = low_32 z
 converted _ z = z
 
--- the least number of a kind, where it is below the ones that its negation has place for
+-- whether a number is the least of its kind, so that its negation is no number of the kind
 abbrev pub is_least : Kind → ℤ → Bool
 is_least k.Int (negsuc n) = nat_eq (suc n) (2 ^ 31)
 is_least _ (negsuc n) = nat_eq (suc n) (2 ^ 63)
@@ -70,7 +70,7 @@ applied u.Not kind z = answer (is_zero z)
 
 -- What an operator gives (C99, sections 6.5.5 to 6.5.14), computed in 64 bits, of which the kind keeps its own: so sums, products and shifts to the left wrap, where
 -- C99, section 6.5, leaves a result that is too large undefined (this project's own choice). A shift to the right keeps the sign, which C99, section 6.5.7, leaves to
--- an implementation.
+-- an implementation. (`&&` and `||` of a source are choices, and don't come here.)
 abbrev pub combined : BinaryOperator → Kind → ℤ → ℤ → Option ℤ
 combined o.Add kind x y = Some (converted kind (int_wrapping_add w64 x y))
 combined o.Subtract kind x y = Some (converted kind (int_wrapping_sub w64 x y))

@@ -1,5 +1,5 @@
 -- The stages one after another.
-use Rattle.std.proofs.Common.{◌≡◌, ℕ, ◌<◌, List, [], length, refl, sym, ap, subst, ◌∙◌}
+use Rattle.std.proofs.Common.{◌≡◌, ℕ, ◌<◌, ◌≤◌, List, [], length, refl, sym, ap, subst, ◌∙◌}
 use Rattle.std.proofs.lemmas.List.{length-map}
 use Rattle.arc_lex.specs.declared.token.Token.{Token}
 use Rattle.arc_lex.specs.Tokens.{toks}
@@ -29,7 +29,7 @@ use Rattle.arc_code.specs.Running.{Program, seen, IsSound}
 use Rattle.arc_tool.specs.declared.refusal.Refusal.{Refusal}
 use Rattle.arc_source.specs.Accepted.{Spelled, Accepted, program_meant, meant}
 use Rattle.arc_tool.specs.Compiled.{Compiles, CompilesNamed, class_names}
-use Rattle.arc_tool.specs.Refused.{IsTooLarge, IsRefusal, too_large, no_memory}
+use Rattle.arc_tool.specs.Refused.{IsTooLarge, IsCompilable, IsRefusal, too_large, no_memory}
 use Rattle.arc_tool.specs.Reports.{Reports}
 use Rattle.arc_emit.specs.declared.emit.TheConstants.{MOST_INSTRS}
 
@@ -47,6 +47,10 @@ pub too_long : (source : List ℕ) (program : Accepted source) (count : ℕ) →
     → (e ≡ f.TooLarge) × (MOST_INSTRS < count) → Reports (record { number = emitting.fault_number e; name = emitting.fault_name e; at = 0 }) r → IsRefusal source r
 too_long source program count is f.TooLarge r large reports = too_large program (subst (λ n. MOST_INSTRS < n) (is ∙ actions_counted (program_meant program)) large.1) reports
 too_long source program count is f.Memory r large reports = no_memory program reports
+
+-- a program that becomes so many actions, for which there is room
+pub small_enough : (source : List ℕ) (program : Accepted source) (count : ℕ) → count ≡ length (lowered (program_meant program)) → count ≤ MOST_INSTRS → IsCompilable source
+small_enough source program count is few = (program, subst (λ n. n ≤ MOST_INSTRS) (is ∙ actions_counted (program_meant program)) few)
 
 -- ---- the stages
 

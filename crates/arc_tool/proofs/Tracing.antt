@@ -21,7 +21,8 @@ use Rattle.arc_tool.specs.Ran.{Untouched, Blames}
 use Rattle.arc_tool.specs.Refused.{IsRefusal}
 use Rattle.arc_tool.specs.Reports.{Becomes}
 use Rattle.arc_tool.specs.SourceRun.{SourceRun}
-use Rattle.arc_tool.specs.Traced.{Followed, Interrupted, AnsweredTrace, EndsTrace, text_of}
+use Rattle.arc_tool.specs.Stepped.{Followed, Interrupted, EndsTrace}
+use Rattle.arc_tool.specs.Traced.{AnsweredTrace, text_of}
 use Rattle.arc_tool.proofs.Meant.{source_run}
 
 module _ (source : List ℕ) (p : Program) (names : List (List ℕ)) (compiled : CompilesNamed source p names) (steps : ℕ) (i0 i1 : Option (List ℕ)) where

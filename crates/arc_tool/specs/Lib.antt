@@ -8,4 +8,5 @@ pub mod SourceRun
 pub mod Printed
 pub mod Ran
 pub mod Traced
+pub mod Stepped
 pub mod Served

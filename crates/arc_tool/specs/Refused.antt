@@ -1,5 +1,5 @@
 -- When a source is refused, and by which stage: the first one that finds something to refuse.
-use Rattle.std.specs.Prelude.{◌≡◌, ℕ, ◌<◌, List, [], codes}
+use Rattle.std.specs.Prelude.{◌≡◌, ℕ, ◌<◌, ◌≤◌, List, [], codes}
 use Rattle.arc_lex.specs.Tokens.{Tok}
 use Rattle.arc_lex.specs.Source.{Tokens}
 use Rattle.arc_lex.specs.declared.fault.LexFault.{LexFault}
@@ -31,11 +31,15 @@ use Rattle.arc_tool.specs.Reports.{Reports}
 abbrev pub IsTooLarge : resolved.Program → Type 0
 IsTooLarge P = MOST_INSTRS < program_size P
 
--- The refusal reports the fault of a stage, all stages before which have nothing to refuse. A stage to which memory is refused has a fault of its own for that,
+-- the source is a program that isn't too large
+abbrev pub IsCompilable : List ℕ → Type 0
+IsCompilable source = (program : Accepted source) × (program_size (program_meant program) ≤ MOST_INSTRS)
+
+-- The refusal reports the fault of a stage, all stages before which have nothing to refuse. Where tokens pass a limit, that is reported (`ReportsLimit`). A stage to which memory is refused has a fault of its own for that,
 -- which says no more of the source.
 pub data IsRefusal (source : List ℕ) (r : Refusal) : Type 0 where
   in_lexing : (f : LexFault) → lexing.IsLexFault source f → Reports (record { number = (lexing.report f).0; name = (lexing.report f).1; at = (lexing.report f).2 }) r → IsRefusal source r
-  in_parsing : (f : ParseFault) (tokens : List Tok) → Tokens source tokens → parsing.IsRefused tokens f → Reports (parse_fault.report f) r → IsRefusal source r
+  in_parsing : (f : ParseFault) (tokens : List Tok) → Tokens source tokens → parsing.IsRefused tokens f → parsing.ReportsLimit tokens f → Reports (parse_fault.report f) r → IsRefusal source r
   in_building : (f : ClassFault) (tree : UnitTree) → Spelled source tree → building.Refuses (broken tree) f → Reports (class_fault.report f) r → IsRefusal source r
   in_checking : (f : CheckFault) (tree : UnitTree) → Spelled source tree → broken tree ≡ [] → checking.Refuses (broken_unit tree) f → Reports (check_fault.report f) r → IsRefusal source r
   in_owning : (f : OwnFault) (tree : UnitTree) → Spelled source tree → broken tree ≡ [] → broken_unit tree ≡ [] → owning.Refuses (ownership.broken tree) f → Reports (own_fault.report f) r → IsRefusal source r

@@ -21,9 +21,8 @@ use Rattle.arc_tool.specs.declared.run.ToolFault.{ToolFault}
 use Rattle.arc_tool.specs.declared.run.ToolFault.TheVariants as tool_fault
 use Rattle.arc_tool.specs.declared.report.Trouble.{Trouble}
 use Rattle.arc_tool.specs.declared.report.Trouble.TheVariants.{Usage, Refused, Memory, Fault, NoHeap, StepsUsed, Io, File}
-use Rattle.arc_source.specs.Accepted.{Accepted}
 use Rattle.arc_tool.specs.Compiled.{Compiles}
-use Rattle.arc_tool.specs.Refused.{IsRefusal}
+use Rattle.arc_tool.specs.Refused.{IsCompilable, IsRefusal}
 use Rattle.arc_tool.specs.Ran.{Answered}
 use Rattle.arc_tool.specs.Traced.{AnsweredTrace}
 use Rattle.arc_tool.specs.Status as outcome
@@ -64,7 +63,7 @@ ended_with stop.StepsUsed = Err StepsUsed
 -- `check` says `ok` of a program, and `code` lists its code
 abbrev pub Obeyed : {R W : Type 0} → (remaining : R → Option (List ℕ)) → (contents : W → Option (List ℕ)) → (writer_failed : Type 0)
     → Command → List ℕ → (steps : ℕ) → Result ℕ Trouble → (i0 i1 : Counted R) → (o0 o1 : Counted W) → Type 0
-Obeyed remaining contents failed Check source steps answer i0 i1 o0 o1 = UnlessRefused source answer (o1 ≡ o0) (Accepted source × Says contents failed (codes "ok\n") answer o0 o1) × (i1 ≡ i0)
+Obeyed remaining contents failed Check source steps answer i0 i1 o0 o1 = UnlessRefused source answer (o1 ≡ o0) (IsCompilable source × Says contents failed (codes "ok\n") answer o0 o1) × (i1 ≡ i0)
 Obeyed remaining contents failed Run source steps answer i0 i1 o0 o1 =
     UnlessRefused source answer ((i1 ≡ i0) × (o1 ≡ o0)) (RunsTo answer (λ a. Answered source steps a (left_in remaining i0) (left_in remaining i1) (held_by contents o0) (held_by contents o1)))
 Obeyed remaining contents failed Trace source steps answer i0 i1 o0 o1 =

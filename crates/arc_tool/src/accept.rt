@@ -1,8 +1,8 @@
 //! Whether a source is a program, for a process that ends right after.
 ghost use Rattle.std.specs.Prelude.{ℕ, List, IfOk, IfErr};
 ghost use Rattle.arc_ast.specs.Tree.{unit_tree};
-ghost use Rattle.arc_source.specs.Accepted.{Accepted, Spelled};
-ghost use Rattle.arc_tool.specs.Refused.{IsRefusal};
+ghost use Rattle.arc_source.specs.Accepted.{Spelled};
+ghost use Rattle.arc_tool.specs.Refused.{IsCompilable, IsRefusal};
 
 use crate::refusal::Refusal;
 use arc_ast::tree::TranslationUnit;
@@ -16,10 +16,10 @@ use arc_parse::parse::parse;
 use std::alloc::Global;
 use std::mem::forget;
 
-/// Whether the source is a program, by the stages of `compile`, of which the last ones only count the instructions; a refusal is that of the
+/// Whether the source is a program that isn't too large, by the stages of `compile`, of which the last ones only count the instructions; a refusal is that of the
 /// first one that refuses. The tokens, the tree and what is made of them aren't given back, which would take a seventh of the time.
 pub(crate) fn accept(alloc: Global, source: &[u8]) -> Result<(), Refusal>
-    ensures accepted { IfOk result (λ _. Accepted source.now) }
+    ensures accepted { IfOk result (λ _. IsCompilable source.now) }
     ensures refused { IfErr result (λ refusal. IsRefusal source.now refusal) }
 {
     let tokens = lex(alloc, source)?;
@@ -32,7 +32,7 @@ pub(crate) fn accept(alloc: Global, source: &[u8]) -> Result<(), Refusal>
 
 /// The same of a tree, whatever source spells it.
 fn accept_tree(alloc: Global, unit: &TranslationUnit) -> Result<(), Refusal>
-    ensures accepted { (source : List ℕ) → Spelled source (unit_tree unit.now) → IfOk result (λ _. Accepted source) }
+    ensures accepted { (source : List ℕ) → Spelled source (unit_tree unit.now) → IfOk result (λ _. IsCompilable source) }
     ensures refused { (source : List ℕ) → Spelled source (unit_tree unit.now) → IfErr result (λ refusal. IsRefusal source refusal) }
 {
     let table = ClassTable::build(alloc, unit)?;

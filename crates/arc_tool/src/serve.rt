@@ -4,10 +4,10 @@ ghost use Rattle.arc_code.specs.Attempts.{HasFailedToRead, HasFailedToWrite};
 ghost use Rattle.arc_code.specs.Counting.{failures_of, inner_of};
 ghost use Rattle.arc_code.specs.Listing.{listing};
 ghost use Rattle.arc_code.specs.Running.{Program};
-ghost use Rattle.arc_source.specs.Accepted.{Accepted};
 ghost use Rattle.arc_tool.specs.Compiled.{Compiles};
 ghost use Rattle.arc_tool.specs.declared.report.Trouble.{Trouble};
 ghost use Rattle.arc_tool.specs.Ran.{Blames};
+ghost use Rattle.arc_tool.specs.Refused.{IsCompilable};
 ghost use Rattle.arc_tool.specs.Served.{Attempted, Obeyed, Prints, Reported, Says, UnlessRefused, device_of, source_or, ended_with};
 
 use crate::accept::accept;
@@ -151,7 +151,7 @@ fn check_source<W: Output>(
     output: &mut Counted<W>,
 ) -> Result<u8, Trouble>
     requires { failures_of output.old < 2 ^ 64 - 1 }
-    ensures checks { UnlessRefused source.now result (output.new ≡ output.old) (Accepted source.now
+    ensures checks { UnlessRefused source.now result (output.new ≡ output.old) (IsCompilable source.now
         × Says W.contents (HasFailedToWrite W.writes W.flushes (inner_of output.new)) (codes "ok\n")
         result output.old output.new) }
     ensures blamed { Blames (device_of result) 0 0 (failures_of output.old) (failures_of output.new) ⊥

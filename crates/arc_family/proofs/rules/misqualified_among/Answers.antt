@@ -10,10 +10,11 @@ use Rattle.arc_family.specs.Fault.{reported}
 use Rattle.arc_family.specs.Rules as rules
 use Rattle.arc_family.proofs.rules.misqualified_among.Goals as goal
 
--- a parameter and those after it
+-- whether a parameter has qualifiers that can't stand
 abbrev wrong : Parameter → Bool
 wrong p = rules.is_misqualified p.qualifiers (type_kind (type_tree p.type_name))
 
+-- a parameter and those after it
 from_here : (all : List Parameter) (i : ℕ) (p : Parameter) → i < length all → p ≡ get_or all i p
     → rules.misqualified_among (parameter_trees (drop i all)) ≡ (if wrong p then Some p.at else rules.misqualified_among (parameter_trees (drop (i + 1) all)))
 from_here all i p l e =

@@ -8,7 +8,7 @@ use Rattle.arc_checked.specs.Checked.{program_of}
 use Rattle.arc_lower.specs.Order.{order}
 use Rattle.arc_lower.specs.Lowered.{lowered}
 use Rattle.arc_tool.specs.Refused.{in_building, in_checking, in_owning, no_memory}
-use Rattle.arc_tool.proofs.Compiling.{accepted, too_long}
+use Rattle.arc_tool.proofs.Compiling.{accepted, small_enough, too_long}
 use Rattle.arc_tool.proofs.accept.accept_tree.Goals as goal
 
 pub returns-in_err-table-clause-refused : goal.returns-in_err-table-clause-refused
@@ -38,9 +38,12 @@ returns-in_err-actions-clause-refused c =
 
 pub returns-clause-accepted : goal.returns-clause-accepted
 returns-clause-accepted c = λ source s.
-    accepted source c.args.unit.now c.in_ok-program.program
+    let program = accepted source c.args.unit.now c.in_ok-program.program
     s c.in_ok-table.ensures.unbroken c.in_ok-program.ensures.unbroken
-    (ap unit_tree c.in_ok-program.ensures.source) c.in_ok-owned.ensures.accepted
+    (ap unit_tree c.in_ok-program.ensures.source) c.in_ok-owned.ensures.accepted in
+    let listed = c.in_ok-actions.ensures ∙ ap lowered (ap program_of c.in_ok-owned.ensures.same ∙ c.in_ok-program.ensures.resolved) in
+    let count = c.len.ensures ∙ c.in_ok-actions.actions.ok.0 ∙ sym (length-map c.in_ok-actions.actions.items order) ∙ ap length listed in
+    small_enough source program c.len.result count c.in_ok-fits.ensures.few
 
 pub returns-in_err-fits-clause-refused : goal.returns-in_err-fits-clause-refused
 returns-in_err-fits-clause-refused c =

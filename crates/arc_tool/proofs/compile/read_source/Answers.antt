@@ -13,7 +13,7 @@ pub returns-in_err-unit-clause-refused : goal.returns-in_err-unit-clause-refused
 returns-in_err-unit-clause-refused c =
     let p = err_from_is_err_and c.from_residual-in_err-unit.result c.from_residual-in_err-unit.ensures.1 in
     let cut = passed c.args.source.now c.in_ok-tokens.tokens.items c.deref.result.now c.deref.ensures.value c.in_ok-tokens.ensures.tokens in
-    rw p.1 (in_parsing c.in_err-unit.field-0.0 (toks c.deref.result.now) cut c.in_err-unit.ensures.refused p.2)
+    rw p.1 (in_parsing c.in_err-unit.field-0.0 (toks c.deref.result.now) cut c.in_err-unit.ensures.refused c.in_err-unit.ensures.reported p.2)
 
 pub returns-clause-read : goal.returns-clause-read
 returns-clause-read c =

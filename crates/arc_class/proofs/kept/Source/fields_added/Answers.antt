@@ -1,12 +1,12 @@
 use Rattle.std.proofs.Common.{◌≡◌, Bool, List, [], true, false, if◌then◌else◌, sym, ap, ◌∙◌}
-use Rattle.arc_ast.specs.Tree.{FieldTree, unit_tree}
+use Rattle.arc_ast.specs.Tree.{unit_tree}
 use Rattle.arc_class.specs.Classes.{class_number}
 use Rattle.arc_class.specs.Fields.{is_number, fields_by}
 use Rattle.arc_class.specs.Table.{class_number_in}
 use Rattle.arc_class.proofs.Rules.{class_number_kept}
 use Rattle.arc_class.proofs.kept.Source.fields_added.Goals as goal
 
-abbrev fields_if : List FieldTree → Bool → List FieldTree
+abbrev fields_if : {X : Type 0} → List X → Bool → List X
 fields_if all b = if b then all else []
 
 pub returns-then-is_number : goal.returns-then-is_number

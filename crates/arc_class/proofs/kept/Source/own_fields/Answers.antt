@@ -2,12 +2,12 @@ use Rattle.std.proofs.Common.{◌≡◌, ◌++◌, Bool, List, [], ◌∷◌, le
 use Rattle.std.proofs.lemmas.List.{append-nil}
 use Rattle.std.proofs.lemmas.Bool.Decides.{nat_tests}
 use Rattle.arc_ast.specs.declared.tree.Field.{Field}
-use Rattle.arc_ast.specs.Tree.{FieldTree, unit_tree, interface_tree, field_trees}
+use Rattle.arc_ast.specs.Tree.{unit_tree, interface_tree, field_trees}
 use Rattle.arc_class.specs.Classes.{class_number, implemented_before}
 use Rattle.arc_class.specs.Fields.{is_number, fields_by, fields_added}
 use Rattle.arc_class.proofs.kept.Source.own_fields.Goals as goal
 
-abbrev in_order : (added declared : List FieldTree) → Bool → List FieldTree
+abbrev in_order : {X : Type 0} → (added declared : List X) → Bool → List X
 in_order added declared b = if b then added ++ declared else declared ++ added
 
 pub returns-then-implemented_before : goal.returns-then-implemented_before
@@ -34,11 +34,11 @@ no_fields : (fields : List Field) → true ≡ nat_eq (length fields) 0 → fiel
 no_fields [] e = refl
 no_fields (f ∷ fields) e = grind (arith, nat_tests)
 
-none_if : (all : List FieldTree) (b : Bool) → all ≡ [] → (if b then all else []) ≡ []
+none_if : {X : Type 0} (all : List X) (b : Bool) → all ≡ [] → (if b then all else []) ≡ []
 none_if all true e = e
 none_if all false e = refl
 
-none_added : (added declared : List FieldTree) (b : Bool) → added ≡ [] → declared ++ [] ≡ in_order added declared b
+none_added : {X : Type 0} (added declared : List X) (b : Bool) → added ≡ [] → declared ++ [] ≡ in_order added declared b
 none_added added declared true e = append-nil declared ∙ sym (ap (λ us. us ++ declared) e)
 none_added added declared false e = ap (λ us. declared ++ us) (sym e)
 
