@@ -1,5 +1,6 @@
 -- The grammar, a line for each of its rules, with the tree that each gives.
 use Rattle.std.specs.Prelude.{ℕ, zero, suc, ℤ, pos, Bool, true, false, ◌+◌, ◌-◌, min, max, List, [], ◌∷◌, ◌++◌, map as list_map, Option, Some, None}
+use Rattle.std.specs.Option.{option_map_or}
 use Rattle.std.specs.Int.{w64, int_wrapping_neg}
 use Rattle.arc_lex.specs.declared.token.Mark.{Mark}
 use Rattle.arc_lex.specs.declared.token.Mark.TheVariants as m
@@ -114,13 +115,9 @@ table =
     record { mark = m.CaretAssign; level = 11; operator = operators.BitXor } ∷
     record { mark = m.BarAssign; level = 11; operator = operators.BitOr } ∷ []
 
-abbrev pub loosest_of : List (Row BinaryOperator) → ℕ
-loosest_of [] = 0
-loosest_of (r ∷ rows) = max r.level (loosest_of rows)
-
 -- the level of the operators that assign
 abbrev pub assigning : ℕ
-assigning = loosest_of table
+assigning = fold (λ l r. max l r.level) 0 table
 
 -- the loosest level of the others
 abbrev pub loosest : ℕ
@@ -520,16 +517,12 @@ returned = map (λ (at, e). Return at e) (key w.Return ⨾ value)
 unfoldable pub controlling : Part ExprTree
 controlling = map (λ (start, (c, end)). c) (the m.OpenParen ⨾ full ⨾ the m.CloseParen)
 
-abbrev pub if_tree : ℕ → ExprTree → StmtTree → Option StmtTree → StmtTree
-if_tree at c a None = If at c a
-if_tree at c a (Some b) = IfElse at c a b
-
 -- an `else` belongs to the nearest `if` that it may belong to (6.8.4.1)
 unfoldable pub otherwise : ℕ → Part (Option StmtTree)
 otherwise d = or_none (word w.Else) (map (λ (other, b). Some b) (into (d + 1) (key w.Else) (call (stmt (d + 1))))) None
 
 unfoldable pub if_else : ℕ → Part StmtTree
-if_else d = map (λ (at, (c, (a, b))). if_tree at c a b) (key w.If ⨾ into (d + 1) controlling (call (stmt (d + 1)) ⨾ otherwise d))
+if_else d = map (λ (at, (c, (a, b))). option_map_or (IfElse at c a) b (If at c a)) (key w.If ⨾ into (d + 1) controlling (call (stmt (d + 1)) ⨾ otherwise d))
 
 unfoldable pub while_do : ℕ → Part StmtTree
 while_do d = map (λ (at, (c, a)). While at Before c a) (key w.While ⨾ into (d + 1) controlling (call (stmt (d + 1))))

@@ -1,9 +1,10 @@
 //! Reads statements.
 ghost use Rattle.std.specs.Prelude.{◌≡◌, ◌<◌, ◌≤◌, length, option_map, IfOk};
+ghost use Rattle.std.specs.Option.{option_map_or};
 ghost use Rattle.arc_lex.specs.Tokens.{toks};
 ghost use Rattle.arc_form.specs.Reader.{Gives, allowed, bind};
 ghost use Rattle.arc_form.specs.Views.{all};
-ghost use Rattle.arc_ast.specs.Tree.{expr_tree, stmt_tree};
+ghost use Rattle.arc_ast.specs.Tree.{If, IfElse, expr_tree, stmt_tree};
 ghost use Rattle.arc_grammar.specs.Grammar.{reads, rules, these};
 ghost use Rattle.arc_grammar.specs.Grammar as grammar;
 ghost use Rattle.arc_grammar.specs.declared.limits.TheConstants.{DEEPEST};
@@ -90,7 +91,7 @@ fn if_statement(
     first: Box<Stmt>,
     second: Option<Box<Stmt>>,
 ) -> Stmt
-    ensures { stmt_tree result ≡ grammar.if_tree at (expr_tree condition.value) (stmt_tree first.value) (option_map (λ b. stmt_tree b.value) second) }
+    ensures { stmt_tree result ≡ option_map_or (IfElse at (expr_tree condition.value) (stmt_tree first.value)) (option_map (λ b. stmt_tree b.value) second) (If at (expr_tree condition.value) (stmt_tree first.value)) }
 {
     match second {
         None => Stmt::If(at, Box::into_inner(condition), first),
