@@ -290,19 +290,9 @@ exprs (a ∷ others) = and_expr a (exprs others)
 abbrev pub add : {A : Type 0} → List A → A → List A
 add all a = all ++ a ∷ []
 
--- further arguments, each after a comma
-unfoldable pub more_arguments : Part (List ExprTree → List ExprTree)
-more_arguments = map (λ others all. fold add all others) (commas (call expr))
-
--- arguments, one or more, and `)`
-unfoldable pub some_arguments : Part (List ExprTree)
-some_arguments = map (λ (a, (make, end)). make (a ∷ [])) (call expr ⨾ more_arguments ⨾ the m.CloseParen)
-
-unfoldable pub no_arguments : Part (List ExprTree)
-no_arguments = map (λ end. []) (the m.CloseParen)
-
+-- arguments, of which there may be none, and `)`
 unfoldable pub given : Part (List ExprTree)
-given = choose (mark m.CloseParen) no_arguments some_arguments
+given = choose (mark m.CloseParen) (map (λ end. []) (the m.CloseParen)) (map (λ (all, end). all) (listed (call expr) ⨾ the m.CloseParen))
 
 -- a call's arguments (6.5.2.2)
 unfoldable pub arguments : Part (ℕ × List ℕ → ExprTree)

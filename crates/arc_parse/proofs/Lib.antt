@@ -4,6 +4,7 @@ pub mod Levels
 pub mod Bound
 pub mod Signatures
 pub mod Fields
+pub mod Given
 pub mod Globals
 pub mod Tops
 pub mod Unit

@@ -2,5 +2,6 @@
 pub mod Declaring
 pub mod Signatures
 pub mod Fields
+pub mod Given
 pub mod Globals
 pub mod Tops

@@ -7,6 +7,7 @@ ghost use Rattle.arc_form.specs.Reader.{Gives, sees};
 ghost use Rattle.arc_form.specs.Views.{all};
 ghost use Rattle.arc_grammar.specs.Grammar.{marks_up_to, reads_free, reads_on, rules};
 ghost use Rattle.arc_grammar.specs.Grammar as grammar;
+ghost use Rattle.arc_parse.specs.private.Given.{arguments_on};
 ghost use Rattle.arc_parse.specs.declared.operator.TheConstants.{ASSIGNING, LOOSEST};
 
 use crate::literal::literal;
@@ -267,7 +268,7 @@ fn named(alloc: Global, reader: &mut Reader) -> Read<Box<Expr>>
 
 /// The arguments of a call, of which there may be none, and `)`.
 #[cycle(exprs)]
-#[tactic(auto, unfolding(arc_grammar::specs::Grammar::given, arc_grammar::specs::Grammar::no_arguments, arc_grammar::specs::Grammar::some_arguments))]
+#[tactic(auto, using(crate::proofs::Given::read_given))]
 fn given(alloc: Global, reader: &mut Reader) -> Read<Vec<Expr>>
     ensures gives { Gives (λ x. all expr_tree x.items) result (toks reader.new.rest.now) (reads_free grammar.given (toks reader.old.rest.now)) }
     ensures shorter { IfOk result (λ _. length reader.new.rest.now < length reader.old.rest.now) }
@@ -285,9 +286,9 @@ fn given(alloc: Global, reader: &mut Reader) -> Read<Vec<Expr>>
 
 /// These arguments and further ones, each after a comma.
 #[cycle(exprs)]
-#[tactic(auto, using(crate::proofs::Fix::read_more_arguments, arc_form::proofs::Joining::all_push))]
+#[tactic(auto, using(crate::proofs::Given::read_more_arguments, arc_form::proofs::Joining::all_push))]
 fn more_arguments(alloc: Global, before: Vec<Expr>, reader: &mut Reader) -> Read<Vec<Expr>>
-    ensures gives { Gives (λ x. all expr_tree x.items) result (toks reader.new.rest.now) (reads_on grammar.more_arguments (all expr_tree before.items) (toks reader.old.rest.now)) }
+    ensures gives { Gives (λ x. all expr_tree x.items) result (toks reader.new.rest.now) (arguments_on (all expr_tree before.items) (toks reader.old.rest.now)) }
     ensures shorter { IfOk result (λ _. length reader.new.rest.now ≤ length reader.old.rest.now) }
 {
     let Some(_) = reader.take(Mark::Comma) else {

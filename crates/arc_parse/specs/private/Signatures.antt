@@ -10,7 +10,7 @@ use Rattle.arc_ast.specs.declared.tree.Qualifiers.TheVariants.{Unqualified}
 use Rattle.arc_lex.specs.declared.token.Mark.TheVariants as m
 use Rattle.arc_grammar.specs.Grammar.{Part, QualifiedType, Typed, reads, enclosed, enclosed_type, after_comma, parameter, parameters, next_typed, selector_of, seconds}
 
-abbrev push : {A : Type 0} → List A → A → List A
+abbrev pub push : {A : Type 0} → List A → A → List A
 push made a = made ++ a ∷ []
 
 -- in parentheses what a function of this name takes, of which `main` is one (C99, section 5.1.2.2.1)
