@@ -5,12 +5,12 @@ use Rattle.arc_lex.specs.Tokens.{Tok}
 use Rattle.arc_lex.specs.declared.token.Mark.TheVariants as m
 use Rattle.arc_lex.specs.declared.token.Word.TheVariants as w
 use Rattle.arc_form.specs.Kinds.{none, ◌∪◌, mark, word}
-use Rattle.arc_form.specs.Form.{Limits, bounded, call, run}
+use Rattle.arc_form.specs.Form.{Limits, ◌⨾◌, bounded, call, run}
 use Rattle.arc_form.proofs.Static.{Facts, passes, holds, decided, Decided, nullable, fits_as, fits, Fits, of_fits}
 use Rattle.arc_form.proofs.Sets.{both}
 use Rattle.arc_form.proofs.Local.{Takes}
 use Rattle.arc_form.proofs.FormLocal.{some_front, read_is}
-use Rattle.arc_grammar.specs.Grammar.{Part, Rule, rules, expr, unary, binary, condition, stmt, after_comma, commas, listed, called, table, begins_suffix, begins_expr, begins_stmt, assigning, loosest, marks_up_to, further, more, up_to, chosen, choice, continued, conditional_expr, perhaps, long_type, one_word, plain_type, class_type, value_type_of, value_type, qualifier, more_qualifiers, qualifiers, some_qualifiers, literal, counting, field_name, suffix, suffixes, given, arguments, named, argument_part, next_part, more_parts, some_parts, parts, sent, to_super, to_object, message, inside, cast_to_plain, cast, product, cast_or_product, parenthesized, primary, postfix, operator_before, signed, counted, prefixed, operations, assigned, updated, operation, expression, full, initial, variable, declared_type, starred_variable, variables, declaration, qualified_declaration, simple, empty, value, returned, controlling, otherwise, if_else, while_do, test_after, do_while, beginning, step, clauses, for_do, breaking, continuing, by_name, item, items, block, statement, parameter, texts_name, texts, second, counted_parameters, listed_parameters, parameters, enclosed, braces, function_body, main_function, other_function, function, plain_constant, negative_constant, constant, first_constant, global, starred_global, globals, enclosed_type, typed, next_typed, typed_parts, selector, sign, result_type, enclosed_result, method_result, method_head, next_head, method_heads, perhaps_semicolon, method, methods, qualified_name, starred_name, typed_fields, qualified_fields, group, groups, fields, interface, implementation, class_names, of_void, typed_top, of_type, typed_globals, of_qualified, external, top, tops, unit, body}
+use Rattle.arc_grammar.specs.Grammar.{Part, Rule, rules, expr, unary, binary, condition, stmt, after_comma, commas, listed, called, table, begins_suffix, begins_expr, begins_stmt, assigning, loosest, marks_up_to, further, more, up_to, chosen, choice, continued, conditional_expr, perhaps, long_type, one_word, plain_type, class_type, value_type_of, value_type, qualifier, more_qualifiers, qualifiers, some_qualifiers, literal, counting, field_name, suffix, suffixes, given, arguments, named, some_parts, parts, sent, to_super, to_object, message, inside, cast_to_plain, cast, product, cast_or_product, parenthesized, primary, postfix, operator_before, signed, counted, prefixed, operations, assigned, updated, operation, expression, full, initial, variable, declared_type, starred_variable, variables, declaration, qualified_declaration, simple, empty, value, returned, controlling, otherwise, if_else, while_do, test_after, do_while, beginning, step, clauses, for_do, breaking, continuing, by_name, item, items, block, statement, parameter, texts_name, texts, second, counted_parameters, listed_parameters, parameters, enclosed, braces, function_body, main_function, other_function, function, plain_constant, negative_constant, constant, first_constant, global, starred_global, globals, enclosed_type, typed, selector, sign, result_type, enclosed_result, method_result, method_head, next_head, method_heads, perhaps_semicolon, method, methods, qualified_name, starred_name, typed_fields, qualified_fields, group, groups, fields, interface, implementation, class_names, of_void, typed_top, of_type, typed_globals, of_qualified, external, top, tops, unit, body}
 use Rattle.arc_grammar.specs.Grammar as grammar
 
 -- an expression whose operators are of a level or tighter
@@ -26,7 +26,7 @@ facts (stmt d) = record { begins = begins_stmt; goes_on = none; bars = word w.El
 
 -- `unfolding lines` opens each line of the grammar, so that the test is a computation.
 unfoldable pub lines : Unit {0}
-unfolding after_comma commas listed table further more up_to chosen choice continued conditional_expr perhaps long_type one_word plain_type class_type value_type_of value_type qualifier more_qualifiers qualifiers some_qualifiers literal counting field_name suffix suffixes given arguments named argument_part next_part more_parts some_parts parts sent to_super to_object message inside cast_to_plain cast product cast_or_product parenthesized primary postfix operator_before signed counted prefixed operations assigned updated operation expression full initial variable declared_type starred_variable variables declaration qualified_declaration simple empty value returned controlling otherwise if_else while_do test_after do_while beginning step clauses for_do breaking continuing by_name item items block statement parameter texts_name texts second counted_parameters listed_parameters parameters enclosed braces function_body main_function other_function function plain_constant negative_constant constant first_constant global starred_global globals enclosed_type typed next_typed typed_parts selector sign result_type enclosed_result method_result method_head next_head method_heads perhaps_semicolon method methods qualified_name starred_name typed_fields qualified_fields group groups fields interface implementation class_names of_void typed_top of_type typed_globals of_qualified external top tops unit body
+unfolding after_comma commas listed table further more up_to chosen choice continued conditional_expr perhaps long_type one_word plain_type class_type value_type_of value_type qualifier more_qualifiers qualifiers some_qualifiers literal counting field_name suffix suffixes given arguments named some_parts parts sent to_super to_object message inside cast_to_plain cast product cast_or_product parenthesized primary postfix operator_before signed counted prefixed operations assigned updated operation expression full initial variable declared_type starred_variable variables declaration qualified_declaration simple empty value returned controlling otherwise if_else while_do test_after do_while beginning step clauses for_do breaking continuing by_name item items block statement parameter texts_name texts second counted_parameters listed_parameters parameters enclosed braces function_body main_function other_function function plain_constant negative_constant constant first_constant global starred_global globals enclosed_type typed selector sign result_type enclosed_result method_result method_head next_head method_heads perhaps_semicolon method methods qualified_name starred_name typed_fields qualified_fields group groups fields interface implementation class_names of_void typed_top of_type typed_globals of_qualified external top tops unit body
 lines = tt
 
 -- what `fits` asks of an operand
@@ -94,7 +94,7 @@ next_declared true = (takes refl refl, takes refl refl, takes refl refl)
 next_declared false = (takes refl refl, takes refl refl, takes refl refl)
 
 -- the parts that loops read
-pub taking : TakesToken grammar.suffix × TakesToken (after_comma (call expr)) × TakesToken grammar.next_part × TakesToken grammar.qualifier × ((d : ℕ) → TakesToken (grammar.item d)) × ((c : Bool) → TakesToken (after_comma (grammar.starred_variable c))) × TakesToken (after_comma grammar.parameter)
-    × TakesToken grammar.next_head × TakesToken grammar.method × TakesToken grammar.next_typed × ((c : Bool) → TakesToken (after_comma (grammar.starred_name c))) × TakesToken grammar.group × TakesToken (after_comma called) × ((c : Bool) → TakesToken (after_comma (grammar.starred_global c))) × TakesToken grammar.top
+pub taking : TakesToken grammar.suffix × TakesToken (after_comma (call expr)) × TakesToken grammar.qualifier × ((d : ℕ) → TakesToken (grammar.item d)) × ((c : Bool) → TakesToken (after_comma (grammar.starred_variable c))) × TakesToken (after_comma grammar.parameter)
+    × TakesToken grammar.next_head × TakesToken grammar.method × TakesToken (called ⨾ grammar.the m.Colon ⨾ typed) × ((c : Bool) → TakesToken (after_comma (grammar.starred_name c))) × TakesToken grammar.group × TakesToken (after_comma called) × ((c : Bool) → TakesToken (after_comma (grammar.starred_global c))) × TakesToken grammar.top
 unfolding lines
-taking = (takes refl refl, takes refl refl, takes refl refl, takes refl refl, λ d. takes refl refl, λ c. (next_declared c).0, takes refl refl, takes refl refl, takes refl refl, takes refl refl, λ c. (next_declared c).1, takes refl refl, takes refl refl, λ c. (next_declared c).2, takes refl refl)
+taking = (takes refl refl, takes refl refl, takes refl refl, λ d. takes refl refl, λ c. (next_declared c).0, takes refl refl, takes refl refl, takes refl refl, takes refl refl, λ c. (next_declared c).1, takes refl refl, takes refl refl, λ c. (next_declared c).2, takes refl refl)

@@ -1,5 +1,6 @@
 -- The grammar, a line for each of its rules, with the tree that each gives.
 use Rattle.std.specs.Prelude.{ℕ, zero, suc, ℤ, pos, Bool, true, false, ◌+◌, ◌-◌, min, max, List, [], ◌∷◌, ◌++◌, map as list_map, Option, Some, None}
+use Rattle.std.specs.List.{flat_map}
 use Rattle.std.specs.Option.{option_map_or}
 use Rattle.std.specs.Int.{w64, int_wrapping_neg}
 use Rattle.arc_lex.specs.declared.token.Mark.{Mark}
@@ -286,10 +287,6 @@ abbrev pub exprs : List ExprTree → ExprTrees
 exprs [] = no_exprs
 exprs (a ∷ others) = and_expr a (exprs others)
 
--- one more at the end
-abbrev pub add : {A : Type 0} → List A → A → List A
-add all a = all ++ a ∷ []
-
 -- arguments, of which there may be none, and `)`
 unfoldable pub given : Part (List ExprTree)
 given = choose (mark m.CloseParen) (map (λ end. []) (the m.CloseParen)) (map (λ (all, end). all) (listed (call expr) ⨾ the m.CloseParen))
@@ -302,49 +299,23 @@ arguments = map (λ (start, all) n. Call n.0 n.1 (exprs all)) (the m.OpenParen �
 unfoldable pub named : Part ExprTree
 named = map (λ (n, make). make n) (called ⨾ choose (mark m.OpenParen) arguments (give (λ n. Name n.0 n.1)))
 
+-- ---- selectors, as messages and heads of methods have them (OPL, "Objects, Classes, and Messaging" and "Defining a Class")
+
+-- after the name of the first part a colon and what it takes, and further parts, each a name, a colon and what it takes:
+-- the bytes of the selector, which has these names and colons, and all that its parts take
+unfoldable pub some_parts : {A : Type 0} → Part A → Part (List ℕ → List ℕ × List A)
+some_parts part = map (λ (colon, (a, others)) first. (first ++ 58 ∷ flat_map (λ (n, _). n.1 ++ 58 ∷ []) others, a ∷ list_map (λ (n, (colon, b)). b) others))
+    (the m.Colon ⨾ part ⨾ many name (called ⨾ the m.Colon ⨾ part))
+
+-- after a name such parts, or none, where the name alone is the selector
+unfoldable pub parts : {A : Type 0} → Part A → Part (List ℕ → List ℕ × List A)
+parts part = choose (mark m.Colon) (some_parts part) (give (λ first. (first, [])))
+
 -- ---- messages (OPL, "Objects, Classes, and Messaging")
 
--- the bytes of a selector's part and of its colon, before further parts
-abbrev pub and_part : List ℕ → List ℕ → List ℕ
-and_part called further = called ++ 58 ∷ further
-
--- the bytes of the parts of a selector
-abbrev pub selector_of : {A : Type 0} → List (List ℕ × A) → List ℕ
-selector_of [] = []
-selector_of (p ∷ others) = and_part p.0 (selector_of others)
-
-abbrev pub seconds : {A : Type 0} → List (List ℕ × A) → List A
-seconds [] = []
-seconds (p ∷ others) = p.1 ∷ seconds others
-
--- the bytes of a selector, and the arguments
-abbrev pub Sent : Type 0
-Sent = List ℕ × List ExprTree
-
--- one more part, with its colon and its argument
-abbrev pub add_part : Sent → List ℕ × ExprTree → Sent
-add_part s p = ((s.0 ++ p.0) ++ 58 ∷ [], add s.1 p.1)
-
--- a colon and an argument
-unfoldable pub argument_part : Part ExprTree
-argument_part = map (λ (colon, a). a) (the m.Colon ⨾ call expr)
-
-unfoldable pub next_part : Part (List ℕ × ExprTree)
-next_part = map (λ (n, a). (n.1, a)) (called ⨾ argument_part)
-
-unfoldable pub more_parts : Part (Sent → Sent)
-more_parts = map (λ others s. fold add_part s others) (many name next_part)
-
-unfoldable pub some_parts : Part (List ℕ → Sent)
-some_parts = map (λ (a, make) first. make (first ++ 58 ∷ [], a ∷ [])) (argument_part ⨾ more_parts)
-
--- what is after the name of the first part
-unfoldable pub parts : Part (List ℕ → Sent)
-parts = choose (mark m.Colon) some_parts (give (λ first. (first, [])))
-
 -- a selector with its arguments, and the place of its first part, and `]`
-unfoldable pub sent : Part (ℕ × Sent)
-sent = map (λ (n, (make, end)). (n.0, make n.1)) (called ⨾ parts ⨾ the m.CloseSquare)
+unfoldable pub sent : Part (ℕ × (List ℕ × List ExprTree))
+sent = map (λ (n, (make, end)). (n.0, make n.1)) (called ⨾ parts (call expr) ⨾ the m.CloseSquare)
 
 unfoldable pub to_super : Part (ℕ → ExprTree)
 to_super = map (λ (super_at, s) at. SendSuper at s.0 super_at s.1.0 (exprs s.1.1)) (key w.Super ⨾ sent)
@@ -675,21 +646,13 @@ globals of_class = map (λ (make, (others, end)) type. make type ∷ list_map (�
 unfoldable pub enclosed_type : Part QualifiedType
 enclosed_type = map (λ (start, (before, (type, (q, end)))). (both_qualifiers before q, type.1)) (the m.OpenParen ⨾ qualifiers ⨾ value_type ⨾ qualifiers ⨾ the m.CloseParen)
 
--- a colon, a type in parentheses, or else `id`, and the parameter's name
+-- a type in parentheses, or else `id`, and the parameter's name
 unfoldable pub typed : Part ParameterTree
-typed = map (λ (colon, (type, n)). parameter_of type.0 type.1 n) (the m.Colon ⨾ choose (mark m.OpenParen) enclosed_type (give (Unqualified, Id)) ⨾ called)
+typed = map (λ (type, n). parameter_of type.0 type.1 n) (choose (mark m.OpenParen) enclosed_type (give (Unqualified, Id)) ⨾ called)
 
-unfoldable pub next_typed : Part (List ℕ × ParameterTree)
-next_typed = map (λ (n, p). (n.1, p)) (called ⨾ typed)
-
-abbrev pub Typed : Type 0
-Typed = List ℕ × List ParameterTree
-
-unfoldable pub typed_parts : Part (List ℕ → Typed)
-typed_parts = map (λ (p, others) first. (and_part first (selector_of others), p ∷ seconds others)) (typed ⨾ many name next_typed)
-
-unfoldable pub selector : Part Typed
-selector = map (λ (n, make). make n.1) (called ⨾ choose (mark m.Colon) typed_parts (give (λ first. (first, []))))
+-- a selector with its parameters
+unfoldable pub selector : Part (List ℕ × List ParameterTree)
+selector = map (λ (n, make). make n.1) (called ⨾ parts typed)
 
 -- `+` or `-`, with its place
 unfoldable pub sign : Part (ℕ × Sign)
@@ -855,10 +818,10 @@ tops = many begins_top top
 -- a unit, and after it one thing more
 abbrev pub and_top : UnitTree → TopTree → UnitTree
 and_top u OfNames = u
-and_top u (OfFunction f) = record u { functions = add u.functions f }
+and_top u (OfFunction f) = record u { functions = u.functions ++ f ∷ [] }
 and_top u (OfGlobals all) = record u { globals = u.globals ++ all }
-and_top u (OfInterface i) = record u { interfaces = add u.interfaces i }
-and_top u (OfImplementation i) = record u { implementations = add u.implementations i }
+and_top u (OfInterface i) = record u { interfaces = u.interfaces ++ i ∷ [] }
+and_top u (OfImplementation i) = record u { implementations = u.implementations ++ i ∷ [] }
 
 abbrev pub empty_unit : UnitTree
 empty_unit = record { functions = []; globals = []; interfaces = []; implementations = [] }

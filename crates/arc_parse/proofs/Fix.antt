@@ -4,7 +4,6 @@ use Rattle.arc_lex.specs.Tokens.{Tok}
 use Rattle.arc_ast.specs.declared.tree.BinaryOperator.TheVariants as operators
 use Rattle.arc_ast.specs.Tree.{ExprTree, Binary, begins}
 use Rattle.arc_form.specs.Form.{unlimited}
-use Rattle.arc_form.specs.Kinds.{name}
 use Rattle.arc_form.specs.Reader.{◌>>=◌, ret, sees, if_sees, take_one}
 use Rattle.arc_form.specs.Operators.{marks_at, placed_operator}
 use Rattle.arc_form.proofs.Binding.{bind_twice, pair_then}
@@ -12,7 +11,7 @@ use Rattle.arc_form.proofs.Joining.{joined_is}
 use Rattle.arc_form.proofs.Sets.{sees_neither}
 use Rattle.arc_form.proofs.Local.{Takes, weaker, then, takes_token, takes_ret}
 use Rattle.arc_form.proofs.FormLocal.{read_is, fronts}
-use Rattle.arc_grammar.specs.Grammar.{Sent, rules, reads_free, reads_on, body, binary, table, assigning, marks_up_to, join, further, more, up_to, choice, continued, operations, begins_suffix, suffix, suffixes, next_part, more_parts, add_part}
+use Rattle.arc_grammar.specs.Grammar.{rules, reads_free, reads_on, body, binary, table, assigning, marks_up_to, join, further, more, up_to, choice, continued, operations, begins_suffix, suffix, suffixes}
 use Rattle.arc_grammar.proofs.Fits.{facts, sure, taking}
 use Rattle.arc_grammar.proofs.Loops.{one_more_on}
 use Rattle.arc_parse.specs.declared.operator.TheConstants.{ASSIGNING, LOOSEST}
@@ -59,14 +58,9 @@ read_past (suc l) left ts s =
     let p = sees_neither (marks_up_to l) (marks_at (suc l) table) ts s in
     up_one l left ts ∙ rw (read_past l left ts p.0) (read_more (suc l) left ts ∙ rw p.1 refl)
 
--- the suffixes after an operand, and further parts of a selector, one by one
+-- the suffixes after an operand, one by one
 pub read_suffixes : (operand : ExprTree) (ts : List Tok)
     → reads_on suffixes operand ts ≡ if_sees begins_suffix (reads_on suffix operand >>= (λ whole. reads_on suffixes whole)) (ret operand) ts
 unfolding suffixes
 read_suffixes operand ts = one_more_on begins_suffix suffix (λ a make. make a) (search taking) operand ts
     ∙ ap (λ y. cond (sees begins_suffix ts) y (ret operand ts)) (sym (bind_twice (reads_free suffix ts) (λ make. ret (make operand)) (λ whole. reads_on suffixes whole)))
-
-pub read_more_parts : (before : Sent) (ts : List Tok)
-    → reads_on more_parts before ts ≡ if_sees name (reads_free next_part >>= (λ p. reads_on more_parts (add_part before p))) (ret before) ts
-unfolding more_parts
-read_more_parts = one_more_on name next_part add_part (search taking)

@@ -1,22 +1,21 @@
--- What reads the rest of a function, and the parts of a selector, which a loop appends to those that are there.
-use Rattle.std.proofs.Common.{◌≡◌, ℕ, List, [], ◌∷◌, ◌++◌, append_assoc, append-nil, bytes_eq, Bool, true, false, cond, ◌&&◌, Ok, Err, refl, sym, ap, ap₂, ◌∙◌, if◌then◌else◌}
+-- What reads the rest of a function, its parameters, and heads of methods.
+use Rattle.std.proofs.Common.{◌≡◌, ℕ, List, [], ◌∷◌, ◌++◌, bytes_eq, Bool, true, false, cond, ◌&&◌, Ok, Err, refl, sym, ap, ap₂, ◌∙◌, if◌then◌else◌}
 use Rattle.arc_lex.specs.declared.token.Mark.TheVariants as m
 use Rattle.arc_lex.specs.declared.token.Word.TheVariants as w
 use Rattle.arc_ast.specs.declared.tree.Qualifiers.TheVariants.{Unqualified}
 use Rattle.arc_lex.specs.Tokens.{Tok, Sort, Name, Integer, Text, Key, At, Sign, Unused}
 use Rattle.arc_ast.specs.Tree.{ParameterTree, ParametersTree, Listed, Int, HeadTree, ResultTree, FunctionTree}
 use Rattle.arc_form.specs.Kinds.{main_bytes, kind, name, mark, word, ◌∪◌}
-use Rattle.arc_form.specs.Operators.{fold}
 use Rattle.arc_form.specs.Reader.{Read, Reader, bind, ◌>>=◌, ret, take_one, from, sees, if_sees, sees_two, bytes_of, named}
 use Rattle.arc_form.specs.Joining.{joining}
 use Rattle.arc_form.proofs.Sets.{name_has}
 use Rattle.arc_form.proofs.Binding.{bind_twice, bind_if, bind_alike}
 use Rattle.arc_form.proofs.Joining.{push}
-use Rattle.arc_grammar.specs.Grammar.{Typed, reads, enclosed, with_result, listed, parameter, parameter_of, second, texts, begins_method, next_head, method_head, counted_parameters, listed_parameters, parameters, begins_qualified_type, function_body, main_function, other_function, function, typed, next_typed, typed_parts, selector_of, seconds}
+use Rattle.arc_grammar.specs.Grammar.{reads, enclosed, with_result, listed, parameter, parameter_of, second, texts, begins_method, next_head, method_head, counted_parameters, listed_parameters, parameters, begins_qualified_type, function_body, main_function, other_function, function}
 use Rattle.arc_grammar.proofs.Fits.{taking}
 use Rattle.arc_grammar.proofs.Loops.{one_more, listed_after}
 use Rattle.arc_parse.specs.private.Declaring.{reads_after}
-use Rattle.arc_parse.specs.private.Signatures.{enclosed_to, parameters_on, more_typed}
+use Rattle.arc_parse.specs.private.Signatures.{enclosed_to, parameters_on}
 
 abbrev pub by_name : ResultTree → Reader FunctionTree
 by_name type = take_one name named >>= (λ n. reads (enclosed_to n.1) >>= (λ ps. reads function_body >>= (λ b. ret (with_result (n, (ps, b)) type))))
@@ -43,32 +42,6 @@ read_function type (t ∷ ts) = go t.sort refl
     go (At w) e = rw e refl
     go (Sign m) e = rw e refl
     go Unused e = rw e refl
-
--- one part more, with its parameter
-abbrev and_typed : Typed → List ℕ × ParameterTree → Typed
-and_typed s p = ((s.0 ++ p.0) ++ 58 ∷ [], s.1 ++ p.1 ∷ [])
-
-fold_typed : (s : Typed) (others : List (List ℕ × ParameterTree)) → fold and_typed s others ≡ (s.0 ++ selector_of others, s.1 ++ seconds others)
-fold_typed s [] = ap₂ (λ a b. (a, b)) (sym (append-nil s.0)) (sym (append-nil s.1))
-fold_typed s (p ∷ others) = fold_typed (and_typed s p) others ∙ ap₂ (λ a b. (a, b)) (simp append_assoc) (append_assoc s.1 (p.1 ∷ []) (seconds others))
-
--- these parts, and then those that are read
-abbrev pub typed_on : Typed → Reader Typed
-typed_on = joining name (reads next_typed) and_typed
-
-pub begin_typed : (s : Typed) (ts : List Tok) → reads_after more_typed s ts ≡ typed_on s ts
-unfolding more_typed
-begin_typed s ts = simp (bind_twice, fold_typed)
-
--- one part more, or none
-pub next_part : (s : Typed) (ts : List Tok) → typed_on s ts ≡ if_sees name (take_one name named >>= (λ n. reads typed >>= (λ p. typed_on (and_typed s (n.1, p))))) (ret s) ts
-unfolding next_typed
-next_part s ts = one_more name next_typed and_typed (search taking) s ts ∙ ap (λ y. cond (sees name ts) y (ret s ts)) (simp bind_twice)
-
--- the first part, and then further ones
-pub read_typed_parts : (first : List ℕ) (ts : List Tok) → reads_after typed_parts first ts ≡ (reads typed >>= (λ p us. reads_after more_typed (first ++ 58 ∷ [], p ∷ []) us)) ts
-unfolding typed_parts more_typed
-read_typed_parts first ts = simp (bind_twice, append_assoc)
 
 -- one parameter or more after these
 read_after : (made : List ParameterTree) (ts : List Tok) → (reads (listed parameter) >>= (λ others. ret (Listed (made ++ others)))) ts ≡ parameters_on made ts

@@ -2,12 +2,12 @@
 ghost use Rattle.std.specs.Prelude.{◌≡◌, ◌<◌, ◌≤◌, false, length, IfOk};
 ghost use Rattle.arc_lex.specs.Tokens.{toks};
 ghost use Rattle.arc_ast.specs.Tree.{expr_tree};
-ghost use Rattle.arc_form.specs.Form.{unlimited};
+ghost use Rattle.arc_form.specs.Form.{call, unlimited};
 ghost use Rattle.arc_form.specs.Reader.{Gives, sees};
 ghost use Rattle.arc_form.specs.Views.{all};
 ghost use Rattle.arc_grammar.specs.Grammar.{marks_up_to, reads_free, reads_on, rules};
 ghost use Rattle.arc_grammar.specs.Grammar as grammar;
-ghost use Rattle.arc_parse.specs.private.Given.{arguments_on};
+ghost use Rattle.arc_parse.specs.private.Given.{arguments_on, parts_on};
 ghost use Rattle.arc_parse.specs.declared.operator.TheConstants.{ASSIGNING, LOOSEST};
 
 use crate::literal::literal;
@@ -332,9 +332,9 @@ fn sent(alloc: Global, reader: &mut Reader) -> Read<(usize, Vec<u8>, Vec<Expr>)>
 
 /// What is after the name of a selector's first part: its argument, if it takes one, and further parts.
 #[cycle(exprs)]
-#[tactic(auto, unfolding(arc_grammar::specs::Grammar::parts, arc_grammar::specs::Grammar::some_parts, arc_grammar::specs::Grammar::argument_part))]
+#[tactic(auto, using(crate::proofs::Given::read_parts))]
 fn parts(alloc: Global, first: Vec<u8>, reader: &mut Reader) -> Read<(Vec<u8>, Vec<Expr>)>
-    ensures gives { Gives (λ x. (x.0.items, all expr_tree x.1.items)) result (toks reader.new.rest.now) (reads_on grammar.parts first.items (toks reader.old.rest.now)) }
+    ensures gives { Gives (λ x. (x.0.items, all expr_tree x.1.items)) result (toks reader.new.rest.now) (reads_on (grammar.parts (call grammar.expr)) first.items (toks reader.old.rest.now)) }
     ensures shorter { IfOk result (λ _. length reader.new.rest.now ≤ length reader.old.rest.now) }
 {
     let mut all = Vec::new(alloc);
@@ -350,14 +350,14 @@ fn parts(alloc: Global, first: Vec<u8>, reader: &mut Reader) -> Read<(Vec<u8>, V
 
 /// This selector and these arguments, and further parts with theirs.
 #[cycle(exprs)]
-#[tactic(auto, using(crate::proofs::Fix::read_more_parts, arc_form::proofs::Joining::all_push), unfolding(arc_grammar::specs::Grammar::next_part, arc_grammar::specs::Grammar::argument_part))]
+#[tactic(auto, using(crate::proofs::Given::read_more_parts, arc_form::proofs::Joining::all_push))]
 fn more_parts(
     alloc: Global,
     before: Vec<u8>,
     given: Vec<Expr>,
     reader: &mut Reader,
 ) -> Read<(Vec<u8>, Vec<Expr>)>
-    ensures gives { Gives (λ x. (x.0.items, all expr_tree x.1.items)) result (toks reader.new.rest.now) (reads_on grammar.more_parts (before.items, all expr_tree given.items) (toks reader.old.rest.now)) }
+    ensures gives { Gives (λ x. (x.0.items, all expr_tree x.1.items)) result (toks reader.new.rest.now) (parts_on unlimited (call grammar.expr) (before.items, all expr_tree given.items) (toks reader.old.rest.now)) }
     ensures shorter { IfOk result (λ _. length reader.new.rest.now ≤ length reader.old.rest.now) }
 {
     if !reader.sees_name() {

@@ -6,9 +6,10 @@ ghost use Rattle.arc_lex.specs.declared.token.Mark.TheVariants as m;
 ghost use Rattle.arc_form.specs.Kinds as kinds;
 ghost use Rattle.arc_form.specs.Reader.{Gives, sees};
 ghost use Rattle.arc_form.specs.Views.{all};
-ghost use Rattle.arc_grammar.specs.Grammar.{reads};
+ghost use Rattle.arc_grammar.specs.Grammar.{reads, these};
 ghost use Rattle.arc_grammar.specs.Grammar as grammar;
 ghost use Rattle.arc_parse.specs.private.Declaring.{reads_after};
+ghost use Rattle.arc_parse.specs.private.Given.{parts_on};
 ghost use Rattle.arc_parse.specs.private.Signatures as signatures;
 
 use crate::function::braces;
@@ -150,7 +151,7 @@ fn sign(reader: &mut Reader) -> Read<(usize, Sign)>
 type Typed = (Vec<u8>, Vec<Parameter>);
 
 /// A selector, and the parameters.
-#[tactic(auto, unfolding(arc_grammar::specs::Grammar::selector))]
+#[tactic(auto, unfolding(arc_grammar::specs::Grammar::selector, arc_grammar::specs::Grammar::parts))]
 fn selector(alloc: Global, reader: &mut Reader) -> Read<Typed>
     ensures gives { Gives (λ x. (x.0.items, all parameter_tree x.1.items)) result (toks reader.new.rest.now) (reads grammar.selector (toks reader.old.rest.now)) }
     ensures shorter { IfOk result (λ _. length reader.new.rest.now < length reader.old.rest.now) }
@@ -163,13 +164,14 @@ fn selector(alloc: Global, reader: &mut Reader) -> Read<Typed>
 }
 
 /// The selector whose first part has this name, and the parameters, one or more.
-#[tactic(auto, using(crate::proofs::Signatures::read_typed_parts))]
+#[tactic(auto, using(crate::proofs::Given::read_typed_parts))]
 fn typed_parts(alloc: Global, first: Vec<u8>, reader: &mut Reader) -> Read<Typed>
-    ensures gives { Gives (λ x. (x.0.items, all parameter_tree x.1.items)) result (toks reader.new.rest.now) (reads_after grammar.typed_parts first.items (toks reader.old.rest.now)) }
+    ensures gives { Gives (λ x. (x.0.items, all parameter_tree x.1.items)) result (toks reader.new.rest.now) (reads_after (grammar.some_parts grammar.typed) first.items (toks reader.old.rest.now)) }
     ensures shorter { IfOk result (λ _. length reader.new.rest.now < length reader.old.rest.now) }
 {
     let mut selector = first;
     let mut all = Vec::new(alloc);
+    reader.expect(Mark::Colon)?;
     let parameter = typed(alloc, reader)?;
     selector.push(b':')?;
     keep(&mut all, parameter)?;
@@ -177,20 +179,21 @@ fn typed_parts(alloc: Global, first: Vec<u8>, reader: &mut Reader) -> Read<Typed
 }
 
 /// This selector and these parameters, and further parts with theirs.
-#[tactic(auto, using(crate::proofs::Signatures::begin_typed, crate::proofs::Signatures::next_part, arc_form::proofs::Joining::all_push))]
+#[tactic(auto, using(crate::proofs::Given::read_more_typed, arc_form::proofs::Joining::all_push))]
 fn more_typed(
     alloc: Global,
     before: Vec<u8>,
     given: Vec<Parameter>,
     reader: &mut Reader,
 ) -> Read<Typed>
-    ensures gives { Gives (λ x. (x.0.items, all parameter_tree x.1.items)) result (toks reader.new.rest.now) (reads_after signatures.more_typed (before.items, all parameter_tree given.items) (toks reader.old.rest.now)) }
+    ensures gives { Gives (λ x. (x.0.items, all parameter_tree x.1.items)) result (toks reader.new.rest.now) (parts_on these grammar.typed (before.items, all parameter_tree given.items) (toks reader.old.rest.now)) }
     ensures shorter { IfOk result (λ _. length reader.new.rest.now ≤ length reader.old.rest.now) }
 {
     let mut selector = before;
     let mut all = given;
     'parts: while reader.sees_name() {
         let (_, called) = reader.name(alloc)?;
+        reader.expect(Mark::Colon)?;
         let parameter = typed(alloc, reader)?;
         and_part(&mut selector, &called)?;
         keep(&mut all, parameter)?;
@@ -217,13 +220,12 @@ fn parameter_type(alloc: Global, reader: &mut Reader) -> Read<QualifiedType>
     Ok((before.both(after), type_name))
 }
 
-/// A colon, perhaps a type in parentheses, and a name
+/// Perhaps a type in parentheses, and a name
 #[tactic(auto, unfolding(arc_grammar::specs::Grammar::typed))]
 fn typed(alloc: Global, reader: &mut Reader) -> Read<Parameter>
     ensures gives { Gives parameter_tree result (toks reader.new.rest.now) (reads grammar.typed (toks reader.old.rest.now)) }
     ensures shorter { IfOk result (λ _. length reader.new.rest.now < length reader.old.rest.now) }
 {
-    reader.expect(Mark::Colon)?;
     let (qualifiers, type_name) = parameter_type(alloc, reader)?;
     let (at, name) = reader.name(alloc)?;
     Ok(parameter_of(qualifiers, type_name, at, name))

@@ -1,14 +1,14 @@
 -- What functions promise that read a part of a function's or a method's signature.
 use Rattle.std.specs.Prelude.{ℕ, List, ◌∷◌, ◌++◌, [], bytes_eq}
 use Rattle.arc_ast.specs.Tree.{ParameterTree, ParametersTree, Listed}
-use Rattle.arc_form.specs.Kinds.{main_bytes, name, mark}
-use Rattle.arc_form.specs.Form.{map, many, choose, give}
+use Rattle.arc_form.specs.Kinds.{main_bytes, mark}
+use Rattle.arc_form.specs.Form.{choose, give}
 use Rattle.arc_form.specs.Joining.{joining}
 use Rattle.arc_form.specs.Reader.{Reader, ◌>>=◌, ret}
 use Rattle.arc_ast.specs.Tree.{Id}
 use Rattle.arc_ast.specs.declared.tree.Qualifiers.TheVariants.{Unqualified}
 use Rattle.arc_lex.specs.declared.token.Mark.TheVariants as m
-use Rattle.arc_grammar.specs.Grammar.{Part, QualifiedType, Typed, reads, enclosed, enclosed_type, after_comma, parameter, parameters, next_typed, selector_of, seconds}
+use Rattle.arc_grammar.specs.Grammar.{Part, QualifiedType, reads, enclosed, enclosed_type, after_comma, parameter, parameters}
 
 abbrev pub push : {A : Type 0} → List A → A → List A
 push made a = made ++ a ∷ []
@@ -27,7 +27,3 @@ parameters_on made = listed_on made >>= (λ all. ret (Listed all))
 -- in parentheses the type of a parameter of a method, or else `id`
 abbrev pub parameter_type : Reader QualifiedType
 parameter_type = reads (choose (mark m.OpenParen) enclosed_type (give (Unqualified, Id)))
-
--- further parts of a selector with their parameters, after those that are there (OPL, "Defining a Class")
-unfoldable pub more_typed : Part (Typed → Typed)
-more_typed = map (λ others s. (s.0 ++ selector_of others, s.1 ++ seconds others)) (many name next_typed)
