@@ -697,24 +697,12 @@ methods = many begins_method method
 abbrev pub QualifiedName : Type 0
 QualifiedName = Qualifiers × (ℕ × List ℕ)
 
--- what stands among the fields of a class: a word on those after it, or names of fields of one type
-pub data FieldGroup : Type 0 where
-  OfWord : Visibility → FieldGroup
-  OfType : QualifiedType → List QualifiedName → FieldGroup
+-- how the fields after these are visible, and these fields
+abbrev pub Fields : Type 0
+Fields = Visibility × List FieldTree
 
 abbrev pub field_of : Visibility → QualifiedType → QualifiedName → FieldTree
 field_of v type (q, n) = record { at = n.0; type = type.1; qualifiers = both_qualifiers type.0 q; name = n.1; visibility = v }
-
--- fields of this type and these names that are visible so, and then others
-abbrev pub named_fields : Visibility → QualifiedType → List QualifiedName → List FieldTree → List FieldTree
-named_fields v type [] others = others
-named_fields v type (n ∷ names) others = field_of v type n ∷ named_fields v type names others
-
--- the fields of these groups, of which those before a word are visible so
-abbrev pub fields_of : Visibility → List FieldGroup → List FieldTree
-fields_of v [] = []
-fields_of v (OfWord other ∷ groups) = fields_of other groups
-fields_of v (OfType type names ∷ groups) = named_fields v type names (fields_of v groups)
 
 abbrev pub visibility_of : Sort → Visibility
 visibility_of (tokens.At words.Private) = seen.Private
@@ -732,21 +720,23 @@ unfoldable pub starred_name : Bool → Part QualifiedName
 starred_name of_class = after_star of_class qualified_name
 
 -- a type, names and `;`, after qualifiers
-unfoldable pub typed_fields : Bool → Part (Qualifiers → FieldGroup)
-typed_fields of_class = map (λ (type, (names, end)) q. OfType (q, type.1) names) (declared_type of_class ⨾ listed (starred_name of_class) ⨾ the m.Semicolon)
+unfoldable pub typed_fields : Bool → Part (Qualifiers → Fields → Fields)
+typed_fields of_class = map (λ (type, (names, end)) q (v, all). (v, all ++ list_map (field_of v (q, type.1)) names))
+    (declared_type of_class ⨾ listed (starred_name of_class) ⨾ the m.Semicolon)
 
-unfoldable pub qualified_fields : Part FieldGroup
+unfoldable pub qualified_fields : Part (Fields → Fields)
 qualified_fields = map (λ (q, make). make q) (qualifiers ⨾ choose name (typed_fields true) (typed_fields false))
 
-unfoldable pub group : Part FieldGroup
-group = choose begins_qualified_type qualified_fields (map OfWord (token begins_visibility (λ t. visibility_of t.sort)))
+-- fields of one type, or a word on those after it
+unfoldable pub group : Part (Fields → Fields)
+group = choose begins_qualified_type qualified_fields (token begins_visibility (λ t (v, all). (visibility_of t.sort, all)))
 
-unfoldable pub groups : Part (List FieldGroup)
+unfoldable pub groups : Part (List (Fields → Fields))
 groups = many (begins_qualified_type ∪ begins_visibility) group
 
 -- no fields, or braces with them; those before any word are visible so
 unfoldable pub fields : Visibility → Part (List FieldTree)
-fields v = choose (mark m.OpenBrace) (map (λ (start, (all, end)). fields_of v all) (the m.OpenBrace ⨾ groups ⨾ the m.CloseBrace)) (give [])
+fields v = choose (mark m.OpenBrace) (map (λ (start, (all, end)). (fold (λ s make. make s) (v, []) all).1) (the m.OpenBrace ⨾ groups ⨾ the m.CloseBrace)) (give [])
 
 -- ---- classes (OPL, "Defining a Class")
 

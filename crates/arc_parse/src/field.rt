@@ -8,7 +8,7 @@ ghost use Rattle.arc_form.specs.Kinds as kinds;
 ghost use Rattle.arc_form.specs.Reader.{Gives, sees, take_one};
 ghost use Rattle.arc_grammar.specs.Grammar.{reads};
 ghost use Rattle.arc_grammar.specs.Grammar as grammar;
-ghost use Rattle.arc_parse.specs.private.Fields.{begins_group, names_on, typed_fields_on, group_on};
+ghost use Rattle.arc_parse.specs.private.Fields.{begins_group, fields_of, names_on, typed_fields_on, group_on};
 
 use crate::name::{QualifiedName, starred_name};
 use crate::qualifier::qualifiers;
@@ -38,7 +38,7 @@ pub fn fields(alloc: Global, first: Visibility, reader: &mut Reader) -> Read<Vec
 /// Fields and words on those after them, as many as there are; the fields before any word are visible so.
 #[tactic(auto, using(crate::proofs::Fields::read_groups_on, crate::proofs::Fields::groups_start))]
 fn groups(alloc: Global, first: Visibility, reader: &mut Reader) -> Read<Vec<Field>>
-    ensures gives { Gives (λ x. field_trees x.items) result (toks reader.new.rest.now) (reads (map (grammar.fields_of first) grammar.groups) (toks reader.old.rest.now)) }
+    ensures gives { Gives (λ x. field_trees x.items) result (toks reader.new.rest.now) (reads (map (fields_of first) grammar.groups) (toks reader.old.rest.now)) }
     ensures shorter { IfOk result (λ _. length reader.new.rest.now ≤ length reader.old.rest.now) }
 {
     let mut all = Vec::new(alloc);

@@ -7,8 +7,9 @@ use Rattle.arc_ast.specs.declared.tree.Qualifiers.{Qualifiers}
 use Rattle.arc_form.specs.Kinds.{Kinds, ◌∪◌, mark}
 use Rattle.arc_form.specs.Operators.{fold}
 use Rattle.arc_form.specs.Reader.{Reader, ◌>>=◌, ret, take_one, from}
-use Rattle.arc_grammar.specs.Grammar.{QualifiedType, QualifiedName, FieldGroup, OfWord, OfType, field_of, reads, declared_type, begins_qualified_type, after_comma, called, starred_name, group, begins_visibility}
+use Rattle.arc_grammar.specs.Grammar.{QualifiedType, QualifiedName, Fields, field_of, reads, declared_type, begins_qualified_type, after_comma, called, starred_name, group, begins_visibility}
 use Rattle.arc_form.specs.Joining.{joining}
+use Rattle.arc_parse.specs.private.Declaring.{reads_after}
 
 -- what a group of fields begins with
 abbrev pub begins_group : Kinds
@@ -18,10 +19,9 @@ begins_group = begins_qualified_type ∪ begins_visibility
 abbrev pub add_field : Visibility → QualifiedType → List FieldTree → QualifiedName → List FieldTree
 add_field v type made n = made ++ field_of v type n ∷ []
 
--- how fields are visible after a group, and the fields up to its end
-abbrev pub add_group : Visibility × List FieldTree → FieldGroup → Visibility × List FieldTree
-add_group s (OfWord v) = (v, s.1)
-add_group s (OfType type names) = (s.0, fold (add_field s.0 type) s.1 names)
+-- the fields of these groups, of which those before any word are visible so
+abbrev pub fields_of : Visibility → List (Fields → Fields) → List FieldTree
+fields_of v all = (fold (λ s make. make s) (v, []) all).1
 
 -- these fields and further ones of this type
 abbrev pub names_on : Bool → Visibility → QualifiedType → List FieldTree → Reader (List FieldTree)
@@ -33,8 +33,8 @@ typed_fields_on of_class v q made = reads (declared_type of_class) >>= (λ type.
     >>= (λ n. names_on of_class v (q, type.1) (add_field v (q, type.1) made n) >>= (λ all. take_one (mark m.Semicolon) from >>= (λ end. ret all))))
 
 -- these fields and those of a group
-abbrev pub group_on : Visibility × List FieldTree → Reader (Visibility × List FieldTree)
-group_on s = reads group >>= (λ g. ret (add_group s g))
+abbrev pub group_on : Fields → Reader Fields
+group_on = reads_after group
 
 abbrev pub skip : Unit {0} → ℕ × List ℕ → Unit {0}
 skip u n = tt

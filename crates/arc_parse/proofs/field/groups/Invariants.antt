@@ -1,7 +1,8 @@
 use Rattle.arc_ast.specs.Tree.{field_trees}
 use Rattle.arc_form.specs.Form.{map}
-use Rattle.arc_grammar.specs.Grammar.{reads, fields_of, groups}
+use Rattle.arc_grammar.specs.Grammar.{reads, groups}
 use Rattle.arc_grammar.proofs.Loops.{length, SoFar}
+use Rattle.arc_parse.specs.private.Fields.{fields_of}
 use Rattle.arc_parse.proofs.Fields.{groups_on}
 use Rattle.arc_parse.proofs.field.groups.Given as goal
 
