@@ -60,7 +60,7 @@ left_of (answer.Broken Read) = Unread
 left_of (answer.Broken Write) = Stopped stop.StepsUsed
 left_of answer.NoHeap = Stopped stop.NoHeap
 
-seen_of : (a : Answer) (s : State) (i : List ℕ) (t : List Event) → run_seen (reached a s i t) ≡ record { trace = t; stop = stop_seen (left_of a) }
+pub seen_of : (a : Answer) (s : State) (i : List ℕ) (t : List Event) → run_seen (reached a s i t) ≡ record { trace = t; stop = stop_seen (left_of a) }
 seen_of answer.Going s i t = refl
 seen_of (answer.Ended n) s i t = refl
 seen_of (answer.Faulted f) s i t = refl
@@ -147,7 +147,7 @@ pub takes_so : (p : Program) (made : ℕ) (taken rest : List ℕ) (a : Answer) (
 takes_so p made taken rest a s t run = ap rest_of run ∙ reached_rest a s rest t
 
 -- a run that has no room for an object goes on with one, and one whose reader fails goes on with a step that reads
-goes_on_so : (p : Program) (run : Reached State) (a : Answer) (s : State) (i : List ℕ) (t : List Event) → run ≡ reached a s i t → (a ≡ answer.NoHeap → slice_get p.instrs s.at ≡ Some (Plain Alloc)) → (a ≡ answer.Broken Read → IsAsking (step p s)) → GoesOn (left_of a) p run
+pub goes_on_so : (p : Program) (run : Reached State) (a : Answer) (s : State) (i : List ℕ) (t : List Event) → run ≡ reached a s i t → (a ≡ answer.NoHeap → slice_get p.instrs s.at ≡ Some (Plain Alloc)) → (a ≡ answer.Broken Read → IsAsking (step p s)) → GoesOn (left_of a) p run
 goes_on_so p run answer.Going s i t is makes asks = tt
 goes_on_so p run (answer.Ended n) s i t is makes asks = tt
 goes_on_so p run (answer.Faulted f) s i t is makes asks = tt
