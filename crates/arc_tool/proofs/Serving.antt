@@ -1,6 +1,7 @@
 -- What the program answers where a stage before the end refuses, or a device fails.
-use Rattle.std.proofs.Common.{◌≡◌, ℕ, List, Result, Err, refl, sym, subst, ⊎_elim}
+use Rattle.std.proofs.Common.{◌≡◌, ℕ, List, Result, Ok, Err, refl, sym, subst, ⊎_elim}
 use Rattle.arc_machine.specs.declared.stop.Stop.{Stop}
+use Rattle.arc_machine.specs.declared.stop.Stop.TheVariants as stop
 use Rattle.arc_tool.specs.declared.refusal.Refusal.{Refusal}
 use Rattle.arc_tool.specs.declared.report.Trouble.{Trouble}
 use Rattle.arc_tool.specs.declared.report.Trouble.TheVariants as trouble
@@ -10,7 +11,7 @@ use Rattle.arc_tool.specs.Refused.{IsRefusal}
 use Rattle.arc_tool.specs.Reports.{Becomes}
 use Rattle.arc_tool.specs.Ran.{Untouched, Blames, blamed}
 use Rattle.arc_tool.specs.Status.{trouble_of}
-use Rattle.arc_tool.specs.Served.{RunsTo, UnlessRefused, device_of}
+use Rattle.arc_tool.specs.Served.{RunsTo, UnlessRefused, device_of, ended_with}
 
 pub refused_so : (source : List ℕ) (r : Refusal) (t : Trouble) (kept done : Type 0) → IsRefusal source r → Becomes trouble.Memory trouble.Refused r t → kept → UnlessRefused source (Err t) kept done
 refused_so source r t kept done is becomes k = ⊎_elim
@@ -24,6 +25,13 @@ pub not_run : {I O : Type 0} (source : List ℕ) (answered : Result Stop ToolFau
 not_run source answered i0 i1 o0 o1 (Refused r) refused h u = (refused r h, u)
 not_run source answered i0 i1 o0 o1 Memory refused h u = u
 not_run source answered i0 i1 o0 o1 (Io f) refused h u = h
+
+-- it was run
+pub has_run : (source : List ℕ) (answered : Result Stop ToolFault → Type 0) (kept : Type 0) (s : Stop) → answered (Ok s) → UnlessRefused source (ended_with s) kept (RunsTo (ended_with s) answered)
+has_run source answered kept (stop.Ended n) h = (n, refl, h)
+has_run source answered kept (stop.Fault f) h = h
+has_run source answered kept stop.NoHeap h = h
+has_run source answered kept stop.StepsUsed h = h
 
 -- ---- which device is at fault
 
