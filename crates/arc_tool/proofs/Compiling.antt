@@ -29,7 +29,7 @@ use Rattle.arc_code.specs.Running.{Program, seen, IsSound}
 use Rattle.arc_tool.specs.declared.refusal.Refusal.{Refusal}
 use Rattle.arc_source.specs.Accepted.{Spelled, Accepted, program_meant, meant}
 use Rattle.arc_tool.specs.Compiled.{Compiles, CompilesNamed, class_names}
-use Rattle.arc_tool.specs.Refused.{IsTooLarge, IsRefusal, too_large, no_memory}
+use Rattle.arc_tool.specs.Refused.{IsTooLarge, IsRefusal, too_large, no_memory_for_code}
 use Rattle.arc_tool.specs.Reports.{Reports}
 use Rattle.arc_emit.specs.declared.emit.TheConstants.{MOST_INSTRS}
 
@@ -44,9 +44,9 @@ too_many P actions is large = subst (λ n. MOST_INSTRS < n) (sym (length-map act
 
 -- a program that becomes so many actions, where there is no room for them
 pub too_long : (source : List ℕ) (program : Accepted source) (count : ℕ) → count ≡ length (lowered (program_meant program)) → (e : EmitFault) (r : Refusal)
-    → (e ≡ f.TooLarge) × (MOST_INSTRS < count) → Reports (record { number = emitting.fault_number e; name = emitting.fault_name e; at = 0 }) r → IsRefusal source r
+    → (e ≡ f.TooLarge) × (MOST_INSTRS < count) → Reports (emitting.fault_number e) 0 r → IsRefusal source r
 too_long source program count is f.TooLarge r large reports = too_large program (subst (λ n. MOST_INSTRS < n) (is ∙ actions_counted (program_meant program)) large.1) reports
-too_long source program count is f.Memory r large reports = no_memory program reports
+too_long source program count is f.Memory r large reports = no_memory_for_code program reports
 
 -- ---- the stages
 
@@ -75,6 +75,6 @@ module _ (source : List ℕ) (unit : TranslationUnit) (program : Checked)
     pub compiled_named : (code : Program) → IsSound code → Refines (acting.seen actions) (seen code) → Steady (seen code) → CompilesNamed source code (class_names (unit_tree unit))
     compiled_named code sound refines steady = record { compiled = compiled code sound refines steady; named = refl }
 
-    pub not_emitted : (e : EmitFault) (r : Refusal) → (e ≡ f.TooLarge → IsLarge actions) → Reports (record { number = emitting.fault_number e; name = emitting.fault_name e; at = 0 }) r → IsRefusal source r
+    pub not_emitted : (e : EmitFault) (r : Refusal) → (e ≡ f.TooLarge → IsLarge actions) → Reports (emitting.fault_number e) 0 r → IsRefusal source r
     not_emitted f.TooLarge r large reports = too_large accepted (too_many (program_meant accepted) actions lowers.actions (large refl)) reports
-    not_emitted f.Memory r large reports = no_memory accepted reports
+    not_emitted f.Memory r large reports = no_memory_for_code accepted reports

@@ -1,3 +1,4 @@
+pub mod Refusals
 pub mod Compiling
 pub mod Naming
 pub mod Lining

@@ -1,24 +1,17 @@
 -- When a source is refused, and by which stage: the first one that finds something to refuse.
-use Rattle.std.specs.Prelude.{◌≡◌, ℕ, ◌<◌, List, [], codes}
+use Rattle.std.specs.Prelude.{◌≡◌, ℕ, suc, ◌<◌, List, [], length, Some}
+use denote.Enum.Declared.{tag_of}
 use Rattle.arc_lex.specs.Tokens.{Tok}
 use Rattle.arc_lex.specs.Source.{Tokens}
-use Rattle.arc_lex.specs.declared.fault.LexFault.{LexFault}
-use Rattle.arc_lex.specs.Faults as lexing
+use Rattle.arc_lex.specs.declared.piece.Rule.{Rule}
+use Rattle.arc_lex.specs.contracts.piece.Rule as rules
+use Rattle.arc_lex.specs.declared.lex.TheConstants.{MOST_BYTES}
+use Rattle.arc_lex.specs.Faults.{IsFirst}
 use Rattle.arc_ast.specs.Tree.{UnitTree}
-use Rattle.arc_fault.specs.declared.parse.ParseFault.{ParseFault}
-use Rattle.arc_fault.specs.Parse as parse_fault
-use Rattle.arc_parse.specs.Refusal as parsing
-use Rattle.arc_fault.specs.declared.class.ClassFault.{ClassFault}
-use Rattle.arc_fault.specs.Class as class_fault
+use Rattle.arc_parse.specs.Refusal.{FitsNoneAt, TooDeepAt}
+use Rattle.arc_class.specs.Broken.{Broken, first}
 use Rattle.arc_class.specs.ClassRules.{broken}
-use Rattle.arc_class.specs.Fault as building
-use Rattle.arc_fault.specs.declared.check.CheckFault.{CheckFault}
-use Rattle.arc_fault.specs.Check as check_fault
 use Rattle.arc_judge.specs.Rules.{broken_unit}
-use Rattle.arc_judge.specs.Fault as checking
-use Rattle.arc_fault.specs.declared.own.OwnFault.{OwnFault}
-use Rattle.arc_fault.specs.Own as own_fault
-use Rattle.arc_family.specs.Fault as owning
 use Rattle.arc_family.specs.Rules as ownership
 use Rattle.arc_spec.specs.Resolved as resolved
 use Rattle.arc_lower.specs.Size.{program_size}
@@ -31,13 +24,20 @@ use Rattle.arc_tool.specs.Reports.{Reports}
 abbrev pub IsTooLarge : resolved.Program → Type 0
 IsTooLarge P = MOST_INSTRS < program_size P
 
--- The refusal reports the fault of a stage, all stages before which have nothing to refuse. A stage to which memory is refused has a fault of its own for that,
--- which says no more of the source.
+-- The refusal reports what a stage refuses, all stages before which have nothing to refuse: the rules of tokens are numbered in the order of their type, and of the
+-- rules of declarations, bodies and ownership it is the first one that is broken. That a stage had no memory says no more of the source.
 pub data IsRefusal (source : List ℕ) (r : Refusal) : Type 0 where
-  in_lexing : (f : LexFault) → lexing.IsLexFault source f → Reports (record { number = (lexing.report f).0; name = (lexing.report f).1; at = (lexing.report f).2 }) r → IsRefusal source r
-  in_parsing : (f : ParseFault) (tokens : List Tok) → Tokens source tokens → parsing.IsRefused tokens f → Reports (parse_fault.report f) r → IsRefusal source r
-  in_building : (f : ClassFault) (tree : UnitTree) → Spelled source tree → building.Refuses (broken tree) f → Reports (class_fault.report f) r → IsRefusal source r
-  in_checking : (f : CheckFault) (tree : UnitTree) → Spelled source tree → broken tree ≡ [] → checking.Refuses (broken_unit tree) f → Reports (check_fault.report f) r → IsRefusal source r
-  in_owning : (f : OwnFault) (tree : UnitTree) → Spelled source tree → broken tree ≡ [] → broken_unit tree ≡ [] → owning.Refuses (ownership.broken tree) f → Reports (own_fault.report f) r → IsRefusal source r
-  too_large : (program : Accepted source) → IsTooLarge (program_meant program) → Reports (record { number = 71; name = codes "TooLarge"; at = 0 }) r → IsRefusal source r
-  no_memory : (program : Accepted source) → Reports (record { number = 72; name = codes "Memory"; at = 0 }) r → IsRefusal source r
+  no_token : (rule : Rule) (at : ℕ) → IsFirst source at rule → Reports (suc (tag_of rules.the_type rule)) at r → IsRefusal source r
+  too_long : MOST_BYTES < length source → Reports 6 MOST_BYTES r → IsRefusal source r
+  no_memory_for_tokens : Reports 7 0 r → IsRefusal source r
+  unexpected : (tokens : List Tok) (at : ℕ) → Tokens source tokens → FitsNoneAt tokens at → Reports 11 at r → IsRefusal source r
+  too_deep : (tokens : List Tok) (at : ℕ) → Tokens source tokens → TooDeepAt tokens at → Reports 12 at r → IsRefusal source r
+  no_memory_for_tree : (tokens : List Tok) → Tokens source tokens → Reports 13 0 r → IsRefusal source r
+  wrong_declaration : (tree : UnitTree) (b : Broken) → Spelled source tree → first (broken tree) ≡ Some b → Reports b.number b.at r → IsRefusal source r
+  no_memory_for_table : (tree : UnitTree) → Spelled source tree → Reports 31 0 r → IsRefusal source r
+  wrong_body : (tree : UnitTree) (b : Broken) → Spelled source tree → broken tree ≡ [] → first (broken_unit tree) ≡ Some b → Reports b.number b.at r → IsRefusal source r
+  no_memory_for_bodies : (tree : UnitTree) → Spelled source tree → broken tree ≡ [] → Reports 51 0 r → IsRefusal source r
+  wrong_ownership : (tree : UnitTree) (b : Broken) → Spelled source tree → broken tree ≡ [] → broken_unit tree ≡ [] → first (ownership.broken tree) ≡ Some b
+      → Reports b.number b.at r → IsRefusal source r
+  too_large : (program : Accepted source) → IsTooLarge (program_meant program) → Reports 71 0 r → IsRefusal source r
+  no_memory_for_code : (program : Accepted source) → Reports 72 0 r → IsRefusal source r

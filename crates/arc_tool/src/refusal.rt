@@ -36,8 +36,9 @@ impl Refusal {
 }
 
 impl From<LexFault> for Refusal {
-    ghost from_gives = { λ f r. Reports (record { number = (lexing.report f).0; name = (lexing.report f).1; at = (lexing.report f).2 }) r };
+    ghost from_gives = { λ f r. Reports (lexing.report f).0 (lexing.report f).2 r };
 
+    #[tactic(auto, using(crate::proofs::Refusals::lexing_named))]
     fn from(fault: LexFault) -> Refusal {
         Refusal {
             number: fault.number(),
@@ -48,8 +49,9 @@ impl From<LexFault> for Refusal {
 }
 
 impl From<ParseFault> for Refusal {
-    ghost from_gives = { λ f r. Reports (parse_fault.report f) r };
+    ghost from_gives = { λ f r. Reports (parse_fault.report f).number (parse_fault.report f).at r };
 
+    #[tactic(auto, using(crate::proofs::Refusals::parsing_named))]
     fn from(fault: ParseFault) -> Refusal {
         Refusal {
             number: fault.number(),
@@ -60,8 +62,9 @@ impl From<ParseFault> for Refusal {
 }
 
 impl From<ClassFault> for Refusal {
-    ghost from_gives = { λ f r. Reports (class_fault.report f) r };
+    ghost from_gives = { λ f r. Reports (class_fault.report f).number (class_fault.report f).at r };
 
+    #[tactic(auto, using(crate::proofs::Refusals::building_named))]
     fn from(fault: ClassFault) -> Refusal {
         Refusal {
             number: fault.number(),
@@ -72,8 +75,9 @@ impl From<ClassFault> for Refusal {
 }
 
 impl From<CheckFault> for Refusal {
-    ghost from_gives = { λ f r. Reports (check_fault.report f) r };
+    ghost from_gives = { λ f r. Reports (check_fault.report f).number (check_fault.report f).at r };
 
+    #[tactic(auto, using(crate::proofs::Refusals::checking_named))]
     fn from(fault: CheckFault) -> Refusal {
         Refusal {
             number: fault.number(),
@@ -84,8 +88,9 @@ impl From<CheckFault> for Refusal {
 }
 
 impl From<OwnFault> for Refusal {
-    ghost from_gives = { λ f r. Reports (own_fault.report f) r };
+    ghost from_gives = { λ f r. Reports (own_fault.report f).number (own_fault.report f).at r };
 
+    #[tactic(auto, using(crate::proofs::Refusals::owning_named))]
     fn from(fault: OwnFault) -> Refusal {
         Refusal {
             number: fault.number(),
@@ -96,7 +101,7 @@ impl From<OwnFault> for Refusal {
 }
 
 impl From<NoMemory> for Refusal {
-    ghost from_gives = { λ _ r. Reports (record { number = 72; name = codes "Memory"; at = 0 }) r };
+    ghost from_gives = { λ _ r. Reports 72 0 r };
 
     fn from(_fault: NoMemory) -> Refusal {
         Refusal {
@@ -108,8 +113,9 @@ impl From<NoMemory> for Refusal {
 }
 
 impl From<EmitFault> for Refusal {
-    ghost from_gives = { λ f r. Reports (record { number = emitting.fault_number f; name = emitting.fault_name f; at = 0 }) r };
+    ghost from_gives = { λ f r. Reports (emitting.fault_number f) 0 r };
 
+    #[tactic(auto, using(crate::proofs::Refusals::emitting_named))]
     fn from(fault: EmitFault) -> Refusal {
         Refusal {
             number: fault.number(),

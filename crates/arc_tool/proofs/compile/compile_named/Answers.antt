@@ -2,7 +2,7 @@ use Rattle.std.proofs.Common.{sym, subst}
 use Rattle.std.proofs.lemmas.Result.{err_from_is_err_and}
 use Rattle.arc_code.specs.Running.{program_of}
 use Rattle.arc_tool.specs.Compiled.{CompilesNamed}
-use Rattle.arc_tool.specs.Refused.{no_memory}
+use Rattle.arc_tool.specs.Refused.{no_memory_for_code}
 use Rattle.arc_tool.proofs.compile.compile_named.Goals as goal
 
 pub returns-clause-compiled : goal.returns-clause-compiled
@@ -13,4 +13,4 @@ returns-clause-compiled c =
 pub returns-in_err-classes-clause-refused : goal.returns-in_err-classes-clause-refused
 returns-in_err-classes-clause-refused c =
     let p = err_from_is_err_and c.from_residual-in_err-classes.result c.from_residual-in_err-classes.ensures.1 in
-    rw p.1 (no_memory (c.in_ok-code.ensures.compiled c.args.source.now c.in_ok-unit.ensures.read).compiled.program p.2)
+    rw p.1 (no_memory_for_code (c.in_ok-code.ensures.compiled c.args.source.now c.in_ok-unit.ensures.read).compiled.program p.2)
