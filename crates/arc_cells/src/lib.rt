@@ -5,6 +5,7 @@ pub mod access;
 pub mod cell;
 pub mod decoded;
 pub mod found;
+pub mod leaving;
 pub mod number_ending;
 pub mod objects;
 pub mod order;

@@ -381,15 +381,18 @@ impl<S: Store + Drop> Objects<S> {
         self.frames.set(0, frame);
     }
 
-    /// The running function is left: its variables are gone, and what waited for it runs on.
+    /// The running function is left: its variables are gone, and what waited for it runs on. Whether it has variables is
+    /// asked first where that is rare.
     #[inline(always)]
-    pub fn leave(&mut self, waiter: Waiter)
+    pub fn leave(&mut self, waiter: Waiter, rare: bool)
         requires waits { 0 < length self.old.frames }
         requires places { self.old.variables ≤ length self.old.places }
         ensures { self.new ≡ resuming (undeclaring self.old) waiter }
     {
         let _ = self.frames.pop();
-        self.places.forget(self.variables);
+        if !rare || self.variables > 0 {
+            self.places.forget(self.variables);
+        }
         self.receiver = waiter.receiver;
         self.temporaries = waiter.temporaries;
         self.variables = waiter.variables;
