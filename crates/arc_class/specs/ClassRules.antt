@@ -11,7 +11,6 @@ use Rattle.arc_spec.specs.Classes.{ancestry}
 use Rattle.arc_class.specs.Broken.{Broken, broken_if}
 use Rattle.arc_class.specs.Classes.{is_root, interface_number, class_number, superclasses, first_head}
 use Rattle.arc_class.specs.Fields.{own_fields, fields_declared, fields}
-use Rattle.arc_class.specs.Globals.{known_global, variable_before}
 use Rattle.arc_class.specs.Functions.{is_library, duplicate, missing_main}
 use Rattle.arc_class.specs.Broken.{in_order}
 use Rattle.arc_class.specs.Names.{first_named, number_of, is_main}
@@ -52,7 +51,7 @@ broken_fields u above all = flat_map (λ f. broken_field u above all f.at f.name
 -- 21 Duplicate: an interface of the root, of a name of the library's, of an earlier interface's class or of the name of an earlier function or
 -- global variable, at its name (this project's own choice)
 abbrev pub is_taken : UnitTree → (before : List InterfaceTree) → InterfaceTree → Bool
-is_taken u before i = is_root i.name || (is_library i.name || (is_some (interface_number before i.name) || (stands_before (first_named i.name u.functions) i.at || variable_before (known_global u.interfaces u.globals i.name) i.at)))
+is_taken u before i = is_root i.name || (is_library i.name || (is_some (interface_number before i.name) || stands_before (first_named i.name u.functions) i.at))
 
 -- the first implementation with a name is there
 abbrev pub is_implemented : List ImplementationTree → List ℕ → Bool

@@ -7,13 +7,11 @@ use Rattle.arc_ast.specs.declared.tree.Kind.{Kind}
 use Rattle.arc_ast.specs.declared.tree.Kind.TheVariants as k
 use Rattle.arc_ast.specs.declared.tree.Sign.{Sign}
 use Rattle.arc_ast.specs.declared.tree.Sign.TheVariants as signs
-use Rattle.arc_ast.specs.Types.{result_kind}
-use Rattle.arc_ast.specs.Tree.{TypeTree, Object, Id, ResultTree, Value, Related, FunctionTree, HeadTree, MethodTree, InterfaceTree, ImplementationTree, UnitTree}
-use Rattle.arc_class.specs.declared.table.ClassId.{ClassId}
+use Rattle.arc_ast.specs.Tree.{FunctionTree, HeadTree, MethodTree, InterfaceTree, ImplementationTree, UnitTree}
 use Rattle.arc_class.specs.declared.table.MethodResult.{MethodResult}
-use Rattle.arc_spec.specs.Families.{method_family, gives_related, is_object}
+use Rattle.arc_spec.specs.Families.{is_object}
 use Rattle.arc_spec.specs.Classes.{same_sign, ancestry, first_that_has}
-use Rattle.arc_class.specs.Names.{has_body, first_named, parameter_kinds}
+use Rattle.arc_class.specs.Names.{has_body}
 
 -- the one root class, which is built in (this project's own choice)
 abbrev pub is_root : List ℕ → Bool
@@ -28,11 +26,6 @@ interface_number (i ∷ others) name = if bytes_eq name i.name then Some 0 else 
 -- a name.
 abbrev pub class_number : List InterfaceTree → List ℕ → Option ℕ
 class_number interfaces name = if is_root name then Some 0 else option_map (λ n. suc n) (interface_number interfaces name)
-
--- the class that a type names, if it names one that has an interface or is the root
-abbrev pub type_class : List InterfaceTree → TypeTree → Option ClassId
-type_class interfaces (Object at name) = option_map (λ n. record { 0 = n }) (class_number interfaces name)
-type_class interfaces _ = None
 
 -- the number of the superclass of a class (OPL, "Inheritance")
 abbrev pub superclass : List InterfaceTree → (class : ℕ) → Option ℕ
@@ -73,36 +66,13 @@ is_method sign selector h = same_sign sign h.sign && bytes_eq selector h.selecto
 abbrev pub first_head : Sign → List ℕ → List HeadTree → Option HeadTree
 first_head sign selector = find (is_method sign selector)
 
--- what a method gives
-abbrev pub result_of : HeadTree → Kind
-result_of h = result_kind h.result
-
--- the class of a result whose type names one
-abbrev pub result_class : List InterfaceTree → ResultTree → Option ClassId
-result_class interfaces (Value type) = type_class interfaces type
-result_class interfaces _ = None
-
--- Whether a method gives an object of the class that gets the message: where its type is `instancetype`, and by its family where that is `id` (ARC, "Related result
--- types").
-abbrev pub is_related : HeadTree → Bool
-is_related h = related h.result
-  where
-    related : ResultTree → Bool
-    related Related = true
-    related (Value Id) = gives_related h.sign (method_family h.sign h.selector k.Object)
-    related _ = false
-
--- the class of what the functions of a name give, as the first one of them says
-abbrev pub class_of_result : UnitTree → List ℕ → Option ClassId
-class_of_result u name = option_and_then (λ f. result_class u.interfaces f.result) (first_named name u.functions)
-
--- what a method gives: its kind, and its class, if its type names one, and whether it is of the class that gets the message
-abbrev pub given_by : List InterfaceTree → HeadTree → MethodResult
-given_by interfaces h = record { kind = result_of h; class = result_class interfaces h.result; related = is_related h }
+-- what a method gives: its kind, which is no object's
+abbrev pub given_by : HeadTree → MethodResult
+given_by h = record { kind = h.result; related = false }
 
 -- what a class's own method with a selector gives: the first by position, where its interface declares one and its implementation defines one
 abbrev pub own_result : UnitTree → Sign → List ℕ → InterfaceTree → Option MethodResult
-own_result u sign selector i = option_map (given_by u.interfaces) (first_head sign selector (own_heads u i))
+own_result u sign selector i = option_map given_by (first_head sign selector (own_heads u i))
 
 -- What the methods of the root give that are built in: two make objects, and `init` gives the object that it was sent to (OPL, "Allocating and Initializing
 -- Objects"); `dealloc` gives nothing.
@@ -116,16 +86,16 @@ built_in_result signs.Instance selector =
 abbrev pub counting_result : List ℕ → Option Kind
 counting_result selector =
     if bytes_eq selector (codes "retain") || bytes_eq selector (codes "autorelease") then Some k.Object
-    else if bytes_eq selector (codes "retainCount") then Some k.Long
+    else if bytes_eq selector (codes "retainCount") then Some k.Int
     else if bytes_eq selector (codes "release") || bytes_eq selector (codes "dealloc") then Some k.Void else None
 
 -- the objects that methods of the root give are of the class that gets the message
 abbrev pub built_in_given : Sign → List ℕ → Option MethodResult
-built_in_given sign selector = option_map (λ kind. record { kind = kind; class = None; related = is_object kind }) (built_in_result sign selector)
+built_in_given sign selector = option_map (λ kind. record { kind = kind; related = is_object kind }) (built_in_result sign selector)
 
 -- those that the messages give which count owners are as of `id`
 abbrev pub counting_given : List ℕ → Option MethodResult
-counting_given selector = option_map (λ kind. record { kind = kind; class = None; related = false }) (counting_result selector)
+counting_given selector = option_map (λ kind. record { kind = kind; related = false }) (counting_result selector)
 
 abbrev pub result_in : UnitTree → (class : ℕ) → Sign → List ℕ → Option MethodResult
 result_in u zero sign selector = built_in_given sign selector
@@ -149,16 +119,11 @@ defined = flat_map (λ i. heads i.methods)
 -- What a message to an object gives of which no class is known (OPL, "Dynamic Typing"): where it counts owners as that is known, and else as the first method
 -- of objects does that is declared, or else defined, or built in. All of these give the same.
 abbrev pub source_result : UnitTree → List ℕ → Option Kind
-source_result u selector = option_or (option_map result_of (first_head signs.Instance selector (declared u.interfaces)))
-    (option_or (option_map result_of (first_head signs.Instance selector (defined u.implementations))) (built_in_result signs.Instance selector))
+source_result u selector = option_or (option_map (λ h. h.result) (first_head signs.Instance selector (declared u.interfaces)))
+    (option_or (option_map (λ h. h.result) (first_head signs.Instance selector (defined u.implementations))) (built_in_result signs.Instance selector))
 
 abbrev pub any_result : UnitTree → List ℕ → Option Kind
 any_result u selector = option_or (counting_result selector) (source_result u selector)
-
--- the kinds of the parameters of the methods of a sign with a selector, of which all have those of the first that is declared, or else defined
-abbrev pub kinds_passed : UnitTree → Sign → List ℕ → List Kind
-kinds_passed u sign selector =
-    option_map_or (λ h. parameter_kinds h.parameters) (option_or (first_head sign selector (declared u.interfaces)) (first_head sign selector (defined u.implementations))) []
 
 -- ---- selectors
 

@@ -16,11 +16,6 @@ use Rattle.arc_class.specs.Names.{has_body, signature, known}
 abbrev pub same_kind : Kind → Kind → Bool
 same_kind a b = nat_eq (tag_of kinds.the_type a) (tag_of kinds.the_type b)
 
-abbrev pub same_kinds : List Kind → List Kind → Bool
-same_kinds [] [] = true
-same_kinds (a ∷ first) (b ∷ second) = same_kind a b && same_kinds first second
-same_kinds _ _ = false
-
 abbrev pub same_number : Option ℕ → Option ℕ → Bool
 same_number a b = option_map_or (λ m. option_map_or (λ n. nat_eq m n) b false) a (is_none b)
 

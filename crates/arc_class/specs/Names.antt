@@ -5,9 +5,7 @@ use Rattle.std.specs.Option.{option_map_or}
 use Rattle.std.specs.Str.{bytes_eq}
 use Rattle.arc_ast.specs.declared.tree.Kind.{Kind}
 use Rattle.arc_ast.specs.declared.tree.Kind.TheVariants as k
-use Rattle.arc_ast.specs.Types.{type_kind, result_kind}
-use Rattle.arc_ast.specs.Tree.{FunctionTree, ParameterTree, ParametersTree, Listed, CountAndTexts}
-use Rattle.arc_sites.specs.Sites.{named_parameters}
+use Rattle.arc_ast.specs.Tree.{FunctionTree, ParametersTree, Listed, CountAndTexts}
 use Rattle.arc_class.specs.declared.table.Signature.{Signature}
 use Rattle.arc_class.specs.declared.table.Declared.{Declared}
 
@@ -21,7 +19,7 @@ takes CountAndTexts = None
 
 -- what the declarations of a function have to agree in (C99, section 6.7.5.3)
 abbrev pub signature : FunctionTree → Signature
-signature f = record { result = result_kind f.result; takes = takes f.parameters }
+signature f = record { result = f.result; takes = takes f.parameters }
 
 abbrev pub is_named : List ℕ → FunctionTree → Bool
 is_named name f = bytes_eq name f.name
@@ -40,18 +38,6 @@ number_of test (f ∷ others) =
 abbrev pub known : List FunctionTree → List ℕ → Option Declared
 known functions name = option_map (λ f. record { signature = signature f; body = number_of (is_named name) functions }) (first_named name functions)
 
--- the kinds of parameters, in their order
-abbrev pub parameter_kinds : List ParameterTree → List Kind
-parameter_kinds = map (λ p. type_kind p.type)
-
--- the kinds of the parameters that a function lists
-abbrev pub listed_kinds : FunctionTree → List Kind
-listed_kinds f = parameter_kinds (named_parameters f.parameters)
-
--- the kinds of the parameters of the functions of a name, of which all have those of the first
-abbrev pub kinds_of_parameters : List FunctionTree → List ℕ → List Kind
-kinds_of_parameters functions name = option_map_or listed_kinds (first_named name functions) []
-
 abbrev pub is_int : Kind → Bool
 is_int k.Int = true
 is_int _ = false
@@ -62,4 +48,4 @@ starts_program _ = true
 
 -- The function that a program begins with gives an int, and takes nothing or a count and the arguments' texts (C99, section 5.1.2.2.1).
 abbrev pub is_main : FunctionTree → Bool
-is_main f = is_named (codes "main") f && (is_int (result_kind f.result) && starts_program (takes f.parameters))
+is_main f = is_named (codes "main") f && (is_int f.result && starts_program (takes f.parameters))

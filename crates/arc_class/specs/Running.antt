@@ -4,18 +4,13 @@ use Rattle.std.specs.Option.{option_map_or}
 use Rattle.std.specs.Str.{bytes_eq}
 use Rattle.arc_ast.specs.Tree.{HeadTree, MethodTree, InterfaceTree, ImplementationTree, UnitTree}
 use Rattle.arc_spec.specs.declared.class.Method.{Method}
-use Rattle.arc_spec.specs.Classes.{Class, gives_of}
-use Rattle.arc_class.specs.Classes.{class_number, result_of, selectors, number_among, is_dealloc, bodies}
-use Rattle.arc_class.specs.declared.sort_counts.SortCounts.{SortCounts}
-use Rattle.arc_class.specs.Fields.{fields, kinds_of_fields}
-use Rattle.arc_class.specs.Names.{parameter_kinds}
-use Rattle.arc_class.specs.Sorts.{counts}
+use Rattle.arc_spec.specs.Classes.{Class}
+use Rattle.arc_class.specs.Classes.{class_number, selectors, number_among, is_dealloc, bodies}
+use Rattle.arc_class.specs.Fields.{fields}
 
 -- a method that runs this function, where selectors have these names
 abbrev pub method_made : (selectors : List (List ℕ)) → (runs : ℕ) → HeadTree → Method
-method_made selectors runs h =
-    let passed = counts (parameter_kinds h.parameters) in
-    record { sign = h.sign; selector = unwrap_or (number_among selectors h.selector) 0; takes = passed.numbers; objects = passed.objects; gives = gives_of (result_of h); runs = runs }
+method_made selectors runs h = record { sign = h.sign; selector = unwrap_or (number_among selectors h.selector) 0; takes = length h.parameters; runs = runs }
 
 -- methods and one more, unless it ends objects
 abbrev pub with_method : (selectors : List (List ℕ)) → (runs : ℕ) → HeadTree → List Method → List Method
@@ -42,17 +37,16 @@ abbrev pub implementation_of : UnitTree → InterfaceTree → Option (ℕ × Imp
 implementation_of u i = implemented (bodies u.functions) u.implementations i.name
 
 -- a class whose objects have so many fields of each sort
-abbrev pub class_with : UnitTree → SortCounts → InterfaceTree → Class
+abbrev pub class_with : UnitTree → (fields : ℕ) → InterfaceTree → Class
 class_with u fields i = record {
   superclass = class_number u.interfaces i.superclass;
   methods = option_map_or (λ p. methods_from u p.0 (p.1).methods) (implementation_of u i) [];
   dealloc = option_and_then (λ p. dealloc_from p.0 (p.1).methods) (implementation_of u i);
-  fields = fields.numbers;
-  strong_fields = fields.objects;
+  fields = fields;
 }
 
 abbrev pub class_of : UnitTree → (number : ℕ) → InterfaceTree → Class
-class_of u number i = class_with u (counts (kinds_of_fields (fields u number))) i
+class_of u number i = class_with u (length (fields u number)) i
 
 abbrev pub classes_from : UnitTree → (number : ℕ) → List InterfaceTree → List Class
 classes_from u number [] = []
@@ -60,4 +54,4 @@ classes_from u number (i ∷ others) = class_of u number i ∷ classes_from u (s
 
 -- The classes of a source as a running program knows them: the root, and then those of the interfaces.
 abbrev pub classes : UnitTree → List Class
-classes u = record { superclass = None; methods = []; dealloc = None; fields = 0; strong_fields = 0 } ∷ classes_from u 1 u.interfaces
+classes u = record { superclass = None; methods = []; dealloc = None; fields = 0 } ∷ classes_from u 1 u.interfaces

@@ -69,16 +69,6 @@ pub struct Place {
     pub at: usize,
 }
 
-/// The first global variable of a name: its number, counted from 0 among those of its sort, its kind, the class of a type
-/// that names one, and the place of the name.
-#[derive(Clone, Copy)]
-pub struct Variable {
-    pub number: usize,
-    pub kind: Kind,
-    pub class: Option<ClassId>,
-    pub at: usize,
-}
-
 /// The first global variable of each name.
 pub type Variables<'a> = ByName<'a, Variable>;
 
@@ -183,8 +173,6 @@ pub struct Field<'a> {
 pub struct FoundField {
     pub owner: ClassId,
     pub index: usize,
-    pub kind: Kind,
-    pub class: Option<ClassId>,
     pub visibility: Visibility,
 }
 
@@ -193,7 +181,6 @@ pub struct FoundField {
 #[derive(Clone, Copy)]
 pub struct MethodResult {
     pub kind: Kind,
-    pub class: Option<ClassId>,
     pub related: bool,
 }
 

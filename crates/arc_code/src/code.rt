@@ -29,8 +29,6 @@ pub struct Code {
     pub room: usize,
     pub names: usize,
     pub places: usize,
-    pub globals: Vec<i64>,
-    pub strong_globals: usize,
     pub classes: Vec<Class>,
 }
 

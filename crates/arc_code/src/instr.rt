@@ -25,10 +25,8 @@ pub enum Op {
     Set(usize),
     /// Puts the number that the variable of the whole program with this number holds on the stack; that of
     /// one that there isn't is 0.
-    GetGlobal(usize),
     /// Takes the top number, and puts it in the variable of the whole program with this number, where there
     /// is one.
-    SetGlobal(usize),
     /// Takes a number, prints it in decimal, and adds the number of bytes to the count below it.
     PrintNum,
     /// Takes a number, prints its low 8 bits as a byte, and adds 1 to the count below it.
@@ -45,21 +43,17 @@ pub enum Op {
     ReadRef(usize),
     /// Gives what the variable of the whole program with this number names, which a temporary takes; one that
     /// there isn't names nothing.
-    ReadGlobal(usize),
     /// Takes the last reference, and gives what the field with this number of its object names, which a temporary
     /// takes; the class, which comes first, is the one whose own field it is.
-    ReadField(usize, usize),
     /// A temporary takes what the last reference names; the reference stays.
     Hold,
     /// Gives the last reference once more; the first stays, and the second holds nothing either.
-    Again,
     /// Takes the last reference.
     Forget,
     /// Takes the number of a class, and makes an object of it, which a temporary takes. Gives the object.
     Alloc,
     /// Puts 1 on the stack where the class with the top number, which stays, or one above it, has a class method with
     /// this selector that takes nothing and gives an object, and else 0.
-    Finds(usize),
     /// Takes the last reference, and puts the field with this number of its object on the stack; the class, which
     /// comes first, is the one whose own field it is.
     GetField(usize, usize),
@@ -85,40 +79,36 @@ pub enum Instr<J, F, T> {
     JumpZero(J),
     /// Calls a function, whose variables stand on the stack; the references of its parameters are the last ones. It
     /// gives what is said here.
-    Call(F, Gives),
+    Call(F),
     /// A message with this selector, so many numbers as arguments, which stand on the stack above the number
     /// of the class that gets it, and so many objects, which the last references name: calls the method that is
     /// looked up from that class and gives what is said here.
-    Send(usize, usize, usize, Gives),
+    Send(usize, usize),
     /// The same, with the number of the class from which the method is looked up before the selector.
-    SendSuper(usize, usize, usize, usize, Gives),
+    SendSuper(usize, usize, usize),
     /// A message with this selector, so many numbers as arguments, which stand on the stack, and so many objects,
     /// which the last references name, to the object of the reference before these, which is taken: calls the
     /// method that is looked up from the object's class and gives what is said here; the root's own `init` gives the
     /// object. To nil it takes the arguments and gives 0 or nil. What is given as an object a temporary takes.
-    SendTo(usize, usize, usize, Gives),
+    SendTo(usize, usize),
     /// The same, with the number of the class from which the method is looked up before the selector.
-    SendToSuper(usize, usize, usize, usize, Gives),
+    SendToSuper(usize, usize, usize),
     /// The variable with this number takes what the last reference names, and lets go of what it named;
     /// where that was its last holder, its end begins. The reference stays.
     StoreStrong(usize),
     /// The same of the variable of the whole program with this number, where there is one.
-    StoreGlobal(usize),
     /// The same of a field of the object of the reference before the last one, which is taken: the class comes
     /// first whose own field it is, and then the field's number. It is a fault where the fields of that object are
     /// being destroyed.
-    StoreField(usize, usize),
     /// The variable with this number lets go of what it named, and is nil.
     Empty(usize),
     /// Drops the temporaries, the last one first, until an object's end begins, after which this instruction
     /// is met again, or none is left.
     DropAll,
     /// The temporary before the last one lets go of what it names, and is no more.
-    Settle,
     /// Leaves the function, which has no temporary, and whose variables are nil but for the last one, the place of its
     /// result: takes the top number, and goes back to the instruction after the last call. There the result is the last
     /// reference and the last temporary.
-    Give,
     /// Leaves the function, which has no temporary, with its variables, all of them nil: goes back to the
     /// instruction after the last call; with no call it takes the top number, with which the program ends.
     Return,

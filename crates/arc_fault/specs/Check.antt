@@ -11,7 +11,6 @@ report (f.KindMismatch at) = record { number = 43; name = codes "KindMismatch"; 
 report (f.NotAssignable at) = record { number = 44; name = codes "NotAssignable"; at = at }
 report (f.ArgumentCount at) = record { number = 45; name = codes "ArgumentCount"; at = at }
 report (f.Format at) = record { number = 46; name = codes "Format"; at = at }
-report (f.OutsideLoop at) = record { number = 48; name = codes "OutsideLoop"; at = at }
 report (f.FieldHidden at) = record { number = 49; name = codes "FieldHidden"; at = at }
 report (f.TooManyLocals at) = record { number = 50; name = codes "TooManyLocals"; at = at }
 report f.Memory = record { number = 51; name = codes "Memory"; at = 0 }

@@ -6,9 +6,6 @@ use Rattle.arc_fault.specs.Report.{Report}
 
 abbrev pub report : OwnFault → Report
 report (f.SelfConst at) = record { number = 47; name = codes "SelfConst"; at = at }
-report (f.Unretained at) = record { number = 60; name = codes "Unretained"; at = at }
 report (f.ManualMemory at) = record { number = 61; name = codes "ManualMemory"; at = at }
 report (f.DeallocSent at) = record { number = 62; name = codes "DeallocSent"; at = at }
 report (f.DelegateInit at) = record { number = 63; name = codes "DelegateInit"; at = at }
-report (f.InitResult at) = record { number = 66; name = codes "InitResult"; at = at }
-report (f.Qualifier at) = record { number = 67; name = codes "Qualifier"; at = at }

@@ -29,9 +29,6 @@ pub enum CheckFault {
     /// A call of `printf` without a format, with an unknown conversion, or with values that do not fit; the place is that of its name.
     #[error("the format and the values of the printf at {0} do not fit")]
     Format(usize),
-    /// A `break` or a `continue` outside of loops; the place is that of its first byte.
-    #[error("no loop is around the statement at {0}")]
-    OutsideLoop(usize),
     /// A field that may not be named there; the place is that of its name.
     #[error("the field at {0} is hidden")]
     FieldHidden(usize),
@@ -56,7 +53,6 @@ impl CheckFault {
             CheckFault::NotAssignable(_) => 44,
             CheckFault::ArgumentCount(_) => 45,
             CheckFault::Format(_) => 46,
-            CheckFault::OutsideLoop(_) => 48,
             CheckFault::FieldHidden(_) => 49,
             CheckFault::TooManyLocals(_) => 50,
             CheckFault::Memory => 51,
@@ -74,7 +70,6 @@ impl CheckFault {
             CheckFault::NotAssignable(_) => "NotAssignable",
             CheckFault::ArgumentCount(_) => "ArgumentCount",
             CheckFault::Format(_) => "Format",
-            CheckFault::OutsideLoop(_) => "OutsideLoop",
             CheckFault::FieldHidden(_) => "FieldHidden",
             CheckFault::TooManyLocals(_) => "TooManyLocals",
             CheckFault::Memory => "Memory",
@@ -92,7 +87,6 @@ impl CheckFault {
             CheckFault::NotAssignable(at) => *at,
             CheckFault::ArgumentCount(at) => *at,
             CheckFault::Format(at) => *at,
-            CheckFault::OutsideLoop(at) => *at,
             CheckFault::FieldHidden(at) => *at,
             CheckFault::TooManyLocals(at) => *at,
             CheckFault::Memory => 0,

@@ -10,9 +10,6 @@ pub enum OwnFault {
     /// An assignment to `self` outside of the methods of the init family, at its `=`.
     #[error("self is assigned at {0}")]
     SelfConst(usize),
-    /// A function, or a method outside of the families that own what they give, that gives an object, at its name or its `+` or `-`.
-    #[error("an unretained object is given at {0}")]
-    Unretained(usize),
     /// A method `retain`, `release`, `autorelease` or `retainCount`, at its `+`; or such a message, at the first part of its selector.
     #[error("references are counted by hand at {0}")]
     ManualMemory(usize),
@@ -22,12 +19,6 @@ pub enum OwnFault {
     /// A message of an init method to `self` or `super` outside of the methods of the init family; the place is that of its selector.
     #[error("an init method is delegated at {0}")]
     DelegateInit(usize),
-    /// A method of the init family that gives an object of a class that isn't related to its own, at its `-`.
-    #[error("an init method gives another object at {0}")]
-    InitResult(usize),
-    /// A qualifier on what holds no object, or more than one, at the name of the variable, the parameter or the field.
-    #[error("a wrong qualifier at {0}")]
-    Qualifier(usize),
 }
 
 impl OwnFault {
@@ -37,12 +28,9 @@ impl OwnFault {
     {
         match self {
             OwnFault::SelfConst(_) => 47,
-            OwnFault::Unretained(_) => 60,
             OwnFault::ManualMemory(_) => 61,
             OwnFault::DeallocSent(_) => 62,
             OwnFault::DelegateInit(_) => 63,
-            OwnFault::InitResult(_) => 66,
-            OwnFault::Qualifier(_) => 67,
         }
     }
 
@@ -52,12 +40,9 @@ impl OwnFault {
     {
         match self {
             OwnFault::SelfConst(_) => "SelfConst",
-            OwnFault::Unretained(_) => "Unretained",
             OwnFault::ManualMemory(_) => "ManualMemory",
             OwnFault::DeallocSent(_) => "DeallocSent",
             OwnFault::DelegateInit(_) => "DelegateInit",
-            OwnFault::InitResult(_) => "InitResult",
-            OwnFault::Qualifier(_) => "Qualifier",
         }
     }
 
@@ -67,12 +52,9 @@ impl OwnFault {
     {
         match self {
             OwnFault::SelfConst(at) => *at,
-            OwnFault::Unretained(at) => *at,
             OwnFault::ManualMemory(at) => *at,
             OwnFault::DeallocSent(at) => *at,
             OwnFault::DelegateInit(at) => *at,
-            OwnFault::InitResult(at) => *at,
-            OwnFault::Qualifier(at) => *at,
         }
     }
 }

@@ -16,7 +16,7 @@ Kind = ℕ × List ℕ
 
 abbrev pub kind : Sort → Kind
 kind (Name bytes) = (0, if bytes_eq bytes main_bytes then main_bytes else [])
-kind (Integer value suffixed) = (1, [])
+kind (Integer value) = (1, [])
 kind (Text bytes) = (2, [])
 kind (Key word) = (3, word_bytes word)
 kind (At word) = (4, at_bytes word)

@@ -12,10 +12,6 @@ is_letter b = ((nat_le 97 b && nat_le b 122) || (nat_le 65 b && nat_le b 90)) ||
 abbrev pub is_digit : ℕ → Bool
 is_digit b = nat_le 48 b && nat_le b 57
 
--- a hexadecimal digit (C99, section 6.4.4.1)
-abbrev pub is_hexadecimal : ℕ → Bool
-is_hexadecimal b = is_digit b || ((nat_le 97 b && nat_le b 102) || (nat_le 65 b && nat_le b 70))
-
 -- space, tab, newline, form feed and carriage return (C99, section 6.4, with carriage return in place of vertical tab)
 abbrev pub is_blank : ℕ → Bool
 is_blank b = (nat_eq b 32 || nat_eq b 9) || ((nat_eq b 10 || nat_eq b 12) || nat_eq b 13)
@@ -23,10 +19,7 @@ is_blank b = (nat_eq b 32 || nat_eq b 9) || ((nat_eq b 10 || nat_eq b 12) || nat
 abbrev pub has : Class → ℕ → Bool
 has c.Letter b = is_letter b
 has c.Digit b = is_digit b
-has c.Hexadecimal b = is_hexadecimal b
 has c.InName b = is_letter b || is_digit b
-has c.Space b = is_blank b && not (nat_eq b 10)
-has c.InLine b = not (nat_eq b 10)
 
 -- whether each byte is in the class
 abbrev pub all_in : Class → List ℕ → Bool

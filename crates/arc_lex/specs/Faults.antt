@@ -11,7 +11,6 @@ use Rattle.arc_lex.specs.declared.lex.TheConstants.{MOST_BYTES}
 -- a fault's number and its name, by which the compiler's users know it, and the byte that it names, counted from 0
 abbrev pub report : LexFault → ℕ × List ℕ × ℕ
 report (f.BadByte at) = (1, codes "BadByte", at)
-report (f.OpenComment at) = (2, codes "OpenComment", at)
 report (f.OpenLiteral at) = (3, codes "OpenLiteral", at)
 report (f.Literal at) = (4, codes "Literal", at)
 report (f.Directive at) = (5, codes "Directive", at)
@@ -21,19 +20,17 @@ report f.Memory = (7, codes "Memory", 0)
 -- the fault of a broken rule at a place
 abbrev pub fault_of : Rule → ℕ → LexFault
 fault_of rules.BadByte at = f.BadByte at
-fault_of rules.OpenComment at = f.OpenComment at
 fault_of rules.OpenLiteral at = f.OpenLiteral at
 fault_of rules.Literal at = f.Literal at
 fault_of rules.Directive at = f.Directive at
 
 -- The source is not too long, and is cut up to this place, the first where a rule is broken, and this is the rule.
 abbrev pub IsFirst : List ℕ → ℕ → Rule → Type 0
-IsFirst source at rule = (ts : List Tok) × (length source ≤ MOST_BYTES) × Cuts 0 true source ts (Some (at, rule))
+IsFirst source at rule = (ts : List Tok) × (length source ≤ MOST_BYTES) × Cuts 0 source ts (Some (at, rule))
 
 -- when each fault is answered. Want of memory may come at any source
 abbrev pub IsLexFault : List ℕ → LexFault → Type 0
 IsLexFault source (f.BadByte at) = IsFirst source at rules.BadByte
-IsLexFault source (f.OpenComment at) = IsFirst source at rules.OpenComment
 IsLexFault source (f.OpenLiteral at) = IsFirst source at rules.OpenLiteral
 IsLexFault source (f.Literal at) = IsFirst source at rules.Literal
 IsLexFault source (f.Directive at) = IsFirst source at rules.Directive

@@ -11,7 +11,7 @@ use Rattle.arc_lex.specs.declared.token.Token.{Token}
 -- Objective-C is `Unused`, whichever it is
 pub data Sort : Type 0 where
   Name : List ℕ → Sort
-  Integer : ℤ → Bool → Sort
+  Integer : ℤ → Sort
   Text : List ℕ → Sort
   Key : Word → Sort
   At : AtWord → Sort
@@ -26,7 +26,7 @@ pub record Tok : Type 0 where
 
 abbrev pub sort_of : TokenKind → Sort
 sort_of (kinds.Name bytes) = Name bytes.items
-sort_of (kinds.Integer value suffixed) = Integer value suffixed
+sort_of (kinds.Integer value) = Integer value
 sort_of (kinds.Text bytes) = Text bytes.items
 sort_of (kinds.Word word) = Key word
 sort_of (kinds.At word) = At word

@@ -9,13 +9,10 @@ pub enum Class {
     Letter,
     Digit,
     /// A hexadecimal digit.
-    Hexadecimal,
     /// What may follow in a name: a letter, `_` or a digit.
     InName,
     /// A blank that doesn't end the line.
-    Space,
     /// Any byte but a newline.
-    InLine,
 }
 
 fn is_letter(b: u8) -> bool

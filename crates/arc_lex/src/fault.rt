@@ -13,8 +13,6 @@ pub enum LexFault {
     #[error("no token begins with the byte at {0}")]
     BadByte(usize),
     /// A `/*` has no `*/`.
-    #[error("the comment at {0} is not closed")]
-    OpenComment(usize),
     /// A character or a text is not closed on its line.
     #[error("the character or text at {0} is not closed on its line")]
     OpenLiteral(usize),
@@ -39,7 +37,6 @@ impl LexFault {
     {
         match self {
             LexFault::BadByte(_) => 1,
-            LexFault::OpenComment(_) => 2,
             LexFault::OpenLiteral(_) => 3,
             LexFault::Literal(_) => 4,
             LexFault::Directive(_) => 5,
@@ -54,7 +51,6 @@ impl LexFault {
     {
         match self {
             LexFault::BadByte(_) => "BadByte",
-            LexFault::OpenComment(_) => "OpenComment",
             LexFault::OpenLiteral(_) => "OpenLiteral",
             LexFault::Literal(_) => "Literal",
             LexFault::Directive(_) => "Directive",
@@ -70,7 +66,6 @@ impl LexFault {
     {
         match self {
             LexFault::BadByte(at) => *at,
-            LexFault::OpenComment(at) => *at,
             LexFault::OpenLiteral(at) => *at,
             LexFault::Literal(at) => *at,
             LexFault::Directive(at) => *at,

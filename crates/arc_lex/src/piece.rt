@@ -16,7 +16,6 @@ use std::alloc::{AllocError, Global};
 #[derive(Clone, Copy)]
 pub enum Rule {
     BadByte,
-    OpenComment,
     OpenLiteral,
     Literal,
     Directive,

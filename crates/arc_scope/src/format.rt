@@ -9,8 +9,6 @@ use arc_ast::tree::Kind;
 pub enum Begun {
     Nothing,
     Percent,
-    PercentL,
-    PercentLL,
 }
 
 /// A part of a format.
@@ -19,7 +17,7 @@ pub enum Part {
     /// A byte that is printed as it is.
     Plain(u8),
     /// A value of this kind is printed as a decimal number.
-    Decimal(Kind),
+    Decimal,
     /// An int is printed as one byte.
     Character,
     /// There is no such conversion.

@@ -1,29 +1,24 @@
 -- The sites of a source: each node of its tree, with what surrounds it. They are this project's own words for the rules of later stages.
 use Rattle.std.specs.Prelude.{ℕ, List, [], ◌∷◌, ◌++◌, flat_map, Option, Some}
 use Rattle.std.specs.Option.{option_map_or}
-use Rattle.arc_ast.specs.declared.tree.Qualifiers.{Qualifiers}
-use Rattle.arc_ast.specs.Tree.{TypeTree, ExprTree, ExprTrees, Paren, Call, Unary, Cast, Binary, Conditional, Arrow, Assign, Update, Send, SendSuper, no_exprs, and_expr, VariableTree, StmtTree, StmtTrees, Block, Simple, Return, Variables, If, IfElse, While, For, no_stmts, and_stmt, ParameterTree, ParametersTree, Listed, CountAndTexts, FunctionTree, GlobalTree, FieldTree, HeadTree, MethodTree, InterfaceTree, ImplementationTree, UnitTree}
+use Rattle.arc_ast.specs.Tree.{TypeTree, ExprTree, ExprTrees, Paren, Call, Unary, Cast, Binary, Arrow, Assign, Send, SendSuper, no_exprs, and_expr, VariableTree, StmtTree, StmtTrees, Block, Simple, Return, Variables, If, IfElse, While, no_stmts, and_stmt, ParameterTree, ParametersTree, Listed, CountAndTexts, FunctionTree, HeadTree, MethodTree, InterfaceTree, ImplementationTree, UnitTree}
 
 -- ---- what surrounds a node
 
--- What has a node: a function, a method of the class with a name, the interface or the implementation of such a class, or the source itself.
+-- What has a node: a function, a method of the class with a name, or the interface of such a class.
 pub data Enclosing : Type 0 where
   InFunction : Enclosing
   InMethod : (class : List ℕ) → HeadTree → Enclosing
   InInterface : (class : List ℕ) → Enclosing
-  InImplementation : (class : List ℕ) → Enclosing
-  InSource : Enclosing
 
--- A node: an expression, a statement, a variable that a declaration makes of a type after qualifiers, a body with its parameters, a function, a variable of the
--- whole program, a field, and a method that is declared or defined.
+-- A node: an expression, a statement, a variable that a declaration makes of a type, a body with its parameters, a function, and a method that is declared or
+-- defined.
 pub data Node : Type 0 where
   Value : ExprTree → Node
   Statement : StmtTree → Node
-  Variable : Qualifiers → TypeTree → VariableTree → Node
+  Variable : TypeTree → VariableTree → Node
   Body : List ParameterTree → StmtTrees → Node
   Function : FunctionTree → Node
-  Global : GlobalTree → Node
-  Field : FieldTree → Node
   Declared : HeadTree → Node
   Defined : HeadTree → Node
 
@@ -45,10 +40,8 @@ abbrev mutual
   inside m (Unary at operator a) = inside m a ++ site m (Value a)
   inside m (Cast at type a) = inside m a ++ site m (Value a)
   inside m (Binary at operator a b) = (inside m a ++ site m (Value a)) ++ (inside m b ++ site m (Value b))
-  inside m (Conditional at c a b) = (inside m c ++ site m (Value c)) ++ ((inside m a ++ site m (Value a)) ++ (inside m b ++ site m (Value b)))
   inside m (Arrow at name_at a name) = inside m a ++ site m (Value a)
   inside m (Assign at sign a b) = (inside m a ++ site m (Value a)) ++ (inside m b ++ site m (Value b))
-  inside m (Update at sign moment operator a b) = (inside m a ++ site m (Value a)) ++ (inside m b ++ site m (Value b))
   inside m (Send at part receiver selector all) = (inside m receiver ++ site m (Value receiver)) ++ arguments m all
   inside m (SendSuper at part super_at selector all) = arguments m all
   inside m _ = []
@@ -67,8 +60,8 @@ maybe_sites m a = option_map_or (sites m) a []
 -- ---- statements
 
 -- the sites of a declaration's variables
-abbrev pub variable_sites : Enclosing → Qualifiers → TypeTree → List VariableTree → List Site
-variable_sites m qualifiers type = flat_map (λ v. site m (Variable qualifiers type v) ++ maybe_sites m v.initial)
+abbrev pub variable_sites : Enclosing → TypeTree → List VariableTree → List Site
+variable_sites m type = flat_map (λ v. site m (Variable type v) ++ maybe_sites m v.initial)
 
 -- the sites inside a statement, and of statements
 abbrev mutual
@@ -76,20 +69,15 @@ abbrev mutual
   within m (Block at all) = all_sites m all
   within m (Simple a) = sites m a
   within m (Return at a) = maybe_sites m a
-  within m (Variables at qualifiers type all) = variable_sites m qualifiers type all
+  within m (Variables at type all) = variable_sites m type all
   within m (If at c a) = sites m c ++ (site m (Statement a) ++ within m a)
   within m (IfElse at c a b) = sites m c ++ ((site m (Statement a) ++ within m a) ++ (site m (Statement b) ++ within m b))
-  within m (While at moment c a) = sites m c ++ (site m (Statement a) ++ within m a)
-  within m (For at a c e b) = (site m (Statement a) ++ within m a) ++ (maybe_sites m c ++ (maybe_sites m e ++ (site m (Statement b) ++ within m b)))
+  within m (While at c a) = sites m c ++ (site m (Statement a) ++ within m a)
   within m _ = []
 
   pub all_sites : Enclosing → StmtTrees → List Site
   all_sites m no_stmts = []
   all_sites m (and_stmt a others) = (site m (Statement a) ++ within m a) ++ all_sites m others
-
--- the sites of a statement
-abbrev pub stmt_sites : Enclosing → StmtTree → List Site
-stmt_sites m a = site m (Statement a) ++ within m a
 
 -- ---- functions, classes and a source
 
@@ -108,15 +96,12 @@ function_sites f = site InFunction (Function f) ++ body_sites InFunction (named_
 abbrev pub method_sites : (class : List ℕ) → MethodTree → List Site
 method_sites class m = site (InMethod class m.head) (Defined m.head) ++ body_sites (InMethod class m.head) m.head.parameters (Some m.body)
 
-abbrev pub field_sites : Enclosing → List FieldTree → List Site
-field_sites m = flat_map (λ f. site m (Field f))
-
 abbrev pub interface_sites : InterfaceTree → List Site
-interface_sites i = field_sites (InInterface i.name) i.fields ++ flat_map (λ h. site (InInterface i.name) (Declared h)) i.methods
+interface_sites i = flat_map (λ h. site (InInterface i.name) (Declared h)) i.methods
 
 abbrev pub implementation_sites : ImplementationTree → List Site
-implementation_sites i = field_sites (InImplementation i.name) i.fields ++ flat_map (method_sites i.name) i.methods
+implementation_sites i = flat_map (method_sites i.name) i.methods
 
 -- the sites of a source
 abbrev pub unit_sites : UnitTree → List Site
-unit_sites u = flat_map function_sites u.functions ++ (flat_map (λ g. site InSource (Global g)) u.globals ++ (flat_map interface_sites u.interfaces ++ flat_map implementation_sites u.implementations))
+unit_sites u = flat_map function_sites u.functions ++ (flat_map interface_sites u.interfaces ++ flat_map implementation_sites u.implementations)

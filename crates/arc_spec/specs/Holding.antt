@@ -2,9 +2,9 @@
 use Rattle.std.specs.Prelude.{◌≡◌, ◌<◌, ℕ, zero, suc, ◌-◌, ℤ, List, [], ◌∷◌, ◌++◌, length, take, drop, Bool, true, false, ◌&&◌, nat_eq, Option, Some, None, slice_get, slice_set, if◌then◌else◌}
 use Rattle.std.specs.List.{list_all}
 use Rattle.std.specs.Option.{option_map_or}
-use Rattle.arc_spec.specs.declared.event.Fault.TheVariants.{NilField, FieldClass, Resurrected}
-use Rattle.arc_spec.specs.Classes.{Class, descends, strong_count}
-use Rattle.arc_spec.specs.Objects.{Object, Phase, Live, Dying, Gone, object_at, with_object, in_phase, is_live, is_emptying, new_object, field_places}
+use Rattle.arc_spec.specs.declared.event.Fault.TheVariants.{NilField, FieldClass}
+use Rattle.arc_spec.specs.Classes.{Class, descends}
+use Rattle.arc_spec.specs.Objects.{Object, Phase, Live, Dying, Gone, object_at, with_object, in_phase, is_live, new_object}
 pub use Rattle.arc_spec.specs.Objects.{is_there}
 pub use Rattle.arc_spec.specs.Classes.{count_of}
 use Rattle.arc_spec.specs.World.{World}
@@ -22,27 +22,17 @@ pub record Held : Type 0 where
   pub names : List ℕ
   pub objects : List Object
   pub counts : ℕ → ℕ
-  pub globals : List ℤ
-  pub strong_globals : List ℕ
 
 abbrev pub nothing_held : Held
-nothing_held = record { temporaries = []; variables = []; self = 0; places = []; names = []; objects = []; counts = λ o. 0; globals = []; strong_globals = [] }
+nothing_held = record { temporaries = []; variables = []; self = 0; places = []; names = []; objects = []; counts = λ o. 0 }
 
 -- what a world holds, with these references, and with these counts
 abbrev pub counting : List ℕ → World → (ℕ → ℕ) → Held
-counting names w counts = record { temporaries = w.frame.temporaries; variables = w.frame.strong; self = w.frame.self; places = w.waiting; names = names; objects = w.objects; counts = counts; globals = w.globals; strong_globals = w.strong_globals }
+counting names w counts = record { temporaries = w.frame.temporaries; variables = w.frame.strong; self = w.frame.self; places = w.waiting; names = names; objects = w.objects; counts = counts }
 
 -- the strong places of all functions that were called
 abbrev pub stacked : Held → List ℕ
 stacked h = (h.temporaries ++ h.variables) ++ h.places
-
--- All strong places: what each of them names. They are the temporaries and variables of all functions that were called, the variables of the whole program, and the
--- fields of the objects that aren't gone.
-abbrev pub all_places : Held → List ℕ
-all_places h =
-    stacked h
-    ++ (h.strong_globals
-    ++ field_places h.objects)
 
 -- a function that waits: its `self`, and how many temporaries and variables it has among the places that wait
 pub record Waiter : Type 0 where
@@ -55,7 +45,6 @@ pub record Waiter : Type 0 where
 pub data Frame : Type 0 where
   Calling : (back : ℕ) → Waiter → Frame
   Ending : (back : ℕ) → Waiter → (object : ℕ) → (next : Option ℕ) → (classes : ℕ) → Frame
-  Clearing : (back : ℕ) → Waiter → (object : ℕ) → (fields : List ℕ) → Frame
 
 abbrev pub with_temporaries : Held → List ℕ → Held
 with_temporaries h temporaries = record h { temporaries = temporaries }
@@ -69,12 +58,6 @@ with_names h names = record h { names = names }
 abbrev pub with_things : Held → List Object → Held
 with_things h objects = record h { objects = objects }
 
-abbrev pub with_globals : Held → List ℤ → Held
-with_globals h globals = record h { globals = globals }
-
-abbrev pub with_strong_globals : Held → List ℕ → Held
-with_strong_globals h strong_globals = record h { strong_globals = strong_globals }
-
 -- how many places name an object
 abbrev pub holders : ℕ → List ℕ → ℕ
 holders o [] = 0
@@ -82,7 +65,7 @@ holders o (p ∷ others) = if nat_eq o p then suc (holders o others) else holder
 
 -- Each count is the number of places that name the object, and an object whose dealloc hasn't begun has a place that names it.
 pub record Counted (h : Held) : Type 0 where
-  pub counted : (k : ℕ) → h.counts (suc k) ≡ holders (suc k) (all_places h)
+  pub counted : (k : ℕ) → h.counts (suc k) ≡ holders (suc k) (stacked h)
   pub held : (k : ℕ) (o : Object) → object_at h.objects (suc k) ≡ Some o → o.phase ≡ Live → 0 < h.counts (suc k)
 
 -- one more place names an object, or one less
@@ -154,28 +137,12 @@ abbrev pub on_left : {S : Type 0} → List ℕ → Held → (Held → Next S) �
 on_left [] h go = only_if (all_nil h.variables) (go (record h { variables = [] }))
 on_left (r ∷ others) h go = Stuck
 
--- what the last of some places names, where the others are nil
-abbrev pub on_last : {S : Type 0} → List ℕ → (ℕ → Next S) → Next S
-on_last [] go = Stuck
-on_last (r ∷ []) go = go r
-on_last (zero ∷ q ∷ others) go = on_last (q ∷ others) go
-on_last (suc k ∷ q ∷ others) go = Stuck
-
--- The running function is left with an object: it has no temporary, and its variables, of which all but the last one, its result, are nil, are no more.
-abbrev pub on_result : {S : Type 0} → List ℕ → Held → (ℕ → Held → Next S) → Next S
-on_result [] h go = on_last h.variables (λ r. go r (record h { variables = [] }))
-on_result (r ∷ others) h go = Stuck
-
--- a result is the last temporary, and the last reference names it: no place more or less names it than before it was handed over
-abbrev pub given_back : ℕ → Held → Held
-given_back r h = named r (record h { temporaries = r ∷ h.temporaries })
-
 -- ---- objects
 
 -- an object is made, a further temporary takes it, and a further reference names it
 abbrev pub makes : List Class → (class : ℕ) → Held → Held
 makes classes class h = named (suc (length h.objects)) (taken_by (suc (length h.objects))
-    (record h { objects = h.objects ++ new_object class (count_of (slice_get classes class)) (strong_count (slice_get classes class)) ∷ [] }))
+    (record h { objects = h.objects ++ new_object class (count_of (slice_get classes class)) ∷ [] }))
 
 -- a field of an object, whose own class this is
 abbrev pub on_field : {S : Type 0} → List Class → (class r : ℕ) → Held → (Object → Next S) → Next S
@@ -185,25 +152,6 @@ on_field classes class (suc k) h go = on_object (object_at h.objects (suc k)) (�
 abbrev pub with_field : Held → ℕ → Object → (index : ℕ) → ℤ → Held
 with_field h r o index v = record h { objects = with_object h.objects r (record o { fields = slice_set o.fields index v }) }
 
--- a field of an object names this now
-abbrev pub with_strong_field : Held → ℕ → Object → (index : ℕ) → ℕ → Held
-with_strong_field h r o index value = record h { objects = with_object h.objects r (record o { strong = slice_set o.strong index value }) }
-
--- what a place names, where there is that place
-abbrev pub on_place : {S : Type 0} → Option ℕ → Next S → (ℕ → Next S) → Next S
-on_place None none go = none
-on_place (Some old) none go = go old
-
--- A field of an object takes this value, if there is that field, and what it named is let go; where the fields of the object are being destroyed this is a fault.
-abbrev pub stores_field : {S : Type 0} → (r : ℕ) → Object → (index value : ℕ) → Held → (stays : Held → Next S) → (ends : (o class : ℕ) → Held → Next S) → Next S
-stores_field r o index value h stays ends = if is_emptying o.phase then Faults Resurrected
-    else on_place (slice_get o.strong index) (stays h) (λ old. lets_go old (raised value (with_strong_field h r o index value)) stays ends)
-
 -- an object in another phase
 abbrev pub turned_in : Phase → List Object → ℕ → List Object
 turned_in phase objects o = option_map_or (λ ob. with_object objects o (in_phase phase ob)) (object_at objects o) objects
-
--- a field of an object whose fields are destroyed is nil, and what it named is let go
-abbrev pub clears_field : {S : Type 0} → (r index : ℕ) → Held → (stays : Held → Next S) → (ends : (o class : ℕ) → Held → Next S) → Next S
-clears_field r index h stays ends = on_object (object_at h.objects r) (λ o.
-    on_place (slice_get o.strong index) (stays h) (λ old. lets_go old (raised 0 (with_strong_field h r o index 0)) stays ends))

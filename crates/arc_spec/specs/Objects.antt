@@ -6,14 +6,12 @@ use Rattle.std.specs.List.{list_any}
 pub data Phase : Type 0 where
   Live : Phase
   Dying : Phase
-  Emptying : Phase
   Gone : Phase
 
 -- an object: its class, the numbers that its fields hold, what its fields name that name objects, and how far it is on its way
 pub record Object : Type 0 where
   pub class : ℕ
   pub fields : List ℤ
-  pub strong : List ℕ
   pub phase : Phase
 
 -- The object of a number: objects are counted from 1, in the order of their making, and no number is used twice; 0 stands for nil (this project's own choice).
@@ -31,19 +29,10 @@ in_phase phase o = record o { phase = phase }
 abbrev pub with_fields : Object → List ℤ → Object
 with_fields o fields = record o { fields = fields }
 
-abbrev pub with_strong_fields : Object → List ℕ → Object
-with_strong_fields o strong = record o { strong = strong }
-
 -- whether the dealloc of an object hasn't begun
 abbrev pub is_whole : Phase → Bool
 is_whole Live = true
 is_whole _ = false
-
--- whether the fields of an object that name objects are being destroyed, or are already
-abbrev pub is_emptying : Phase → Bool
-is_emptying Live = false
-is_emptying Dying = false
-is_emptying _ = true
 
 -- whether an object isn't gone
 abbrev pub is_there : Phase → Bool
@@ -64,16 +53,8 @@ abbrev pub nils : ℕ → List ℕ
 nils n = replicate n 0
 
 -- an object of a class as it is made, with so many fields of each sort: all of them are 0 or nil (OPL, "Allocating and Initializing Objects")
-abbrev pub new_object : (class fields strong_fields : ℕ) → Object
-new_object class fields strong_fields = record { class = class; fields = zeros fields; strong = nils strong_fields; phase = Live }
-
--- what the fields of an object name that isn't gone; those of one that is gone are no places any more
-abbrev pub fields_of : Object → List ℕ
-fields_of o = if is_there o.phase then o.strong else []
-
--- what the fields of all objects name that aren't gone: each of them is a strong place (ARC, "Ownership qualification")
-abbrev pub field_places : List Object → List ℕ
-field_places = flat_map fields_of
+abbrev pub new_object : (class fields : ℕ) → Object
+new_object class fields = record { class = class; fields = zeros fields; phase = Live }
 
 -- whether one of the places names the object
 abbrev pub names : ℕ → List ℕ → Bool

@@ -1,13 +1,8 @@
 -- A program whose names are resolved, whose kinds are known and whose conversions are written.
 use Rattle.std.specs.Prelude.{ℕ, ℤ, Bool, List, Option}
-use Rattle.arc_ast.specs.declared.tree.Kind.{Kind}
-use Rattle.arc_ast.specs.declared.tree.Moment.{Moment}
 use Rattle.arc_ast.specs.declared.tree.UnaryOperator.{UnaryOperator}
 use Rattle.arc_ast.specs.declared.tree.BinaryOperator.{BinaryOperator}
-use Rattle.arc_spec.specs.declared.class.Gives.{Gives}
 use Rattle.arc_spec.specs.Classes.{Class}
-pub use Rattle.arc_spec.specs.declared.location.Location.{Location}
-pub use Rattle.arc_spec.specs.declared.location.Location.TheVariants.{Local, Global}
 
 -- what a format prints in turn (C99, section 7.19.6.1): bytes as they are, the next value as a decimal number, or its low 8 bits as a byte
 pub data Piece : Type 0 where
@@ -23,18 +18,14 @@ mutual
     Number : ℤ → Value
     ReadByte : Value
     Print : List Piece → Arguments → Value
-    Applied : UnaryOperator → Kind → Value → Value
-    Combined : BinaryOperator → Kind → Value → Value → Value
-    Choice : Value → Value → Value → Value
-    Converted : Kind → Value → Value
-    Read : Location → Value
-    Assigned : Location → Value → Value
-    Updated : Moment → Location → BinaryOperator → (computed kept : Kind) → Value → Value
+    Applied : UnaryOperator → Value → Value
+    Combined : BinaryOperator → Value → Value → Value
+    Read : ℕ → Value
+    Assigned : ℕ → Value → Value
     Invoked : ℕ → Arguments → Value
     Sent : Receiver → (selector : ℕ) → Arguments → Value
     Field : Reference → (class index : ℕ) → Value
     FieldAssigned : Reference → (class index : ℕ) → Value → Value
-    FieldUpdated : Moment → Reference → (class index : ℕ) → BinaryOperator → (computed kept : Kind) → Value → Value
     Differ : Reference → Reference → Value
     IsObject : Reference → Value
 
@@ -44,15 +35,10 @@ mutual
   pub data Reference : Type 0 where
     Nil : Reference
     Itself : Reference
-    Variable : Location → Reference
-    Chosen : Value → Reference → Reference → Reference
-    Stored : Location → Reference → Reference
-    ObjectField : Reference → (class index : ℕ) → Reference
-    ObjectFieldStored : Reference → (class index : ℕ) → Reference → Reference
+    Variable : ℕ → Reference
+    Stored : ℕ → Reference → Reference
     Made : Value → Reference
-    New : (from : Option ℕ) → Value → Reference
-    ObjectInvoked : ℕ → Arguments → Reference
-    ObjectSent : Receiver → (selector : ℕ) → Arguments → Reference
+    Initialized : Reference → Reference
 
   -- What gets a message: a class, by its number, or an object. One to `super` goes to `self`, which in a class method is the class that got the message and in a method of
   -- objects stands here, and has the class from which its method is looked up (OPL, "Messages to self and super").
@@ -60,13 +46,12 @@ mutual
     ClassValue : Value → Receiver
     ClassSuper : (from : ℕ) → Receiver
     ObjectValue : Reference → Receiver
-    ObjectSuper : Reference → (from : ℕ) → Receiver
+    ObjectSuper : (from : ℕ) → Receiver
 
   -- what a function or a method is passed, in its order: numbers, and objects or nil
   pub data Arguments : Type 0 where
     no_arguments : Arguments
-    number_argument : Value → Arguments → Arguments
-    object_argument : Reference → Arguments → Arguments
+    and_argument : Value → Arguments → Arguments
 
 mutual
   -- A statement. A sequence has so many variables of its own that name objects, from the first one on; the beginning of such a variable is what it names first.
@@ -77,11 +62,8 @@ mutual
     EvaluateReference : Reference → Command
     Begin : ℕ → Reference → Command
     Return : Option Value → Command
-    Give : Reference → Command
     Choose : Value → Command → Command → Command
-    Repeat : (tested : Moment) → Value → (step body : Command) → Command
-    Break : Command
-    Continue : Command
+    Repeat : Value → Command → Command
 
   pub data Commands : Type 0 where
     no_commands : Commands
@@ -94,9 +76,6 @@ mutual
 pub record Function : Type 0 where
   pub slots : ℕ
   pub names : ℕ
-  pub parameters : ℕ
-  pub gives : Gives
-  pub owns : Bool
   pub body : Commands
 
 -- the functions of a program, which of them is main, what the variables of the whole program hold first that hold numbers, how many variables of the whole program name
@@ -104,6 +83,4 @@ pub record Function : Type 0 where
 pub record Program : Type 0 where
   pub functions : List Function
   pub main : ℕ
-  pub globals : List ℤ
-  pub strong_globals : ℕ
   pub classes : List Class

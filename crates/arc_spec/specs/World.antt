@@ -3,10 +3,8 @@ use Rattle.std.specs.Prelude.{ℕ, zero, suc, Bool, if◌then◌else◌, slice_g
 use Rattle.arc_spec.specs.declared.event.Event.{Event}
 use Rattle.arc_spec.specs.declared.event.Event.TheVariants.{Byte}
 use Rattle.arc_spec.specs.declared.event.Fault as faults
-use Rattle.arc_spec.specs.declared.location.Location.{Location}
-use Rattle.arc_spec.specs.declared.location.Location.TheVariants.{Local, Global}
 use Rattle.arc_spec.specs.Number.{byte_or_end}
-use Rattle.arc_spec.specs.Objects.{Object, nils, field_places}
+use Rattle.arc_spec.specs.Objects.{Object, nils}
 
 -- The running function: in a method of objects `self`, the variables that hold numbers, those that name objects, of which its parameters are the first, and the
 -- temporaries of its full-expression, the last one first. After the variables that name objects comes the place of the result, where it gives an object. All of these and
@@ -23,8 +21,6 @@ pub record Frame : Type 0 where
 pub record World : Type 0 where
   pub input : List ℕ
   pub trace : List Event
-  pub globals : List ℤ
-  pub strong_globals : List ℕ
   pub objects : List Object
   pub frame : Frame
   pub waiting : List ℕ
@@ -33,44 +29,23 @@ abbrev pub first_frame : Frame
 first_frame = record { self = 0; locals = []; strong = []; temporaries = [] }
 
 -- what a program begins with: the numbers of its variables, and so many variables that name objects, each of which is nil
-abbrev pub first_world : (globals : List ℤ) → (strong_globals : ℕ) → List ℕ → World
-first_world globals strong_globals input = record {
-  input = input;
-  trace = [];
-  globals = globals;
-  strong_globals = nils strong_globals;
-  objects = [];
-  frame = first_frame;
-  waiting = [];
-}
+abbrev pub first_world : List ℕ → World
+first_world input = record { input = input; trace = []; objects = []; frame = first_frame; waiting = [] }
 
 -- the strong places of the running function
 abbrev pub frame_places : Frame → List ℕ
 frame_places f = f.temporaries ++ f.strong
 
--- the strong places of all functions that were called
-abbrev pub stacked : World → List ℕ
-stacked w = frame_places w.frame ++ w.waiting
-
 -- All strong places: what each of them names (ARC, "Ownership qualification"). They are the temporaries and variables of all functions that were called, the variables
 -- of the whole program, and the fields of the objects that aren't gone.
 abbrev pub places : World → List ℕ
-places w =
-    stacked w
-    ++ (w.strong_globals
-    ++ field_places w.objects)
+places w = frame_places w.frame ++ w.waiting
 
 abbrev pub with_objects : World → List Object → World
 with_objects w objects = record w { objects = objects }
 
 abbrev pub with_locals : World → List ℤ → World
 with_locals w locals = record w { frame = record w.frame { locals = locals } }
-
-abbrev pub with_globals : World → List ℤ → World
-with_globals w globals = record w { globals = globals }
-
-abbrev pub with_strong_globals : World → List ℕ → World
-with_strong_globals w strong_globals = record w { strong_globals = strong_globals }
 
 abbrev pub with_strong : World → List ℕ → World
 with_strong w strong = record w { frame = record w.frame { strong = strong } }
@@ -93,29 +68,12 @@ padded none zero given = []
 padded none (suc n) [] = none ∷ padded none n []
 padded none (suc n) (a ∷ given) = a ∷ padded none n given
 
--- what a function or a method is given: its arguments that are numbers, and those that are objects or nil
-pub record Given : Type 0 where
-  pub numbers : List ℤ
-  pub objects : List ℕ
-
--- what a function or a method gives: a number, or an object or nil
-pub record Answer : Type 0 where
-  pub number : ℤ
-  pub object : ℕ
-
-abbrev pub nothing_given : Given
-nothing_given = record { numbers = []; objects = [] }
-
--- what the first variables that name objects name: `self`, where it is owned, and the objects that are given
-abbrev pub and_self : (owns : Bool) → (self : ℕ) → List ℕ → List ℕ
-and_self owns self given = if owns then self ∷ given else given
-
 -- A function begins, with so many variables that hold numbers and so many places for those that name objects, of which so many are given (C99, section 6.5.2.2): the
 -- running one waits for it.
-abbrev pub entered : (slots count parameters : ℕ) → (owns : Bool) → (self : ℕ) → Given → World → World
-entered slots count parameters owns self given w = record w {
-  frame = record { self = self; locals = padded (pos 0) slots given.numbers; strong = padded 0 count (and_self owns self (take parameters given.objects)); temporaries = [] };
-  waiting = stacked w;
+abbrev pub entered : (slots count self : ℕ) → List ℤ → World → World
+entered slots count self given w = record w {
+  frame = record { self = self; locals = padded (pos 0) slots given; strong = nils count; temporaries = [] };
+  waiting = places w;
 }
 
 -- a function is left, and the one that waited for it runs again
@@ -126,15 +84,9 @@ left before now = record now { frame = before.frame; waiting = before.waiting }
 abbrev pub takes : ℕ → World → World
 takes r w = record w { frame = record w.frame { temporaries = r ∷ w.frame.temporaries } }
 
--- what a variable names
-abbrev pub named_at : Location → World → ℕ
-named_at (Local i) w = name_at w.frame.strong i
-named_at (Global i) w = name_at w.strong_globals i
-
 -- a variable names this now
-abbrev pub stores : Location → ℕ → World → World
-stores (Local i) r w = record w { frame = record w.frame { strong = slice_set w.frame.strong i r } }
-stores (Global i) r w = record w { strong_globals = slice_set w.strong_globals i r }
+abbrev pub stores : ℕ → ℕ → World → World
+stores i r w = record w { frame = record w.frame { strong = slice_set w.frame.strong i r } }
 
 -- how a part of a program ends: with a value, stopped by a fault, or cut where a loop would pass the bound on its turns
 pub data Outcome (A : Type 0) : Type 0 where

@@ -4,13 +4,6 @@ ghost use Rattle.arc_spec.specs.Classes.{answers, classes_of, descends, found, g
 
 use arc_ast::tree::{Kind, Sign};
 
-/// What a function, a method or a message gives: a number, or an object or nil. What has no result gives the number 0.
-#[derive(Clone, Copy, Debug, PartialEq, Eq)]
-pub enum Gives {
-    Number,
-    Object,
-}
-
 /// What gives a value of the kind, or no value.
 pub fn gives_of(kind: Kind) -> Gives
     ensures { result ≡ gives_of kind }
@@ -29,8 +22,6 @@ pub struct Method {
     pub sign: Sign,
     pub selector: usize,
     pub takes: usize,
-    pub objects: usize,
-    pub gives: Gives,
     pub runs: usize,
 }
 
@@ -43,7 +34,6 @@ pub struct Class {
     pub methods: Vec<Method>,
     pub dealloc: Option<usize>,
     pub fields: usize,
-    pub strong_fields: usize,
 }
 
 /// Whether the method answers a message of this sign with this selector, and so many numbers and objects
