@@ -1,7 +1,7 @@
 #!/usr/bin/env bash
-# Fails for each public function of a library that has no `ensures`, and for each public call that no must-fail
-# edit turns. A public call is a public function of a public module, but for the laws, which have no body to turn,
-# and for `From` and `Default`. tests/contracts.txt names the edits of each. The functions of arc_scope are called by arc_judge
+# Fails for each public function of a library that has no `ensures`, and for each public call that no mutant
+# turns. A public call is a public function of a public module, but for the laws, which have no body to turn,
+# and for `From` and `Default`. tests/contracts.txt names the mutants of each. The functions of arc_scope are called by arc_judge
 # and arc_resolve alone, those of arc_cells, arc_steps and arc_turns by one another and by arc_machine: each has to have an
 # `ensures`, and none is a public call.
 # Each library is checked over what earlier checks kept. The last line is `N passed, M failed`.
@@ -20,10 +20,10 @@ fail() {
   ((failed += 1))
 }
 
-# The edits of each call, by `CRATE CALL`.
-declare -A edits
+# The mutants of each call, by `CRATE CALL`.
+declare -A mutants
 while read -r crate call names; do
-  [[ $crate != '#'* ]] && edits["$crate ${call%:}"]=$names
+  [[ $crate != '#'* ]] && mutants["$crate ${call%:}"]=$names
 done <tests/contracts.txt
 
 # Prints the public calls of a crate, from rows as `untested  src/heap.rt:56 <PlainStore as Store>::take()`.
@@ -39,13 +39,13 @@ public_calls() {
 }
 
 check_call() {
-  local name file names=${edits["$1 $2"]-}
-  unset "edits[$1 $2]"
-  [[ -n $names ]] || { fail "$1 $2: tests/contracts.txt names no edit"; return; }
+  local name crate names=${mutants["$1 $2"]-}
+  unset "mutants[$1 $2]"
+  [[ -n $names ]] || { fail "$1 $2: tests/contracts.txt names no mutant"; return; }
   [[ $names == none ]] && { pass; return; }
   for name in $names; do
-    [[ $name == */* ]] && file=crates/${name%/*}/must-fail/${name#*/}.edit || file=crates/$1/must-fail/$name.edit
-    [ -f "$file" ] || { fail "$1 $2: there is no edit $name"; return; }
+    [[ $name == */* ]] && crate=${name%/*} || crate=$1
+    grep -qsx "mutant: ${name#*/}" "crates/$crate/must-fail"/*.edit || { fail "$1 $2: there is no mutant $name"; return; }
   done
   pass
 }
@@ -63,6 +63,6 @@ check_crate() {
 while IFS=': ' read -r crate _; do
   [[ -f crates/$crate/src/lib.rt && $crate != *_tests ]] && check_crate "$crate"
 done <crates.txt
-for call in "${!edits[@]}"; do fail "$call: tests/contracts.txt names it, and it is no public call"; done
+for call in "${!mutants[@]}"; do fail "$call: tests/contracts.txt names it, and it is no public call"; done
 echo "$passed passed, $failed failed"
 [ "$failed" = 0 ]

@@ -1,0 +1,36 @@
+#!/usr/bin/env bash
+# Tries each mutant of the crates that are named, or of all, by itself. An edit crates/NAME/must-fail/KIND.edit holds the mutants of one
+# kind, each of which begins with a line `mutant: NAME`. The gate tries those of an edit at once, which shows that one of them
+# at least is refused. Here each is an edit of its own, in a clone of what is committed, over what earlier checks kept.
+# The last line is `N passed, M failed`.
+set -u
+cd "$(dirname "$0")/.." || exit 2
+clone=$(mktemp -d) || exit 2
+trap 'rm -rf "$clone"' EXIT
+git clone -q . "$clone/tree" && cd "$clone/tree" || exit 2
+
+# Puts each mutant of the edits in a folder into a file of its own in another one.
+part() {
+  awk -v folder="$2" '
+    /^mutant: / { one = folder "/" substr($0, 9) ".edit" }
+    one { print > one }
+  ' "$1"/*.edit
+}
+
+names=("$@")
+if [ ${#names[@]} = 0 ]; then
+  for folder in crates/*/must-fail; do names+=("$(basename "$(dirname "$folder")")"); done
+fi
+passed=0 failed=0
+for name in "${names[@]}"; do
+  mv "crates/$name/must-fail" "$clone/$name" && mkdir "crates/$name/must-fail" || exit 2
+  part "$clone/$name" "crates/$name/must-fail"
+  mutants=$(cat "$clone/$name"/*.edit | grep -c '^mutant: ')
+  said=$(rt must-fail "$name" 2>&1)
+  refused=$(grep -c '^must-fail .*: refused, as it must be' <<<"$said")
+  grep -v ': refused, as it must be' <<<"$said"
+  echo "$name: $refused of $mutants refused"
+  ((passed += refused, failed += mutants - refused))
+done
+echo "$passed passed, $failed failed"
+[ "$failed" = 0 ]
