@@ -31,6 +31,7 @@ use Rattle.arc_source.specs.Accepted.{Spelled, Accepted, program_meant, meant}
 use Rattle.arc_tool.specs.Compiled.{Compiles, CompilesNamed, class_names}
 use Rattle.arc_tool.specs.Refused.{IsTooLarge, IsCompilable, IsRefusal, too_large, no_memory}
 use Rattle.arc_tool.specs.Reports.{Reports}
+use Rattle.arc_tool.specs.private.Checked.{IsChecked}
 use Rattle.arc_emit.specs.declared.emit.TheConstants.{MOST_INSTRS}
 
 -- the tokens of the source, as they were passed on
@@ -54,19 +55,27 @@ small_enough source program count is few = (program, subst (λ n. n ≤ MOST_INS
 
 -- ---- the stages
 
-module _ (source : List ℕ) (unit : TranslationUnit) (program : Checked)
-    (spelled : Spelled source (unit_tree unit)) (declared : broken (unit_tree unit) ≡ [])
-    (checked : broken_unit (unit_tree unit) ≡ []) (source_is : unit_tree program.unit.now ≡ unit_tree unit) (ruled : ownership.broken (unit_tree program.unit.now) ≡ []) where
-  abbrev pub accepted : Accepted source
-  accepted = record { tree = unit_tree unit; spelled = spelled; declared = declared; checked = checked; owned = subst (λ u. ownership.broken u ≡ []) source_is ruled }
+-- a program that `check` gave
+pub checked : (source : List ℕ) (unit : TranslationUnit) (program : Checked) → Spelled source (unit_tree unit) → broken (unit_tree unit) ≡ []
+    → broken_unit (unit_tree unit) ≡ [] → program_of program ≡ resolved_unit (unit_tree unit) → program.unit.now ≡ unit → IsChecked source program
+checked source unit program spelled declared unbroken means same = record {
+  spelled = subst (λ u. Spelled source (unit_tree u)) (sym same) spelled;
+  declared = subst (λ u. broken (unit_tree u) ≡ []) (sym same) declared;
+  checked = subst (λ u. broken_unit (unit_tree u) ≡ []) (sym same) unbroken;
+  resolved = subst (λ u. program_of program ≡ resolved_unit (unit_tree u)) (sym same) means;
+}
 
-  module _ (owned : Checked) (actions : acting.Program) (means : program_of program ≡ resolved_unit (unit_tree unit)) (same : owned ≡ program)
+module _ (source : List ℕ) (program : Checked) (of : IsChecked source program) (ruled : ownership.broken (unit_tree program.unit.now) ≡ []) where
+  abbrev pub accepted : Accepted source
+  accepted = record { tree = unit_tree program.unit.now; spelled = of.spelled; declared = of.declared; checked = of.checked; owned = ruled }
+
+  module _ (owned : Checked) (actions : acting.Program) (same : owned ≡ program)
       (performs : Performs (program_of owned) actions) (exact : IsLowered (program_of owned) actions) where
     pub performed : Performs (program_meant accepted) actions
-    performed = subst (λ P. Performs P actions) (ap program_of same ∙ means) performs
+    performed = subst (λ P. Performs P actions) (ap program_of same ∙ of.resolved) performs
 
     pub lowers : IsLowered (program_meant accepted) actions
-    lowers = subst (λ P. IsLowered P actions) (ap program_of same ∙ means) exact
+    lowers = subst (λ P. IsLowered P actions) (ap program_of same ∙ of.resolved) exact
 
     abbrev pub compiled : (code : Program) → IsSound code → Refines (acting.seen actions) (seen code) → Steady (seen code) → Compiles source code
     compiled code sound refines steady = record {
@@ -76,7 +85,8 @@ module _ (source : List ℕ) (unit : TranslationUnit) (program : Checked)
       sound = sound;
     }
 
-    pub compiled_named : (code : Program) → IsSound code → Refines (acting.seen actions) (seen code) → Steady (seen code) → CompilesNamed source code (class_names (unit_tree unit))
+    pub compiled_named : (code : Program) → IsSound code → Refines (acting.seen actions) (seen code) → Steady (seen code)
+        → CompilesNamed source code (class_names (unit_tree program.unit.now))
     compiled_named code sound refines steady = record { compiled = compiled code sound refines steady; named = refl }
 
     pub not_emitted : (e : EmitFault) (r : Refusal) → (e ≡ f.TooLarge → IsLarge actions) → Reports (record { number = emitting.fault_number e; name = emitting.fault_name e; at = 0 }) r → IsRefusal source r

@@ -27,7 +27,7 @@ use Rattle.arc_tool.specs.declared.lines.Left.{Left}
 use Rattle.arc_tool.specs.declared.lines.Left.TheVariants.{Stopped, Unread}
 use Rattle.arc_tool.specs.Progress.{run_of, rest_of, Takes, MakesObject, ReadsByte}
 use Rattle.arc_tool.specs.SourceRun.{Follows, Within, GoesOn, stop_seen}
-use Rattle.arc_tool.specs.Stepped.{new_events}
+use Rattle.arc_tool.specs.private.Stepped.{new_events}
 
 -- something that may be left
 leavable : (i : Option (List ℕ)) → (rest : List ℕ) × Leaves i rest

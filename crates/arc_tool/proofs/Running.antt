@@ -33,7 +33,7 @@ use Rattle.arc_tool.specs.Compiled.{Compiles}
 use Rattle.arc_tool.specs.declared.refusal.Refusal.{Refusal}
 use Rattle.arc_tool.specs.Refused.{IsRefusal}
 use Rattle.arc_tool.specs.Reports.{Becomes}
-use Rattle.arc_tool.specs.Printed.{Printed, PrintedPart, RanCode}
+use Rattle.arc_tool.specs.private.Printed.{Printed, PrintedPart, RanCode}
 use Rattle.arc_tool.specs.Ran.{PrintsAll, PrintsPart, Answered}
 use Rattle.arc_tool.specs.SourceRun.{Follows}
 use Rattle.arc_machine.proofs.Starting.{fresh_stands}

@@ -15,7 +15,7 @@ use Rattle.arc_turns.specs.Runs.{Runs, Leaves, is_stopped}
 use Rattle.arc_tool.specs.declared.lines.Left.{Left}
 use Rattle.arc_tool.specs.Lines.{events_text, open_after}
 use Rattle.arc_tool.specs.SourceRun.{Follows, Within}
-use Rattle.arc_tool.specs.Stepped.{new_events, Followed, Interrupted, Reads}
+use Rattle.arc_tool.specs.private.Stepped.{new_events, Followed, Interrupted, Reads}
 use Rattle.arc_tool.proofs.Lining.{more_events, open_further}
 use Rattle.arc_tool.proofs.Following.{Reaches, starts, goes_on, follows, follows_before, left_of, within_so}
 

@@ -21,7 +21,7 @@ use Rattle.arc_tool.specs.Ran.{Untouched, Blames}
 use Rattle.arc_tool.specs.Refused.{IsRefusal}
 use Rattle.arc_tool.specs.Reports.{Becomes}
 use Rattle.arc_tool.specs.SourceRun.{SourceRun}
-use Rattle.arc_tool.specs.Stepped.{Followed, Interrupted, EndsTrace}
+use Rattle.arc_tool.specs.private.Stepped.{Followed, Interrupted, EndsTrace}
 use Rattle.arc_tool.specs.Traced.{AnsweredTrace, text_of}
 use Rattle.arc_tool.proofs.Meant.{source_run}
 

@@ -5,8 +5,7 @@ pub mod Progress
 pub mod Status
 pub mod Lines
 pub mod SourceRun
-pub mod Printed
 pub mod Ran
 pub mod Traced
-pub mod Stepped
 pub mod Served
+pub mod private

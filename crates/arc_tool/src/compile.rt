@@ -1,14 +1,18 @@
 //! From the bytes of a source to code.
-ghost use Rattle.std.specs.Prelude.{◌≡◌, ℕ, List, map, IfOk, IfErr};
+ghost use Rattle.std.specs.Prelude.{◌≡◌, ℕ, List, [], map, IfOk, IfErr};
 ghost use Rattle.arc_ast.specs.Tree.{unit_tree};
+ghost use Rattle.arc_class.specs.ClassRules.{broken};
+ghost use Rattle.arc_class.specs.Table.{IsTableOf};
 ghost use Rattle.arc_code.specs.Running.{IsSound, program_of};
 ghost use Rattle.arc_source.specs.Accepted.{Spelled};
 ghost use Rattle.arc_tool.specs.Compiled.{Compiles, CompilesNamed, class_names, bytes_of_name};
 ghost use Rattle.arc_tool.specs.Refused.{IsRefusal};
+ghost use Rattle.arc_tool.specs.private.Checked.{IsChecked};
 
 use crate::refusal::Refusal;
 use arc_ast::tree::TranslationUnit;
 use arc_check::check::check;
+use arc_checked::program::Checked;
 use arc_class::table::ClassTable;
 use arc_code::code::Code;
 use arc_emit::emit::emit;
@@ -18,6 +22,7 @@ use arc_lower::lower::lower;
 use arc_parse::parse::parse;
 use arc_spec::event::NoMemory;
 use std::alloc::Global;
+use std::mem::drop;
 
 /// Code, and the names of the classes that it knows by their numbers.
 #[derive(Drop)]
@@ -67,11 +72,39 @@ fn translate(alloc: Global, unit: &TranslationUnit) -> Result<Code, Refusal>
     ensures refused { (source : List ℕ) → Spelled source (unit_tree unit.now) → IfErr result (λ refusal. IsRefusal source refusal) }
 {
     let table = ClassTable::build(alloc, unit)?;
-    let program = check(alloc, unit, &table)?;
-    let owned = own(alloc, &program)?;
+    translate_unit(alloc, unit, &table)
+}
+
+/// The code of a tree that breaks no rule of declarations, whose table this is.
+fn translate_unit<'a>(
+    alloc: Global,
+    unit: &'a TranslationUnit,
+    table: &ClassTable<'a>,
+) -> Result<Code, Refusal>
+    requires unbroken { broken (unit_tree unit.now) ≡ [] }
+    requires table { IsTableOf (unit_tree unit.now) table.now }
+    ensures compiled { (source : List ℕ) → Spelled source (unit_tree unit.now)
+        → IfOk result (λ code. CompilesNamed source (program_of code) (class_names (unit_tree unit.now))) }
+    ensures sound { IfOk result (λ code. IsSound (program_of code)) }
+    ensures refused { (source : List ℕ) → Spelled source (unit_tree unit.now) → IfErr result (λ refusal. IsRefusal source refusal) }
+{
+    let program = check(alloc, unit, table)?;
+    translate_program(alloc, &program)
+}
+
+/// The code of a program that keeps the rules that are known before those of ownership.
+fn translate_program(alloc: Global, program: &Checked) -> Result<Code, Refusal>
+    requires { IsTableOf (unit_tree program.now.unit.now) program.now.table.now }
+    ensures compiled { (source : List ℕ) → IsChecked source program.now
+        → IfOk result (λ code. CompilesNamed source (program_of code) (class_names (unit_tree program.now.unit.now))) }
+    ensures sound { IfOk result (λ code. IsSound (program_of code)) }
+    ensures refused { (source : List ℕ) → IsChecked source program.now → IfErr result (λ refusal. IsRefusal source refusal) }
+{
+    let owned = own(alloc, program)?;
     let actions = lower(alloc, &owned)?;
-    let code = emit(alloc, &actions, &table)?;
-    Ok(code)
+    let emitted = emit(alloc, &actions, program.table);
+    drop(actions);
+    Ok(emitted?)
 }
 
 /// The names of a source's classes in the order of their numbers, of which the root has the first.

@@ -6,7 +6,7 @@ ghost use Rattle.arc_code.specs.Running.{IsSound, Program};
 ghost use Rattle.arc_turns.specs.Runs.{Lacks};
 ghost use Rattle.arc_steps.specs.Views.{fresh};
 ghost use Rattle.arc_machine.specs.declared.stop.Stop.TheVariants.{NoHeap};
-ghost use Rattle.arc_tool.specs.Printed.{RanCode, failed_device};
+ghost use Rattle.arc_tool.specs.private.Printed.{RanCode, failed_device};
 ghost use Rattle.arc_tool.specs.Ran.{Answered, Blames, Untouched, blamed};
 
 use crate::compile::compile;

@@ -11,7 +11,7 @@ ghost use Rattle.arc_tool.specs.Compiled.{bytes_of_name};
 ghost use Rattle.arc_tool.specs.Ran.{Blames, Untouched, blamed};
 ghost use Rattle.arc_tool.specs.declared.lines.Left.TheVariants.{Stopped};
 ghost use Rattle.arc_tool.specs.Lines.{events_text, open_after};
-ghost use Rattle.arc_tool.specs.Stepped.{EndsTrace, Followed, Interrupted, new_events};
+ghost use Rattle.arc_tool.specs.private.Stepped.{EndsTrace, Followed, Interrupted, new_events};
 ghost use Rattle.arc_tool.specs.Traced.{AnsweredTrace};
 
 use crate::compile::compile_named;
