@@ -90,6 +90,11 @@ names_with_key ks k = go (list_any (λ key. bytes_eq k.now key.now) ks) (any_amo
     go true e = ap (λ b. if b then names_of ks else names_of ks ++ k.now ∷ []) e
     go false e = names_push ks k ∙ ap (λ b. if b then names_of ks else names_of ks ++ k.now ∷ []) e
 
+-- a name that comes to names that are known
+pub names_with : (old new : List (Bor (List ℕ))) (k : Bor (List ℕ)) (names : List (List ℕ)) (name : List ℕ)
+    → new ≡ insert_key (λ x y. bytes_eq x.now y.now) old k → k.now ≡ name → names_of old ≡ names → names_of new ≡ and_name names name
+names_with old new k names name is text known = ap names_of is ∙ names_with_key old k ∙ ap (and_name (names_of old)) text ∙ ap (λ ns. and_name ns name) known
+
 pub position_number : (ks : List (Bor (List ℕ))) (name : List ℕ) → position (λ key. bytes_eq name key.now) ks ≡ number_among (names_of ks) name
 position_number [] name = refl
 position_number (k ∷ ks) name = go (bytes_eq name k.now) refl (position_number ks name)

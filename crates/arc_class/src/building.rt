@@ -1,5 +1,5 @@
 //! The parts of a table: selectors, entries and classes.
-ghost use Rattle.std.specs.Prelude.{◌≡◌, ◌<◌, ◌+◌, ◌∷◌, List, ℕ, suc, length, map, unwrap_or, IfOk, IfErr, OnOk};
+ghost use Rattle.std.specs.Prelude.{◌≡◌, ◌<◌, ◌+◌, [], ◌∷◌, List, ℕ, suc, length, map, unwrap_or, IfOk, IfErr, OnOk};
 ghost use Rattle.arc_ast.specs.declared.tree.Sign.{Sign};
 ghost use Rattle.arc_ast.specs.Tree.{UnitTree, unit_tree, head_tree, head_trees, method_trees, interface_trees, implementation_trees, interface_tree};
 ghost use Rattle.arc_spec.specs.Classes.{class_of, classes_of};
@@ -103,11 +103,11 @@ fn add_in_order<'a>(
     add_defined(names, rest)
 }
 
-/// The selectors of the root's methods.
-fn built_in_selectors<'a>(alloc: Global) -> Result<Selectors<'a>, AllocError>
-    ensures { IfOk result (λ names. names_of names.keys ≡ built_in_selectors) }
+/// Adds the selectors of the root's methods.
+fn add_built_in(names: &mut Selectors) -> Result<(), AllocError>
+    requires { names_of names.old.keys ≡ [] }
+    ensures { OnOk result (names_of names.new.keys ≡ built_in_selectors) }
 {
-    let mut names = Selectors::new(alloc);
     names.insert(b"alloc".as_slice())?;
     names.insert(b"new".as_slice())?;
     names.insert(b"init".as_slice())?;
@@ -116,6 +116,15 @@ fn built_in_selectors<'a>(alloc: Global) -> Result<Selectors<'a>, AllocError>
     names.insert(b"isMemberOfClass:".as_slice())?;
     names.insert(b"respondsToSelector:".as_slice())?;
     names.insert(b"conformsToProtocol:".as_slice())?;
+    Ok(())
+}
+
+/// The selectors of the root's methods.
+fn built_in_selectors<'a>(alloc: Global) -> Result<Selectors<'a>, AllocError>
+    ensures { IfOk result (λ names. names_of names.keys ≡ built_in_selectors) }
+{
+    let mut names = Selectors::new(alloc);
+    add_built_in(&mut names)?;
     Ok(names)
 }
 
@@ -385,10 +394,10 @@ impl<'a> Parts<'a> {
         ensures refused { IfErr result (λ fault. fault ≡ Memory) }
     {
         let built_in = BuiltIn::from(source.function_count)?;
-        let selectors = selectors(alloc, source.unit)?;
-        let classes = source.classes(alloc, &selectors, named_fields)?;
         let entries = source.entries(alloc)?;
         let fields = source.all_fields(alloc)?;
+        let selectors = selectors(alloc, source.unit)?;
+        let classes = source.classes(alloc, &selectors, named_fields)?;
         Ok(Parts {
             selectors,
             entries,
