@@ -1,5 +1,5 @@
 -- Sets of bytes, by their ASCII codes, and runs of them.
-use Rattle.std.specs.Prelude.{ℕ, ◌+◌, List, [], ◌∷◌, drop, Bool, true, false, not, ◌&&◌, ◌||◌, nat_le, nat_eq, if◌then◌else◌}
+use Rattle.std.specs.Prelude.{ℕ, ◌+◌, List, [], ◌∷◌, drop, Bool, false, not, ◌&&◌, ◌||◌, nat_le, nat_eq, if◌then◌else◌}
 use Rattle.std.specs.List.{list_all}
 use Rattle.arc_lex.specs.declared.bytes.Class.{Class}
 use Rattle.arc_lex.specs.declared.bytes.Class.TheVariants as c

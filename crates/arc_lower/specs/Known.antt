@@ -40,6 +40,7 @@ abbrev pub applied_kind : UnaryOperator → Kind → Kind
 applied_kind u.Not kind = k.Bool
 applied_kind _ kind = kind
 
+-- what an operator of this sort gives, by the kind of its operands: a comparison, `&&` and `||` give 0 or 1
 abbrev pub kind_by : OperatorSort → Kind → Kind
 kind_by Arithmetic kind = kind
 kind_by Shift kind = kind
