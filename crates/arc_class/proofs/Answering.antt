@@ -10,12 +10,13 @@ use Rattle.arc_class.specs.declared.kept.Source.{Source}
 use Rattle.arc_class.specs.declared.look.Seen.{Seen}
 use Rattle.arc_class.specs.Broken.{Broken, first, earlier_of}
 use Rattle.arc_class.specs.Names.{number_of, is_main}
-use Rattle.arc_class.specs.ClassRules.{broken_interface, broken_implementation, broken}
+use Rattle.arc_class.specs.ClassRules.{broken}
 use Rattle.arc_class.specs.Broken.{in_order}
 use Rattle.arc_class.specs.Fault.{reported, Refuses}
 use Rattle.arc_class.specs.Functions.{duplicate, missing_main}
 use Rattle.arc_class.specs.Kept.{Knows}
 use Rattle.arc_class.specs.private.Look.{Sums}
+use Rattle.arc_class.specs.private.Within.{in_classes}
 use Rattle.arc_class.specs.SiteRules.{violations}
 use Rattle.arc_class.proofs.Firsts.{first_both, none_broken}
 
@@ -33,9 +34,6 @@ refuses all f.Memory h = tt
 -- all that is broken at sites
 abbrev pub at_sites : UnitTree → List Broken
 at_sites u = violations_of (violations u) (unit_sites u)
-
-abbrev pub in_classes : UnitTree → List Broken
-in_classes u = in_order (broken_interface u) [] u.interfaces ++ in_order (broken_implementation u) [] u.implementations
 
 -- the first of all broken rules, from those of the functions' names, a missing main's, those of sites and those of classes
 pub whole_known : (u : UnitTree) (seen : Seen) (own gone sites functions classes all : Option Broken) → Sums u.functions seen → gone ≡ first (missing_main seen.main) → own ≡ earlier_of (option_map reported seen.fault) gone

@@ -2,3 +2,5 @@
 pub mod Entries
 pub mod Look
 pub mod Scopes
+pub mod Parts
+pub mod Within

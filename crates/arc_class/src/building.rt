@@ -8,8 +8,10 @@ ghost use Rattle.arc_class.specs.Classes as classes;
 ghost use Rattle.arc_class.specs.Classes.{heads, first_head, with_selectors, defined_selectors, standing_before, standing_after, selectors_in_order, built_in_selectors, selectors, number_among, defined_by, own_heads};
 ghost use Rattle.arc_fault.specs.declared.class.ClassFault.TheVariants.{Memory};
 ghost use Rattle.arc_class.specs.private.Entries.{entry_tree, root_entry, class_entry, fields_tree, all_class_fields};
-ghost use Rattle.arc_class.specs.Fields.{all_fields_from};
+ghost use Rattle.arc_class.specs.private.Parts.{ArePartsOf};
 ghost use Rattle.arc_class.specs.Kept.{head_in, Knows};
+ghost use Rattle.arc_class.specs.Owners.{FindsMethods};
+ghost use Rattle.arc_ast.specs.declared.tree.Sign.TheVariants as signs;
 ghost use Rattle.arc_class.specs.Running as running;
 ghost use Rattle.arc_class.specs.Running.{method_made, with_method, methods_from, dealloc_from, class_with};
 ghost use Rattle.arc_class.specs.declared.table.Place.{Place};
@@ -18,6 +20,8 @@ ghost use Rattle.arc_class.specs.Table.{names_of, list_of, built_in_from};
 use crate::fields::{ClassFields, counted_among};
 use crate::heads::Heads;
 use crate::kept::Source;
+use crate::nearest::method_owners;
+use crate::owners::Owners;
 use crate::root::BuiltIn;
 use crate::sort_counts::{SortCounts, parameter_counts};
 use crate::table::{Entry, Field, at_name, class_number};
@@ -386,11 +390,7 @@ impl<'a> Parts<'a> {
     ) -> Result<Parts<'a>, ClassFault>
         requires knows { Knows (unit_tree source.now.unit.now) source.now }
         requires fields { map fields_tree named_fields.now ≡ all_class_fields (unit_tree source.now.unit.now) }
-        ensures selectors { IfOk result (λ parts. names_of parts.selectors.keys ≡ selectors (unit_tree source.now.unit.now)) }
-        ensures entries { IfOk result (λ parts. map (entry_tree source.now.names) parts.entries.items ≡ root_entry ∷ map (class_entry (unit_tree source.now.unit.now)) (unit_tree source.now.unit.now).interfaces) }
-        ensures fields { IfOk result (λ parts. map list_of parts.fields.items ≡ all_fields_from (unit_tree source.now.unit.now) 0 (suc (length (unit_tree source.now.unit.now).interfaces))) }
-        ensures classes { IfOk result (λ parts. classes_of parts.classes.items ≡ running.classes (unit_tree source.now.unit.now)) }
-        ensures built_in { IfOk result (λ parts. parts.built_in ≡ built_in_from source.now.function_count) }
+        ensures parts { IfOk result (λ parts. ArePartsOf source.now parts) }
         ensures refused { IfErr result (λ fault. fault ≡ Memory) }
     {
         let built_in = BuiltIn::from(source.function_count)?;
@@ -406,4 +406,37 @@ impl<'a> Parts<'a> {
             built_in,
         })
     }
+}
+
+/// The parts of a table, and which class has the nearest method of each selector.
+#[derive(Drop)]
+pub struct PartsAndOwners<'a> {
+    pub parts: Parts<'a>,
+    pub class_methods: Owners<'a>,
+    pub instance_methods: Owners<'a>,
+}
+
+/// The parts of the table of a source whose names and fields are known, and what finds its methods. Memory: there was
+/// none, or so many methods have no numbers.
+pub fn parts_and_owners<'a>(
+    alloc: Global,
+    source: &Source<'a>,
+    named_fields: &[ClassFields<'a>],
+) -> Result<PartsAndOwners<'a>, ClassFault>
+    requires knows { Knows (unit_tree source.now.unit.now) source.now }
+    requires fields { map fields_tree named_fields.now ≡ all_class_fields (unit_tree source.now.unit.now) }
+    ensures parts { IfOk result (λ all. ArePartsOf source.now all.parts) }
+    ensures class_methods { IfOk result (λ all. FindsMethods all.parts.entries.items signs.Class all.class_methods) }
+    ensures instance_methods { IfOk result (λ all. FindsMethods all.parts.entries.items signs.Instance all.instance_methods) }
+    ensures refused { IfErr result (λ fault. fault ≡ Memory) }
+{
+    let parts = Parts::of(alloc, source, named_fields)?;
+    let selectors = parts.selectors.len();
+    let class_methods = method_owners(alloc, &parts.entries, selectors, Sign::Class)?;
+    let instance_methods = method_owners(alloc, &parts.entries, selectors, Sign::Instance)?;
+    Ok(PartsAndOwners {
+        parts,
+        class_methods,
+        instance_methods,
+    })
 }

@@ -7,6 +7,7 @@ ghost use Rattle.arc_class.specs.Classes.{is_root};
 ghost use Rattle.arc_class.specs.ClassRules.{broken};
 ghost use Rattle.arc_fault.specs.declared.class.ClassFault.TheVariants.{Memory};
 ghost use Rattle.arc_class.specs.private.Entries.{fields_tree, all_class_fields};
+ghost use Rattle.arc_class.specs.private.Within.{in_classes};
 ghost use Rattle.arc_class.specs.Fault.{Refuses, reported};
 ghost use Rattle.arc_class.specs.Functions.{missing_main};
 ghost use Rattle.arc_class.specs.Kept.{Knows};
@@ -17,13 +18,13 @@ ghost use Rattle.arc_class.specs.Lookups.{head_at, at_name, class_number_in, typ
 ghost use Rattle.arc_class.specs.Owners.{FindsMethods, FindsFields};
 ghost use Rattle.std.proofs.Props.{props};
 
-use crate::building::{Parts, Selectors};
+use crate::building::{Parts, Selectors, parts_and_owners};
 use crate::by_name::ByName;
 use crate::fields::{ClassFields, field_of};
 use crate::heads::{Heads, is_related};
 use crate::kept::{Functions, Source};
 use crate::look::look;
-use crate::nearest::{field_owners, method_owners};
+use crate::nearest::field_owners;
 use crate::owners::Owners;
 use crate::root::{BuiltIn, built_in_given, built_in_result, counting_given, counting_result};
 use crate::sort_counts::parameter_counts;
@@ -615,10 +616,7 @@ impl<'a> ClassTable<'a> {
         ensures table { IfOk result (λ table. IsTableOf (unit_tree source.entry.unit.now) table) }
         ensures refused { IfErr result (λ fault. fault ≡ Memory) }
     {
-        let parts = Parts::of(alloc, &source, &named_fields)?;
-        let selectors = parts.selectors.len();
-        let class_methods = method_owners(alloc, &parts.entries, selectors, Sign::Class)?;
-        let instance_methods = method_owners(alloc, &parts.entries, selectors, Sign::Instance)?;
+        let all = parts_and_owners(alloc, &source, &named_fields)?;
         let Source {
             known,
             functions,
@@ -634,7 +632,7 @@ impl<'a> ClassTable<'a> {
             fields,
             classes,
             built_in,
-        } = parts;
+        } = all.parts;
         Ok(ClassTable {
             functions: known,
             first_functions: functions,
@@ -642,8 +640,8 @@ impl<'a> ClassTable<'a> {
             main,
             names,
             entries,
-            class_methods,
-            instance_methods,
+            class_methods: all.class_methods,
+            instance_methods: all.instance_methods,
             declared,
             defined,
             named_fields,
@@ -667,13 +665,39 @@ impl<'a> ClassTable<'a> {
         let own = earlier(seen.fault, missing_main(main));
         let source = Source::new(alloc, unit, seen.known, seen.bodies)?;
         let functions = earlier(own, source.sites_fault(alloc)?);
-        let fields = source.class_fields(alloc)?;
-        let owners = field_owners(alloc, &fields)?;
-        let classes = source.classes_fault(alloc, &fields, &owners)?;
-        match (earlier(functions, classes), main) {
+        let found = find(alloc, &source)?;
+        match (earlier(functions, found.fault), main) {
             (Some(fault), _) => Err(fault),
-            (None, Some(main)) => ClassTable::of(alloc, source, fields, owners, main),
+            (None, Some(main)) => ClassTable::of(alloc, source, found.fields, found.owners, main),
             (None, None) => Err(ClassFault::NoMain),
         }
     }
+}
+
+/// What is found of a source whose names are known.
+#[derive(Drop)]
+struct Found<'a> {
+    /// The first rule that a class breaks.
+    fault: Option<ClassFault>,
+    fields: Vec<ClassFields<'a>>,
+    /// Which class has the nearest field of each name.
+    owners: Owners<'a>,
+}
+
+/// Finds the fields of a source's classes, and the first rule that a class breaks. Memory: there was none.
+fn find<'a>(alloc: Global, source: &Source<'a>) -> Result<Found<'a>, ClassFault>
+    requires { Knows (unit_tree source.now.unit.now) source.now }
+    ensures fault { IfOk result (λ found. option_map reported found.fault ≡ first (in_classes (unit_tree source.now.unit.now))) }
+    ensures fields { IfOk result (λ found. map fields_tree found.fields.items ≡ all_class_fields (unit_tree source.now.unit.now)) }
+    ensures owners { IfOk result (λ found. FindsFields found.fields.items found.owners) }
+    ensures refused { IfErr result (λ fault. fault ≡ Memory) }
+{
+    let fields = source.class_fields(alloc)?;
+    let owners = field_owners(alloc, &fields)?;
+    let fault = source.classes_fault(alloc, &fields, &owners)?;
+    Ok(Found {
+        fault,
+        fields,
+        owners,
+    })
 }

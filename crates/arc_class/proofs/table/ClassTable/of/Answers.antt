@@ -19,28 +19,18 @@ use Rattle.arc_class.proofs.table.ClassTable.of.Goals as goal
 first_passed : {a b x y : Option HeadTree} → a ≡ x → b ≡ y → option_map_or (λ h. parameter_kinds h.parameters) (option_or a b) [] ≡ option_map_or (λ h. parameter_kinds h.parameters) (option_or x y) []
 first_passed e f = rw (e, f) refl
 
-pub method_owners-requires : goal.method_owners-requires
-method_owners-requires c = ap (λ es. superclass_among es 0) c.deref-2.ensures.value ∙ root_is_top c.args.source.names c.in_ok-parts.parts.entries.items _ c.in_ok-parts.ensures.entries
-
-pub method_owners-requires-2 : goal.method_owners-requires-2
-method_owners-requires-2 c = ap (λ es. superclass_among es 0) c.deref-3.ensures.value ∙ root_is_top c.args.source.names c.in_ok-parts.parts.entries.items _ c.in_ok-parts.ensures.entries
-
 pub invariant_of-result : goal.invariant_of-result
 invariant_of-result c =
-    let Class : List Entry → Type 0 = λ es. FindsMethods es signs.Class c.in_ok-class_methods.class_methods in
-    let Instance : List Entry → Type 0 = λ es. FindsMethods es signs.Instance c.in_ok-instance_methods.instance_methods in
     record {
-      class_methods_reported = subst Class c.deref-2.ensures.value c.in_ok-class_methods.ensures.finds;
-      instance_methods_reported = subst Instance c.deref-3.ensures.value c.in_ok-instance_methods.ensures.finds;
+      class_methods_reported = c.in_ok-all.ensures.class_methods;
+      instance_methods_reported = c.in_ok-all.ensures.instance_methods;
       fields_reported = c.requires.owners;
     }
 
 pub returns-clause-table : goal.returns-clause-table
 returns-clause-table c =
     let u = unit_tree c.args.source.unit.now in
-    let parts = c.in_ok-parts.parts in
-    let Class : List Entry → Type 0 = λ es. FindsMethods es signs.Class c.in_ok-class_methods.class_methods in
-    let Instance : List Entry → Type 0 = λ es. FindsMethods es signs.Instance c.in_ok-instance_methods.instance_methods in
+    let parts = c.in_ok-all.all.parts in
     let table : ClassTable = record {
       functions = c.args.source.known;
       first_functions = c.args.source.functions;
@@ -48,8 +38,8 @@ returns-clause-table c =
       main = c.args.main;
       names = c.args.source.names;
       entries = parts.entries;
-      class_methods = c.in_ok-class_methods.class_methods;
-      instance_methods = c.in_ok-instance_methods.instance_methods;
+      class_methods = c.in_ok-all.all.class_methods;
+      instance_methods = c.in_ok-all.all.instance_methods;
       declared = c.args.source.declared;
       defined = c.args.source.defined;
       named_fields = c.args.named_fields;
@@ -58,8 +48,8 @@ returns-clause-table c =
       selectors = parts.selectors;
       classes = parts.classes;
       built_in = parts.built_in;
-      class_methods_reported = subst Class c.deref-2.ensures.value c.in_ok-class_methods.ensures.finds;
-      instance_methods_reported = subst Instance c.deref-3.ensures.value c.in_ok-instance_methods.ensures.finds;
+      class_methods_reported = c.in_ok-all.ensures.class_methods;
+      instance_methods_reported = c.in_ok-all.ensures.instance_methods;
       fields_reported = c.requires.owners;
     } in
     record {
@@ -70,12 +60,12 @@ returns-clause-table c =
       function_classes = λ name. function_class_is u table name (λ sought. class_number_kept table.names u.interfaces sought (c.requires.knows.class_places sought)) (c.requires.knows.first_functions name);
       main = c.requires.main;
       numbers = λ name. class_number_kept table.names u.interfaces name (c.requires.knows.class_places name);
-      superclasses = λ class. superclass_is u table class c.in_ok-parts.ensures.entries;
-      results = λ from sign selector. result_is u table from sign selector c.in_ok-parts.ensures.entries;
+      superclasses = λ class. superclass_is u table class c.in_ok-all.ensures.parts.entries;
+      results = λ from sign selector. result_is u table from sign selector c.in_ok-all.ensures.parts.entries;
       any_results = λ selector. any_is u table selector (c.requires.knows.declared_heads signs.Instance selector) (c.requires.knows.defined_heads signs.Instance selector);
-      selectors = λ name. position_number table.selectors.keys name ∙ ap (λ names. number_among names name) c.in_ok-parts.ensures.selectors;
+      selectors = λ name. position_number table.selectors.keys name ∙ ap (λ names. number_among names name) c.in_ok-all.ensures.parts.selectors;
       named = λ from name. field_kept u table.named_fields.items c.requires.fields from name;
-      all_fields = λ class. lists_kept u table.fields.items c.in_ok-parts.ensures.fields class;
-      classes = c.in_ok-parts.ensures.classes;
-      built_in = c.in_ok-parts.ensures.built_in ∙ ap built_in_from c.requires.knows.counts;
+      all_fields = λ class. lists_kept u table.fields.items c.in_ok-all.ensures.parts.fields class;
+      classes = c.in_ok-all.ensures.parts.classes;
+      built_in = c.in_ok-all.ensures.parts.built_in ∙ ap built_in_from c.requires.knows.counts;
     }
