@@ -1,12 +1,8 @@
-use Rattle.std.proofs.Common.{◌≡◌, List, [], Option, refl, ap, subst, ◌∙◌}
+use Rattle.std.proofs.Common.{◌≡◌, [], Option, refl, ap, ◌∙◌}
 use Rattle.std.specs.Option.{option_map_or, option_or}
 use Rattle.arc_ast.specs.Tree.{HeadTree, unit_tree}
 use Rattle.arc_ast.specs.declared.tree.Sign.TheVariants as signs
 use Rattle.arc_class.specs.declared.table.ClassTable.{ClassTable}
-use Rattle.arc_class.specs.declared.table.Entry.{Entry}
-use Rattle.arc_class.specs.Lookups.{superclass_among}
-use Rattle.arc_class.specs.Owners.{FindsMethods}
-use Rattle.arc_class.proofs.Asking.{root_is_top}
 use Rattle.arc_class.specs.Classes.{number_among}
 use Rattle.arc_class.specs.Names.{parameter_kinds, listed_kinds}
 use Rattle.arc_class.specs.Table.{built_in_from}
