@@ -14,7 +14,7 @@ ghost use Rattle.arc_resolve.specs.Resolving.{resolved_variables, resolved_stmt,
 ghost use Rattle.arc_scope.specs.Scopes.{declare, leave, scope_after, scope_after_all, with_parameters, with_variables};
 ghost use Rattle.arc_scope.specs.Views.{known_in, seen};
 
-use crate::resolution::{Resolution, number_in};
+use crate::resolution::{Resolution, as_part, number_part};
 use crate::resolve::{expression, number_as, object};
 use arc_ast::tree::{
     Expr, Function, Implementation, Kind, Method, Moment, Parameter, Stmt, TypeName, Variable,
@@ -181,17 +181,17 @@ fn evaluation<'a>(
     Ok(evaluated(typed.value))
 }
 
-/// A resolved test.
+/// A resolved test, in a box until its statement is there.
 fn test<'a>(
     alloc: Global,
     table: &ClassTable<'a>,
     visible: &Visible<'a>,
     expr: &'a Expr,
-) -> Result<Value, AllocError>
-    ensures { IfOk result (λ new. checked.value new ≡ resolving.number_in (resolving.resolved (seen table.now visible.now) (expr_tree expr.now))) }
+) -> Result<Box<Value>, AllocError>
+    ensures { IfOk result (λ new. checked.value new.value ≡ resolving.number_in (resolving.resolved (seen table.now visible.now) (expr_tree expr.now))) }
 {
     let typed = expression(alloc, table, visible, expr)?;
-    number_in(alloc, typed.value)
+    number_part(alloc, as_part(alloc, typed.value)?)
 }
 
 /// A statement that does nothing.
@@ -207,11 +207,11 @@ fn test_or_one<'a>(
     table: &ClassTable<'a>,
     visible: &Visible<'a>,
     expr: &'a Option<Expr>,
-) -> Result<Value, AllocError>
-    ensures { IfOk result (λ new. checked.value new ≡ resolving.tested (seen table.now visible.now) (option_map expr_tree expr.now)) }
+) -> Result<Box<Value>, AllocError>
+    ensures { IfOk result (λ new. checked.value new.value ≡ resolving.tested (seen table.now visible.now) (option_map expr_tree expr.now)) }
 {
     match expr {
-        None => Ok(Value::Number(1)),
+        None => Ok(Box::new(alloc, Value::Number(1))?),
         Some(expr) => test(alloc, table, visible, expr),
     }
 }
@@ -287,7 +287,7 @@ fn chosen_or_nothing<'a>(
     let test = test(alloc, table, visible, condition)?;
     let then = scoped(alloc, table, visible, then)?;
     let other = Box::new(alloc, nothing(alloc))?;
-    Ok(Command::Choose(test, then, other))
+    Ok(Command::Choose(Box::into_inner(test), then, other))
 }
 
 /// A resolved choice with `else`.
@@ -310,7 +310,7 @@ fn chosen<'a>(
     let test = test(alloc, table, visible, condition)?;
     let then = scoped(alloc, table, visible, then)?;
     let other = scoped(alloc, table, visible, other)?;
-    Ok(Command::Choose(test, then, other))
+    Ok(Command::Choose(Box::into_inner(test), then, other))
 }
 
 /// A resolved loop, which is tested before or after each turn of its body.
@@ -331,7 +331,7 @@ fn repeated<'a>(
     let test = test(alloc, table, visible, condition)?;
     let body = scoped(alloc, table, visible, body)?;
     let step = Box::new(alloc, nothing(alloc))?;
-    Ok(Command::Repeat(moment, test, step, body))
+    Ok(Command::Repeat(moment, Box::into_inner(test), step, body))
 }
 
 /// The resolved loop of a `for`, without what comes before it.
@@ -352,7 +352,7 @@ fn turns<'a>(
     let test = test_or_one(alloc, table, visible, test)?;
     let step = step_or_nothing(alloc, table, visible, step)?;
     let body = scoped(alloc, table, visible, body)?;
-    Ok(Command::Repeat(Moment::Before, test, step, body))
+    Ok(Command::Repeat(Moment::Before, Box::into_inner(test), step, body))
 }
 
 /// A resolved `for`.

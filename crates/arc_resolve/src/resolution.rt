@@ -4,7 +4,7 @@ ghost use Rattle.std.specs.Option.{unwrap_or};
 ghost use Rattle.arc_ast.specs.Operators.{sort_of};
 ghost use Rattle.arc_ast.specs.Tree.{expr_tree, Name};
 ghost use Rattle.arc_class.specs.Table.{number_of_class, number_of_selector};
-ghost use Rattle.arc_resolve.specs.private.Building.{resolution, class_receiver_of};
+ghost use Rattle.arc_resolve.specs.private.Building.{resolution, part_of, class_receiver_of};
 ghost use Rattle.arc_spec.specs.Resolved as spec;
 ghost use Rattle.arc_checked.specs.Checked as checked;
 ghost use Rattle.arc_scope.specs.Kinds as kinds;
@@ -20,6 +20,7 @@ use arc_scope::kind::{is_object, wider};
 use arc_scope::scope::Local;
 use arc_spec::location::Location;
 use std::alloc::{AllocError, Global};
+use std::mem::drop;
 
 /// What an expression is resolved to: a number of a kind, or an object.
 #[derive(Drop)]
@@ -35,6 +36,71 @@ pub struct Typed {
     pub value: Resolution,
 }
 
+/// What an expression is resolved to that is a part of another one, in the box that it has there.
+#[derive(Drop)]
+pub enum Part {
+    Number(Kind, Box<Value>),
+    Object(Box<Reference>),
+}
+
+/// What an expression is resolved to that is a part of another one, and its static class.
+#[derive(Drop)]
+pub struct Operand {
+    pub class: Option<ClassId>,
+    pub value: Part,
+}
+
+/// What is resolved, as a part of another one.
+pub fn as_part(alloc: Global, of: Resolution) -> Result<Part, AllocError>
+    ensures { IfOk result (λ new. part_of new ≡ resolution of) }
+{
+    match of {
+        Resolution::Gives(kind, value) => Ok(Part::Number(kind, Box::new(alloc, value)?)),
+        Resolution::Refers(object) => Ok(Part::Object(Box::new(alloc, object)?)),
+    }
+}
+
+/// The kind of the part.
+#[inline(always)]
+fn part_kind(of: &Part) -> Kind
+    ensures { result ≡ resolving.kind_in (part_of of.now) }
+{
+    match of {
+        Part::Number(kind, _) => *kind,
+        Part::Object(_) => Kind::Object,
+    }
+}
+
+/// The number that the part is, and of an object whether it is one.
+pub fn number_part(alloc: Global, of: Part) -> Result<Box<Value>, AllocError>
+    ensures { IfOk result (λ new. checked.value new.value ≡ resolving.number_in (part_of of)) }
+{
+    match of {
+        Part::Number(_, value) => Ok(value),
+        Part::Object(object) => Ok(Box::new(alloc, Value::IsObject(object))?),
+    }
+}
+
+/// The object that the part is, and nil of a number.
+pub fn object_part(alloc: Global, of: Part) -> Result<Box<Reference>, AllocError>
+    ensures { IfOk result (λ new. checked.reference new.value ≡ resolving.object_in (part_of of)) }
+{
+    match of {
+        Part::Number(_, _) => Ok(Box::new(alloc, Reference::Nil)?),
+        Part::Object(object) => Ok(object),
+    }
+}
+
+/// What is resolved, where it is no part of another one after all.
+pub fn unboxed(of: Part) -> Resolution
+    ensures { resolution result ≡ part_of of }
+{
+    match of {
+        Part::Number(kind, value) => Resolution::Gives(kind, Box::into_inner(value)),
+        Part::Object(object) => Resolution::Refers(Box::into_inner(object)),
+    }
+}
+
 /// The kind of what is resolved.
 #[inline(always)]
 fn kind_in(of: &Resolution) -> Kind
@@ -48,7 +114,7 @@ fn kind_in(of: &Resolution) -> Kind
 
 /// The number, and of an object whether it is one.
 #[inline(always)]
-pub fn number_in(alloc: Global, of: Resolution) -> Result<Value, AllocError>
+fn number_in(alloc: Global, of: Resolution) -> Result<Value, AllocError>
     ensures { IfOk result (λ new. checked.value new ≡ resolving.number_in (resolution of)) }
 {
     match of {
@@ -65,7 +131,10 @@ pub fn object_in(of: Resolution) -> Reference
     ensures { checked.reference result ≡ resolving.object_in (resolution of) }
 {
     match of {
-        Resolution::Gives(_, _) => Reference::Nil,
+        Resolution::Gives(_, number) => {
+            drop(number);
+            Reference::Nil
+        }
         Resolution::Refers(object) => object,
     }
 }
@@ -86,6 +155,34 @@ fn as_kind(alloc: Global, wanted: Kind, kind: Kind, value: Value) -> Result<Valu
     }
 }
 
+/// The value of one kind as one of the wanted kind, where it is a part of another one.
+fn as_kind_part(
+    alloc: Global,
+    wanted: Kind,
+    kind: Kind,
+    value: Box<Value>,
+) -> Result<Box<Value>, AllocError>
+    ensures { IfOk result (λ new. checked.value new.value ≡ resolving.as_kind wanted kind (checked.value value.value)) }
+{
+    match (wanted, kind) {
+        (Kind::Long, Kind::Bool | Kind::Int)
+        | (Kind::Int, Kind::Bool | Kind::Long)
+        | (Kind::Bool, Kind::Int | Kind::Long) => {
+            Ok(Box::new(alloc, Value::Converted(wanted, value))?)
+        }
+        _ => Ok(value),
+    }
+}
+
+/// The number that the part is, as one of the kind.
+pub fn converted_part(alloc: Global, wanted: Kind, of: Part) -> Result<Box<Value>, AllocError>
+    ensures { IfOk result (λ new. checked.value new.value ≡ resolving.converted wanted (part_of of)) }
+{
+    let kind = part_kind(&of);
+    let value = number_part(alloc, of)?;
+    as_kind_part(alloc, wanted, kind, value)
+}
+
 /// The number as one of the kind.
 #[inline(always)]
 pub fn converted(alloc: Global, wanted: Kind, of: Resolution) -> Result<Value, AllocError>
@@ -94,23 +191,6 @@ pub fn converted(alloc: Global, wanted: Kind, of: Resolution) -> Result<Value, A
     let kind = kind_in(&of);
     let value = number_in(alloc, of)?;
     as_kind(alloc, wanted, kind, value)
-}
-
-/// The number as one of the kind, where it is a part of another one.
-#[inline(always)]
-pub fn converted_part(alloc: Global, wanted: Kind, of: Resolution) -> Result<Box<Value>, AllocError>
-    ensures { IfOk result (λ new. checked.value new.value ≡ resolving.converted wanted (resolution of)) }
-{
-    let value = converted(alloc, wanted, of)?;
-    Ok(Box::new(alloc, value)?)
-}
-
-/// The number, and of an object whether it is one, where that is a part of another number.
-pub fn number_part(alloc: Global, of: Resolution) -> Result<Box<Value>, AllocError>
-    ensures { IfOk result (λ new. checked.value new.value ≡ resolving.number_in (resolution of)) }
-{
-    let value = number_in(alloc, of)?;
-    Ok(Box::new(alloc, value)?)
 }
 
 /// The kind in which an operator of the sort computes, from those of its operands.
@@ -137,21 +217,17 @@ fn given_kind(sort: OperatorSort, kind: Kind) -> Kind
 }
 
 /// An expression of an operator before its operand.
-pub fn unary(
-    alloc: Global,
-    operator: UnaryOperator,
-    of: Resolution,
-) -> Result<Resolution, AllocError>
-    ensures { IfOk result (λ new. resolution new ≡ resolving.unary operator (resolution of)) }
+pub fn unary(alloc: Global, operator: UnaryOperator, of: Part) -> Result<Resolution, AllocError>
+    ensures { IfOk result (λ new. resolution new ≡ resolving.unary operator (part_of of)) }
 {
     match operator {
         UnaryOperator::Not => {
-            let kind = kind_in(&of);
+            let kind = part_kind(&of);
             let value = number_part(alloc, of)?;
             Ok(Resolution::Gives(Kind::Int, Value::Applied(operator, kind, value)))
         }
         UnaryOperator::Plus | UnaryOperator::Negate | UnaryOperator::Complement => {
-            let kind = wider(kind_in(&of), Kind::Int);
+            let kind = wider(part_kind(&of), Kind::Int);
             let value = converted_part(alloc, kind, of)?;
             Ok(Resolution::Gives(kind, Value::Applied(operator, kind, value)))
         }
@@ -176,10 +252,10 @@ fn combined(
     alloc: Global,
     operator: BinaryOperator,
     kind: Kind,
-    left: Resolution,
-    right: Resolution,
+    left: Part,
+    right: Part,
 ) -> Result<Resolution, AllocError>
-    ensures { IfOk result (λ new. resolution new ≡ resolving.combined operator kind (resolution left) (resolution right)) }
+    ensures { IfOk result (λ new. resolution new ≡ resolving.combined operator kind (part_of left) (part_of right)) }
 {
     let left = converted_part(alloc, kind, left)?;
     let right = converted_part(alloc, kind, right)?;
@@ -206,20 +282,18 @@ fn compared(alloc: Global, operator: BinaryOperator, differs: Value) -> Result<V
 fn equality(
     alloc: Global,
     operator: BinaryOperator,
-    left: Resolution,
-    right: Resolution,
+    left: Part,
+    right: Part,
 ) -> Result<Resolution, AllocError>
-    ensures { IfOk result (λ new. resolution new ≡ resolving.equality operator (resolution left) (resolution right)) }
+    ensures { IfOk result (λ new. resolution new ≡ resolving.equality operator (part_of left) (part_of right)) }
 {
     match (left, right) {
-        (Resolution::Refers(left), Resolution::Refers(right)) => {
-            let left = Box::new(alloc, left)?;
-            let right = Box::new(alloc, right)?;
+        (Part::Object(left), Part::Object(right)) => {
             let value = compared(alloc, operator, Value::Differ(left, right))?;
             Ok(Resolution::Gives(Kind::Int, value))
         }
         (left, right) => {
-            let kind = wider(kind_in(&left), kind_in(&right));
+            let kind = wider(part_kind(&left), part_kind(&right));
             combined(alloc, operator, kind, left, right)
         }
     }
@@ -251,10 +325,10 @@ fn logic_value(
 fn logic(
     alloc: Global,
     operator: BinaryOperator,
-    left: Resolution,
-    right: Resolution,
+    left: Part,
+    right: Part,
 ) -> Result<Resolution, AllocError>
-    ensures { IfOk result (λ new. resolution new ≡ resolving.binary OperatorSort.Logic operator (resolution left) (resolution right)) }
+    ensures { IfOk result (λ new. resolution new ≡ resolving.binary OperatorSort.Logic operator (part_of left) (part_of right)) }
 {
     let left = number_part(alloc, left)?;
     let right = number_part(alloc, right)?;
@@ -265,17 +339,15 @@ fn logic(
 /// One of two values by a test.
 pub fn conditional(
     alloc: Global,
-    test: Resolution,
-    first: Resolution,
-    second: Resolution,
+    test: Part,
+    first: Part,
+    second: Part,
 ) -> Result<Resolution, AllocError>
-    ensures { IfOk result (λ new. resolution new ≡ resolving.conditional (resolving.number_in (resolution test)) (resolution first) (resolution second)) }
+    ensures { IfOk result (λ new. resolution new ≡ resolving.conditional (resolving.number_in (part_of test)) (part_of first) (part_of second)) }
 {
     let test = number_part(alloc, test)?;
     match (first, second) {
-        (Resolution::Refers(first), Resolution::Refers(second)) => {
-            let first = Box::new(alloc, first)?;
-            let second = Box::new(alloc, second)?;
+        (Part::Object(first), Part::Object(second)) => {
             Ok(Resolution::Refers(Reference::Chosen(test, first, second)))
         }
         (first, second) => chosen_number(alloc, test, first, second),
@@ -286,13 +358,13 @@ pub fn conditional(
 fn chosen_number(
     alloc: Global,
     test: Box<Value>,
-    first: Resolution,
-    second: Resolution,
+    first: Part,
+    second: Part,
 ) -> Result<Resolution, AllocError>
-    ensures { IfOk result (λ new. let kind = kinds.wider (resolving.kind_in (resolution first)) (resolving.kind_in (resolution second)) in
-        resolution new ≡ resolving.Gives kind (spec.Choice (checked.value test.value) (resolving.converted kind (resolution first)) (resolving.converted kind (resolution second)))) }
+    ensures { IfOk result (λ new. let kind = kinds.wider (resolving.kind_in (part_of first)) (resolving.kind_in (part_of second)) in
+        resolution new ≡ resolving.Gives kind (spec.Choice (checked.value test.value) (resolving.converted kind (part_of first)) (resolving.converted kind (part_of second)))) }
 {
-    let kind = wider(kind_in(&first), kind_in(&second));
+    let kind = wider(part_kind(&first), part_kind(&second));
     let first = converted_part(alloc, kind, first)?;
     let second = converted_part(alloc, kind, second)?;
     Ok(Resolution::Gives(kind, Value::Choice(test, first, second)))
@@ -303,17 +375,17 @@ fn chosen_number(
 pub fn binary(
     alloc: Global,
     operator: BinaryOperator,
-    left: Resolution,
-    right: Resolution,
+    left: Part,
+    right: Part,
 ) -> Result<Resolution, AllocError>
-    ensures { IfOk result (λ new. resolution new ≡ resolving.binary (sort_of operator) operator (resolution left) (resolution right)) }
+    ensures { IfOk result (λ new. resolution new ≡ resolving.binary (sort_of operator) operator (part_of left) (part_of right)) }
 {
     let sort = operator_sort(operator);
     match sort {
         OperatorSort::Equality => equality(alloc, operator, left, right),
         OperatorSort::Logic => logic(alloc, operator, left, right),
         OperatorSort::Arithmetic | OperatorSort::Shift | OperatorSort::Relation => {
-            let kind = computing_kind(sort, kind_in(&left), kind_in(&right));
+            let kind = computing_kind(sort, part_kind(&left), part_kind(&right));
             combined(alloc, operator, kind, left, right)
         }
     }
@@ -362,7 +434,10 @@ pub fn field(
     ensures { IfOk result (λ new. resolution new ≡ resolving.field (checked.reference object) found) }
 {
     match found {
-        None => Ok(Resolution::Gives(Kind::Int, Value::Number(0))),
+        None => {
+            drop(object);
+            Ok(Resolution::Gives(Kind::Int, Value::Number(0)))
+        }
         Some(field) => read_field(alloc, object, field),
     }
 }
@@ -385,12 +460,15 @@ pub fn field_assigned(
     alloc: Global,
     object: Reference,
     found: Option<FoundField>,
-    of: Resolution,
+    of: Part,
 ) -> Result<Resolution, AllocError>
-    ensures { IfOk result (λ new. resolution new ≡ resolving.field_assigned (checked.reference object) found (resolution of)) }
+    ensures { IfOk result (λ new. resolution new ≡ resolving.field_assigned (checked.reference object) found (part_of of)) }
 {
     match found {
-        None => Ok(of),
+        None => {
+            drop(object);
+            Ok(unboxed(of))
+        }
         Some(field) => store_field(alloc, object, field, of),
     }
 }
@@ -400,13 +478,13 @@ fn store_field(
     alloc: Global,
     object: Reference,
     field: FoundField,
-    of: Resolution,
+    of: Part,
 ) -> Result<Resolution, AllocError>
-    ensures { IfOk result (λ new. resolution new ≡ resolving.store_field (checked.reference object) field (resolution of)) }
+    ensures { IfOk result (λ new. resolution new ≡ resolving.store_field (checked.reference object) field (part_of of)) }
 {
     let object = Box::new(alloc, object)?;
     if is_object(Some(field.kind)) {
-        let stored = Box::new(alloc, object_in(of))?;
+        let stored = object_part(alloc, of)?;
         let (owner, index) = (field.owner.0, field.index);
         Ok(Resolution::Refers(Reference::ObjectFieldStored(object, owner, index, stored)))
     } else {
@@ -428,13 +506,13 @@ pub fn itself(owns: bool) -> Reference
 }
 
 /// An assignment to `self`, in a method that owns it; in any other it breaks a rule, and what is assigned stands for it.
-pub fn itself_assigned(alloc: Global, owns: bool, of: Resolution) -> Result<Resolution, AllocError>
-    ensures { IfOk result (λ new. resolution new ≡ (if owns then resolving.Refers (spec.Stored (Location.Local 0) (resolving.object_in (resolution of))) else resolution of)) }
+pub fn itself_assigned(alloc: Global, owns: bool, of: Part) -> Result<Resolution, AllocError>
+    ensures { IfOk result (λ new. resolution new ≡ (if owns then resolving.Refers (spec.Stored (Location.Local 0) (resolving.object_in (part_of of))) else part_of of)) }
 {
     if !owns {
-        return Ok(of);
+        return Ok(unboxed(of));
     }
-    let object = Box::new(alloc, object_in(of))?;
+    let object = object_part(alloc, of)?;
     Ok(Resolution::Refers(Reference::Stored(Location::Local(0), object)))
 }
 
@@ -463,9 +541,9 @@ pub fn name_assigned(
     owns: bool,
     local: Option<Local>,
     own: Option<FoundField>,
-    of: Resolution,
+    of: Part,
 ) -> Result<Resolution, AllocError>
-    ensures { IfOk result (λ new. resolution new ≡ resolving.name_assigned owns (option_map local_of local) own (resolution of)) }
+    ensures { IfOk result (λ new. resolution new ≡ resolving.name_assigned owns (option_map local_of local) own (part_of of)) }
 {
     match local {
         None => field_assigned(alloc, itself(owns), own, of),
@@ -474,7 +552,7 @@ pub fn name_assigned(
             Ok(Resolution::Gives(kind, Value::Assigned(location, value)))
         }
         Some(Local::Object(location, _)) => {
-            let object = Box::new(alloc, object_in(of))?;
+            let object = object_part(alloc, of)?;
             Ok(Resolution::Refers(Reference::Stored(location, object)))
         }
     }
@@ -498,7 +576,10 @@ fn place_updated(
         Value::Field(object, class, index) => Value::FieldUpdated(
             moment, object, class, index, operator, computed, kept, operand,
         ),
-        _ => Box::into_inner(operand),
+        other => {
+            drop(other);
+            Box::into_inner(operand)
+        }
     }
 }
 
@@ -508,14 +589,14 @@ pub fn updated(
     moment: Moment,
     operator: BinaryOperator,
     left: Resolution,
-    right: Resolution,
+    right: Part,
 ) -> Result<Resolution, AllocError>
-    ensures { IfOk result (λ new. resolution new ≡ resolving.updated moment operator (resolution left) (resolution right)) }
+    ensures { IfOk result (λ new. resolution new ≡ resolving.updated moment operator (resolution left) (part_of right)) }
 {
     match left {
         Resolution::Refers(object) => Ok(Resolution::Refers(object)),
         Resolution::Gives(kind, place) => {
-            let computed = computing_kind(operator_sort(operator), kind, kind_in(&right));
+            let computed = computing_kind(operator_sort(operator), kind, part_kind(&right));
             let operand = converted_part(alloc, computed, right)?;
             let value = place_updated(moment, operator, computed, kind, place, operand);
             Ok(Resolution::Gives(kind, value))
@@ -577,7 +658,10 @@ fn class_receiver(alloc: Global, to: ClassReceiver) -> Result<Receiver, AllocErr
     ensures { IfOk result (λ new. checked.receiver new ≡ class_receiver_of to) }
 {
     match to.from {
-        Some(from) => Ok(Receiver::ClassSuper(from)),
+        Some(from) => {
+            drop(to.class);
+            Ok(Receiver::ClassSuper(from))
+        }
         None => Ok(Receiver::ClassValue(Box::new(alloc, to.class)?)),
     }
 }

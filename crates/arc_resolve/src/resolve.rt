@@ -2,7 +2,7 @@
 ghost use Rattle.std.specs.Prelude.{◌≡◌, ℕ, List, Option, Some, None, option_map, IfOk};
 ghost use Rattle.arc_ast.specs.Tree.{ExprTree, type_tree, expr_tree, expr_trees, Integer, Text, Name, Unary, Cast, Binary, Conditional, Arrow, Assign, Update, Call, Send, SendSuper};
 ghost use Rattle.arc_class.specs.Table.{number_of_class};
-ghost use Rattle.arc_resolve.specs.private.Building.{Resolves, printing, resolution, text_of};
+ghost use Rattle.arc_resolve.specs.private.Building.{Resolves, part_of, printing, resolution, text_of};
 ghost use Rattle.arc_checked.specs.Checked as checked;
 ghost use Rattle.arc_resolve.specs.Resolving as resolving;
 ghost use Rattle.arc_resolve.specs.Resolving.{resolved, resolved_all};
@@ -13,10 +13,10 @@ ghost use Rattle.arc_spec.specs.Resolved as spec;
 
 use crate::piece::pieces;
 use crate::resolution::{
-    ClassReceiver, Resolution, SuperSite, Typed, binary, cast as cast_to, class_number,
-    class_value, conditional, converted, converted_part, field, field_assigned, invoked, itself,
-    itself_assigned, name_assigned, named, number, number_part, object_in, selector_number,
-    to_class, to_object, to_super, unary, updated,
+    ClassReceiver, Operand, Part, Resolution, SuperSite, Typed, as_part, binary, cast as cast_to,
+    class_number, class_value, conditional, converted, converted_part, field, field_assigned,
+    invoked, itself, itself_assigned, name_assigned, named, number, number_part, object_in,
+    object_part, selector_number, to_class, to_object, to_super, unary, unboxed, updated,
 };
 use arc_ast::tree::{BinaryOperator, Expr, Kind, Moment, Parameter, TypeName, UnaryOperator};
 use arc_checked::program::{Argument, Reference, Value};
@@ -116,6 +116,24 @@ pub fn expression<'a>(
     }
 }
 
+/// A resolved expression that is a part of another one.
+#[cycle(resolve)]
+fn resolved_part<'a>(
+    alloc: Global,
+    table: &ClassTable<'a>,
+    visible: &Visible<'a>,
+    expr: &'a Expr,
+) -> Result<Operand, AllocError>
+    ensures class { IfOk result (λ part. option_map number_of_class part.class ≡ scopes.class_of (seen table.now visible.now) (expr_tree expr.now)) }
+    ensures value { IfOk result (λ part. part_of part.value ≡ resolved (seen table.now visible.now) (expr_tree expr.now)) }
+{
+    let typed = expression(alloc, table, visible, expr)?;
+    Ok(Operand {
+        class: typed.class,
+        value: as_part(alloc, typed.value)?,
+    })
+}
+
 /// A resolved operator before its operand.
 #[cycle(resolve)]
 fn signed<'a>(
@@ -127,7 +145,7 @@ fn signed<'a>(
 ) -> Result<Typed, AllocError>
     ensures { IfOk result (λ typed. (at : ℕ) → Resolves (seen table.now visible.now) (Unary at operator (expr_tree operand.now)) typed) }
 {
-    let operand = expression(alloc, table, visible, operand)?;
+    let operand = resolved_part(alloc, table, visible, operand)?;
     let value = unary(alloc, operator, operand.value)?;
     Ok(Typed { class: None, value })
 }
@@ -163,8 +181,8 @@ fn operation<'a>(
 ) -> Result<Typed, AllocError>
     ensures { IfOk result (λ typed. (at : ℕ) → Resolves (seen table.now visible.now) (Binary at operator (expr_tree left.now) (expr_tree right.now)) typed) }
 {
-    let left = expression(alloc, table, visible, left)?;
-    let right = expression(alloc, table, visible, right)?;
+    let left = resolved_part(alloc, table, visible, left)?;
+    let right = resolved_part(alloc, table, visible, right)?;
     let value = binary(alloc, operator, left.value, right.value)?;
     Ok(Typed { class: None, value })
 }
@@ -183,9 +201,9 @@ fn choice<'a>(
 {
     let one_nil = is_nil(first);
     let other_nil = is_nil(second);
-    let test = expression(alloc, table, visible, test)?;
-    let first = expression(alloc, table, visible, first)?;
-    let second = expression(alloc, table, visible, second)?;
+    let test = resolved_part(alloc, table, visible, test)?;
+    let first = resolved_part(alloc, table, visible, first)?;
+    let second = resolved_part(alloc, table, visible, second)?;
     let class = either_class(one_nil, other_nil, first.class, second.class);
     let value = conditional(alloc, test.value, first.value, second.value)?;
     Ok(Typed { class, value })
@@ -222,7 +240,7 @@ fn assignment<'a>(
 ) -> Result<Typed, AllocError>
     ensures { IfOk result (λ typed. (at sign : ℕ) → Resolves (seen table.now visible.now) (Assign at sign (expr_tree left.now) (expr_tree right.now)) typed) }
 {
-    let right = expression(alloc, table, visible, right)?;
+    let right = resolved_part(alloc, table, visible, right)?;
     assigned(alloc, table, visible, left, right.value)
 }
 
@@ -239,8 +257,8 @@ fn update<'a>(
 ) -> Result<Typed, AllocError>
     ensures { IfOk result (λ typed. (at sign : ℕ) → Resolves (seen table.now visible.now) (Update at sign moment operator (expr_tree left.now) (expr_tree right.now)) typed) }
 {
+    let right = resolved_part(alloc, table, visible, right)?;
     let left = expression(alloc, table, visible, left)?;
-    let right = expression(alloc, table, visible, right)?;
     let value = updated(alloc, moment, operator, left.value, right.value)?;
     Ok(Typed { class: None, value })
 }
@@ -251,11 +269,11 @@ fn to_name<'a>(
     table: &ClassTable<'a>,
     visible: &Visible<'a>,
     name: &'a [u8],
-    of: Resolution,
+    of: Part,
 ) -> Result<Typed, AllocError>
     ensures class { IfOk result (λ typed. option_map number_of_class typed.class ≡ scopes.name_class (scopes.variable (seen table.now visible.now) name.now) (scopes.own_field (seen table.now visible.now) name.now)) }
     ensures value { IfOk result (λ typed. resolution typed.value
-        ≡ resolving.name_assigned (seen table.now visible.now).owns (scopes.variable (seen table.now visible.now) name.now) (scopes.own_field (seen table.now visible.now) name.now) (resolution of)) }
+        ≡ resolving.name_assigned (seen table.now visible.now).owns (scopes.variable (seen table.now visible.now) name.now) (scopes.own_field (seen table.now visible.now) name.now) (part_of of)) }
 {
     let local = named_variable(table, visible, name);
     let own = own_field(table, visible, name);
@@ -274,11 +292,11 @@ fn to_field<'a>(
     visible: &Visible<'a>,
     base: &'a Expr,
     name: &'a [u8],
-    of: Resolution,
+    of: Part,
 ) -> Result<Typed, AllocError>
     ensures class { IfOk result (λ typed. option_map number_of_class typed.class ≡ scopes.field_class ((seen table.now visible.now).known.field (scopes.class_of (seen table.now visible.now) (expr_tree base.now)) name.now)) }
     ensures value { IfOk result (λ typed. resolution typed.value
-        ≡ resolving.field_assigned (resolving.object_in (resolved (seen table.now visible.now) (expr_tree base.now))) ((seen table.now visible.now).known.field (scopes.class_of (seen table.now visible.now) (expr_tree base.now)) name.now) (resolution of)) }
+        ≡ resolving.field_assigned (resolving.object_in (resolved (seen table.now visible.now) (expr_tree base.now))) ((seen table.now visible.now).known.field (scopes.class_of (seen table.now visible.now) (expr_tree base.now)) name.now) (part_of of)) }
 {
     let base = expression(alloc, table, visible, base)?;
     let found = table.field(base.class, name);
@@ -299,8 +317,8 @@ fn class_in<'a>(
 ) -> Result<Option<ClassId>, AllocError>
     ensures { IfOk result (λ class. option_map number_of_class class ≡ scopes.class_of (seen table.now visible.now) (expr_tree expr.now)) }
 {
-    let typed = expression(alloc, table, visible, expr)?;
-    Ok(typed.class)
+    let part = resolved_part(alloc, table, visible, expr)?;
+    Ok(part.class)
 }
 
 /// An assignment to the left side, of what is resolved, with the left side's static class.
@@ -310,10 +328,10 @@ fn assigned<'a>(
     table: &ClassTable<'a>,
     visible: &Visible<'a>,
     left: &'a Expr,
-    of: Resolution,
+    of: Part,
 ) -> Result<Typed, AllocError>
     ensures class { IfOk result (λ typed. option_map number_of_class typed.class ≡ scopes.class_of (seen table.now visible.now) (expr_tree left.now)) }
-    ensures value { IfOk result (λ typed. resolution typed.value ≡ resolving.assigned (seen table.now visible.now) (expr_tree left.now) (resolution of)) }
+    ensures value { IfOk result (λ typed. resolution typed.value ≡ resolving.assigned (seen table.now visible.now) (expr_tree left.now) (part_of of)) }
 {
     match left {
         Expr::Paren(_, inside) => assigned(alloc, table, visible, inside, of),
@@ -325,7 +343,10 @@ fn assigned<'a>(
         Expr::Arrow(_, _, base, name) => to_field(alloc, table, visible, base, name, of),
         _ => {
             let class = class_in(alloc, table, visible, left)?;
-            Ok(Typed { class, value: of })
+            Ok(Typed {
+                class,
+                value: unboxed(of),
+            })
         }
     }
 }
@@ -515,14 +536,14 @@ fn print<'a>(
 }
 
 /// What is passed to a parameter of the kind or, without one, printed.
-fn passed(alloc: Global, wanted: Option<Kind>, of: Resolution) -> Result<Argument, AllocError>
-    ensures { IfOk result (λ new. (others : spec.Arguments) → checked.and_argument new others ≡ resolving.argument wanted (resolution of) others) }
+fn passed(alloc: Global, wanted: Option<Kind>, of: Part) -> Result<Argument, AllocError>
+    ensures { IfOk result (λ new. (others : spec.Arguments) → checked.and_argument new others ≡ resolving.argument wanted (part_of of) others) }
 {
     let Some(kind) = wanted else {
         return Ok(Argument::Number(number_part(alloc, of)?));
     };
     match kind {
-        Kind::Object => Ok(Argument::Object(Box::new(alloc, object_in(of))?)),
+        Kind::Object => Ok(Argument::Object(object_part(alloc, of)?)),
         Kind::Void | Kind::Bool | Kind::Int | Kind::Long => {
             Ok(Argument::Number(converted_part(alloc, kind, of)?))
         }
@@ -540,8 +561,8 @@ fn argument<'a>(
 ) -> Result<Argument, AllocError>
     ensures { IfOk result (λ new. (others : spec.Arguments) → checked.and_argument new others ≡ resolving.argument wanted (resolved (seen table.now visible.now) (expr_tree expr.now)) others) }
 {
-    let typed = expression(alloc, table, visible, expr)?;
-    passed(alloc, wanted, typed.value)
+    let part = resolved_part(alloc, table, visible, expr)?;
+    passed(alloc, wanted, part.value)
 }
 
 /// Resolved arguments, which are passed to these parameters or, without any, printed.

@@ -10,6 +10,8 @@ use Rattle.arc_checked.specs.declared.program.Command as checked_command
 use Rattle.arc_checked.specs.declared.program.CheckedFunction.{CheckedFunction}
 use Rattle.arc_resolve.specs.declared.resolution.Resolution as built
 use Rattle.arc_resolve.specs.declared.resolution.Resolution.TheVariants as b
+use Rattle.arc_resolve.specs.declared.resolution.Part.{Part}
+use Rattle.arc_resolve.specs.declared.resolution.Part.TheVariants as p
 use Rattle.arc_resolve.specs.declared.resolution.ClassReceiver.{ClassReceiver}
 use Rattle.arc_resolve.specs.declared.resolution.Typed.{Typed}
 use Rattle.arc_checked.specs.Checked as checked
@@ -23,6 +25,11 @@ use Rattle.arc_scope.specs.Scopes.{Known, Scope, class_of}
 abbrev pub resolution : built.Resolution → Resolution
 resolution (b.Gives kind a) = Gives kind (checked.value a)
 resolution (b.Refers a) = Refers (checked.reference a)
+
+-- what an expression is resolved to that is a part of another one
+abbrev pub part_of : Part → Resolution
+part_of (p.Number kind a) = Gives kind (checked.value a.value)
+part_of (p.Object a) = Refers (checked.reference a.value)
 
 -- the resolved expression, and its static class
 pub record Resolves (s : Scope) (a : ExprTree) (typed : Typed) : Type 0 where

@@ -50,16 +50,16 @@ command-returns-in-Block-clause-scope t c =
 pub chosen_or_nothing-returns-clause-command : goal.chosen_or_nothing-returns-clause-command
 chosen_or_nothing-returns-clause-command t c =
     let s = seen c.args.table.now c.args.visible.now in
-    choose_is (checked.value c.in_ok-test.test) (number_in (resolved s (expr_tree c.args.condition.now))) (checked.command c.in_ok-then.then.value) (resolved_stmt s (stmt_tree c.args.then.now)) (checked.command c.in_ok-other.other.value)
-    nothing c.in_ok-test.ensures c.in_ok-then.ensures.command (ap checked.command c.in_ok-other.ensures.ok ∙ c.nothing.ensures)
+    choose_is (checked.value c.into_inner.result) (number_in (resolved s (expr_tree c.args.condition.now))) (checked.command c.in_ok-then.then.value) (resolved_stmt s (stmt_tree c.args.then.now)) (checked.command c.in_ok-other.other.value)
+    nothing (ap checked.value c.into_inner.ensures ∙ c.in_ok-test.ensures) c.in_ok-then.ensures.command (ap checked.command c.in_ok-other.ensures.ok ∙ c.nothing.ensures)
 
 pub chosen-returns-clause-command : goal.chosen-returns-clause-command
 chosen-returns-clause-command t c =
     let s = seen c.args.table.now c.args.visible.now in
     let then = stmt_tree c.args.then.now in
     let other = stmt_tree c.args.other.now in
-    choose_is (checked.value c.in_ok-test.test) (number_in (resolved s (expr_tree c.args.condition.now))) (checked.command c.in_ok-then.then.value) (resolved_stmt s then) (checked.command c.in_ok-other.other.value)
-    (resolved_stmt (leave s (scope_after s then)) other) c.in_ok-test.ensures c.in_ok-then.ensures.command
+    choose_is (checked.value c.into_inner.result) (number_in (resolved s (expr_tree c.args.condition.now))) (checked.command c.in_ok-then.then.value) (resolved_stmt s then) (checked.command c.in_ok-other.other.value)
+    (resolved_stmt (leave s (scope_after s then)) other) (ap checked.value c.into_inner.ensures ∙ c.in_ok-test.ensures) c.in_ok-then.ensures.command
     (c.in_ok-other.ensures.command ∙ ap (λ p. resolved_stmt p other) c.in_ok-then.ensures.scope)
 
 pub chosen-returns-clause-scope : goal.chosen-returns-clause-scope
@@ -83,8 +83,8 @@ repeated-returns-clause-keeps t c = c.in_ok-body.ensures.keeps
 pub turns-returns-clause-command : goal.turns-returns-clause-command
 turns-returns-clause-command t c =
     let s = seen c.args.table.now c.args.visible.now in
-    repeat_is Before (checked.value c.in_ok-test.test) (tested s (option_map expr_tree c.args.test.now)) (checked.command c.in_ok-step.step.value) (stepped s (option_map expr_tree c.args.step.now)) (checked.command c.in_ok-body.body.value)
-    (resolved_stmt s (stmt_tree c.args.body.now)) c.in_ok-test.ensures c.in_ok-step.ensures c.in_ok-body.ensures.command
+    repeat_is Before (checked.value c.into_inner.result) (tested s (option_map expr_tree c.args.test.now)) (checked.command c.in_ok-step.step.value) (stepped s (option_map expr_tree c.args.step.now)) (checked.command c.in_ok-body.body.value)
+    (resolved_stmt s (stmt_tree c.args.body.now)) (ap checked.value c.into_inner.ensures ∙ c.in_ok-test.ensures) c.in_ok-step.ensures c.in_ok-body.ensures.command
 
 pub turns-returns-clause-scope : goal.turns-returns-clause-scope
 turns-returns-clause-scope t c = c.in_ok-body.ensures.scope

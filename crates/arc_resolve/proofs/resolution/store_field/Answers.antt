@@ -10,8 +10,7 @@ returns-in_ok-stored c =
     let f = c.args.field in
     rw (sym c.is_object.ensures ∙ c.if-is_object.true)
     (ap (λ o. Refers (ObjectFieldStored (checked.reference o) (number_of_class f.owner) f.index (checked.reference c.in_ok-stored.stored.value))) c.in_ok-object.ensures.ok
-    ∙ ap (λ o. Refers (ObjectFieldStored (checked.reference c.args.object) (number_of_class f.owner) f.index (checked.reference o))) c.in_ok-stored.ensures.ok
-    ∙ ap (λ o. Refers (ObjectFieldStored (checked.reference c.args.object) (number_of_class f.owner) f.index o)) c.object_in.ensures)
+    ∙ ap (λ o. Refers (ObjectFieldStored (checked.reference c.args.object) (number_of_class f.owner) f.index o)) c.in_ok-stored.ensures)
 
 pub returns-in_ok-value : goal.returns-in_ok-value
 returns-in_ok-value c =

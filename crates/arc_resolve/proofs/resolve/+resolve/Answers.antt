@@ -5,7 +5,7 @@ use Rattle.arc_class.specs.Table.{number_of_class}
 use Rattle.arc_ast.specs.declared.tree.Kind.TheVariants.{Int}
 use Rattle.arc_scope.specs.declared.callee.Callee.TheVariants.{Printf, GetChar, Defined, Unknown}
 use Rattle.arc_resolve.specs.declared.resolution.Typed.{Typed}
-use Rattle.arc_resolve.specs.private.Building.{resolution}
+use Rattle.arc_resolve.specs.private.Building.{part_of, resolution}
 use Rattle.arc_scope.specs.Passing as passing
 use Rattle.arc_checked.specs.Checked as checked
 use Rattle.arc_ast.specs.Tree.{expr_tree, expr_trees, type_tree}
@@ -79,7 +79,7 @@ pub operation-returns : goal.operation-returns
 operation-returns t c = λ at.
     record {
       class = refl;
-      value = c.in_ok-value.ensures ∙ ap (λ a. binary (sort_of c.args.operator) c.args.operator a (resolution c.in_ok-right.right.value)) c.in_ok-left.ensures.value
+      value = c.in_ok-value.ensures ∙ ap (λ a. binary (sort_of c.args.operator) c.args.operator a (part_of c.in_ok-right.right.value)) c.in_ok-left.ensures.value
           ∙ ap (binary (sort_of c.args.operator) c.args.operator (resolved (seen c.args.table.now c.args.visible.now) (expr_tree c.args.left.now))) c.in_ok-right.ensures.value;
     }
 
@@ -87,7 +87,7 @@ pub update-returns : goal.update-returns
 update-returns t c = λ at sign.
     record {
       class = refl;
-      value = c.in_ok-value.ensures ∙ ap (λ a. updated c.args.moment c.args.operator a (resolution c.in_ok-right.right.value)) c.in_ok-left.ensures.value
+      value = c.in_ok-value.ensures ∙ ap (λ a. updated c.args.moment c.args.operator a (part_of c.in_ok-right.right.value)) c.in_ok-left.ensures.value
           ∙ ap (updated c.args.moment c.args.operator (resolved (seen c.args.table.now c.args.visible.now) (expr_tree c.args.left.now))) c.in_ok-right.ensures.value;
     }
 
@@ -102,15 +102,15 @@ choice-returns t c = λ at.
     record {
       class = c.either_class-class.ensures ∙ ap (λ p. either_class p c.is_nil-other_nil.result one other) c.is_nil-one_nil.ensures ∙ ap (λ p. either_class (is_nil a) p one other) c.is_nil-other_nil.ensures
           ∙ ap (λ k. either_class (is_nil a) (is_nil b) k other) c.in_ok-first.ensures.class ∙ ap (either_class (is_nil a) (is_nil b) (class_of s a)) c.in_ok-second.ensures.class;
-      value = c.in_ok-value.ensures ∙ ap (λ x. conditional (resolving.number_in x) (resolution c.in_ok-first.first.value) (resolution c.in_ok-second.second.value)) c.in_ok-test.ensures.value
-          ∙ ap (λ x. conditional test x (resolution c.in_ok-second.second.value)) c.in_ok-first.ensures.value ∙ ap (conditional test (resolved s a)) c.in_ok-second.ensures.value;
+      value = c.in_ok-value.ensures ∙ ap (λ x. conditional (resolving.number_in x) (part_of c.in_ok-first.first.value) (part_of c.in_ok-second.second.value)) c.in_ok-test.ensures.value
+          ∙ ap (λ x. conditional test x (part_of c.in_ok-second.second.value)) c.in_ok-first.ensures.value ∙ ap (conditional test (resolved s a)) c.in_ok-second.ensures.value;
     }
 
 pub class_in-returns : goal.class_in-returns
-class_in-returns t c = c.in_ok-typed.ensures.class
+class_in-returns t c = c.in_ok-part.ensures.class
 
 pub argument-returns : goal.argument-returns
-argument-returns t c = IfOk-weaker c.passed.result _ _ (λ new h others. h others ∙ ap (λ x. resolving.argument c.args.wanted x others) c.in_ok-typed.ensures.value) c.passed.ensures
+argument-returns t c = IfOk-weaker c.passed.result _ _ (λ new h others. h others ∙ ap (λ x. resolving.argument c.args.wanted x others) c.in_ok-part.ensures.value) c.passed.ensures
 
 pub assigned-returns-in_ok-itself_assigned-in-Itself-clause-class : goal.assigned-returns-in_ok-itself_assigned-in-Itself-clause-class
 assigned-returns-in_ok-itself_assigned-in-Itself-clause-class t c = rw c.in-Itself.is (c.own_class.ensures c.args.table.now)
@@ -128,7 +128,7 @@ pub assigned-returns-in-Arrow-clause-value : goal.assigned-returns-in-Arrow-clau
 assigned-returns-in-Arrow-clause-value t c = rw (c.in-Arrow.is, sym c.deref-in-Arrow.ensures, sym c.deref-in-Arrow-2.ensures.value) c.to_field.ensures.value
 
 pub assigned-returns-in_ok-class-in_default : goal.assigned-returns-in_ok-class-in_default
-assigned-returns-in_ok-class-in_default t c = record { class = c.in_ok-class-in_default.ensures; value = assigned_other (seen c.args.table.now c.args.visible.now) c.args.left.now _ c.in_default.not-Paren c.in_default.not-Itself c.in_default.not-Name c.in_default.not-Arrow }
+assigned-returns-in_ok-class-in_default t c = record { class = c.in_ok-class-in_default.ensures; value = c.unboxed.ensures ∙ assigned_other (seen c.args.table.now c.args.visible.now) c.args.left.now _ c.in_default.not-Paren c.in_default.not-Itself c.in_default.not-Name c.in_default.not-Arrow }
 
 pub message-returns-in_ok-class_message-in-Some : goal.message-returns-in_ok-class_message-in-Some
 message-returns-in_ok-class_message-in-Some t c = λ at part.
