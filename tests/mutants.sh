@@ -27,8 +27,8 @@ for name in "${names[@]}"; do
   part "$clone/$name" "crates/$name/must-fail"
   mutants=$(cat "$clone/$name"/*.edit | grep -c '^mutant: ')
   said=$(rt must-fail "$name" 2>&1)
-  refused=$(grep -c '^must-fail .*: refused, as it must be' <<<"$said")
-  grep -v ': refused, as it must be' <<<"$said"
+  refused=$(grep -c '^rt: must-fail .*: refused, as it must be' <<<"$said")
+  grep '^rt: must-fail ' <<<"$said" | grep -v ': refused, as it must be'
   echo "$name: $refused of $mutants refused"
   ((passed += refused, failed += mutants - refused))
 done
