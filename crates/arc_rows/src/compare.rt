@@ -1,5 +1,8 @@
 //! Compares the trace of a compiled program with what the plain interpreter reports.
 
+ghost use Rattle.arc_ast.specs.Tree.{unit_tree};
+ghost use Rattle.arc_class.specs.Table.{IsTableOf};
+
 use crate::lines::trace_lines;
 use arc_ast::tree::TranslationUnit;
 use arc_check::check::check;
@@ -88,8 +91,19 @@ fn plain_trace(alloc: Global, source: &[u8], input: &[u8]) -> anyhow::Result<Vec
 }
 
 fn trace_of_unit(alloc: Global, unit: &TranslationUnit, input: &[u8]) -> anyhow::Result<Vec<u8>> {
-    let table = ClassTable::build(alloc, unit)?;
-    let program = check(alloc, unit, &table)?;
+    let table = Box::new(alloc, ClassTable::build(alloc, unit)?)?;
+    trace_with_table(alloc, unit, &table, input)
+}
+
+fn trace_with_table<'a>(
+    alloc: Global,
+    unit: &'a TranslationUnit,
+    table: &ClassTable<'a>,
+    input: &[u8],
+) -> anyhow::Result<Vec<u8>>
+    requires { IsTableOf (unit_tree unit.now) table.now }
+{
+    let program = check(alloc, unit, table)?;
     trace_of_program(alloc, &program, input)
 }
 

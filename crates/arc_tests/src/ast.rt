@@ -37,6 +37,5 @@ fn are_copied(rt: HostRuntime) {
     let TypeName::Object(at, name) = copied else {
         panic!(rt; "no object");
     };
-    assert_eq!(rt; at, 7);
-    assert_eq!(rt; name.as_slice(), b"A".as_slice());
+    assert_eq!(rt; (at, name.as_slice()), (7, b"A".as_slice()));
 }

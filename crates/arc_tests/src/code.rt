@@ -1,7 +1,7 @@
 //! Devices that fail, and a listing.
 
 use arc_ast::tree::{BinaryOperator, Kind, UnaryOperator};
-use arc_code::code::{Code, IoFault, Piece};
+use arc_code::code::{Code, Instruction, IoFault, Piece};
 use arc_code::counted::{Counted, Failed};
 use arc_code::instr::{Instr, Op};
 use arc_code::lines::list;
@@ -55,63 +55,64 @@ impl Write for Narrow {
 #[test]
 fn interruptions_are_retried(rt: HostRuntime) {
     let mut few = Counted::new(Interrupted { times: 99 });
-    assert_eq!(rt; few.get(), Ok(Some(b'A')));
-    assert_eq!(rt; few.failures(), 0);
+    assert_eq!(rt; (few.get(), few.failures()), (Ok(Some(b'A')), 0));
     let mut many = Counted::new(Interrupted { times: 100 });
-    assert_eq!(rt; many.get(), Err(Failed));
-    assert_eq!(rt; (many.failures(), many.get_ref().times), (1, 0));
+    assert_eq!(rt; (many.get(), many.failures()), (Err(Failed), 1));
+    assert_eq!(rt; many.get_ref().times, 0);
 }
 
+/// Each instruction.
+static INSTRS: [Instruction; 44] = [
+    Instr::Plain(Op::Num(-42)),
+    Instr::Plain(Op::Bin(BinaryOperator::Divide, Kind::Int)),
+    Instr::Plain(Op::Un(UnaryOperator::Complement, Kind::Long)),
+    Instr::Plain(Op::Narrow(Kind::Bool)),
+    Instr::Plain(Op::Pop),
+    Instr::Plain(Op::Get(2)),
+    Instr::Plain(Op::Set(3)),
+    Instr::PrintText(Piece { from: 10, len: 6 }),
+    Instr::Plain(Op::PrintNum),
+    Instr::Plain(Op::PrintByte),
+    Instr::Plain(Op::GetChar),
+    Instr::Jump(12),
+    Instr::JumpZero(7),
+    Instr::Call(0, Gives::Number),
+    Instr::Send(3, 1, 2, Gives::Object),
+    Instr::SendSuper(1, 2, 0, 3, Gives::Number),
+    Instr::SendTo(11, 12, 13, Gives::Object),
+    Instr::SendToSuper(14, 15, 16, 17, Gives::Number),
+    Instr::StoreStrong(2),
+    Instr::Empty(3),
+    Instr::DropAll,
+    Instr::Return,
+    Instr::EndStep,
+    Instr::Plain(Op::Declare),
+    Instr::Plain(Op::Nil),
+    Instr::Plain(Op::ReadSelf),
+    Instr::Plain(Op::ReadRef(4)),
+    Instr::Plain(Op::Hold),
+    Instr::Plain(Op::Forget),
+    Instr::Plain(Op::Alloc),
+    Instr::Plain(Op::GetField(5, 6)),
+    Instr::Plain(Op::SetField(7, 8)),
+    Instr::Plain(Op::Differ),
+    Instr::Plain(Op::IsObject),
+    Instr::Plain(Op::Again),
+    Instr::Plain(Op::GetGlobal(9)),
+    Instr::Plain(Op::SetGlobal(10)),
+    Instr::Plain(Op::ReadGlobal(11)),
+    Instr::Plain(Op::ReadField(12, 13)),
+    Instr::StoreGlobal(14),
+    Instr::StoreField(15, 16),
+    Instr::Plain(Op::Finds(17)),
+    Instr::Settle,
+    Instr::Give,
+];
+
 /// Code with each instruction.
-fn each_instruction(alloc: Global) -> Result<Code, AllocError> {
-    let instrs = [
-        Instr::Plain(Op::Num(-42)),
-        Instr::Plain(Op::Bin(BinaryOperator::Divide, Kind::Int)),
-        Instr::Plain(Op::Un(UnaryOperator::Complement, Kind::Long)),
-        Instr::Plain(Op::Narrow(Kind::Bool)),
-        Instr::Plain(Op::Pop),
-        Instr::Plain(Op::Get(2)),
-        Instr::Plain(Op::Set(3)),
-        Instr::PrintText(Piece { from: 10, len: 6 }),
-        Instr::Plain(Op::PrintNum),
-        Instr::Plain(Op::PrintByte),
-        Instr::Plain(Op::GetChar),
-        Instr::Jump(12),
-        Instr::JumpZero(7),
-        Instr::Call(0, Gives::Number),
-        Instr::Send(3, 1, 2, Gives::Object),
-        Instr::SendSuper(1, 2, 0, 3, Gives::Number),
-        Instr::SendTo(11, 12, 13, Gives::Object),
-        Instr::SendToSuper(14, 15, 16, 17, Gives::Number),
-        Instr::StoreStrong(2),
-        Instr::Empty(3),
-        Instr::DropAll,
-        Instr::Return,
-        Instr::EndStep,
-        Instr::Plain(Op::Declare),
-        Instr::Plain(Op::Nil),
-        Instr::Plain(Op::ReadSelf),
-        Instr::Plain(Op::ReadRef(4)),
-        Instr::Plain(Op::Hold),
-        Instr::Plain(Op::Forget),
-        Instr::Plain(Op::Alloc),
-        Instr::Plain(Op::GetField(5, 6)),
-        Instr::Plain(Op::SetField(7, 8)),
-        Instr::Plain(Op::Differ),
-        Instr::Plain(Op::IsObject),
-        Instr::Plain(Op::Again),
-        Instr::Plain(Op::GetGlobal(9)),
-        Instr::Plain(Op::SetGlobal(10)),
-        Instr::Plain(Op::ReadGlobal(11)),
-        Instr::Plain(Op::ReadField(12, 13)),
-        Instr::StoreGlobal(14),
-        Instr::StoreField(15, 16),
-        Instr::Plain(Op::Finds(17)),
-        Instr::Settle,
-        Instr::Give,
-    ];
-    Ok(Code {
-        instrs: Vec::from_slice(alloc, &instrs)?,
+fn each_instruction(alloc: Global) -> Result<Box<Code>, AllocError> {
+    let code = Code {
+        instrs: Vec::from_slice(alloc, &INSTRS)?,
         texts: Vec::new(alloc),
         end_step: 0,
         room: 0,
@@ -120,7 +121,8 @@ fn each_instruction(alloc: Global) -> Result<Code, AllocError> {
         globals: Vec::new(alloc),
         strong_globals: 0,
         classes: Vec::new(alloc),
-    })
+    };
+    Ok(Box::new(alloc, code)?)
 }
 
 /// The listing of that code.
@@ -137,8 +139,8 @@ const LISTING: &str = "0 Num -42\n1 Bin 3 2\n2 Un 2 3\n3 Narrow 1\n4 Pop\n5 Get 
 fn code_is_listed(rt: HostRuntime) -> Result<(), Fail> {
     let code = each_instruction(rt.alloc())?;
     let mut writer = Counted::new(Vec::new(rt.alloc()));
-    assert_eq!(rt; list(&code, &mut writer), Ok(()));
-    assert_eq!(rt; writer.flush(), Ok(()));
+    let listed = list(&code, &mut writer);
+    assert_eq!(rt; (listed, writer.flush()), (Ok(()), Ok(())));
     assert_eq!(rt; writer.get_ref().as_slice(), LISTING.as_bytes());
     Ok(())
 }
@@ -151,10 +153,11 @@ fn a_failing_writer_ends_a_listing(rt: HostRuntime) -> Result<(), Fail> {
         taken: Vec::new(rt.alloc()),
         room: 12,
     });
-    assert_eq!(rt; list(&code, &mut writer), Err(IoFault::Write));
-    assert_eq!(rt; writer.failures(), 1);
-    assert_eq!(rt; writer.flush(), Err(Failed));
-    assert_eq!(rt; writer.failures(), 2);
+    let listed = list(&code, &mut writer);
+    let failures = writer.failures();
+    let flushed = writer.flush();
+    assert_eq!(rt; (listed, failures), (Err(IoFault::Write), 1));
+    assert_eq!(rt; (flushed, writer.failures()), (Err(Failed), 2));
     assert_eq!(rt;
         writer.get_ref().taken.as_slice(),
         b"0 Num -42\n1 ".as_slice()

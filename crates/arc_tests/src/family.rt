@@ -23,16 +23,23 @@ fn of_selector(selector: &str) -> Family {
     family(selector, &signature)
 }
 
+/// Selectors, each with its family.
+static FAMILIES: [(&str, Family); 8] = [
+    ("allocWithZone:", Family::Alloc),
+    ("_copyMe", Family::Copy),
+    ("__copy2", Family::Copy),
+    ("initWith:", Family::Init),
+    ("mutableCopy", Family::MutableCopy),
+    ("newThing", Family::New),
+    ("new_x", Family::New),
+    ("newÉtat", Family::New),
+];
+
 #[test]
 fn finds_families(rt: HostRuntime) {
-    assert_eq!(rt; of_selector("allocWithZone:"), Family::Alloc);
-    assert_eq!(rt; of_selector("_copyMe"), Family::Copy);
-    assert_eq!(rt; of_selector("__copy2"), Family::Copy);
-    assert_eq!(rt; of_selector("initWith:"), Family::Init);
-    assert_eq!(rt; of_selector("mutableCopy"), Family::MutableCopy);
-    assert_eq!(rt; of_selector("newThing"), Family::New);
-    assert_eq!(rt; of_selector("new_x"), Family::New);
-    assert_eq!(rt; of_selector("newÉtat"), Family::New);
+    for (selector, family) in &FAMILIES {
+        assert_eq!(rt; of_selector(selector), *family, "at {selector}");
+    }
 }
 
 #[test]

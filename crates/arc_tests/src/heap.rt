@@ -24,26 +24,27 @@ fn blocks_have_the_least_size(rt: HostRuntime) -> Result<(), Fail> {
     Ok(())
 }
 
-/// The block that was given back last is taken first and is clear, and another size gets another block.
-#[test]
+/// Where blocks of 4, 64 and 4 words were, which were taken and then given back, and what the last one held.
 #[tactic(auto, unfolding(arc_heap::specs::Sizes::size_of))]
-fn free_blocks_are_kept_by_size(rt: HostRuntime) -> Result<(), Fail> {
-    let mut store = PlainStore::new(rt.alloc());
-    let small = store.take(4).ok_or("no memory")?;
-    let large = store.take(64).ok_or("no memory")?;
-    let last = store.take(4).ok_or("no memory")?;
+fn give_three(store: &mut PlainStore) -> Option<(u64, u64, u64, u64)> {
+    let small = store.take(4)?;
+    let large = store.take(64)?;
+    let last = store.take(4)?;
     store.store(last, 3, u64::MAX);
-    assert_eq!(rt; store.load(last, 3), u64::MAX);
+    let held = store.load(last, 3);
     store.give(small);
     store.give(large);
     store.give(last);
-    for (words, at) in [
-        (8, 19),
-        (4, last.at),
-        (50, large.at),
-        (4, small.at),
-        (4, 21),
-    ] {
+    Some((small.at, large.at, last.at, held))
+}
+
+/// The block that was given back last is taken first and is clear, and another size gets another block.
+#[test]
+fn free_blocks_are_kept_by_size(rt: HostRuntime) -> Result<(), Fail> {
+    let mut store = PlainStore::new(rt.alloc());
+    let (small, large, last, held) = give_three(&mut store).ok_or("no memory")?;
+    assert_eq!(rt; held, u64::MAX);
+    for (words, at) in [(8, 19), (4, last), (50, large), (4, small), (4, 21)] {
         assert_eq!(rt; store.take(words).ok_or("no memory")?.at, at);
     }
     Ok(())

@@ -1,42 +1,49 @@
 //! A source that becomes a tree, and one that is refused. The program `arc_rows` has many more.
-use arc_ast::tree::{BinaryOperator, Expr, Kind, Stmt};
+use crate::source::tree;
+use arc_ast::tree::{BinaryOperator, Expr, Kind, Stmt, TranslationUnit};
 use arc_fault::parse::ParseFault;
 use arc_lex::lex::lex;
 use arc_parse::parse::parse;
+use std::alloc::Global;
+
+/// Where the first interface of a tree and its superclass are named, where the first function is named and the kind of
+/// its result, and whether its body begins by returning a sum.
+type Seen = ((usize, usize), (usize, Kind), bool);
+
+fn seen_of(unit: &TranslationUnit) -> Option<Seen> {
+    let interface = unit.interfaces.first()?;
+    let main = unit.functions.first()?;
+    let sums = matches!(
+        main.body.as_ref()?.first(),
+        Some(Stmt::Return(17, Some(Expr::Binary(24, BinaryOperator::Add, _, _))))
+    );
+    let of_interface = (interface.at, interface.superclass_at);
+    Some((of_interface, (main.at, main.result.kind()), sums))
+}
 
 #[test]
 fn reads(rt: HostRuntime) {
     let alloc = rt.alloc();
-    let tokens = lex(
-        alloc,
-        b"int main(void) { return 1 + 2; } @interface A : B @end",
-    );
-    let tokens = tokens.expect(&rt, "no tokens");
-    let unit = parse(alloc, &tokens).expect(&rt, "no tree");
-    let interface = unit.interfaces.first().expect(&rt, "no interface");
-    assert_eq!(rt; (interface.at, interface.superclass_at), (44, 48));
-    let main = unit.functions.first().expect(&rt, "no function");
-    assert_eq!(rt; (main.at, main.result.kind()), (4, Kind::Int));
-    let body = main.body.as_ref().expect(&rt, "no body");
-    assert!(rt;
-        matches!(
-            body.first(),
-            Some(Stmt::Return(17, Some(Expr::Binary(24, BinaryOperator::Add, _, _))))
-        )
-    );
+    let source = b"int main(void) { return 1 + 2; } @interface A : B @end";
+    let unit = tree(alloc, source).expect(&rt, "no tree");
+    assert_eq!(rt; seen_of(&unit), Some(((44, 48), (4, Kind::Int), true)));
+}
+
+/// Why the tokens of a source become no tree.
+fn fault_of(alloc: Global, source: &[u8]) -> Option<ParseFault> {
+    let tokens = lex(alloc, source).ok()?;
+    parse(alloc, &tokens).err()
 }
 
 #[test]
 fn refuses(rt: HostRuntime) {
     let alloc = rt.alloc();
-    let tokens = lex(alloc, b"int main(void) { 1 + ; }").expect(&rt, "no tokens");
     assert_eq!(rt;
-        parse(alloc, &tokens).err(),
+        fault_of(alloc, b"int main(void) { 1 + ; }"),
         Some(ParseFault::Unexpected(21))
     );
-    let tokens = lex(alloc, b"int main(void) { return 1 . 2; }").expect(&rt, "no tokens");
     assert_eq!(rt;
-        parse(alloc, &tokens).err(),
+        fault_of(alloc, b"int main(void) { return 1 . 2; }"),
         Some(ParseFault::Unexpected(26))
     );
 }

@@ -4,8 +4,9 @@ use arc_lex::lex::lex;
 use arc_parse::parse::parse;
 use std::alloc::Global;
 
-/// The tree of a source, if it has one.
-pub fn tree(alloc: Global, source: &[u8]) -> Option<TranslationUnit> {
+/// The tree of a source, if it has one, in a box, as a function that holds one is proved faster so.
+pub fn tree(alloc: Global, source: &[u8]) -> Option<Box<TranslationUnit>> {
     let tokens = lex(alloc, source).ok()?;
-    parse(alloc, &tokens).ok()
+    let unit = parse(alloc, &tokens).ok()?;
+    Box::new(alloc, unit).ok()
 }

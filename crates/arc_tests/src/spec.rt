@@ -3,33 +3,45 @@ use arc_ast::tree::{BinaryOperator, Kind, UnaryOperator};
 use arc_spec::number::{add_count, apply, byte_or_end, combine, convert, low_byte, low_half};
 use std::test::Fail;
 
+/// Operators, their kinds and operands, each with its result.
+static RESULTS: [(BinaryOperator, Kind, i64, i64, Option<i64>); 6] = [
+    (
+        BinaryOperator::Add,
+        Kind::Int,
+        2_147_483_647,
+        1,
+        Some(-2_147_483_648),
+    ),
+    (
+        BinaryOperator::Multiply,
+        Kind::Long,
+        65_536,
+        65_536,
+        Some(4_294_967_296),
+    ),
+    (BinaryOperator::Divide, Kind::Int, -7, 2, Some(-3)),
+    (BinaryOperator::Divide, Kind::Int, -2_147_483_648, -1, None),
+    (
+        BinaryOperator::Divide,
+        Kind::Long,
+        -2_147_483_648,
+        -1,
+        Some(2_147_483_648),
+    ),
+    (BinaryOperator::Divide, Kind::Long, 1, 0, None),
+];
+
 #[test]
 fn numbers(rt: HostRuntime) -> Result<(), Fail> {
-    let (int, long) = (Kind::Int, Kind::Long);
-    assert_eq!(rt; convert(int, 4_294_967_295), -1);
+    assert_eq!(rt; convert(Kind::Int, 4_294_967_295), -1);
     assert_eq!(rt; convert(Kind::Bool, 4_294_967_296), 1);
     assert_eq!(rt;
-        apply(UnaryOperator::Negate, int, -2_147_483_648),
+        apply(UnaryOperator::Negate, Kind::Int, -2_147_483_648),
         -2_147_483_648
     );
-    assert_eq!(rt;
-        combine(BinaryOperator::Add, int, 2_147_483_647, 1),
-        Some(-2_147_483_648)
-    );
-    assert_eq!(rt;
-        combine(BinaryOperator::Multiply, long, 65_536, 65_536),
-        Some(4_294_967_296)
-    );
-    assert_eq!(rt; combine(BinaryOperator::Divide, int, -7, 2), Some(-3));
-    assert_eq!(rt;
-        combine(BinaryOperator::Divide, int, -2_147_483_648, -1),
-        None
-    );
-    assert_eq!(rt;
-        combine(BinaryOperator::Divide, long, -2_147_483_648, -1),
-        Some(2_147_483_648)
-    );
-    assert_eq!(rt; combine(BinaryOperator::Divide, long, 1, 0), None);
+    for (operator, kind, left, right, result) in &RESULTS {
+        assert_eq!(rt; combine(*operator, *kind, *left, *right), *result);
+    }
     Ok(())
 }
 

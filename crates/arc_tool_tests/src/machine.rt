@@ -1,4 +1,4 @@
 //! `arc_machine`: programs on devices that work and on ones that fail, and with a store that has too few blocks.
 
 mod failing;
-mod programs;
+pub mod programs;

@@ -73,8 +73,7 @@ fn a_failing_writer_breaks_a_step(rt: HostRuntime) -> Result<(), Fail> {
     let mut reader = Counted::new(b"\x06".as_slice());
     let mut writer = Counted::new(with_room(rt.alloc(), 2));
     let fault = failure_of(rt.alloc(), &mut reader, &mut writer)?;
-    assert_eq!(rt; fault, Some(IoFault::Write));
-    assert_eq!(rt; writer.failures(), 1);
+    assert_eq!(rt; (fault, writer.failures()), (Some(IoFault::Write), 1));
     assert_eq!(rt; writer.get_ref().taken.as_slice(), b"ab".as_slice());
     Ok(())
 }
@@ -85,10 +84,10 @@ fn a_broken_step_has_the_events_that_it_gave(rt: HostRuntime) -> Result<(), Fail
     let mut reader = Counted::new(b"".as_slice());
     let mut writer = Counted::new(with_room(rt.alloc(), 2));
     let stop = machine.run(1_000, &mut reader, &mut writer);
-    assert_eq!(rt; stop, Err(IoFault::Write));
+    let given = [Event::Byte(b'a'), Event::Byte(b'b')];
     assert_eq!(rt;
-        machine.events(),
-        [Event::Byte(b'a'), Event::Byte(b'b')].as_slice()
+        (stop, machine.events()),
+        (Err(IoFault::Write), given.as_slice())
     );
     Ok(())
 }
@@ -98,8 +97,7 @@ fn what_was_printed_is_flushed_before_a_read(rt: HostRuntime) -> Result<(), Fail
     let mut reader = Counted::new(b"\x06".as_slice());
     let mut writer = Counted::new(unflushed(rt.alloc()));
     let fault = failure_of(rt.alloc(), &mut reader, &mut writer)?;
-    assert_eq!(rt; fault, Some(IoFault::Write));
-    assert_eq!(rt; reader.get_ref().len(), 1);
+    assert_eq!(rt; (fault, reader.get_ref().len()), (Some(IoFault::Write), 1));
     assert_eq!(rt; writer.get_ref().taken.as_slice(), b"abcdef".as_slice());
     Ok(())
 }
@@ -109,8 +107,10 @@ fn a_failing_reader_breaks_a_step(rt: HostRuntime) -> Result<(), Fail> {
     let mut reader = Counted::new(Broken);
     let mut writer = Counted::new(Vec::new(rt.alloc()));
     let fault = failure_of(rt.alloc(), &mut reader, &mut writer)?;
-    assert_eq!(rt; fault, Some(IoFault::Read));
-    assert_eq!(rt; (reader.failures(), writer.failures()), (1, 0));
+    assert_eq!(rt;
+        (fault, reader.failures(), writer.failures()),
+        (Some(IoFault::Read), 1, 0)
+    );
     Ok(())
 }
 
@@ -128,11 +128,12 @@ fn a_store_with_no_block_stops_it(rt: HostRuntime) -> Result<(), Fail> {
     let mut reader = Counted::new(b"".as_slice());
     let mut writer = Counted::new(Vec::new(rt.alloc()));
     let stop = machine.run(1_000, &mut reader, &mut writer);
-    assert_eq!(rt; stop, Ok(Stop::NoHeap));
     let steps = machine.steps_done();
-    let stop = machine.run(1_000, &mut reader, &mut writer);
-    assert_eq!(rt; stop, Ok(Stop::NoHeap));
-    assert_eq!(rt; machine.steps_done(), steps);
+    let again = machine.run(1_000, &mut reader, &mut writer);
+    assert_eq!(rt;
+        (stop, again, machine.steps_done()),
+        (Ok(Stop::NoHeap), Ok(Stop::NoHeap), steps)
+    );
     assert_eq!(rt; writer.get_ref().as_slice(), b"a".as_slice());
     Ok(())
 }

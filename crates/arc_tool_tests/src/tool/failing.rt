@@ -1,11 +1,10 @@
 //! Runs and traces on devices that fail.
 use crate::devices::{Broken, Narrow, unflushed, with_room};
+use crate::machine::programs::machine_of;
 use arc_code::code::IoFault;
 use arc_code::counted::Counted;
 use arc_heap::plain::PlainStore;
-use arc_machine::machine::Machine;
 use arc_machine::stop::Stop;
-use arc_tool::compile::compile;
 use arc_tool::run::{ToolFault, run_text};
 use arc_tool::trace::trace_text;
 use std::alloc::{AllocError, Global};
@@ -70,79 +69,92 @@ fn traced(alloc: Global, source: &[u8], writer: Narrow) -> Result<Left, AllocErr
     })
 }
 
+/// The answer where the writer fails.
+const UNWRITTEN: Result<Stop, ToolFault> = Err(ToolFault::Io(IoFault::Write));
+
+/// Whether a run on a writer with room for this holds it, and breaks after it, once.
+fn run_breaks_after(alloc: Global, text: &[u8]) -> Result<bool, AllocError> {
+    let left = ran(alloc, SOURCE, with_room(alloc, text.len()))?;
+    Ok(left.answer == UNWRITTEN && left.unwritten == 1 && left.taken.as_slice() == text)
+}
+
+/// Whether a trace on a writer with room for this holds it, and breaks after it, once.
+fn trace_breaks_after(alloc: Global, lines: &[u8]) -> Result<bool, AllocError> {
+    let left = traced(alloc, SOURCE, with_room(alloc, lines.len()))?;
+    Ok(left.answer == UNWRITTEN && left.unwritten == 1 && left.taken.as_slice() == lines)
+}
+
 /// A writer that holds what it had room for of the text is reported as the fault, once; one with room for it all isn't.
 /// Nothing is read after it failed.
 #[test]
 fn a_writer_that_fails(rt: HostRuntime) -> Result<(), Fail> {
     let alloc = rt.alloc();
-    let broken = Err(ToolFault::Io(IoFault::Write));
     for room in 0..TEXT.len() {
-        let left = ran(alloc, SOURCE, with_room(alloc, room))?;
-        assert!(rt; left.answer == broken && left.unwritten == 1);
-        assert!(rt; left.taken.as_slice() == &TEXT[..room]);
+        assert!(rt; run_breaks_after(alloc, &TEXT[..room])?);
     }
     for room in 0..LINES.len() {
-        let left = traced(alloc, SOURCE, with_room(alloc, room))?;
-        assert!(rt; left.answer == broken && left.unwritten == 1);
-        assert!(rt; left.taken.as_slice() == &LINES[..room]);
+        assert!(rt; trace_breaks_after(alloc, &LINES[..room])?);
     }
     let source = b"int main(void) { printf(\"a\"); getchar(); }";
     let left = traced(alloc, source, with_room(alloc, 0))?;
-    assert!(rt; left.answer == broken && left.unread == 0);
+    assert!(rt; left.answer == UNWRITTEN && left.unread == 0);
     Ok(())
+}
+
+/// Whether the source came to its end, and this was written without a failure.
+fn ended(left: &Left, taken: &[u8]) -> bool {
+    left.answer == Ok(Stop::Ended(-1)) && left.unwritten == 0 && left.taken.as_slice() == taken
 }
 
 #[test]
 fn a_writer_with_room(rt: HostRuntime) -> Result<(), Fail> {
     let alloc = rt.alloc();
-    let left = ran(alloc, SOURCE, with_room(alloc, TEXT.len()))?;
-    assert!(rt; left.answer == Ok(Stop::Ended(-1)) && left.unwritten == 0);
-    assert!(rt; left.taken.as_slice() == TEXT);
-    let left = traced(alloc, SOURCE, with_room(alloc, LINES.len()))?;
-    assert!(rt; left.answer == Ok(Stop::Ended(-1)) && left.unwritten == 0);
-    assert!(rt; left.taken.as_slice() == LINES);
+    let ran = ran(alloc, SOURCE, with_room(alloc, TEXT.len()))?;
+    let traced = traced(alloc, SOURCE, with_room(alloc, LINES.len()))?;
+    assert!(rt; ended(&ran, TEXT) && ended(&traced, LINES));
     Ok(())
 }
 
 #[test]
 fn a_flush_that_fails(rt: HostRuntime) -> Result<(), Fail> {
     let alloc = rt.alloc();
-    let broken = Err(ToolFault::Io(IoFault::Write));
-    let left = ran(alloc, SOURCE, unflushed(alloc))?;
-    assert!(rt; left.answer == broken && left.taken.as_slice() == TEXT);
-    let left = traced(alloc, SOURCE, unflushed(alloc))?;
-    assert!(rt; left.answer == broken && left.taken.as_slice() == LINES);
+    let ran = ran(alloc, SOURCE, unflushed(alloc))?;
+    let traced = traced(alloc, SOURCE, unflushed(alloc))?;
+    assert!(rt; ran.answer == UNWRITTEN && ran.taken.as_slice() == TEXT);
+    assert!(rt; traced.answer == UNWRITTEN && traced.taken.as_slice() == LINES);
     Ok(())
+}
+
+/// Whether the reader broke the source, once, after this was written.
+fn is_unread(left: &Left, taken: &[u8]) -> bool {
+    left.answer == Err(ToolFault::Io(IoFault::Read))
+        && left.unread == 1
+        && left.taken.as_slice() == taken
 }
 
 #[test]
 fn a_reader_that_fails(rt: HostRuntime) -> Result<(), Fail> {
     let alloc = rt.alloc();
     let source = b"int main(void) { printf(\"a\"); getchar(); printf(\"b\"); }";
-    let broken = Err(ToolFault::Io(IoFault::Read));
-    let left = ran(alloc, source, with_room(alloc, 100))?;
-    assert!(rt; left.answer == broken && left.unread == 1);
-    assert_eq!(rt; left.taken.as_slice(), b"a".as_slice());
-    let left = traced(alloc, source, with_room(alloc, 100))?;
-    assert!(rt; left.answer == broken && left.unread == 1);
-    assert_eq!(rt; left.taken.as_slice(), b"out 61\nio 91 Read\n".as_slice());
+    let ran = ran(alloc, source, with_room(alloc, 100))?;
+    let traced = traced(alloc, source, with_room(alloc, 100))?;
+    assert!(rt; is_unread(&ran, b"a"));
+    assert!(rt; is_unread(&traced, b"out 61\nio 91 Read\n"));
     Ok(())
 }
 
 #[test]
 fn steps_that_go_on(rt: HostRuntime) -> Result<(), Fail> {
     let alloc = rt.alloc();
-    let code = compile(alloc, b"int main(void){while(1)printf(\"a\");}")?;
-    let mut machine = Machine::new(alloc, code, PlainStore::new(alloc))?;
+    let source = "int main(void){while(1)printf(\"a\");}";
+    let mut machine = machine_of(alloc, source, PlainStore::new(alloc))?;
     let mut reader = Counted::new(b"".as_slice());
     let mut writer = Counted::new(Vec::new(alloc));
-    let stop = machine.run(1000, &mut reader, &mut writer)?;
-    assert!(rt; stop == Stop::StepsUsed);
+    let stop = machine.run(1000, &mut reader, &mut writer);
     let first = writer.get_ref().len();
-    assert!(rt; first > 0);
-    let stop = machine.run(1000, &mut reader, &mut writer)?;
-    assert!(rt; stop == Stop::StepsUsed);
-    assert!(rt; writer.get_ref().len() > first);
+    let again = machine.run(1000, &mut reader, &mut writer);
+    assert!(rt; stop == Ok(Stop::StepsUsed) && again == stop);
+    assert!(rt; 0 < first && first < writer.get_ref().len());
     for byte in writer.get_ref() {
         assert_eq!(rt; *byte, b'a');
     }

@@ -45,17 +45,26 @@ fn single_bytes(rt: HostRuntime) -> Result<(), Fail> {
     Ok(())
 }
 
+/// What a source of so many spaces is refused for.
+fn refused_spaces(alloc: Global, count: usize) -> Result<Option<(u8, usize)>, AllocError> {
+    let spaces = vec![in alloc; b' '; count]?;
+    Ok(refused(alloc, &spaces))
+}
+
+/// A source with 87,000 calls.
+fn many_calls(alloc: Global) -> Result<Vec<u8>, AllocError> {
+    let mut calls = Vec::from_slice(alloc, b"int main(void){")?;
+    append_times(&mut calls, b"printf(\"a\");", 87_000)?;
+    calls.push(b'}')?;
+    Ok(calls)
+}
+
 #[test]
 fn long_sources(rt: HostRuntime) -> Result<(), Fail> {
     let alloc = rt.alloc();
-    let mut spaces = Vec::new(alloc);
-    append_times(&mut spaces, b" ", 1_048_576)?;
-    assert_eq!(rt; refused(alloc, &spaces), Some((29, 0)));
-    append_times(&mut spaces, b" ", 1)?;
-    assert_eq!(rt; refused(alloc, &spaces), Some((6, 1_048_576)));
-    let mut calls = Vec::from_slice(alloc, b"int main(void){")?;
-    append_times(&mut calls, b"printf(\"a\");", 87_000)?;
-    append_times(&mut calls, b"}", 1)?;
+    assert_eq!(rt; refused_spaces(alloc, 1_048_576)?, Some((29, 0)));
+    assert_eq!(rt; refused_spaces(alloc, 1_048_577)?, Some((6, 1_048_576)));
+    let calls = many_calls(alloc)?;
     let mut reader = Counted::new(b"".as_slice());
     let mut writer = Counted::new(Vec::new(alloc));
     let stop = run_text(
@@ -65,8 +74,10 @@ fn long_sources(rt: HostRuntime) -> Result<(), Fail> {
         1_000_000_000,
         &mut reader,
         &mut writer,
-    )?;
-    assert_eq!(rt; writer.get_ref().len(), 87_000);
-    assert!(rt; stop == Stop::Ended(0));
+    );
+    assert_eq!(rt;
+        (stop, writer.get_ref().len()),
+        (Ok(Stop::Ended(0)), 87_000)
+    );
     Ok(())
 }

@@ -12,41 +12,44 @@ pub fn texts(alloc: Global, line: &[&str]) -> Result<Vec<String>, AllocError> {
     Ok(all)
 }
 
+/// Words, each with the command, the file and the number of steps that they say.
+static COMMANDS: [(&[&str], Command, &str, u64); 5] = [
+    (&["arcc", "run", "a.m"], Command::Run, "a.m", 1_000_000_000),
+    (
+        &["arcc", "trace", "--steps", "3", "c.m"],
+        Command::Trace,
+        "c.m",
+        3,
+    ),
+    (
+        &["arcc", "check", "b.m"],
+        Command::Check,
+        "b.m",
+        1_000_000_000,
+    ),
+    (
+        &["arcc", "code", "--", "--steps"],
+        Command::Code,
+        "--steps",
+        1_000_000_000,
+    ),
+    (
+        &["arcc", "run", "a.m", "--steps=9223372036854775807"],
+        Command::Run,
+        "a.m",
+        9_223_372_036_854_775_807,
+    ),
+];
+
 #[test]
 fn commands(rt: HostRuntime) -> Result<(), Fail> {
     let alloc = rt.alloc();
-    let rows: [(&[&str], Command, &str, u64); 5] = [
-        (&["arcc", "run", "a.m"], Command::Run, "a.m", 1_000_000_000),
-        (
-            &["arcc", "trace", "--steps", "3", "c.m"],
-            Command::Trace,
-            "c.m",
-            3,
-        ),
-        (
-            &["arcc", "check", "b.m"],
-            Command::Check,
-            "b.m",
-            1_000_000_000,
-        ),
-        (
-            &["arcc", "code", "--", "--steps"],
-            Command::Code,
-            "--steps",
-            1_000_000_000,
-        ),
-        (
-            &["arcc", "run", "a.m", "--steps=9223372036854775807"],
-            Command::Run,
-            "a.m",
-            9_223_372_036_854_775_807,
-        ),
-    ];
-    for (line, command, file, steps) in rows {
+    for (line, command, file, steps) in &COMMANDS {
         let said = words(alloc, &texts(alloc, line)?)?;
-        assert_eq!(rt; said.command, command);
-        assert_eq!(rt; said.file.as_str(), file);
-        assert_eq!(rt; said.steps, steps);
+        assert_eq!(rt;
+            (said.command, said.file.as_str(), said.steps),
+            (*command, *file, *steps)
+        );
     }
     Ok(())
 }
