@@ -1,6 +1,6 @@
 #!/usr/bin/env bash
-# Tries each mutant of the crates that are named, or of all, by itself. An edit crates/NAME/must-fail/KIND.edit holds the mutants of one
-# kind, each of which begins with a line `mutant: NAME`. The gate tries those of an edit at once, which shows that one of them
+# Tries each mutant of the crates that are named, or of all, by itself. An edit of crates/NAME/must-fail holds the mutants of the
+# crate, each of which begins with a line `mutant: NAME`. The gate tries those of an edit at once, which shows that one of them
 # at least is refused. Here each is an edit of its own, in a clone of what is committed, over what earlier checks kept.
 # The last line is `N passed, M failed`.
 set -u
