@@ -22,7 +22,7 @@ use Rattle.arc_parse.specs.private.Signatures.{push}
 -- further arguments, one by one
 pub read_more_arguments : (before : List ExprTree) (ts : List Tok)
     → arguments_on before ts ≡ if_sees (mark m.Comma) (take_one (mark m.Comma) from >>= (λ comma. rules unlimited expr >>= (λ a. arguments_on (push before a)))) (ret before) ts
-unfolding after_comma
+unfolding after_comma arguments_on
 read_more_arguments before ts = one_more_free (mark m.Comma) (after_comma (call expr)) push (takes refl refl) before ts
     ∙ ap (λ y. cond (sees (mark m.Comma) ts) y (ret before ts)) (second_then (take_one (mark m.Comma) from ts) (rules unlimited expr) (λ a. arguments_on (push before a)))
 
@@ -37,7 +37,7 @@ some_given {A} part ts =
 
 pub read_given : (ts : List Tok) → reads_free given ts ≡ if_sees (mark m.CloseParen) (take_one (mark m.CloseParen) from >>= (λ end. ret []))
     (rules unlimited expr >>= (λ a. arguments_on (a ∷ []) >>= (λ all. take_one (mark m.CloseParen) from >>= (λ end. ret all)))) ts
-unfolding given
+unfolding given arguments_on
 read_given ts = ap (λ y. cond (sees (mark m.CloseParen) ts) (bind {A = ℕ} (take_one (mark m.CloseParen) from ts) (λ end. ret [])) y) (some_given (call expr) ts)
 
 -- ---- parts of selectors
@@ -50,7 +50,7 @@ fold_parts s (p ∷ others) = fold_parts (add_part s p) others ∙ ap₂ (λ a b
 -- the first part, and then further ones
 first_part : {A : Type 0} (limits : Limits) (part : Part A) (first : List ℕ) (ts : List Tok) → (run rules limits (some_parts part) >>= (λ make. ret (make first))) ts
     ≡ (take_one (mark m.Colon) from >>= (λ colon. run rules limits part >>= (λ a. parts_on limits part (first ++ 58 ∷ [], a ∷ [])))) ts
-unfolding some_parts
+unfolding some_parts parts_on
 first_part limits part first ts = simp (bind_twice, fold_parts, append_assoc)
 
 -- ---- those of messages, one by one
@@ -63,6 +63,7 @@ read_parts first ts = bind_if {A = List ℕ → List ℕ × List ExprTree} (sees
 
 pub read_more_parts : (s : List ℕ × List ExprTree) (ts : List Tok) → parts_on unlimited (call expr) s ts
     ≡ if_sees name (take_one name named >>= (λ n. take_one (mark m.Colon) from >>= (λ colon. rules unlimited expr >>= (λ a. parts_on unlimited (call expr) ((s.0 ++ n.1) ++ 58 ∷ [], push s.1 a))))) (ret s) ts
+unfolding parts_on
 read_more_parts s ts = one_more_free name (called ⨾ the m.Colon ⨾ call expr) add_part (takes refl refl) s ts ∙ ap (λ y. cond (sees name ts) y (ret s ts)) (simp bind_twice)
 
 -- ---- and those of heads of methods
@@ -73,4 +74,5 @@ read_typed_parts = first_part these typed
 
 pub read_more_typed : (s : List ℕ × List ParameterTree) (ts : List Tok) → parts_on these typed s ts
     ≡ if_sees name (take_one name named >>= (λ n. take_one (mark m.Colon) from >>= (λ colon. reads typed >>= (λ p. parts_on these typed ((s.0 ++ n.1) ++ 58 ∷ [], push s.1 p))))) (ret s) ts
+unfolding parts_on
 read_more_typed s ts = one_more name (called ⨾ the m.Colon ⨾ typed) add_part (search taking) s ts ∙ ap (λ y. cond (sees name ts) y (ret s ts)) (simp bind_twice)

@@ -24,7 +24,7 @@ use std::alloc::Global;
 
 /// An expression.
 #[cycle(exprs)]
-#[tactic(auto, using(arc_grammar::proofs::Fits::read_rule), unfolding(arc_grammar::specs::Grammar::body, arc_grammar::specs::Grammar::expression))]
+#[tactic(auto, using(crate::proofs::Fix::read_expr))]
 pub fn expr(alloc: Global, reader: &mut Reader) -> Read<Box<Expr>>
     ensures gives { Gives (λ x. expr_tree x.value) result (toks reader.new.rest.now) (rules unlimited grammar.expr (toks reader.old.rest.now)) }
     ensures shorter { IfOk result (λ _. length reader.new.rest.now < length reader.old.rest.now) }
@@ -77,7 +77,7 @@ fn continued(alloc: Global, left: Box<Expr>, reader: &mut Reader) -> Read<Box<Ex
 
 /// An expression that is no assignment.
 #[cycle(exprs)]
-#[tactic(auto, using(arc_grammar::proofs::Fits::read_rule), unfolding(arc_grammar::specs::Grammar::body, arc_grammar::specs::Grammar::conditional_expr))]
+#[tactic(auto, using(crate::proofs::Fix::read_condition))]
 fn condition(alloc: Global, reader: &mut Reader) -> Read<Box<Expr>>
     ensures gives { Gives (λ x. expr_tree x.value) result (toks reader.new.rest.now) (rules unlimited grammar.condition (toks reader.old.rest.now)) }
     ensures shorter { IfOk result (λ _. length reader.new.rest.now < length reader.old.rest.now) }
@@ -108,7 +108,7 @@ fn up_to(alloc: Global, level: usize, left: Box<Expr>, reader: &mut Reader) -> R
 
 /// An expression whose operators are of this level or tighter.
 #[cycle(exprs)]
-#[tactic(auto, using(crate::proofs::Fix::read_binary), unfolding(arc_grammar::specs::Grammar::operations))]
+#[tactic(auto, using(crate::proofs::Fix::read_binary))]
 fn binary(alloc: Global, level: usize, reader: &mut Reader) -> Read<Box<Expr>>
     requires { level ≤ LOOSEST }
     ensures gives { Gives (λ x. expr_tree x.value) result (toks reader.new.rest.now) (rules unlimited (grammar.binary level) (toks reader.old.rest.now)) }
@@ -121,9 +121,9 @@ fn binary(alloc: Global, level: usize, reader: &mut Reader) -> Read<Box<Expr>>
 
 /// A unary expression.
 #[cycle(exprs)]
-#[tactic(auto, using(arc_grammar::proofs::Fits::read_rule), unfolding(arc_grammar::specs::Grammar::body, arc_grammar::specs::Grammar::prefixed, arc_grammar::specs::Grammar::signed, arc_grammar::specs::Grammar::counted))]
+#[tactic(auto, using(crate::proofs::Fix::read_unary))]
 fn prefixed(alloc: Global, reader: &mut Reader) -> Read<Box<Expr>>
-    ensures gives { Gives (λ x. expr_tree x.value) result (toks reader.new.rest.now) (reads_free grammar.prefixed (toks reader.old.rest.now)) }
+    ensures gives { Gives (λ x. expr_tree x.value) result (toks reader.new.rest.now) (rules unlimited grammar.unary (toks reader.old.rest.now)) }
     ensures shorter { IfOk result (λ _. length reader.new.rest.now < length reader.old.rest.now) }
 {
     if begins_signed(reader) {
@@ -145,7 +145,7 @@ fn prefixed(alloc: Global, reader: &mut Reader) -> Read<Box<Expr>>
 
 /// An expression in parentheses with what may come after one, or a cast.
 #[cycle(exprs)]
-#[tactic(auto, using(arc_grammar::proofs::Fits::read_rule), unfolding(arc_grammar::specs::Grammar::body, arc_grammar::specs::Grammar::parenthesized, arc_grammar::specs::Grammar::cast_to_plain, arc_grammar::specs::Grammar::inside))]
+#[tactic(auto, unfolding(arc_grammar::specs::Grammar::parenthesized, arc_grammar::specs::Grammar::cast_to_plain, arc_grammar::specs::Grammar::inside))]
 fn parenthesized(alloc: Global, reader: &mut Reader) -> Read<Box<Expr>>
     ensures gives { Gives (λ x. expr_tree x.value) result (toks reader.new.rest.now) (reads_free grammar.parenthesized (toks reader.old.rest.now)) }
     ensures shorter { IfOk result (λ _. length reader.new.rest.now < length reader.old.rest.now) }
@@ -168,7 +168,7 @@ fn parenthesized(alloc: Global, reader: &mut Reader) -> Read<Box<Expr>>
 
 /// What is after the `(` at this place, where a name and `*` come: a cast, or a product in parentheses.
 #[cycle(exprs)]
-#[tactic(auto, using(arc_grammar::proofs::Fits::read_rule), unfolding(arc_grammar::specs::Grammar::body, arc_grammar::specs::Grammar::cast_or_product, arc_grammar::specs::Grammar::cast, arc_grammar::specs::Grammar::product))]
+#[tactic(auto, unfolding(arc_grammar::specs::Grammar::cast_or_product, arc_grammar::specs::Grammar::cast, arc_grammar::specs::Grammar::product))]
 fn cast_or_product(alloc: Global, at: usize, reader: &mut Reader) -> Read<Box<Expr>>
     ensures gives { Gives (λ x. expr_tree x.value) result (toks reader.new.rest.now) (reads_on grammar.cast_or_product at (toks reader.old.rest.now)) }
     ensures shorter { IfOk result (λ _. length reader.new.rest.now < length reader.old.rest.now) }

@@ -170,35 +170,34 @@ fn typed_parts(alloc: Global, first: Vec<u8>, reader: &mut Reader) -> Read<Typed
     ensures shorter { IfOk result (λ _. length reader.new.rest.now < length reader.old.rest.now) }
 {
     let mut selector = first;
-    let mut all = Vec::new(alloc);
     reader.expect(Mark::Colon)?;
-    let parameter = typed(alloc, reader)?;
     selector.push(b':')?;
+    let parameter = typed(alloc, reader)?;
+    let mut all = Vec::new(alloc);
     keep(&mut all, parameter)?;
-    more_typed(alloc, selector, all, reader)
+    more_typed(alloc, &mut selector, &mut all, reader)?;
+    Ok((selector, all))
 }
 
-/// This selector and these parameters, and further parts with theirs.
+/// Puts further parts after this selector, and their parameters after these.
 #[tactic(auto, using(crate::proofs::Given::read_more_typed, arc_form::proofs::Joining::all_push))]
 fn more_typed(
     alloc: Global,
-    before: Vec<u8>,
-    given: Vec<Parameter>,
+    selector: &mut Vec<u8>,
+    given: &mut Vec<Parameter>,
     reader: &mut Reader,
-) -> Read<Typed>
-    ensures gives { Gives (λ x. (x.0.items, all parameter_tree x.1.items)) result (toks reader.new.rest.now) (parts_on these grammar.typed (before.items, all parameter_tree given.items) (toks reader.old.rest.now)) }
+) -> Read<()>
+    ensures gives { Gives (λ _. (selector.new.items, all parameter_tree given.new.items)) result (toks reader.new.rest.now) (parts_on these grammar.typed (selector.old.items, all parameter_tree given.old.items) (toks reader.old.rest.now)) }
     ensures shorter { IfOk result (λ _. length reader.new.rest.now ≤ length reader.old.rest.now) }
 {
-    let mut selector = before;
-    let mut all = given;
     'parts: while reader.sees_name() {
         let (_, called) = reader.name(alloc)?;
         reader.expect(Mark::Colon)?;
+        and_part(selector, &called)?;
         let parameter = typed(alloc, reader)?;
-        and_part(&mut selector, &called)?;
-        keep(&mut all, parameter)?;
+        keep(given, parameter)?;
     }
-    Ok((selector, all))
+    Ok(())
 }
 
 /// A type and the qualifiers that stand before and after it.

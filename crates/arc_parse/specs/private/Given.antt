@@ -10,7 +10,7 @@ use Rattle.arc_grammar.specs.Grammar.{Part, expr, after_comma, called, the, read
 use Rattle.arc_parse.specs.private.Signatures.{push}
 
 -- these arguments and further ones, each after a comma
-abbrev pub arguments_on : List ExprTree → Reader (List ExprTree)
+unfoldable pub arguments_on : List ExprTree → Reader (List ExprTree)
 arguments_on = joining (mark m.Comma) (reads_free (after_comma (call expr))) push
 
 -- one part more of a selector, with its colon and what it takes
@@ -18,5 +18,5 @@ abbrev pub add_part : {A : Type 0} → List ℕ × List A → (ℕ × List ℕ) 
 add_part s (n, (colon, a)) = ((s.0 ++ n.1) ++ 58 ∷ [], push s.1 a)
 
 -- these parts of a selector, with what they take, and further ones (OPL, "Defining a Class")
-abbrev pub parts_on : {A : Type 0} → Limits → Part A → List ℕ × List A → Reader (List ℕ × List A)
+unfoldable pub parts_on : {A : Type 0} → Limits → Part A → List ℕ × List A → Reader (List ℕ × List A)
 parts_on limits part = joining name (run rules limits (called ⨾ the m.Colon ⨾ part)) add_part

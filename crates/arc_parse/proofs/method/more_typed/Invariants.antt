@@ -6,7 +6,7 @@ use Rattle.arc_parse.specs.private.Given.{parts_on}
 use Rattle.arc_parse.proofs.method.more_typed.Given as goal
 
 abbrev pub invariant-parts : goal.invariant-parts
-invariant-parts l = SoFar l.initial.reader.rest.now l.reader.rest.now (parts_on these typed (l.fn.before.items, all parameter_tree l.fn.given.items)) (parts_on these typed (l.selector.items, all parameter_tree l.all.items))
+invariant-parts l = SoFar l.initial.reader.rest.now l.reader.rest.now (parts_on these typed (l.fn.selector.items, all parameter_tree l.fn.given.items)) (parts_on these typed (l.selector.items, all parameter_tree l.given.items))
 
 abbrev pub decreases-parts : goal.decreases-parts
 decreases-parts l = length l.reader.rest.now
