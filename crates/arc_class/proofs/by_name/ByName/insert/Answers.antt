@@ -1,4 +1,4 @@
-use Rattle.std.proofs.Common.{Some, ap, sym, ◌∙◌}
+use Rattle.std.proofs.Common.{Some, ap, sym, ◌∙◌, arith, common_steps}
 use Rattle.std.specs.Map.{update}
 use Rattle.std.specs.Str.{bytes_eq}
 use Rattle.arc_class.specs.ByName.{at_name}
@@ -32,3 +32,6 @@ returns-clause-old g c =
     let home = home_is parts c.len.result c.part_of-home.result old name (c.len.ensures ∙ c.make_part.new.parts.ok.0) c.part_of-home.ensures.value c.part_of-home.ensures.within c.index_mut.ensures.value in
     let placed = c.make_part.ensures.placed c.self.invariant in
     c.in_ok-old.ensures.old ∙ sym (at_its_part parts c.part_of-home.result old name placed home) ∙ ap (λ map. at_name map name) (c.make_part.ensures.entries ∙ c.self.view_is)
+
+pub invariant_of-self-in_err-old : goal.invariant_of-self-in_err-old
+invariant_of-self-in_err-old g c = grind (arith, common_steps)

@@ -1,5 +1,9 @@
+use Rattle.std.proofs.Common.{arith, common_steps}
 use Rattle.arc_class.proofs.Parted.{blank_none}
 use Rattle.arc_class.proofs.by_name.ByName.with_room.Goals as goal
 
 pub returns : goal.returns
 returns g c = blank_none c.loop-part.parts.items c.loop-part.invariant.0
+
+pub loop-part-preserved : goal.loop-part-preserved
+loop-part-preserved g c = grind (arith, common_steps)

@@ -1,4 +1,4 @@
-use Rattle.std.proofs.Common.{◌≡◌, sym, ap, subst, ◌∙◌, option_map}
+use Rattle.std.proofs.Common.{◌≡◌, sym, ap, subst, ◌∙◌, option_map, arith, common_steps}
 use Rattle.std.proofs.lemmas.Result.{IfOk-weaker}
 use Rattle.arc_ast.specs.Tree.{unit_tree, function_trees}
 use Rattle.arc_class.specs.Broken.{first}
@@ -57,3 +57,6 @@ returns-clause-refused c =
     absurd (main_reported seen.main (option_map reported seen.fault) (option_map reported c.earlier-own.result) (option_map reported c.missing_main.result)
     (option_map reported c.in_ok-sites_fault.field-0) (option_map reported c.earlier-functions.result) (option_map reported c.in_ok-found.found.fault) (option_map reported c.earlier.result)
     c.in-None-None.is-1 c.missing_main.ensures c.earlier-own.ensures c.earlier-functions.ensures c.earlier.ensures (ap (option_map reported) c.in-None-None.is-0))
+
+pub returns-in_err-classes-clause-refused : goal.returns-in_err-classes-clause-refused
+returns-in_err-classes-clause-refused c = grind (arith, common_steps)

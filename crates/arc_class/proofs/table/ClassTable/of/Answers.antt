@@ -1,4 +1,4 @@
-use Rattle.std.proofs.Common.{◌≡◌, [], Option, refl, ap, ◌∙◌}
+use Rattle.std.proofs.Common.{◌≡◌, [], Option, refl, ap, ◌∙◌, arith, common_steps}
 use Rattle.std.specs.Option.{option_map_or, option_or}
 use Rattle.arc_ast.specs.Tree.{HeadTree, unit_tree}
 use Rattle.arc_ast.specs.declared.tree.Sign.TheVariants as signs
@@ -65,3 +65,12 @@ returns-clause-table c =
       classes = c.in_ok-all.ensures.parts.classes;
       built_in = c.in_ok-all.ensures.parts.built_in ∙ ap built_in_from c.requires.knows.counts;
     }
+
+pub returns-in_err-class_methods-clause-refused : goal.returns-in_err-class_methods-clause-refused
+returns-in_err-class_methods-clause-refused c = grind (arith, common_steps)
+
+pub returns-in_err-parts-clause-refused : goal.returns-in_err-parts-clause-refused
+returns-in_err-parts-clause-refused c = grind (arith, common_steps)
+
+pub returns-in_err-instance_methods-clause-refused : goal.returns-in_err-instance_methods-clause-refused
+returns-in_err-instance_methods-clause-refused c = grind (arith, common_steps)

@@ -1,0 +1,5 @@
+use Rattle.std.proofs.Common.{arith, common_steps}
+use Rattle.arc_class.proofs.kept.first_functions.Goals as goal
+
+pub loop-function-preserved : goal.loop-function-preserved
+loop-function-preserved c = grind (arith, common_steps)

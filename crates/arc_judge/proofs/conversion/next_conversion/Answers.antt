@@ -1,0 +1,5 @@
+use Rattle.std.proofs.Common.{arith, common_steps}
+use Rattle.arc_judge.proofs.conversion.next_conversion.Goals as goal
+
+pub returns-in-Gives : goal.returns-in-Gives
+returns-in-Gives c = grind (arith, common_steps)

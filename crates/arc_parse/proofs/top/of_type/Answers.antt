@@ -1,0 +1,14 @@
+use Rattle.std.proofs.Common.{arith, common_steps}
+use Rattle.arc_parse.proofs.top.of_type.Goals as goal
+
+pub returns-in_err-all-clause-gives : goal.returns-in_err-all-clause-gives
+returns-in_err-all-clause-gives c = grind (arith, common_steps)
+
+pub returns-clause-gives : goal.returns-clause-gives
+returns-clause-gives c = grind (arith, common_steps)
+
+pub returns-then-not-sees_name_and-clause-gives : goal.returns-then-not-sees_name_and-clause-gives
+returns-then-not-sees_name_and-clause-gives c = grind (arith, common_steps)
+
+pub returns-in_err-function-clause-gives : goal.returns-in_err-function-clause-gives
+returns-in_err-function-clause-gives c = grind (arith, common_steps)

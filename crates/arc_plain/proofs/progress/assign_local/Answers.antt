@@ -1,0 +1,5 @@
+use Rattle.std.proofs.Common.{arith, common_steps}
+use Rattle.arc_plain.proofs.progress.assign_local.Goals as goal
+
+pub returns-in_default : goal.returns-in_default
+returns-in_default c = grind (arith, common_steps)
