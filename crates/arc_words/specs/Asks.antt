@@ -5,7 +5,8 @@ use Rattle.std.specs.Str.{bytes_eq}
 use Rattle.std.specs.Str.Parse.{IsNumeral, digits_value}
 use Rattle.clap.specs.Walk.{Text}
 use Rattle.clap.specs.ValueTests.{is_unsigned_in}
-use Rattle.arc_words.specs.Commands.{command_named, most_steps, usual_steps}
+use Rattle.arc_words.specs.Commands.{command_named}
+use Rattle.arc_words.specs.declared.words.TheConstants.{STEPS, MOST_STEPS}
 use Rattle.arc_words.specs.declared.request.Command.{Command}
 use Rattle.arc_words.specs.declared.request.Command.TheVariants.{Check, Run, Trace, Code}
 use Rattle.arc_words.specs.declared.request.Words.{Words}
@@ -37,17 +38,17 @@ IsFile file = begins_with_hyphen file ≡ false
 
 -- N is written in decimal digits, and says this number of steps
 abbrev pub SaysSteps : Text → ℕ → Type 0
-SaysSteps text n = IsNumeral 10 text × (digits_value 10 text ≡ n) × (1 ≤ n) × (n ≤ most_steps)
+SaysSteps text n = IsNumeral 10 text × (digits_value 10 text ≡ n) × (1 ≤ n) × (n ≤ MOST_STEPS)
 
 -- The words ask for the command, with this path of the source and this number of steps. The first
 -- word is the program's own name.
 pub data Asks : List Text → Command → Text → ℕ → Type 0 where
   -- COMMAND FILE
   plain : (program file : Text) (command : Command) → IsFile file
-      → Asks (program ∷ name_of command ∷ file ∷ []) command file usual_steps
+      → Asks (program ∷ name_of command ∷ file ∷ []) command file STEPS
   -- COMMAND -- FILE
   dashes : (program file : Text) (command : Command)
-      → Asks (program ∷ name_of command ∷ codes "--" ∷ file ∷ []) command file usual_steps
+      → Asks (program ∷ name_of command ∷ codes "--" ∷ file ∷ []) command file STEPS
   -- COMMAND FILE --steps N
   file_first : (program file text : Text) (command : Command) (n : ℕ) → takes_steps command ≡ true
       → IsFile file → SaysSteps text n
@@ -96,7 +97,7 @@ pub data AsksNothing : List Text → Type 0 where
   -- a number of steps that is none, or is too large
   wrong_steps : (program file text : Text) (command : Command) → takes_steps command ≡ true
       → IsFile file → begins_with_hyphen text ≡ false
-      → is_unsigned_in 1 most_steps text ≡ false
+      → is_unsigned_in 1 MOST_STEPS text ≡ false
       → AsksNothing (program ∷ name_of command ∷ file ∷ codes "--steps" ∷ text ∷ [])
 
 -- ---- answers

@@ -16,13 +16,7 @@ use Rattle.arc_words.specs.declared.request.Command.TheVariants.{Check, Run, Tra
 use Rattle.arc_words.specs.declared.request.Words.{Words}
 use Rattle.arc_words.specs.declared.request.WordsFault.{WordsFault}
 use Rattle.arc_words.specs.declared.request.WordsFault.TheVariants.{Usage, Help, Memory}
-
--- the steps of a run where no option says another number, and the most that one may say
-abbrev pub usual_steps : ℕ
-usual_steps = 1000000000
-
-abbrev pub most_steps : ℕ
-most_steps = 9223372036854775807
+use Rattle.arc_words.specs.declared.words.TheConstants.{STEPS, STEPS_SHOWN, MOST_STEPS}
 
 -- ---- the commands and their options
 
@@ -35,8 +29,8 @@ abbrev pub steps_rule : Rule
 steps_rule = record (new_rule (codes "steps")) {
   long = Some (codes "steps");
   value_names = 1;
-  defaults = codes "1000000000" ∷ [];
-  parser = Some (parser.Unsigned 1 most_steps);
+  defaults = STEPS_SHOWN.now ∷ [];
+  parser = Some (parser.Unsigned 1 MOST_STEPS);
 }
 
 -- a command of FILE alone
@@ -82,8 +76,8 @@ command_named name =
 
 -- the number of steps that an option says, and the usual one where there is no option
 abbrev pub steps_in : Option Text → Option ℕ
-steps_in None = Some usual_steps
-steps_in (Some text) = if is_unsigned_in 1 most_steps text
+steps_in None = Some STEPS
+steps_in (Some text) = if is_unsigned_in 1 MOST_STEPS text
     then Some (digits_value 10 (without_leading_plus text)) else None
 
 -- what is asked by the name of a command and the matches of its options

@@ -16,6 +16,9 @@ const HEAP: usize = 1_048_576;
 /// The steps of a run, where no option says another number.
 const STEPS: u64 = 1_000_000_000;
 
+/// The same in digits, as the help shows it.
+const STEPS_SHOWN: &str = "1000000000";
+
 /// The most steps that an option may say.
 const MOST_STEPS: u64 = 9_223_372_036_854_775_807;
 
@@ -106,7 +109,7 @@ fn steps<'a>(alloc: Global) -> Arg<'a>
         .value_name("N")
         .help("The most steps that the run makes")
         .value_parser(ValueParser::unsigned(1, MOST_STEPS))
-        .default_value("1000000000")
+        .default_value(STEPS_SHOWN)
 }
 
 /// What accepted words say.
