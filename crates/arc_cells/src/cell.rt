@@ -4,6 +4,7 @@ ghost use Rattle.std.specs.Prelude.{◌≡◌, ◌+◌, ◌-◌, ◌^◌, ◌<�
 ghost use Rattle.std.specs.Int.{w64, cast_signed};
 ghost use Rattle.arc_cells.specs.Cells.{Cell, IsCell, HasField, Becomes, Makes, with_count, with_phase, with_value, with_word, first_cell, fresh_cell};
 ghost use Rattle.arc_cells.specs.Refusing.{Refuses};
+ghost use Rattle.arc_cells.specs.declared.cell.TheConstants.{MOST_FIELDS};
 
 use arc_heap::store::{Ref, Store};
 
@@ -78,7 +79,7 @@ pub fn number_in<S: Store>(store: &S, object: Ref) -> u64
 /// The field of an object that has this index.
 #[inline(always)]
 pub fn field_in<S: Store>(store: &S, object: Ref, index: usize) -> i64
-    requires short { index < 124 }
+    requires short { index < MOST_FIELDS }
     requires field { HasField (S.out store.now) object.at index }
     ensures { (c : Cell) → IsCell (S.out store.now) object.at c →
         result ≡ cast_signed w64 (get_or c.fields index 0) }
@@ -89,7 +90,7 @@ pub fn field_in<S: Store>(store: &S, object: Ref, index: usize) -> i64
 /// Writes the field of an object that has this index.
 #[inline(always)]
 pub fn write_field<S: Store>(store: &mut S, object: Ref, index: usize, value: i64)
-    requires short { index < 124 }
+    requires short { index < MOST_FIELDS }
     requires field { HasField (S.out store.old) object.at index }
     ensures { (c : Cell) → IsCell (S.out store.old) object.at c →
         Becomes (S.out store.old) (S.out store.new) object.at (with_value c index value) }
@@ -100,7 +101,7 @@ pub fn write_field<S: Store>(store: &mut S, object: Ref, index: usize, value: i6
 /// What the field of an object names that has this index among all of its fields: the place of a block, or 0.
 #[inline(always)]
 pub fn name_in<S: Store>(store: &S, object: Ref, index: usize) -> u64
-    requires short { index < 124 }
+    requires short { index < MOST_FIELDS }
     requires field { HasField (S.out store.now) object.at index }
     ensures { (c : Cell) → IsCell (S.out store.now) object.at c → result ≡ get_or c.fields index 0 }
 {
@@ -110,7 +111,7 @@ pub fn name_in<S: Store>(store: &S, object: Ref, index: usize) -> u64
 /// The field of an object that has this index among all of its fields names this.
 #[inline(always)]
 pub fn write_name<S: Store>(store: &mut S, object: Ref, index: usize, name: u64)
-    requires short { index < 124 }
+    requires short { index < MOST_FIELDS }
     requires field { HasField (S.out store.old) object.at index }
     ensures { (c : Cell) → IsCell (S.out store.old) object.at c →
         Becomes (S.out store.old) (S.out store.new) object.at (with_word c index name) }
@@ -163,7 +164,7 @@ pub fn begin_emptying<S: Store>(store: &mut S, object: Ref)
 /// The block of a new object, which one place names and whose fields are 0. It is None, and nothing is
 /// changed, where the store has no block for it.
 pub fn make<S: Store>(store: &mut S, class: u64, fields: usize, number: u64) -> Option<Ref>
-    requires { fields ≤ 124 }
+    requires { fields ≤ MOST_FIELDS }
     ensures made { Makes (S.out store.old) (S.out store.new) (fresh_cell class fields number) result }
     ensures refused { IsNone result → Refuses S.out S.stock S.refuses (4 + fields) store.old store.new }
 {

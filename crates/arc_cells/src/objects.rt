@@ -8,6 +8,7 @@ ghost use Rattle.arc_cells.specs.Cells.{Cell, IsCell, HasField, with_count, with
 ghost use Rattle.arc_cells.specs.Refusing.{Refuses};
 ghost use Rattle.arc_cells.specs.Standing.{NamesBlock, Alters, IsLast, NewIn, Turns, no_objects, memory_of, with_places, with_names, with_frames, with_globals, with_strong_globals, order_at, next_in, taking, dropping, declaring, undeclaring, words_of, entering, resuming, settling, handing_over};
 ghost use Rattle.arc_cells.specs.Words.{Took};
+ghost use Rattle.arc_cells.specs.declared.cell.TheConstants.{MOST_FIELDS};
 
 use crate::cell;
 use crate::order::orders_of;
@@ -508,7 +509,7 @@ impl<S: Store + Drop> Objects<S> {
     #[inline(always)]
     pub fn field(&self, object: u64, index: usize) -> i64
         requires some { 0 < object }
-        requires short { index < 124 }
+        requires short { index < MOST_FIELDS }
         requires field { HasField (S.out self.now.store) object index }
         ensures { (c : Cell) → IsCell (S.out self.now.store) object c →
             result ≡ cast_signed w64 (get_or c.fields index 0) }
@@ -520,7 +521,7 @@ impl<S: Store + Drop> Objects<S> {
     #[inline(always)]
     pub fn write_field(&mut self, object: u64, index: usize, value: i64)
         requires some { 0 < object }
-        requires short { index < 124 }
+        requires short { index < MOST_FIELDS }
         requires field { HasField (S.out self.old.store) object index }
         ensures { Alters (memory_of S.out self.old) (memory_of S.out self.new) object (λ c. with_value c index value) }
     {
@@ -531,7 +532,7 @@ impl<S: Store + Drop> Objects<S> {
     #[inline(always)]
     pub fn field_name(&self, object: u64, index: usize) -> u64
         requires some { 0 < object }
-        requires short { index < 124 }
+        requires short { index < MOST_FIELDS }
         requires field { HasField (S.out self.now.store) object index }
         ensures { (c : Cell) → IsCell (S.out self.now.store) object c → result ≡ get_or c.fields index 0 }
     {
@@ -542,7 +543,7 @@ impl<S: Store + Drop> Objects<S> {
     #[inline(always)]
     pub fn put_field_name(&mut self, object: u64, index: usize, name: u64)
         requires some { 0 < object }
-        requires short { index < 124 }
+        requires short { index < MOST_FIELDS }
         requires field { HasField (S.out self.old.store) object index }
         ensures { Alters (memory_of S.out self.old) (memory_of S.out self.new) object (λ c. with_word c index name) }
     {
@@ -605,7 +606,7 @@ impl<S: Store + Drop> Objects<S> {
     pub fn make(&mut self, class: u64, fields: usize) -> Option<u64>
         requires { self.old.made < 2 ^ 64 - 1 }
         ensures some { NewIn S.out self.old self.new class fields result }
-        ensures few { (word : ℕ) → result ≡ Some word → fields ≤ 124 }
+        ensures few { (word : ℕ) → result ≡ Some word → fields ≤ MOST_FIELDS }
         ensures refused { IsNone result →
             Refuses S.out S.stock S.refuses (4 + fields) self.old.store self.new.store }
     {

@@ -18,6 +18,7 @@ use Rattle.arc_cells.specs.Standing.{Parts, IsLast}
 use Rattle.arc_steps.specs.Storing.{ClearsNext}
 use Rattle.arc_steps.specs.Views.{Spot}
 use Rattle.arc_steps.proofs.Nexts.{can_clear, same_fields}
+use Rattle.arc_cells.specs.declared.cell.TheConstants.{MOST_FIELDS}
 
 module _ {S : Type 0} (out : S → Blocks) (classes : List Class) (m : Parts S) where
   -- what waits is known by its parts
@@ -42,7 +43,7 @@ module _ {S : Type 0} (out : S → Blocks) (classes : List Class) (m : Parts S) 
         let name_is : l.name ≡ name = named.is ∙ sym (all_decoded named.cell named.block) in
         (subst (λ name. FieldNames out m object slot name) name_is named, subst (λ name. IsLast (out m.store) name) name_is l.last)
 
-    pub last_short : (slot : ℕ) → ClearsNext out classes m object left (Some slot) → (slot < 124) × HasField (out m.store) object slot
+    pub last_short : (slot : ℕ) → ClearsNext out classes m object left (Some slot) → (slot < MOST_FIELDS) × HasField (out m.store) object slot
     last_short slot means =
         let both : Some slot ≡ Some l.slot = next_some (Some slot) means in
         let same : l.slot ≡ slot = cc in

@@ -11,6 +11,7 @@ use Rattle.arc_cells.specs.Cells.{HasField}
 use Rattle.arc_cells.specs.Fields.{name_index}
 use Rattle.arc_cells.specs.Standing.{Begin, Stored, cell_of, place}
 use Rattle.arc_steps.proofs.Holdings.{mapped_at}
+use Rattle.arc_cells.specs.declared.cell.TheConstants.{MOST_FIELDS}
 
 -- the first words are those of the names
 pub begin_at : (names words : List ℕ) (i : ℕ) → Begin names words → i < length names → get_or words i 0 ≡ get_or names i 0
@@ -25,7 +26,7 @@ module _ (index fields strong : ℕ) where
   found_slot slot true false e f h = absurd (cc)
   found_slot slot false d e f h = absurd (cc)
 
-  no_slot : (b d : Bool) → fields + strong ≤ 124 → nat_lt index strong ≡ b → nat_lt (fields + index) (2 ^ 64) ≡ d → (if b then (if d then Some (fields + index) else None) else None) ≡ None → strong ≤ index
+  no_slot : (b d : Bool) → fields + strong ≤ MOST_FIELDS → nat_lt index strong ≡ b → nat_lt (fields + index) (2 ^ 64) ≡ d → (if b then (if d then Some (fields + index) else None) else None) ≡ None → strong ≤ index
   no_slot true true few e f h = absurd (cc)
   no_slot true false few e f h = let below = ltb-true index strong e in let above = ltb-false (fields + index) (2 ^ 64) f in absurd (omega (arith, few, below, above))
   no_slot false d few e f h = ltb-false index strong e
@@ -34,13 +35,13 @@ pub slot_in : (found : Option Class) (index slot : ℕ) → name_index found ind
 slot_in None index slot e = absurd (cc)
 slot_in (Some c) index slot e = found_slot index c.fields c.strong_fields slot (nat_lt index c.strong_fields) (nat_lt (c.fields + index) (2 ^ 64)) refl refl e
 
-slot_past : (found : Option Class) (index : ℕ) → count_of found + strong_count found ≤ 124 → name_index found index ≡ None → strong_count found ≤ index
+slot_past : (found : Option Class) (index : ℕ) → count_of found + strong_count found ≤ MOST_FIELDS → name_index found index ≡ None → strong_count found ≤ index
 slot_past None index few e = omega arith
 slot_past (Some c) index few e = no_slot index c.fields c.strong_fields (nat_lt index c.strong_fields) (nat_lt (c.fields + index) (2 ^ 64)) few refl refl e
 
 module _ (at : ℕ → ℕ) (classes : List Class) (blocks : Blocks) (block number count : ℕ) (o : Object) (stored : Stored (place at) classes blocks block number count o) (index : ℕ) where
   -- an object has a field there, and its word
-  pub named_field : (slot : ℕ) → name_index (slice_get classes o.class) index ≡ Some slot → (slot < 124) × HasField blocks block slot × (index < length o.strong) × (get_or stored.fields slot 0 ≡ place at (get_or o.strong index 0))
+  pub named_field : (slot : ℕ) → name_index (slice_get classes o.class) index ≡ Some slot → (slot < MOST_FIELDS) × HasField blocks block slot × (index < length o.strong) × (get_or stored.fields slot 0 ≡ place at (get_or o.strong index 0))
   named_field slot e =
       let found = slot_in (slice_get classes o.class) index slot e in
       let all = stored.all in

@@ -13,6 +13,7 @@ use Rattle.arc_cells.specs.Cells.{Cell, words, IsCell, Becomes, fresh_cell}
 use Rattle.arc_cells.specs.Standing.{Memory, Values, Begin, Stored, Kept, Stands, StandsFor, IsKnown, cell_of, place, waiting, with_names, with_made, taking}
 use Rattle.arc_steps.proofs.Endings.{ends_more}
 use Rattle.arc_steps.proofs.Standings.{raised_there, raised_else, all_left, all_right, known_stacked, known_others, known_fields}
+use Rattle.arc_cells.specs.declared.cell.TheConstants.{MOST_FIELDS}
 
 get_append : (xs : List Object) (x : Object) (j : ℕ) (y : Object) → slice_get (xs ++ x ∷ []) j ≡ Some y → ((j < length xs) × (slice_get xs j ≡ Some y)) ⊎ ((j ≡ length xs) × (y ≡ x))
 get_append [] x zero y e = inr (refl, cc)
@@ -140,7 +141,7 @@ module _ (at : ℕ → ℕ) (classes : List Class) (m : Memory) (frames : List F
   older_kept Emptying j count o l known s = older_stored j count o l (known refl) s
   older_kept Gone j count o l known s = s
 
-  newest_stored : (fields strong count : ℕ) → fields ≡ count_of (slice_get classes class) → strong ≡ strong_count (slice_get classes class) → fields + strong ≤ 124 → count ≡ 1
+  newest_stored : (fields strong count : ℕ) → fields ≡ count_of (slice_get classes class) → strong ≡ strong_count (slice_get classes class) → fields + strong ≤ MOST_FIELDS → count ≡ 1
       → Stored (place (placed_at at n r)) classes blocks' (placed_at at n r n) (suc n) count (new_object class fields strong)
   newest_stored fields strong count is named few one =
       let large = large_enough (4 + (fields + strong)) (omega (arith, few)) in
@@ -166,7 +167,7 @@ abbrev pub with_newest : Memory → Blocks → (word : ℕ) → Memory
 with_newest m blocks word = with_names (taking word (with_made m blocks (m.made + 1))) (word ∷ m.names)
 
 pub makes_stands : (at : ℕ → ℕ) (classes : List Class) (m : Memory) (frames : List Frame) (h : Held) → Stands at classes m frames h → (class r : ℕ) → m.store r ≡ None → (blocks' : Blocks)
-    → Becomes m.store blocks' r (fresh_cell class (count_of (slice_get classes class) + strong_count (slice_get classes class)) (m.made + 1)) → count_of (slice_get classes class) + strong_count (slice_get classes class) ≤ 124 → 0 < r → Counted h
+    → Becomes m.store blocks' r (fresh_cell class (count_of (slice_get classes class) + strong_count (slice_get classes class)) (m.made + 1)) → count_of (slice_get classes class) + strong_count (slice_get classes class) ≤ MOST_FIELDS → 0 < r → Counted h
     → StandsFor classes (with_newest m blocks' r) frames (makes classes class h)
 makes_stands at classes m frames h t class r out blocks' change few above counted =
     let n = length h.objects in
