@@ -1,5 +1,5 @@
 -- Rows of orders, and lists of a checked program as long as what they are of.
-use Rattle.std.proofs.Common.{◌≡◌, ℕ, zero, suc, ◌+◌, ◌-◌, ◌/◌, ◌<◌, arith, List, [], ◌∷◌, ◌++◌, length, take, drop, length-drop, length-append, refl, sym, ap, ◌∙◌, pos, Option, Some, None}
+use Rattle.std.proofs.Common.{◌≡◌, ℕ, zero, suc, ◌+◌, ◌-◌, ◌/◌, ◌<◌, ◌≤◌, arith, List, [], ◌∷◌, ◌++◌, length, take, drop, length-drop, length-append, refl, sym, ap, ◌∙◌, pos, Option, Some, None}
 use Rattle.arc_code.specs.declared.code.TheConstants.{MOST_TEXT}
 use Rattle.arc_checked.specs.declared.program.CheckedFunction.{CheckedFunction}
 use Rattle.arc_checked.specs.Checked.{functions}
@@ -7,9 +7,9 @@ use Rattle.arc_spec.specs.declared.class.Gives.{Gives}
 use Rattle.arc_spec.specs.Resolved.{Program}
 use Rattle.arc_code.specs.declared.instr.Op.TheVariants.{Num, Pop, Declare, Nil, Forget}
 use Rattle.arc_code.specs.declared.instr.Instr.TheVariants.{Plain, PrintText, Call, StoreStrong}
-use Rattle.arc_lower.specs.Order.{Order, orders}
+use Rattle.arc_lower.specs.Order.{Order, order, orders}
 use Rattle.arc_lower.specs.Lowered.{part_orders, text_orders, pop_orders, zero_orders, empty_orders, all_empty_orders, forget_orders, nil_orders, declare_orders, take_orders, fit_orders, fit_object_orders, call_orders, number_of, slots_of, parameters_of}
-use Rattle.std.proofs.lemmas.List.{take_all}
+use Rattle.std.proofs.lemmas.List.{take_all, length-map}
 use Rattle.arc_ir.specs.Acting.{Action}
 use Rattle.arc_code.specs.declared.effect.Height.{Height}
 use Rattle.arc_lower.specs.Heights.{highest, greatest, raised}
@@ -90,6 +90,12 @@ slice_after old new all begin xs from is e =
     let rest = length-drop begin all in
     ap orders (take_all (length all - begin) (drop begin all) (omega (arith, rest)))
     ∙ ap (λ n. orders (drop n all)) from ∙ ap (λ l. orders (drop (length old) l)) is ∙ later old new xs e
+
+-- it begins within them
+pub begins_within : (old new all : List Action) (begin : ℕ) (xs : List Order) → begin ≡ length old → all ≡ new → orders new ≡ orders old ++ xs → begin ≤ length all
+begins_within old new all begin xs from is e =
+    let size = sym (length-map new order) ∙ ap length e ∙ length-append (orders old) xs in
+    omega (arith, from, ap length is, size, length-map old order)
 
 -- ---- The greatest of heights one after the other.
 

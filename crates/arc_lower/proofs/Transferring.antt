@@ -1,5 +1,5 @@
 -- A step shows the same and leads to the same, whatever is counted for nil, where each count is the number of places.
-use Rattle.std.proofs.Common.{◌≡◌, ℕ, zero, suc, ◌+◌, ◌-◌, Bool, true, false, ◌&&◌, nat_eq, if◌then◌else◌, ℤ, List, [], ◌∷◌, ◌++◌, take, drop, Option, Some, None, slice_get, slice_set, refl, ap, ◌∙◌, ◌≤◌, sym}
+use Rattle.std.proofs.Common.{◌≡◌, ℕ, zero, suc, ◌+◌, ◌-◌, Bool, true, false, ◌&&◌, nat_eq, if◌then◌else◌, ℤ, List, [], ◌∷◌, ◌++◌, take, drop, Option, Some, None, slice_get, slice_set, refl, ap, ◌∙◌, ◌≤◌, sym, subst}
 use Rattle.arc_ast.specs.declared.tree.Sign.TheVariants as signs
 use Rattle.arc_spec.specs.declared.event.Fault.TheVariants.{Resurrected}
 use Rattle.arc_spec.specs.declared.class.Gives.{Gives}
@@ -312,6 +312,11 @@ follow_fresh : (next : Next State) (i : List ℕ) (t : List Event) → follow (r
 follow_fresh (Asks k) i t = fed_fresh k i t
 follow_fresh _ i t = refl
 
+-- a run that is wedged with its counts made anew is wedged
+wedged_fresh : (r : Reached State) (i : List ℕ) (t : List Event) → freshened r ≡ Wedged i t → r ≡ Wedged i t
+wedged_fresh (Wedged i1 t1) i t e = e
+wedged_fresh _ i t e = cc
+
 module _ (p : Program) (R : resolved.Program) (is : orders p.actions ≡ lowered R) (entries : p.entries ≡ entries_of R) (classes : p.classes ≡ classes_linked R) (end : p.end_step ≡ end_step_of R) where
   -- each state of a run is good
   abbrev Kept : Reached State → Type 0
@@ -354,13 +359,9 @@ module _ (p : Program) (R : resolved.Program) (is : orders p.actions ≡ lowered
   pub seen_moves : (input : List ℕ) (n : ℕ) → seen p input n ≡ run_seen (after_steps (moves p) n (Running (fresh (start p)) input []))
   seen_moves input n = sym (seen_fresh (after_steps (step p) n (Running (start p) input []))) ∙ ap run_seen (sym (steps_fresh n (Running (start p) input []) (start_good p R is entries classes end)))
 
-  fresh_wedged : (r : Reached State) (i : List ℕ) (t : List Event) → Kept r → freshened r ≡ Wedged i t → ⊥
-  fresh_wedged (Wedged i1 t1) i t k e = k
-  fresh_wedged _ i t k e = cc
-
   -- no run comes to a step that it hasn't
   pub never_wedged : (input i : List ℕ) (t : List Event) (n : ℕ) → after_steps (moves p) n (Running (fresh (start p)) input []) ≡ Wedged i t → ⊥
   never_wedged input i t n e =
       let r = Running (start p) input [] in
       let k = start_good p R is entries classes end in
-      fresh_wedged (after_steps (step p) n r) i t (steps_kept n r k) (sym (steps_fresh n r k) ∙ e)
+      subst Kept (wedged_fresh (after_steps (step p) n r) i t (sym (steps_fresh n r k) ∙ e)) (steps_kept n r k)

@@ -1,10 +1,13 @@
 -- Jumps are written once it is known how many actions they skip.
-use Rattle.std.proofs.Common.{◌≡◌, ℕ, suc, ◌-◌, List, [], ◌∷◌, ◌++◌, length, sym, ap, ◌∙◌, arith, append_assoc, length-append, slice_set, ◌+◌, pos, Option, Some, None, refl, Bool, true, false, if◌then◌else◌}
+use Rattle.std.proofs.Common.{◌≡◌, ℕ, suc, ◌-◌, List, [], ◌∷◌, ◌++◌, Box, Global, length, sym, ap, ◌∙◌, arith, append_assoc, length-append, slice_set, ◌+◌, pos, Option, Some, None, refl, Bool, true, false, if◌then◌else◌}
 use Rattle.std.proofs.Math.Seq.{set-append_seam}
 use Rattle.arc_ast.specs.declared.tree.Moment.{Moment}
 use Rattle.arc_ast.specs.declared.tree.Moment.TheVariants.{Before, After}
 use Rattle.arc_ir.specs.declared.action.Target.TheVariants.{Skip, At, Back}
 use Rattle.arc_code.specs.declared.instr.Instr.TheVariants.{Jump, JumpZero, Plain}
+use Rattle.arc_checked.specs.declared.program.Command.{Command as CheckedCommand, Repeat as CheckedRepeat}
+use Rattle.arc_checked.specs.declared.program.Value.{Value as CheckedValue}
+use Rattle.arc_checked.specs.Checked.{value, command}
 use Rattle.arc_lower.specs.Order.{Order}
 use Rattle.arc_spec.specs.Resolved.{Program, Break, Continue, Value, Command, Choose, Repeat}
 use Rattle.arc_code.specs.declared.instr.Op.TheVariants.{Num}
@@ -256,6 +259,11 @@ module _ (P : Program) (b : Body) (scopes : List Scope) where
         → with_entry moment enter out written ≡ old ++ of_command (length old) (Repeat moment test step body)
     repeat_written moment step enter ee e1 eb = repeat_by moment step (does_nothing step) enter ee e1 eb
 
+    -- the same, one thing written after the other
+    pub repeat_entered : (o3 o4 : List Order) (moment : Moment) (step : Command) (enter : ℕ) → enter ≡ length old → o1 ≡ old ++ step_orders moment P b scopes (length old) step → begin ≡ step_begin moment (length old) step
+        → o3 ≡ written → o4 ≡ with_entry moment enter out o3 → o4 ≡ old ++ of_command (length old) (Repeat moment test step body)
+    repeat_entered o3 o4 moment step enter ee e1 eb e3 e4 = e4 ∙ ap (with_entry moment enter out) e3 ∙ repeat_written moment step enter ee e1 eb
+
   pub step_written : (moment : Moment) (old o1 o2 : List Order) (step : Command) (enter begin end : ℕ) → begins_first moment (does_nothing step) ≡ false → enter ≡ length old → o1 ≡ old ++ Jump (Skip 0) ∷ [] → begin ≡ length o1 → o2 ≡ o1 ++ own_step P b scopes (length o1) step → end ≡ length o2
       → slice_set o2 enter (Jump (Skip (end - begin))) ≡ old ++ step_orders moment P b scopes (length old) step
   step_written moment old o1 o2 step enter begin end none ee e1 eb e2 en =
@@ -270,3 +278,11 @@ module _ (P : Program) (b : Body) (scopes : List Scope) where
       patched old o2 zs enter open_jump (Jump (Skip (end - begin))) whole ee
       ∙ ap (λ n. old ++ Jump (Skip n) ∷ zs) far
       ∙ ap (λ n. old ++ (if n then [] else Jump (Skip (length zs)) ∷ zs)) (sym none)
+
+-- what a loop is of its parts
+pub is_repeat : (c : CheckedCommand) (moment : Moment) (test : CheckedValue) (a b : Box CheckedCommand Global) (step body : CheckedCommand)
+    → c ≡ CheckedRepeat moment test a b → step ≡ a.value → body ≡ b.value → command c ≡ Repeat moment (value test) (command step) (command body)
+is_repeat c moment test a b step body is ea eb =
+    ap command is
+    ∙ ap (λ s. Repeat moment (value test) (command s) (command b.value)) (sym ea)
+    ∙ ap (λ s. Repeat moment (value test) (command step) (command s)) (sym eb)

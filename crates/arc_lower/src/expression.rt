@@ -53,18 +53,12 @@ pub(crate) fn append_value(
             append_printed(alloc, actions, program, frame, pieces, arguments)
         }
         Value::Applied(operator, kind, operand) => {
-            append_value_then(
-                alloc,
-                actions,
-                program,
-                frame,
-                operand,
-                Instr::Plain(Op::Un(*operator, *kind)),
-            )
+            let operation = Op::Un(*operator, *kind);
+            append_value_then(alloc, actions, program, frame, operand, operation)
         }
         Value::Combined(operator, kind, left, right) => {
-            let action = Instr::Plain(Op::Bin(*operator, *kind));
-            append_both(alloc, actions, program, frame, left, right, action)
+            let operation = Op::Bin(*operator, *kind);
+            append_both(alloc, actions, program, frame, left, right, operation)
         }
         Value::Choice(test, first, second) => {
             append_choice(alloc, actions, program, frame, test, first, second)
@@ -109,8 +103,8 @@ pub(crate) fn append_value(
             )
         }
         Value::Field(object, class, index) => {
-            let action = Instr::Plain(Op::GetField(*class, *index));
-            append_reference_then(alloc, actions, program, frame, object, action)
+            let operation = Op::GetField(*class, *index);
+            append_reference_then(alloc, actions, program, frame, object, operation)
         }
         Value::FieldAssigned(object, class, index, operand) => {
             append_field_assigned(
@@ -130,14 +124,7 @@ pub(crate) fn append_value(
         }
         Value::Differ(left, right) => append_differ(alloc, actions, program, frame, left, right),
         Value::IsObject(object) => {
-            append_reference_then(
-                alloc,
-                actions,
-                program,
-                frame,
-                object,
-                Instr::Plain(Op::IsObject),
-            )
+            append_reference_then(alloc, actions, program, frame, object, Op::IsObject)
         }
     }
 }
@@ -194,7 +181,7 @@ fn append_printed(
     append_print(alloc, actions, pieces, count_numbers(arguments))
 }
 
-/// Appends the actions of an expression that gives a number, and this action after them.
+/// Appends the actions of an expression that gives a number, and this operation after them.
 #[cycle(expression)]
 fn append_value_then(
     alloc: Global,
@@ -202,12 +189,12 @@ fn append_value_then(
     program: &Checked,
     frame: Frame,
     operand: &Value,
-    action: Action,
+    operation: Op,
 ) -> Result<(), NoMemory>
-    ensures { OnOk result (orders actions.new.items ≡ orders actions.old.items ++ (value_orders (program_of program.now) frame.slots frame.names frame.operands (value operand.now) ++ order action ∷ [])) }
+    ensures { OnOk result (orders actions.new.items ≡ orders actions.old.items ++ (value_orders (program_of program.now) frame.slots frame.names frame.operands (value operand.now) ++ Plain operation ∷ [])) }
 {
     append_value(alloc, actions, program, frame, operand)?;
-    append(actions, action)
+    append(actions, Instr::Plain(operation))
 }
 
 /// Appends the actions of a number that becomes one of this kind.
@@ -226,7 +213,7 @@ fn append_converted(
     append_narrow(actions, known_kind(operand), kind)
 }
 
-/// Appends the actions of an expression that gives an object or nil, and this action after them.
+/// Appends the actions of an expression that gives an object or nil, and this operation after them.
 #[cycle(expression)]
 fn append_reference_then(
     alloc: Global,
@@ -234,15 +221,15 @@ fn append_reference_then(
     program: &Checked,
     frame: Frame,
     object: &Reference,
-    action: Action,
+    operation: Op,
 ) -> Result<(), NoMemory>
-    ensures { OnOk result (orders actions.new.items ≡ orders actions.old.items ++ (reference_orders (program_of program.now) frame.slots frame.names frame.operands (reference object.now) ++ order action ∷ [])) }
+    ensures { OnOk result (orders actions.new.items ≡ orders actions.old.items ++ (reference_orders (program_of program.now) frame.slots frame.names frame.operands (reference object.now) ++ Plain operation ∷ [])) }
 {
     append_reference(alloc, actions, program, frame, object)?;
-    append(actions, action)
+    append(actions, Instr::Plain(operation))
 }
 
-/// Appends the actions of two expressions that give numbers, the left one's first, and this action
+/// Appends the actions of two expressions that give numbers, the left one's first, and this operation
 /// after them.
 #[cycle(expression)]
 fn append_both(
@@ -252,15 +239,15 @@ fn append_both(
     frame: Frame,
     left: &Value,
     right: &Value,
-    action: Action,
+    operation: Op,
 ) -> Result<(), NoMemory>
-    ensures { OnOk result (orders actions.new.items ≡ orders actions.old.items ++ (value_orders (program_of program.now) frame.slots frame.names frame.operands (value left.now) ++ (value_orders (program_of program.now) frame.slots frame.names (suc frame.operands) (value right.now) ++ order action ∷ []))) }
+    ensures { OnOk result (orders actions.new.items ≡ orders actions.old.items ++ (value_orders (program_of program.now) frame.slots frame.names frame.operands (value left.now) ++ (value_orders (program_of program.now) frame.slots frame.names (suc frame.operands) (value right.now) ++ Plain operation ∷ []))) }
 {
     append_value(alloc, actions, program, frame, left)?;
     let operands = one_more(frame.operands)?;
     let above = Frame { operands, ..frame };
     append_value(alloc, actions, program, above, right)?;
-    append(actions, action)
+    append(actions, Instr::Plain(operation))
 }
 
 /// Appends the actions of a choice of two numbers by a test, of which a run goes through one way.
@@ -664,8 +651,8 @@ pub(crate) fn append_reference(
             append(actions, Instr::Plain(Op::Hold))
         }
         Reference::ObjectField(object, class, index) => {
-            let action = Instr::Plain(Op::ReadField(*class, *index));
-            append_reference_then(alloc, actions, program, frame, object, action)
+            let operation = Op::ReadField(*class, *index);
+            append_reference_then(alloc, actions, program, frame, object, operation)
         }
         Reference::ObjectFieldStored(object, class, index, operand) => {
             append_field_stored(
@@ -673,14 +660,7 @@ pub(crate) fn append_reference(
             )
         }
         Reference::Made(class) => {
-            append_value_then(
-                alloc,
-                actions,
-                program,
-                frame,
-                class,
-                Instr::Plain(Op::Alloc),
-            )
+            append_value_then(alloc, actions, program, frame, class, Op::Alloc)
         }
         Reference::New(from, class) => {
             append_new_object(alloc, actions, program, frame, *from, class)

@@ -99,3 +99,69 @@ append_chosen-returns t c =
 
 pub append_field_updated-returns : goal.append_field_updated-returns
 append_field_updated-returns t c = grind (arith, common_steps)
+
+pub append_choice-join-requires-clause-branch : goal.append_choice-join-requires-clause-branch
+append_choice-join-requires-clause-branch t c = grind (arith, common_steps)
+
+pub append_choice-join-requires-clause-skip : goal.append_choice-join-requires-clause-skip
+append_choice-join-requires-clause-skip t c = grind (arith, common_steps)
+
+pub append_chosen-join-requires-clause-branch : goal.append_chosen-join-requires-clause-branch
+append_chosen-join-requires-clause-branch t c = grind (arith, common_steps)
+
+pub append_chosen-join-requires-clause-skip : goal.append_chosen-join-requires-clause-skip
+append_chosen-join-requires-clause-skip t c = grind (arith, common_steps)
+
+pub append_arguments-loop-argument-preserved : goal.append_arguments-loop-argument-preserved
+append_arguments-loop-argument-preserved t c = grind (arith, common_steps)
+
+pub append_arguments-returns : goal.append_arguments-returns
+append_arguments-returns t c = grind (arith, common_steps)
+
+pub append_updated-returns : goal.append_updated-returns
+append_updated-returns t c = grind (arith, common_steps)
+
+pub append_update-returns : goal.append_update-returns
+append_update-returns t c = grind (arith, common_steps)
+
+pub append_sent-returns : goal.append_sent-returns
+append_sent-returns t c = grind (arith, common_steps)
+
+pub append_invoked-returns : goal.append_invoked-returns
+append_invoked-returns t c = grind (arith, common_steps)
+
+pub append_printed-returns : goal.append_printed-returns
+append_printed-returns t c = grind (arith, common_steps)
+
+pub append_both-returns : goal.append_both-returns
+append_both-returns t c = grind (arith, common_steps)
+
+pub append_differ-returns : goal.append_differ-returns
+append_differ-returns t c = grind (arith, common_steps)
+
+pub append_value_then-returns : goal.append_value_then-returns
+append_value_then-returns t c = grind (arith, common_steps)
+
+pub append_reference_then-returns : goal.append_reference_then-returns
+append_reference_then-returns t c = grind (arith, common_steps)
+
+pub append_converted-returns : goal.append_converted-returns
+append_converted-returns t c = grind (arith, common_steps)
+
+pub append_assigned-returns : goal.append_assigned-returns
+append_assigned-returns t c = grind (arith, common_steps)
+
+pub append_field_assigned-returns : goal.append_field_assigned-returns
+append_field_assigned-returns t c = grind (arith, common_steps)
+
+pub append_field_stored-returns : goal.append_field_stored-returns
+append_field_stored-returns t c = grind (arith, common_steps)
+
+pub append_reference-returns-in_ok-append_store-in-Stored : goal.append_reference-returns-in_ok-append_store-in-Stored
+append_reference-returns-in_ok-append_store-in-Stored t c = grind (arith, common_steps)
+
+pub append_new_object-returns-in-Some-default : goal.append_new_object-returns-in-Some-default
+append_new_object-returns-in-Some-default t c = grind (arith, common_steps)
+
+pub append_new_object-returns-in-None-Number : goal.append_new_object-returns-in-None-Number
+append_new_object-returns-in-None-Number t c = grind (arith, common_steps)

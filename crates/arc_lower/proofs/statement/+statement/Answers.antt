@@ -7,9 +7,9 @@ use Rattle.arc_ir.specs.declared.action.Target.TheVariants.{Skip}
 use Rattle.arc_checked.specs.Checked.{value, command, program_of}
 use Rattle.arc_lower.specs.Order.{order, orders}
 use Rattle.arc_lower.specs.Lowered.{whole_orders, command_orders}
-use Rattle.arc_lower.specs.private.Surroundings.{surroundings, with_entry}
+use Rattle.arc_lower.specs.private.Surroundings.{surroundings}
 use Rattle.arc_checked.proofs.Trees.{sequence_command}
-use Rattle.arc_lower.proofs.Turning.{patch_fork, choice_written, repeat_written, step_written}
+use Rattle.arc_lower.proofs.Turning.{patch_fork, choice_written, repeat_entered, is_repeat, step_written}
 use Rattle.arc_lower.proofs.statement.+statement.Goals as goal
 
 pub append_command-returns-in-Sequence-clause-actions : goal.append_command-returns-in-Sequence-clause-actions
@@ -61,17 +61,55 @@ append_command-returns-in_ok-append_turn-in-Repeat-clause-actions t c =
     let v0 = c.args.actions.now in
     let o1 = orders c.append_step.new.actions.items in
     let o2 = orders c.append_test.new.actions.items in
+    let o3 = orders c.append_turn.new.actions.items in
+    let o4 = orders c.enter_loop.new.actions.items in
     let first = c.in_ok-begin-in-Repeat in
     let last = c.in_ok-out-in-Repeat in
-    let moment = c.in-Repeat.moment in
-    let enter = c.len-enter.result in
     let test = value c.in-Repeat.test in
     let step = command c.deref-in-Repeat.result.now in
     let body = command c.deref-in-Repeat-2.result.now in
-    rw (c.in-Repeat.is, ← c.deref-in-Repeat.ensures, ← c.deref-in-Repeat-2.ensures)
-    (on_ok_weaker c.enter_loop.result (λ e. e ∙ ap (with_entry moment enter last.out) c.in_ok-append_turn-in-Repeat.ensures
-    ∙ repeat_written P c.args.body scopes (orders v0.items) o1 o2 first.begin last.out test body last.ensures.actions last.ensures.out moment step enter
-    (c.len-enter.ensures ∙ v0.ok.0 ∙ sym (length-map v0.items order)) first.ensures.actions first.ensures.begin) c.enter_loop.ensures)
+    let here = c.len-enter.ensures ∙ v0.ok.0 ∙ sym (length-map v0.items order) in
+    let turned = c.in_ok-append_turn-in-Repeat.ensures in
+    rw (is_repeat _ _ _ _ _ _ _ c.in-Repeat.is c.deref-in-Repeat.ensures c.deref-in-Repeat-2.ensures)
+    (on_ok_weaker c.enter_loop.result
+    (repeat_entered P c.args.body scopes (orders v0.items) o1 o2 first.begin last.out test body last.ensures.actions last.ensures.out o3 o4 c.in-Repeat.moment step c.len-enter.result here first.ensures.actions first.ensures.begin turned)
+    c.enter_loop.ensures)
 
 pub append_step-returns-clause-actions : goal.append_step-returns-clause-actions
 append_step-returns-clause-actions t c = grind (arith, common_steps, step_written)
+
+pub append_step-returns-clause-begin : goal.append_step-returns-clause-begin
+append_step-returns-clause-begin t c = grind (arith, common_steps)
+
+pub append_step-returns-then-begins_first-clause-begin : goal.append_step-returns-then-begins_first-clause-begin
+append_step-returns-then-begins_first-clause-begin t c = grind (arith, common_steps)
+
+pub append_step-replace-requires : goal.append_step-replace-requires
+append_step-replace-requires t c = grind (arith, common_steps)
+
+pub append_turn-replace-requires : goal.append_turn-replace-requires
+append_turn-replace-requires t c = grind (arith, common_steps)
+
+pub append_turn-returns : goal.append_turn-returns
+append_turn-returns t c = grind (arith, common_steps)
+
+pub append_command-join-requires-clause-branch : goal.append_command-join-requires-clause-branch
+append_command-join-requires-clause-branch t c = grind (arith, common_steps)
+
+pub append_command-join-requires-clause-skip : goal.append_command-join-requires-clause-skip
+append_command-join-requires-clause-skip t c = grind (arith, common_steps)
+
+pub append_command-enter_loop-requires : goal.append_command-enter_loop-requires
+append_command-enter_loop-requires t c = grind (arith, common_steps)
+
+pub append_commands-loop-statement-preserved : goal.append_commands-loop-statement-preserved
+append_commands-loop-statement-preserved t c = grind (arith, common_steps)
+
+pub append_commands-returns-clause-actions : goal.append_commands-returns-clause-actions
+append_commands-returns-clause-actions t c = grind (arith, common_steps)
+
+pub append_sequence-returns-clause-actions : goal.append_sequence-returns-clause-actions
+append_sequence-returns-clause-actions t c = grind (arith, common_steps)
+
+pub append_sequence-returns-clause-scopes : goal.append_sequence-returns-clause-scopes
+append_sequence-returns-clause-scopes t c = grind (arith, common_steps)

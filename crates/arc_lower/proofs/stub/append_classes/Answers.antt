@@ -1,0 +1,10 @@
+use Rattle.std.proofs.Common.{arith}
+use Rattle.std.proofs.lemmas.Grind.{common_steps}
+use Rattle.arc_lower.proofs.Rows.{raised_append, raised_nothing}
+use Rattle.arc_lower.proofs.stub.append_classes.Goals as goal
+
+pub loop-class-preserved : goal.loop-class-preserved
+loop-class-preserved c = grind (arith, raised_append, raised_nothing, common_steps)
+
+pub returns-clause-linked : goal.returns-clause-linked
+returns-clause-linked c = grind (arith, common_steps)
