@@ -1,4 +1,5 @@
-use Rattle.std.proofs.Common.{◌≡◌, ◌-◌, [], ◌∷◌, ◌++◌, OnOk, IfOk, length, option_map, take, refl, ap, subst, ◌∙◌}
+use Rattle.std.proofs.Common.{◌≡◌, ◌-◌, [], ◌∷◌, ◌++◌, OnOk, IfOk, length, option_map, take, refl, ap, subst, ◌∙◌, arith}
+use Rattle.std.proofs.lemmas.Grind.{common_steps}
 use Rattle.std.proofs.lemmas.Result.{on_ok_weaker}
 use Rattle.arc_ast.specs.declared.tree.Moment.TheVariants.{Before}
 use Rattle.arc_ast.specs.Tree.{expr_tree, stmt_tree, stmt_trees}
@@ -198,3 +199,15 @@ command-returns-in-Break-clause-keeps t c = keeps_same c.args.visible.now.bound.
 
 pub command-returns-in-Continue-clause-keeps : goal.command-returns-in-Continue-clause-keeps
 command-returns-in-Continue-clause-keeps t c = keeps_same c.args.visible.now.bound.items _ refl
+
+pub command-returns-in-Return-clause-keeps : goal.command-returns-in-Return-clause-keeps
+command-returns-in-Return-clause-keeps c = grind (arith, common_steps)
+
+pub command-returns-in-Expr-clause-keeps : goal.command-returns-in-Expr-clause-keeps
+command-returns-in-Expr-clause-keeps c = grind (arith, common_steps)
+
+pub commands-returns-clause-scope : goal.commands-returns-clause-scope
+commands-returns-clause-scope c = grind (arith, common_steps)
+
+pub commands-loop-statement-init : goal.commands-loop-statement-init
+commands-loop-statement-init c = grind (arith, common_steps)

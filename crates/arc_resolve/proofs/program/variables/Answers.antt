@@ -1,3 +1,5 @@
+use Rattle.std.proofs.Common.{arith}
+use Rattle.std.proofs.lemmas.Grind.{common_steps}
 use Rattle.arc_ast.specs.Tree.{type_tree, variable_trees}
 use Rattle.arc_resolve.specs.Resolving.{resolved_variables}
 use Rattle.arc_scope.specs.Views.{seen}
@@ -28,3 +30,9 @@ returns-clause-commands c =
     let type = type_tree c.args.type_name.now in
     let s = seen c.args.table.now c.loop-variable.visible in
     declared_end type s c.args.declared.now c.loop-variable.variable-index c.loop-variable.all.items (resolved_variables type (seen c.args.table.now c.args.visible.now) (variable_trees c.args.declared.now)) c.loop-variable-test.false c.loop-variable.invariant.commands
+
+pub loop-variable-init : goal.loop-variable-init
+loop-variable-init c = grind (arith, common_steps)
+
+pub returns-clause-scope : goal.returns-clause-scope
+returns-clause-scope c = grind (arith, common_steps)
