@@ -1,4 +1,5 @@
-use Rattle.std.proofs.Common.{◌+◌, ap, ◌∙◌, drop, sym, option_map}
+use Rattle.std.proofs.Common.{◌+◌, ap, ◌∙◌, drop, sym, option_map, arith}
+use Rattle.std.proofs.lemmas.Grind.{common_steps}
 use Rattle.arc_ast.specs.Tree.{head_tree, head_trees, interface_trees}
 use Rattle.arc_class.specs.Classes.{first_head, declared}
 use Rattle.arc_class.specs.Kept.{head_in}
@@ -20,3 +21,6 @@ loop-interface-preserved c sign sought =
     kept_turn old (first_head sign sought (head_trees x.methods.items)) _ _ _ (c.in_ok-keep_heads.ensures sign sought ∙ ap (λ us. option_or old (first_head sign sought (head_trees us))) c.deref.ensures.value)
     (c.loop-interface.invariant sign sought ∙ ap (option_or old) (ap (λ us. first_head sign sought (declared (interface_trees us))) (drop_turn xs i x c.loop-interface-test.true c.interface-item.is)
     ∙ first_head-append sign sought (head_trees x.methods.items) (declared (interface_trees (drop (i + 1) xs)))))
+
+pub returns : goal.returns
+returns c = grind (arith, common_steps)

@@ -1,4 +1,5 @@
-use Rattle.std.proofs.Common.{◌+◌, ap, ◌∙◌, drop, sym, option_map}
+use Rattle.std.proofs.Common.{◌+◌, ap, ◌∙◌, drop, sym, option_map, arith}
+use Rattle.std.proofs.lemmas.Grind.{common_steps}
 use Rattle.arc_ast.specs.Tree.{head_tree, method_trees, implementation_trees}
 use Rattle.arc_class.specs.Classes.{heads, first_head, defined}
 use Rattle.arc_class.specs.Kept.{head_in}
@@ -20,3 +21,6 @@ loop-implementation-preserved c sign sought =
     kept_turn old (first_head sign sought (heads (method_trees x.methods.items))) _ _ _ (c.in_ok-keep_methods.ensures sign sought ∙ ap (λ us. option_or old (first_head sign sought (heads (method_trees us)))) c.deref.ensures.value)
     (c.loop-implementation.invariant sign sought ∙ ap (option_or old) (ap (λ us. first_head sign sought (defined (implementation_trees us))) (drop_turn xs i x c.loop-implementation-test.true c.implementation-item.is)
     ∙ first_head-append sign sought (heads (method_trees x.methods.items)) (defined (implementation_trees (drop (i + 1) xs)))))
+
+pub returns : goal.returns
+returns c = grind (arith, common_steps)

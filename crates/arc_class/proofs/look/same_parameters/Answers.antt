@@ -1,4 +1,5 @@
 use Rattle.std.proofs.Common.{◌≡◌, suc, Bool, true, false, List, [], ◌∷◌, length, nat_eq, arith, refl, sym, ap, ◌∙◌}
+use Rattle.std.proofs.lemmas.Grind.{common_steps}
 use Rattle.std.proofs.lemmas.Bool.{eqb-true}
 use Rattle.arc_ast.specs.declared.tree.Parameter.{Parameter}
 use Rattle.arc_ast.specs.Tree.{parameter_trees}
@@ -21,3 +22,12 @@ returns c =
     c.is_empty.ensures ∙ no_other c.loop-parameter.rest.now
     ∙ sym (ap (λ ps. same_kinds (parameter_kinds (parameter_trees ps)) (parameter_kinds (parameter_trees c.loop-parameter.rest.now))) end)
     ∙ sym c.loop-parameter.invariant
+
+pub loop-parameter-preserved : goal.loop-parameter-preserved
+loop-parameter-preserved c = grind (arith, common_steps)
+
+pub returns-then-not-same_kind : goal.returns-then-not-same_kind
+returns-then-not-same_kind c = grind (arith, common_steps)
+
+pub returns-in_default : goal.returns-in_default
+returns-in_default c = grind (arith, common_steps)

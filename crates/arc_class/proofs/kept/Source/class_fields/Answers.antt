@@ -1,4 +1,5 @@
 use Rattle.std.proofs.Common.{◌≡◌, ◌<◌, ◌≤◌, ◌+◌, ◌++◌, suc, length, map, get_or, drop, subst, ap, ◌∙◌, arith}
+use Rattle.std.proofs.lemmas.Grind.{common_steps}
 use Rattle.arc_ast.specs.Tree.{unit_tree, interface_tree, interface_trees}
 use Rattle.arc_class.specs.Classes.{class_number}
 use Rattle.arc_class.specs.private.Entries.{fields_tree, class_fields, class_fields_with, class_fields_from, counted_among}
@@ -42,3 +43,6 @@ loop-interface-preserved c =
       numbered = ap (λ n. n + 1) c.loop-interface.invariant.numbered;
       counted = pushed_length all c.push-in-loop-interface.new.self.items known (k + 1) c.in_ok-push-2.ensures.items c.loop-interface.invariant.counted;
     }
+
+pub returns-clause-known : goal.returns-clause-known
+returns-clause-known c = grind (arith, common_steps)

@@ -1,4 +1,5 @@
 use Rattle.std.proofs.Common.{◌≡◌, ◌<◌, ◌≤◌, ◌+◌, ◌++◌, Some, suc, length, map, get_or, drop, subst, ap, ◌∙◌, arith}
+use Rattle.std.proofs.lemmas.Grind.{common_steps}
 use Rattle.arc_ast.specs.Tree.{unit_tree, interface_tree, interface_trees}
 use Rattle.arc_spec.specs.Classes.{class_of}
 use Rattle.arc_class.specs.private.Entries.{counted_among}
@@ -35,3 +36,6 @@ loop-interface-preserved c =
       numbered = ap (λ n. n + 1) c.loop-interface.invariant.numbered;
       counted = pushed_length all c.push-in-loop-interface.new.self.items c.in_ok-class.class (k + 1) c.in_ok-push-2.ensures.items c.loop-interface.invariant.counted;
     }
+
+pub returns-clause-made : goal.returns-clause-made
+returns-clause-made c = grind (arith, common_steps)

@@ -1,4 +1,5 @@
-use Rattle.std.proofs.Common.{◌≡◌, ◌<◌, ◌+◌, ◌++◌, ◌∷◌, [], length, map, get_or, drop, subst, sym, ap, ◌∙◌}
+use Rattle.std.proofs.Common.{◌≡◌, ◌<◌, ◌+◌, ◌++◌, ◌∷◌, [], length, map, get_or, drop, subst, sym, ap, ◌∙◌, arith}
+use Rattle.std.proofs.lemmas.Grind.{common_steps}
 use Rattle.arc_ast.specs.Tree.{unit_tree, interface_tree, interface_trees}
 use Rattle.arc_class.specs.private.Entries.{entry_tree, root_entry, class_entry}
 use Rattle.arc_class.proofs.Lists.{drop_turn}
@@ -24,3 +25,6 @@ loop-interface-init c =
     let made : c.push.new.self.items ≡ c.root_entry.result ∷ [] = c.in_ok-push.ensures.items ∙ ap (λ es. es ++ c.root_entry.result ∷ []) c.new-entries.ensures.items in
     let one : map (entry_tree names) c.push.new.self.items ≡ root_entry ∷ [] = ap (map (entry_tree names)) made ∙ ap (λ t. t ∷ []) (c.root_entry.ensures names) in
     sym (ap (λ ts. ts ++ map (class_entry u) u.interfaces) one)
+
+pub returns : goal.returns
+returns c = grind (arith, common_steps)

@@ -1,4 +1,5 @@
-use Rattle.std.proofs.Common.{◌≡◌, ◌<◌, length, get_or, take, subst, ap, ◌∙◌}
+use Rattle.std.proofs.Common.{◌≡◌, ◌<◌, length, get_or, take, subst, ap, ◌∙◌, arith}
+use Rattle.std.proofs.lemmas.Grind.{common_steps}
 use Rattle.arc_ast.specs.Tree.{unit_tree, implementation_trees}
 use Rattle.arc_class.specs.private.Scopes.{and_name, holds}
 use Rattle.arc_class.proofs.Rules.{implementations_turn, implementations_held}
@@ -21,3 +22,6 @@ loop-implementation-preserved c =
       fault = implementations_turn u xs k x _ _ _ _ within same (c.in_ok-own.ensures before c.loop-implementation.invariant.held) c.earlier-fault.ensures c.loop-implementation.invariant.fault;
       held = implementations_held xs k x old (holds c.insert.new.self) within same more c.loop-implementation.invariant.held;
     }
+
+pub returns : goal.returns
+returns c = grind (arith, common_steps)

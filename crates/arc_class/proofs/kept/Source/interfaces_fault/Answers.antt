@@ -1,4 +1,5 @@
 use Rattle.std.proofs.Common.{◌≡◌, ◌<◌, ◌+◌, suc, length, get_or, take, option_map, subst, ap, ◌∙◌, arith}
+use Rattle.std.proofs.lemmas.Grind.{common_steps}
 use Rattle.arc_ast.specs.Tree.{unit_tree, interface_tree, interface_trees}
 use Rattle.arc_class.specs.private.Scopes.{and_name, holds}
 use Rattle.arc_class.specs.Broken.{first}
@@ -38,3 +39,6 @@ loop-interface-preserved c =
       held = interfaces_held xs k x old (holds c.insert.new.self) within same more c.loop-interface.invariant.held;
       counted = omega (arith, c.loop-interface.invariant.counted);
     }
+
+pub returns : goal.returns
+returns c = grind (arith, common_steps)

@@ -1,4 +1,5 @@
-use Rattle.std.proofs.Common.{◌≡◌, sym, ap, subst, ◌∙◌, option_map}
+use Rattle.std.proofs.Common.{◌≡◌, sym, ap, subst, ◌∙◌, option_map, arith}
+use Rattle.std.proofs.lemmas.Grind.{common_steps}
 use Rattle.std.proofs.lemmas.Result.{IfOk-weaker}
 use Rattle.arc_ast.specs.Tree.{unit_tree, function_trees}
 use Rattle.arc_class.specs.Broken.{first}

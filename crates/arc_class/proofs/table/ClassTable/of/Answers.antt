@@ -1,4 +1,5 @@
-use Rattle.std.proofs.Common.{◌≡◌, [], Option, refl, ap, ◌∙◌}
+use Rattle.std.proofs.Common.{◌≡◌, [], Option, refl, ap, ◌∙◌, arith}
+use Rattle.std.proofs.lemmas.Grind.{common_steps}
 use Rattle.std.specs.Option.{option_map_or, option_or}
 use Rattle.arc_ast.specs.Tree.{HeadTree, unit_tree}
 use Rattle.arc_ast.specs.declared.tree.Sign.TheVariants as signs

@@ -1,0 +1,6 @@
+use Rattle.std.proofs.Common.{arith}
+use Rattle.std.proofs.lemmas.Grind.{common_steps}
+use Rattle.arc_class.proofs.building.add_defined_before.Goals as goal
+
+pub loop-implementation-preserved : goal.loop-implementation-preserved
+loop-implementation-preserved c = grind (arith, common_steps)

@@ -1,0 +1,6 @@
+use Rattle.std.proofs.Common.{arith}
+use Rattle.std.proofs.lemmas.Grind.{common_steps}
+use Rattle.arc_class.proofs.kept.class_places.Goals as goal
+
+pub loop-interface-preserved : goal.loop-interface-preserved
+loop-interface-preserved c = grind (arith, common_steps)
