@@ -1,4 +1,5 @@
-use Rattle.std.proofs.Common.{◌≡◌, ◌++◌, true, false, length, option_map, subst, take, Option, IfOk, OnOk, refl, ap, ◌∙◌}
+use Rattle.std.proofs.Common.{◌≡◌, ◌++◌, true, false, length, option_map, subst, take, Option, IfOk, OnOk, refl, ap, ◌∙◌, arith}
+use Rattle.std.proofs.lemmas.Grind.{common_steps}
 use Rattle.arc_ast.specs.Tree.{stmt_tree, stmt_trees, expr_tree}
 use Rattle.std.proofs.lemmas.Result.{on_ok_weaker}
 use Rattle.arc_class.specs.Broken.{Broken, first}
@@ -166,3 +167,6 @@ statement-returns-in_ok-second-in-IfElse-clause-scope t c =
 
 pub statement-returns-in_ok-second-in-IfElse-clause-keeps : goal.statement-returns-in_ok-second-in-IfElse-clause-keeps
 statement-returns-in_ok-second-in-IfElse-clause-keeps t c = keeps_same c.args.visible.now.bound.items _ (c.in_ok-second-in-IfElse.ensures.keeps ∙ c.in_ok-first-in-IfElse.ensures.keeps)
+
+pub statements-returns-clause-scope : goal.statements-returns-clause-scope
+statements-returns-clause-scope c = grind (arith, common_steps)

@@ -1,4 +1,5 @@
-use Rattle.std.proofs.Common.{◌≡◌, ap, ◌∙◌, option_map}
+use Rattle.std.proofs.Common.{◌≡◌, ap, ◌∙◌, option_map, arith}
+use Rattle.std.proofs.lemmas.Grind.{common_steps}
 use Rattle.arc_ast.specs.Tree.{type_tree}
 use Rattle.arc_judge.specs.Fault.{reported}
 use Rattle.arc_scope.specs.Scopes.{declare}
@@ -21,3 +22,6 @@ loop-parameter-preserved c =
       fault = reported_turn s new xs i x (option_map reported c.loop-parameter.fault) (option_map reported c.place_fault.result) (option_map reported c.earlier-fault.result) _ c.loop-parameter-test.true c.parameter-item.is (c.place_fault.ensures table) after c.earlier-fault.ensures c.loop-parameter.invariant.fault;
       scope = parameters_turn xs i x s new _ c.loop-parameter-test.true c.parameter-item.is after c.loop-parameter.invariant.scope;
     }
+
+pub returns-clause-scope : goal.returns-clause-scope
+returns-clause-scope c = grind (arith, common_steps)

@@ -1,4 +1,5 @@
-use Rattle.std.proofs.Common.{◌≡◌, ap, ◌∙◌, option_map}
+use Rattle.std.proofs.Common.{◌≡◌, ap, ◌∙◌, option_map, arith}
+use Rattle.std.proofs.lemmas.Grind.{common_steps}
 use Rattle.arc_ast.specs.Tree.{type_tree}
 use Rattle.arc_judge.specs.Fault.{reported}
 use Rattle.arc_scope.specs.Scopes.{declare}
@@ -24,3 +25,6 @@ loop-variable-preserved c =
       scope = with_turn type s new _ xs i x c.loop-variable-test.true c.variable-item.is after c.loop-variable.invariant.scope;
       keeps = keeps_turn c.args.visible.now.bound.items c.loop-variable.visible.bound.items c.declare.new.self.bound.items c.loop-variable.invariant.keeps c.in_ok-declare.ensures.keeps;
     }
+
+pub returns-clause-scope : goal.returns-clause-scope
+returns-clause-scope c = grind (arith, common_steps)

@@ -1,4 +1,5 @@
-use Rattle.std.proofs.Common.{◌≡◌, ◌<◌, ◌&&◌, false, length, Some, is_none, refl, sym, ap, subst, ◌∙◌, option_map}
+use Rattle.std.proofs.Common.{◌≡◌, ◌<◌, ◌&&◌, false, length, Some, is_none, refl, sym, ap, subst, ◌∙◌, option_map, arith}
+use Rattle.std.proofs.lemmas.Grind.{common_steps}
 use Rattle.arc_ast.specs.Tree.{expr_tree, expr_trees, type_tree, place}
 use Rattle.arc_ast.specs.Types.{type_kind}
 use Rattle.arc_class.specs.Broken.{first, earlier_of}
@@ -163,3 +164,6 @@ judge_arguments-loop-argument-preserved t c =
       taken = taken_turn s xs i x c.loop-argument.reported.taken c.judge_argument-judged.result.taken _ l c.argument-item.is c.judge_argument-judged.ensures.taken c.loop-argument.invariant.taken;
       fault = fault_turn s (kinds_wanted c.loop-argument.parameters) c.first_wanted-wanted.result (kinds_wanted c.after_first-parameters.result) xs i x (option_map reported c.loop-argument.reported.fault) (option_map reported c.judge_argument-judged.result.fault) (option_map reported c.earlier.result) _ l c.argument-item.is c.first_wanted-wanted.ensures c.after_first-parameters.ensures c.judge_argument-judged.ensures.fault c.earlier.ensures c.loop-argument.invariant.fault;
     }
+
+pub judge_arguments-returns : goal.judge_arguments-returns
+judge_arguments-returns c = grind (arith, common_steps)
