@@ -1,13 +1,16 @@
 //! The objects of a running program, the places that name them, what waits, and the variables of the whole program.
-ghost use Rattle.std.specs.Prelude.{◌≡◌, ◌≢◌, ◌+◌, ◌-◌, ◌^◌, ◌<◌, ◌≤◌, ℕ, List, ◌∷◌, ◌++◌, Option, Some, IsNone, IsTrue, ◌↔◌, length, take, drop, nat_lt, slice_get, slice_set, slice_index_or, pos, get_or, IfOk};
+ghost use Rattle.std.specs.Prelude.{◌≡◌, ◌≢◌, ◌+◌, ◌-◌, ◌^◌, ◌<◌, ◌≤◌, ℕ, List, ◌∷◌, ◌++◌, Option, Some, IsNone, IsTrue, ◌↔◌, length, take, drop, map, nat_lt, slice_get, slice_set, slice_index_or, pos, get_or, IfOk};
 ghost use Rattle.std.specs.Int.{w64, cast_signed};
+ghost use Rattle.arc_spec.specs.Classes.{classes_of};
+ghost use Rattle.arc_spec.specs.Objects.{nils};
+ghost use Rattle.arc_spec.specs.declared.limits.TheConstants.{MOST_LEVELS};
 ghost use Rattle.arc_code.specs.Running.{program_of};
 ghost use Rattle.arc_cells.specs.declared.waiting.Waiting.{Waiting};
 ghost use Rattle.arc_cells.specs.declared.waiting.Waiting.TheVariants as waits;
 ghost use Rattle.arc_cells.specs.Cells.{Cell, IsCell, HasField, with_count, with_phase, with_value, with_word};
 ghost use Rattle.arc_cells.specs.Refusing.{Refuses};
-ghost use Rattle.arc_cells.specs.Standing.{NamesBlock, Alters, IsLast, NewIn, Turns, no_objects, memory_of, with_places, with_names, with_frames, with_globals, with_strong_globals, order_at, next_in, taking, dropping, declaring, undeclaring, words_of, entering, resuming, settling, handing_over};
-ghost use Rattle.arc_cells.specs.Words.{Took};
+ghost use Rattle.arc_cells.specs.Standing.{NamesBlock, Alters, IsLast, NewIn, Turns, no_objects, memory_of, with_places, with_names, with_frames, with_globals, with_strong_globals, order_at, orders_of, items_of, next_in, taking, dropping, declaring, undeclaring, words_of, entering, resuming, settling, handing_over};
+ghost use Rattle.arc_cells.specs.Words.{Took, empty};
 ghost use Rattle.arc_cells.specs.declared.cell.TheConstants.{MOST_FIELDS};
 
 use crate::cell;
@@ -75,18 +78,20 @@ impl<S: Store + Drop> Objects<S> {
     pub fn new(alloc: Global, store: S, code: &Code) -> Result<Objects<S>, NoMemory>
         ensures { IfOk result (λ m. m ≡ no_objects store (program_of code.now)) }
     {
+        let (places, names, frames) = stacks_for(alloc, code)?;
+        let (globals, strong_globals, orders) = variables_for(alloc, code)?;
         Ok(Objects {
             store,
             made: 0,
-            places: Stack::with_room(alloc, code.places)?,
-            names: Stack::with_room(alloc, code.names)?,
+            places,
+            names,
             receiver: 0,
             temporaries: 0,
             variables: 0,
-            frames: Stack::with_room(alloc, MOST_LEVELS)?,
-            globals: Vec::from_slice(alloc, &code.globals)?,
-            strong_globals: vec![in alloc; 0; code.strong_globals]?,
-            orders: orders_of(alloc, &code.classes)?,
+            frames,
+            globals,
+            strong_globals,
+            orders,
         })
     }
 
@@ -617,4 +622,33 @@ impl<S: Store + Drop> Objects<S> {
         self.made += 1;
         Some(object.at)
     }
+}
+
+/// Stacks with room for as many strong places and references as this code asks for, and for 2,000 calls. The error is a
+/// refusal of their memory.
+fn stacks_for(
+    alloc: Global,
+    code: &Code,
+) -> Result<(Stack<u64>, Stack<u64>, Stack<Waiting>), NoMemory>
+    ensures { IfOk result (λ stacks. (stacks.0 ≡ empty code.now.places) × (stacks.1 ≡ empty code.now.names) × (stacks.2 ≡ empty MOST_LEVELS)) }
+{
+    let places = Stack::with_room(alloc, code.places)?;
+    let names = Stack::with_room(alloc, code.names)?;
+    let frames = Stack::with_room(alloc, MOST_LEVELS)?;
+    Ok((places, names, frames))
+}
+
+/// The numbers that the variables of the whole program hold first, nil for those that name objects, and for each class the
+/// order in which the fields of its objects are destroyed that name objects. The error is a refusal of memory.
+fn variables_for(
+    alloc: Global,
+    code: &Code,
+) -> Result<(Vec<i64>, Vec<u64>, Vec<Vec<usize>>), NoMemory>
+    ensures { IfOk result (λ first. (first.0.items ≡ code.now.globals.items) × (first.1.items ≡ nils code.now.strong_globals)
+        × (map items_of first.2.items ≡ orders_of (classes_of code.now.classes.items))) }
+{
+    let globals = Vec::from_slice(alloc, &code.globals)?;
+    let strong_globals = vec![in alloc; 0; code.strong_globals]?;
+    let orders = orders_of(alloc, &code.classes)?;
+    Ok((globals, strong_globals, orders))
 }

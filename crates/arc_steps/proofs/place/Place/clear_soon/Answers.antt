@@ -61,3 +61,31 @@ returns-clause-some g c =
         },
       ),
     )
+
+pub field_name-before-requires-clause-short : goal.field_name-before-requires-clause-short
+field_name-before-requires-clause-short g c =
+    let can = c.requires.can.next c.in-Some.slot (λ x is. sym c.in-Some.is ∙ c.next_slot.ensures x is) in
+    can.2.short
+
+pub field_name-before-requires-clause-field : goal.field_name-before-requires-clause-field
+field_name-before-requires-clause-field g c =
+    let can = c.requires.can.next c.in-Some.slot (λ x is. sym c.in-Some.is ∙ c.next_slot.ensures x is) in
+    (can.2.cell, can.2.block, can.2.within)
+
+pub lower-requires-clause-object : goal.lower-requires-clause-object
+lower-requires-clause-object g c =
+    let can = c.requires.can.next c.in-Some.slot (λ x is. sym c.in-Some.is ∙ c.next_slot.ensures x is) in
+    let named = can.2 in
+    let same : c.field_name-before.result ≡ can.1 = c.field_name-before.ensures named.cell named.block ∙ sym named.is in
+    let block : NamesBlock (g.S.Store.out c.args.objects.now.store) can.1 = λ above. (let held = can.3 above in (held.0, held.1)) in
+    subst (λ name. NamesBlock (g.S.Store.out c.args.objects.now.store) name) (sym same) block
+
+pub clear-requires-clause-some : goal.clear-requires-clause-some
+clear-requires-clause-some g c =
+    let can = c.requires.can.next c.in-Some.slot (λ x is. sym c.in-Some.is ∙ c.next_slot.ensures x is) in
+    can.0
+
+pub clear-requires-clause-slot : goal.clear-requires-clause-slot
+clear-requires-clause-slot g c =
+    let can = c.requires.can.next c.in-Some.slot (λ x is. sym c.in-Some.is ∙ c.next_slot.ensures x is) in
+    can.2.short

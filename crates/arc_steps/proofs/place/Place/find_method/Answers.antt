@@ -30,6 +30,8 @@ pub returns-clause-went : goal.returns-clause-went
 returns-clause-went g c =
     let same : c.top.result ≡ to_z w64 (of_z w64 c.top.result) = search rules in
     let number : c.from.result ≡ to_z w64 (of_z w64 c.from.result) = search rules in
-    let found : c.look_up-found.result ≡ lookup (classes_of c.args.code.now.classes.items) (class_at c.top.result) signs.Class c.args.selector 0 0 gives.Object = cc in
+    let found : c.look_up-found.result ≡ lookup (classes_of c.args.code.now.classes.items) (class_at c.top.result) signs.Class c.args.selector 0 0 gives.Object =
+    c.look_up-found.ensures ∙ ap (λ cs. lookup (classes_of cs) c.class_of-class.result signs.Class c.args.selector 0 0 gives.Object) c.deref.ensures.value
+    ∙ ap (λ k. lookup (classes_of c.args.code.now.classes.items) k signs.Class c.args.selector 0 0 gives.Object) (c.class_of-class.ensures ∙ ap class_at (sym same)) in
     finds_went g.S.Store.out (program_of c.args.code.now) (spot c.args.self.now c.args._objects.now) c.args.selector c.top.result c.top.ensures.0 c.look_up-found.result c.from.result _ c.top.ensures.1 found
     (c.from.ensures ∙ byte_is c.is_some.result ∙ ap one_if c.is_some.ensures) refl (ap (λ x. x.items) c.push.ensures.value ∙ ap (λ n. n ∷ c.args.self.now.stack.items) (sym number)) refl

@@ -21,25 +21,25 @@ class-own-requires-clause-object g c = set_field_cell g.S.Store.out (program_of 
 
 pub returns-then-not-is_of-clause-went : goal.returns-then-not-is_of-clause-went
 returns-then-not-is_of-clause-went g c =
-    let other : descends (classes_of c.args.code.now.classes.items) (Some c.class-own.result) c.args.class ≡ false = cc in
+    let other : descends (classes_of c.args.code.now.classes.items) (Some c.class-own.result) c.args.class ≡ false = ap (λ cs. descends (classes_of cs) (Some c.class-own.result) c.args.class) (sym c.deref.ensures.value) ∙ sym c.is_of.ensures ∙ c.if-not-is_of.true in
     set_field_other g.S.Store.out (program_of c.args.code.now) (spot c.args.self.now c.args.objects.now) c.args.class c.args.index _ c.reference-object.ensures (omega arith) c.class-own.result c.class-own.ensures other
 
 pub write_field-requires-clause-short : goal.write_field-requires-clause-short
 write_field-requires-clause-short g c =
-    let has : nat_lt c.args.index (count_of (slice_get (classes_of c.args.code.now.classes.items) c.class-own.result)) ≡ true = cc in
+    let has : nat_lt c.args.index (count_of (slice_get (classes_of c.args.code.now.classes.items) c.class-own.result)) ≡ true = ap (λ cs. nat_lt c.args.index (count_of (slice_get (classes_of cs) c.class-own.result))) (sym c.deref-2.ensures.value) ∙ sym c.has_field.ensures ∙ c.if-has_field.true in
     (set_field_short g.S.Store.out (program_of c.args.code.now) (spot c.args.self.now c.args.objects.now) c.args.class c.args.index _ c.reference-object.ensures (omega arith) c.class-own.result c.class-own.ensures has c.requires.ready).0
 
 pub write_field-requires-clause-field : goal.write_field-requires-clause-field
 write_field-requires-clause-field g c =
-    let has : nat_lt c.args.index (count_of (slice_get (classes_of c.args.code.now.classes.items) c.class-own.result)) ≡ true = cc in
+    let has : nat_lt c.args.index (count_of (slice_get (classes_of c.args.code.now.classes.items) c.class-own.result)) ≡ true = ap (λ cs. nat_lt c.args.index (count_of (slice_get (classes_of cs) c.class-own.result))) (sym c.deref-2.ensures.value) ∙ sym c.has_field.ensures ∙ c.if-has_field.true in
     (set_field_short g.S.Store.out (program_of c.args.code.now) (spot c.args.self.now c.args.objects.now) c.args.class c.args.index _ c.reference-object.ensures (omega arith) c.class-own.result c.class-own.ensures has c.requires.ready).1
 
 pub returns-clause-went : goal.returns-clause-went
 returns-clause-went g c =
-    let right : descends (classes_of c.args.code.now.classes.items) (Some c.class-own.result) c.args.class ≡ true = cc in
+    let right : descends (classes_of c.args.code.now.classes.items) (Some c.class-own.result) c.args.class ≡ true = ap (λ cs. descends (classes_of cs) (Some c.class-own.result) c.args.class) (sym c.deref.ensures.value) ∙ sym c.is_of.ensures ∙ c.if-not-is_of.false in
     let same : c.top-value.result ≡ to_z w64 (of_z w64 c.top-value.result) = search rules in
     let has = elim c.if-has_field.branch as (λ _. ((nat_lt c.args.index (count_of (slice_get (classes_of c.args.code.now.classes.items) c.class-own.result)) ≡ true) × (0 < c.reference-object.result) × Alters (memory_of g.S.Store.out c.args.objects.now) (memory_of g.S.Store.out c.if-has_field.objects) c.reference-object.result (λ x. with_value x c.args.index c.top-value.result)) ⊎ ((nat_lt c.args.index (count_of (slice_get (classes_of c.args.code.now.classes.items) c.class-own.result)) ≡ false) × (c.if-has_field.objects ≡ c.args.objects.now))) [
-      | then-has_field w ↦ inl (cc, omega arith, subst (λ (v : ℤ). Alters (memory_of g.S.Store.out c.args.objects.now) (memory_of g.S.Store.out c.if-has_field.objects) c.reference-object.result (λ x. with_value x c.args.index v)) (sym same) (rw w.objects-is w.write_field.ensures))
-      | else-has_field w ↦ inr (cc, w.objects-is)
+      | then-has_field w ↦ inl (ap (λ cs. nat_lt c.args.index (count_of (slice_get (classes_of cs) c.class-own.result))) (sym c.deref-2.ensures.value) ∙ sym c.has_field.ensures ∙ w.if-has_field.true, omega arith, subst (λ (v : ℤ). Alters (memory_of g.S.Store.out c.args.objects.now) (memory_of g.S.Store.out c.if-has_field.objects) c.reference-object.result (λ x. with_value x c.args.index v)) (sym same) (rw w.objects-is w.write_field.ensures))
+      | else-has_field w ↦ inr (ap (λ cs. nat_lt c.args.index (count_of (slice_get (classes_of cs) c.class-own.result))) (sym c.deref-2.ensures.value) ∙ sym c.has_field.ensures ∙ w.if-has_field.false, w.objects-is)
     ] in
     set_field_went g.S.Store.out (program_of c.args.code.now) (spot c.args.self.now c.args.objects.now) c.args.class c.args.index _ c.reference-object.ensures (omega arith) c.class-own.result c.class-own.ensures c.top-value.result c.top-value.ensures.0 c.take.new.self.names c.if-has_field.objects _ _ c.take.ensures.named right c.top-value.ensures.1 (sym same) has refl refl c.take.ensures.others

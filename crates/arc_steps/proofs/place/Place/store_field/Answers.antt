@@ -1,4 +1,4 @@
-use Rattle.std.proofs.Common.{sym, ap, ◌∙◌, subst}
+use Rattle.std.proofs.Common.{Ok, sym, ap, ◌∙◌, subst}
 use Rattle.arc_spec.specs.declared.event.Fault.TheVariants.{Depth}
 use Rattle.arc_code.specs.declared.instr.Instr.TheVariants.{StoreField}
 use Rattle.arc_code.specs.Running.{program_of}
@@ -36,48 +36,48 @@ unreachable-requires g c =
 pub field_name-before-requires-clause-short : goal.field_name-before-requires-clause-short
 field_name-before-requires-clause-short g c =
     (after_slot g.S.Store.out (program_of c.args.code.now) (spot c.args.self.now c.args.objects.now) (spot c.store_field_soon.new.self c.store_field_soon.new.objects) c.args.class c.args.index c.in_default.ensures.went.1 c.requires.few c.in_default.ensures.last
-    c.reference_below-holder.result c.reference-object.result c.in-Ok-Some.slot c.reference_below-holder.ensures c.reference-object.ensures c.find_field.result c.find_field.ensures (cc)).0
+    c.reference_below-holder.result c.reference-object.result c.in-Ok-Some.slot c.reference_below-holder.ensures c.reference-object.ensures c.find_field.result c.find_field.ensures (c.in-Ok-Some.is ∙ ap Ok c.in-Ok-Some.field-0-is)).0
 
 pub field_name-before-requires-clause-field : goal.field_name-before-requires-clause-field
 field_name-before-requires-clause-field g c =
     (after_slot g.S.Store.out (program_of c.args.code.now) (spot c.args.self.now c.args.objects.now) (spot c.store_field_soon.new.self c.store_field_soon.new.objects) c.args.class c.args.index c.in_default.ensures.went.1 c.requires.few c.in_default.ensures.last
-    c.reference_below-holder.result c.reference-object.result c.in-Ok-Some.slot c.reference_below-holder.ensures c.reference-object.ensures c.find_field.result c.find_field.ensures (cc)).1
+    c.reference_below-holder.result c.reference-object.result c.in-Ok-Some.slot c.reference_below-holder.ensures c.reference-object.ensures c.find_field.result c.find_field.ensures (c.in-Ok-Some.is ∙ ap Ok c.in-Ok-Some.field-0-is)).1
 
 pub raise-requires-clause-object : goal.raise-requires-clause-object
 raise-requires-clause-object g c =
     after_block g.S.Store.out (program_of c.args.code.now) (spot c.args.self.now c.args.objects.now) (spot c.store_field_soon.new.self c.store_field_soon.new.objects) c.args.class c.args.index c.in_default.ensures.went.1 c.requires.few c.in_default.ensures.last
-    c.reference_below-holder.result c.reference-object.result c.in-Ok-Some.slot c.reference_below-holder.ensures c.reference-object.ensures c.find_field.result c.find_field.ensures (cc) c.field_name-before.result c.field_name-before.ensures
+    c.reference_below-holder.result c.reference-object.result c.in-Ok-Some.slot c.reference_below-holder.ensures c.reference-object.ensures c.find_field.result c.find_field.ensures (c.in-Ok-Some.is ∙ ap Ok c.in-Ok-Some.field-0-is) c.field_name-before.result c.field_name-before.ensures
 
 pub raise-requires-clause-fits : goal.raise-requires-clause-fits
 raise-requires-clause-fits g c =
     after_few g.S.Store.out (program_of c.args.code.now) (spot c.args.self.now c.args.objects.now) (spot c.store_field_soon.new.self c.store_field_soon.new.objects) c.args.class c.args.index c.in_default.ensures.went.1 c.requires.few c.in_default.ensures.last
-    c.reference_below-holder.result c.reference-object.result c.in-Ok-Some.slot c.reference_below-holder.ensures c.reference-object.ensures c.find_field.result c.find_field.ensures (cc) c.field_name-before.result c.field_name-before.ensures
+    c.reference_below-holder.result c.reference-object.result c.in-Ok-Some.slot c.reference_below-holder.ensures c.reference-object.ensures c.find_field.result c.find_field.ensures (c.in-Ok-Some.is ∙ ap Ok c.in-Ok-Some.field-0-is) c.field_name-before.result c.field_name-before.ensures
 
 pub put_field_name-requires-clause-short : goal.put_field_name-requires-clause-short
 put_field_name-requires-clause-short g c =
     (after_slot g.S.Store.out (program_of c.args.code.now) (spot c.args.self.now c.args.objects.now) (spot c.store_field_soon.new.self c.store_field_soon.new.objects) c.args.class c.args.index c.in_default.ensures.went.1 c.requires.few c.in_default.ensures.last
-    c.reference_below-holder.result c.reference-object.result c.in-Ok-Some.slot c.reference_below-holder.ensures c.reference-object.ensures c.find_field.result c.find_field.ensures (cc)).0
+    c.reference_below-holder.result c.reference-object.result c.in-Ok-Some.slot c.reference_below-holder.ensures c.reference-object.ensures c.find_field.result c.find_field.ensures (c.in-Ok-Some.is ∙ ap Ok c.in-Ok-Some.field-0-is)).0
 
 pub put_field_name-requires-clause-field : goal.put_field_name-requires-clause-field
 put_field_name-requires-clause-field g c =
     after_field g.S.Store.out (program_of c.args.code.now) (spot c.args.self.now c.args.objects.now) (spot c.store_field_soon.new.self c.store_field_soon.new.objects) c.args.class c.args.index c.in_default.ensures.went.1 c.requires.few c.in_default.ensures.last
-    c.reference_below-holder.result c.reference-object.result c.in-Ok-Some.slot c.reference_below-holder.ensures c.reference-object.ensures c.find_field.result c.find_field.ensures (cc) c.field_name-before.result c.field_name-before.ensures c.raise.new.self c.raise.ensures
+    c.reference_below-holder.result c.reference-object.result c.in-Ok-Some.slot c.reference_below-holder.ensures c.reference-object.ensures c.find_field.result c.find_field.ensures (c.in-Ok-Some.is ∙ ap Ok c.in-Ok-Some.field-0-is) c.field_name-before.result c.field_name-before.ensures c.raise.new.self c.raise.ensures
 
 pub begin_end-requires-clause-some : goal.begin_end-requires-clause-some
 begin_end-requires-clause-some g c =
     (after_end g.S.Store.out (program_of c.args.code.now) (spot c.args.self.now c.args.objects.now) (spot c.store_field_soon.new.self c.store_field_soon.new.objects) c.args.class c.args.index c.in_default.ensures.went.1 c.requires.few c.in_default.ensures.last
-    c.reference_below-holder.result c.reference-object.result c.in-Ok-Some.slot c.reference_below-holder.ensures c.reference-object.ensures c.find_field.result c.find_field.ensures (cc) c.field_name-before.result c.field_name-before.ensures c.raise.new.self c.raise.ensures
+    c.reference_below-holder.result c.reference-object.result c.in-Ok-Some.slot c.reference_below-holder.ensures c.reference-object.ensures c.find_field.result c.find_field.ensures (c.in-Ok-Some.is ∙ ap Ok c.in-Ok-Some.field-0-is) c.field_name-before.result c.field_name-before.ensures c.raise.new.self c.raise.ensures
     c.put_field_name.new.self c.put_field_name.ensures c.take_below.new.self c.take_below.ensures).0
 
 pub begin_end-requires-clause-object : goal.begin_end-requires-clause-object
 begin_end-requires-clause-object g c =
     (after_end g.S.Store.out (program_of c.args.code.now) (spot c.args.self.now c.args.objects.now) (spot c.store_field_soon.new.self c.store_field_soon.new.objects) c.args.class c.args.index c.in_default.ensures.went.1 c.requires.few c.in_default.ensures.last
-    c.reference_below-holder.result c.reference-object.result c.in-Ok-Some.slot c.reference_below-holder.ensures c.reference-object.ensures c.find_field.result c.find_field.ensures (cc) c.field_name-before.result c.field_name-before.ensures c.raise.new.self c.raise.ensures
+    c.reference_below-holder.result c.reference-object.result c.in-Ok-Some.slot c.reference_below-holder.ensures c.reference-object.ensures c.find_field.result c.find_field.ensures (c.in-Ok-Some.is ∙ ap Ok c.in-Ok-Some.field-0-is) c.field_name-before.result c.field_name-before.ensures c.raise.new.self c.raise.ensures
     c.put_field_name.new.self c.put_field_name.ensures c.take_below.new.self c.take_below.ensures).1
 
 pub returns-clause-went : goal.returns-clause-went
 returns-clause-went g c =
     after_ended g.S.Store.out (program_of c.args.code.now) (spot c.args.self.now c.args.objects.now) (spot c.store_field_soon.new.self c.store_field_soon.new.objects) c.args.class c.args.index c.in_default.ensures.went.1 c.requires.few c.in_default.ensures.last
-    c.reference_below-holder.result c.reference-object.result c.in-Ok-Some.slot c.reference_below-holder.ensures c.reference-object.ensures c.find_field.result c.find_field.ensures (cc) c.field_name-before.result c.field_name-before.ensures c.raise.new.self c.raise.ensures
+    c.reference_below-holder.result c.reference-object.result c.in-Ok-Some.slot c.reference_below-holder.ensures c.reference-object.ensures c.find_field.result c.find_field.ensures (c.in-Ok-Some.is ∙ ap Ok c.in-Ok-Some.field-0-is) c.field_name-before.result c.field_name-before.ensures c.raise.new.self c.raise.ensures
     c.put_field_name.new.self c.put_field_name.ensures c.take_below.new.self c.take_below.ensures (spot c.begin_end.new.self c.begin_end.new.objects) c.begin_end.result.answer c.begin_end.result.event (sym c.have_level.ensures ∙ c.if-not-have_level.false)
     c.begin_end.ensures.answer c.begin_end.ensures.at (ap (λ x. x.items) c.begin_end.ensures.stack) c.begin_end.ensures.begins

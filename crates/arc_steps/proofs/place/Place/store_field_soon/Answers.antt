@@ -16,35 +16,35 @@ find_field-requires g c = record {
 }
 
 pub returns-in-Err-clause-went : goal.returns-in-Err-clause-went
-returns-in-Err-clause-went g c = store_fault g.S.Store.out (program_of c.args.code.now) (spot c.args.self.now c.args.objects.now) c.args.class c.args.index c.find_field.result c.in-Err.fault c.find_field.ensures (cc)
+returns-in-Err-clause-went g c = store_fault g.S.Store.out (program_of c.args.code.now) (spot c.args.self.now c.args.objects.now) c.args.class c.args.index c.find_field.result c.in-Err.fault c.find_field.ensures c.in-Err.is
 
 pub field_name-before-requires-clause-short : goal.field_name-before-requires-clause-short
 field_name-before-requires-clause-short g c =
-    (slot_ready g.S.Store.out (program_of c.args.code.now) (spot c.args.self.now c.args.objects.now) c.args.class c.args.index c.reference_below-holder.result c.reference-object.result c.in-Ok-Some.slot c.reference_below-holder.ensures c.reference-object.ensures c.find_field.result c.find_field.ensures (cc) c.requires.ready).0
+    (slot_ready g.S.Store.out (program_of c.args.code.now) (spot c.args.self.now c.args.objects.now) c.args.class c.args.index c.reference_below-holder.result c.reference-object.result c.in-Ok-Some.slot c.reference_below-holder.ensures c.reference-object.ensures c.find_field.result c.find_field.ensures (c.in-Ok-Some.is ∙ ap Ok c.in-Ok-Some.field-0-is) c.requires.ready).0
 
 pub field_name-before-requires-clause-field : goal.field_name-before-requires-clause-field
 field_name-before-requires-clause-field g c =
-    (slot_ready g.S.Store.out (program_of c.args.code.now) (spot c.args.self.now c.args.objects.now) c.args.class c.args.index c.reference_below-holder.result c.reference-object.result c.in-Ok-Some.slot c.reference_below-holder.ensures c.reference-object.ensures c.find_field.result c.find_field.ensures (cc) c.requires.ready).1
+    (slot_ready g.S.Store.out (program_of c.args.code.now) (spot c.args.self.now c.args.objects.now) c.args.class c.args.index c.reference_below-holder.result c.reference-object.result c.in-Ok-Some.slot c.reference_below-holder.ensures c.reference-object.ensures c.find_field.result c.find_field.ensures (c.in-Ok-Some.is ∙ ap Ok c.in-Ok-Some.field-0-is) c.requires.ready).1
 
 pub replace-requires : goal.replace-requires
 replace-requires g c = record {
-  can = replace_ready g.S.Store.out (program_of c.args.code.now) (spot c.args.self.now c.args.objects.now) c.args.class c.args.index c.reference_below-holder.result c.reference-object.result c.in-Ok-Some.slot c.reference_below-holder.ensures c.reference-object.ensures c.find_field.result c.find_field.ensures (cc)
+  can = replace_ready g.S.Store.out (program_of c.args.code.now) (spot c.args.self.now c.args.objects.now) c.args.class c.args.index c.reference_below-holder.result c.reference-object.result c.in-Ok-Some.slot c.reference_below-holder.ensures c.reference-object.ensures c.find_field.result c.find_field.ensures (c.in-Ok-Some.is ∙ ap Ok c.in-Ok-Some.field-0-is)
       c.field_name-before.result c.field_name-before.ensures c.requires.few;
 }
 
 pub returns-then-not-replace-clause-last : goal.returns-then-not-replace-clause-last
 returns-then-not-replace-clause-last g c =
     let kept = subst (λ b. Replaces g.S.Store.out c.args.objects.now c.replace.new.objects c.field_name-before.result c.reference-object.result b) (c.if-not-replace.true) c.replace.ensures in
-    last_stored g.S.Store.out (program_of c.args.code.now) (spot c.args.self.now c.args.objects.now) c.args.class c.args.index c.reference_below-holder.result c.reference-object.result c.in-Ok-Some.slot c.reference_below-holder.ensures c.reference-object.ensures c.find_field.result c.find_field.ensures (cc)
+    last_stored g.S.Store.out (program_of c.args.code.now) (spot c.args.self.now c.args.objects.now) c.args.class c.args.index c.reference_below-holder.result c.reference-object.result c.in-Ok-Some.slot c.reference_below-holder.ensures c.reference-object.ensures c.find_field.result c.find_field.ensures (c.in-Ok-Some.is ∙ ap Ok c.in-Ok-Some.field-0-is)
     c.field_name-before.result c.field_name-before.ensures kept.1 kept.2
 
 pub put_field_name-requires-clause-short : goal.put_field_name-requires-clause-short
 put_field_name-requires-clause-short g c =
-    (slot_ready g.S.Store.out (program_of c.args.code.now) (spot c.args.self.now c.args.objects.now) c.args.class c.args.index c.reference_below-holder.result c.reference-object.result c.in-Ok-Some.slot c.reference_below-holder.ensures c.reference-object.ensures c.find_field.result c.find_field.ensures (cc) c.requires.ready).0
+    (slot_ready g.S.Store.out (program_of c.args.code.now) (spot c.args.self.now c.args.objects.now) c.args.class c.args.index c.reference_below-holder.result c.reference-object.result c.in-Ok-Some.slot c.reference_below-holder.ensures c.reference-object.ensures c.find_field.result c.find_field.ensures (c.in-Ok-Some.is ∙ ap Ok c.in-Ok-Some.field-0-is) c.requires.ready).0
 
 pub put_field_name-requires-clause-field : goal.put_field_name-requires-clause-field
 put_field_name-requires-clause-field g c =
-    field_stays g.S.Store.out (program_of c.args.code.now) (spot c.args.self.now c.args.objects.now) c.args.class c.args.index c.reference_below-holder.result c.reference-object.result c.in-Ok-Some.slot c.reference_below-holder.ensures c.reference-object.ensures c.find_field.result c.find_field.ensures (cc)
+    field_stays g.S.Store.out (program_of c.args.code.now) (spot c.args.self.now c.args.objects.now) c.args.class c.args.index c.reference_below-holder.result c.reference-object.result c.in-Ok-Some.slot c.reference_below-holder.ensures c.reference-object.ensures c.find_field.result c.find_field.ensures (c.in-Ok-Some.is ∙ ap Ok c.in-Ok-Some.field-0-is)
     c.field_name-before.result c.field_name-before.ensures c.requires.few c.replace.new.objects (subst (λ b. Replaces g.S.Store.out c.args.objects.now c.replace.new.objects c.field_name-before.result c.reference-object.result b) (c.if-not-replace.false) c.replace.ensures)
 
 pub returns-clause-went : goal.returns-clause-went
