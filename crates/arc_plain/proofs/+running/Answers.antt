@@ -1,4 +1,5 @@
 use Rattle.std.proofs.Common.{rules, arith, option_map, false, suc, length, map, take, Some, vec_len, to_z, of_z, w64, ◌∷◌, ◌++◌, [], refl, ◌≡◌, ◌-◌, ◌<◌, ◌≤◌, Err, sym, subst, ap, ◌∙◌}
+use Rattle.std.proofs.lemmas.Grind.{common_steps}
 use Rattle.std.proofs.lemmas.Int.{to_z-of_z}
 use Rattle.std.proofs.lemmas.Bool.{ltb-true, ltb-false}
 use Rattle.std.proofs.lemmas.Result.{err_from_is_err_and}
@@ -616,3 +617,30 @@ expression::store_field-returns t c =
 
 pub sending::send-send_to-requires : goal.sending::send-send_to-requires
 sending::send-send_to-requires t c = (omega (arith, receiver_counts (checked.receiver c.args.receiver.now), c.decreases), tt)
+
+pub statement::execute_all-returns : goal.statement::execute_all-returns
+statement::execute_all-returns c = grind (arith, common_steps)
+
+pub call::drop_fields-returns-in_err-release : goal.call::drop_fields-returns-in_err-release
+call::drop_fields-returns-in_err-release c = grind (arith, common_steps)
+
+pub statement::execute_all-returns-in_default : goal.statement::execute_all-returns-in_default
+statement::execute_all-returns-in_default c = grind (arith, common_steps)
+
+pub expression::evaluate_all-returns-in_err-object-in-Object : goal.expression::evaluate_all-returns-in_err-object-in-Object
+expression::evaluate_all-returns-in_err-object-in-Object c = grind (arith, common_steps)
+
+pub call::drop_fields-loop-index-preserved : goal.call::drop_fields-loop-index-preserved
+call::drop_fields-loop-index-preserved c = grind (arith, common_steps)
+
+pub statement::execute_all-loop-command-preserved : goal.statement::execute_all-loop-command-preserved
+statement::execute_all-loop-command-preserved c = grind (arith, common_steps)
+
+pub expression::evaluate_all-returns : goal.expression::evaluate_all-returns
+expression::evaluate_all-returns c = grind (arith, common_steps)
+
+pub statement::execute_all-returns-in_err-flow : goal.statement::execute_all-returns-in_err-flow
+statement::execute_all-returns-in_err-flow c = grind (arith, common_steps)
+
+pub expression::evaluate_all-returns-in_err-number-in-Number : goal.expression::evaluate_all-returns-in_err-number-in-Number
+expression::evaluate_all-returns-in_err-number-in-Number c = grind (arith, common_steps)
