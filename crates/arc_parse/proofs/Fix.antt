@@ -1,18 +1,21 @@
 -- What the rules read, as the code asks for it.
 use Rattle.std.proofs.Common.{◌≡◌, ◌≤◌, ◌-◌, min, ℕ, zero, suc, List, false, cond, Ok, refl, sym, ap, ◌∙◌, arith}
 use Rattle.arc_lex.specs.Tokens.{Tok}
+use Rattle.arc_lex.specs.declared.token.Mark.TheVariants as m
 use Rattle.arc_ast.specs.declared.tree.BinaryOperator.TheVariants as operators
-use Rattle.arc_ast.specs.Tree.{ExprTree, Binary, begins}
+use Rattle.arc_ast.specs.declared.tree.Moment.TheVariants.{After}
+use Rattle.arc_ast.specs.Tree.{ExprTree, Unary, Binary, begins}
 use Rattle.arc_form.specs.Form.{unlimited}
-use Rattle.arc_form.specs.Reader.{◌>>=◌, ret, sees, if_sees, take_one}
+use Rattle.arc_form.specs.Kinds.{mark}
+use Rattle.arc_form.specs.Reader.{Reader, bind, ◌>>=◌, ret, sees, if_sees, take_one}
 use Rattle.arc_form.specs.Operators.{marks_at, placed_operator}
 use Rattle.arc_form.proofs.Binding.{bind_twice, pair_then}
 use Rattle.arc_form.proofs.Joining.{joined_is}
 use Rattle.arc_form.proofs.Sets.{sees_neither}
 use Rattle.arc_form.proofs.Local.{Takes, weaker, then, takes_token, takes_ret}
 use Rattle.arc_form.proofs.FormLocal.{read_is, fronts}
-use Rattle.arc_grammar.specs.Grammar.{rules, reads_free, reads_on, body, binary, table, assigning, marks_up_to, join, further, more, up_to, choice, continued, operations, begins_suffix, suffix, suffixes}
-use Rattle.arc_grammar.proofs.Fits.{facts, sure, taking}
+use Rattle.arc_grammar.specs.Grammar.{rules, reads_free, reads_on, body, expr, unary, binary, condition, begins_signed, operator_before, signed, begins_counting, counting, by_one, counted, parenthesized, postfix, prefixed, operation, expression, conditional_expr, table, assigning, marks_up_to, join, further, more, up_to, choice, continued, operations, begins_suffix, suffix, suffixes}
+use Rattle.arc_grammar.proofs.Fits.{facts, sure, taking, read_rule}
 use Rattle.arc_grammar.proofs.Loops.{one_more_on}
 use Rattle.arc_parse.specs.declared.operator.TheConstants.{ASSIGNING, LOOSEST}
 
@@ -20,11 +23,35 @@ further_front : (l : ℕ) → Takes 1 (reads_free (further l))
 unfolding further
 further_front l = weaker 1 (omega arith) (then (takes_token (marks_at l table) (placed_operator operators.Add table)) (λ o. then (fronts facts body sure unlimited (binary (l - 1))) (λ right. takes_ret (o, right))))
 
-pub read_binary : (l : ℕ) (ts : List Tok) → l ≤ LOOSEST → rules unlimited (binary l) ts ≡ reads_free (operations l) ts
+-- what begins with a unary expression
+after_unary : (k : ExprTree → Reader ExprTree) (ts : List Tok) → (reads_free prefixed >>= k) ts ≡ (rules unlimited unary >>= k) ts
+unfolding body
+after_unary k ts = ap (λ x. bind x k) (sym (read_rule unlimited unary ts))
+
+pub read_expr : (ts : List Tok) → rules unlimited expr ts ≡ (rules unlimited unary >>= (λ left. reads_on operation left)) ts
+unfolding body expression
+read_expr ts = read_rule unlimited expr ts ∙ simp bind_twice (after_unary (λ left. reads_on operation left) ts)
+
+pub read_condition : (ts : List Tok) → rules unlimited condition ts ≡ (rules unlimited unary >>= (λ left. reads_on continued left)) ts
+unfolding body conditional_expr
+read_condition ts = read_rule unlimited condition ts ∙ simp bind_twice (after_unary (λ left. reads_on continued left) ts)
+
+read_operations : (l : ℕ) (ts : List Tok) → reads_free (operations l) ts ≡ (rules unlimited unary >>= (λ left. reads_on (up_to l) left)) ts
+unfolding operations
+read_operations l ts = simp bind_twice (after_unary (λ left. reads_on (up_to l) left) ts)
+
+pub read_binary : (l : ℕ) (ts : List Tok) → l ≤ LOOSEST → rules unlimited (binary l) ts ≡ (rules unlimited unary >>= (λ left. reads_on (up_to l) left)) ts
 unfolding body table
 read_binary l ts p =
     let same : min l LOOSEST ≡ l = omega (arith, p) in
-    read_is facts body sure unlimited (binary l) ts ∙ ap (λ k. reads_free (operations k) ts) same
+    read_is facts body sure unlimited (binary l) ts ∙ ap (λ k. reads_free (operations k) ts) same ∙ read_operations l ts
+
+-- and a unary expression itself
+pub read_unary : (ts : List Tok) → rules unlimited unary ts
+    ≡ if_sees begins_signed (reads_free operator_before >>= (λ o. rules unlimited unary >>= (λ a. ret (Unary o.0 o.1 a))))
+    (if_sees begins_counting (reads_free counting >>= (λ o. rules unlimited unary >>= (λ a. ret (by_one o.0 o After a)))) (if_sees (mark m.OpenParen) (reads_free parenthesized) (reads_free postfix))) ts
+unfolding body prefixed signed counted
+read_unary ts = read_rule unlimited unary ts ∙ simp bind_twice
 
 -- the level of the operators that assign
 pub assigning_is : assigning ≡ ASSIGNING

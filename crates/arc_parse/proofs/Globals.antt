@@ -1,5 +1,5 @@
 -- Variables of the whole program: the loop that reads them, and what reports them from a function.
-use Rattle.std.proofs.Common.{◌≡◌, List, [], ◌∷◌, ◌++◌, map as list_map, append_assoc, append-nil, Bool, true, false, ◌&&◌, ◌||◌, cond, sym, ap, ◌∙◌, drop}
+use Rattle.std.proofs.Common.{◌≡◌, List, [], ◌∷◌, ◌++◌, map as list_map, append_assoc, append-nil, Bool, true, false, ◌&&◌, ◌||◌, cond, refl, sym, ap, ◌∙◌, drop}
 use Rattle.arc_lex.specs.Tokens.{Tok}
 use Rattle.arc_lex.specs.declared.token.Mark.TheVariants as m
 use Rattle.arc_ast.specs.declared.tree.Qualifiers.{Qualifiers}
@@ -10,17 +10,29 @@ use Rattle.arc_form.specs.Operators.{fold}
 use Rattle.arc_form.specs.Reader.{Read, bind, ◌>>=◌, ret, sees, if_sees, take_one, from}
 use Rattle.arc_form.specs.Joining.{joining}
 use Rattle.arc_form.proofs.Binding.{bind_twice, bind_alike}
-use Rattle.arc_grammar.specs.Grammar.{Part, QualifiedType, OfFunction, OfGlobals, reads, some_qualifiers, value_type_of, of_function, of_globals, main_function, other_function, function, global, after_comma, commas, globals, typed_top, of_type, typed_globals, of_qualified}
-use Rattle.arc_grammar.proofs.Fits.{TakesToken}
+use Rattle.arc_grammar.specs.Grammar.{Part, QualifiedType, OfFunction, OfGlobals, reads, some_qualifiers, value_type_of, of_function, of_globals, main_function, other_function, function, global, starred_global, after_comma, commas, globals, typed_top, of_type, typed_globals, of_qualified}
+use Rattle.arc_grammar.proofs.Fits.{TakesToken, taking}
 use Rattle.arc_grammar.proofs.Loops.{one_more_listed}
 use Rattle.arc_parse.specs.private.Globals.{add_global, globals_on, typed_on}
 use Rattle.arc_parse.specs.private.Declaring.{reads_after}
 
 -- further variables of a type, one by one
-pub further : (type : QualifiedType) (part : Part (QualifiedType → GlobalTree)) → TakesToken (after_comma part) → (made : List GlobalTree) (ts : List Tok)
+further : (type : QualifiedType) (part : Part (QualifiedType → GlobalTree)) → TakesToken (after_comma part) → (made : List GlobalTree) (ts : List Tok)
     → joining (mark m.Comma) (reads (after_comma part)) (add_global type) made ts
     ≡ if_sees (mark m.Comma) (take_one (mark m.Comma) from >>= (λ comma. reads_after part type >>= (λ g. joining (mark m.Comma) (reads (after_comma part)) (add_global type) (made ++ g ∷ [])))) (ret made) ts
 further type part t made ts = one_more_listed part (add_global type) t made ts ∙ ap (λ y. cond (sees (mark m.Comma) ts) y (ret made ts)) (bind_alike _ _ _ (λ comma us. sym (bind_twice (reads part us) (λ make. ret (make type)) (λ g. joining (mark m.Comma) (reads (after_comma part)) (add_global type) (made ++ g ∷ [])))))
+
+pub read_more_globals : (c : Bool) (type : QualifiedType) (made : List GlobalTree) (ts : List Tok) → globals_on c type made ts
+    ≡ if_sees (mark m.Comma) (take_one (mark m.Comma) from >>= (λ comma. reads_after (starred_global c) type >>= (λ g. globals_on c type (made ++ g ∷ [])))) (ret made) ts
+unfolding globals_on
+read_more_globals c type made ts = further type (starred_global c) (taking.12 c) made ts
+
+-- one of them, after `*` where the type is a class's
+pub read_starred_global : (c : Bool) (type : QualifiedType) (ts : List Tok) → reads_after (starred_global c) type ts
+    ≡ cond c ((take_one (mark m.Star) from >>= (λ star. reads_after global type)) ts) (reads_after global type ts)
+unfolding starred_global
+read_starred_global true type ts = simp bind_twice
+read_starred_global false type ts = refl
 
 all_made : (type : QualifiedType) (made : List GlobalTree) (others : List (QualifiedType → GlobalTree)) → fold (add_global type) made others ≡ made ++ list_map (λ other. other type) others
 all_made type made [] = sym (append-nil made)
@@ -28,7 +40,7 @@ all_made type made (make ∷ others) = all_made type (made ++ make type ∷ []) 
 
 pub read_globals : (c : Bool) (type : QualifiedType) (ts : List Tok) → reads_after (globals c) type ts
     ≡ (reads_after global type >>= (λ g. globals_on c type (g ∷ []) >>= (λ all. take_one (mark m.Semicolon) from >>= (λ end. ret all)))) ts
-unfolding globals commas
+unfolding globals commas globals_on
 read_globals c type ts = simp (bind_twice, all_made)
 
 -- ---- what is after a type

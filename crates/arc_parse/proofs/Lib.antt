@@ -2,6 +2,8 @@ pub mod Table
 pub mod Fix
 pub mod Levels
 pub mod Bound
+pub mod Variables
+pub mod Fewer
 pub mod Signatures
 pub mod Fields
 pub mod Given

@@ -13,9 +13,9 @@ use Rattle.arc_form.proofs.Binding.{bind_twice, bind_if, bind_alike}
 use Rattle.arc_form.proofs.Joining.{push}
 use Rattle.arc_grammar.specs.Grammar.{reads, enclosed, with_result, listed, parameter, parameter_of, second, texts, begins_method, next_head, method_head, counted_parameters, listed_parameters, parameters, begins_qualified_type, function_body, main_function, other_function, function}
 use Rattle.arc_grammar.proofs.Fits.{taking}
-use Rattle.arc_grammar.proofs.Loops.{one_more, listed_after}
+use Rattle.arc_grammar.proofs.Loops.{one_more, one_more_listed, listed_after}
 use Rattle.arc_parse.specs.private.Declaring.{reads_after}
-use Rattle.arc_parse.specs.private.Signatures.{enclosed_to, parameters_on}
+use Rattle.arc_parse.specs.private.Signatures.{enclosed_to, more_parameters_on, parameters_on}
 
 abbrev pub by_name : ResultTree → Reader FunctionTree
 by_name type = take_one name named >>= (λ n. reads (enclosed_to n.1) >>= (λ ps. reads function_body >>= (λ b. ret (with_result (n, (ps, b)) type))))
@@ -45,7 +45,14 @@ read_function type (t ∷ ts) = go t.sort refl
 
 -- one parameter or more after these
 read_after : (made : List ParameterTree) (ts : List Tok) → (reads (listed parameter) >>= (λ others. ret (Listed (made ++ others)))) ts ≡ parameters_on made ts
+unfolding more_parameters_on
 read_after made ts = sym (bind_twice (reads (listed parameter) ts) (λ others. ret (made ++ others)) (λ all. ret (Listed all))) ∙ ap (λ x. bind x (λ all. ret (Listed all))) (listed_after parameter made ts)
+
+-- and one more, or none
+pub read_more_parameters : (made : List ParameterTree) (ts : List Tok) → more_parameters_on made ts
+    ≡ if_sees (mark m.Comma) (take_one (mark m.Comma) from >>= (λ comma. reads parameter >>= (λ p. more_parameters_on (push made p)))) (ret made) ts
+unfolding more_parameters_on
+read_more_parameters made ts = one_more_listed parameter push (search taking) made ts
 
 -- what a function takes
 pub read_parameters : (of_main : Bool) (ts : List Tok) → reads (parameters of_main) ts

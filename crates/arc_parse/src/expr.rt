@@ -1,17 +1,17 @@
 //! Reads expressions, in which no limit holds.
 ghost use Rattle.std.specs.Prelude.{◌≡◌, ◌<◌, ◌≤◌, false, length, IfOk};
 ghost use Rattle.arc_lex.specs.Tokens.{toks};
-ghost use Rattle.arc_ast.specs.Tree.{expr_tree};
+ghost use Rattle.arc_ast.specs.Tree.{type_tree, expr_tree};
 ghost use Rattle.arc_form.specs.Form.{call, unlimited};
 ghost use Rattle.arc_form.specs.Reader.{Gives, sees};
 ghost use Rattle.arc_form.specs.Views.{all};
 ghost use Rattle.arc_grammar.specs.Grammar.{marks_up_to, reads_free, reads_on, rules};
 ghost use Rattle.arc_grammar.specs.Grammar as grammar;
-ghost use Rattle.arc_parse.specs.private.Given.{arguments_on, parts_on};
+ghost use Rattle.arc_parse.specs.private.Given.{cast_on, enclosed_on, arguments_on, last_part_on};
 ghost use Rattle.arc_parse.specs.declared.operator.TheConstants.{ASSIGNING, LOOSEST};
 
 use crate::literal::literal;
-use crate::node::{add, and_part, boxed, by_one, place_of, times};
+use crate::node::{add, boxed, by_one, place_of, times};
 use crate::operator::{ASSIGNING, LOOSEST, level_ahead, operator, sees_operator};
 use crate::sign::{begins_counting, begins_signed, counting, operator_before};
 use crate::type_name::{begins_plain_type, plain_type};
@@ -24,7 +24,7 @@ use std::alloc::Global;
 
 /// An expression.
 #[cycle(exprs)]
-#[tactic(auto, using(arc_grammar::proofs::Fits::read_rule), unfolding(arc_grammar::specs::Grammar::body, arc_grammar::specs::Grammar::expression))]
+#[tactic(auto, using(crate::proofs::Fix::read_expr))]
 pub fn expr(alloc: Global, reader: &mut Reader) -> Read<Box<Expr>>
     ensures gives { Gives (λ x. expr_tree x.value) result (toks reader.new.rest.now) (rules unlimited grammar.expr (toks reader.old.rest.now)) }
     ensures shorter { IfOk result (λ _. length reader.new.rest.now < length reader.old.rest.now) }
@@ -77,7 +77,7 @@ fn continued(alloc: Global, left: Box<Expr>, reader: &mut Reader) -> Read<Box<Ex
 
 /// An expression that is no assignment.
 #[cycle(exprs)]
-#[tactic(auto, using(arc_grammar::proofs::Fits::read_rule), unfolding(arc_grammar::specs::Grammar::body, arc_grammar::specs::Grammar::conditional_expr))]
+#[tactic(auto, using(crate::proofs::Fix::read_condition))]
 fn condition(alloc: Global, reader: &mut Reader) -> Read<Box<Expr>>
     ensures gives { Gives (λ x. expr_tree x.value) result (toks reader.new.rest.now) (rules unlimited grammar.condition (toks reader.old.rest.now)) }
     ensures shorter { IfOk result (λ _. length reader.new.rest.now < length reader.old.rest.now) }
@@ -108,7 +108,7 @@ fn up_to(alloc: Global, level: usize, left: Box<Expr>, reader: &mut Reader) -> R
 
 /// An expression whose operators are of this level or tighter.
 #[cycle(exprs)]
-#[tactic(auto, using(crate::proofs::Fix::read_binary), unfolding(arc_grammar::specs::Grammar::operations))]
+#[tactic(auto, using(crate::proofs::Fix::read_binary))]
 fn binary(alloc: Global, level: usize, reader: &mut Reader) -> Read<Box<Expr>>
     requires { level ≤ LOOSEST }
     ensures gives { Gives (λ x. expr_tree x.value) result (toks reader.new.rest.now) (rules unlimited (grammar.binary level) (toks reader.old.rest.now)) }
@@ -121,9 +121,9 @@ fn binary(alloc: Global, level: usize, reader: &mut Reader) -> Read<Box<Expr>>
 
 /// A unary expression.
 #[cycle(exprs)]
-#[tactic(auto, using(arc_grammar::proofs::Fits::read_rule), unfolding(arc_grammar::specs::Grammar::body, arc_grammar::specs::Grammar::prefixed, arc_grammar::specs::Grammar::signed, arc_grammar::specs::Grammar::counted))]
+#[tactic(auto, using(crate::proofs::Fix::read_unary))]
 fn prefixed(alloc: Global, reader: &mut Reader) -> Read<Box<Expr>>
-    ensures gives { Gives (λ x. expr_tree x.value) result (toks reader.new.rest.now) (reads_free grammar.prefixed (toks reader.old.rest.now)) }
+    ensures gives { Gives (λ x. expr_tree x.value) result (toks reader.new.rest.now) (rules unlimited grammar.unary (toks reader.old.rest.now)) }
     ensures shorter { IfOk result (λ _. length reader.new.rest.now < length reader.old.rest.now) }
 {
     if begins_signed(reader) {
@@ -145,7 +145,7 @@ fn prefixed(alloc: Global, reader: &mut Reader) -> Read<Box<Expr>>
 
 /// An expression in parentheses with what may come after one, or a cast.
 #[cycle(exprs)]
-#[tactic(auto, using(arc_grammar::proofs::Fits::read_rule), unfolding(arc_grammar::specs::Grammar::body, arc_grammar::specs::Grammar::parenthesized, arc_grammar::specs::Grammar::cast_to_plain, arc_grammar::specs::Grammar::inside))]
+#[tactic(auto, using(crate::proofs::Given::read_parenthesized))]
 fn parenthesized(alloc: Global, reader: &mut Reader) -> Read<Box<Expr>>
     ensures gives { Gives (λ x. expr_tree x.value) result (toks reader.new.rest.now) (reads_free grammar.parenthesized (toks reader.old.rest.now)) }
     ensures shorter { IfOk result (λ _. length reader.new.rest.now < length reader.old.rest.now) }
@@ -153,14 +153,33 @@ fn parenthesized(alloc: Global, reader: &mut Reader) -> Read<Box<Expr>>
     let at = reader.expect(Mark::OpenParen)?;
     if begins_plain_type(reader) {
         let (_, written) = plain_type(reader)?;
-        reader.expect(Mark::CloseParen)?;
-        let operand = prefixed(alloc, reader)?;
-        return boxed(alloc, Expr::Cast(at, written, operand));
+        return cast(alloc, at, written, reader);
     }
     if reader.sees_name_and(Mark::Star) {
         return cast_or_product(alloc, at, reader);
     }
     let inside = expr(alloc, reader)?;
+    enclosed(alloc, at, inside, reader)
+}
+
+/// A cast to this type, whose `(` is at this place: what is after the type.
+#[cycle(exprs)]
+#[tactic(auto, unfolding(crate::specs::private::Given::cast_on))]
+fn cast(alloc: Global, at: usize, written: TypeName, reader: &mut Reader) -> Read<Box<Expr>>
+    ensures gives { Gives (λ x. expr_tree x.value) result (toks reader.new.rest.now) (cast_on at (type_tree written) (toks reader.old.rest.now)) }
+    ensures shorter { IfOk result (λ _. length reader.new.rest.now < length reader.old.rest.now) }
+{
+    reader.expect(Mark::CloseParen)?;
+    let operand = prefixed(alloc, reader)?;
+    boxed(alloc, Expr::Cast(at, written, operand))
+}
+
+/// This expression in parentheses, of which `(` is at this place, with what may come after one.
+#[tactic(auto, unfolding(crate::specs::private::Given::enclosed_on))]
+fn enclosed(alloc: Global, at: usize, inside: Box<Expr>, reader: &mut Reader) -> Read<Box<Expr>>
+    ensures gives { Gives (λ x. expr_tree x.value) result (toks reader.new.rest.now) (enclosed_on at (expr_tree inside.value) (toks reader.old.rest.now)) }
+    ensures shorter { IfOk result (λ _. length reader.new.rest.now < length reader.old.rest.now) }
+{
     reader.expect(Mark::CloseParen)?;
     let whole = made::boxed(alloc, Expr::Paren(at, inside))?;
     suffixes(alloc, whole, reader)
@@ -168,24 +187,20 @@ fn parenthesized(alloc: Global, reader: &mut Reader) -> Read<Box<Expr>>
 
 /// What is after the `(` at this place, where a name and `*` come: a cast, or a product in parentheses.
 #[cycle(exprs)]
-#[tactic(auto, using(arc_grammar::proofs::Fits::read_rule), unfolding(arc_grammar::specs::Grammar::body, arc_grammar::specs::Grammar::cast_or_product, arc_grammar::specs::Grammar::cast, arc_grammar::specs::Grammar::product))]
+#[tactic(auto, using(crate::proofs::Given::read_cast_or_product))]
 fn cast_or_product(alloc: Global, at: usize, reader: &mut Reader) -> Read<Box<Expr>>
     ensures gives { Gives (λ x. expr_tree x.value) result (toks reader.new.rest.now) (reads_on grammar.cast_or_product at (toks reader.old.rest.now)) }
     ensures shorter { IfOk result (λ _. length reader.new.rest.now < length reader.old.rest.now) }
 {
     let (name_at, called) = reader.name(alloc)?;
     reader.expect(Mark::Star)?;
-    if let Some(_) = reader.take(Mark::CloseParen) {
-        let operand = prefixed(alloc, reader)?;
-        let class = TypeName::Object(name_at, called);
-        return boxed(alloc, Expr::Cast(at, class, operand));
+    if reader.sees_mark(Mark::CloseParen) {
+        return cast(alloc, at, TypeName::Object(name_at, called), reader);
     }
     let right = prefixed(alloc, reader)?;
     let first = times(alloc, name_at, called, right)?;
     let inside = continued(alloc, first, reader)?;
-    reader.expect(Mark::CloseParen)?;
-    let whole = made::boxed(alloc, Expr::Paren(at, inside))?;
-    suffixes(alloc, whole, reader)
+    enclosed(alloc, at, inside, reader)
 }
 
 /// A primary expression, a call or a message, and the suffixes after it.
@@ -277,27 +292,24 @@ fn given(alloc: Global, reader: &mut Reader) -> Read<Vec<Expr>>
     if let Some(_) = reader.take(Mark::CloseParen) {
         return Ok(all);
     }
-    let one = expr(alloc, reader)?;
-    add(&mut all, one)?;
-    let all = more_arguments(alloc, all, reader)?;
-    reader.expect(Mark::CloseParen)?;
+    arguments(alloc, &mut all, reader)?;
     Ok(all)
 }
 
-/// These arguments and further ones, each after a comma.
+/// Puts arguments after these, one or more with a comma between two, and takes `)`.
 #[cycle(exprs)]
-#[tactic(auto, using(crate::proofs::Given::read_more_arguments, arc_form::proofs::Joining::all_push))]
-fn more_arguments(alloc: Global, before: Vec<Expr>, reader: &mut Reader) -> Read<Vec<Expr>>
-    ensures gives { Gives (λ x. all expr_tree x.items) result (toks reader.new.rest.now) (arguments_on (all expr_tree before.items) (toks reader.old.rest.now)) }
-    ensures shorter { IfOk result (λ _. length reader.new.rest.now ≤ length reader.old.rest.now) }
+#[tactic(auto, using(crate::proofs::Given::read_arguments, arc_form::proofs::Joining::all_push))]
+fn arguments(alloc: Global, before: &mut Vec<Expr>, reader: &mut Reader) -> Read<()>
+    ensures gives { Gives (λ _. all expr_tree before.new.items) result (toks reader.new.rest.now) (arguments_on (all expr_tree before.old.items) (toks reader.old.rest.now)) }
+    ensures shorter { IfOk result (λ _. length reader.new.rest.now < length reader.old.rest.now) }
 {
-    let Some(_) = reader.take(Mark::Comma) else {
-        return Ok(before);
-    };
-    let mut all = before;
     let next = expr(alloc, reader)?;
-    add(&mut all, next)?;
-    more_arguments(alloc, all, reader)
+    add(before, next)?;
+    if let Some(_) = reader.take(Mark::Comma) {
+        return arguments(alloc, before, reader);
+    }
+    reader.expect(Mark::CloseParen)?;
+    Ok(())
 }
 
 /// A message, to `super` or to what an expression gives.
@@ -319,56 +331,40 @@ fn message(alloc: Global, reader: &mut Reader) -> Read<Box<Expr>>
 
 /// The place of a selector's first part, the selector, and the arguments, and `]`.
 #[cycle(exprs)]
-#[tactic(auto, unfolding(arc_grammar::specs::Grammar::sent))]
+#[tactic(auto, using(crate::proofs::Given::read_sent))]
 fn sent(alloc: Global, reader: &mut Reader) -> Read<(usize, Vec<u8>, Vec<Expr>)>
     ensures gives { Gives (λ x. (x.0, (x.1.items, all expr_tree x.2.items))) result (toks reader.new.rest.now) (reads_free grammar.sent (toks reader.old.rest.now)) }
     ensures shorter { IfOk result (λ _. length reader.new.rest.now < length reader.old.rest.now) }
 {
-    let (at, first) = reader.name(alloc)?;
-    let (selector, all) = parts(alloc, first, reader)?;
+    let (at, mut selector) = reader.name(alloc)?;
+    let mut all = Vec::new(alloc);
+    if reader.sees_mark(Mark::Colon) {
+        parts(alloc, &mut selector, &mut all, reader)?;
+    }
     reader.expect(Mark::CloseSquare)?;
     Ok((at, selector, all))
 }
 
-/// What is after the name of a selector's first part: its argument, if it takes one, and further parts.
+/// Puts a colon after this selector and its argument after these, and then further parts with theirs.
 #[cycle(exprs)]
-#[tactic(auto, using(crate::proofs::Given::read_parts))]
-fn parts(alloc: Global, first: Vec<u8>, reader: &mut Reader) -> Read<(Vec<u8>, Vec<Expr>)>
-    ensures gives { Gives (λ x. (x.0.items, all expr_tree x.1.items)) result (toks reader.new.rest.now) (reads_on (grammar.parts (call grammar.expr)) first.items (toks reader.old.rest.now)) }
-    ensures shorter { IfOk result (λ _. length reader.new.rest.now ≤ length reader.old.rest.now) }
+#[tactic(auto, using(crate::proofs::Given::read_last_part, arc_form::proofs::Joining::all_push))]
+fn parts(
+    alloc: Global,
+    selector: &mut Vec<u8>,
+    given: &mut Vec<Expr>,
+    reader: &mut Reader,
+) -> Read<()>
+    ensures gives { Gives (λ _. (selector.new.items, all expr_tree given.new.items)) result (toks reader.new.rest.now) (last_part_on unlimited (call grammar.expr) (selector.old.items, all expr_tree given.old.items) (toks reader.old.rest.now)) }
+    ensures shorter { IfOk result (λ _. length reader.new.rest.now < length reader.old.rest.now) }
 {
-    let mut all = Vec::new(alloc);
-    let Some(_) = reader.take(Mark::Colon) else {
-        return Ok((first, all));
-    };
-    let mut selector = first;
+    reader.expect(Mark::Colon)?;
     selector.push(b':')?;
     let one = expr(alloc, reader)?;
-    add(&mut all, one)?;
-    more_parts(alloc, selector, all, reader)
-}
-
-/// This selector and these arguments, and further parts with theirs.
-#[cycle(exprs)]
-#[tactic(auto, using(crate::proofs::Given::read_more_parts, arc_form::proofs::Joining::all_push))]
-fn more_parts(
-    alloc: Global,
-    before: Vec<u8>,
-    given: Vec<Expr>,
-    reader: &mut Reader,
-) -> Read<(Vec<u8>, Vec<Expr>)>
-    ensures gives { Gives (λ x. (x.0.items, all expr_tree x.1.items)) result (toks reader.new.rest.now) (parts_on unlimited (call grammar.expr) (before.items, all expr_tree given.items) (toks reader.old.rest.now)) }
-    ensures shorter { IfOk result (λ _. length reader.new.rest.now ≤ length reader.old.rest.now) }
-{
+    add(given, one)?;
     if !reader.sees_name() {
-        return Ok((before, given));
+        return Ok(());
     }
-    let mut selector = before;
-    let mut all = given;
     let (_, called) = reader.name(alloc)?;
-    reader.expect(Mark::Colon)?;
-    let one = expr(alloc, reader)?;
-    and_part(&mut selector, &called)?;
-    add(&mut all, one)?;
-    more_parts(alloc, selector, all, reader)
+    selector.extend_from_slice(&called)?;
+    parts(alloc, selector, given, reader)
 }

@@ -1,16 +1,15 @@
 //! Reads the fields of classes.
-ghost use Rattle.std.specs.Prelude.{◌≡◌, ◌<◌, ◌≤◌, length, IfOk, IfErr};
+ghost use Rattle.std.specs.Prelude.{◌≡◌, ◌<◌, ◌≤◌, length, IfOk};
 ghost use Rattle.arc_lex.specs.Tokens.{toks};
-ghost use Rattle.arc_ast.specs.Tree.{type_tree, field_tree, field_trees};
-ghost use Rattle.arc_form.specs.declared.fail.Fail.TheVariants.{Memory};
+ghost use Rattle.arc_ast.specs.Tree.{type_tree, field_trees};
 ghost use Rattle.arc_form.specs.Form.{map};
 ghost use Rattle.arc_form.specs.Kinds as kinds;
 ghost use Rattle.arc_form.specs.Reader.{Gives, sees, take_one};
 ghost use Rattle.arc_grammar.specs.Grammar.{reads};
 ghost use Rattle.arc_grammar.specs.Grammar as grammar;
-ghost use Rattle.arc_parse.specs.private.Fields.{begins_group, fields_of, names_on, typed_fields_on, group_on};
+ghost use Rattle.arc_parse.specs.private.Fields.{begins_group, fields_of, name_on, ended_names_on, typed_fields_on, group_on};
 
-use crate::name::{QualifiedName, starred_name};
+use crate::name::starred_name;
 use crate::qualifier::qualifiers;
 use crate::type_name::declared_type;
 use crate::value_type::begins_qualified_type;
@@ -44,9 +43,7 @@ fn groups(alloc: Global, first: Visibility, reader: &mut Reader) -> Read<Vec<Fie
     let mut all = Vec::new(alloc);
     let mut visibility = first;
     'groups: while begins_group(reader) {
-        let (next, more) = group(alloc, visibility, all, reader)?;
-        all = more;
-        visibility = next;
+        visibility = group(alloc, visibility, &mut all, reader)?;
     }
     Ok(all)
 }
@@ -62,24 +59,24 @@ fn begins_group(reader: &Reader) -> bool
             || reader.sees_at(AtWord::Public))
 }
 
-/// These fields and those of a type, which are visible so, or a word: how those after it are visible, and the fields.
+/// Puts the fields of a type, which are visible so, after these, or takes a word: how the fields after it are visible.
 #[tactic(auto, using(crate::proofs::Fields::read_group))]
 fn group(
     alloc: Global,
     now: Visibility,
-    before: Vec<Field>,
+    all: &mut Vec<Field>,
     reader: &mut Reader,
-) -> Read<(Visibility, Vec<Field>)>
-    ensures gives { Gives (λ x. (x.0, field_trees x.1.items)) result (toks reader.new.rest.now) (group_on (now, field_trees before.items) (toks reader.old.rest.now)) }
+) -> Read<Visibility>
+    ensures gives { Gives (λ x. (x, field_trees all.new.items)) result (toks reader.new.rest.now) (group_on (now, field_trees all.old.items) (toks reader.old.rest.now)) }
     ensures shorter { IfOk result (λ _. length reader.new.rest.now < length reader.old.rest.now) }
 {
     if begins_qualified_type(reader) {
         let qualifiers = qualifiers(reader)?;
-        let all = typed_fields(alloc, now, qualifiers, before, reader)?;
-        return Ok((now, all));
+        typed_fields(alloc, now, qualifiers, all, reader)?;
+        return Ok(now);
     }
     let next = visibility(reader)?;
-    Ok((next, before))
+    Ok(next)
 }
 
 /// How the fields after the first token are visible, which is a word that says so.
@@ -100,73 +97,71 @@ fn visibility(reader: &mut Reader) -> Read<Visibility>
     Ok(visibility)
 }
 
-/// These fields and those of a type, one name or more and `;`, each with a `*` where the type is a class's.
-#[tactic(auto, using(arc_grammar::proofs::Lists::appends))]
+/// Puts the fields of a type after these: one name or more and `;`, each name after a `*` where the type is a class's.
 fn typed_fields(
     alloc: Global,
     visibility: Visibility,
     qualifiers: Qualifiers,
-    before: Vec<Field>,
+    all: &mut Vec<Field>,
     reader: &mut Reader,
-) -> Read<Vec<Field>>
-    ensures gives { Gives (λ x. field_trees x.items) result (toks reader.new.rest.now) (typed_fields_on (sees kinds.name (toks reader.old.rest.now)) visibility qualifiers (field_trees before.items) (toks reader.old.rest.now)) }
+) -> Read<()>
+    ensures gives { Gives (λ _. field_trees all.new.items) result (toks reader.new.rest.now) (typed_fields_on (sees kinds.name (toks reader.old.rest.now)) visibility qualifiers (field_trees all.old.items) (toks reader.old.rest.now)) }
     ensures shorter { IfOk result (λ _. length reader.new.rest.now < length reader.old.rest.now) }
 {
     let of_class = reader.sees_name();
     let (_, type_name) = declared_type(alloc, of_class, reader)?;
-    let named = starred_name(alloc, of_class, reader)?;
-    let mut all = before;
-    let first = field(alloc, visibility, qualifiers, &type_name, named)?;
-    keep(&mut all, first)?;
-    let all = more_fields(
+    named_fields(
         alloc, of_class, visibility, qualifiers, &type_name, all, reader,
-    )?;
-    reader.expect(Mark::Semicolon)?;
-    Ok(all)
+    )
 }
 
-/// These fields and the further ones of this type, each of which is after a comma, and a `*` where the type is a class's.
-#[tactic(auto, using(arc_grammar::proofs::Loops::one_more_listed, arc_grammar::proofs::Fits::taking, arc_grammar::proofs::Lists::appends))]
-fn more_fields(
+/// Puts a field of this type after these, or several with a comma between two, and takes `;`.
+#[tactic(auto, using(crate::proofs::Fields::read_more_names))]
+fn named_fields(
     alloc: Global,
     of_class: bool,
     visibility: Visibility,
     qualifiers: Qualifiers,
     type_name: &TypeName,
-    before: Vec<Field>,
+    all: &mut Vec<Field>,
     reader: &mut Reader,
-) -> Read<Vec<Field>>
-    ensures gives { Gives (λ x. field_trees x.items) result (toks reader.new.rest.now) (names_on of_class visibility (qualifiers, type_tree type_name.now) (field_trees before.items) (toks reader.old.rest.now)) }
-    ensures shorter { IfOk result (λ _. length reader.new.rest.now ≤ length reader.old.rest.now) }
+) -> Read<()>
+    ensures gives { Gives (λ _. field_trees all.new.items) result (toks reader.new.rest.now) (ended_names_on of_class visibility (qualifiers, type_tree type_name.now) (field_trees all.old.items) (toks reader.old.rest.now)) }
+    ensures shorter { IfOk result (λ _. length reader.new.rest.now < length reader.old.rest.now) }
 {
-    let mut all = before;
+    next_field(
+        alloc, of_class, visibility, qualifiers, type_name, all, reader,
+    )?;
     'fields: while let Some(_) = reader.take(Mark::Comma) {
-        let named = starred_name(alloc, of_class, reader)?;
-        let next = field(alloc, visibility, qualifiers, type_name, named)?;
-        keep(&mut all, next)?;
+        next_field(
+            alloc, of_class, visibility, qualifiers, type_name, all, reader,
+        )?;
     }
-    Ok(all)
+    reader.expect(Mark::Semicolon)?;
+    Ok(())
 }
 
-/// A field of this type and this name.
-///
-/// `Memory` comes where there is no memory for its type.
-fn field(
+/// Puts a field of this type after these, whose name is after a `*` where the type is a class's.
+#[tactic(auto, using(arc_grammar::proofs::Lists::appends), unfolding(crate::specs::private::Fields::name_on))]
+fn next_field(
     alloc: Global,
+    of_class: bool,
     visibility: Visibility,
     qualifiers: Qualifiers,
     type_name: &TypeName,
-    named: QualifiedName,
-) -> Read<Field>
-    ensures failed { IfErr result (λ why. why ≡ Memory) }
-    ensures made { IfOk result (λ f. field_tree f ≡ grammar.field_of visibility (qualifiers, type_tree type_name.now) (named.0, (named.1.0, named.1.1.items))) }
+    all: &mut Vec<Field>,
+    reader: &mut Reader,
+) -> Read<()>
+    ensures gives { Gives (λ _. field_trees all.new.items) result (toks reader.new.rest.now) (name_on of_class visibility (qualifiers, type_tree type_name.now) (field_trees all.old.items) (toks reader.old.rest.now)) }
+    ensures shorter { IfOk result (λ _. length reader.new.rest.now < length reader.old.rest.now) }
 {
-    let (own, (at, name)) = named;
-    Ok(Field {
+    let (own, (at, name)) = starred_name(alloc, of_class, reader)?;
+    let field = Field {
         at,
         type_name: type_name.copy(alloc)?,
         qualifiers: qualifiers.both(own),
         name,
         visibility,
-    })
+    };
+    keep(all, field)
 }

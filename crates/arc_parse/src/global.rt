@@ -61,7 +61,7 @@ fn global(
 }
 
 /// A variable of a type, after `*` where the type is a class's.
-#[tactic(auto, using(arc_form::proofs::Binding::bind_twice), unfolding(arc_grammar::specs::Grammar::starred_global))]
+#[tactic(auto, using(crate::proofs::Globals::read_starred_global))]
 fn starred_global(
     alloc: Global,
     of_class: bool,
@@ -79,7 +79,7 @@ fn starred_global(
 }
 
 /// These variables and the further ones of this type, each after a comma, and a `*` where the type is a class's.
-#[tactic(auto, using(crate::proofs::Globals::further, arc_grammar::proofs::Fits::taking, arc_grammar::proofs::Lists::appends))]
+#[tactic(auto, using(crate::proofs::Globals::read_more_globals, arc_grammar::proofs::Lists::appends))]
 fn more_globals(
     alloc: Global,
     of_class: bool,

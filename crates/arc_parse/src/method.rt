@@ -8,12 +8,10 @@ ghost use Rattle.arc_form.specs.Reader.{Gives, sees};
 ghost use Rattle.arc_form.specs.Views.{all};
 ghost use Rattle.arc_grammar.specs.Grammar.{reads, these};
 ghost use Rattle.arc_grammar.specs.Grammar as grammar;
-ghost use Rattle.arc_parse.specs.private.Declaring.{reads_after};
-ghost use Rattle.arc_parse.specs.private.Given.{parts_on};
+ghost use Rattle.arc_parse.specs.private.Given.{last_part_on, next_typed_on};
 ghost use Rattle.arc_parse.specs.private.Signatures as signatures;
 
 use crate::function::braces;
-use crate::node::and_part;
 use crate::parameter::parameter_of;
 use crate::qualifier::qualifiers;
 use crate::value_type::value_type;
@@ -151,54 +149,54 @@ fn sign(reader: &mut Reader) -> Read<(usize, Sign)>
 type Typed = (Vec<u8>, Vec<Parameter>);
 
 /// A selector, and the parameters.
-#[tactic(auto, unfolding(arc_grammar::specs::Grammar::selector, arc_grammar::specs::Grammar::parts))]
+#[tactic(auto, using(crate::proofs::Given::read_selector))]
 fn selector(alloc: Global, reader: &mut Reader) -> Read<Typed>
     ensures gives { Gives (λ x. (x.0.items, all parameter_tree x.1.items)) result (toks reader.new.rest.now) (reads grammar.selector (toks reader.old.rest.now)) }
     ensures shorter { IfOk result (λ _. length reader.new.rest.now < length reader.old.rest.now) }
 {
-    let (_, first) = reader.name(alloc)?;
-    if reader.sees_mark(Mark::Colon) {
-        return typed_parts(alloc, first, reader);
-    }
-    Ok((first, Vec::new(alloc)))
-}
-
-/// The selector whose first part has this name, and the parameters, one or more.
-#[tactic(auto, using(crate::proofs::Given::read_typed_parts))]
-fn typed_parts(alloc: Global, first: Vec<u8>, reader: &mut Reader) -> Read<Typed>
-    ensures gives { Gives (λ x. (x.0.items, all parameter_tree x.1.items)) result (toks reader.new.rest.now) (reads_after (grammar.some_parts grammar.typed) first.items (toks reader.old.rest.now)) }
-    ensures shorter { IfOk result (λ _. length reader.new.rest.now < length reader.old.rest.now) }
-{
-    let mut selector = first;
+    let (_, mut selector) = reader.name(alloc)?;
     let mut all = Vec::new(alloc);
-    reader.expect(Mark::Colon)?;
-    let parameter = typed(alloc, reader)?;
-    selector.push(b':')?;
-    keep(&mut all, parameter)?;
-    more_typed(alloc, selector, all, reader)
-}
-
-/// This selector and these parameters, and further parts with theirs.
-#[tactic(auto, using(crate::proofs::Given::read_more_typed, arc_form::proofs::Joining::all_push))]
-fn more_typed(
-    alloc: Global,
-    before: Vec<u8>,
-    given: Vec<Parameter>,
-    reader: &mut Reader,
-) -> Read<Typed>
-    ensures gives { Gives (λ x. (x.0.items, all parameter_tree x.1.items)) result (toks reader.new.rest.now) (parts_on these grammar.typed (before.items, all parameter_tree given.items) (toks reader.old.rest.now)) }
-    ensures shorter { IfOk result (λ _. length reader.new.rest.now ≤ length reader.old.rest.now) }
-{
-    let mut selector = before;
-    let mut all = given;
-    'parts: while reader.sees_name() {
-        let (_, called) = reader.name(alloc)?;
-        reader.expect(Mark::Colon)?;
-        let parameter = typed(alloc, reader)?;
-        and_part(&mut selector, &called)?;
-        keep(&mut all, parameter)?;
+    if reader.sees_mark(Mark::Colon) {
+        typed_parts(alloc, &mut selector, &mut all, reader)?;
     }
     Ok((selector, all))
+}
+
+/// Puts a colon after this selector and its parameter after these, and then further parts with theirs.
+#[tactic(auto, using(crate::proofs::Given::read_typed_parts, crate::proofs::Given::read_more_typed))]
+fn typed_parts(
+    alloc: Global,
+    selector: &mut Vec<u8>,
+    given: &mut Vec<Parameter>,
+    reader: &mut Reader,
+) -> Read<()>
+    ensures gives { Gives (λ _. (selector.new.items, all parameter_tree given.new.items)) result (toks reader.new.rest.now) (last_part_on these grammar.typed (selector.old.items, all parameter_tree given.old.items) (toks reader.old.rest.now)) }
+    ensures shorter { IfOk result (λ _. length reader.new.rest.now < length reader.old.rest.now) }
+{
+    next_typed(alloc, selector, given, reader)?;
+    'parts: while reader.sees_name() {
+        let (_, called) = reader.name(alloc)?;
+        selector.extend_from_slice(&called)?;
+        next_typed(alloc, selector, given, reader)?;
+    }
+    Ok(())
+}
+
+/// Puts a colon after this selector and its parameter after these.
+#[tactic(auto, using(arc_form::proofs::Joining::all_push), unfolding(crate::specs::private::Given::next_typed_on))]
+fn next_typed(
+    alloc: Global,
+    selector: &mut Vec<u8>,
+    given: &mut Vec<Parameter>,
+    reader: &mut Reader,
+) -> Read<()>
+    ensures gives { Gives (λ _. (selector.new.items, all parameter_tree given.new.items)) result (toks reader.new.rest.now) (next_typed_on (selector.old.items, all parameter_tree given.old.items) (toks reader.old.rest.now)) }
+    ensures shorter { IfOk result (λ _. length reader.new.rest.now < length reader.old.rest.now) }
+{
+    reader.expect(Mark::Colon)?;
+    selector.push(b':')?;
+    let parameter = typed(alloc, reader)?;
+    keep(given, parameter)
 }
 
 /// A type and the qualifiers that stand before and after it.

@@ -90,17 +90,6 @@ pub fn add(all: &mut Vec<Expr>, one: Box<Expr>) -> Read<()>
     keep(all, Box::into_inner(one))
 }
 
-/// Puts a part's name and its colon after the parts before it.
-///
-/// `Memory` comes where there is no memory for them.
-pub fn and_part(selector: &mut Vec<u8>, called: &[u8]) -> Read<()>
-    ensures kept { IfOk result (λ _. selector.new.items ≡ (selector.old.items ++ called.now) ++ (58 ∷ [])) }
-    ensures failed { IfErr result (λ why. why ≡ Memory) }
-{
-    selector.extend_from_slice(called)?;
-    Ok(selector.push(b':')?)
-}
-
 /// The expression without its box, if there is one.
 pub fn unboxed(value: Option<Box<Expr>>) -> Option<Expr>
     ensures { option_map expr_tree result ≡ option_map (λ b. expr_tree b.value) value }

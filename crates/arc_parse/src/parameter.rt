@@ -71,7 +71,7 @@ fn parameter(alloc: Global, reader: &mut Reader) -> Read<Parameter>
 }
 
 /// These parameters and one more, or several with a comma between two.
-#[tactic(auto, using(arc_grammar::proofs::Loops::one_more_listed, arc_grammar::proofs::Fits::taking, arc_form::proofs::Joining::all_push, arc_grammar::proofs::Lists::alls))]
+#[tactic(auto, using(crate::proofs::Signatures::read_more_parameters, arc_form::proofs::Joining::all_push, arc_grammar::proofs::Lists::alls))]
 fn parameters_after(alloc: Global, before: Vec<Parameter>, reader: &mut Reader) -> Read<Parameters>
     ensures gives { Gives parameters_tree result (toks reader.new.rest.now) (signatures.parameters_on (all parameter_tree before.items) (toks reader.old.rest.now)) }
     ensures shorter { IfOk result (λ _. length reader.new.rest.now < length reader.old.rest.now) }

@@ -62,7 +62,7 @@ fn starred_variable(alloc: Global, of_class: bool, reader: &mut Reader) -> Read<
 }
 
 /// Variables, one or more, with a comma between two, and each after `*` where their type is a class's.
-#[tactic(auto, using(arc_grammar::proofs::Loops::one_more_listed, arc_grammar::proofs::Loops::read_listed, arc_grammar::proofs::Fits::taking, arc_form::proofs::Joining::all_push), unfolding(arc_grammar::specs::Grammar::variables))]
+#[tactic(auto, using(crate::proofs::Variables::read_variables, crate::proofs::Variables::read_more_variables, arc_form::proofs::Joining::all_push))]
 fn variables(alloc: Global, of_class: bool, reader: &mut Reader) -> Read<Vec<Variable>>
     ensures gives { Gives (λ x. all variable_tree x.items) result (toks reader.new.rest.now) (reads (grammar.variables of_class) (toks reader.old.rest.now)) }
     ensures shorter { IfOk result (λ _. length reader.new.rest.now < length reader.old.rest.now) }

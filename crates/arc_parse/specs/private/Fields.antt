@@ -23,14 +23,25 @@ add_field v type made n = made ++ field_of v type n ∷ []
 abbrev pub fields_of : Visibility → List (Fields → Fields) → List FieldTree
 fields_of v all = (fold (λ s make. make s) (v, []) all).1
 
--- these fields and further ones of this type
+-- these fields and one of this type
+unfoldable pub name_on : Bool → Visibility → QualifiedType → List FieldTree → Reader (List FieldTree)
+name_on of_class v type made = reads (starred_name of_class) >>= (λ n. ret (add_field v type made n))
+
+-- these fields and further ones of this type, each after a comma
+unfoldable pub more_names_on : Bool → Visibility → QualifiedType → List FieldTree → Reader (List FieldTree)
+more_names_on of_class v type = joining (mark m.Comma) (reads (after_comma (starred_name of_class))) (add_field v type)
+
+-- these fields and one of this type, or several
 abbrev pub names_on : Bool → Visibility → QualifiedType → List FieldTree → Reader (List FieldTree)
-names_on of_class v type = joining (mark m.Comma) (reads (after_comma (starred_name of_class))) (add_field v type)
+names_on of_class v type made = name_on of_class v type made >>= (λ all. more_names_on of_class v type all)
+
+-- and `;`
+abbrev pub ended_names_on : Bool → Visibility → QualifiedType → List FieldTree → Reader (List FieldTree)
+ended_names_on of_class v type made = names_on of_class v type made >>= (λ all. take_one (mark m.Semicolon) from >>= (λ end. ret all))
 
 -- these fields, and those of a type, one name or more and `;`
 abbrev pub typed_fields_on : Bool → Visibility → Qualifiers → List FieldTree → Reader (List FieldTree)
-typed_fields_on of_class v q made = reads (declared_type of_class) >>= (λ type. reads (starred_name of_class)
-    >>= (λ n. names_on of_class v (q, type.1) (add_field v (q, type.1) made n) >>= (λ all. take_one (mark m.Semicolon) from >>= (λ end. ret all))))
+typed_fields_on of_class v q made = reads (declared_type of_class) >>= (λ type. ended_names_on of_class v (q, type.1) made)
 
 -- these fields and those of a group
 abbrev pub group_on : Fields → Reader Fields

@@ -14,7 +14,7 @@ abbrev pub add_global : QualifiedType → List GlobalTree → (QualifiedType →
 add_global type made make = made ++ make type ∷ []
 
 -- these variables and further ones of this type
-abbrev pub globals_on : Bool → QualifiedType → List GlobalTree → Reader (List GlobalTree)
+unfoldable pub globals_on : Bool → QualifiedType → List GlobalTree → Reader (List GlobalTree)
 globals_on of_class type = joining (mark m.Comma) (reads (after_comma (starred_global of_class))) (add_global type)
 
 -- a function whose result has this type

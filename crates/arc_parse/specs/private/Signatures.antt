@@ -17,9 +17,13 @@ push made a = made ++ a ∷ []
 unfoldable pub enclosed_to : List ℕ → Part ParametersTree
 enclosed_to called = enclosed (parameters (bytes_eq called main_bytes))
 
+-- these parameters and further ones, each after a comma
+unfoldable pub more_parameters_on : List ParameterTree → Reader (List ParameterTree)
+more_parameters_on = joining (mark m.Comma) (reads (after_comma parameter)) push
+
 -- one more parameter, or several, after these
 abbrev pub listed_on : List ParameterTree → Reader (List ParameterTree)
-listed_on made = reads parameter >>= (λ p. joining (mark m.Comma) (reads (after_comma parameter)) push (push made p))
+listed_on made = reads parameter >>= (λ p. more_parameters_on (push made p))
 
 abbrev pub parameters_on : List ParameterTree → Reader ParametersTree
 parameters_on made = listed_on made >>= (λ all. ret (Listed all))

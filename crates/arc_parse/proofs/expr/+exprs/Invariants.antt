@@ -28,6 +28,9 @@ decreases-parenthesized l = 16 * length l.reader.now.rest.now + 1
 abbrev pub decreases-cast_or_product : goal.decreases-cast_or_product
 decreases-cast_or_product l = 16 * length l.reader.now.rest.now + 1
 
+abbrev pub decreases-cast : goal.decreases-cast
+decreases-cast l = 16 * length l.reader.now.rest.now + 4
+
 abbrev pub decreases-postfix : goal.decreases-postfix
 decreases-postfix l = 16 * length l.reader.now.rest.now + 2
 
@@ -38,10 +41,10 @@ abbrev pub decreases-named : goal.decreases-named
 decreases-named l = 16 * length l.reader.now.rest.now
 
 abbrev pub decreases-given : goal.decreases-given
-decreases-given l = 16 * length l.reader.now.rest.now + 8
+decreases-given l = 16 * length l.reader.now.rest.now + 9
 
-abbrev pub decreases-more_arguments : goal.decreases-more_arguments
-decreases-more_arguments l = 16 * length l.reader.now.rest.now + 1
+abbrev pub decreases-arguments : goal.decreases-arguments
+decreases-arguments l = 16 * length l.reader.now.rest.now + 8
 
 abbrev pub decreases-message : goal.decreases-message
 decreases-message l = 16 * length l.reader.now.rest.now
@@ -51,6 +54,3 @@ decreases-sent l = 16 * length l.reader.now.rest.now + 1
 
 abbrev pub decreases-parts : goal.decreases-parts
 decreases-parts l = 16 * length l.reader.now.rest.now + 1
-
-abbrev pub decreases-more_parts : goal.decreases-more_parts
-decreases-more_parts l = 16 * length l.reader.now.rest.now + 1

@@ -1,0 +1,8 @@
+use Rattle.std.proofs.lemmas.Grind.{common_steps}
+use Rattle.arc_grammar.specs.Grammar as grammar
+use Rattle.std.proofs.Common.{arith}
+use Rattle.arc_parse.proofs.clauses.step.Goals as goal
+
+pub returns-clause-gives : goal.returns-clause-gives
+unfolding grammar.step
+returns-clause-gives c = grind (arith, common_steps)
