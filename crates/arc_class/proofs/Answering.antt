@@ -1,5 +1,5 @@
 -- From what is known of all functions of a source to an answer.
-use Rattle.std.proofs.Common.{◌≡◌, ℕ, true, List, [], ◌++◌, ◌⊎◌, inl, inr, Option, Some, None, is_some, option_map, append_assoc, refl, sym, ap, subst, ◌∙◌, true≢false}
+use Rattle.std.proofs.Common.{◌≡◌, true, List, [], ◌++◌, ◌⊎◌, inl, inr, Option, Some, None, is_some, option_map, append_assoc, refl, sym, ap, subst, ◌∙◌, true≢false}
 use Rattle.arc_ast.specs.Tree.{UnitTree, unit_tree}
 use Rattle.arc_ast.specs.declared.tree.TranslationUnit.{TranslationUnit}
 use Rattle.arc_sites.specs.Finding.{violations_of}
@@ -16,7 +16,7 @@ use Rattle.arc_class.specs.Fault.{reported, Refuses}
 use Rattle.arc_class.specs.Functions.{duplicate, missing_main}
 use Rattle.arc_class.specs.Kept.{Knows}
 use Rattle.arc_class.specs.private.Look.{Sums}
-use Rattle.arc_class.specs.private.Within.{in_classes}
+use Rattle.arc_class.specs.private.Within.{before_classes, in_classes}
 use Rattle.arc_class.specs.SiteRules.{violations}
 use Rattle.arc_class.proofs.Firsts.{first_both, none_broken}
 
@@ -35,14 +35,18 @@ refuses all f.Memory h = tt
 abbrev pub at_sites : UnitTree → List Broken
 at_sites u = violations_of (violations u) (unit_sites u)
 
--- the first of all broken rules, from those of the functions' names, a missing main's, those of sites and those of classes
-pub whole_known : (u : UnitTree) (seen : Seen) (own gone sites functions classes all : Option Broken) → Sums u.functions seen → gone ≡ first (missing_main seen.main) → own ≡ earlier_of (option_map reported seen.fault) gone
-    → sites ≡ first (at_sites u) → functions ≡ earlier_of own sites → classes ≡ first (in_classes u) → all ≡ earlier_of functions classes → all ≡ first (broken u)
-whole_known u seen own gone sites functions classes all h m o s f k a =
+-- the first that functions and sites break, from what is seen of them
+pub functions_seen : (u : UnitTree) (seen : Seen) (own gone sites functions : Option Broken) → Sums u.functions seen → gone ≡ first (missing_main seen.main) → own ≡ earlier_of (option_map reported seen.fault) gone
+    → sites ≡ first (at_sites u) → functions ≡ earlier_of own sites → functions ≡ first (before_classes u)
+functions_seen u seen own gone sites functions h m o s f =
     let A = in_order duplicate [] u.functions in
     let B = missing_main (number_of is_main u.functions) in
     let both : own ≡ first (A ++ B) = first_both A B (option_map reported seen.fault) gone own h.fault (m ∙ ap (λ o. first (missing_main o)) h.main) o in
-    first_both (A ++ (B ++ at_sites u)) (in_classes u) functions classes all (first_both (A ++ B) (at_sites u) own sites functions both s f ∙ ap first (append_assoc A B (at_sites u))) k a
+    first_both (A ++ B) (at_sites u) own sites functions both s f ∙ ap first (append_assoc A B (at_sites u))
+
+-- the first of all broken rules, from those before the classes' and those of classes
+pub whole_known : (u : UnitTree) (functions classes all : Option Broken) → functions ≡ first (before_classes u) → classes ≡ first (in_classes u) → all ≡ earlier_of functions classes → all ≡ first (broken u)
+whole_known u functions classes all f k a = first_both (before_classes u) (in_classes u) functions classes all f k a
 
 -- a source knows its own names
 pub own_known : (t : TranslationUnit) (source : Source) → source.unit.now ≡ t → Knows (unit_tree t) source → Knows (unit_tree source.unit.now) source
@@ -59,12 +63,18 @@ either_reported None (Some b) h = refl
 either_reported (Some a) None h = refl
 either_reported (Some a) (Some b) h = refl
 
+-- the first of two is found
+first_of : (A B : List Broken) → first (A ++ B) ≡ earlier_of (first A) (first B)
+first_of A B = sym (first_both A B (first A) (first B) (earlier_of (first A) (first B)) refl refl refl)
+
 -- where there is no `main`, a fault is found
-pub main_reported : (main : Option ℕ) (fault own gone sites functions classes all : Option Broken) → main ≡ None → gone ≡ first (missing_main main) → own ≡ earlier_of fault gone
-    → functions ≡ earlier_of own sites → all ≡ earlier_of functions classes → all ≡ None → ⊥
-main_reported main fault own gone sites functions classes all none g o f a nothing =
-    let is_gone : is_some gone ≡ true = ap is_some (g ∙ ap (λ m. first (missing_main m)) none) in
-    let is_own : is_some own ≡ true = ap is_some o ∙ either_reported fault gone (inr is_gone) in
-    let is_functions : is_some functions ≡ true = ap is_some f ∙ either_reported own sites (inl is_own) in
+pub main_reported : (u : UnitTree) (functions classes all : Option Broken) → number_of is_main u.functions ≡ None → functions ≡ first (before_classes u)
+    → all ≡ earlier_of functions classes → all ≡ None → ⊥
+main_reported u functions classes all none f a nothing =
+    let A = in_order duplicate [] u.functions in
+    let B = missing_main (number_of is_main u.functions) in
+    let is_gone : is_some (first B) ≡ true = ap (λ m. is_some (first (missing_main m))) none in
+    let is_rest : is_some (first (B ++ at_sites u)) ≡ true = ap is_some (first_of B (at_sites u)) ∙ either_reported (first B) (first (at_sites u)) (inl is_gone) in
+    let is_functions : is_some functions ≡ true = ap is_some (f ∙ first_of A (B ++ at_sites u)) ∙ either_reported (first A) (first (B ++ at_sites u)) (inr is_rest) in
     let is_all : is_some all ≡ true = ap is_some a ∙ either_reported functions classes (inl is_functions) in
     true≢false (sym is_all ∙ ap is_some nothing)

@@ -4,3 +4,4 @@ pub mod Look
 pub mod Scopes
 pub mod Parts
 pub mod Within
+pub mod Checked

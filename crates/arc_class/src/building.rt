@@ -1,11 +1,11 @@
 //! The parts of a table: selectors, entries and classes.
-ghost use Rattle.std.specs.Prelude.{◌≡◌, ◌<◌, ◌+◌, [], ◌∷◌, List, ℕ, suc, length, map, unwrap_or, IfOk, IfErr, OnOk};
+ghost use Rattle.std.specs.Prelude.{◌≡◌, ◌<◌, ◌+◌, [], ◌∷◌, List, ℕ, suc, length, map, fold, unwrap_or, None, IfOk, IfErr, OnOk};
 ghost use Rattle.arc_ast.specs.declared.tree.Sign.{Sign};
 ghost use Rattle.arc_ast.specs.Tree.{UnitTree, unit_tree, head_tree, head_trees, method_trees, interface_trees, implementation_trees, interface_tree};
 ghost use Rattle.arc_spec.specs.Classes.{class_of, classes_of};
 ghost use Rattle.arc_class.specs.ByName.{Named};
 ghost use Rattle.arc_class.specs.Classes as classes;
-ghost use Rattle.arc_class.specs.Classes.{heads, first_head, with_selectors, defined_selectors, standing_before, standing_after, selectors_in_order, built_in_selectors, selectors, number_among, defined_by, own_heads};
+ghost use Rattle.arc_class.specs.Classes.{heads, first_head, with_selectors, defined_selectors, standing_before, standing_after, selectors_in_order, and_name, selectors, number_among, defined_by, own_heads};
 ghost use Rattle.arc_fault.specs.declared.class.ClassFault.TheVariants.{Memory};
 ghost use Rattle.arc_class.specs.private.Entries.{entry_tree, root_entry, class_entry, fields_tree, all_class_fields};
 ghost use Rattle.arc_class.specs.private.Parts.{ArePartsOf};
@@ -34,6 +34,18 @@ use std::alloc::{AllocError, Global};
 
 /// Selectors in the order of their numbers.
 pub type Selectors<'a> = IndexSet<&'a [u8]>;
+
+/// The selectors of the root's methods, in the order of their numbers.
+const BUILT_IN_SELECTORS: [&[u8]; 8] = [
+    b"alloc",
+    b"new",
+    b"init",
+    b"dealloc",
+    b"isKindOfClass:",
+    b"isMemberOfClass:",
+    b"respondsToSelector:",
+    b"conformsToProtocol:",
+];
 
 /// Adds the selectors of methods that are declared.
 fn add_heads<'a>(names: &mut Selectors<'a>, heads: &'a [MethodHead]) -> Result<(), AllocError>
@@ -107,37 +119,31 @@ fn add_in_order<'a>(
     add_defined(names, rest)
 }
 
-/// Adds the selectors of the root's methods.
-fn add_built_in(names: &mut Selectors) -> Result<(), AllocError>
-    requires { names_of names.old.keys ≡ [] }
-    ensures { OnOk result (names_of names.new.keys ≡ built_in_selectors) }
+/// Adds names in their order.
+fn add_names<'a>(names: &mut Selectors<'a>, added: &[&'a [u8]]) -> Result<(), AllocError>
+    ensures { OnOk result (names_of names.new.keys ≡ fold and_name (names_of names.old.keys) (names_of added.now)) }
 {
-    names.insert(b"alloc".as_slice())?;
-    names.insert(b"new".as_slice())?;
-    names.insert(b"init".as_slice())?;
-    names.insert(b"dealloc".as_slice())?;
-    names.insert(b"isKindOfClass:".as_slice())?;
-    names.insert(b"isMemberOfClass:".as_slice())?;
-    names.insert(b"respondsToSelector:".as_slice())?;
-    names.insert(b"conformsToProtocol:".as_slice())?;
+    for name in added {
+        names.insert(*name)?;
+    }
     Ok(())
 }
 
-/// The selectors of the root's methods.
-fn built_in_selectors<'a>(alloc: Global) -> Result<Selectors<'a>, AllocError>
-    ensures { IfOk result (λ names. names_of names.keys ≡ built_in_selectors) }
+/// Adds the selectors of a source, where there are none yet.
+fn add_selectors<'a>(names: &mut Selectors<'a>, unit: &'a TranslationUnit) -> Result<(), AllocError>
+    requires { names_of names.old.keys ≡ [] }
+    ensures { OnOk result (names_of names.new.keys ≡ selectors (unit_tree unit.now)) }
 {
-    let mut names = Selectors::new(alloc);
-    add_built_in(&mut names)?;
-    Ok(names)
+    add_names(names, &BUILT_IN_SELECTORS)?;
+    add_in_order(names, &unit.interfaces, &unit.implementations)
 }
 
 /// The selectors of a source.
 pub fn selectors<'a>(alloc: Global, unit: &'a TranslationUnit) -> Result<Selectors<'a>, AllocError>
     ensures { IfOk result (λ names. names_of names.keys ≡ selectors (unit_tree unit.now)) }
 {
-    let mut names = built_in_selectors(alloc)?;
-    add_in_order(&mut names, &unit.interfaces, &unit.implementations)?;
+    let mut names = Selectors::new(alloc);
+    add_selectors(&mut names, unit)?;
     Ok(names)
 }
 
@@ -255,21 +261,34 @@ impl<'a> Source<'a> {
         }
     }
 
-    /// The methods that a class's interface declares and its implementation defines: the first by position of each sign and selector.
+    /// Keeps the methods that a class's interface declares and its implementation defines: the first by position of each sign and selector.
+    fn keep_own_methods(
+        &self,
+        interface: &'a Interface,
+        map: &mut Heads<'a>,
+    ) -> Result<(), AllocError>
+        requires knows { Knows (unit_tree self.now.unit.now) self.now }
+        requires none { (sign : Sign) (sought : List ℕ) → head_in map.old sign sought ≡ None }
+        ensures { OnOk result ((sign : Sign) (sought : List ℕ) → head_in map.new sign sought
+            ≡ first_head sign sought (own_heads (unit_tree self.now.unit.now) (interface_tree interface.now))) }
+    {
+        let defined = self.defined_methods(&interface.name);
+        if self.implemented_before(&interface.name, interface.at) {
+            map.keep_methods(defined)?;
+            return map.keep_heads(&interface.methods);
+        }
+        map.keep_heads(&interface.methods)?;
+        map.keep_methods(defined)
+    }
+
+    /// The methods that a class's interface declares and its implementation defines.
     fn own_methods(&self, alloc: Global, interface: &'a Interface) -> Result<Heads<'a>, AllocError>
         requires { Knows (unit_tree self.now.unit.now) self.now }
         ensures { IfOk result (λ map. (sign : Sign) (sought : List ℕ) → head_in map sign sought
             ≡ first_head sign sought (own_heads (unit_tree self.now.unit.now) (interface_tree interface.now))) }
     {
-        let defined = self.defined_methods(&interface.name);
         let mut map = Heads::new(alloc);
-        if self.implemented_before(&interface.name, interface.at) {
-            map.keep_methods(defined)?;
-            map.keep_heads(&interface.methods)?;
-            return Ok(map);
-        }
-        map.keep_heads(&interface.methods)?;
-        map.keep_methods(defined)?;
+        self.keep_own_methods(interface, &mut map)?;
         Ok(map)
     }
 

@@ -187,6 +187,32 @@ impl<'a> Source<'a> {
         Ok(earlier(many, again))
     }
 
+    /// The first rule that the interfaces break, whose names are put into `before`, where none stands yet.
+    fn all_interfaces_fault(
+        &self,
+        alloc: Global,
+        fields: &[ClassFields<'a>],
+        owners: &Owners<'a>,
+        before: &mut Scope<'a>,
+    ) -> Result<Option<ClassFault>, AllocError>
+        requires knows { Knows (unit_tree self.now.unit.now) self.now }
+        requires fields { map fields_tree fields.now ≡ all_class_fields (unit_tree self.now.unit.now) }
+        requires owners { FindsFields fields.now owners.now }
+        requires none { before.old ≡ [] }
+        ensures { IfOk result (λ fault. option_map reported fault ≡ first (in_order (broken_interface (unit_tree self.now.unit.now)) [] (unit_tree self.now.unit.now).interfaces)) }
+    {
+        let mut fault = None;
+        let mut class = 0;
+        for interface in &self.unit.interfaces {
+            class += 1;
+            let members = self.members_fault(alloc, fields, owners, class, interface)?;
+            let own = earlier(self.names_fault(before, interface), members);
+            fault = earlier(fault, own);
+            before.insert(&interface.name, ())?;
+        }
+        Ok(fault)
+    }
+
     /// The first rule that the interfaces break.
     fn interfaces_fault(
         &self,
@@ -200,16 +226,7 @@ impl<'a> Source<'a> {
         ensures { IfOk result (λ fault. option_map reported fault ≡ first (in_order (broken_interface (unit_tree self.now.unit.now)) [] (unit_tree self.now.unit.now).interfaces)) }
     {
         let mut before = Scope::with_room(alloc, self.unit.interfaces.len())?;
-        let mut fault = None;
-        let mut class = 0;
-        for interface in &self.unit.interfaces {
-            class += 1;
-            let members = self.members_fault(alloc, fields, owners, class, interface)?;
-            let own = earlier(self.names_fault(&before, interface), members);
-            fault = earlier(fault, own);
-            before.insert(&interface.name, ())?;
-        }
-        Ok(fault)
+        self.all_interfaces_fault(alloc, fields, owners, &mut before)
     }
 
     /// The first rule that the names of an implementation break, after those whose names stand in `before`.

@@ -1,5 +1,5 @@
 //! The fields of objects.
-ghost use Rattle.std.specs.Prelude.{◌≡◌, ℕ, List, ◌++◌, length, map, option_map, slice_get, suc, IfOk, IfErr, OnOk};
+ghost use Rattle.std.specs.Prelude.{◌≡◌, ℕ, List, [], ◌++◌, length, map, option_map, slice_get, suc, IfOk, IfErr, OnOk};
 ghost use Rattle.arc_ast.specs.Tree.{UnitTree, FieldTree, InterfaceTree, unit_tree, interface_tree, field_tree as written_field, field_trees};
 ghost use Rattle.arc_ast.specs.Types.{type_kind};
 ghost use Rattle.arc_class.specs.Broken.{first};
@@ -67,13 +67,21 @@ fn keep_places<'a>(
     Ok(())
 }
 
+/// Keeps the place of the first of a class's fields with each name, where none is kept yet.
+fn keep_own_places<'a>(places: &mut FieldPlaces<'a>, own: &OwnFields<'a>) -> Result<(), AllocError>
+    requires { places.old ≡ [] }
+    ensures { OnOk result ((sought : List ℕ) → at_name places.new sought ≡ rules.field_place sought (own_trees own.now)) }
+{
+    keep_places(places, own.earlier)?;
+    keep_places(places, own.later)
+}
+
 /// The place of the first of the fields with each name.
 pub fn field_places<'a>(alloc: Global, own: &OwnFields<'a>) -> Result<FieldPlaces<'a>, AllocError>
     ensures { IfOk result (λ places. (sought : List ℕ) → at_name places sought ≡ rules.field_place sought (own_trees own.now)) }
 {
     let mut places = FieldPlaces::new(alloc);
-    keep_places(&mut places, own.earlier)?;
-    keep_places(&mut places, own.later)?;
+    keep_own_places(&mut places, own)?;
     Ok(places)
 }
 
@@ -436,6 +444,30 @@ impl<'a> Source<'a> {
         }
     }
 
+    /// Learns the fields of the interface's class, which has this number. Nothing is known of it yet, but how many of each
+    /// sort its superclass has. Memory: there was none, or so many fields have no numbers.
+    fn learn_fields(
+        &self,
+        class: usize,
+        interface: &'a Interface,
+        known: &mut ClassFields<'a>,
+    ) -> Result<(), ClassFault>
+        requires knows { Knows (unit_tree self.now.unit.now) self.now }
+        requires places { known.old.places ≡ [] }
+        requires named { known.old.named ≡ [] }
+        ensures known { OnOk result (fields_tree known.new ≡ class_fields_with (unit_tree self.now.unit.now) class known.old.counted (interface_tree interface.now)) }
+        ensures refused { IfErr result (λ fault. fault ≡ Memory) }
+    {
+        known.superclass = class_number(&self.names, &interface.superclass);
+        let owner = ClassId(class);
+        let own = self.own_fields(class, interface);
+        keep_own_places(&mut known.places, &own)?;
+        let names = &self.names;
+        let before = keep_fields(names, &mut known.named, owner, known.counted, own.earlier)?;
+        known.counted = keep_fields(names, &mut known.named, owner, before, own.later)?;
+        Ok(())
+    }
+
     /// What is known of the fields of the interface's class, which has this number, and whose
     /// superclass has so many of each sort. Memory: there was none, or so many fields have no numbers.
     fn fields_of(
@@ -449,20 +481,38 @@ impl<'a> Source<'a> {
         ensures known { IfOk result (λ known. fields_tree known ≡ class_fields_with (unit_tree self.now.unit.now) class inherited (interface_tree interface.now)) }
         ensures refused { IfErr result (λ fault. fault ≡ Memory) }
     {
-        let superclass = class_number(&self.names, &interface.superclass);
-        let owner = ClassId(class);
-        let own = self.own_fields(class, interface);
-        let places = field_places(alloc, &own)?;
-        let mut named = ByName::new(alloc);
-        let names = &self.names;
-        let before = keep_fields(names, &mut named, owner, inherited, own.earlier)?;
-        let counted = keep_fields(names, &mut named, owner, before, own.later)?;
-        Ok(ClassFields {
-            superclass,
-            places,
-            named,
-            counted,
-        })
+        let mut known = ClassFields {
+            superclass: None,
+            places: FieldPlaces::new(alloc),
+            named: ByName::new(alloc),
+            counted: inherited,
+        };
+        self.learn_fields(class, interface, &mut known)?;
+        Ok(known)
+    }
+
+    /// Adds what is known of the fields of all classes, where nothing is yet. Memory: there was none, or so many fields
+    /// have no numbers.
+    fn add_class_fields(
+        &self,
+        alloc: Global,
+        all: &mut Vec<ClassFields<'a>>,
+    ) -> Result<(), ClassFault>
+        requires knows { Knows (unit_tree self.now.unit.now) self.now }
+        requires none { all.old.items ≡ [] }
+        ensures known { OnOk result (map fields_tree all.new.items ≡ all_class_fields (unit_tree self.now.unit.now)) }
+        ensures refused { IfErr result (λ fault. fault ≡ Memory) }
+    {
+        all.push(root_fields(alloc))?;
+        let mut class = 0;
+        for interface in &self.unit.interfaces {
+            class += 1;
+            let superclass = class_number(&self.names, &interface.superclass);
+            let inherited = counted_among(all, superclass);
+            let known = self.fields_of(alloc, class, inherited, interface)?;
+            all.push(known)?;
+        }
+        Ok(())
     }
 
     /// What is known of the fields of all classes. Memory: there was none, or so many fields have no
@@ -473,15 +523,7 @@ impl<'a> Source<'a> {
         ensures refused { IfErr result (λ fault. fault ≡ Memory) }
     {
         let mut all = Vec::new(alloc);
-        all.push(root_fields(alloc))?;
-        let mut class = 0;
-        for interface in &self.unit.interfaces {
-            class += 1;
-            let superclass = class_number(&self.names, &interface.superclass);
-            let inherited = counted_among(&all, superclass);
-            let known = self.fields_of(alloc, class, inherited, interface)?;
-            all.push(known)?;
-        }
+        self.add_class_fields(alloc, &mut all)?;
         Ok(all)
     }
 

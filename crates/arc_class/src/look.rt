@@ -1,5 +1,5 @@
 //! One look at the functions of a source, before their bodies.
-ghost use Rattle.std.specs.Prelude.{◌≡◌, ◌<◌, suc, option_map, if◌then◌else◌, IfOk};
+ghost use Rattle.std.specs.Prelude.{◌≡◌, ◌<◌, suc, option_map, if◌then◌else◌, IfOk, OnOk};
 ghost use Rattle.arc_ast.specs.declared.tree.Kind.{Kind};
 ghost use Rattle.arc_ast.specs.Tree.{function_tree, function_trees, parameter_trees, parameters_tree};
 ghost use Rattle.arc_sites.specs.Sites.{named_parameters};
@@ -174,27 +174,20 @@ impl<'a> Seen<'a> {
         }
     }
 
-    /// What is known, once the function is seen too.
-    fn with(self, function: &'a Function) -> Result<Seen<'a>, AllocError>
-        requires { self.bodies < usize.MAX }
-        ensures { IfOk result (λ new. IsMore self.entry (function_tree function.now) new) }
+    /// Adds what the function says.
+    fn add(&mut self, function: &'a Function) -> Result<(), AllocError>
+        requires { self.old.bodies < usize.MAX }
+        ensures { OnOk result (IsMore self.old (function_tree function.now) self.new) }
     {
         let earlier = at_name(&self.known, &function.name);
         let fault = self.fault_with(earlier, function);
         let main = self.main_with(function);
         let declared = joined(earlier, self.bodies, function);
-        let Seen {
-            mut known,
-            bodies,
-            ..
-        } = self;
-        known.insert(&function.name, declared)?;
-        Ok(Seen {
-            known,
-            bodies: bodies_with(bodies, function),
-            main,
-            fault,
-        })
+        self.known.insert(&function.name, declared)?;
+        self.bodies = bodies_with(self.bodies, function);
+        self.main = main;
+        self.fault = fault;
+        Ok(())
     }
 }
 
@@ -209,7 +202,7 @@ pub fn look<'a>(alloc: Global, functions: &'a [Function]) -> Result<Seen<'a>, Al
         fault: None,
     };
     for function in functions {
-        seen = seen.with(function)?;
+        seen.add(function)?;
     }
     Ok(seen)
 }

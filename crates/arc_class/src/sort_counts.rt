@@ -10,7 +10,7 @@ use arc_ast::tree::{Kind, Parameter};
 use arc_fault::class::ClassFault;
 
 /// How many there are of each sort. What is of a sort is numbered from 0, apart from the other.
-#[derive(Clone, Copy, Debug, PartialEq, Eq)]
+#[derive(Clone, Copy)]
 pub struct SortCounts {
     pub numbers: usize,
     pub objects: usize,

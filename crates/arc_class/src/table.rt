@@ -7,7 +7,8 @@ ghost use Rattle.arc_class.specs.Classes.{is_root};
 ghost use Rattle.arc_class.specs.ClassRules.{broken};
 ghost use Rattle.arc_fault.specs.declared.class.ClassFault.TheVariants.{Memory};
 ghost use Rattle.arc_class.specs.private.Entries.{fields_tree, all_class_fields};
-ghost use Rattle.arc_class.specs.private.Within.{in_classes};
+ghost use Rattle.arc_class.specs.private.Checked.{IsChecked};
+ghost use Rattle.arc_class.specs.private.Within.{before_classes};
 ghost use Rattle.arc_class.specs.Fault.{Refuses, reported};
 ghost use Rattle.arc_class.specs.Functions.{missing_main};
 ghost use Rattle.arc_class.specs.Kept.{Knows};
@@ -18,7 +19,7 @@ ghost use Rattle.arc_class.specs.Lookups.{head_at, at_name, class_number_in, typ
 ghost use Rattle.arc_class.specs.Owners.{FindsMethods, FindsFields};
 ghost use Rattle.std.proofs.Props.{props};
 
-use crate::building::{Parts, Selectors, parts_and_owners};
+use crate::building::{Parts, PartsAndOwners, Selectors, parts_and_owners};
 use crate::by_name::ByName;
 use crate::fields::{ClassFields, field_of};
 use crate::heads::{Heads, is_related};
@@ -600,23 +601,12 @@ impl<'a> ClassTable<'a> {
         }
     }
 
-    /// The table of a source whose names and fields are known and in which this function is `main`. Memory:
-    /// there was none, or so many methods have no numbers.
-    fn of(
-        alloc: Global,
-        source: Source<'a>,
-        named_fields: Vec<ClassFields<'a>>,
-        field_owners: Owners<'a>,
-        main: usize,
-    ) -> Result<ClassTable<'a>, ClassFault>
+    /// The table of a source that breaks no rule, of which this is found.
+    fn with(source: Source<'a>, checked: Checked<'a>) -> ClassTable<'a>
         requires knows { Knows (unit_tree source.unit.now) source }
-        requires fields { map fields_tree named_fields.items ≡ all_class_fields (unit_tree source.unit.now) }
-        requires owners { FindsFields named_fields.items field_owners }
-        requires main { number_of is_main (unit_tree source.unit.now).functions ≡ Some main }
-        ensures table { IfOk result (λ table. IsTableOf (unit_tree source.entry.unit.now) table) }
-        ensures refused { IfErr result (λ fault. fault ≡ Memory) }
+        requires checked { IsChecked source checked }
+        ensures { IsTableOf (unit_tree source.entry.unit.now) result }
     {
-        let all = parts_and_owners(alloc, &source, &named_fields)?;
         let Source {
             known,
             functions,
@@ -626,22 +616,32 @@ impl<'a> ClassTable<'a> {
             defined,
             ..
         } = source;
+        let Checked { found, all, main } = checked;
+        let Found {
+            fields: named_fields,
+            owners: field_owners,
+        } = found;
+        let PartsAndOwners {
+            parts,
+            class_methods,
+            instance_methods,
+        } = all;
         let Parts {
             selectors,
             entries,
             fields,
             classes,
             built_in,
-        } = all.parts;
-        Ok(ClassTable {
+        } = parts;
+        ClassTable {
             functions: known,
             first_functions: functions,
             globals,
             main,
             names,
             entries,
-            class_methods: all.class_methods,
-            instance_methods: all.instance_methods,
+            class_methods,
+            instance_methods,
             declared,
             defined,
             named_fields,
@@ -650,7 +650,7 @@ impl<'a> ClassTable<'a> {
             selectors,
             classes,
             built_in,
-        })
+        }
     }
 
     /// The table of a source whose declarations break no rule, or the fault that reports the first rule that is broken: the one at the
@@ -665,39 +665,81 @@ impl<'a> ClassTable<'a> {
         let own = earlier(seen.fault, missing_main(main));
         let source = Source::new(alloc, unit, seen.known, seen.bodies)?;
         let functions = earlier(own, source.sites_fault(alloc)?);
-        let found = find(alloc, &source)?;
-        match (earlier(functions, found.fault), main) {
-            (Some(fault), _) => Err(fault),
-            (None, Some(main)) => ClassTable::of(alloc, source, found.fields, found.owners, main),
-            (None, None) => Err(ClassFault::NoMain),
-        }
+        let checked = check_source(alloc, &source, functions, main)?;
+        Ok(ClassTable::with(source, checked))
     }
 }
 
-/// What is found of a source whose names are known.
+/// The fields of a source's classes.
 #[derive(Drop)]
 struct Found<'a> {
-    /// The first rule that a class breaks.
-    fault: Option<ClassFault>,
     fields: Vec<ClassFields<'a>>,
     /// Which class has the nearest field of each name.
     owners: Owners<'a>,
 }
 
-/// Finds the fields of a source's classes, and the first rule that a class breaks. Memory: there was none.
+/// Finds the fields of the classes of a source whose names are known. Memory: there was none.
 fn find<'a>(alloc: Global, source: &Source<'a>) -> Result<Found<'a>, ClassFault>
     requires { Knows (unit_tree source.now.unit.now) source.now }
-    ensures fault { IfOk result (λ found. option_map reported found.fault ≡ first (in_classes (unit_tree source.now.unit.now))) }
     ensures fields { IfOk result (λ found. map fields_tree found.fields.items ≡ all_class_fields (unit_tree source.now.unit.now)) }
     ensures owners { IfOk result (λ found. FindsFields found.fields.items found.owners) }
     ensures refused { IfErr result (λ fault. fault ≡ Memory) }
 {
     let fields = source.class_fields(alloc)?;
     let owners = field_owners(alloc, &fields)?;
-    let fault = source.classes_fault(alloc, &fields, &owners)?;
-    Ok(Found {
-        fault,
-        fields,
-        owners,
-    })
+    Ok(Found { fields, owners })
+}
+
+/// Which function is `main` in a source that breaks no rule, or the fault that reports the first rule that is broken, of a
+/// source of which this is found. This is the first that its functions and its sites break.
+fn main_of_sound<'a>(
+    alloc: Global,
+    source: &Source<'a>,
+    found: &Found<'a>,
+    functions: Option<ClassFault>,
+    main: Option<usize>,
+) -> Result<usize, ClassFault>
+    requires knows { Knows (unit_tree source.now.unit.now) source.now }
+    requires fields { map fields_tree found.now.fields.items ≡ all_class_fields (unit_tree source.now.unit.now) }
+    requires owners { FindsFields found.now.fields.items found.now.owners }
+    requires functions { option_map reported functions ≡ first (before_classes (unit_tree source.now.unit.now)) }
+    requires main { number_of is_main (unit_tree source.now.unit.now).functions ≡ main }
+    ensures unbroken { IfOk result (λ main. broken (unit_tree source.now.unit.now) ≡ []) }
+    ensures main { IfOk result (λ main. number_of is_main (unit_tree source.now.unit.now).functions ≡ Some main) }
+    ensures refused { IfErr result (λ fault. Refuses (broken (unit_tree source.now.unit.now)) fault) }
+{
+    let classes = source.classes_fault(alloc, &found.fields, &found.owners)?;
+    match (earlier(functions, classes), main) {
+        (Some(fault), _) => Err(fault),
+        (None, Some(main)) => Ok(main),
+        (None, None) => Err(ClassFault::NoMain),
+    }
+}
+
+/// What a table has of a source that breaks no rule, but for the first of each name.
+#[derive(Drop)]
+struct Checked<'a> {
+    found: Found<'a>,
+    all: PartsAndOwners<'a>,
+    main: usize,
+}
+
+/// Looks for the first rule that a source breaks whose names are known, and makes the parts of its table where there is
+/// none. This is the first that its functions and its sites break.
+fn check_source<'a>(
+    alloc: Global,
+    source: &Source<'a>,
+    functions: Option<ClassFault>,
+    main: Option<usize>,
+) -> Result<Checked<'a>, ClassFault>
+    requires knows { Knows (unit_tree source.now.unit.now) source.now }
+    requires functions { option_map reported functions ≡ first (before_classes (unit_tree source.now.unit.now)) }
+    requires main { number_of is_main (unit_tree source.now.unit.now).functions ≡ main }
+    ensures checked { IfOk result (λ checked. IsChecked source.now checked) }
+    ensures refused { IfErr result (λ fault. Refuses (broken (unit_tree source.now.unit.now)) fault) }
+{
+    let found = find(alloc, source)?;
+    let main = main_of_sound(alloc, source, &found, functions, main)?;
+    let all = parts_and_owners(alloc, source, &found.fields)?;
+    Ok(Checked { found, all, main })
 }

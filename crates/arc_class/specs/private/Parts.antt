@@ -7,7 +7,7 @@ use Rattle.arc_class.specs.declared.kept.Source.{Source}
 use Rattle.arc_class.specs.Classes.{selectors}
 use Rattle.arc_class.specs.Fields.{all_fields_from}
 use Rattle.arc_class.specs.Running as running
-use Rattle.arc_class.specs.Table.{names_of, list_of, built_in_from}
+use Rattle.arc_class.specs.Lookups.{names_of, list_of, built_in_from}
 use Rattle.arc_class.specs.private.Entries.{entry_tree, root_entry, class_entry}
 
 -- These are the parts of the table of the source.

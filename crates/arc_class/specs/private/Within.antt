@@ -1,8 +1,17 @@
--- The rules of a source's classes.
+-- The rules of a source's classes, and those that come before them.
 use Rattle.std.specs.Prelude.{List, [], ◌++◌}
 use Rattle.arc_ast.specs.Tree.{UnitTree}
+use Rattle.arc_sites.specs.Finding.{violations_of}
+use Rattle.arc_sites.specs.Sites.{unit_sites}
 use Rattle.arc_class.specs.Broken.{Broken, in_order}
 use Rattle.arc_class.specs.ClassRules.{broken_interface, broken_implementation}
+use Rattle.arc_class.specs.Functions.{duplicate, missing_main}
+use Rattle.arc_class.specs.Names.{number_of, is_main}
+use Rattle.arc_class.specs.SiteRules.{violations}
+
+-- all that is broken in functions, but for their bodies, and at sites
+abbrev pub before_classes : UnitTree → List Broken
+before_classes u = in_order duplicate [] u.functions ++ (missing_main (number_of is_main u.functions) ++ violations_of (violations u) (unit_sites u))
 
 -- all that is broken in classes
 abbrev pub in_classes : UnitTree → List Broken

@@ -1,4 +1,5 @@
-use Rattle.std.proofs.Common.{◌≡◌, ℕ, List, ◌+◌, ◌++◌, Option, map, drop, ap, ap₂, ◌∙◌}
+use Rattle.std.proofs.Common.{◌≡◌, ℕ, List, ◌+◌, ◌++◌, Option, map, drop, ap, ap₂, ◌∙◌, arith}
+use Rattle.std.proofs.lemmas.Grind.{common_steps}
 use Rattle.arc_ast.specs.declared.tree.Kind.{Kind}
 use Rattle.arc_ast.specs.declared.tree.Qual.{Qual}
 use Rattle.arc_ast.specs.declared.tree.Visibility.{Visibility}
@@ -29,3 +30,6 @@ loop-field-preserved c =
     made_turn field_tree c.loop-field.all.items c.push.new.self.items one (owned owner (tree.field_tree x)) (map (owned owner) (field_trees (drop (k + 1) xs))) _
     c.in_ok-push.ensures.items made
     (c.loop-field.invariant ∙ ap (λ us. map field_tree c.loop-field.all.items ++ map (owned owner) (field_trees us)) (drop_turn xs k x c.loop-field-test.true c.field-item.is))
+
+pub returns : goal.returns
+returns c = grind (arith, common_steps)

@@ -1,4 +1,5 @@
-use Rattle.std.proofs.Common.{◌≡◌, ◌+◌, drop, sym, ap, ◌∙◌}
+use Rattle.std.proofs.Common.{◌≡◌, ◌+◌, drop, sym, ap, ◌∙◌, arith}
+use Rattle.std.proofs.lemmas.Grind.{common_steps}
 use Rattle.arc_ast.specs.Tree.{type_tree, field_tree, field_trees}
 use Rattle.arc_ast.specs.Types.{type_kind}
 use Rattle.std.specs.Option.{option_or}
@@ -36,3 +37,6 @@ loop-field-preserved c =
 pub returns-clause-counted : goal.returns-clause-counted
 returns-clause-counted c =
     sym (c.loop-field.invariant.counted ∙ ap (λ us. with_all c.loop-field.counted (written_kinds (field_trees us))) (drop_end c.args.fields.now c.loop-field.field-index c.loop-field-test.false))
+
+pub returns-clause-kept : goal.returns-clause-kept
+returns-clause-kept c = grind (arith, common_steps)

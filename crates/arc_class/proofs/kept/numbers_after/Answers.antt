@@ -1,4 +1,5 @@
 use Rattle.std.proofs.Common.{◌≡◌, ◌+◌, length, drop, sym, ap, ◌∙◌, arith}
+use Rattle.std.proofs.lemmas.Grind.{common_steps}
 use Rattle.arc_ast.specs.Tree.{method_trees, implementation_trees}
 use Rattle.arc_class.specs.Classes.{numbers_after}
 use Rattle.arc_class.proofs.Lists.{drop_turn}
@@ -26,3 +27,6 @@ returns-then-methods-count-clause-too_many c =
     let whole : numbers_after c.args.first (implementation_trees xs) ≡ numbers_after (count + length c.deref-methods.result.now) rest =
     c.loop-implementation.invariant ∙ ap (λ us. numbers_after count (implementation_trees us)) (drop_turn xs k x c.loop-implementation-test.true c.implementation-item.is) ∙ ap (λ n. numbers_after (count + n) rest) many in
     omega (arith, whole, numbers_grow (count + length c.deref-methods.result.now) rest)
+
+pub returns-clause-counted : goal.returns-clause-counted
+returns-clause-counted c = grind (arith, common_steps)

@@ -1,4 +1,5 @@
-use Rattle.std.proofs.Common.{take, ap, option_map, refl}
+use Rattle.std.proofs.Common.{take, ap, option_map, refl, arith}
+use Rattle.std.proofs.lemmas.Grind.{common_steps}
 use Rattle.arc_ast.specs.Tree.{head_tree, method_trees}
 use Rattle.arc_class.specs.Classes.{heads}
 use Rattle.arc_class.specs.Kept.{head_in}
@@ -21,3 +22,6 @@ loop-method-preserved c =
           (c.method_fault.ensures (heads (method_trees (take k xs))) c.loop-method.invariant.held) c.earlier-fault.ensures c.loop-method.invariant.fault;
       held = methods_held xs k x (head_in c.loop-method.before) (head_in c.keep.new.self) c.loop-method-test.true c.method-item.is c.in_ok-keep.ensures c.loop-method.invariant.held;
     }
+
+pub returns : goal.returns
+returns c = grind (arith, common_steps)

@@ -1,4 +1,5 @@
-use Rattle.std.proofs.Common.{◌+◌, flat_map, map, option_map, drop, ap, ◌∙◌}
+use Rattle.std.proofs.Common.{◌+◌, flat_map, map, option_map, drop, ap, ◌∙◌, arith}
+use Rattle.std.proofs.lemmas.Grind.{common_steps}
 use Rattle.arc_ast.specs.Tree.{unit_tree, type_tree, parameter_trees}
 use Rattle.arc_class.specs.Broken.{first, earlier_of}
 use Rattle.arc_class.specs.Fault.{reported}
@@ -15,3 +16,6 @@ loop-parameter-preserved c knows =
     let x = c.parameter-item.result in
     first_turn (missing (type_tree x.type_name)) (flat_map missing (map (λ p. p.type) (parameter_trees (drop (i + 1) xs)))) _ _ _ _ (c.type_fault.ensures knows) c.earlier-fault.ensures
     (c.loop-parameter.invariant knows ∙ ap (λ us. earlier_of (option_map reported c.loop-parameter.fault) (first (flat_map missing (map (λ p. p.type) (parameter_trees us))))) (drop_turn xs i x c.loop-parameter-test.true c.parameter-item.is))
+
+pub returns : goal.returns
+returns c = grind (arith, common_steps)

@@ -1,5 +1,3 @@
-use Rattle.std.proofs.Common.{arith}
-use Rattle.std.proofs.lemmas.Grind.{common_steps}
 use Rattle.arc_class.proofs.Parted.{blank_none}
 use Rattle.arc_class.proofs.by_name.ByName.with_room.Goals as goal
 

@@ -1,4 +1,5 @@
-use Rattle.std.proofs.Common.{◌∷◌, [], ◌+◌, drop, ap, ◌∙◌}
+use Rattle.std.proofs.Common.{◌∷◌, [], ◌+◌, drop, ap, ◌∙◌, arith}
+use Rattle.std.proofs.lemmas.Grind.{common_steps}
 use Rattle.arc_ast.specs.Tree.{head_tree, head_trees}
 use Rattle.arc_class.specs.Classes.{first_head}
 use Rattle.arc_class.specs.Kept.{head_in}
@@ -16,3 +17,6 @@ loop-head-preserved c sign sought =
     kept_turn old (first_head sign sought (head_tree x ∷ [])) _ _ _ (c.in_ok-keep.ensures sign sought)
     (c.loop-head.invariant sign sought ∙ ap (option_or old) (ap (λ us. first_head sign sought (head_trees us)) (drop_turn xs i x c.loop-head-test.true c.head-item.is)
     ∙ first_head-append sign sought (head_tree x ∷ []) (head_trees (drop (i + 1) xs))))
+
+pub returns : goal.returns
+returns c = grind (arith, common_steps)

@@ -1,4 +1,5 @@
-use Rattle.std.proofs.Common.{◌∷◌, [], ◌+◌, drop, ap, ◌∙◌}
+use Rattle.std.proofs.Common.{◌∷◌, [], ◌+◌, drop, ap, ◌∙◌, arith}
+use Rattle.std.proofs.lemmas.Grind.{common_steps}
 use Rattle.arc_ast.specs.Tree.{head_tree, method_trees}
 use Rattle.arc_class.specs.Classes.{heads, first_head}
 use Rattle.arc_class.specs.Kept.{head_in}
@@ -16,3 +17,6 @@ loop-method-preserved c sign sought =
     kept_turn old (first_head sign sought (head_tree x.head ∷ [])) _ _ _ (c.in_ok-keep.ensures sign sought)
     (c.loop-method.invariant sign sought ∙ ap (option_or old) (ap (λ us. first_head sign sought (heads (method_trees us))) (drop_turn xs i x c.loop-method-test.true c.method-item.is)
     ∙ first_head-append sign sought (head_tree x.head ∷ []) (heads (method_trees (drop (i + 1) xs)))))
+
+pub returns : goal.returns
+returns c = grind (arith, common_steps)

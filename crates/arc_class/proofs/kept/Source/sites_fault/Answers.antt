@@ -1,4 +1,5 @@
-use Rattle.std.proofs.Common.{None, ◌∙◌}
+use Rattle.std.proofs.Common.{None, ◌∙◌, arith}
+use Rattle.std.proofs.lemmas.Grind.{common_steps}
 use Rattle.arc_ast.specs.Tree.{unit_tree}
 use Rattle.arc_sites.specs.Sites.{unit_sites}
 use Rattle.arc_sites.proofs.Found.{found_is}
@@ -9,3 +10,6 @@ pub returns : goal.returns
 returns c =
     let u = unit_tree c.args.self.now.unit.now in
     c.in_ok-walk.ensures.found ∙ found_is (violations u) None (unit_sites u)
+
+pub invariant_of-rules : goal.invariant_of-rules
+invariant_of-rules c = grind (arith, common_steps)

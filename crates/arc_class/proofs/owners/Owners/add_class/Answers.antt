@@ -1,4 +1,5 @@
-use Rattle.std.proofs.Common.{◌≡◌, ◌∙◌, ◌++◌, ◌∷◌, [], Some, None, Bool, List, ℕ, is_some, length, sym, ap}
+use Rattle.std.proofs.Common.{◌≡◌, ◌∙◌, ◌++◌, ◌∷◌, [], Some, None, Bool, List, ℕ, is_some, length, sym, ap, arith}
+use Rattle.std.proofs.lemmas.Grind.{common_steps}
 use Rattle.std.proofs.lemmas.List.{length-map}
 use Rattle.arc_class.specs.declared.owners.Owners.{Owners}
 use Rattle.arc_class.specs.Lookups.{at_name}
@@ -30,3 +31,6 @@ returns-clause-added g c =
     pushed_views old new (Some c.in_ok-made.made) added.keeps c.requires c.in_ok-push-2.ensures.items
     ∙ ap (λ v. views old ++ v ∷ []) (own_view old.maps new.maps c.in-Some.map c.in_ok-made.made passes c.in-Ok.class above added c.in-Some.ensures.view)
     ∙ ap (λ n. views old ++ with_own passes n above ∷ []) number
+
+pub returns-in_default-clause-added : goal.returns-in_default-clause-added
+returns-in_default-clause-added g c = grind (arith, common_steps)
