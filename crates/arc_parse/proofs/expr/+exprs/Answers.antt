@@ -79,9 +79,6 @@ pub continued-returns-clause-gives : goal.continued-returns-clause-gives
 unfolding grammar.choice grammar.chosen
 continued-returns-clause-gives t c = grind (arith, read_continued)
 
-pub prefixed-returns-in_err-operand-2-clause-gives : goal.prefixed-returns-in_err-operand-2-clause-gives
-prefixed-returns-in_err-operand-2-clause-gives t c = grind (arith, read_unary)
-
 pub cast-returns-clause-shorter : goal.cast-returns-clause-shorter
 cast-returns-clause-shorter t c = as_before c.boxed.result _ (omega (arith, c.in_ok-expect.ensures.shorter, c.in_ok-operand.ensures.shorter))
 

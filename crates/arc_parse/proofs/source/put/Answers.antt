@@ -8,8 +8,5 @@ returns-in_ok-keep-in-Function-clause-kept c = grind (arith, appends)
 pub returns-in_ok-append-in-Globals-clause-kept : goal.returns-in_ok-append-in-Globals-clause-kept
 returns-in_ok-append-in-Globals-clause-kept c = grind (arith, appends)
 
-pub returns-in_ok-keep-in-Interface-clause-kept : goal.returns-in_ok-keep-in-Interface-clause-kept
-returns-in_ok-keep-in-Interface-clause-kept c = grind (arith, appends)
-
 pub returns-in_ok-keep-in-Implementation-clause-kept : goal.returns-in_ok-keep-in-Implementation-clause-kept
 returns-in_ok-keep-in-Implementation-clause-kept c = grind (arith, appends)

@@ -1,11 +1,10 @@
-use Rattle.arc_form.specs.Reader.{nested}
 use Rattle.std.proofs.lemmas.Grind.{common_steps}
 use Rattle.std.proofs.Common.{rules, arith}
 use Rattle.arc_grammar.specs.Grammar as grammar
 use Rattle.arc_ast.proofs.Trees.{block_tree}
 use Rattle.arc_grammar.proofs.Lists.{stmts_all}
 use Rattle.arc_grammar.proofs.Loops.{one_more}
-use Rattle.arc_grammar.proofs.Fits.{taking, read_rule}
+use Rattle.arc_grammar.proofs.Fits.{taking}
 use Rattle.arc_form.proofs.Joining.{all_push, row_start}
 use Rattle.arc_parse.proofs.stmt.+stmts.Goals as goal
 
@@ -25,10 +24,6 @@ pub if_else-returns-clause-gives : goal.if_else-returns-clause-gives
 unfolding grammar.if_else
 if_else-returns-clause-gives t c = grind (arith, common_steps)
 
-pub do_while-returns-clause-gives : goal.do_while-returns-clause-gives
-unfolding grammar.do_while
-do_while-returns-clause-gives t c = grind (arith, common_steps)
-
 pub while_do-returns-clause-gives : goal.while_do-returns-clause-gives
 unfolding grammar.while_do
 while_do-returns-clause-gives t c = grind (arith, common_steps)
@@ -40,18 +35,6 @@ items-returns-in_err-item-clause-gives t c = grind (arith, one_more, taking, row
 pub otherwise-returns-clause-gives : goal.otherwise-returns-clause-gives
 unfolding grammar.otherwise
 otherwise-returns-clause-gives t c = grind (arith, common_steps)
-
-pub statement-returns-then-sees_word-4-clause-gives : goal.statement-returns-then-sees_word-4-clause-gives
-unfolding grammar.statement
-statement-returns-then-sees_word-4-clause-gives t c = grind (arith, common_steps)
-
-pub statement-returns-then-sees_word-3-clause-gives : goal.statement-returns-then-sees_word-3-clause-gives
-unfolding grammar.statement
-statement-returns-then-sees_word-3-clause-gives t c = grind (arith, common_steps)
-
-pub stmt-returns-then-depth-le-DEEPEST-clause-gives : goal.stmt-returns-then-depth-le-DEEPEST-clause-gives
-unfolding grammar.body nested
-stmt-returns-then-depth-le-DEEPEST-clause-gives t c = grind (arith, read_rule)
 
 pub items-returns-clause-gives : goal.items-returns-clause-gives
 unfolding grammar.items

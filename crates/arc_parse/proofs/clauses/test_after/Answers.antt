@@ -1,8 +1,0 @@
-use Rattle.std.proofs.lemmas.Grind.{common_steps}
-use Rattle.arc_grammar.specs.Grammar as grammar
-use Rattle.std.proofs.Common.{arith}
-use Rattle.arc_parse.proofs.clauses.test_after.Goals as goal
-
-pub returns-clause-gives : goal.returns-clause-gives
-unfolding grammar.test_after
-returns-clause-gives c = grind (arith, common_steps)
