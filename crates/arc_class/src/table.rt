@@ -601,7 +601,7 @@ impl<'a> ClassTable<'a> {
         }
     }
 
-    /// The table of a source that breaks no rule, of which this is found.
+    /// The table of a source that breaks no rule, with what was found of it.
     fn with(source: Source<'a>, checked: Checked<'a>) -> ClassTable<'a>
         requires knows { Knows (unit_tree source.unit.now) source }
         requires checked { IsChecked source checked }
@@ -690,8 +690,8 @@ fn find<'a>(alloc: Global, source: &Source<'a>) -> Result<Found<'a>, ClassFault>
     Ok(Found { fields, owners })
 }
 
-/// Which function is `main` in a source that breaks no rule, or the fault that reports the first rule that is broken, of a
-/// source of which this is found. This is the first that its functions and its sites break.
+/// Which function is `main` in a source that breaks no rule, or the fault that reports the first rule that is broken, where
+/// these are the fields of its classes and `functions` reports the first rule that its functions and its sites break.
 fn main_of_sound<'a>(
     alloc: Global,
     source: &Source<'a>,
@@ -724,8 +724,8 @@ struct Checked<'a> {
     main: usize,
 }
 
-/// Looks for the first rule that a source breaks whose names are known, and makes the parts of its table where there is
-/// none. This is the first that its functions and its sites break.
+/// Looks for the first rule that a source breaks whose names are known, where `functions` reports the first one that its
+/// functions and its sites break, and makes the parts of its table where there is none.
 fn check_source<'a>(
     alloc: Global,
     source: &Source<'a>,
