@@ -3,6 +3,7 @@ ghost use Rattle.std.specs.Prelude.{◌≡◌, ◌≢◌, ◌+◌, ◌-◌, ◌^
 ghost use Rattle.std.specs.Int.{w64, cast_signed};
 ghost use Rattle.arc_spec.specs.Classes.{classes_of};
 ghost use Rattle.arc_spec.specs.Objects.{nils};
+ghost use Rattle.arc_spec.specs.Statics.{first_statics};
 ghost use Rattle.arc_spec.specs.declared.limits.TheConstants.{MOST_LEVELS};
 ghost use Rattle.arc_code.specs.Running.{program_of};
 ghost use Rattle.arc_cells.specs.declared.waiting.Waiting.{Waiting};
@@ -21,13 +22,14 @@ use arc_code::code::Code;
 use arc_heap::store::{Ref, Store};
 use arc_spec::event::NoMemory;
 use arc_spec::limits::MOST_LEVELS;
+use arc_spec::statics::Statics;
 use std::alloc::Global;
 use std::marker::Model;
 
 /// A store with the blocks of objects, how many objects were made, the strong places, of which the
 /// last ones are the temporaries of the running function, and those before them its variables, the
 /// references, `self` of the running function, how many temporaries and variables it has, what waits
-/// for it, the numbers that the variables of the whole program hold, what those of them name that name
+/// for it, what is kept from the start to the end, what the variables of the whole program name that name
 /// objects, and for each class the fields of its objects that name objects, in the order in which they
 /// are destroyed. A word names the object of a block by the block's place, and nil by 0. Only making an
 /// object takes memory.
@@ -41,7 +43,7 @@ pub struct Objects<S: Store + Drop> {
     temporaries: usize,
     variables: usize,
     frames: Stack<Waiting>,
-    globals: Vec<i64>,
+    statics: Statics,
     strong_globals: Vec<u64>,
     orders: Vec<Vec<usize>>,
 }
@@ -64,7 +66,7 @@ impl<S: Store + Drop> Model for Objects<S> {
       room = a.places.room;
       names_room = a.names.room;
       frames = a.frames.items;
-      globals = a.globals.items;
+      statics = a.statics;
       strong_globals = a.strong_globals.items;
       orders = map items_of a.orders.items;
     } };
@@ -79,7 +81,7 @@ impl<S: Store + Drop> Objects<S> {
         ensures { IfOk result (λ m. m ≡ no_objects store (program_of code.now)) }
     {
         let (places, names, frames) = stacks_for(alloc, code)?;
-        let (globals, strong_globals, orders) = variables_for(alloc, code)?;
+        let (statics, strong_globals, orders) = variables_for(alloc, code)?;
         Ok(Objects {
             store,
             made: 0,
@@ -89,7 +91,7 @@ impl<S: Store + Drop> Objects<S> {
             temporaries: 0,
             variables: 0,
             frames,
-            globals,
+            statics,
             strong_globals,
             orders,
         })
@@ -101,22 +103,17 @@ impl<S: Store + Drop> Objects<S> {
     /// isn't is 0.
     #[inline(always)]
     pub fn global(&self, variable: usize) -> i64
-        ensures { result ≡ slice_index_or self.now.globals variable (pos 0) }
+        ensures { result ≡ slice_index_or self.now.statics.numbers variable (pos 0) }
     {
-        match self.globals.get(variable) {
-            Some(number) => *number,
-            None => 0,
-        }
+        self.statics.number(variable)
     }
 
     /// This variable of the whole program, where there is one, holds this number.
     #[inline(always)]
     pub fn put_global(&mut self, variable: usize, number: i64)
-        ensures { self.new ≡ with_globals self.old (slice_set self.old.globals variable number) }
+        ensures { self.new ≡ with_globals self.old (slice_set self.old.statics.numbers variable number) }
     {
-        if let Some(place) = self.globals.get_mut(variable) {
-            *place = number;
-        }
+        self.statics.put_number(variable, number);
     }
 
     /// What the variable of the whole program with this number names, where there is one.
@@ -643,12 +640,12 @@ fn stacks_for(
 fn variables_for(
     alloc: Global,
     code: &Code,
-) -> Result<(Vec<i64>, Vec<u64>, Vec<Vec<usize>>), NoMemory>
-    ensures { IfOk result (λ first. (first.0.items ≡ code.now.globals.items) × (first.1.items ≡ nils code.now.strong_globals)
+) -> Result<(Statics, Vec<u64>, Vec<Vec<usize>>), NoMemory>
+    ensures { IfOk result (λ first. (first.0 ≡ first_statics code.now.globals.items) × (first.1.items ≡ nils code.now.strong_globals)
         × (map items_of first.2.items ≡ orders_of (classes_of code.now.classes.items))) }
 {
-    let globals = Vec::from_slice(alloc, &code.globals)?;
+    let statics = Statics::new(alloc, &code.globals)?;
     let strong_globals = vec![in alloc; 0; code.strong_globals]?;
     let orders = orders_of(alloc, &code.classes)?;
-    Ok((globals, strong_globals, orders))
+    Ok((statics, strong_globals, orders))
 }

@@ -584,9 +584,9 @@ module _ (p : Program) (R : resolved.Program) where
       operation_leads Pop is nil needs g free = top_leads stack _ (omega (arith, count, needs)) (λ x rest e. counts nil Pop g free rest (omega (arith, count, needs, e)) (omega arith) (omega arith) (omega arith))
       operation_leads (Get depth) is nil needs g free = found_leads stack depth _ (omega (arith, count, needs)) (λ v _. counts nil (Get depth) g free (v ∷ stack) (omega (arith, count)) (omega arith) (omega arith) (omega arith))
       operation_leads (Set depth) is nil needs g free = top_leads stack _ (omega (arith, count, needs)) (λ v rest e. found_leads rest depth _ (omega (arith, count, needs, e)) (λ u _. counts nil (Set depth) g free (slice_set rest depth v) (omega (arith, count, needs, e, length-set rest depth v)) (omega arith) (omega arith) (omega arith)))
-      operation_leads (ops.GetGlobal i) is nil needs g free = counts nil (ops.GetGlobal i) g free (slice_index_or held.globals i (pos 0) ∷ stack) (omega (arith, count)) (omega arith) (omega arith) (omega arith)
+      operation_leads (ops.GetGlobal i) is nil needs g free = counts nil (ops.GetGlobal i) g free (slice_index_or held.statics.numbers i (pos 0) ∷ stack) (omega (arith, count)) (omega arith) (omega arith) (omega arith)
       operation_leads (ops.SetGlobal i) is nil needs g free = top_leads stack _ (omega (arith, count, needs)) (λ v rest e.
-          let globals = slice_set held.globals i v in
+          let globals = slice_set held.statics.numbers i v in
           refers nil (ops.SetGlobal i) g free rest (with_globals held globals) own o.is refl refl refl refl o.keeps o.dying (sane_globals held globals o.sane) (omega (arith, count, needs, e)) (omega (arith, size)) (omega arith) (omega arith))
       operation_leads PrintNum is nil needs g free = top_leads stack _ (omega (arith, count, needs)) (λ v rest e. top_leads rest _ (omega (arith, count, needs, e)) (λ c others e2. counts nil PrintNum g free (counted c (signed_decimal v) ∷ others) (omega (arith, count, needs, e, e2)) (omega arith) (omega arith) (omega arith)))
       operation_leads PrintByte is nil needs g free = top_leads stack _ (omega (arith, count, needs)) (λ v rest e. top_leads rest _ (omega (arith, count, needs, e)) (λ c others e2. counts nil PrintByte g free (counted c (low_byte v ∷ []) ∷ others) (omega (arith, count, needs, e, e2)) (omega arith) (omega arith) (omega arith)))

@@ -48,13 +48,13 @@ object_of o = record { class = o.class; fields = o.fields.items; strong = o.stro
 abbrev pub frame_of : Frame → worlds.Frame
 frame_of f = record { self = f.itself; locals = f.locals.items; strong = f.strong.items; temporaries = reverse f.temporaries.items }
 
--- what is left to read, the events so far, the numbers of the whole program's variables, what those of them name that name objects, the objects, the running function,
--- and the places of those that wait, of which the newest lie at the end
+-- what is left to read, the events so far, what is kept from the start to the end, what the whole program's variables name that name objects, the objects, the running
+-- function, and the places of those that wait, of which the newest lie at the end
 abbrev pub world : Progress → World
 world progress = record {
   input = progress.input.now;
   trace = progress.trace.items;
-  globals = progress.globals.items;
+  statics = progress.statics;
   strong_globals = progress.strong_globals.items;
   objects = map object_of progress.objects.items;
   frame = frame_of progress.frame;

@@ -2,23 +2,24 @@
 ghost use Rattle.std.specs.Prelude.{◌≡◌, ◌++◌, map, OnOk, IfOk, slice_set};
 ghost use Rattle.arc_spec.specs.declared.event.Event.TheVariants.{Byte};
 ghost use Rattle.arc_spec.specs.Meaning.{held_at, holds};
-ghost use Rattle.arc_spec.specs.World.{first_world, prints, has_read, next_number, local_at, with_locals, with_globals};
+ghost use Rattle.arc_spec.specs.World.{first_world, prints, has_read, next_number, local_at, with_locals};
 ghost use Rattle.arc_plain.specs.Views.{world};
 
 use crate::frame::{Frame, nothing_runs};
 use crate::object::Object;
 use arc_spec::event::{Event, NoMemory};
 use arc_spec::location::Location;
+use arc_spec::statics::Statics;
 use std::alloc::Global;
 
-/// What is left of the input, the events so far, the numbers that the variables of the whole program hold,
-/// what those of them name that name objects, the objects in the order of their making, the running function,
+/// What is left of the input, the events so far, what is kept from the start to the end, what the variables of
+/// the whole program name that name objects, the objects in the order of their making, the running function,
 /// and the strong places of those that wait for it, the newest at the end.
 #[derive(Drop)]
 pub struct Progress<'a> {
     pub input: &'a [u8],
     pub trace: Vec<Event>,
-    pub globals: Vec<i64>,
+    pub statics: Statics,
     pub strong_globals: Vec<usize>,
     pub objects: Vec<Object>,
     pub frame: Frame,
@@ -38,7 +39,7 @@ pub fn start<'a>(
     Ok(Progress {
         input,
         trace: Vec::new(alloc),
-        globals: Vec::from_slice(alloc, globals)?,
+        statics: Statics::new(alloc, globals)?,
         strong_globals: vec![in alloc; 0; strong_globals]?,
         objects: Vec::new(alloc),
         frame: nothing_runs(alloc),
@@ -87,23 +88,13 @@ pub fn local(progress: &Progress, slot: usize) -> i64
     }
 }
 
-/// The number of a variable of the whole program.
-fn global(progress: &Progress, index: usize) -> i64
-    ensures { result ≡ local_at (world progress.now).globals index }
-{
-    match progress.globals.get(index) {
-        Some(number) => *number,
-        None => 0,
-    }
-}
-
 /// The number that a variable holds.
 pub fn held(progress: &Progress, location: Location) -> i64
     ensures { result ≡ held_at location (world progress.now) }
 {
     match location {
         Location::Local(slot) => local(progress, slot),
-        Location::Global(index) => global(progress, index),
+        Location::Global(index) => progress.statics.number(index),
     }
 }
 
@@ -113,16 +104,7 @@ pub fn assign(progress: &mut Progress, location: Location, number: i64)
 {
     match location {
         Location::Local(slot) => assign_local(progress, slot, number),
-        Location::Global(index) => assign_global(progress, index, number),
-    }
-}
-
-/// Gives a variable of the whole program a number.
-fn assign_global(progress: &mut Progress, index: usize, number: i64)
-    ensures { world progress.new ≡ with_globals (world progress.old) (slice_set (world progress.old).globals index number) }
-{
-    if let Some(place) = progress.globals.get_mut(index) {
-        *place = number;
+        Location::Global(index) => progress.statics.put_number(index, number),
     }
 }
 

@@ -1,19 +1,20 @@
 -- Objects whose holders are counted: what actions and instructions do to them, and to the places that hold them.
-use Rattle.std.specs.Prelude.{◌≡◌, ◌<◌, ℕ, zero, suc, ◌-◌, ℤ, List, [], ◌∷◌, ◌++◌, length, take, drop, Bool, true, false, ◌&&◌, nat_eq, Option, Some, None, slice_get, slice_set, if◌then◌else◌}
+use Rattle.std.specs.Prelude.{◌≡◌, ◌<◌, ℕ, zero, suc, ◌-◌, ℤ, List, [], ◌∷◌, ◌++◌, length, take, drop, Bool, ◌&&◌, nat_eq, Option, Some, None, slice_get, slice_set, if◌then◌else◌}
 use Rattle.std.specs.List.{list_all}
 use Rattle.std.specs.Option.{option_map_or}
 use Rattle.arc_spec.specs.declared.event.Fault.TheVariants.{NilField, FieldClass, Resurrected}
 use Rattle.arc_spec.specs.Classes.{Class, descends, strong_count}
-use Rattle.arc_spec.specs.Objects.{Object, Phase, Live, Dying, Gone, object_at, with_object, in_phase, is_live, is_emptying, new_object, field_places}
+use Rattle.arc_spec.specs.Objects.{Object, Phase, Live, Dying, object_at, with_object, in_phase, is_live, is_emptying, new_object, field_places}
 pub use Rattle.arc_spec.specs.Objects.{is_there}
 pub use Rattle.arc_spec.specs.Classes.{count_of}
+use Rattle.arc_spec.specs.Statics.{Statics, first_statics, with_numbers}
 use Rattle.arc_spec.specs.World.{World}
 use Rattle.arc_spec.specs.Stepping.{Next, Faults, Stuck, only_if}
 
 -- The strong places and the references of the running functions. Of the one that runs: its temporaries, the last one first, what its variables that name objects
 -- hold, the first one first, and in a method of objects `self`. The strong places of those that wait for it. The references that operands name, which hold nothing,
--- the last one first. The objects, and how many strong places are counted to name each of them. The numbers that the variables of the whole program hold, and what
--- those of them name that name objects.
+-- the last one first. The objects, and how many strong places are counted to name each of them. What is kept from the start to the end, and what the variables of the
+-- whole program name that name objects.
 pub record Held : Type 0 where
   pub temporaries : List ℕ
   pub variables : List ℕ
@@ -22,15 +23,15 @@ pub record Held : Type 0 where
   pub names : List ℕ
   pub objects : List Object
   pub counts : ℕ → ℕ
-  pub globals : List ℤ
+  pub statics : Statics
   pub strong_globals : List ℕ
 
 abbrev pub nothing_held : Held
-nothing_held = record { temporaries = []; variables = []; self = 0; places = []; names = []; objects = []; counts = λ o. 0; globals = []; strong_globals = [] }
+nothing_held = record { temporaries = []; variables = []; self = 0; places = []; names = []; objects = []; counts = λ o. 0; statics = first_statics []; strong_globals = [] }
 
 -- what a world holds, with these references, and with these counts
 abbrev pub counting : List ℕ → World → (ℕ → ℕ) → Held
-counting names w counts = record { temporaries = w.frame.temporaries; variables = w.frame.strong; self = w.frame.self; places = w.waiting; names = names; objects = w.objects; counts = counts; globals = w.globals; strong_globals = w.strong_globals }
+counting names w counts = record { temporaries = w.frame.temporaries; variables = w.frame.strong; self = w.frame.self; places = w.waiting; names = names; objects = w.objects; counts = counts; statics = w.statics; strong_globals = w.strong_globals }
 
 -- the strong places of all functions that were called
 abbrev pub stacked : Held → List ℕ
@@ -70,7 +71,7 @@ abbrev pub with_things : Held → List Object → Held
 with_things h objects = record h { objects = objects }
 
 abbrev pub with_globals : Held → List ℤ → Held
-with_globals h globals = record h { globals = globals }
+with_globals h globals = record h { statics = with_numbers h.statics globals }
 
 abbrev pub with_strong_globals : Held → List ℕ → Held
 with_strong_globals h strong_globals = record h { strong_globals = strong_globals }

@@ -3,6 +3,7 @@ pub mod Classes
 pub mod Families
 pub mod Objects
 pub mod Resolved
+pub mod Statics
 pub mod World
 pub mod Meaning
 pub mod Stepping

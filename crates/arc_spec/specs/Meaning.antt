@@ -49,12 +49,12 @@ given_by After old new = new
 -- the number that a variable holds; one that there isn't counts as 0
 abbrev pub held_at : Location → World → ℤ
 held_at (Local i) w = local_at w.frame.locals i
-held_at (Global i) w = local_at w.globals i
+held_at (Global i) w = local_at w.statics.numbers i
 
 -- a variable holds this number
 abbrev pub holds : Location → ℤ → World → World
 holds (Local i) x w = record w { frame = record w.frame { locals = slice_set w.frame.locals i x } }
-holds (Global i) x w = record w { globals = slice_set w.globals i x }
+holds (Global i) x w = record w { statics = record w.statics { numbers = slice_set w.statics.numbers i x } }
 
 -- what a call does, one level deeper, with what it wants, the number of the function, its `self` and what it is given; what the end of an object does; and the classes of
 -- the program

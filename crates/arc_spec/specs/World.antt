@@ -1,5 +1,5 @@
 -- What a running program can change and show, and how a part of it ends.
-use Rattle.std.specs.Prelude.{ℕ, zero, suc, Bool, if◌then◌else◌, slice_get, slice_index_or, ℤ, pos, negsuc, List, [], ◌∷◌, ◌++◌, map, take, slice_set, drop}
+use Rattle.std.specs.Prelude.{ℕ, zero, suc, Bool, if◌then◌else◌, slice_get, slice_index_or, ℤ, pos, List, [], ◌∷◌, ◌++◌, map, take, slice_set, drop}
 use Rattle.arc_spec.specs.declared.event.Event.{Event}
 use Rattle.arc_spec.specs.declared.event.Event.TheVariants.{Byte}
 use Rattle.arc_spec.specs.declared.event.Fault as faults
@@ -7,6 +7,7 @@ use Rattle.arc_spec.specs.declared.location.Location.{Location}
 use Rattle.arc_spec.specs.declared.location.Location.TheVariants.{Local, Global}
 use Rattle.arc_spec.specs.Number.{byte_or_end}
 use Rattle.arc_spec.specs.Objects.{Object, nils, field_places}
+use Rattle.arc_spec.specs.Statics.{Statics, first_statics, with_numbers}
 
 -- The running function: in a method of objects `self`, the variables that hold numbers, those that name objects, of which its parameters are the first, and the
 -- temporaries of its full-expression, the last one first. After the variables that name objects comes the place of the result, where it gives an object. All of these and
@@ -18,12 +19,12 @@ pub record Frame : Type 0 where
   pub strong : List ℕ
   pub temporaries : List ℕ
 
--- the bytes of the input that are left, the events so far, the numbers that the variables of the whole program hold, what those of them name that name objects, the
--- objects, the running function, and the strong places of those that wait for it
+-- the bytes of the input that are left, the events so far, what is kept from the start to the end, what the variables of the whole program name that name objects,
+-- the objects, the running function, and the strong places of those that wait for it
 pub record World : Type 0 where
   pub input : List ℕ
   pub trace : List Event
-  pub globals : List ℤ
+  pub statics : Statics
   pub strong_globals : List ℕ
   pub objects : List Object
   pub frame : Frame
@@ -37,7 +38,7 @@ abbrev pub first_world : (globals : List ℤ) → (strong_globals : ℕ) → Lis
 first_world globals strong_globals input = record {
   input = input;
   trace = [];
-  globals = globals;
+  statics = first_statics globals;
   strong_globals = nils strong_globals;
   objects = [];
   frame = first_frame;
@@ -67,7 +68,7 @@ abbrev pub with_locals : World → List ℤ → World
 with_locals w locals = record w { frame = record w.frame { locals = locals } }
 
 abbrev pub with_globals : World → List ℤ → World
-with_globals w globals = record w { globals = globals }
+with_globals w globals = record w { statics = with_numbers w.statics globals }
 
 abbrev pub with_strong_globals : World → List ℕ → World
 with_strong_globals w strong_globals = record w { strong_globals = strong_globals }

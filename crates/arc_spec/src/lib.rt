@@ -10,3 +10,4 @@ pub mod location;
 pub mod number;
 pub mod order;
 pub mod signature;
+pub mod statics;

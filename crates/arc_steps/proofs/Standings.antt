@@ -8,6 +8,7 @@ use Rattle.std.proofs.lemmas.List.Elements.{All-nil, All-cons, All-head, All-tai
 use Rattle.arc_spec.specs.Classes.{Class}
 use Rattle.arc_spec.specs.Objects.{Object, Phase, Live, Dying, Emptying, Gone, fields_of, field_places}
 use Rattle.arc_spec.specs.Holding.{Held, Frame, stacked, all_places, is_there, with_globals, with_strong_globals, raised, lowered}
+use Rattle.arc_spec.specs.Statics.{Statics, with_numbers}
 use Rattle.arc_heap.specs.Blocks.{Blocks}
 use Rattle.arc_cells.specs.Cells.{Cell, words, IsCell, Sets, Becomes, with_count}
 use Rattle.arc_cells.specs.Standing.{Memory, Stored, Kept, Stands, Ends, IsKnown, cell_of, place, waiting, waiting_places, with_store, with_names}
@@ -177,18 +178,18 @@ spelled_stands at classes m m' frames frames' h h' t is =
     assumption known_places
 
 module _ (at : ℕ → ℕ) (classes : List Class) (m : Memory) (frames : List Frame) (h : Held) (t : Stands at classes m frames h) where
-  -- other blocks and counts, and other numbers in the variables of the whole program
-  stored_stands : (blocks' : Blocks) (counts' : ℕ → ℕ) (words globals : List ℤ) → KeptAll classes blocks' at h.objects counts' → words ≡ globals
-      → Stands at classes (record m { store = blocks'; globals = words }) frames (record h { counts = counts'; globals = globals })
-  stored_stands blocks' counts' words globals kept is = assumption
+  -- other blocks and counts, and other things that are kept from the start to the end
+  stored_stands : (blocks' : Blocks) (counts' : ℕ → ℕ) (statics statics' : Statics) → KeptAll classes blocks' at h.objects counts' → statics ≡ statics'
+      → Stands at classes (record m { store = blocks'; statics = statics }) frames (record h { counts = counts'; statics = statics' })
+  stored_stands blocks' counts' statics statics' kept is = assumption
 
   -- other numbers in the variables of the whole program
-  pub globals_stands : (words globals : List ℤ) → words ≡ globals → Stands at classes (record m { globals = words }) frames (with_globals h globals)
-  globals_stands words globals is = stored_stands m.store h.counts words globals t.kept is
+  pub globals_stands : (words globals : List ℤ) → words ≡ globals → Stands at classes (record m { statics = with_numbers m.statics words }) frames (with_globals h globals)
+  globals_stands words globals is = stored_stands m.store h.counts (with_numbers m.statics words) (with_numbers h.statics globals) t.kept (ap (λ s. with_numbers s words) t.statics ∙ ap (with_numbers h.statics) is)
 
   -- the count of nil says nothing
   pub recounted_nil : (counts' : ℕ → ℕ) → ((j : ℕ) → counts' (suc j) ≡ h.counts (suc j)) → Stands at classes m frames (with_counts h counts')
-  recounted_nil counts' same = stored_stands m.store counts' m.globals h.globals (λ k o e. subst (λ count. Kept o.phase (place at) classes m.store (at k) (suc k) count o) (sym (same k)) (t.kept k o e)) t.globals
+  recounted_nil counts' same = stored_stands m.store counts' m.statics h.statics (λ k o e. subst (λ count. Kept o.phase (place at) classes m.store (at k) (suc k) count o) (sym (same k)) (t.kept k o e)) t.statics
 
   pub raised_nil : Stands at classes m frames (raised 0 h)
   raised_nil = recounted_nil (raised 0 h).counts (λ j. raised_else 0 (suc j) h (λ e. omega arith))
@@ -204,10 +205,10 @@ module _ (at : ℕ → ℕ) (classes : List Class) (m : Memory) (frames : List F
     recounted : (counts' : ℕ → ℕ) (blocks' : Blocks) → ((j : ℕ) → j ≢ k → counts' (suc j) ≡ h.counts (suc j))
         → Becomes m.store blocks' (at k) (with_count (cell_of o (h.counts (suc k)) (suc k) block_of.fields) (counts' (suc k)))
         → Stands at classes (with_store m blocks') frames (with_counts h counts')
-    recounted counts' blocks' same change = stored_stands blocks' counts' m.globals h.globals
+    recounted counts' blocks' same change = stored_stands blocks' counts' m.statics h.statics
         (kept_set classes m.store blocks' at k (cell_of o (h.counts (suc k)) (suc k) block_of.fields) _ block_of.block refl change h.objects h.objects h.counts counts' o
         (only_same h.objects k o there) same t.kept
-        (kept_of o.phase (place at) classes blocks' (at k) (suc k) (counts' (suc k)) o is_here (stored_counted (place at) classes m.store blocks' (at k) (suc k) (h.counts (suc k)) (counts' (suc k)) o block_of change))) t.globals
+        (kept_of o.phase (place at) classes blocks' (at k) (suc k) (counts' (suc k)) o is_here (stored_counted (place at) classes m.store blocks' (at k) (suc k) (h.counts (suc k)) (counts' (suc k)) o block_of change))) t.statics
 
     pub raised_stands : (blocks' : Blocks) → ((c : Cell) → IsCell m.store (at k) c → Becomes m.store blocks' (at k) (with_count c (c.count + 1)))
         → Stands at classes (with_store m blocks') frames (raised (suc k) h)

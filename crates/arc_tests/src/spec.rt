@@ -1,6 +1,7 @@
-//! Sums, quotients and bytes that C99 gives.
+//! Sums, quotients and bytes that C99 gives, and variables of the whole program.
 use arc_ast::tree::{BinaryOperator, Kind, UnaryOperator};
 use arc_spec::number::{add_count, apply, byte_or_end, combine, convert, low_byte, low_half};
+use arc_spec::statics::Statics;
 use std::test::Fail;
 
 /// Operators, their kinds and operands, each with its result.
@@ -52,5 +53,16 @@ fn bytes(rt: HostRuntime) -> Result<(), Fail> {
     assert_eq!(rt; add_count(4_294_967_295, 3), 2);
     assert_eq!(rt; byte_or_end(Some(65)), 65);
     assert_eq!(rt; byte_or_end(None), -1);
+    Ok(())
+}
+
+#[test]
+fn variables_of_the_whole_program(rt: HostRuntime) -> Result<(), Fail> {
+    let mut statics = Statics::new(rt.alloc(), &[7, -1])?;
+    statics.put_number(0, 8);
+    statics.put_number(2, 9);
+    assert_eq!(rt; statics.number(0), 8);
+    assert_eq!(rt; statics.number(1), -1);
+    assert_eq!(rt; statics.number(2), 0);
     Ok(())
 }

@@ -14,4 +14,4 @@ returns-clause-went g c =
     let same : c.pop-number.result ≡ to_z w64 (of_z w64 c.pop-number.result) = search rules in
     let objects = c.args.objects.now in
     set_went g.S.Store.out (program_of c.args._code.now) c.args.variable (spot c.args.self.now objects) c.pop-number.result c.pop-number.new.self.items _ (ap (λ x. x.items) c.pop-number.ensures.value) refl refl
-    (c.put_global.ensures ∙ ap (λ n. with_globals objects (slice_set objects.globals c.args.variable n)) (sym same))
+    (c.put_global.ensures ∙ ap (λ n. with_globals objects (slice_set objects.statics.numbers c.args.variable n)) (sym same))
