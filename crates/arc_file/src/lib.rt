@@ -1,0 +1,4 @@
+//! The file of a source.
+#![tactic(auto)]
+
+pub mod file;
