@@ -15,6 +15,8 @@ mod emit;
 #[cfg(test)]
 mod family;
 #[cfg(test)]
+mod file;
+#[cfg(test)]
 mod heap;
 #[cfg(test)]
 mod lex;

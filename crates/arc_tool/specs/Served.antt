@@ -8,6 +8,8 @@ use Rattle.arc_code.specs.declared.counted.Counted.{Counted}
 use Rattle.arc_code.specs.Listing.{listing}
 use Rattle.arc_code.specs.Running.{Program}
 use Rattle.arc_code.specs.Written.{Written}
+use Rattle.arc_file.specs.declared.file.FileFault.{FileFault}
+use Rattle.arc_file.specs.declared.file.FileFault.TheVariants as file_fault
 use Rattle.arc_machine.specs.declared.stop.Stop.{Stop}
 use Rattle.arc_machine.specs.declared.stop.Stop.TheVariants as stop
 use Rattle.arc_words.specs.declared.request.Command.{Command}
@@ -15,8 +17,6 @@ use Rattle.arc_words.specs.declared.request.Command.TheVariants.{Check, Run, Tra
 use Rattle.arc_words.specs.declared.request.Words.{Words}
 use Rattle.arc_words.specs.declared.request.WordsFault.{WordsFault}
 use Rattle.arc_words.specs.declared.request.WordsFault.TheVariants as words_fault
-use Rattle.arc_tool.specs.declared.serve.FileFault.{FileFault}
-use Rattle.arc_tool.specs.declared.serve.FileFault.TheVariants as file_fault
 use Rattle.arc_tool.specs.declared.run.ToolFault.{ToolFault}
 use Rattle.arc_tool.specs.declared.run.ToolFault.TheVariants as tool_fault
 use Rattle.arc_tool.specs.declared.report.Trouble.{Trouble}

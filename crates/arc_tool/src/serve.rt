@@ -20,16 +20,10 @@ use arc_code::code::IoFault;
 use arc_code::counted::Counted;
 use arc_code::device::{Input, Output};
 use arc_code::lines::list;
+pub use arc_file::file::FileFault;
 use arc_machine::stop::Stop;
 use arc_spec::number::low_byte;
 use std::alloc::Global;
-
-/// Why a source can't be read.
-#[derive(Clone, Copy, Debug, PartialEq, Eq)]
-pub enum FileFault {
-    Failed,
-    NoMemory,
-}
 
 /// Does what the words ask for with the bytes of their file, which aren't looked at where the words were refused, and gives the status
 /// with which the program ends. Trouble is written in one line on `errors`, whose failures are ignored.

@@ -1,13 +1,11 @@
 //! The program `arcc`: reads its words and its file, does what they ask for, and ends with the status.
 #![tactic(auto)]
 
-mod source;
-
-use crate::source::read_source;
 use arc_code::counted::Counted;
+use arc_file::file::{FileFault, read_source};
 use arc_tool::report::{Trouble, print_trouble, status};
 use arc_tool::request::{Words, WordsFault};
-use arc_tool::serve::{FileFault, serve};
+use arc_tool::serve::serve;
 use arc_tool::words::words;
 use std::alloc::Global;
 use std::env;
