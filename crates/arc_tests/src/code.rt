@@ -1,15 +1,17 @@
 //! Devices that fail, and a listing.
+ghost use Rattle.std.specs.Prelude.{◌≡◌};
+ghost use Rattle.arc_code.specs.Counting.{failures_of};
 
 use arc_ast::tree::{BinaryOperator, Kind, UnaryOperator};
 use arc_code::code::{Code, Instruction, IoFault, Piece};
 use arc_code::counted::{Counted, Failed};
+use arc_code::device::Output;
 use arc_code::instr::{Instr, Op};
 use arc_code::lines::list;
 use arc_spec::class::Gives;
 use std::alloc::{AllocError, Global};
 use std::io;
 use std::io::{ErrorKind, Read, Write};
-use std::test::Fail;
 
 /// Interrupted so many times, and then a reader of `A`.
 #[derive(Drop)]
@@ -52,13 +54,18 @@ impl Write for Narrow {
     }
 }
 
+/// What a reader that is interrupted so many times gives, how often it has failed then, and how often it is still
+/// interrupted.
+fn got_after(times: u32) -> (Result<Option<u8>, Failed>, u64, u32) {
+    let mut reader = Counted::new(Interrupted { times });
+    let got = reader.get();
+    (got, reader.failures(), reader.get_ref().times)
+}
+
 #[test]
 fn interruptions_are_retried(rt: HostRuntime) {
-    let mut few = Counted::new(Interrupted { times: 99 });
-    assert_eq!(rt; (few.get(), few.failures()), (Ok(Some(b'A')), 0));
-    let mut many = Counted::new(Interrupted { times: 100 });
-    assert_eq!(rt; (many.get(), many.failures()), (Err(Failed), 1));
-    assert_eq!(rt; many.get_ref().times, 0);
+    assert_eq!(rt; got_after(99), (Ok(Some(b'A')), 0, 0));
+    assert_eq!(rt; got_after(100), (Err(Failed), 1, 0));
 }
 
 /// Each instruction.
@@ -135,39 +142,51 @@ const LISTING: &str = "0 Num -42\n1 Bin 3 2\n2 Un 2 3\n3 Narrow 1\n4 Pop\n5 Get 
     39 StoreGlobal 14\n40 StoreField 15 16\n\
     41 Finds 17\n42 Settle\n43 Give\n";
 
+/// What a call of a writer answers, and how often the writer has failed then.
+type Answered<E> = (Result<(), E>, u64);
+
+/// What the writer answers where that code is listed, and where it is flushed after that.
+fn listed_on<W: Output>(
+    alloc: Global,
+    writer: &mut Counted<W>,
+) -> Result<(Answered<IoFault>, Answered<Failed>), AllocError>
+    requires { failures_of writer.old ≡ 0 }
+{
+    let code = each_instruction(alloc)?;
+    let listed = list(&code, writer);
+    let failures = writer.failures();
+    let flushed = writer.flush();
+    Ok(((listed, failures), (flushed, writer.failures())))
+}
+
 #[test]
-fn code_is_listed(rt: HostRuntime) -> Result<(), Fail> {
-    let code = each_instruction(rt.alloc())?;
+fn code_is_listed(rt: HostRuntime) {
     let mut writer = Counted::new(Vec::new(rt.alloc()));
-    let listed = list(&code, &mut writer);
-    assert_eq!(rt; (listed, writer.flush()), (Ok(()), Ok(())));
+    let answered = listed_on(rt.alloc(), &mut writer);
+    assert_eq!(rt; answered, Ok(((Ok(()), 0), (Ok(()), 0))));
     assert_eq!(rt; writer.get_ref().as_slice(), LISTING.as_bytes());
-    Ok(())
 }
 
 /// A write of no byte is a failure, and so is a flush that fails.
 #[test]
-fn a_failing_writer_ends_a_listing(rt: HostRuntime) -> Result<(), Fail> {
-    let code = each_instruction(rt.alloc())?;
+fn a_failing_writer_ends_a_listing(rt: HostRuntime) {
     let mut writer = Counted::new(Narrow {
         taken: Vec::new(rt.alloc()),
         room: 12,
     });
-    let listed = list(&code, &mut writer);
-    let failures = writer.failures();
-    let flushed = writer.flush();
-    assert_eq!(rt; (listed, failures), (Err(IoFault::Write), 1));
-    assert_eq!(rt; (flushed, writer.failures()), (Err(Failed), 2));
+    let answered = listed_on(rt.alloc(), &mut writer);
+    assert_eq!(rt; answered, Ok(((Err(IoFault::Write), 1), (Err(Failed), 2))));
     assert_eq!(rt;
         writer.get_ref().taken.as_slice(),
         b"0 Num -42\n1 ".as_slice()
     );
-    Ok(())
 }
 
 #[test]
 fn faults_are_reported(rt: HostRuntime) {
-    for (fault, number, name) in [(IoFault::Read, 91, "Read"), (IoFault::Write, 92, "Write")] {
-        assert_eq!(rt; (fault.number(), fault.name()), (number, name));
-    }
+    let (read, write) = (IoFault::Read, IoFault::Write);
+    assert_eq!(rt;
+        (read.number(), read.name(), write.number(), write.name()),
+        (91, "Read", 92, "Write")
+    );
 }

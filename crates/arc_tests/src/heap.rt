@@ -1,27 +1,34 @@
 //! Where a growing store's blocks lie.
 use arc_heap::plain::PlainStore;
 use arc_heap::store::Store;
-use std::test::Fail;
 
-/// The places are numbers of rows, so that they report how far apart blocks lie.
-#[test]
-fn blocks_have_the_least_size(rt: HostRuntime) -> Result<(), Fail> {
-    let mut store = PlainStore::new(rt.alloc());
-    let rows = [
-        (3, 1),
-        (4, 2),
-        (5, 3),
-        (128, 5),
-        (17, 37),
-        (16, 45),
-        (33, 49),
-        (1, 65),
-    ];
-    for (words, at) in rows {
-        let block = store.take(words).ok_or("no memory")?;
-        assert_eq!(rt; block.at, at);
+/// Where the store gives a block for so many words, if any block has as many.
+fn place_in(store: &mut PlainStore, words: usize) -> Option<u64> {
+    match words {
+        1..=128 => Some(store.take(words)?.at),
+        _ => None,
     }
-    Ok(())
+}
+
+/// Numbers of words, each with the place of a block for it, where a store gives one after the other. The places are
+/// numbers of rows, so that they report how far apart blocks lie.
+static PLACES: [(usize, u64); 8] = [
+    (3, 1),
+    (4, 2),
+    (5, 3),
+    (128, 5),
+    (17, 37),
+    (16, 45),
+    (33, 49),
+    (1, 65),
+];
+
+#[test]
+fn blocks_have_the_least_size(rt: HostRuntime) {
+    let mut store = PlainStore::new(rt.alloc());
+    for (words, at) in &PLACES {
+        assert_eq!(rt; place_in(&mut store, *words), Some(*at));
+    }
 }
 
 /// Where blocks of 4, 64 and 4 words were, which were taken and then given back, and what the last one held.
@@ -40,25 +47,29 @@ fn give_three(store: &mut PlainStore) -> Option<(u64, u64, u64, u64)> {
 
 /// The block that was given back last is taken first and is clear, and another size gets another block.
 #[test]
-fn free_blocks_are_kept_by_size(rt: HostRuntime) -> Result<(), Fail> {
+fn free_blocks_are_kept_by_size(rt: HostRuntime) {
     let mut store = PlainStore::new(rt.alloc());
-    let (small, large, last, held) = give_three(&mut store).ok_or("no memory")?;
+    let (small, large, last, held) = give_three(&mut store).expect(&rt, "no memory");
     assert_eq!(rt; held, u64::MAX);
-    for (words, at) in [(8, 19), (4, last), (50, large), (4, small), (4, 21)] {
-        assert_eq!(rt; store.take(words).ok_or("no memory")?.at, at);
+    for (words, at) in &[(8, 19), (4, last), (50, large), (4, small), (4, 21)] {
+        assert_eq!(rt; place_in(&mut store, *words), Some(*at));
     }
-    Ok(())
+}
+
+/// Where a block of 8 words is, and what its last word is at first. Then that becomes 1, and the block is given back.
+#[tactic(auto, unfolding(arc_heap::specs::Sizes::size_of))]
+fn use_block(store: &mut PlainStore) -> Option<(u64, u64)> {
+    let block = store.take(8)?;
+    let seen = (block.at, store.load(block, 7));
+    store.store(block, 7, 1);
+    store.give(block);
+    Some(seen)
 }
 
 #[test]
-#[tactic(auto, unfolding(arc_heap::specs::Sizes::size_of))]
-fn a_thousand_blocks_in_turn_need_no_more_room(rt: HostRuntime) -> Result<(), Fail> {
+fn a_thousand_blocks_in_turn_need_no_more_room(rt: HostRuntime) {
     let mut store = PlainStore::new(rt.alloc());
     for _ in 0..1000 {
-        let block = store.take(8).ok_or("no memory")?;
-        assert_eq!(rt; (block.at, store.load(block, 7)), (1, 0));
-        store.store(block, 7, 1);
-        store.give(block);
+        assert_eq!(rt; use_block(&mut store), Some((1, 0)));
     }
-    Ok(())
 }

@@ -2,7 +2,7 @@
 use arc_ast::tree::{BinaryOperator, Kind, UnaryOperator};
 use arc_spec::number::{add_count, apply, byte_or_end, combine, convert, low_byte, low_half};
 use arc_spec::statics::Statics;
-use std::test::Fail;
+use std::alloc::Global;
 
 /// Operators, their kinds and operands, each with its result.
 static RESULTS: [(BinaryOperator, Kind, i64, i64, Option<i64>); 6] = [
@@ -33,36 +33,33 @@ static RESULTS: [(BinaryOperator, Kind, i64, i64, Option<i64>); 6] = [
 ];
 
 #[test]
-fn numbers(rt: HostRuntime) -> Result<(), Fail> {
-    assert_eq!(rt; convert(Kind::Int, 4_294_967_295), -1);
-    assert_eq!(rt; convert(Kind::Bool, 4_294_967_296), 1);
-    assert_eq!(rt;
-        apply(UnaryOperator::Negate, Kind::Int, -2_147_483_648),
-        -2_147_483_648
-    );
+fn numbers(rt: HostRuntime) {
+    let int = convert(Kind::Int, 4_294_967_295);
+    let truth = convert(Kind::Bool, 4_294_967_296);
+    let negated = apply(UnaryOperator::Negate, Kind::Int, -2_147_483_648);
+    assert_eq!(rt; (int, truth, negated), (-1, 1, -2_147_483_648));
     for (operator, kind, left, right, result) in &RESULTS {
         assert_eq!(rt; combine(*operator, *kind, *left, *right), *result);
     }
-    Ok(())
 }
 
 #[test]
-fn bytes(rt: HostRuntime) -> Result<(), Fail> {
-    assert_eq!(rt; low_half(4_294_967_301), 5);
-    assert_eq!(rt; low_byte(-1), 255);
-    assert_eq!(rt; add_count(4_294_967_295, 3), 2);
-    assert_eq!(rt; byte_or_end(Some(65)), 65);
-    assert_eq!(rt; byte_or_end(None), -1);
-    Ok(())
+fn bytes(rt: HostRuntime) {
+    let parts = (low_half(4_294_967_301), low_byte(-1));
+    let count = add_count(4_294_967_295, 3);
+    let given = (byte_or_end(Some(65)), byte_or_end(None));
+    assert_eq!(rt; (parts, count, given), ((5, 255), 2, (65, -1)));
 }
 
-#[test]
-fn variables_of_the_whole_program(rt: HostRuntime) -> Result<(), Fail> {
-    let mut statics = Statics::new(rt.alloc(), &[7, -1])?;
+/// What three variables of the whole program hold, of which there are two, after the first and the last were given numbers.
+fn numbers_held(alloc: Global) -> Option<(i64, i64, i64)> {
+    let mut statics = Statics::new(alloc, &[7, -1]).ok()?;
     statics.put_number(0, 8);
     statics.put_number(2, 9);
-    assert_eq!(rt; statics.number(0), 8);
-    assert_eq!(rt; statics.number(1), -1);
-    assert_eq!(rt; statics.number(2), 0);
-    Ok(())
+    Some((statics.number(0), statics.number(1), statics.number(2)))
+}
+
+#[test]
+fn variables_of_the_whole_program(rt: HostRuntime) {
+    assert_eq!(rt; numbers_held(rt.alloc()), Some((8, -1, 0)));
 }
