@@ -41,15 +41,17 @@ static COMMANDS: [(&[&str], Command, &str, u64); 5] = [
     ),
 ];
 
+/// Whether the words say this command, file and number of steps.
+fn say(alloc: Global, line: &[&str], want: (Command, &str, u64)) -> Result<bool, Fail> {
+    let said = words(alloc, &texts(alloc, line)?)?;
+    Ok((said.command, said.file.as_str(), said.steps) == want)
+}
+
 #[test]
 fn commands(rt: HostRuntime) -> Result<(), Fail> {
     let alloc = rt.alloc();
     for (line, command, file, steps) in &COMMANDS {
-        let said = words(alloc, &texts(alloc, line)?)?;
-        assert_eq!(rt;
-            (said.command, said.file.as_str(), said.steps),
-            (*command, *file, *steps)
-        );
+        assert!(rt; say(alloc, line, (*command, *file, *steps))?, "at {file}");
     }
     Ok(())
 }
