@@ -1,21 +1,16 @@
 //! Types as they are written.
 use arc_ast::tree::{Kind, ResultType, TypeName};
 
-/// The kind of a type.
-fn kind_of(type_name: TypeName) -> Kind {
-    type_name.kind()
-}
-
 #[test]
 fn have_kinds(rt: HostRuntime) {
     let alloc = rt.alloc();
     let name = Vec::from_slice(alloc, b"A").expect(&rt, "no memory");
     let kinds = [
-        kind_of(TypeName::Bool),
-        kind_of(TypeName::Int),
-        kind_of(TypeName::Long),
-        kind_of(TypeName::Id),
-        kind_of(TypeName::Object(7, name)),
+        TypeName::Bool.kind(),
+        TypeName::Int.kind(),
+        TypeName::Long.kind(),
+        TypeName::Id.kind(),
+        TypeName::Object(7, name).kind(),
         ResultType::Void.kind(),
         ResultType::Value(TypeName::Int).kind(),
     ];
