@@ -75,8 +75,8 @@ pub fn giving(gives: Gives, taken: usize, names: usize) -> Effect
     }
 }
 
-/// The effect of an operation.
-fn operation_effect(operation: Op) -> Effect
+/// The effect of an operation, which goes on with the next instruction.
+pub fn operation_effect(operation: Op) -> Effect
     ensures { result ≡ operation_effect operation }
 {
     match operation {

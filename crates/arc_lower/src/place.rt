@@ -1,7 +1,6 @@
 //! Actions for variables that name objects, for references and for temporaries.
-ghost use Rattle.std.specs.Prelude.{◌≡◌, ◌++◌, [], ◌∷◌, OnOk, nat_lt, if◌then◌else◌};
+ghost use Rattle.std.specs.Prelude.{◌≡◌, ◌++◌, [], ◌∷◌, OnOk, if◌then◌else◌};
 ghost use Rattle.std.specs.List.{list_any};
-ghost use Rattle.arc_code.specs.Effects.{operation_effect};
 ghost use Rattle.arc_code.specs.declared.instr.Op.TheVariants.{Forget};
 ghost use Rattle.arc_code.specs.declared.instr.Instr.TheVariants.{Plain, DropAll};
 ghost use Rattle.arc_spec.specs.declared.location.Location.TheVariants.{Local};
@@ -10,6 +9,7 @@ ghost use Rattle.arc_lower.specs.Lowered.{declare_orders, forget_orders, nil_ord
 
 use crate::expression::append;
 use crate::variable::add_operands;
+use arc_code::effect::operation_effect;
 use arc_code::instr::{Instr, Op};
 use arc_ir::action::Action;
 use arc_spec::class::Gives;
@@ -129,26 +129,12 @@ fn append_store_local(actions: &mut Vec<Action>, names: usize, index: usize) -> 
     }
 }
 
-/// Whether an operation has a temporary take an object.
-fn operation_takes(operation: Op) -> bool
-    ensures { result ≡ nat_lt 0 (operation_effect operation).temporaries }
-{
-    match operation {
-        Op::ReadSelf | Op::ReadRef(_) | Op::ReadGlobal(_) | Op::ReadField(_, _) => true,
-        Op::Hold | Op::Alloc => true,
-        Op::Num(_) | Op::Bin(_, _) | Op::Un(_, _) | Op::Narrow(_) | Op::Pop | Op::Get(_) => false,
-        Op::Set(_) | Op::GetGlobal(_) | Op::SetGlobal(_) | Op::PrintNum | Op::PrintByte => false,
-        Op::Again | Op::Forget | Op::GetField(_, _) | Op::SetField(_, _) | Op::Differ => false,
-        Op::GetChar | Op::Declare | Op::Nil | Op::IsObject | Op::Finds(_) => false,
-    }
-}
-
 /// Whether an action has a temporary take an object.
 fn takes(action: &Action) -> bool
     ensures { result ≡ order_takes (order action.now) }
 {
     match action {
-        Instr::Plain(operation) => operation_takes(*operation),
+        Instr::Plain(operation) => operation_effect(*operation).temporaries > 0,
         Instr::Call(_, gives)
         | Instr::Send(_, _, _, gives)
         | Instr::SendSuper(_, _, _, _, gives)
