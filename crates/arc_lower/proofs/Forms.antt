@@ -135,8 +135,8 @@ module _ (P : Program) (r s slots names exit d : ℕ) (room : names ≤ d + s) w
 
   mutual
     pub value_types : (e : Value) (depth a b c : ℕ) → depth + slots ≤ a + r → Comes a b c (value_block depth e) (suc a) b
-    value_types (Number n) depth a b c h = op (Num n) tt (omega arith) (omega arith) refl
-    value_types ReadByte depth a b c h = op GetChar tt (omega arith) (omega arith) refl
+    value_types (Number n) depth a b c h = op (Num n) (omega arith) (omega arith) (omega arith) refl
+    value_types ReadByte depth a b c h = op GetChar (omega arith) (omega arith) (omega arith) refl
     value_types (Print pieces arguments) depth a b c h =
         let n = number_count arguments in
         let m = object_count arguments in
@@ -158,17 +158,17 @@ module _ (P : Program) (r s slots names exit d : ℕ) (room : names ≤ d + s) w
         ends_with {n = as_number gives.Number + a} {m = as_object gives.Number + b} (omega arith) (omega arith)
         (next {n = n} {m = m} (receiver_types receiver depth a b c h) (λ t. next (arguments_type arguments (below_arguments receiver depth) n m t (receiver_lies receiver depth a h)) (λ q. message_sent gives.Number receiver selector (number_count arguments) (object_count arguments) a b q)))
     value_types (Field v class index) depth a b c h = next (reference_types v depth a b c h) (λ t. op (GetField class index) (omega arith) (omega arith) (omega arith) refl)
-    value_types (FieldAssigned v class index u) depth a b c h = next (reference_types v depth a b c h) (λ t. next (value_types u depth a (suc b) t h) (λ q. op (SetField class index) (omega arith, omega arith) (omega arith) (omega arith) refl))
+    value_types (FieldAssigned v class index u) depth a b c h = next (reference_types v depth a b c h) (λ t. next (value_types u depth a (suc b) t h) (λ q. op (SetField class index) (omega arith) (omega arith) (omega arith) refl))
     value_types (FieldUpdated moment v class index operator computed kept u) depth a b c h =
         let lies = lies_below moment depth a h in
         next (reference_types v depth a b c h) (λ t. next {n = a} {m = suc (suc b)} (op ops.Again (omega arith) (omega arith) (omega arith) refl) (λ t. next {n = suc a} {m = suc b} (op (GetField class index) (omega arith) (omega arith) (omega arith) refl)
-        (λ t. update_types moment operator computed kept _ _ a (suc b) t b (λ q. value_types u (suc (below_new moment depth)) (suc (below_new moment a)) (suc b) q (omega (arith, lies))) (λ q. op (SetField class index) (omega arith, omega arith) (omega arith) (omega arith) refl))))
+        (λ t. update_types moment operator computed kept _ _ a (suc b) t b (λ q. value_types u (suc (below_new moment depth)) (suc (below_new moment a)) (suc b) q (omega (arith, lies))) (λ q. op (SetField class index) (omega arith) (omega arith) (omega arith) refl))))
     value_types (resolved.Differ v u) depth a b c h = next (reference_types v depth a b c h) (λ t. next (reference_types u depth a (suc b) t h) (λ q. op Differ (omega arith) (omega arith) (omega arith) refl))
     value_types (resolved.IsObject v) depth a b c h = next (reference_types v depth a b c h) (λ t. op IsObject (omega arith) (omega arith) (omega arith) refl)
 
     pub reference_types : (e : Reference) (depth a b c : ℕ) → depth + slots ≤ a + r → Comes a b c (reference_block depth e) a (suc b)
-    reference_types resolved.Nil depth a b c h = op Nil tt (omega arith) (omega arith) refl
-    reference_types Itself depth a b c h = op ReadSelf tt (omega arith) (omega arith) refl
+    reference_types resolved.Nil depth a b c h = op Nil (omega arith) (omega arith) (omega arith) refl
+    reference_types Itself depth a b c h = op ReadSelf (omega arith) (omega arith) (omega arith) refl
     reference_types (Variable i) depth a b c h = record { more = c + 1; most = omega arith; types = read_types P r s names i a b c d room }
     reference_types (Chosen v u w) depth a b c h = next (value_types v depth a b c h) (λ t. choice (reference_types u depth a b t h) (λ q. reference_types w depth a b q h))
     reference_types (Stored i v) depth a b c h = next (reference_types v depth a b c h) (λ t. next (plain (store_types P r s names a (suc b) t d room i (omega arith))) (λ q. op Hold (omega arith) (omega arith) (omega arith) refl))
@@ -250,7 +250,7 @@ module _ (P : Program) (slots names exit : ℕ) where
     test_types e = whole_types P 0 0 slots names exit names (omega arith) looping true e slots (omega arith)
 
     zero_types : Statement base (One (Num (pos 0))) test
-    zero_types = (tt, heights_same _ _ _ _ (suc slots) 0 0 names (omega arith) (omega arith) (omega arith) (omega arith))
+    zero_types = (omega arith, heights_same _ _ _ _ (suc slots) 0 0 names (omega arith) (omega arith) (omega arith) (omega arith))
 
     pub nothing_types : Statement base (nothing_given exit) base
     nothing_types = (test, zero_types, (refl, refl, refl, refl))

@@ -221,7 +221,7 @@ module _ (R : resolved.Program) where
           let jump = opens_goes R all table given (q + 1) _ (Jump (At place)) tt last.2.0 last.2.1 in (
             opening_goes.0,
             step_then R all table place leave body leave_steps (step_then R all table entered opening (statements ++ end) opening_goes.1 (step_then R all table start statements end statements_go.1
-                (((base, given), last.0, (tt, (jump.0, λ k c. inr (jump.1 k c)), inl jump.2)), (((leaving, given), last.2.0 ∙ ap (λ h. Some (h, given)) up, (0, omega arith, exit_goes)), tt)))),
+                (((base, given), last.0, (omega arith, (jump.0, λ k c. inr (jump.1 k c)), inl jump.2)), (((leaving, given), last.2.0 ∙ ap (λ h. Some (h, given)) up, (0, omega arith, exit_goes)), tt)))),
           )
 
   -- ---- all functions

@@ -1,11 +1,10 @@
 -- No action lacks what it takes, whatever is read, and the counts are right: what runs and what waits have as many
 -- numbers, references and places as the heights of a program say.
-use Rattle.std.proofs.Common.{◌≡◌, ◌⊎◌, inl, inr, ℕ, zero, suc, ◌+◌, ◌-◌, ◌<◌, ◌≤◌, ℤ, pos, Bool, true, false, ◌&&◌, nat_eq, if◌then◌else◌, List, [], ◌∷◌, ◌++◌, length, drop, is_some, Option, Some, None, ⊎_elim, refl, sym, ap, ◌∙◌, subst, arith, append_assoc, length-append, slice_get, slice_set, slice_index_or}
+use Rattle.std.proofs.Common.{◌≡◌, ◌⊎◌, inl, inr, ℕ, zero, suc, ◌+◌, ◌-◌, ◌<◌, ◌≤◌, ℤ, pos, Bool, true, false, ◌&&◌, nat_eq, if◌then◌else◌, List, [], ◌∷◌, ◌++◌, length, drop, Option, Some, None, ⊎_elim, refl, sym, ap, ◌∙◌, subst, arith, append_assoc, length-append, slice_get, slice_set}
 use Rattle.std.proofs.Math.Seq.{take-append_seam, drop-append_seam}
 use Rattle.std.proofs.lemmas.Bool.{and_parts, eqb-true, cases_eq}
 use Rattle.std.proofs.lemmas.List.{length-set}
 use Rattle.std.proofs.lemmas.Option.{slice_get_within}
-use Rattle.std.specs.Fmt.{signed_decimal}
 use Rattle.arc_ast.specs.declared.tree.Sign.{Sign}
 use Rattle.arc_ast.specs.declared.tree.Sign.TheVariants as signs
 use Rattle.arc_spec.specs.declared.class.Gives.{Gives}
@@ -14,18 +13,20 @@ use Rattle.arc_spec.specs.Classes.{Class, class_at, lookup, is_root_init, same_g
 use Rattle.arc_spec.specs.World.{name_at}
 use Rattle.arc_spec.specs.declared.event.Fault.TheVariants.{FieldClass, Resurrected, Unrecognized}
 use Rattle.arc_spec.specs.Meaning.{chosen}
-use Rattle.arc_spec.specs.Number.{converted, applied, combined, counted, low_byte, byte_or_end, is_zero}
+use Rattle.arc_spec.specs.Number.{combined, counted, is_zero}
 use Rattle.arc_spec.specs.Objects.{Object, Dying, Emptying, Gone, object_at, with_object, with_fields, with_strong_fields, in_phase, is_live, is_emptying, fields_of}
 use Rattle.arc_spec.specs.Resolved as resolved
-use Rattle.arc_spec.specs.Holding.{Held, nothing_held, Frame, Calling, Ending, Clearing, Waiter, Counted, holders, is_there, stacked, with_strong_globals, with_strong_field, on_place, turned_in, with_temporaries, with_variables, with_names, with_things, with_globals, lowered, raised, named, taken_by, on_named, on_field, declares, lets_go, resumed, all_nil, on_left, on_last, on_result, given_back, makes, with_field}
+use Rattle.arc_spec.specs.Holding.{Held, nothing_held, Frame, Calling, Ending, Clearing, Waiter, Counted, holders, is_there, stacked, with_strong_globals, with_strong_field, on_place, turned_in, with_temporaries, with_variables, with_names, with_things, with_globals, lowered, raised, named, taken_by, on_named, on_field, declares, lets_go, resumed, all_nil, on_left, on_last, on_result, given_back, with_field}
 use Rattle.arc_spec.specs.Stepping.{Next, Goes, Asks, Faults, Stuck, Along, Safe, Sound, on_top, on_found, only_if}
-use Rattle.arc_ir.specs.Acting.{Action, Program, State, lands, start, step, entry, keeps, goes, or_fault, has_level, enters, answers, taken, sends, allocates, difference, operates, begins_end, releases, runs_dealloc, clears, after_deallocs, clears_next, ends_class, end_goes_on, leaves, executes}
+use Rattle.arc_ir.specs.Acting.{Action, Program, State, lands, start, step, entry, keeps, goes, or_fault, has_level, enters, answers, taken, sends, allocates, operates, begins_end, releases, runs_dealloc, clears, after_deallocs, clears_next, ends_class, end_goes_on, leaves, executes}
 use Rattle.arc_code.specs.declared.effect.Height.{Height}
 use Rattle.arc_code.specs.declared.instr.Op.{Op}
 use Rattle.arc_code.specs.declared.instr.Op.TheVariants as ops
 use Rattle.arc_code.specs.declared.instr.Op.TheVariants.{Num, Bin, Un, Narrow, Pop, Get, Set, PrintNum, PrintByte, GetChar, Declare, Nil, ReadSelf, ReadRef, ReadGlobal, ReadField, Hold, Forget, Alloc, Finds, GetField, SetField, Differ, IsObject}
 use Rattle.arc_code.specs.declared.instr.Instr.TheVariants.{Plain, PrintText, Jump, JumpZero, Call, Send, SendSuper, SendTo, SendToSuper, StoreStrong, StoreGlobal, StoreField, Empty, DropAll, Settle, Give, Return, EndStep}
-use Rattle.arc_code.specs.Effects.{passes, as_number, as_object}
+use Rattle.arc_code.specs.Effects.{passes, as_number, as_object, operation_effect, Follows}
+use Rattle.arc_code.proofs.EffectsFollowed.{operation_follows}
+use Rattle.arc_code.proofs.Outcomes.{along_both}
 use Rattle.arc_code.specs.Instructions as instructions
 use Rattle.arc_lower.specs.Order.{Order, order, orders}
 use Rattle.arc_lower.specs.Lowered.{slots_of, parameters_of, entries_of, end_step_of, lowered as lowered_orders, classes_linked}
@@ -35,7 +36,7 @@ use Rattle.arc_lower.proofs.CountsPlaces.{IsThere, AllThere, place_there, name_t
 use Rattle.arc_lower.proofs.CountsKept.{Sane, Drops, nothing_sane, sane_moved, sane_names, sane_globals, sane_start, sane_entered, sane_take, sane_declare, fits_at, sane_counted, variables_there, waiting_there, stacked_there, globals_there, fields_there, sane_store, sane_store_global, sane_store_field, sane_drop, sane_settle, drops_there, sane_nil, sane_last, sane_other, sane_make, sane_field, sane_empty, sane_gone}
 use Rattle.arc_lower.proofs.Doing.{at, resumed_as, bare, does, acts_does}
 use Rattle.arc_lower.proofs.Standing.{no_nil, ending, AllDying, IsDying, NilBut, Alive, nil_alive, ends_there, ending_alive, IsHeld, last_held, held_there, held_within, made_dying, changed_dying, IsApart, live_apart, apart_dying, stored_far, fields_far, one_nil, no_field, nil_named, all_in_order}
-use Rattle.arc_lower.proofs.Typing.{Reaches, IsCalled}
+use Rattle.arc_lower.proofs.Typing.{Reaches, enough, IsCalled}
 use Rattle.arc_lower.proofs.Stacking.{after_one}
 use Rattle.arc_lower.proofs.Stepping.{some_same, seam, Clears, opens_clears, Stands, Quiet, Free, free_at, Onward, Steps}
 use Rattle.arc_lower.proofs.Stepping as stepping
@@ -299,20 +300,31 @@ module _ (p : Program) (R : resolved.Program) where
   abbrev Leads : Next State → Type 0
   Leads = Along Good
 
-  top_leads : (stack : List ℤ) (go : ℤ → List ℤ → Next State) → 1 ≤ length stack → ((v : ℤ) (rest : List ℤ) → length stack ≡ suc (length rest) → Leads (go v rest)) → Leads (on_top stack go)
-  top_leads [] go some h = absurd (omega (arith, some))
-  top_leads (v ∷ rest) go some h = h v rest refl
+  -- a fact of each state to which a step leads that isn't missing
+  module _ (P : State → Type 0) where
+    top_leads : (stack : List ℤ) (go : ℤ → List ℤ → Next State) → 1 ≤ length stack → ((v : ℤ) (rest : List ℤ) → length stack ≡ suc (length rest) → Along P (go v rest)) → Along P (on_top stack go)
+    top_leads [] go some h = absurd (omega (arith, some))
+    top_leads (v ∷ rest) go some h = h v rest refl
 
-  found_leads : {A : Type 0} (list : List A) (i : ℕ) (go : A → Next State) → i < length list → ((a : A) → slice_get list i ≡ Some a → Leads (go a)) → Leads (on_found (slice_get list i) go)
-  found_leads [] i go lt h = absurd (omega (arith, lt))
-  found_leads (a ∷ list) zero go lt h = h a refl
-  found_leads (a ∷ list) (suc i) go lt h = found_leads list i go (omega (arith, lt)) h
+    found_leads : {A : Type 0} (list : List A) (i : ℕ) (go : A → Next State) → i < length list → ((a : A) → slice_get list i ≡ Some a → Along P (go a)) → Along P (on_found (slice_get list i) go)
+    found_leads [] i go lt h = absurd (omega (arith, lt))
+    found_leads (a ∷ list) zero go lt h = h a refl
+    found_leads (a ∷ list) (suc i) go lt h = found_leads list i go (omega (arith, lt)) h
 
-  reference_leads : (r : ℕ) (names rest : List ℕ) (go : ℕ → List ℕ → Next State) → names ≡ r ∷ rest → Leads (go r rest) → Leads (on_top names go)
-  reference_leads r names rest go e h = subst (λ l. Leads (on_top l go)) (sym e) h
+    named_leads : (r : ℕ) (held : Held) (next : Next State) → IsThere held.objects r → Along P next → Along P (on_named r held next)
+    named_leads r held next there h = subst (Along P) (sym (named_goes r held next there)) h
 
-  named_leads : (r : ℕ) (held : Held) (next : Next State) → IsThere held.objects r → Leads next → Leads (on_named r held next)
-  named_leads r held next there h = subst Leads (sym (named_goes r held next there)) h
+    field_leads : (class r : ℕ) (held : Held) (go : Object → Next State) → IsThere held.objects r → ((j : ℕ) (o : Object) → r ≡ suc j → object_at held.objects (suc j) ≡ Some o → is_there o.phase ≡ true → Along P (go o)) → Along P (on_field p.classes class r held go)
+    field_leads class zero held go there h = tt
+    field_leads class (suc j) held go there h =
+        let o = there.0 in
+        subst (Along P) (sym (object_goes (object_at held.objects (suc j)) o (λ x. if descends p.classes (Some x.class) class then go x else Faults FieldClass) there.1 there.2))
+        (by_test (λ b. Along P (if b then go o else Faults FieldClass)) (descends p.classes (Some o.class) class) (λ e. h j o refl there.1 there.2) (λ e. tt))
+
+    -- the last of these references, which are the first of all
+    reference_leads : (own deeper places names : List ℕ) (go : ℕ → List ℕ → Next State) → names ≡ own ++ deeper → 1 ≤ length own → AllHeld own places → ((r : ℕ) (rest : List ℕ) → length own ≡ suc (length rest) → IsHeld r places → AllHeld rest places → Along P (go r (rest ++ deeper))) → Along P (on_top names go)
+    reference_leads [] deeper places names go is some keeps h = absurd (omega (arith, some))
+    reference_leads (r ∷ own) deeper places names go is some keeps h = subst (λ l. Along P (on_top l go)) (sym is) (h r own refl keeps.0 keeps.1)
 
   receiver_goes : (objects : ℕ) (given rest : List ℕ) (r : ℕ) (go : ℕ → List ℕ → Next State) → length given ≡ objects → instructions.on_receiver objects (given ++ r ∷ rest) go ≡ go r (given ++ rest)
   receiver_goes objects given rest r go some = rw (← some) (simp (seam, take-append_seam, after_one))
@@ -321,13 +333,6 @@ module _ (p : Program) (R : resolved.Program) where
   taken_leads zero stack go le h = h stack (omega arith)
   taken_leads (suc takes) [] go le h = absurd (omega (arith, le))
   taken_leads (suc takes) (v ∷ rest) go le h = taken_leads takes rest go (omega (arith, le)) (λ rest1 e. h rest1 (omega (arith, e)))
-
-  field_leads : (class r : ℕ) (held : Held) (go : Object → Next State) → IsThere held.objects r → ((j : ℕ) (o : Object) → r ≡ suc j → object_at held.objects (suc j) ≡ Some o → is_there o.phase ≡ true → Leads (go o)) → Leads (on_field p.classes class r held go)
-  field_leads class zero held go there h = tt
-  field_leads class (suc j) held go there h =
-      let o = there.0 in
-      subst Leads (sym (object_goes (object_at held.objects (suc j)) o (λ x. if descends p.classes (Some x.class) class then go x else Faults FieldClass) there.1 there.2))
-      (by_test (λ b. Leads (if b then go o else Faults FieldClass)) (descends p.classes (Some o.class) class) (λ e. h j o refl there.1 there.2) (λ e. tt))
 
   place_leads : (found : Option ℕ) (none : Next State) (go : ℕ → Next State) → (found ≡ None → Leads none) → ((old : ℕ) → found ≡ Some old → Leads (go old)) → Leads (on_place found none go)
   place_leads None none go h g = h refl
@@ -524,140 +529,126 @@ module _ (p : Program) (R : resolved.Program) where
       held_alive : (r : ℕ) → IsHeld r (held.temporaries ++ waiting) → Alive frames (stacked held) r
       held_alive r e objects there ends = held_there objects held.temporaries held.variables waiting r e (subst (λ l. AllThere objects ((held.temporaries ++ held.variables) ++ l)) o.places there)
 
-      -- the last reference, and the others
-      top_is : (r : ℕ) (rest : List ℕ) → own ≡ r ∷ rest → held.names ≡ r ∷ (rest ++ deeper)
-      top_is r rest e = o.is ∙ ap (λ l. l ++ deeper) e
+      -- the last reference, which is held, and the others
+      last_leads_on : (P : State → Type 0) (go : ℕ → List ℕ → Next State) → 1 ≤ h.names → ((r : ℕ) (rest : List ℕ) → length own ≡ suc (length rest) → IsHeld r (held.temporaries ++ waiting) → AllHeld rest (held.temporaries ++ waiting) → Along P (go r (rest ++ deeper))) → Along P (on_top held.names go)
+      last_leads_on P go some = reference_leads P own deeper (held.temporaries ++ waiting) held.names go o.is (omega (arith, some, size)) o.keeps
 
-      keeps_of : (r : ℕ) (rest : List ℕ) → own ≡ r ∷ rest → IsHeld r (held.temporaries ++ waiting) × AllHeld rest (held.temporaries ++ waiting)
-      keeps_of r rest e = subst (λ l. AllHeld l (held.temporaries ++ waiting)) e o.keeps
+      -- the variables once an operation is done
+      abbrev declared : Op → List ℕ → List ℕ
+      declared Declare variables = 0 ∷ variables
+      declared _ variables = variables
 
-      -- after an operation that leaves the variables as they are
-      next : (nil : (k : ℕ) → Clear k pc → Shut mine k held.variables) (g : Height) → Onward R (all R) (table R) mine pc (pc + 1) g → (stack1 : List ℤ) (held1 : Held) (own1 : List ℕ) → Ready (pc + 1) own1 held1.temporaries waiting → held1.variables ≡ held.variables → length stack1 ≡ g.numbers + below → length own1 ≡ g.names → length held1.temporaries ≤ g.temporaries → h.variables ≡ g.variables → Owns own1 held1 → Good (at frames (pc + 1) stack1 held1)
-      next nil g on stack1 held1 own1 ready1 same count1 size1 few1 many1 o1 =
-          let every = ap length same in
-          run_on (pc + 1) stack1 held1 own1 o1 (back (pc + 1) g on.0 (length stack1) own1 held1 (λ k c. subst (Shut mine k) (sym same) (⊎_elim (λ before. nil k before) (λ le. shut_end mine held.variables k (omega (arith, many, many1, le))) (on.1 k c))) ready1 count1 size1 few1 (omega (arith, every, many, many1)) o1.keeps)
+      -- an object that it makes is the last reference, and the last temporary
+      abbrev IsMade : Op → (own1 temporaries1 : List ℕ) → Type 0
+      IsMade Alloc own1 temporaries1 = Made own1 temporaries1 waiting
+      IsMade _ own1 temporaries1 = Unit {0}
 
-      module _ (nil : (k : ℕ) → Clear k pc → Shut mine k held.variables) (x : Op) (g : Onward R (all R) (table R) mine pc (pc + 1) (next_height R (Plain x) h)) (free : Is_free (pc + 1) ⊎ ((x ≡ Alloc) × Quiet R (all R) (table R) (pc + 1))) where
-        abbrev to : Height
-        to = next_height R (Plain x) h
+      -- what an operation leaves; how much that is the table of effects says
+      record Kept (x : Op) (t : State) : Type 0 where
+        own1 : List ℕ
+        owns : Owns own1 t.held
+        variables : t.held.variables ≡ declared x held.variables
+        made : IsMade x own1 t.held.temporaries
 
-        -- an operation that makes no object
-        no_object : to.temporaries ≡ h.temporaries → (own1 temporaries1 : List ℕ) → Ready (pc + 1) own1 temporaries1 waiting
-        no_object same own1 temporaries1 = ⊎_elim (λ f. inl f) (λ q.
-            let e : to.temporaries ≡ h.temporaries + 1 = ap (λ y. (next_height R (Plain y) h).temporaries) q.0 in
-            absurd (omega (arith, e, same))) free
+      -- the references stay
+      stays : (x : Op) (stack1 : List ℤ) → declared x held.variables ≡ held.variables → IsMade x own held.temporaries → Kept x (at frames (pc + 1) stack1 held)
+      stays x stack1 same made = record { own1 = own; owns = o; variables = sym same; made = made }
 
-        -- after an operation on numbers
-        counts : (stack1 : List ℤ) → length stack1 ≡ to.numbers + below → to.names ≡ h.names → to.temporaries ≡ h.temporaries → to.variables ≡ h.variables → Good (at frames (pc + 1) stack1 held)
-        counts stack1 count1 a b c = next nil to g stack1 held own (no_object b own held.temporaries) refl count1 (omega (arith, size, a)) (omega (arith, few, b)) (omega (arith, c)) o
+      -- there are these
+      refers : (x : Op) (stack1 : List ℤ) (names1 own1 : List ℕ) → names1 ≡ own1 ++ deeper → AllHeld own1 (held.temporaries ++ waiting) → declared x held.variables ≡ held.variables → IsMade x own1 held.temporaries → Kept x (at frames (pc + 1) stack1 (with_names held names1))
+      refers x stack1 names1 own1 is keeps same made = record { own1 = own1; owns = record { is = is; places = o.places; itself = o.itself; keeps = keeps; dying = o.dying; sane = sane_names held names1 o.sane }; variables = sym same; made = made }
 
-        -- after one that takes references
-        refers : (stack1 : List ℤ) (held1 : Held) (own1 : List ℕ) → held1.names ≡ own1 ++ deeper → held1.places ≡ held.places → held1.self ≡ held.self → held1.temporaries ≡ held.temporaries → held1.variables ≡ held.variables → AllHeld own1 (held.temporaries ++ waiting) → AllDying held1.objects (ending frames) → Sane p.classes held1 → length stack1 ≡ to.numbers + below → length own1 ≡ to.names → to.temporaries ≡ h.temporaries → to.variables ≡ h.variables → Good (at frames (pc + 1) stack1 held1)
-        refers stack1 held1 own1 is places itself temporaries variables keeps dying sane count1 size1 b c =
-            let long = ap length temporaries in
-            next nil to g stack1 held1 own1 (no_object b own1 held1.temporaries) variables count1 size1 (omega (arith, few, b, long)) (omega (arith, c)) (record { is = is; places = places ∙ o.places; itself = itself ∙ o.itself; keeps = subst (λ l. AllHeld own1 (l ++ waiting)) (sym temporaries) keeps; dying = dying; sane = sane })
+      -- and a temporary takes this
+      takes : (x : Op) (r : ℕ) (names1 own1 : List ℕ) → names1 ≡ own1 ++ deeper → IsThere held.objects r → AllHeld own1 (r ∷ (held.temporaries ++ waiting)) → declared x held.variables ≡ held.variables → IsMade x own1 (r ∷ held.temporaries) → Kept x (at frames (pc + 1) stack (taken_by r (with_names held names1)))
+      takes x r names1 own1 is there keeps same made = record { own1 = own1; owns = record { is = is; places = o.places; itself = o.itself; keeps = keeps; dying = o.dying; sane = sane_take (with_names held names1) r there (sane_names held names1 o.sane) }; variables = sym same; made = made }
 
-        -- after one by which a temporary takes an object, and with these references
-        takes : (not_made : x ≡ Alloc → ⊥) (r : ℕ) (names own1 : List ℕ) → names ≡ own1 ++ deeper → IsThere held.objects r → AllHeld own1 (r ∷ (held.temporaries ++ waiting)) → to.numbers ≡ h.numbers → length own1 ≡ to.names → to.temporaries ≡ h.temporaries + 1 → to.variables ≡ h.variables → Good (at frames (pc + 1) stack (taken_by r (with_names held names)))
-        takes not_made r names own1 is there keeps a size1 b c = next nil to g stack (taken_by r (with_names held names)) own1 (⊎_elim (λ f. inl f) (λ q. absurd (not_made q.0)) free) refl (omega (arith, count, a)) size1 (omega (arith, few, b)) (omega (arith, c)) (record { is = is; places = o.places; itself = o.itself; keeps = keeps; dying = o.dying; sane = sane_take (with_names held names) r there (sane_names held names o.sane) })
+      -- which is the last reference, above these
+      reads : (x : Op) (r : ℕ) (names1 own1 : List ℕ) → names1 ≡ own1 ++ deeper → IsThere held.objects r → AllHeld own1 (held.temporaries ++ waiting) → declared x held.variables ≡ held.variables → IsMade x (r ∷ own1) (r ∷ held.temporaries)
+          → Along (Kept x) (on_named r (with_names held (r ∷ names1)) (Goes (at frames (pc + 1) stack (taken_by r (with_names held (r ∷ names1)))) []))
+      reads x r names1 own1 is there keeps same made = named_leads (Kept x) r (with_names held (r ∷ names1)) _ there (takes x r (r ∷ names1) (r ∷ own1) (ap (λ l. r ∷ l) is) there (last_held r (held.temporaries ++ waiting), all_more r own1 (held.temporaries ++ waiting) keeps) same made)
 
-      or_fault_leads : (v : Option ℤ) (rest : List ℤ) → ((x : ℤ) → Good (at frames (pc + 1) (x ∷ rest) held)) → Leads (or_fault v s rest)
-      or_fault_leads None rest g = tt
-      or_fault_leads (Some v) rest g = g v
+      or_fault_leads : (x : Op) (v : Option ℤ) (rest : List ℤ) → declared x held.variables ≡ held.variables → IsMade x own held.temporaries → Along (Kept x) (or_fault v s rest)
+      or_fault_leads x None rest same made = tt
+      or_fault_leads x (Some v) rest same made = stays x (v ∷ rest) same made
 
-      made_leads : (nil : (k : ℕ) → Clear k pc → Shut mine k held.variables) (found : Option ℕ) (rest : List ℤ) → 1 ≤ h.numbers → Onward R (all R) (table R) mine pc (pc + 1) (next_height R (Plain Alloc) h) → Is_free (pc + 1) ⊎ ((Alloc ≡ Alloc) × Quiet R (all R) (table R) (pc + 1)) → length stack ≡ suc (length rest) → Leads (allocates p.classes s rest found)
-      made_leads nil None rest some g free e = tt
-      made_leads nil (Some c) rest some g free e =
+      made_leads : (found : Option ℕ) (rest : List ℤ) → Along (Kept Alloc) (allocates p.classes s rest found)
+      made_leads None rest = tt
+      made_leads (Some c) rest =
           let r = suc (length held.objects) in
-          let made : Made (r ∷ own) (r ∷ held.temporaries) waiting = record { made = r; rest = own; others = held.temporaries; names_are = refl; places_are = refl; kept = o.keeps } in
-          next nil (next_height R (Plain Alloc) h) g rest (makes p.classes c held) (r ∷ own) (⊎_elim (λ f. inl f) (λ q. inr (inl (q.1, made))) free) refl (omega (arith, some, count, e)) (omega (arith, size)) (omega (arith, few)) (omega arith)
-          (record { is = ap (λ l. r ∷ l) o.is; places = o.places; itself = o.itself; keeps = (last_held r (held.temporaries ++ waiting), all_more r own (held.temporaries ++ waiting) o.keeps); dying = made_dying held.objects _ (ending frames) o.dying; sane = sane_make held c o.sane })
+          record {
+            own1 = r ∷ own;
+            owns = record { is = ap (λ l. r ∷ l) o.is; places = o.places; itself = o.itself; keeps = (last_held r (held.temporaries ++ waiting), all_more r own (held.temporaries ++ waiting) o.keeps); dying = made_dying held.objects _ (ending frames) o.dying; sane = sane_make held c o.sane };
+            variables = refl;
+            made = record { made = r; rest = own; others = held.temporaries; names_are = refl; places_are = refl; kept = o.keeps };
+          }
 
-      field_dies : (j : ℕ) (ob : Object) (fields : List ℤ) (r : ℕ) → r ≡ suc j → object_at held.objects (suc j) ≡ Some ob → AllDying (with_object held.objects r (with_fields ob fields)) (ending frames)
-      field_dies j ob fields r same found = subst (λ q. AllDying (with_object held.objects q (with_fields ob fields)) (ending frames)) (sym same) (changed_dying held.objects j (with_fields ob fields) (ending frames) (fields_far held.objects j ob fields found) o.dying)
-
-      operation_leads : (x : Op) → slice_get (all R) pc ≡ Some (Plain x) → (nil : (k : ℕ) → Clear k pc → Shut mine k held.variables) → Reaches x h → Onward R (all R) (table R) mine pc (pc + 1) (next_height R (Plain x) h) → Is_free (pc + 1) ⊎ ((x ≡ Alloc) × Quiet R (all R) (table R) (pc + 1)) → Leads (operates p.classes x s)
-      operation_leads (Num n) is nil needs g free = counts nil (Num n) g free (n ∷ stack) (omega (arith, count)) (omega arith) (omega arith) (omega arith)
-      operation_leads (Bin operator kind) is nil needs g free = top_leads stack _ (omega (arith, count, needs)) (λ y rest e. top_leads rest _ (omega (arith, count, needs, e)) (λ x others e2. or_fault_leads (combined operator kind x y) others (λ v. counts nil (Bin operator kind) g free (v ∷ others) (omega (arith, count, needs, e, e2)) (omega arith) (omega arith) (omega arith))))
-      operation_leads (Un operator kind) is nil needs g free = top_leads stack _ (omega (arith, count, needs)) (λ x rest e. counts nil (Un operator kind) g free (applied operator kind x ∷ rest) (omega (arith, count, needs, e)) (omega arith) (omega arith) (omega arith))
-      operation_leads (Narrow kind) is nil needs g free = top_leads stack _ (omega (arith, count, needs)) (λ x rest e. counts nil (Narrow kind) g free (converted kind x ∷ rest) (omega (arith, count, needs, e)) (omega arith) (omega arith) (omega arith))
-      operation_leads Pop is nil needs g free = top_leads stack _ (omega (arith, count, needs)) (λ x rest e. counts nil Pop g free rest (omega (arith, count, needs, e)) (omega arith) (omega arith) (omega arith))
-      operation_leads (Get depth) is nil needs g free = found_leads stack depth _ (omega (arith, count, needs)) (λ v _. counts nil (Get depth) g free (v ∷ stack) (omega (arith, count)) (omega arith) (omega arith) (omega arith))
-      operation_leads (Set depth) is nil needs g free = top_leads stack _ (omega (arith, count, needs)) (λ v rest e. found_leads rest depth _ (omega (arith, count, needs, e)) (λ u _. counts nil (Set depth) g free (slice_set rest depth v) (omega (arith, count, needs, e, length-set rest depth v)) (omega arith) (omega arith) (omega arith)))
-      operation_leads (ops.GetGlobal i) is nil needs g free = counts nil (ops.GetGlobal i) g free (slice_index_or held.statics.numbers i (pos 0) ∷ stack) (omega (arith, count)) (omega arith) (omega arith) (omega arith)
-      operation_leads (ops.SetGlobal i) is nil needs g free = top_leads stack _ (omega (arith, count, needs)) (λ v rest e.
-          let globals = slice_set held.statics.numbers i v in
-          refers nil (ops.SetGlobal i) g free rest (with_globals held globals) own o.is refl refl refl refl o.keeps o.dying (sane_globals held globals o.sane) (omega (arith, count, needs, e)) (omega (arith, size)) (omega arith) (omega arith))
-      operation_leads PrintNum is nil needs g free = top_leads stack _ (omega (arith, count, needs)) (λ v rest e. top_leads rest _ (omega (arith, count, needs, e)) (λ c others e2. counts nil PrintNum g free (counted c (signed_decimal v) ∷ others) (omega (arith, count, needs, e, e2)) (omega arith) (omega arith) (omega arith)))
-      operation_leads PrintByte is nil needs g free = top_leads stack _ (omega (arith, count, needs)) (λ v rest e. top_leads rest _ (omega (arith, count, needs, e)) (λ c others e2. counts nil PrintByte g free (counted c (low_byte v ∷ []) ∷ others) (omega (arith, count, needs, e, e2)) (omega arith) (omega arith) (omega arith)))
-      operation_leads GetChar is nil needs g free = λ answer. counts nil GetChar g free (byte_or_end answer ∷ stack) (omega (arith, count)) (omega arith) (omega arith) (omega arith)
-      operation_leads Declare is nil needs g free =
-          let none = none_of held.temporaries (omega (arith, few, needs)) in
-          let held1 = raised 0 (with_variables held (0 ∷ held.variables)) in
-          subst (λ l. Leads (declares l held (keeps s stack))) (sym none)
-          (run_on (pc + 1) stack held1 own (record { is = o.is; places = o.places; itself = o.itself; keeps = o.keeps; dying = o.dying; sane = sane_declare held o.sane })
-          (back (pc + 1) (next_height R (Plain Declare) h) g.0 (length stack) own held1 (λ k c. ⊎_elim (λ before. absurd (opens_clears R (all R) (table R) pc (Plain Declare) tt is k before)) (λ le. shut_end mine (0 ∷ held.variables) k (omega (arith, many, le))) (g.1 k c)) (no_object nil Declare g free (omega arith) own held.temporaries) (omega (arith, count)) (omega (arith, size)) (omega (arith, few)) (omega (arith, many)) o.keeps))
-      operation_leads Nil is nil needs g free = refers nil Nil g free stack (named 0 held) (0 ∷ own) (ap (λ l. 0 ∷ l) o.is) refl refl refl refl (tt, o.keeps) o.dying (sane_names held (0 ∷ held.names) o.sane) (omega (arith, count)) (omega (arith, size)) (omega arith) (omega arith)
-      operation_leads ReadSelf is nil needs g free =
-          let r = held.self in
-          named_leads r _ _ self_there (takes nil ReadSelf g free (λ same. cc) r (r ∷ held.names) (r ∷ own) (ap (λ l. r ∷ l) o.is) self_there (last_held r (held.temporaries ++ waiting), all_more r own (held.temporaries ++ waiting) o.keeps) (omega arith) (omega (arith, size)) (omega arith) (omega arith))
-      operation_leads (ReadRef i) is nil needs g free = found_leads held.variables i _ (omega (arith, many, needs)) (λ r found.
-          let there = place_there held.objects i r held.variables found (variables_there held o.sane) in
-          named_leads r _ _ there (takes nil (ReadRef i) g free (λ same. cc) r (r ∷ held.names) (r ∷ own) (ap (λ l. r ∷ l) o.is) there (last_held r (held.temporaries ++ waiting), all_more r own (held.temporaries ++ waiting) o.keeps) (omega arith) (omega (arith, size)) (omega arith) (omega arith)))
-      operation_leads (ReadGlobal i) is nil needs g free =
-          let r = name_at held.strong_globals i in
-          let there = name_there held.objects held.strong_globals i (globals_there held o.sane) in
-          named_leads r _ _ there (takes nil (ReadGlobal i) g free (λ same. cc) r (r ∷ held.names) (r ∷ own) (ap (λ l. r ∷ l) o.is) there (last_held r (held.temporaries ++ waiting), all_more r own (held.temporaries ++ waiting) o.keeps) (omega arith) (omega (arith, size)) (omega arith) (omega arith))
-      operation_leads (ReadField class index) is nil needs g free =
-          let f = first_of own (omega (arith, needs, size)) in
-          let shorter = ap length f.2 in
-          let kept = keeps_of f.0 f.1 f.2 in
-          reference_leads f.0 held.names (f.1 ++ deeper) _ (top_is f.0 f.1 f.2) (field_leads class f.0 held _ (is_held f.0 kept.0) (λ j ob same found is_there_now.
-          let r = name_at ob.strong index in
-          let there = name_there held.objects ob.strong index (fields_there held j ob found is_there_now o.sane) in
-          named_leads r _ _ there (takes nil (ReadField class index) g free (λ same. cc) r (r ∷ (f.1 ++ deeper)) (r ∷ f.1) refl there (last_held r (held.temporaries ++ waiting), all_more r f.1 (held.temporaries ++ waiting) kept.1) (omega arith) (omega (arith, size, needs, shorter)) (omega arith) (omega arith))))
-      operation_leads Hold is nil needs g free =
-          let f = first_of own (omega (arith, needs, size)) in
-          let there = is_held f.0 (keeps_of f.0 f.1 f.2).0 in
-          reference_leads f.0 held.names (f.1 ++ deeper) _ (top_is f.0 f.1 f.2) (named_leads f.0 held _ there (takes nil Hold g free (λ same. cc) f.0 held.names own o.is there (all_more f.0 own (held.temporaries ++ waiting) o.keeps) (omega arith) (omega (arith, size, needs)) (omega arith) (omega arith)))
-      operation_leads ops.Again is nil needs g free =
-          let f = first_of own (omega (arith, needs, size)) in
-          reference_leads f.0 held.names (f.1 ++ deeper) _ (top_is f.0 f.1 f.2) (refers nil ops.Again g free stack (named f.0 held) (f.0 ∷ own) (ap (λ l. f.0 ∷ l) o.is) refl refl refl refl ((keeps_of f.0 f.1 f.2).0, o.keeps) o.dying (sane_names held (f.0 ∷ held.names) o.sane) (omega (arith, count)) (omega (arith, size, needs)) (omega arith) (omega arith))
-      operation_leads Forget is nil needs g free =
-          let f = first_of own (omega (arith, needs, size)) in
-          let shorter = ap length f.2 in
-          reference_leads f.0 held.names (f.1 ++ deeper) _ (top_is f.0 f.1 f.2) (refers nil Forget g free stack (with_names held (f.1 ++ deeper)) f.1 refl refl refl refl refl (keeps_of f.0 f.1 f.2).1 o.dying (sane_names held (f.1 ++ deeper) o.sane) (omega (arith, count)) (omega (arith, size, shorter)) (omega arith) (omega arith))
-      operation_leads Alloc is nil needs g free = top_leads stack _ (omega (arith, count, needs)) (λ v rest e. made_leads nil (class_at v) rest needs g free e)
-      operation_leads (Finds selector) is nil needs g free = top_leads stack _ (omega (arith, count, needs)) (λ v rest e. counts nil (Finds selector) g free (instructions.one_if (is_some (lookup p.classes (class_at v) signs.Class selector 0 0 gives.Object)) ∷ stack) (omega (arith, count, needs)) (omega arith) (omega arith) (omega arith))
-      operation_leads (GetField class index) is nil needs g free =
-          let f = first_of own (omega (arith, needs, size)) in
-          let shorter = ap length f.2 in
-          reference_leads f.0 held.names (f.1 ++ deeper) _ (top_is f.0 f.1 f.2) (field_leads class f.0 held _ (is_held f.0 (keeps_of f.0 f.1 f.2).0) (λ j ob same found _.
-          refers nil (GetField class index) g free (slice_index_or ob.fields index (pos 0) ∷ stack) (with_names held (f.1 ++ deeper)) f.1 refl refl refl refl refl (keeps_of f.0 f.1 f.2).1 o.dying (sane_names held (f.1 ++ deeper) o.sane) (omega (arith, count)) (omega (arith, size, shorter)) (omega arith) (omega arith)))
-      operation_leads (SetField class index) is nil needs g free =
-          let f = first_of own (omega (arith, needs.1, size)) in
-          let r = f.0 in
-          let shorter = ap length f.2 in
-          reference_leads r held.names (f.1 ++ deeper) _ (top_is r f.1 f.2) (top_leads stack _ (omega (arith, count, needs.0)) (λ v rest e. field_leads class r held _ (is_held r (keeps_of r f.1 f.2).0) (λ j ob same found there.
+      operation_keeps : (x : Op) → Reaches x h → Along (Kept x) (operates p.classes x s)
+      operation_keeps (Num n) needs = stays _ _ refl tt
+      operation_keeps (Bin operator kind) needs = top_leads _ stack _ (omega (arith, count, needs)) (λ y rest e. top_leads _ rest _ (omega (arith, count, needs, e)) (λ x others _. or_fault_leads _ (combined operator kind x y) others refl tt))
+      operation_keeps (Un operator kind) needs = top_leads _ stack _ (omega (arith, count, needs)) (λ x rest _. stays _ _ refl tt)
+      operation_keeps (Narrow kind) needs = top_leads _ stack _ (omega (arith, count, needs)) (λ x rest _. stays _ _ refl tt)
+      operation_keeps Pop needs = top_leads _ stack _ (omega (arith, count, needs)) (λ x rest _. stays _ _ refl tt)
+      operation_keeps (Get depth) needs = found_leads _ stack depth _ (omega (arith, count, needs)) (λ v _. stays _ _ refl tt)
+      operation_keeps (Set depth) needs = top_leads _ stack _ (omega (arith, count, needs)) (λ v rest e. found_leads _ rest depth _ (omega (arith, count, needs, e)) (λ u _. stays _ _ refl tt))
+      operation_keeps (ops.GetGlobal i) needs = stays _ _ refl tt
+      operation_keeps (ops.SetGlobal i) needs = top_leads _ stack _ (omega (arith, count, needs)) (λ v rest _. record {
+        own1 = own;
+        owns = record { is = o.is; places = o.places; itself = o.itself; keeps = o.keeps; dying = o.dying; sane = sane_globals held (slice_set held.statics.numbers i v) o.sane };
+        variables = refl;
+        made = tt;
+      })
+      operation_keeps PrintNum needs = top_leads _ stack _ (omega (arith, count, needs)) (λ v rest e. top_leads _ rest _ (omega (arith, count, needs, e)) (λ c others _. stays _ _ refl tt))
+      operation_keeps PrintByte needs = top_leads _ stack _ (omega (arith, count, needs)) (λ v rest e. top_leads _ rest _ (omega (arith, count, needs, e)) (λ c others _. stays _ _ refl tt))
+      operation_keeps GetChar needs = λ answer. stays _ _ refl tt
+      operation_keeps Declare needs = subst (λ l. Along (Kept Declare) (declares l held (keeps s stack))) (sym (none_of held.temporaries (omega (arith, few, needs)))) (record {
+        own1 = own;
+        owns = record { is = o.is; places = o.places; itself = o.itself; keeps = o.keeps; dying = o.dying; sane = sane_declare held o.sane };
+        variables = refl;
+        made = tt;
+      })
+      operation_keeps Nil needs = refers _ _ _ (0 ∷ own) (ap (λ l. 0 ∷ l) o.is) (tt, o.keeps) refl tt
+      operation_keeps ReadSelf needs = reads _ held.self held.names own o.is self_there o.keeps refl tt
+      operation_keeps (ReadRef i) needs = found_leads _ held.variables i _ (omega (arith, many, needs)) (λ r found. reads _ r held.names own o.is (place_there held.objects i r held.variables found (variables_there held o.sane)) o.keeps refl tt)
+      operation_keeps (ReadGlobal i) needs = reads _ (name_at held.strong_globals i) held.names own o.is (name_there held.objects held.strong_globals i (globals_there held o.sane)) o.keeps refl tt
+      operation_keeps (ReadField class index) needs = last_leads_on _ _ (omega (arith, needs)) (λ r rest _ now kept. field_leads _ class r held _ (is_held r now) (λ j ob _ found there.
+          reads _ (name_at ob.strong index) (rest ++ deeper) rest refl (name_there held.objects ob.strong index (fields_there held j ob found there o.sane)) kept refl tt))
+      operation_keeps Hold needs = last_leads_on _ _ (omega (arith, needs)) (λ r rest _ now kept. named_leads _ r held _ (is_held r now) (takes _ r held.names own o.is (is_held r now) (all_more r own (held.temporaries ++ waiting) o.keeps) refl tt))
+      operation_keeps ops.Again needs = last_leads_on _ _ (omega (arith, needs)) (λ r rest _ now kept. refers _ _ _ (r ∷ own) (ap (λ l. r ∷ l) o.is) (now, o.keeps) refl tt)
+      operation_keeps Forget needs = last_leads_on _ _ (omega (arith, needs)) (λ r rest _ now kept. refers _ _ _ rest refl kept refl tt)
+      operation_keeps Alloc needs = top_leads _ stack _ (omega (arith, count, needs)) (λ v rest _. made_leads (class_at v) rest)
+      operation_keeps (Finds selector) needs = top_leads _ stack _ (omega (arith, count, needs)) (λ v rest _. stays _ _ refl tt)
+      operation_keeps (GetField class index) needs = last_leads_on _ _ (omega (arith, needs)) (λ r rest _ now kept. field_leads _ class r held _ (is_held r now) (λ j ob _ _ _. refers _ _ _ rest refl kept refl tt))
+      operation_keeps (SetField class index) needs = last_leads_on _ _ (omega (arith, needs)) (λ r rest _ now kept. top_leads _ stack _ (omega (arith, count, needs)) (λ v _ _. field_leads _ class r held _ (is_held r now) (λ j ob same found _.
           let fields = slice_set ob.fields index v in
           let set : Sane p.classes (with_field held r ob index v) = subst (λ q. Sane p.classes (with_things held (with_object held.objects q (with_fields ob fields)))) (sym same) (sane_field held j ob fields found o.sane) in
-          refers nil (SetField class index) g free stack (with_names (with_field held r ob index v) (f.1 ++ deeper)) f.1 refl refl refl refl refl (keeps_of r f.1 f.2).1 (field_dies j ob fields r same found) (sane_names (with_field held r ob index v) (f.1 ++ deeper) set) (omega (arith, count, needs.0)) (omega (arith, size, shorter)) (omega arith) (omega arith))))
-      operation_leads Differ is nil needs g free =
-          let f = first_of own (omega (arith, needs, size)) in
-          let shorter = ap length f.2 in
-          let q = first_of f.1 (omega (arith, needs, size, shorter)) in
-          let least = ap length q.2 in
-          let first = keeps_of f.0 f.1 f.2 in
-          let second = subst (λ l. AllHeld l (held.temporaries ++ waiting)) q.2 first.1 in
-          reference_leads f.0 held.names (f.1 ++ deeper) _ (top_is f.0 f.1 f.2) (reference_leads q.0 (f.1 ++ deeper) (q.1 ++ deeper) _ (ap (λ l. l ++ deeper) q.2)
-          (named_leads f.0 held _ (is_held f.0 first.0) (named_leads q.0 held _ (is_held q.0 second.0)
-          (refers nil Differ g free (difference q.0 f.0 ∷ stack) (with_names held (q.1 ++ deeper)) q.1 refl refl refl refl refl second.1 o.dying (sane_names held (q.1 ++ deeper) o.sane) (omega (arith, count)) (omega (arith, size, shorter, least)) (omega arith) (omega arith)))))
-      operation_leads IsObject is nil needs g free =
-          let f = first_of own (omega (arith, needs, size)) in
-          let shorter = ap length f.2 in
-          let first = keeps_of f.0 f.1 f.2 in
-          reference_leads f.0 held.names (f.1 ++ deeper) _ (top_is f.0 f.1 f.2) (named_leads f.0 held _ (is_held f.0 first.0)
-          (refers nil IsObject g free (difference f.0 0 ∷ stack) (with_names held (f.1 ++ deeper)) f.1 refl refl refl refl refl first.1 o.dying (sane_names held (f.1 ++ deeper) o.sane) (omega (arith, count)) (omega (arith, size, shorter)) (omega arith) (omega arith)))
+          let dying = subst (λ q. AllDying (with_object held.objects q (with_fields ob fields)) (ending frames)) (sym same) (changed_dying held.objects j (with_fields ob fields) (ending frames) (fields_far held.objects j ob fields found) o.dying) in
+          record { own1 = rest; owns = record { is = refl; places = o.places; itself = o.itself; keeps = kept; dying = dying; sane = sane_names (with_field held r ob index v) (rest ++ deeper) set }; variables = refl; made = tt })))
+      operation_keeps Differ needs = last_leads_on _ _ (omega (arith, needs)) (λ r rest e now kept. reference_leads _ rest deeper (held.temporaries ++ waiting) (rest ++ deeper) _ refl (omega (arith, needs, e, size)) kept (λ q others _ also below1.
+          named_leads _ r held _ (is_held r now) (named_leads _ q held _ (is_held q also) (refers _ _ _ others refl below1 refl tt))))
+      operation_keeps IsObject needs = last_leads_on _ _ (omega (arith, needs)) (λ r rest _ now kept. named_leads _ r held _ (is_held r now) (refers _ _ _ rest refl kept refl tt))
+
+      ready_after : (x : Op) (own1 temporaries1 : List ℕ) → IsMade x own1 temporaries1 → Is_free (pc + 1) ⊎ ((x ≡ Alloc) × Quiet R (all R) (table R) (pc + 1)) → Ready (pc + 1) own1 temporaries1 waiting
+      ready_after x own1 temporaries1 made (inl free) = inl free
+      ready_after Alloc own1 temporaries1 made (inr quiet) = inr (inl (quiet.1, made))
+      ready_after _ own1 temporaries1 made (inr (same, quiet)) = cc
+
+      shut_before : (x : Op) → slice_get (all R) pc ≡ Some (Plain x) → (k : ℕ) → Clear k pc → Shut mine k held.variables → Shut mine k (declared x held.variables)
+      shut_before Declare is k before shut = absurd (opens_clears R (all R) (table R) pc (Plain Declare) tt is k before)
+      shut_before _ is k before shut = shut
+
+      operation_leads : (x : Op) → slice_get (all R) pc ≡ Some (Plain x) → (nil : (k : ℕ) → Clear k pc → Shut mine k held.variables) → Reaches x h → Onward R (all R) (table R) mine pc (pc + 1) (next_height R (Plain x) h) → Is_free (pc + 1) ⊎ ((x ≡ Alloc) × Quiet R (all R) (table R) (pc + 1)) → Leads (operates p.classes x s)
+      operation_leads x is nil needs g free = along_both (Kept x) (Follows (operation_effect x) s) Good (λ t kept f.
+          let none = enough x h needs in
+          let names_now = ap length kept.owns.is in
+          let names_then = ap length o.is in
+          let long = length-append kept.own1 deeper in
+          let longer = length-append own deeper in
+          subst (λ fs. Good (at fs t.at t.stack t.held)) (sym f.frames) (subst (λ n. Good (at frames n t.stack t.held)) (sym f.at)
+          (run_on (pc + 1) t.stack t.held kept.own1 kept.owns
+          (back (pc + 1) (next_height R (Plain x) h) g.0 (length t.stack) kept.own1 t.held
+          (λ k c. ⊎_elim (λ before. subst (Shut mine k) (sym kept.variables) (shut_before x is k before (nil k before))) (λ le. shut_end mine t.held.variables k (omega (arith, f.variables, many, le))) (g.1 k c))
+          (ready_after x kept.own1 t.held.temporaries kept.made free) (omega (arith, count, none, f.numbers)) (omega (arith, size, none, f.names, names_now, names_then, long, longer)) (omega (arith, few, f.temporaries)) (omega (arith, many, f.variables)) kept.owns.keeps))))
+          (operates p.classes x s) (operation_keeps x needs) (operation_follows p.classes s x)
 
       -- where a run stands after a call
       abbrev After_call : Height → Type 0
@@ -700,7 +691,7 @@ module _ (p : Program) (R : resolved.Program) where
           (subst (λ n. Resumes mine (pc + 1) self frames n below (rest ++ deeper) deeper held.temporaries held.variables waiting) more home1)
       at_once_leads gives.Object object stack0 stack1 names0 rest home1 there kept =
           let names1 = object ∷ (rest ++ deeper) in
-          named_leads object (with_names held names1) _ there
+          named_leads Good object (with_names held names1) _ there
           (run_on (pc + 1) stack1 (taken_by object (with_names held names1)) (object ∷ rest)
           (record { is = refl; places = o.places; itself = o.itself; keeps = (last_held object (held.temporaries ++ waiting), all_more object rest (held.temporaries ++ waiting) kept); dying = o.dying; sane = sane_take (with_names held names1) object there (sane_names held names1 o.sane) })
           (home1 object))
@@ -817,9 +808,9 @@ module _ (p : Program) (R : resolved.Program) where
 
       order_leads : (x : Order) → slice_get (all R) pc ≡ Some x → Stands R (all R) (table R) mine pc h → (x ≡ EndStep → ⊥) → (nil : (k : ℕ) → Clear k pc → Shut mine k held.variables) → Ready pc own held.temporaries waiting → Steps R (all R) (table R) mine h pc x → Leads (does p x s)
       order_leads (Plain x) is stands no_end nil ready st = operation_leads x is nil st.0 st.1 st.2
-      order_leads (PrintText bytes) is stands no_end nil ready st = top_leads stack _ (omega (arith, count, st.0)) (λ c rest e. go_on (pc + 1) _ st.1 (counted c bytes ∷ rest) held own (omega (arith, count, st.0, e)) (omega (arith, size)) (omega (arith, few)) (omega (arith, many)) o)
+      order_leads (PrintText bytes) is stands no_end nil ready st = top_leads Good stack _ (omega (arith, count, st.0)) (λ c rest e. go_on (pc + 1) _ st.1 (counted c bytes ∷ rest) held own (omega (arith, count, st.0, e)) (omega (arith, size)) (omega (arith, few)) (omega (arith, many)) o)
       order_leads (Jump to) is stands no_end nil ready st = go_on (lands pc to) _ st.2 stack held own count size (omega (arith, few, st.1)) many o
-      order_leads (JumpZero to) is stands no_end nil ready st = top_leads stack _ (omega (arith, count, st.0)) (λ v rest e.
+      order_leads (JumpZero to) is stands no_end nil ready st = top_leads Good stack _ (omega (arith, count, st.0)) (λ v rest e.
           by_test (λ b. Leads (chosen b (goes s rest) (Goes (at frames (lands pc to) rest held) []))) (is_zero v)
           (λ _. go_on (lands pc to) _ st.2.2 rest held own (omega (arith, count, st.0, e)) (omega (arith, size)) (omega (arith, few, st.2.1)) (omega (arith, many)) o)
           (λ _. go_on (pc + 1) _ st.1 rest held own (omega (arith, count, st.0, e)) (omega (arith, size)) (omega (arith, few)) (omega (arith, many)) o))
@@ -832,51 +823,33 @@ module _ (p : Program) (R : resolved.Program) where
           (subst (λ m. Goes_to wanted (entry p f) (height (slots_of R wanted f) m 0 0)) (sym part.many) (calls wanted f st.0.1))
           (omega (arith, count, st.0.0)) names_is (held_first part.first part.rest (held.temporaries ++ waiting) (subst (λ l. AllHeld l (held.temporaries ++ waiting)) part.is o.keeps)) (nil_alive frames (stacked held)) o.itself o.places o.dying o.sane
           (own_home wanted x (length stack - slots_of R wanted f) part.first part.rest part.is st.1 (omega (arith, count, st.0.0)) (omega (arith, size, part.left)) (omega arith) (omega arith))
-      order_leads (Send selector takes objects wanted) is stands no_end nil ready st = found_leads stack takes _ (omega (arith, count, st.0.0)) (λ class _. class_reported wanted (class_at class) selector takes objects (next_height R (Send selector takes objects wanted) h) st.0 st.1 (omega arith) (omega arith) (omega arith) (omega arith))
+      order_leads (Send selector takes objects wanted) is stands no_end nil ready st = found_leads Good stack takes _ (omega (arith, count, st.0.0)) (λ class _. class_reported wanted (class_at class) selector takes objects (next_height R (Send selector takes objects wanted) h) st.0 st.1 (omega arith) (omega arith) (omega arith) (omega arith))
       order_leads (SendSuper from selector takes objects wanted) is stands no_end nil ready st = class_reported wanted (Some from) selector takes objects (next_height R (SendSuper from selector takes objects wanted) h) st.0 st.1 (omega arith) (omega arith) (omega arith) (omega arith)
       order_leads (SendTo selector takes objects wanted) is stands no_end nil ready st =
           message_leads wanted (λ ob. ob.class) selector takes objects (next_height R (SendTo selector takes objects wanted) h) st.0 st.1 (init_ready wanted selector takes objects is ready st.2) (omega arith) (omega arith) (omega arith) (omega arith)
       order_leads (SendToSuper from selector takes objects wanted) is stands no_end nil ready st =
           message_leads wanted (λ ob. from) selector takes objects (next_height R (SendToSuper from selector takes objects wanted) h) st.0 (st.1.0, st.1.1) (λ given rest r e some. always_ready wanted rest st.1.2) (omega arith) (omega arith) (omega arith) (omega arith)
       order_leads (StoreStrong i) is stands no_end nil ready st =
-          let f = first_of own (omega (arith, st.0.0, size)) in
-          let r = f.0 in
-          let there = is_held r (keeps_of r f.1 f.2).0 in
-          reference_leads r held.names (f.1 ++ deeper) _ (top_is r f.1 f.2) (found_leads held.variables i _ (omega (arith, many, st.0.1)) (λ old found. named_leads r held _ there
+          last_leads_on Good _ st.0.0 (λ r rest _ now _. found_leads Good held.variables i _ (omega (arith, many, st.0.1)) (λ old found. named_leads Good r held _ (is_held r now)
           (let held1 = raised r (with_variables held (slice_set held.variables i r)) in
           let long = length-set held.variables i r in
           let every : length held1.variables ≡ (next_height R (StoreStrong i) h).variables = omega (arith, many, long) in
-          releases_lead old pc stack held held1 own o.is o.places o.itself o.keeps o.dying (sane_store held i old r found there o.sane)
+          releases_lead old pc stack held held1 own o.is o.places o.itself o.keeps o.dying (sane_store held i old r found (is_held r now) o.sane)
           (subst (λ l. Resumes mine (pc + 1) self frames (length stack) below l deeper held.temporaries held1.variables waiting) (sym o.is) (back (pc + 1) (next_height R (StoreStrong i) h) st.1.0 (length stack) own held1 (goes_nil (pc + 1) (next_height R (StoreStrong i) h) st.1.1 held1.variables every) (inl st.1.2) (omega (arith, count)) (omega (arith, size, st.0.0)) (omega (arith, few)) every o.keeps)))))
       order_leads (StoreGlobal i) is stands no_end nil ready st =
-          let f = first_of own (omega (arith, st.0, size)) in
-          let r = f.0 in
-          let there = is_held r (keeps_of r f.1 f.2).0 in
           let x = next_height R (StoreGlobal i) h in
-          reference_leads r held.names (f.1 ++ deeper) _ (top_is r f.1 f.2) (named_leads r held _ there (place_leads (slice_get held.strong_globals i) _ _
+          last_leads_on Good _ st.0 (λ r rest _ now _. named_leads Good r held _ (is_held r now) (place_leads (slice_get held.strong_globals i) _ _
           (λ none. go_on (pc + 1) x st.1 stack held own (omega (arith, count)) (omega (arith, size, st.0)) (omega (arith, few)) (omega (arith, many)) o)
           (λ old found.
           let held1 = raised r (with_strong_globals held (slice_set held.strong_globals i r)) in
-          releases_lead old pc stack held held1 own o.is o.places o.itself o.keeps o.dying (sane_store_global held i old r found there o.sane)
+          releases_lead old pc stack held held1 own o.is o.places o.itself o.keeps o.dying (sane_store_global held i old r found (is_held r now) o.sane)
           (subst (λ l. Resumes mine (pc + 1) self frames (length stack) below l deeper held.temporaries held.variables waiting) (sym o.is) (back (pc + 1) x st.1.0 (length stack) own held (goes_nil (pc + 1) x st.1.1 held.variables (omega (arith, many))) (inl st.1.2) (omega (arith, count)) (omega (arith, size, st.0)) (omega (arith, few)) (omega (arith, many)) o.keeps)))))
       order_leads (StoreField class index) is stands no_end nil ready st =
-          let f = first_of own (omega (arith, st.0, size)) in
-          let r = f.0 in
-          let shorter = ap length f.2 in
-          let q = first_of f.1 (omega (arith, st.0, size, shorter)) in
-          let least = ap length q.2 in
-          let first = keeps_of r f.1 f.2 in
-          let second = subst (λ l. AllHeld l (held.temporaries ++ waiting)) q.2 first.1 in
-          let there = is_held r first.0 in
           let x = next_height R (StoreField class index) h in
-          let names1 = r ∷ (q.1 ++ deeper) in
-          let own1 = r ∷ q.1 in
-          let kept : AllHeld own1 (held.temporaries ++ waiting) = (first.0, second.1) in
-          let held1 = with_names held names1 in
-          reference_leads r held.names (f.1 ++ deeper) _ (top_is r f.1 f.2) (reference_leads q.0 (f.1 ++ deeper) (q.1 ++ deeper) _ (ap (λ l. l ++ deeper) q.2)
-          (named_leads r held _ there (field_leads class q.0 held _ (is_held q.0 second.0) (λ j ob same found is_there_now.
-          stored (is_emptying ob.phase) j ob same found is_there_now index r there own1 kept x st.1 (omega (arith, count)) (omega (arith, size, st.0, shorter, least)) (omega arith) (omega arith) refl))))
-      order_leads (Empty i) is stands no_end nil ready st = found_leads held.variables i _ (omega (arith, many, st.0)) (λ r found.
+          last_leads_on Good _ (omega (arith, st.0)) (λ r rest e now kept. reference_leads Good rest deeper (held.temporaries ++ waiting) (rest ++ deeper) _ refl (omega (arith, st.0, size, e)) kept (λ q others f also below1.
+          named_leads Good r held _ (is_held r now) (field_leads Good class q held _ (is_held q also) (λ j ob same found there.
+          stored (is_emptying ob.phase) j ob same found there index r (is_held r now) (r ∷ others) (now, below1) x st.1 (omega (arith, count)) (omega (arith, size, st.0, e, f)) (omega arith) (omega arith) refl))))
+      order_leads (Empty i) is stands no_end nil ready st = found_leads Good held.variables i _ (omega (arith, many, st.0)) (λ r found.
           let held1 = raised 0 (with_variables held (slice_set held.variables i 0)) in
           let long = length-set held.variables i 0 in
           releases_lead r pc stack held held1 own o.is o.places o.itself o.keeps o.dying (sane_store held i r 0 found tt o.sane)
@@ -910,14 +883,14 @@ module _ (p : Program) (R : resolved.Program) where
           let clears : Clear 0 pc = (0, (Give, is, tt)) in
           let shut = subst (λ g. Shut g 0 held.variables) st.3 (nil 0 clears) in
           let last = last_there held.variables (omega (arith, many, st.4)) shut in
-          top_leads stack _ (omega (arith, count, st.0)) (λ v rest e. last_leads last.0 held.temporaries held _ none last.1
+          top_leads Good stack _ (omega (arith, count, st.0)) (λ v rest e. last_leads last.0 held.temporaries held _ none last.1
           (hands_lead frames below deeper pc last.0 stack rest held (subst (λ g. Waits g frames below deeper held.places) st.3 (subst (Waits mine frames below deeper) (sym o.places) waits)) (omega (arith, count, st.0, e)) (o.is ∙ ap (λ l. l ++ deeper) (none_of own (omega (arith, size, st.1)))) none last.1 o.dying o.sane))
       order_leads Return is stands no_end nil ready st =
           let none = none_of held.temporaries (omega (arith, few, st.2)) in
           let clears : Clear 0 pc = (0, (Return, is, tt)) in
           let shut = subst (λ g. Shut g 0 held.variables) st.3 (nil 0 clears) in
           let empty : NilBut [] held.variables = λ i k named. shut i k (omega arith) (omega (arith, slice_get_within held.variables i (suc k) named)) named in
-          top_leads stack _ (omega (arith, count, st.0)) (λ v rest e. left_leads held.temporaries held _ none empty
+          top_leads Good stack _ (omega (arith, count, st.0)) (λ v rest e. left_leads held.temporaries held _ none empty
           (leaves_lead frames below deeper pc v stack rest held (subst (λ g. Waits g frames below deeper held.places) st.3 (subst (Waits mine frames below deeper) (sym o.places) waits)) (subst (λ l. Alive frames l held.self) (sym o.places) (subst (Alive frames waiting) (sym o.itself) alive)) e (omega (arith, count, st.0, e)) (o.is ∙ ap (λ l. l ++ deeper) (none_of own (omega (arith, size, st.1)))) none empty o.dying o.sane running))
       order_leads EndStep is stands no_end nil ready st = absurd (no_end refl)
 

@@ -409,7 +409,7 @@ module _ (R : resolved.Program) (all : List Order) (table : List (Height × Give
             let at_settle : Stands given (pc + 1 + 1) two = record { height = f.2.2.0; order = Settle; is = f.2.2.1; no_end = λ same. subst IsSettle same tt } in (
               opens_goes pc h (Plain Alloc) tt f.0 f.1,
               (
-                ((h, given), f.0, (t.0, (at_message, λ k c. absurd (message_clears (pc + 1) f.2.1 k c)), inr (refl, λ y e settles. subst IsSettle (some_same y message (sym e ∙ f.2.1)) settles))),
+                ((h, given), f.0, (omega (arith, t.0), (at_message, λ k c. absurd (message_clears (pc + 1) f.2.1 k c)), inr (refl, λ y e settles. subst IsSettle (some_same y message (sym e ∙ f.2.1)) settles))),
                 (((one, given), f.2.0, ((omega arith, omega arith), (at_settle, λ k c. absurd (settle_clears (pc + 1 + 1) f.2.2.1 k c)), inr (refl, refl, refl, f.2.2.1))), (((two, given), f.2.2.0, subst (Goes given (pc + 1 + 1 + 1)) (sym t.1) (subst (λ n. Goes given n g) size end)), tt)),
               ),
             )
@@ -506,7 +506,7 @@ module _ (R : resolved.Program) (all : List Order) (table : List (Height × Give
             let goes = subst (λ n. Goes given n test) (sym (ap (λ e. (turn_at e).out) (here refl))) (ways t.1).0 in
             let up : next_height R (Plain (Num (pos 0))) base ≡ test = heights_same _ _ _ _ (suc slots) 0 0 names (omega arith) (omega arith) (omega arith) (omega arith) in
             let next = opens_goes (pc + 1) _ (Jump (At (turn_at e).out)) tt f.2.0 f.2.1 in
-            (opens_goes pc h (Plain (Num (pos 0))) tt f.0 f.1, (((h, given), f.0, (tt, (next.0, λ k c. inr (next.1 k c)), inl next.2)), (((next_height R (Plain (Num (pos 0))) h, given), f.2.0, subst (λ n. Leads given (turn_at e).out n) (sym (ap (next_height R (Plain (Num (pos 0)))) t.2 ∙ up)) (0, omega arith, goes)), tt)))
+            (opens_goes pc h (Plain (Num (pos 0))) tt f.0 f.1, (((h, given), f.0, (omega arith, (next.0, λ k c. inr (next.1 k c)), inl next.2)), (((next_height R (Plain (Num (pos 0))) h, given), f.2.0, subst (λ n. Leads given (turn_at e).out n) (sym (ap (next_height R (Plain (Num (pos 0)))) t.2 ∙ up)) (0, omega arith, goes)), tt)))
         block_steps e turn l true Advance h g pc pending here ways keeps t f end =
             let goes = subst (λ n. Goes given n base) (sym (ap (λ e. (turn_at e).begin) (here refl))) (ways t.1).1 in
             (opens_goes pc h (Jump (At (turn_at e).begin)) tt f.0 f.1, (((h, given), f.0, subst (λ n. Leads given (turn_at e).begin n) (sym t.2) (0, omega arith, goes)), tt))

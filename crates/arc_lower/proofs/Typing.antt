@@ -14,7 +14,7 @@ use Rattle.arc_spec.specs.Resolved.{Piece, Bytes, Decimal, Character, Function, 
 use Rattle.arc_spec.specs.Meaning.{function_at}
 use Rattle.arc_code.specs.declared.instr.Op.{Op}
 use Rattle.arc_code.specs.declared.instr.Op.TheVariants as ops
-use Rattle.arc_code.specs.declared.instr.Op.TheVariants.{Num, Bin, Un, Narrow, Pop, Get, Set, PrintNum, PrintByte, Declare, Nil, ReadRef, Hold, Forget, Alloc, Finds, GetField, SetField, Differ, IsObject}
+use Rattle.arc_code.specs.declared.instr.Op.TheVariants.{Num, Narrow, Pop, Get, Set, PrintNum, PrintByte, Declare, Nil, ReadRef, Hold, Alloc}
 use Rattle.arc_code.specs.declared.instr.Instr.TheVariants.{Plain, PrintText, Jump, JumpZero, Call, Send, SendSuper, SendTo, SendToSuper, StoreStrong, StoreGlobal, StoreField, Empty, DropAll, Settle, Give, Return}
 use Rattle.arc_code.specs.declared.effect.Effect.{Effect}
 use Rattle.arc_code.specs.declared.effect.Height.{Height}
@@ -82,30 +82,24 @@ over r s h = height (h.numbers + r) h.names h.temporaries (h.variables + s)
 pub over_none : (h : Height) → over 0 0 h ≡ h
 over_none h = heights_same (h.numbers + 0) h.names h.temporaries (h.variables + 0) h.numbers h.names h.temporaries h.variables (omega arith) refl refl (omega arith)
 
--- at this height an operation finds what it works on; a function with temporaries declares no variable
+-- what an effect takes that isn't there at a height
+abbrev pub lacking : Effect → Height → ℕ
+lacking e h = (e.numbers_taken - h.numbers) + (e.names_taken - h.names)
+
+-- at this height an operation finds what it looks for, or lacks nothing that it takes; a function with temporaries declares no variable
 abbrev pub Reaches : Op → Height → Type 0
-Reaches (Bin operator kind) h = 2 ≤ h.numbers
-Reaches (Un operator kind) h = 1 ≤ h.numbers
-Reaches (Narrow kind) h = 1 ≤ h.numbers
-Reaches Pop h = 1 ≤ h.numbers
 Reaches (Get depth) h = depth < h.numbers
 Reaches (Set depth) h = suc depth < h.numbers
-Reaches (ops.SetGlobal i) h = 1 ≤ h.numbers
-Reaches PrintNum h = 2 ≤ h.numbers
-Reaches PrintByte h = 2 ≤ h.numbers
-Reaches Declare h = h.temporaries ≡ 0
 Reaches (ReadRef i) h = i < h.variables
-Reaches (ops.ReadField class index) h = 1 ≤ h.names
-Reaches Hold h = 1 ≤ h.names
-Reaches ops.Again h = 1 ≤ h.names
-Reaches Forget h = 1 ≤ h.names
-Reaches Alloc h = 1 ≤ h.numbers
-Reaches (Finds selector) h = 1 ≤ h.numbers
-Reaches (GetField class index) h = 1 ≤ h.names
-Reaches (SetField class index) h = (1 ≤ h.numbers) × (1 ≤ h.names)
-Reaches Differ h = 2 ≤ h.names
-Reaches IsObject h = 1 ≤ h.names
-Reaches _ h = Unit {0}
+Reaches Declare h = h.temporaries ≡ 0
+Reaches o h = lacking (operation_effect o) h ≡ 0
+
+pub enough : (o : Op) (h : Height) → Reaches o h → lacking (operation_effect o) h ≡ 0
+enough (Get depth) h reaches = omega arith
+enough (Set depth) h reaches = omega (arith, reaches)
+enough (ReadRef i) h reaches = omega arith
+enough Declare h reaches = omega arith
+enough _ h reaches = reaches
 
 module _ (P : Program) where
   -- the same of an order that goes on with the next one; no reference outlives the temporaries
@@ -178,7 +172,7 @@ module _ (P : Program) (r s : ℕ) where
 
     pub zeros_type : (n a : ℕ) → Counts a (zero_orders n) (n + a)
     zeros_type zero a = ap (λ x. height x b c d) (omega arith)
-    zeros_type (suc n) a = op 0 1 a (Num (pos 0)) (zero_orders n) (suc a) (suc n + a) refl tt (omega arith) (counts_same (suc a) (zero_orders n) (n + suc a) (suc n + a) (omega arith) (zeros_type n (suc a)))
+    zeros_type (suc n) a = op 0 1 a (Num (pos 0)) (zero_orders n) (suc a) (suc n + a) refl (omega arith) (omega arith) (counts_same (suc a) (zero_orders n) (n + suc a) (suc n + a) (omega arith) (zeros_type n (suc a)))
 
     fit_by : (values slots a pops zeros : ℕ) → pops ≡ values - slots → zeros ≡ slots - values → Counts (values + a) (pop_orders pops ++ zero_orders zeros) (slots + a)
     fit_by values slots a pops zeros e f =
@@ -214,17 +208,17 @@ module _ (P : Program) (r s : ℕ) where
 
     pub print_types : (pieces : List Piece) (n a : ℕ) → Counts (n + a) (print_orders pieces n) (suc a)
     print_types pieces n a =
-        op 0 1 (n + a) (Num (pos 0)) _ (suc (n + a)) (suc a) refl tt (omega arith)
+        op 0 1 (n + a) (Num (pos 0)) _ (suc (n + a)) (suc a) refl (omega arith) (omega arith)
         (counts_then (suc (n + a)) (format_orders pieces n) (suc (n + a)) (Plain (Narrow k.Int) ∷ [] ++ keep_orders n) (suc a) (format_types pieces n (n + a) (omega arith))
         (op 1 1 (suc (n + a)) (Narrow k.Int) (keep_orders n) (suc (n + a)) (suc a) refl (omega arith) (omega arith) (keep_types n a)))
 
     -- ---- variables that hold numbers, and calls
 
     pub get_types : (slots depth : ℕ) (i : Location) (a : ℕ) → depth + slots ≤ a + r → Counts a (get_orders slots depth i) (suc a)
-    get_types slots depth (Global i) a h = one 0 1 a (ops.GetGlobal i) (suc a) refl tt (omega arith)
+    get_types slots depth (Global i) a h = one 0 1 a (ops.GetGlobal i) (suc a) refl (omega arith) (omega arith)
     get_types slots depth (Local i) a h = by_test (λ t. Counts a (if t then Plain (Get (depth + (slots - suc i))) ∷ [] else Plain (Num (pos 0)) ∷ []) (suc a)) (nat_lt i slots)
         (λ e. let lt = ltb-true i slots e in one 0 1 a (Get (depth + (slots - suc i))) (suc a) refl (omega (arith, lt, h)) (omega arith))
-        (λ e. one 0 1 a (Num (pos 0)) (suc a) refl tt (omega arith))
+        (λ e. one 0 1 a (Num (pos 0)) (suc a) refl (omega arith) (omega arith))
 
     pub set_types : (slots depth : ℕ) (i : Location) (a : ℕ) → depth + slots ≤ a + r → Counts (suc a) (set_orders slots depth i) (suc a)
     set_types slots depth (Global i) a h =
@@ -245,7 +239,7 @@ module _ (P : Program) (r s : ℕ) where
   nils_type : (n a b c d : ℕ) → Types (height a b c d) (nil_orders n) (height a (n + b) c d)
   nils_type zero a b c d = heights_same a b c d a (0 + b) c d refl (omega arith) refl refl
   nils_type (suc n) a b c d = (
-    tt,
+    omega arith,
     subst (λ h. Types h (nil_orders n) (height a (suc n + b) c d)) (heights_same a (suc b) c d _ _ _ _ (omega arith) (omega arith) (omega arith) (omega arith))
         (types_same (height a (suc b) c d) (nil_orders n) (height a (n + suc b) c d) (height a (suc n + b) c d) (heights_same a (n + suc b) c d a (suc n + b) c d refl (omega arith) refl refl) (nils_type n a (suc b) c d)),
   )
@@ -316,15 +310,15 @@ module _ (P : Program) (r s : ℕ) where
   pub own_types : (names a d : ℕ) → names ≤ d + s → Types (height a 0 0 d) (own_orders names) (height a 0 0 d)
   own_types zero a d room = refl
   own_types (suc n) a d room = (
-    tt,
+    omega arith,
     ((omega arith, omega (arith, room)), (omega arith, (omega arith, heights_same _ _ _ _ a 0 0 d (omega arith) (omega arith) refl (omega arith)))),
   )
 
   pub read_types : (names : ℕ) (i : Location) (a b c d : ℕ) → names ≤ d + s → Types (height a b c d) (read_orders names i) (height a (suc b) (c + 1) d)
-  read_types names (Global i) a b c d room = (tt, heights_same _ _ _ _ a (suc b) (c + 1) d (omega arith) (omega arith) (omega arith) (omega arith))
+  read_types names (Global i) a b c d room = (omega arith, heights_same _ _ _ _ a (suc b) (c + 1) d (omega arith) (omega arith) (omega arith) (omega arith))
   read_types names (Local i) a b c d room = by_test (λ t. Types (height a b c d) (if t then Plain (ReadRef i) ∷ [] else Plain Nil ∷ Plain Hold ∷ []) (height a (suc b) (c + 1) d)) (nat_lt i names)
       (λ e. let lt = ltb-true i names e in (omega (arith, lt, room), heights_same _ _ _ _ a (suc b) (c + 1) d (omega arith) (omega arith) (omega arith) (omega arith)))
-      (λ e. (tt, (omega arith, heights_same _ _ _ _ a (suc b) (c + 1) d (omega arith) (omega arith) (omega arith) (omega arith))))
+      (λ e. (omega arith, (omega arith, heights_same _ _ _ _ a (suc b) (c + 1) d (omega arith) (omega arith) (omega arith) (omega arith))))
 
   pub drop_types : (takes : Bool) (a c d : ℕ) → (takes ≡ false → c ≡ 0) → Types (height a 0 c d) (if takes then DropAll ∷ [] else []) (height a 0 0 d)
   drop_types true a c d none = (refl, refl)
