@@ -1,5 +1,5 @@
 -- What is built of expressions and statements.
-use Rattle.std.proofs.Common.{◌≡◌, ℕ, ◌+◌, ◌<◌, ◌≤◌, List, [], ◌∷◌, ◌++◌, length, get_or, drop, Option, None, option_map, refl, sym, ap, ◌∙◌, arith}
+use Rattle.std.proofs.Common.{◌≡◌, ℕ, ◌+◌, ◌<◌, ◌≤◌, List, [], ◌∷◌, ◌++◌, length, get_or, drop, Option, None, option_map, Result, Ok, IfOk, refl, sym, ap, ◌∙◌, arith}
 use Rattle.arc_ast.specs.declared.tree.Expr.{Expr}
 use Rattle.arc_ast.specs.declared.tree.Kind.{Kind}
 use Rattle.arc_ast.specs.Tree.{ExprTree, ExprTrees, Integer, Text, Paren, Call, Nil, Itself, Name, Unary, Cast, Binary, Conditional, Arrow, Assign, Update, Send, SendSuper, and_expr, expr_tree, expr_trees}
@@ -11,14 +11,25 @@ use Rattle.arc_scope.specs.Formats.{parts, printed}
 use Rattle.arc_spec.specs.Resolved.{Arguments, no_arguments}
 use Rattle.arc_checked.specs.declared.program.Argument.{Argument}
 use Rattle.arc_checked.specs.Checked as checked
-use Rattle.arc_resolve.specs.private.Building.{Resolves, resolution, in_front, printing, text_of}
+use Rattle.std.proofs.lemmas.Result.{IfOk-at_ok}
+use Rattle.core.specs.declared.alloc.AllocError.{AllocError}
+use Rattle.arc_class.specs.declared.table.ClassId.{ClassId}
+use Rattle.arc_resolve.specs.declared.resolution.Resolution as built
+use Rattle.arc_resolve.specs.private.Building.{HasClass, Resolves, resolution, in_front, printing, text_of}
 use Rattle.arc_scope.specs.declared.callee.Callee.{Callee}
 use Rattle.arc_resolve.specs.declared.resolution.Typed.{Typed}
 use Rattle.arc_resolve.specs.Resolving as resolving
 use Rattle.arc_scope.specs.Passing.{first_wanted, wanted_by}
 use Rattle.arc_resolve.specs.Resolving.{argument, called, resolved_all}
-use Rattle.arc_scope.specs.Scopes.{Scope, callee}
+use Rattle.arc_scope.specs.Scopes.{Scope, callee, class_of}
 use Rattle.arc_scope.proofs.Lists.{drop_turn, drop_end}
+
+-- what is given a class is the resolved expression
+pub given_class : {s : Scope} {a : ExprTree} (class : Option ClassId) (given : Result built.Resolution AllocError) (typed : Typed) (b : resolving.Resolution) → HasClass class given typed → option_map number_of_class class ≡ class_of s a → IfOk given (λ new. resolution new ≡ b) → b ≡ resolving.resolved s a → Resolves s a typed
+given_class class given typed b h c v e = record { class = ap (option_map number_of_class) h.class ∙ c; value = IfOk-at_ok (λ new. resolution new ≡ b) h.value v ∙ e }
+
+pub given_value : (class : Option ClassId) (given : Result built.Resolution AllocError) (typed : Typed) (a : built.Resolution) (b : resolving.Resolution) → HasClass class given typed → given ≡ Ok a → resolution a ≡ b → resolution typed.value ≡ b
+given_value class given typed a b h e v = IfOk-at_ok (λ new. resolution new ≡ b) (sym e ∙ h.value) v
 
 in_front-push : (all : List Argument) (a : Argument) (others : Arguments) → in_front (all ++ a ∷ []) others ≡ in_front all (checked.and_argument a others)
 in_front-push [] a others = refl
@@ -70,7 +81,7 @@ printing_some s all one others format pieces values e f p v =
     ap (λ all. resolved.Print all (checked.arguments values)) (p ∙ ap (λ bytes. printed (parts Nothing bytes)) (f ∙ sym (format_is (expr_tree one) (expr_trees others))))
     ∙ ap (resolved.Print (printed (parts Nothing first))) v ∙ sym (ap (λ us. printing s (expr_trees us)) e)
 
-pub printing_none : (s : Scope) (all : List Expr) (pieces : List Piece) (values : List Argument) → length all ≡ 0 → pieces ≡ [] → checked.arguments values ≡ resolved_all s None (expr_trees all)
+pub printing_none : (s : Scope) (all : List Expr) (pieces : List Piece) (values : List Argument) → length all ≡ 0 → pieces ≡ [] → values ≡ []
     → resolved.Print (checked.pieces pieces) (checked.arguments values) ≡ printing s (expr_trees all)
 printing_none s [] pieces values l p v = rw (p, v) refl
 printing_none s (a ∷ all) pieces values l p v = absurd (omega arith)

@@ -14,8 +14,8 @@ ghost use Rattle.arc_resolve.specs.Resolving.{resolved_variables, resolved_stmt,
 ghost use Rattle.arc_scope.specs.Scopes.{declare, leave, scope_after, scope_after_all, with_parameters, with_variables};
 ghost use Rattle.arc_scope.specs.Views.{known_in, seen};
 
-use crate::resolution::{Resolution, as_part, number_part};
-use crate::resolve::{expression, number_as, object};
+use crate::resolution::Resolution;
+use crate::resolve::{expression, number_as, object, test_value};
 use arc_ast::tree::{
     Expr, Function, Implementation, Kind, Method, Moment, Parameter, Stmt, TypeName, Variable,
 };
@@ -181,24 +181,19 @@ fn evaluation<'a>(
     Ok(evaluated(typed.value))
 }
 
-/// A resolved test, in a box until its statement is there.
-fn test<'a>(
-    alloc: Global,
-    table: &ClassTable<'a>,
-    visible: &Visible<'a>,
-    expr: &'a Expr,
-) -> Result<Box<Value>, AllocError>
-    ensures { IfOk result (λ new. checked.value new.value ≡ resolving.number_in (resolving.resolved (seen table.now visible.now) (expr_tree expr.now))) }
-{
-    let typed = expression(alloc, table, visible, expr)?;
-    number_part(alloc, as_part(alloc, typed.value)?)
-}
-
 /// A statement that does nothing.
 fn nothing(alloc: Global) -> Command
     ensures { checked.command result ≡ resolving.nothing }
 {
     Command::Sequence(0, 0, Vec::new(alloc))
+}
+
+/// The command, in a box.
+#[inline(always)]
+fn boxed(alloc: Global, command: Command) -> Result<Box<Command>, AllocError>
+    ensures { IfOk result (λ new. new.value ≡ command) }
+{
+    Ok(Box::new(alloc, command)?)
 }
 
 /// The resolved test of a `for`, which is 1 where there is none.
@@ -212,7 +207,7 @@ fn test_or_one<'a>(
 {
     match expr {
         None => Ok(Box::new(alloc, Value::Number(1))?),
-        Some(expr) => test(alloc, table, visible, expr),
+        Some(expr) => test_value(alloc, table, visible, expr),
     }
 }
 
@@ -226,8 +221,8 @@ fn step_or_nothing<'a>(
     ensures { IfOk result (λ new. checked.command new.value ≡ resolving.stepped (seen table.now visible.now) (option_map expr_tree expr.now)) }
 {
     match expr {
-        None => Ok(Box::new(alloc, nothing(alloc))?),
-        Some(expr) => Ok(Box::new(alloc, evaluation(alloc, table, visible, expr)?)?),
+        None => boxed(alloc, nothing(alloc)),
+        Some(expr) => boxed(alloc, evaluation(alloc, table, visible, expr)?),
     }
 }
 
@@ -246,7 +241,7 @@ fn scoped<'a>(
     let count = visible.bound.len();
     let new = command(alloc, table, visible, inner)?;
     visible.leave(count);
-    Ok(Box::new(alloc, new)?)
+    boxed(alloc, new)
 }
 
 /// A resolved block.
@@ -284,9 +279,9 @@ fn chosen_or_nothing<'a>(
     ensures scope { OnOk result (seen table.now visible.new ≡ leave (seen table.now visible.old) (scope_after (seen table.now visible.old) (stmt_tree then.now))) }
     ensures keeps { OnOk result (visible.new.bound.items ≡ visible.old.bound.items) }
 {
-    let test = test(alloc, table, visible, condition)?;
+    let test = test_value(alloc, table, visible, condition)?;
     let then = scoped(alloc, table, visible, then)?;
-    let other = Box::new(alloc, nothing(alloc))?;
+    let other = boxed(alloc, nothing(alloc))?;
     Ok(Command::Choose(Box::into_inner(test), then, other))
 }
 
@@ -307,7 +302,7 @@ fn chosen<'a>(
         ≡ leave (seen table.now visible.old) (scope_after (leave (seen table.now visible.old) (scope_after (seen table.now visible.old) (stmt_tree then.now))) (stmt_tree other.now))) }
     ensures keeps { OnOk result (visible.new.bound.items ≡ visible.old.bound.items) }
 {
-    let test = test(alloc, table, visible, condition)?;
+    let test = test_value(alloc, table, visible, condition)?;
     let then = scoped(alloc, table, visible, then)?;
     let other = scoped(alloc, table, visible, other)?;
     Ok(Command::Choose(Box::into_inner(test), then, other))
@@ -328,9 +323,9 @@ fn repeated<'a>(
     ensures scope { OnOk result (seen table.now visible.new ≡ leave (seen table.now visible.old) (scope_after (seen table.now visible.old) (stmt_tree body.now))) }
     ensures keeps { OnOk result (visible.new.bound.items ≡ visible.old.bound.items) }
 {
-    let test = test(alloc, table, visible, condition)?;
+    let test = test_value(alloc, table, visible, condition)?;
     let body = scoped(alloc, table, visible, body)?;
-    let step = Box::new(alloc, nothing(alloc))?;
+    let step = boxed(alloc, nothing(alloc))?;
     Ok(Command::Repeat(moment, Box::into_inner(test), step, body))
 }
 

@@ -4,7 +4,7 @@ ghost use Rattle.std.specs.Option.{unwrap_or};
 ghost use Rattle.arc_ast.specs.Operators.{sort_of};
 ghost use Rattle.arc_ast.specs.Tree.{expr_tree, Name};
 ghost use Rattle.arc_class.specs.Table.{number_of_class, number_of_selector};
-ghost use Rattle.arc_resolve.specs.private.Building.{resolution, part_of, class_receiver_of};
+ghost use Rattle.arc_resolve.specs.private.Building.{HasClass, resolution, part_of, class_receiver_of};
 ghost use Rattle.arc_spec.specs.Resolved as spec;
 ghost use Rattle.arc_checked.specs.Checked as checked;
 ghost use Rattle.arc_scope.specs.Kinds as kinds;
@@ -48,6 +48,20 @@ pub enum Part {
 pub struct Operand {
     pub class: Option<ClassId>,
     pub value: Part,
+}
+
+/// What is resolved, with its static class; an error is handed on.
+#[inline(always)]
+pub fn with_class(
+    class: Option<ClassId>,
+    value: Result<Resolution, AllocError>,
+) -> Result<Typed, AllocError>
+    ensures { IfOk result (λ typed. HasClass class value typed) }
+{
+    Ok(Typed {
+        class,
+        value: value?,
+    })
 }
 
 /// What is resolved, as a part of another one.
@@ -339,13 +353,12 @@ fn logic(
 /// One of two values by a test.
 pub fn conditional(
     alloc: Global,
-    test: Part,
+    test: Box<Value>,
     first: Part,
     second: Part,
 ) -> Result<Resolution, AllocError>
-    ensures { IfOk result (λ new. resolution new ≡ resolving.conditional (resolving.number_in (part_of test)) (part_of first) (part_of second)) }
+    ensures { IfOk result (λ new. resolution new ≡ resolving.conditional (checked.value test.value) (part_of first) (part_of second)) }
 {
-    let test = number_part(alloc, test)?;
     match (first, second) {
         (Part::Object(first), Part::Object(second)) => {
             Ok(Resolution::Refers(Reference::Chosen(test, first, second)))

@@ -17,6 +17,7 @@ use crate::resolution::{
     class_number, class_value, conditional, converted, converted_part, field, field_assigned,
     invoked, itself, itself_assigned, name_assigned, named, number, number_part, object_in,
     object_part, selector_number, to_class, to_object, to_super, unary, unboxed, updated,
+    with_class,
 };
 use arc_ast::tree::{BinaryOperator, Expr, Kind, Moment, Parameter, TypeName, UnaryOperator};
 use arc_checked::program::{Argument, Reference, Value};
@@ -63,11 +64,10 @@ fn variable<'a>(
 {
     let local = named_variable(table, visible, name);
     let own = own_field(table, visible, name);
-    let value = named(alloc, visible.owns, local, own)?;
-    Ok(Typed {
-        class: name_class(local, own),
-        value,
-    })
+    with_class(
+        name_class(local, own),
+        named(alloc, visible.owns, local, own),
+    )
 }
 
 /// A resolved expression.
@@ -134,6 +134,20 @@ fn resolved_part<'a>(
     })
 }
 
+/// The resolved expression as a number, in a box, as the test of a choice or of a statement.
+#[cycle(resolve)]
+pub fn test_value<'a>(
+    alloc: Global,
+    table: &ClassTable<'a>,
+    visible: &Visible<'a>,
+    expr: &'a Expr,
+) -> Result<Box<Value>, AllocError>
+    ensures { IfOk result (λ new. checked.value new.value ≡ resolving.number_in (resolved (seen table.now visible.now) (expr_tree expr.now))) }
+{
+    let part = resolved_part(alloc, table, visible, expr)?;
+    number_part(alloc, part.value)
+}
+
 /// A resolved operator before its operand.
 #[cycle(resolve)]
 fn signed<'a>(
@@ -146,8 +160,7 @@ fn signed<'a>(
     ensures { IfOk result (λ typed. (at : ℕ) → Resolves (seen table.now visible.now) (Unary at operator (expr_tree operand.now)) typed) }
 {
     let operand = resolved_part(alloc, table, visible, operand)?;
-    let value = unary(alloc, operator, operand.value)?;
-    Ok(Typed { class: None, value })
+    with_class(None, unary(alloc, operator, operand.value))
 }
 
 /// A resolved cast.
@@ -162,11 +175,10 @@ fn cast<'a>(
     ensures { IfOk result (λ typed. (at : ℕ) → Resolves (seen table.now visible.now) (Cast at (type_tree type_name.now) (expr_tree operand.now)) typed) }
 {
     let operand = expression(alloc, table, visible, operand)?;
-    let value = cast_to(alloc, type_name.kind(), operand.value)?;
-    Ok(Typed {
-        class: static_class(table, type_name),
-        value,
-    })
+    with_class(
+        static_class(table, type_name),
+        cast_to(alloc, type_name.kind(), operand.value),
+    )
 }
 
 /// Two resolved operands and their operator.
@@ -183,8 +195,7 @@ fn operation<'a>(
 {
     let left = resolved_part(alloc, table, visible, left)?;
     let right = resolved_part(alloc, table, visible, right)?;
-    let value = binary(alloc, operator, left.value, right.value)?;
-    Ok(Typed { class: None, value })
+    with_class(None, binary(alloc, operator, left.value, right.value))
 }
 
 /// A resolved choice of two values by a test.
@@ -201,12 +212,11 @@ fn choice<'a>(
 {
     let one_nil = is_nil(first);
     let other_nil = is_nil(second);
-    let test = resolved_part(alloc, table, visible, test)?;
+    let test = test_value(alloc, table, visible, test)?;
     let first = resolved_part(alloc, table, visible, first)?;
     let second = resolved_part(alloc, table, visible, second)?;
     let class = either_class(one_nil, other_nil, first.class, second.class);
-    let value = conditional(alloc, test.value, first.value, second.value)?;
-    Ok(Typed { class, value })
+    with_class(class, conditional(alloc, test, first.value, second.value))
 }
 
 /// A resolved field of an object.
@@ -222,11 +232,10 @@ fn arrow<'a>(
 {
     let base = expression(alloc, table, visible, base)?;
     let found = table.field(base.class, name);
-    let value = field(alloc, object_in(base.value), found)?;
-    Ok(Typed {
-        class: field_class(found),
-        value,
-    })
+    with_class(
+        field_class(found),
+        field(alloc, object_in(base.value), found),
+    )
 }
 
 /// A resolved assignment.
@@ -259,8 +268,10 @@ fn update<'a>(
 {
     let right = resolved_part(alloc, table, visible, right)?;
     let left = expression(alloc, table, visible, left)?;
-    let value = updated(alloc, moment, operator, left.value, right.value)?;
-    Ok(Typed { class: None, value })
+    with_class(
+        None,
+        updated(alloc, moment, operator, left.value, right.value),
+    )
 }
 
 /// An assignment to the name, of what is resolved.
@@ -277,11 +288,10 @@ fn to_name<'a>(
 {
     let local = named_variable(table, visible, name);
     let own = own_field(table, visible, name);
-    let value = name_assigned(alloc, visible.owns, local, own, of)?;
-    Ok(Typed {
-        class: name_class(local, own),
-        value,
-    })
+    with_class(
+        name_class(local, own),
+        name_assigned(alloc, visible.owns, local, own, of),
+    )
 }
 
 /// An assignment to the field of an object, of what is resolved.
@@ -300,11 +310,10 @@ fn to_field<'a>(
 {
     let base = expression(alloc, table, visible, base)?;
     let found = table.field(base.class, name);
-    let value = field_assigned(alloc, object_in(base.value), found, of)?;
-    Ok(Typed {
-        class: field_class(found),
-        value,
-    })
+    with_class(
+        field_class(found),
+        field_assigned(alloc, object_in(base.value), found, of),
+    )
 }
 
 /// The static class of the resolved expression, if it has one.
@@ -335,10 +344,12 @@ fn assigned<'a>(
 {
     match left {
         Expr::Paren(_, inside) => assigned(alloc, table, visible, inside, of),
-        Expr::Itself(_) => Ok(Typed {
-            class: visible.own_class(),
-            value: itself_assigned(alloc, visible.owns, of)?,
-        }),
+        Expr::Itself(_) => {
+            with_class(
+                visible.own_class(),
+                itself_assigned(alloc, visible.owns, of),
+            )
+        }
         Expr::Name(_, name) => to_name(alloc, table, visible, name, of),
         Expr::Arrow(_, _, base, name) => to_field(alloc, table, visible, base, name, of),
         _ => {
@@ -391,22 +402,16 @@ fn call<'a>(
 {
     let callee = callee_of(table, name);
     let value = match callee {
-        Callee::Printf => {
-            let value = print(alloc, table, visible, arguments)?;
-            Resolution::Gives(Kind::Int, value)
-        }
+        Callee::Printf => print(alloc, table, visible, arguments),
         Callee::Defined(kind, _, body) => {
             let wanted = Some(table.parameters(name));
             let all = resolved_arguments(alloc, table, visible, wanted, arguments)?;
-            invoked(kind, number(body), all)
+            Ok(invoked(kind, number(body), all))
         }
-        Callee::GetChar => Resolution::Gives(Kind::Int, Value::ReadByte),
-        Callee::Unknown => Resolution::Gives(Kind::Int, Value::ReadByte),
+        Callee::GetChar => Ok(Resolution::Gives(Kind::Int, Value::ReadByte)),
+        Callee::Unknown => Ok(Resolution::Gives(Kind::Int, Value::ReadByte)),
     };
-    Ok(Typed {
-        class: table.function_class(name),
-        value,
-    })
+    with_class(table.function_class(name), value)
 }
 
 /// A message to the class, which the receiver is.
@@ -462,16 +467,16 @@ fn message<'a>(
     let wanted = Some(table.parameters_passed(receiver_sign(class), selector));
     let all = resolved_arguments(alloc, table, visible, wanted, arguments)?;
     match class {
-        Some(class) => Ok(Typed {
-            class: sent_class(table, Some(class), None, selector),
-            value: class_message(alloc, table, receiver, class, selector, all)?,
-        }),
+        Some(class) => with_class(
+            sent_class(table, Some(class), None, selector),
+            class_message(alloc, table, receiver, class, selector, all),
+        ),
         None => {
             let object = expression(alloc, table, visible, receiver)?;
-            Ok(Typed {
-                class: sent_class(table, None, object.class, selector),
-                value: object_message(alloc, table, object, selector, all)?,
-            })
+            with_class(
+                sent_class(table, None, object.class, selector),
+                object_message(alloc, table, object, selector, all),
+            )
         }
     }
 }
@@ -496,10 +501,10 @@ fn super_message<'a>(
         from: class_number(above(table, visible.class)),
     };
     let number = selector_number(table.selector(selector));
-    Ok(Typed {
-        class: super_class(table, visible, selector),
-        value: to_super(alloc, site, kind, selector, number, all)?,
-    })
+    with_class(
+        super_class(table, visible, selector),
+        to_super(alloc, site, kind, selector, number, all),
+    )
 }
 
 /// The bytes of a text, and none of any other expression.
@@ -519,18 +524,18 @@ fn print<'a>(
     table: &ClassTable<'a>,
     visible: &Visible<'a>,
     arguments: &'a [Expr],
-) -> Result<Value, AllocError>
-    ensures { IfOk result (λ new. checked.value new ≡ printing (seen table.now visible.now) (expr_trees arguments.now)) }
+) -> Result<Resolution, AllocError>
+    ensures { IfOk result (λ new. resolution new ≡ resolving.Gives Kind.Int (printing (seen table.now visible.now) (expr_trees arguments.now))) }
 {
     match arguments.split_first() {
-        None => Ok(Value::Print(
-            Vec::new(alloc),
-            resolved_arguments(alloc, table, visible, None, arguments)?,
-        )),
+        None => {
+            let value = Value::Print(Vec::new(alloc), Vec::new(alloc));
+            Ok(Resolution::Gives(Kind::Int, value))
+        }
         Some((first, others)) => {
             let values = resolved_arguments(alloc, table, visible, None, others)?;
             let pieces = pieces(alloc, text_of(first))?;
-            Ok(Value::Print(pieces, values))
+            Ok(Resolution::Gives(Kind::Int, Value::Print(pieces, values)))
         }
     }
 }

@@ -1,7 +1,10 @@
 -- What is built of expressions and statements.
-use Rattle.std.specs.Prelude.{◌≡◌, ℕ, ℤ, not, List, [], ◌∷◌, map, Option, Some, None, option_map}
+use Rattle.std.specs.Prelude.{◌≡◌, ℕ, ℤ, not, List, [], ◌∷◌, map, Option, Some, None, option_map, Ok}
 use Rattle.std.specs.List.{filter}
+use Rattle.core.specs.declared.alloc.AllocError.{AllocError}
+use Rattle.core.specs.declared.result.Result.{Result}
 use Rattle.arc_ast.specs.Tree.{ExprTree, ExprTrees, GlobalTree, ImplementationTree, Text}
+use Rattle.arc_class.specs.declared.table.ClassId.{ClassId}
 use Rattle.arc_class.specs.Table.{number_of_class}
 use Rattle.arc_spec.specs.Resolved as spec
 use Rattle.arc_spec.specs.Resolved.{Arguments, Commands, and_command}
@@ -35,6 +38,11 @@ part_of (p.Object a) = Refers (checked.reference a.value)
 pub record Resolves (s : Scope) (a : ExprTree) (typed : Typed) : Type 0 where
   pub class : option_map number_of_class typed.class ≡ class_of s a
   pub value : resolution typed.value ≡ resolved s a
+
+-- what is given a class is what was resolved
+pub record HasClass (static : Option ClassId) (given : Result built.Resolution AllocError) (typed : Typed) : Type 0 where
+  pub class : typed.class ≡ static
+  pub value : given ≡ Ok typed.value
 
 -- the function that a checked one stands for
 abbrev pub function_of : CheckedFunction → spec.Function

@@ -1,6 +1,6 @@
 use Rattle.std.proofs.Common.{◌≡◌, ◌-◌, [], ◌∷◌, ◌++◌, OnOk, IfOk, length, option_map, take, refl, ap, subst, ◌∙◌, arith}
 use Rattle.std.proofs.lemmas.Grind.{common_steps}
-use Rattle.std.proofs.lemmas.Result.{on_ok_weaker}
+use Rattle.std.proofs.lemmas.Result.{IfOk-weaker, on_ok_weaker}
 use Rattle.arc_ast.specs.declared.tree.Moment.TheVariants.{Before}
 use Rattle.arc_ast.specs.Tree.{expr_tree, stmt_tree, stmt_trees}
 use Rattle.arc_spec.specs.Resolved as spec
@@ -25,8 +25,11 @@ pub scoped-returns-clause-scope : goal.scoped-returns-clause-scope
 scoped-returns-clause-scope t c =
     let table = c.args.table.now in
     let old = c.args.visible.now in
-    leave_is table old c.command.new.visible c.leave.new.self _ (after_same (seen table old) (stmt_tree c.args.inner.now)) c.in_ok-new.ensures.scope
-    (c.leave.ensures.bound ∙ ap (λ n. take n c.command.new.visible.bound.items) (c.len-count.ensures ∙ old.bound.ok.0) ∙ c.in_ok-new.ensures.keeps) (record { next = c.leave.ensures.next; names = c.leave.ensures.names; class = c.leave.ensures.class; sign = c.leave.ensures.sign; gives = c.leave.ensures.gives; owns = c.leave.ensures.owns; hidden = c.leave.ensures.hidden })
+    IfOk-weaker c.boxed.result _ _ (λ _ _. leave_is table old c.command.new.visible c.leave.new.self _ (after_same (seen table old) (stmt_tree c.args.inner.now)) c.in_ok-new.ensures.scope
+    (c.leave.ensures.bound ∙ ap (λ n. take n c.command.new.visible.bound.items) (c.len-count.ensures ∙ old.bound.ok.0) ∙ c.in_ok-new.ensures.keeps) (record { next = c.leave.ensures.next; names = c.leave.ensures.names; class = c.leave.ensures.class; sign = c.leave.ensures.sign; gives = c.leave.ensures.gives; owns = c.leave.ensures.owns; hidden = c.leave.ensures.hidden })) c.boxed.ensures
+
+pub scoped-returns-clause-command : goal.scoped-returns-clause-command
+scoped-returns-clause-command t c = IfOk-weaker c.boxed.result _ _ (λ new h. ap checked.command h ∙ c.in_ok-new.ensures.command) c.boxed.ensures
 
 pub block-returns-clause-command : goal.block-returns-clause-command
 block-returns-clause-command t c =
@@ -52,7 +55,7 @@ pub chosen_or_nothing-returns-clause-command : goal.chosen_or_nothing-returns-cl
 chosen_or_nothing-returns-clause-command t c =
     let s = seen c.args.table.now c.args.visible.now in
     choose_is (checked.value c.into_inner.result) (number_in (resolved s (expr_tree c.args.condition.now))) (checked.command c.in_ok-then.then.value) (resolved_stmt s (stmt_tree c.args.then.now)) (checked.command c.in_ok-other.other.value)
-    nothing (ap checked.value c.into_inner.ensures ∙ c.in_ok-test.ensures) c.in_ok-then.ensures.command (ap checked.command c.in_ok-other.ensures.ok ∙ c.nothing.ensures)
+    nothing (ap checked.value c.into_inner.ensures ∙ c.in_ok-test.ensures) c.in_ok-then.ensures.command (ap checked.command c.in_ok-other.ensures ∙ c.nothing.ensures)
 
 pub chosen-returns-clause-command : goal.chosen-returns-clause-command
 chosen-returns-clause-command t c =
@@ -147,7 +150,7 @@ pub block-returns-clause-keeps : goal.block-returns-clause-keeps
 block-returns-clause-keeps t c = c.leave.ensures.bound ∙ ap (λ n. take n c.commands.new.visible.bound.items) (c.len-count.ensures ∙ c.args.visible.now.bound.ok.0) ∙ c.in_ok-all.ensures.keeps
 
 pub scoped-returns-clause-keeps : goal.scoped-returns-clause-keeps
-scoped-returns-clause-keeps t c = c.leave.ensures.bound ∙ ap (λ n. take n c.command.new.visible.bound.items) (c.len-count.ensures ∙ c.args.visible.now.bound.ok.0) ∙ c.in_ok-new.ensures.keeps
+scoped-returns-clause-keeps t c = IfOk-weaker c.boxed.result _ _ (λ _ _. c.leave.ensures.bound ∙ ap (λ n. take n c.command.new.visible.bound.items) (c.len-count.ensures ∙ c.args.visible.now.bound.ok.0) ∙ c.in_ok-new.ensures.keeps) c.boxed.ensures
 
 pub command-returns-in-Block-clause-keeps : goal.command-returns-in-Block-clause-keeps
 command-returns-in-Block-clause-keeps t c = on_ok_weaker c.block.result (keeps_same c.args.visible.now.bound.items c.block.new.visible.bound.items) c.block.ensures.keeps

@@ -1,11 +1,10 @@
 use Rattle.std.proofs.Common.{Some, option_map, refl, sym, ap, ◌∙◌}
 use Rattle.std.specs.Option.{unwrap_or}
-use Rattle.std.proofs.lemmas.Result.{IfOk-weaker}
+use Rattle.std.proofs.lemmas.Result.{IfOk-at_ok, IfOk-weaker}
 use Rattle.arc_class.specs.Table.{number_of_class}
 use Rattle.arc_ast.specs.declared.tree.Kind.TheVariants.{Int}
 use Rattle.arc_scope.specs.declared.callee.Callee.TheVariants.{Printf, GetChar, Defined, Unknown}
-use Rattle.arc_resolve.specs.declared.resolution.Typed.{Typed}
-use Rattle.arc_resolve.specs.private.Building.{part_of, resolution}
+use Rattle.arc_resolve.specs.private.Building.{part_of, printing, resolution}
 use Rattle.arc_scope.specs.Passing as passing
 use Rattle.arc_checked.specs.Checked as checked
 use Rattle.arc_ast.specs.Tree.{expr_tree, expr_trees, type_tree}
@@ -13,14 +12,14 @@ use Rattle.arc_ast.specs.Operators.{sort_of}
 use Rattle.arc_ast.specs.Types.{type_kind}
 use Rattle.arc_resolve.specs.Resolving as resolving
 use Rattle.arc_resolve.specs.Resolving.{Gives, unary, binary, updated, cast, conditional, invoked, resolved, resolved_all}
-use Rattle.arc_scope.specs.Scopes.{class_of, either_class, is_nil}
+use Rattle.arc_scope.specs.Scopes.{class_of, either_class, field_class, is_nil}
 use Rattle.arc_scope.specs.Views.{kinds_wanted, seen}
 use Rattle.arc_ast.proofs.Trees.{call_tree, send_tree, send_super_tree}
 use Rattle.arc_checked.proofs.Trees.{print_value}
-use Rattle.arc_resolve.proofs.Buildings.{values_turn, values_end, printing_some, printing_none, resolves_call}
+use Rattle.arc_resolve.proofs.Buildings.{given_class, given_value, values_turn, values_end, printing_some, printing_none, resolves_call}
 use Rattle.arc_resolve.proofs.Messages.{assigned_other, resolves_class, resolves_object, resolves_super}
 use Rattle.arc_resolve.proofs.resolve.+resolve.Goals as goal
-use Rattle.arc_resolve.proofs.resolve.+resolve.Goals.{call-in-Printf+in_ok-value-in-Printf, call-in-Defined+in_ok-all-in-Defined, call-in-GetChar, call-in-Unknown}
+use Rattle.arc_resolve.proofs.resolve.+resolve.Goals.{call-in-Printf, call-in-Defined+in_ok-all-in-Defined, call-in-GetChar, call-in-Unknown}
 
 pub expression-returns-in-Call : goal.expression-returns-in-Call
 expression-returns-in-Call t c =
@@ -69,41 +68,63 @@ expression-returns-in-Assign t c = IfOk-weaker c.assignment.result _ _ (λ typed
 pub expression-returns-in-Update : goal.expression-returns-in-Update
 expression-returns-in-Update t c = IfOk-weaker c.update.result _ _ (λ typed h. rw (c.in-Update.is, sym c.deref-in-Update.ensures, sym c.deref-in-Update-2.ensures) (h c.in-Update.field-0 c.in-Update.field-1)) c.update.ensures
 
+pub test_value-returns : goal.test_value-returns
+test_value-returns t c = IfOk-weaker c.number_part.result _ _ (λ new h. h ∙ ap resolving.number_in c.in_ok-part.ensures.value) c.number_part.ensures
+
 pub signed-returns : goal.signed-returns
-signed-returns t c = λ at. record { class = refl; value = c.in_ok-value.ensures ∙ ap (unary c.args.operator) c.in_ok-operand.ensures.value }
+signed-returns t c = IfOk-weaker c.with_class.result _ _ (λ typed h at. given_class _ _ typed _ h refl c.unary.ensures (ap (unary c.args.operator) c.in_ok-operand.ensures.value)) c.with_class.ensures
 
 pub cast-returns : goal.cast-returns
-cast-returns t c = λ at. record { class = c.static_class.ensures; value = c.in_ok-value.ensures ∙ ap (λ k. cast k (resolution c.in_ok-operand.operand.value)) c.kind.ensures ∙ ap (cast (type_kind (type_tree c.args.type_name.now))) c.in_ok-operand.ensures.value }
+cast-returns t c =
+    IfOk-weaker c.with_class.result _ _ (λ typed h at. given_class _ _ typed _ h c.static_class.ensures c.cast.ensures
+    (ap (λ k. cast k (resolution c.in_ok-operand.operand.value)) c.kind.ensures ∙ ap (cast (type_kind (type_tree c.args.type_name.now))) c.in_ok-operand.ensures.value)) c.with_class.ensures
 
 pub operation-returns : goal.operation-returns
-operation-returns t c = λ at.
-    record {
-      class = refl;
-      value = c.in_ok-value.ensures ∙ ap (λ a. binary (sort_of c.args.operator) c.args.operator a (part_of c.in_ok-right.right.value)) c.in_ok-left.ensures.value
-          ∙ ap (binary (sort_of c.args.operator) c.args.operator (resolved (seen c.args.table.now c.args.visible.now) (expr_tree c.args.left.now))) c.in_ok-right.ensures.value;
-    }
+operation-returns t c =
+    IfOk-weaker c.with_class.result _ _ (λ typed h at. given_class _ _ typed _ h refl c.binary.ensures
+    (ap (λ a. binary (sort_of c.args.operator) c.args.operator a (part_of c.in_ok-right.right.value)) c.in_ok-left.ensures.value
+    ∙ ap (binary (sort_of c.args.operator) c.args.operator (resolved (seen c.args.table.now c.args.visible.now) (expr_tree c.args.left.now))) c.in_ok-right.ensures.value)) c.with_class.ensures
 
 pub update-returns : goal.update-returns
-update-returns t c = λ at sign.
-    record {
-      class = refl;
-      value = c.in_ok-value.ensures ∙ ap (λ a. updated c.args.moment c.args.operator a (part_of c.in_ok-right.right.value)) c.in_ok-left.ensures.value
-          ∙ ap (updated c.args.moment c.args.operator (resolved (seen c.args.table.now c.args.visible.now) (expr_tree c.args.left.now))) c.in_ok-right.ensures.value;
-    }
+update-returns t c =
+    IfOk-weaker c.with_class.result _ _ (λ typed h at sign. given_class _ _ typed _ h refl c.updated.ensures
+    (ap (λ a. updated c.args.moment c.args.operator a (part_of c.in_ok-right.right.value)) c.in_ok-left.ensures.value
+    ∙ ap (updated c.args.moment c.args.operator (resolved (seen c.args.table.now c.args.visible.now) (expr_tree c.args.left.now))) c.in_ok-right.ensures.value)) c.with_class.ensures
 
 pub choice-returns : goal.choice-returns
-choice-returns t c = λ at.
+choice-returns t c =
     let s = seen c.args.table.now c.args.visible.now in
     let a = expr_tree c.args.first.now in
     let b = expr_tree c.args.second.now in
     let test = resolving.number_in (resolved s (expr_tree c.args.test.now)) in
     let one = option_map number_of_class c.in_ok-first.first.class in
     let other = option_map number_of_class c.in_ok-second.second.class in
+    IfOk-weaker c.with_class.result _ _ (λ typed h at. given_class _ _ typed _ h
+    (c.either_class-class.ensures ∙ ap (λ p. either_class p c.is_nil-other_nil.result one other) c.is_nil-one_nil.ensures ∙ ap (λ p. either_class (is_nil a) p one other) c.is_nil-other_nil.ensures
+    ∙ ap (λ k. either_class (is_nil a) (is_nil b) k other) c.in_ok-first.ensures.class ∙ ap (either_class (is_nil a) (is_nil b) (class_of s a)) c.in_ok-second.ensures.class) c.conditional.ensures
+    (ap (λ x. conditional x (part_of c.in_ok-first.first.value) (part_of c.in_ok-second.second.value)) c.in_ok-test.ensures
+    ∙ ap (λ x. conditional test x (part_of c.in_ok-second.second.value)) c.in_ok-first.ensures.value ∙ ap (conditional test (resolved s a)) c.in_ok-second.ensures.value)) c.with_class.ensures
+
+pub arrow-returns : goal.arrow-returns
+arrow-returns t c =
+    let s = seen c.args.table.now c.args.visible.now in
+    let a = expr_tree c.args.base.now in
+    let name = c.args.name.now in
+    let found : c.field-found.result ≡ s.known.field (class_of s a) name = c.field-found.ensures ∙ ap (λ k. s.known.field k name) c.in_ok-base.ensures.class in
+    IfOk-weaker c.with_class.result _ _ (λ typed h at name_at. given_class _ _ typed _ h (c.field_class.ensures ∙ ap field_class found) c.field.ensures
+    (ap (λ o. resolving.field o c.field-found.result) (c.object_in.ensures ∙ ap resolving.object_in c.in_ok-base.ensures.value) ∙ ap (resolving.field (resolving.object_in (resolved s a))) found)) c.with_class.ensures
+
+pub to_field-returns : goal.to_field-returns
+to_field-returns t c =
+    let s = seen c.args.table.now c.args.visible.now in
+    let a = expr_tree c.args.base.now in
+    let name = c.args.name.now in
+    let found : c.field-found.result ≡ s.known.field (class_of s a) name = c.field-found.ensures ∙ ap (λ k. s.known.field k name) c.in_ok-base.ensures.class in
     record {
-      class = c.either_class-class.ensures ∙ ap (λ p. either_class p c.is_nil-other_nil.result one other) c.is_nil-one_nil.ensures ∙ ap (λ p. either_class (is_nil a) p one other) c.is_nil-other_nil.ensures
-          ∙ ap (λ k. either_class (is_nil a) (is_nil b) k other) c.in_ok-first.ensures.class ∙ ap (either_class (is_nil a) (is_nil b) (class_of s a)) c.in_ok-second.ensures.class;
-      value = c.in_ok-value.ensures ∙ ap (λ x. conditional (resolving.number_in x) (part_of c.in_ok-first.first.value) (part_of c.in_ok-second.second.value)) c.in_ok-test.ensures.value
-          ∙ ap (λ x. conditional test x (part_of c.in_ok-second.second.value)) c.in_ok-first.ensures.value ∙ ap (conditional test (resolved s a)) c.in_ok-second.ensures.value;
+      class = IfOk-weaker c.with_class.result _ _ (λ typed h. ap (option_map number_of_class) h.class ∙ c.field_class.ensures ∙ ap field_class found) c.with_class.ensures;
+      value = IfOk-weaker c.with_class.result _ _ (λ typed h. IfOk-at_ok _ h.value c.field_assigned.ensures
+          ∙ ap (λ o. resolving.field_assigned o c.field-found.result (part_of c.args.of)) (c.object_in.ensures ∙ ap resolving.object_in c.in_ok-base.ensures.value)
+          ∙ ap (λ f. resolving.field_assigned (resolving.object_in (resolved s a)) f (part_of c.args.of)) found) c.with_class.ensures;
     }
 
 pub class_in-returns : goal.class_in-returns
@@ -112,8 +133,11 @@ class_in-returns t c = c.in_ok-part.ensures.class
 pub argument-returns : goal.argument-returns
 argument-returns t c = IfOk-weaker c.passed.result _ _ (λ new h others. h others ∙ ap (λ x. resolving.argument c.args.wanted x others) c.in_ok-part.ensures.value) c.passed.ensures
 
-pub assigned-returns-in_ok-itself_assigned-in-Itself-clause-class : goal.assigned-returns-in_ok-itself_assigned-in-Itself-clause-class
-assigned-returns-in_ok-itself_assigned-in-Itself-clause-class t c = rw c.in-Itself.is (c.own_class.ensures c.args.table.now)
+pub assigned-returns-in-Itself-clause-class : goal.assigned-returns-in-Itself-clause-class
+assigned-returns-in-Itself-clause-class t c = rw c.in-Itself.is (IfOk-weaker c.with_class.result _ _ (λ typed h. ap (option_map number_of_class) h.class ∙ c.own_class.ensures c.args.table.now) c.with_class.ensures)
+
+pub assigned-returns-in-Itself-clause-value : goal.assigned-returns-in-Itself-clause-value
+assigned-returns-in-Itself-clause-value t c = rw c.in-Itself.is (IfOk-weaker c.with_class.result _ _ (λ typed h. IfOk-at_ok _ h.value c.itself_assigned.ensures) c.with_class.ensures)
 
 pub assigned-returns-in-Name-clause-class : goal.assigned-returns-in-Name-clause-class
 assigned-returns-in-Name-clause-class t c = rw (c.in-Name.is, sym c.deref-in-Name.ensures.value) c.to_name.ensures.class
@@ -130,58 +154,61 @@ assigned-returns-in-Arrow-clause-value t c = rw (c.in-Arrow.is, sym c.deref-in-A
 pub assigned-returns-in_ok-class-in_default : goal.assigned-returns-in_ok-class-in_default
 assigned-returns-in_ok-class-in_default t c = record { class = c.in_ok-class-in_default.ensures; value = c.unboxed.ensures ∙ assigned_other (seen c.args.table.now c.args.visible.now) c.args.left.now _ c.in_default.not-Paren c.in_default.not-Itself c.in_default.not-Name c.in_default.not-Arrow }
 
-pub message-returns-in_ok-class_message-in-Some : goal.message-returns-in_ok-class_message-in-Some
-message-returns-in_ok-class_message-in-Some t c = λ at part.
+pub message-returns-in-Some : goal.message-returns-in-Some
+message-returns-in-Some t c =
     let s = seen c.args.table.now c.args.visible.now in
     let r = expr_tree c.args.receiver.now in
     let args = expr_trees c.args.arguments.now in
     let name = c.args.selector.now in
     let class = c.class_receiver-class.ensures in
     let passed = c.in_ok-all.ensures ∙ ap (λ k. resolved_all s (Some k) args) (c.parameters_passed.ensures ∙ ap (λ g. s.known.passed g name) (c.receiver_sign.ensures ∙ ap passing.receiver_sign class)) in
-    resolves_class s at part r name args (number_of_class c.in-Some.class) (checked.arguments c.in_ok-all.all.items) (record { class = c.sent_class.result; value = c.in_ok-class_message-in-Some.field-0 })
-    (sym (ap (option_map number_of_class) c.in-Some.is) ∙ class) passed c.sent_class.ensures (c.in_ok-class_message-in-Some.ensures c.args.visible.now (class_of s r) (resolved s r))
+    IfOk-weaker c.with_class.result _ _ (λ typed h at part. resolves_class s at part r name args (number_of_class c.in-Some.class) (checked.arguments c.in_ok-all.all.items) typed
+    (sym (ap (option_map number_of_class) c.in-Some.is) ∙ class) passed (ap (option_map number_of_class) h.class ∙ c.sent_class.ensures)
+    (IfOk-at_ok _ h.value c.class_message.ensures c.args.visible.now (class_of s r) (resolved s r))) c.with_class.ensures
 
-pub message-returns-in_ok-object_message-in-None : goal.message-returns-in_ok-object_message-in-None
-message-returns-in_ok-object_message-in-None t c = λ at part.
+pub message-returns-in_ok-object-in-None : goal.message-returns-in_ok-object-in-None
+message-returns-in_ok-object-in-None t c =
     let s = seen c.args.table.now c.args.visible.now in
     let r = expr_tree c.args.receiver.now in
     let args = expr_trees c.args.arguments.now in
     let name = c.args.selector.now in
     let class = c.class_receiver-class.ensures in
     let passed = c.in_ok-all.ensures ∙ ap (λ k. resolved_all s (Some k) args) (c.parameters_passed.ensures ∙ ap (λ g. s.known.passed g name) (c.receiver_sign.ensures ∙ ap passing.receiver_sign class)) in
-    resolves_object s at part r name args c.in_ok-object-in-None.object (record { class = c.sent_class-in-None.result; value = c.in_ok-object_message-in-None.field-0 }) (checked.arguments c.in_ok-all.all.items)
-    (sym (ap (option_map number_of_class) c.in-None.is) ∙ class) c.in_ok-object-in-None.ensures passed c.sent_class-in-None.ensures (c.in_ok-object_message-in-None.ensures c.args.visible.now r)
+    IfOk-weaker c.with_class-in-None.result _ _ (λ typed h at part. resolves_object s at part r name args c.in_ok-object-in-None.object typed (checked.arguments c.in_ok-all.all.items)
+    (sym (ap (option_map number_of_class) c.in-None.is) ∙ class) c.in_ok-object-in-None.ensures passed (ap (option_map number_of_class) h.class ∙ c.sent_class-in-None.ensures)
+    (IfOk-at_ok _ h.value c.object_message.ensures c.args.visible.now r)) c.with_class-in-None.ensures
 
 pub super_message-returns : goal.super_message-returns
-super_message-returns t c = λ at part super_at.
+super_message-returns t c =
+    IfOk-weaker c.with_class.result _ _ (λ typed h at part super_at.
     resolves_super (seen c.args.table.now c.args.visible.now) at part super_at c.args.selector.now (expr_trees c.args.arguments.now) c.super_kind-kind.result c.class_number.result c.selector_number-number.result (checked.arguments c.in_ok-all.all.items)
-    (record { class = c.super_class.result; value = c.in_ok-to_super.field-0 }) c.super_kind-kind.ensures (c.class_number.ensures ∙ ap (λ n. unwrap_or n 0) c.above.ensures) (c.selector_number-number.ensures ∙ ap (λ n. unwrap_or n 0) c.selector.ensures)
+    typed c.super_kind-kind.ensures (c.class_number.ensures ∙ ap (λ n. unwrap_or n 0) c.above.ensures) (c.selector_number-number.ensures ∙ ap (λ n. unwrap_or n 0) c.selector.ensures)
     (c.in_ok-all.ensures ∙ ap (λ k. resolved_all (seen c.args.table.now c.args.visible.now) (Some k) (expr_trees c.args.arguments.now)) c.parameters_passed.ensures)
-    c.super_class.ensures c.in_ok-to_super.ensures
+    (ap (option_map number_of_class) h.class ∙ c.super_class.ensures) (IfOk-at_ok _ h.value c.to_super.ensures)) c.with_class.ensures
 
 pub call-returns : goal.call-returns
-call-returns t c = λ at.
+call-returns t c =
     let s = seen c.args.table.now c.args.visible.now in
     let name = c.args.name.now in
     let all = expr_trees c.args.arguments.now in
-    let typed : Typed = record { class = c.function_class.result; value = c.match-callee.value } in
-    let class = ap (option_map number_of_class) c.function_class.ensures in
+    IfOk-weaker c.with_class.result _ _ (λ typed h at.
+    let class = ap (option_map number_of_class) (h.class ∙ c.function_class.ensures) in
     elim c.match-callee.branch [
-      | call-in-Printf+in_ok-value-in-Printf w ↦ resolves_call s at name all Printf typed (sym w.in-Printf.ensures) class (ap resolution w.value-is ∙ ap (Gives Int) w.in_ok-value-in-Printf.ensures)
+      | call-in-Printf w ↦ resolves_call s at name all Printf typed (sym w.in-Printf.ensures) class (IfOk-at_ok (λ new. resolution new ≡ Gives Int (printing s all)) (sym w.value-is ∙ h.value) w.print-value.ensures)
       | call-in-Defined+in_ok-all-in-Defined w ↦ resolves_call s at name all (Defined w.in-Defined.kind w.in-Defined.field-1 w.in-Defined.body) typed (sym w.in-Defined.ensures) class
-          (ap resolution w.value-is ∙ w.invoked-value.ensures ∙ ap (λ f. invoked w.in-Defined.kind f (checked.arguments w.in_ok-all-in-Defined.all.items)) w.number.ensures
-          ∙ ap (invoked w.in-Defined.kind (unwrap_or w.in-Defined.body 0)) (w.in_ok-all-in-Defined.ensures ∙ ap (λ k. resolved_all s (Some k) all) w.parameters.ensures))
-      | call-in-GetChar w ↦ resolves_call s at name all GetChar typed (sym w.in-GetChar.ensures) class (ap resolution w.value-is)
-      | call-in-Unknown w ↦ resolves_call s at name all Unknown typed (sym w.in-Unknown.ensures) class (ap resolution w.value-is)
-    ]
+          (given_value _ _ typed _ _ h w.value-is (w.invoked.ensures ∙ ap (λ f. invoked w.in-Defined.kind f (checked.arguments w.in_ok-all-in-Defined.all.items)) w.number.ensures
+          ∙ ap (invoked w.in-Defined.kind (unwrap_or w.in-Defined.body 0)) (w.in_ok-all-in-Defined.ensures ∙ ap (λ k. resolved_all s (Some k) all) w.parameters.ensures)))
+      | call-in-GetChar w ↦ resolves_call s at name all GetChar typed (sym w.in-GetChar.ensures) class (given_value _ _ typed _ _ h w.value-is refl)
+      | call-in-Unknown w ↦ resolves_call s at name all Unknown typed (sym w.in-Unknown.ensures) class (given_value _ _ typed _ _ h w.value-is refl)
+    ]) c.with_class.ensures
 
 pub print-returns-in_ok-pieces-in-Some : goal.print-returns-in_ok-pieces-in-Some
-print-returns-in_ok-pieces-in-Some t c = print_value c.in_ok-pieces-in-Some.pieces c.in_ok-values-in-Some.values
-    ∙ printing_some (seen c.args.table.now c.args.visible.now) c.args.arguments.now c.in-Some.first.now c.in-Some.others.now c.text_of.result.now c.in_ok-pieces-in-Some.pieces.items c.in_ok-values-in-Some.values.items c.in-Some.ensures.cases.0 c.text_of.ensures c.in_ok-pieces-in-Some.ensures c.in_ok-values-in-Some.ensures
+print-returns-in_ok-pieces-in-Some t c = ap (Gives Int) (print_value c.in_ok-pieces-in-Some.pieces c.in_ok-values-in-Some.values
+    ∙ printing_some (seen c.args.table.now c.args.visible.now) c.args.arguments.now c.in-Some.first.now c.in-Some.others.now c.text_of.result.now c.in_ok-pieces-in-Some.pieces.items c.in_ok-values-in-Some.values.items c.in-Some.ensures.cases.0 c.text_of.ensures c.in_ok-pieces-in-Some.ensures c.in_ok-values-in-Some.ensures)
 
-pub print-returns-in_ok-resolved_arguments-in-None : goal.print-returns-in_ok-resolved_arguments-in-None
-print-returns-in_ok-resolved_arguments-in-None t c = print_value c.new.result c.in_ok-resolved_arguments-in-None.field-0
-    ∙ printing_none (seen c.args.table.now c.args.visible.now) c.args.arguments.now c.new.result.items c.in_ok-resolved_arguments-in-None.field-0.items c.in-None.ensures.cases c.new.ensures.items c.in_ok-resolved_arguments-in-None.ensures
+pub print-returns-in-None : goal.print-returns-in-None
+print-returns-in-None t c = ap (Gives Int) (print_value c.new.result c.new-2.result
+    ∙ printing_none (seen c.args.table.now c.args.visible.now) c.args.arguments.now c.new.result.items c.new-2.result.items c.in-None.ensures.cases c.new.ensures.items c.new-2.ensures.items)
 
 pub resolved_arguments-loop-one-preserved : goal.resolved_arguments-loop-one-preserved
 resolved_arguments-loop-one-preserved t c =

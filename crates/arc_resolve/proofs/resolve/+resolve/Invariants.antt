@@ -23,6 +23,9 @@ decreases-to_field l = 8 * size-Expr l.base.now + 1
 abbrev pub decreases-resolved_part : goal.decreases-resolved_part
 decreases-resolved_part l = 8 * goal.size-resolved_part l + 1
 
+abbrev pub decreases-test_value : goal.decreases-test_value
+decreases-test_value l = 8 * goal.size-test_value l + 2
+
 abbrev pub decreases-signed : goal.decreases-signed
 decreases-signed l = 8 * size-Expr l.operand.now + 2
 
@@ -36,7 +39,7 @@ abbrev pub decreases-update : goal.decreases-update
 decreases-update l = 8 * max (size-Expr l.left.now) (size-Expr l.right.now) + 2
 
 abbrev pub decreases-choice : goal.decreases-choice
-decreases-choice l = 8 * max (size-Expr l.test.now) (max (size-Expr l.first.now) (size-Expr l.second.now)) + 2
+decreases-choice l = 8 * max (size-Expr l.test.now) (max (size-Expr l.first.now) (size-Expr l.second.now)) + 3
 
 abbrev pub decreases-arrow : goal.decreases-arrow
 decreases-arrow l = 8 * size-Expr l.base.now + 1
