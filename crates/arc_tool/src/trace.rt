@@ -57,7 +57,9 @@ pub fn trace_text<R: Input, W: Output>(
 {
     let named = compile_named(alloc, source)?;
     let mut machine = Machine::new(alloc, named.code, PlainStore::new(alloc))?;
-    let (left, begun) = follow(&mut machine, steps, &named.classes, reader, writer)?;
+    let followed = follow(&mut machine, steps, &named.classes, reader, writer);
+    drop(machine);
+    let (left, begun) = followed?;
     end_trace(left, begun, writer)
 }
 
