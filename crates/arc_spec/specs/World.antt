@@ -7,7 +7,7 @@ use Rattle.arc_spec.specs.declared.location.Location.{Location}
 use Rattle.arc_spec.specs.declared.location.Location.TheVariants.{Local, Global}
 use Rattle.arc_spec.specs.Number.{byte_or_end}
 use Rattle.arc_spec.specs.Objects.{Object, nils, field_places}
-use Rattle.arc_spec.specs.Statics.{Statics, first_statics, with_numbers}
+use Rattle.arc_spec.specs.Statics.{Statics, first_statics}
 
 -- The running function: in a method of objects `self`, the variables that hold numbers, those that name objects, of which its parameters are the first, and the
 -- temporaries of its full-expression, the last one first. After the variables that name objects comes the place of the result, where it gives an object. All of these and
@@ -66,9 +66,6 @@ with_objects w objects = record w { objects = objects }
 
 abbrev pub with_locals : World → List ℤ → World
 with_locals w locals = record w { frame = record w.frame { locals = locals } }
-
-abbrev pub with_globals : World → List ℤ → World
-with_globals w globals = record w { statics = with_numbers w.statics globals }
 
 abbrev pub with_strong_globals : World → List ℕ → World
 with_strong_globals w strong_globals = record w { strong_globals = strong_globals }
