@@ -31,6 +31,7 @@ abbrev pub field_place : List ℕ → List FieldTree → Option ℕ
 field_place name [] = None
 field_place name (f ∷ others) = if bytes_eq name f.name then Some f.at else field_place name others
 
+-- whether there is a place, and it is before this one
 abbrev pub is_earlier : Option ℕ → ℕ → Bool
 is_earlier other at = option_map_or (λ o. nat_lt o at) other false
 

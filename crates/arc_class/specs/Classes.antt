@@ -127,6 +127,7 @@ built_in_given sign selector = option_map (λ kind. record { kind = kind; class 
 abbrev pub counting_given : List ℕ → Option MethodResult
 counting_given selector = option_map (λ kind. record { kind = kind; class = None; related = false }) (counting_result selector)
 
+-- what the method gives that a class itself has, by its number
 abbrev pub result_in : UnitTree → (class : ℕ) → Sign → List ℕ → Option MethodResult
 result_in u zero sign selector = built_in_given sign selector
 result_in u (suc n) sign selector = option_and_then (own_result u sign selector) (slice_get u.interfaces n)

@@ -41,6 +41,7 @@ fields_added u class i = if is_number class (class_number u.interfaces i.name) t
 abbrev pub fields_declared : UnitTree → (class : ℕ) → InterfaceTree → List FieldTree
 fields_declared u class i = by_position u i i.fields (fields_added u class i)
 
+-- the same by the number of a class; the root declares none
 abbrev pub own_fields : UnitTree → (class : ℕ) → List FieldTree
 own_fields u zero = []
 own_fields u (suc n) = option_map_or (fields_declared u (suc n)) (slice_get u.interfaces n) []
@@ -50,6 +51,7 @@ abbrev pub held_by : Kind → Option Qual
 held_by k.Object = Some quals.Strong
 held_by _ = None
 
+-- a field that a class declares
 abbrev pub owned : (owner : ℕ) → FieldTree → ClassField
 owned owner f = record { name = f.name; kind = type_kind f.type; qual = held_by (type_kind f.type); owner = owner; visibility = f.visibility }
 
@@ -104,6 +106,7 @@ numbered interfaces owner before [] name = None
 numbered interfaces owner before (f ∷ others) name =
     if bytes_eq name f.name then Some (field_after interfaces owner before f) else numbered interfaces owner (with_one (type_kind f.type) before) others name
 
+-- the field with a name that a class itself declares
 abbrev pub own_field : UnitTree → (class : ℕ) → List ℕ → Option FoundField
 own_field u class name = numbered u.interfaces class (counts (kinds_of_fields (inherited u class))) (own_fields u class) name
 

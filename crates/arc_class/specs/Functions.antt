@@ -24,6 +24,7 @@ same_kinds _ _ = false
 abbrev pub same_number : Option ℕ → Option ℕ → Bool
 same_number a b = option_map_or (λ m. option_map_or (λ n. nat_eq m n) b false) a (is_none b)
 
+-- whether two signatures agree
 abbrev pub same_signature : Signature → Signature → Bool
 same_signature a b = same_kind a.result b.result && same_number a.takes b.takes
 

@@ -56,6 +56,7 @@ abbrev pub is_int : Kind → Bool
 is_int k.Int = true
 is_int _ = false
 
+-- by how many parameters are listed: none, or a count and texts
 abbrev pub starts_program : Option ℕ → Bool
 starts_program (Some (suc n)) = false
 starts_program _ = true

@@ -54,6 +54,7 @@ class_with u fields i = record {
 abbrev pub class_of : UnitTree → (number : ℕ) → InterfaceTree → Class
 class_of u number i = class_with u (counts (kinds_of_fields (fields u number))) i
 
+-- the classes of these interfaces, of which the first has this number
 abbrev pub classes_from : UnitTree → (number : ℕ) → List InterfaceTree → List Class
 classes_from u number [] = []
 classes_from u number (i ∷ others) = class_of u number i ∷ classes_from u (suc number) others

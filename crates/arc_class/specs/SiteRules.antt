@@ -20,6 +20,7 @@ use Rattle.arc_class.specs.Names.{known, first_named, parameter_kinds, listed_ki
 
 -- ---- names
 
+-- whether a function is there, and stands before a place; and whether the first interface with a name does
 abbrev pub stands_before : Option FunctionTree → ℕ → Bool
 stands_before f at = option_map_or (λ f. nat_lt f.at at) f false
 

@@ -13,7 +13,7 @@ pub enum Op {
     Num(i64),
     /// Takes the right operand and the left one, and puts what the operator gives of them.
     Bin(BinaryOperator, Kind),
-    /// Puts the negation of the top number in its place.
+    /// Puts what the operator gives of the top number in its place.
     Un(UnaryOperator, Kind),
     /// Puts the top number, as one of this kind, in its place.
     Narrow(Kind),
@@ -120,7 +120,8 @@ pub enum Instr<J, F, T> {
     /// reference and the last temporary.
     Give,
     /// Leaves the function, which has no temporary, with its variables, all of them nil: goes back to the
-    /// instruction after the last call; with no call it takes the top number, with which the program ends.
+    /// instruction after the last call; after a dealloc it takes the top number, and the object's end goes on; with
+    /// neither it takes the top number, with which the program ends.
     Return,
     /// The end of an object goes on: with the dealloc of the next class, with the next of its fields that name
     /// objects, which lets go of what it names, or to its last step, in which the object is gone.

@@ -6,11 +6,11 @@ ghost use Rattle.arc_fault.specs.Check.{report};
 use std::alloc::AllocError;
 use thiserror::Error;
 
-/// Why a source is refused: the first rule that its functions break, or no memory.
+/// Why a source is refused: the first rule that its functions and methods break, or what its global variables begin with, or no memory.
 #[derive(Clone, Copy, Debug, Drop, Error)]
 pub enum CheckFault {
     /// A name that means neither a variable nor a field, a field that the object's class hasn't, a call of a function that is not known or of `main`, or a `self`
-    /// outside methods; the place is that of the name.
+    /// outside of methods; the place is that of the name.
     #[error("the name at {0} is not known")]
     UnknownName(usize),
     /// A message for which no method is known; the place is that of its selector's first part.
@@ -20,10 +20,12 @@ pub enum CheckFault {
     /// message; the place is that of the expression.
     #[error("the expression at {0} is of the wrong kind")]
     KindMismatch(usize),
-    /// The left side of an assignment is no variable, no field and not `self`; the place is that of its `=`.
+    /// The left side of an assignment is no variable, no field and not `self`; the place is that of its `=`. Or that of an update is no variable and no field, or
+    /// holds an object; the place is that of its operator.
     #[error("the left side of the assignment at {0} is no variable")]
     NotAssignable(usize),
-    /// A call with another number of arguments than its function takes, or a function with more than 16 parameters; the place is that of the name.
+    /// A call with another number of arguments than its function takes, or a function with more than 16 parameters; the place is that of the name. Or a method with
+    /// more than 16; the place is that of its `+` or `-`.
     #[error("the function at {0} takes another number of arguments")]
     ArgumentCount(usize),
     /// A call of `printf` without a format, with an unknown conversion, or with values that do not fit; the place is that of its name.

@@ -9,18 +9,18 @@ use thiserror::Error;
 /// Why a source has no table: the first rule that its declarations break, or no memory.
 #[derive(Clone, Copy, Debug, Drop, Error)]
 pub enum ClassFault {
-    /// A second body of a function, a declaration that differs from an earlier one, a function or a class of the library's name, a second
-    /// class or implementation of a name, a name for both a class and a function, a second variable of a name in a scope, or a second field
-    /// of a name in a class and those above it, reported at the name; or a second method of an implementation of its sign with its selector, reported
-    /// at its `+` or `-`.
+    /// A second body of a function, a declaration that differs from an earlier one, a function, a global variable or a class of a name of the library's, a
+    /// second global variable, class or implementation of a name, a name for two of a function, a global variable and a class, a second variable or parameter
+    /// of a name in a scope, or a second field of a name in a class and those above it, reported at the name; or a second method of an implementation of its
+    /// sign with its selector, reported at its `+` or `-`.
     #[error("the name at {0} is declared in another way already")]
     Duplicate(usize),
     /// A superclass that no earlier interface declares, an implementation of a class without an interface, or a type that names such a
     /// class; the place is that of the name.
     #[error("the class at {0} is not known")]
     UnknownClass(usize),
-    /// A method whose result is of another kind than that of an earlier one of its sign with its selector, or of the one that is built in;
-    /// the place is that of its `+` or `-`.
+    /// A method whose result or one of whose parameters is of another kind than that of an earlier one of its sign with its selector, or of the one
+    /// that is built in; the place is that of its `+` or `-`.
     #[error("the method at {0} gives another kind of value than an earlier one")]
     SelectorKinds(usize),
     /// A class without an implementation; the place is that of its interface's name.

@@ -13,7 +13,7 @@ pub enum OwnFault {
     /// A function, or a method outside of the families that own what they give, that gives an object, at its name or its `+` or `-`.
     #[error("an unretained object is given at {0}")]
     Unretained(usize),
-    /// A method `retain`, `release`, `autorelease` or `retainCount`, at its `+`; or such a message, at the first part of its selector.
+    /// A method `retain`, `release`, `autorelease` or `retainCount`, at its `+` or `-`; or such a message, at the first part of its selector.
     #[error("references are counted by hand at {0}")]
     ManualMemory(usize),
     /// A message `dealloc`; the place is that of its selector.

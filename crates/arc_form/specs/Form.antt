@@ -9,6 +9,7 @@ pub record Limits : Type 0 where
   pub depth : Option ℕ
   pub tokens : Option ℕ
 
+-- without limits
 abbrev pub unlimited : Limits
 unlimited = record { depth = None; tokens = None }
 
@@ -46,6 +47,7 @@ pub data Form (N : Type 0) (Node : N → Type 0) : Type 0 → Type 1 where
 abbrev pub Rules : (N : Type 0) → (N → Type 0) → Type 0
 Rules N Node = (n : N) → Reader (Node n)
 
+-- what reads a form, where rules are read so
 abbrev pub run : {N : Type 0} {Node : N → Type 0} → (Limits → Rules N Node) → Limits → {A : Type 0} → Form N Node A → Reader A
 run of limits (token T g) = take_one T g
 run of limits (give a) = ret a

@@ -14,6 +14,7 @@ main_bytes = codes "main"
 abbrev pub Kind : Type 0
 Kind = ℕ × List ℕ
 
+-- the kind of what a token is
 abbrev pub kind : Sort → Kind
 kind (Name bytes) = (0, if bytes_eq bytes main_bytes then main_bytes else [])
 kind (Integer value suffixed) = (1, [])
@@ -23,6 +24,7 @@ kind (At word) = (4, at_bytes word)
 kind (Sign mark) = (5, mark_bytes mark)
 kind Unused = (6, [])
 
+-- whether two kinds are the same
 abbrev pub same : Kind → Kind → Bool
 same a b = nat_eq a.0 b.0 && bytes_eq a.1 b.1
 
@@ -33,6 +35,7 @@ pub data Kinds : Type 0 where
   one : Kind → Kinds
   ◌∪◌ : Kinds → Kinds → Kinds
 
+-- whether a kind is in a set
 abbrev pub has : Kinds → Kind → Bool
 has none k = false
 has (one a) k = same k a
@@ -42,6 +45,8 @@ has (A ∪ B) k = has A k || has B k
 abbrev pub is : Kinds → Tok → Bool
 is T t = has T (kind t.sort)
 
+-- The sets that grammars are written with: of a mark, of a word, of a word after `@`, of the name `main`, of all other names, of all names, of all integers (and
+-- characters), and of all texts.
 abbrev pub mark : Mark → Kinds
 mark m = one (kind (Sign m))
 

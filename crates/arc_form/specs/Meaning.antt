@@ -5,6 +5,7 @@ use Rattle.arc_form.specs.Kinds.{is}
 use Rattle.arc_form.specs.Reader.{sees, sees_two}
 use Rattle.arc_form.specs.Form.{Limits, unlimited, Form, Bodies, token, give, call, map, ◌⨾◌, into, choose, many, or_none, nest, bounded, two_ahead, avoid}
 
+-- a number is no more than a limit, where there is one
 abbrev pub AtMost : Option ℕ → ℕ → Type 0
 AtMost None n = Unit {0}
 AtMost (Some most) n = n ≤ most
@@ -13,6 +14,7 @@ AtMost (Some most) n = n ≤ most
 abbrev pub Spelling : Type 0 → Type 1
 Spelling A = A → List Tok → List Tok → Type 0
 
+-- tokens spell each value of a list, one after the other
 abbrev pub SpellsAll : {A : Type 0} → Spelling A → Spelling (List A)
 SpellsAll S [] rest xs = xs ≡ []
 SpellsAll S (a ∷ others) rest xs = (ys zs : List Tok) × (xs ≡ ys ++ zs) × S a (zs ++ rest) ys × SpellsAll S others rest zs

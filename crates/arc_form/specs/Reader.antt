@@ -99,6 +99,7 @@ turns (suc n) T f = if_sees T (f >>= (λ a. turns n T f >>= (λ others. ret (a �
 unfoldable pub loop : {A : Type 0} → Kinds → Reader A → Reader (List A)
 loop T f = λ ts. turns (suc (length ts)) T f ts
 
+-- whether a number is more than a limit, where there is one
 abbrev pub is_above : Option ℕ → ℕ → Bool
 is_above None n = false
 is_above (Some most) n = nat_lt most n
@@ -131,6 +132,7 @@ up_to most f = λ ts. cut most ts (f ts)
 
 -- ---- what tokens give
 
+-- the bytes of a name, and none of any other token
 abbrev pub bytes_of : Sort → List ℕ
 bytes_of (Name bytes) = bytes
 bytes_of _ = []

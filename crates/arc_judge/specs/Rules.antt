@@ -29,6 +29,7 @@ use Rattle.arc_scope.specs.Scopes.{Known, Local, Scope, has_place, declare, with
 use Rattle.arc_scope.specs.Known.{known_of}
 use Rattle.arc_scope.specs.Scopes as scopes
 
+-- whether an expression is a text, which one in parentheses is not
 abbrev pub is_text : ExprTree → Bool
 is_text (Text at bytes) = true
 is_text _ = false
@@ -38,6 +39,7 @@ abbrev pub prints : ExprTrees → List (Option Kind) → Bool
 prints (and_expr (Text at format) others) (_ ∷ kinds) = fits (wanted format) kinds
 prints _ _ = false
 
+-- the number of a rule, unless it is kept
 abbrev pub unless_so : Bool → ℕ → Option ℕ
 unless_so so number = if so then None else Some number
 
@@ -279,6 +281,7 @@ broken_whole s a = broken s a ++ violates 50 (slice_get (taken s a) MOST_TAKEN)
 abbrev pub broken_test : Scope → ExprTree → List Broken
 broken_test s a = broken_whole s a ++ unmet AValue (kind_of s a) (place a)
 
+-- all that is wrong with what a variable of a type begins with, if that is written (C99, section 6.7.8)
 abbrev pub broken_initial : Scope → TypeTree → Option ExprTree → List Broken
 broken_initial s type a = option_map_or (λ e. broken_whole s e ++ no_such (Some (type_kind type)) (kind_of s e) (place e)) a []
 

@@ -33,7 +33,7 @@ tokens = codes "#import <stdio.h>\n"
     ++ codes "    return printf(\"%c%d%c\", 'A', 0x2a, '\\n'); // \"end\n"
     ++ codes "}\n"
 
--- a sum of ints wraps (this project's own choice, where C99, section 6.5, says nothing)
+-- a sum of ints wraps (this project's own choice, where C99, section 6.5, leaves it undefined)
 abbrev pub wrapped_sum : List ℕ
 wrapped_sum = codes "int main(void) { return printf(\"%d\", 2147483647 + 1); }"
 

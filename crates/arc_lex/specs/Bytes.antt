@@ -20,6 +20,7 @@ is_hexadecimal b = is_digit b || ((nat_le 97 b && nat_le b 102) || (nat_le 65 b 
 abbrev pub is_blank : ℕ → Bool
 is_blank b = (nat_eq b 32 || nat_eq b 9) || ((nat_eq b 10 || nat_eq b 12) || nat_eq b 13)
 
+-- whether a byte is in a class
 abbrev pub has : Class → ℕ → Bool
 has c.Letter b = is_letter b
 has c.Digit b = is_digit b

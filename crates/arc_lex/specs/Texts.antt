@@ -13,6 +13,7 @@ pub data Part : Type 0 where
   Plain : ℕ → Part
   Escape : ℕ → Part
 
+-- the bytes with which a part is written, and those of a row of parts
 abbrev pub part_bytes : Part → List ℕ
 part_bytes (Plain b) = b ∷ []
 part_bytes (Escape b) = 92 ∷ b ∷ []
@@ -25,6 +26,7 @@ abbrev pub goes_on : ℕ → Part → Bool
 goes_on quote (Plain b) = not (nat_eq b quote) && (not (nat_eq b 92) && not (nat_eq b 10))
 goes_on quote (Escape b) = not (nat_eq b 10)
 
+-- no part ends the literal or its line
 abbrev pub all_go_on : ℕ → List Part → Bool
 all_go_on quote = list_all (goes_on quote)
 

@@ -24,6 +24,7 @@ pub record Tok : Type 0 where
   pub from : ℕ
   pub to : ℕ
 
+-- what a token of the code is, and the token with its span
 abbrev pub sort_of : TokenKind → Sort
 sort_of (kinds.Name bytes) = Name bytes.items
 sort_of (kinds.Integer value suffixed) = Integer value suffixed

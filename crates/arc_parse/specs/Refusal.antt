@@ -13,6 +13,7 @@ use Rattle.arc_grammar.specs.Grammar.{body, unit, these}
 abbrev pub SpellsUnit : Limits → UnitTree → List Tok → Type 0
 SpellsUnit limits u ts = SpellsWhole body limits unit u ts
 
+-- where the last of these tokens ends, and this place where there is none
 abbrev pub end_after : ℕ → List Tok → ℕ
 end_after n [] = n
 end_after n (t ∷ ts) = end_after t.to ts

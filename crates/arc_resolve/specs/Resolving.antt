@@ -47,6 +47,7 @@ pub data Resolution : Type 0 where
   Gives : Kind → Value → Resolution
   Refers : Reference → Resolution
 
+-- the kind of what an expression is resolved to
 abbrev pub kind_in : Resolution → Kind
 kind_in (Gives kind a) = kind
 kind_in (Refers r) = k.Object
@@ -56,6 +57,7 @@ abbrev pub number_in : Resolution → Value
 number_in (Gives kind a) = a
 number_in (Refers r) = IsObject r
 
+-- the object, and nil of a number
 abbrev pub object_in : Resolution → Reference
 object_in (Gives kind a) = Nil
 object_in (Refers r) = r
@@ -100,6 +102,7 @@ abbrev pub logic : BinaryOperator → Value → Value → Value
 logic o.Or a b = Choice a (Number (pos 1)) (Converted k.Bool b)
 logic _ a b = Choice a (Converted k.Bool b) (Number (pos 0))
 
+-- an operator between two operands, by its sort
 abbrev pub binary : OperatorSort → BinaryOperator → Resolution → Resolution → Resolution
 binary Equality operator a b = equality operator a b
 binary Logic operator a b = Gives k.Int (logic operator (number_in a) (number_in b))
@@ -117,6 +120,7 @@ abbrev pub format : ExprTrees → List ℕ
 format (and_expr (Text at bytes) others) = bytes
 format _ = []
 
+-- arguments without the first one, as those of printf without its format
 abbrev pub but_first : Arguments → Arguments
 but_first no_arguments = no_arguments
 but_first (number_argument a others) = others
@@ -220,6 +224,7 @@ abbrev pub to_super : Sign → (owns : Bool) → Option Kind → (from : ℕ) �
 to_super signs.Class owns kind from name selector all = to_class kind (Some from) (Read (Local 0)) name (ClassSuper from) selector all
 to_super signs.Instance owns kind from name selector all = sent_to kind (ObjectSuper (itself owns) from) selector all
 
+-- a message to `super` at a place
 abbrev pub sent_super : Scope → List ℕ → Arguments → Resolution
 sent_super s name all =
     to_super s.sign s.owns (kind_given (super_result s name)) (unwrap_or (option_and_then s.known.superclass s.class) 0) name (unwrap_or (s.known.selector name) 0) all
@@ -262,9 +267,11 @@ abbrev mutual
 
 -- ---- statements
 
+-- a statement that does nothing
 abbrev pub nothing : Command
 nothing = Sequence 0 0 no_commands
 
+-- an expression statement (C99, section 6.8.3)
 abbrev pub evaluated : Resolution → Command
 evaluated (Gives kind a) = Evaluate a
 evaluated (Refers r) = EvaluateReference r

@@ -43,6 +43,7 @@ conversions [] = []
 conversions (Plain byte ∷ others) = conversions others
 conversions (part ∷ others) = part ∷ conversions others
 
+-- the conversions of a format
 abbrev pub wanted : List ℕ → List Part
 wanted format = conversions (parts Nothing format)
 

@@ -36,5 +36,6 @@ given_kind Arithmetic kind = kind
 given_kind Shift kind = kind
 given_kind _ kind = k.Int
 
+-- whether there is a kind, and it is that of objects
 abbrev pub is_object : Option Kind → Bool
 is_object kind = option_map_or families.is_object kind false

@@ -70,9 +70,11 @@ pub record Scope : Type 0 where
 abbrev pub has_place : Scope → Bool
 has_place s = nat_lt (s.next + s.names) (MOST_VARIABLES + s.hidden)
 
+-- variables and one more, which hides those of its name
 abbrev pub bound : List ℕ → Local → (List ℕ → Option Local) → List ℕ → Option Local
 bound one local variables name = if bytes_eq one name then Some local else variables name
 
+-- one more variable, which holds a number of a kind, or names objects
 abbrev pub with_number : List ℕ → Kind → Scope → Scope
 with_number name kind s = record s { variables = bound name (Number kind (location.Local s.next)) s.variables; next = suc s.next }
 
@@ -84,6 +86,7 @@ abbrev pub static_class : Known → TypeTree → Option ℕ
 static_class known (tree.Object at name) = known.class name
 static_class known _ = None
 
+-- one more variable of a type
 abbrev pub with_variable : List ℕ → TypeTree → Scope → Scope
 with_variable name type s = if is_object (Some (types.type_kind type)) then with_object name (static_class s.known type) s else with_number name (types.type_kind type) s
 
@@ -91,6 +94,7 @@ with_variable name type s = if is_object (Some (types.type_kind type)) then with
 abbrev pub declare : List ℕ → TypeTree → Scope → Scope
 declare name type s = if has_place s then with_variable name type s else s
 
+-- the variables of a declaration, and parameters, one after the other
 abbrev pub with_variables : TypeTree → Scope → List VariableTree → Scope
 with_variables type = fold (λ s v. declare v.name type s)
 
@@ -124,6 +128,7 @@ outermost known result = record { known = known; class = None; sign = signs.Clas
 abbrev pub hidden_in : Sign → ℕ
 hidden_in sign = if same_sign sign signs.Class then 1 else 0
 
+-- the first variable that names objects is `self`, where it is owned
 abbrev pub owned_in : (owns : Bool) → ℕ
 owned_in owns = if owns then 1 else 0
 
@@ -169,6 +174,7 @@ own_class s = if same_sign s.sign signs.Instance then s.class else None
 abbrev pub own_field : Scope → List ℕ → Option FoundField
 own_field s name = s.known.field (own_class s) name
 
+-- a variable of the whole program, as names mean it
 abbrev pub of_global : Variable → Local
 of_global v = if is_object (Some v.kind) then Object (location.Global v.number) (option_map number_of_class v.class) else Number v.kind (location.Global v.number)
 
@@ -184,6 +190,7 @@ may_name v.Public s owner = true
 may_name v.Protected s owner = s.known.descends s.class owner
 may_name v.Private s owner = option_map_or (λ class. nat_eq class owner) s.class false
 
+-- whether a field may be named at a place
 abbrev pub is_visible : Scope → FoundField → Bool
 is_visible s f = may_name f.visibility s (number_of_class f.owner)
 

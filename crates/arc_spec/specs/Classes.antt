@@ -28,6 +28,7 @@ class_of c = record { superclass = c.superclass; methods = c.methods.items; deal
 abbrev pub classes_of : List declared.Class → List Class
 classes_of = map class_of
 
+-- whether two signs are the same
 abbrev pub same_sign : Sign → Sign → Bool
 same_sign a b = nat_eq (tag_of sign.the_type a) (tag_of sign.the_type b)
 
@@ -36,6 +37,7 @@ abbrev pub gives_of : Kind → Gives
 gives_of k.Object = gives.Object
 gives_of _ = gives.Number
 
+-- whether both are a number, or both an object
 abbrev pub same_gives : Gives → Gives → Bool
 same_gives a b = nat_eq (tag_of result.the_type a) (tag_of result.the_type b)
 
@@ -52,9 +54,11 @@ found sign selector takes objects wanted (m ∷ others) =
 
 -- ---- the classes above a class
 
+-- A class and those above it, by its superclass (None: there is no such class).
 abbrev pub and_above : (class : ℕ) → (superclass : Option (Option ℕ)) → (above : Option ℕ → List ℕ) → List ℕ
 and_above class superclass above = option_map_or (λ s. class ∷ above s) superclass []
 
+-- a class and those above it, so many at most
 abbrev pub ancestry_within : (n : ℕ) → (superclasses : List (Option ℕ)) → (from : Option ℕ) → List ℕ
 ancestry_within n superclasses None = []
 ancestry_within zero superclasses (Some class) = []
@@ -78,6 +82,7 @@ first_that_has has (x ∷ others) = option_or (has x) (first_that_has has others
 
 -- ---- messages
 
+-- the methods that a class itself has
 abbrev pub own_methods : Option Class → List Method
 own_methods c = option_map_or (λ c. c.methods) c []
 

@@ -182,6 +182,7 @@ abbrev pub new_found : Deeper → Option ℕ → (class : ℤ) → World → Out
 new_found D None class w = made_new D (class_at class) w
 new_found D (Some f) class w = object_given (D.call gives.Object f 0 (and_number class nothing_given) w)
 
+-- the message `new` to a class, which is looked up from this class, where one is given, and else from the class itself
 abbrev pub new_sent : Deeper → (from : Option ℕ) → (class : ℤ) → World → Outcome ℕ
 new_sent D from class w = new_found D (finds D gives.Object (option_or from (class_at class)) signs.Class new_selector nothing_given) class w
 
@@ -190,6 +191,7 @@ abbrev pub in_object : {A : Type 0} → Deeper → (class : ℕ) → Option Obje
 in_object D class None go w = Faulted NilField w
 in_object D class (Some o) go w = if descends D.classes (Some o.class) class then go o else Faulted FieldClass w
 
+-- a field that holds a number is read, and set; one that there is not counts as 0
 abbrev pub field_read : Deeper → (r class index : ℕ) → World → Outcome ℤ
 field_read D r class index w = in_object D class (object_at w.objects r) (λ o. Done (slice_index_or o.fields index (pos 0)) w) w
 
@@ -211,6 +213,7 @@ field_stores r o index value w = record w { objects = with_object w.objects r (r
 abbrev pub field_assigned : Deeper → (r index value : ℕ) → World → Object → Outcome Finished
 field_assigned D r index value w o = if is_emptying o.phase then Faulted Resurrected w else released D (name_at o.strong index) (field_stores r o index value w)
 
+-- a field that names an object takes a new value
 abbrev pub object_field_set : Deeper → (r class index value : ℕ) → World → Outcome Finished
 object_field_set D r class index value w = in_object D class (object_at w.objects r) (field_assigned D r index value w) w
 

@@ -12,6 +12,7 @@ use Rattle.arc_ast.specs.declared.tree.BinaryOperator.TheVariants as o
 abbrev pub low_32 : ℤ → ℤ
 low_32 z = cast_signed w32 (cast_unsigned w64 z % 2 ^ 32)
 
+-- whether two numbers are the same
 abbrev pub is_same : ℤ → ℤ → Bool
 is_same (pos n) (pos m) = nat_eq n m
 is_same (negsuc n) (negsuc m) = nat_eq n m
@@ -23,7 +24,8 @@ is_zero z = is_same z (pos 0)
 abbrev pub is_minus_one : ℤ → Bool
 is_minus_one z = is_same z (negsuc 0)
 
--- a number as one of a kind (C99, sections 6.3.1.2 and 6.3.1.3): an `int` keeps the low 32 bits, a long has all 64, and a BOOL is 1 for all but 0
+-- a number as one of a kind (C99, sections 6.3.1.2 and 6.3.1.3): an `int` keeps the low 32 bits, a long has all 64, and a BOOL is 1 for all but 0, as C99's _Bool
+-- (that BOOL is this and no char is the project's choice)
 abbrev pub converted : Kind → ℤ → ℤ
 converted k.Bool z = if is_zero z then pos 0 else pos 1
 converted k.Int z = low_32 z

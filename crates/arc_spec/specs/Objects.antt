@@ -21,6 +21,7 @@ abbrev pub object_at : List Object → ℕ → Option Object
 object_at all zero = None
 object_at all (suc k) = slice_get all k
 
+-- the objects, of which the one with a number is this now
 abbrev pub with_object : List Object → ℕ → Object → List Object
 with_object all zero o = all
 with_object all (suc k) o = slice_set all k o

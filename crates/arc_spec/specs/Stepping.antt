@@ -20,6 +20,7 @@ on_top (v ∷ rest) go = go v rest
 abbrev pub on_two : {S : Type 0} → List ℤ → (ℤ → ℤ → List ℤ → Next S) → Next S
 on_two stack go = on_top stack (λ v rest. on_top rest (λ u below. go v u below))
 
+-- a step that needs something that may be missing, and one that only goes on if something holds
 abbrev pub on_found : {S A : Type 0} → Option A → (A → Next S) → Next S
 on_found None go = Stuck
 on_found (Some a) go = go a
@@ -35,10 +36,12 @@ pub data Reached (S : Type 0) : Type 0 where
   Faulted : faults.Fault → (input : List ℕ) → (trace : List Event) → Reached S
   Wedged : (input : List ℕ) → (trace : List Event) → Reached S
 
+-- after a step that asked for a byte: it gets the next one of the input, or its end
 abbrev pub fed : {S : Type 0} → (Option ℕ → S) → List ℕ → List Event → Reached S
 fed k [] t = Running (k None) [] t
 fed k (b ∷ i) t = Running (k (Some b)) i t
 
+-- where a run is after a step that leads there
 abbrev pub follow : {S : Type 0} → Next S → List ℕ → List Event → Reached S
 follow (Goes s es) i t = Running s i (t ++ es)
 follow (Asks k) i t = fed k i t

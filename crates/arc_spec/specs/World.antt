@@ -120,7 +120,7 @@ entered slots count parameters owns self given w = record w {
 abbrev pub left : (before now : World) → World
 left before now = record now { frame = before.frame; waiting = before.waiting }
 
--- a temporary takes an object; nil is taken too, and then the temporary names nothing (ARC, "Object operands")
+-- a temporary takes an object; nil is taken too, and then the temporary names nothing (this project's own choice, where ARC, "Object operands", asks for less)
 abbrev pub takes : ℕ → World → World
 takes r w = record w { frame = record w.frame { temporaries = r ∷ w.frame.temporaries } }
 
@@ -140,6 +140,7 @@ pub data Outcome (A : Type 0) : Type 0 where
   Faulted : faults.Fault → World → Outcome A
   Cut : World → Outcome A
 
+-- one part of a program, and after it another, where the first is done
 abbrev pub then_do : {A B : Type 0} → Outcome A → (A → World → Outcome B) → Outcome B
 then_do (Done a w) go = go a w
 then_do (Faulted f w) go = Faulted f w
@@ -161,5 +162,6 @@ prints bytes w = shows (map Byte bytes) w
 abbrev pub next_number : List ℕ → ℤ
 next_number input = byte_or_end (slice_get input 0)
 
+-- the next byte is taken from the input, if there is one
 abbrev pub has_read : World → World
 has_read w = record w { input = drop 1 w.input }

@@ -37,7 +37,8 @@ pub enum Fault {
     /// More than 2,000 calls of functions and methods and ends of objects were running.
     #[error("too many calls within one another")]
     Depth,
-    /// An object was held again when its dealloc was done.
+    /// An object was held again when its end was done, or a field that names objects was assigned of one
+    /// whose fields were being destroyed.
     #[error("an object that is held after its dealloc")]
     Resurrected,
 }

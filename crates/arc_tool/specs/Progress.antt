@@ -6,6 +6,7 @@ use Rattle.arc_code.specs.declared.instr.Instr.TheVariants.{Plain}
 use Rattle.arc_code.specs.Running.{Program, State, start, step}
 use Rattle.arc_turns.specs.Runs.{IsAsking}
 
+-- a run after so many steps
 abbrev pub run_of : Program → (input : List ℕ) → (made : ℕ) → Reached State
 run_of p input made = after_steps (step p) made (Running (start p) input [])
 

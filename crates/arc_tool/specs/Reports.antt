@@ -3,6 +3,7 @@ use Rattle.std.specs.Prelude.{◌≡◌, ◌⊎◌, ℕ, List, codes}
 use Rattle.arc_fault.specs.Report.{Report}
 use Rattle.arc_tool.specs.declared.refusal.Refusal.{Refusal}
 
+-- the refusal has this name
 abbrev pub Names : List ℕ → Refusal → Type 0
 Names name r = r.name.now ≡ name
 
