@@ -5,7 +5,7 @@ use Rattle.arc_sites.specs.Sites as sites
 use Rattle.arc_sites.specs.Sites.{Value, site, arguments}
 use Rattle.arc_sites.specs.Finding.{enclosing_of, found_from}
 use Rattle.arc_ast.proofs.Trees.{call_tree, send_tree, send_super_tree}
-use Rattle.arc_sites.proofs.Found.{found_both, found_three, turn}
+use Rattle.arc_sites.proofs.Found.{found_both, found_both_as, found_three, turn}
 use Rattle.arc_sites.proofs.walk.+expressions.Goals as goal
 
 pub expression-returns-clause-found : goal.expression-returns-clause-found
@@ -23,9 +23,8 @@ inside-returns-in_ok-expression-in-Binary-clause-found g t c =
       | inl w ↦ ap (λ e. sites.inside m (expr_tree e)) w.2
       | inr w ↦ elim w [ inl v ↦ ap (λ e. sites.inside m (expr_tree e)) v.2 | inr v ↦ ap (λ e. sites.inside m (expr_tree e)) v.4 ]
     ] in
-    on_ok_weaker c.expression-in-Binary-2.result (λ e.
-    found_both _ _ _ _ _ a b c.in_ok-expression-in-Binary.ensures.same (rw c.deref-in-Binary.ensures at c.in_ok-expression-in-Binary.ensures.found) e
-    ∙ ap (found_from (g.V.Visitor.violations c.args.visitor.now) (g.V.Visitor.found c.args.visitor.now)) (sym both)) (rw c.deref-in-Binary-2.ensures at c.expression-in-Binary-2.ensures.found)
+    on_ok_weaker c.expression-in-Binary-2.result (found_both_as _ _ _ _ _ a b (sites.inside m (expr_tree c.args.expr.now)) both c.in_ok-expression-in-Binary.ensures.same
+    (rw c.deref-in-Binary.ensures at c.in_ok-expression-in-Binary.ensures.found)) (rw c.deref-in-Binary-2.ensures at c.expression-in-Binary-2.ensures.found)
 
 pub inside-returns-in_ok-expression-in-Conditional-2-clause-found : goal.inside-returns-in_ok-expression-in-Conditional-2-clause-found
 inside-returns-in_ok-expression-in-Conditional-2-clause-found g t c =

@@ -5,7 +5,7 @@ use Rattle.arc_sites.specs.Sites as sites
 use Rattle.arc_sites.specs.Sites.{maybe_sites, stmt_sites, all_sites}
 use Rattle.arc_sites.specs.Finding.{enclosing_of, found_from}
 use Rattle.arc_ast.proofs.Trees.{block_tree}
-use Rattle.arc_sites.proofs.Found.{found_both, found_three, turn}
+use Rattle.arc_sites.proofs.Found.{found_both_as, found_three, found_three_as, turn}
 use Rattle.arc_sites.proofs.walk.+statements.Goals as goal
 
 pub within-returns-in_ok-expression-in-If-clause-found : goal.within-returns-in_ok-expression-in-If-clause-found
@@ -18,8 +18,7 @@ within-returns-in_ok-expression-in-If-clause-found g t c =
       | inr w ↦ ap (λ s. sites.within m (stmt_tree s)) w.2
     ] in
     on_ok_weaker c.statement-in-If.result (λ e.
-    found_both _ _ _ _ _ test body c.in_ok-expression-in-If.ensures.same c.in_ok-expression-in-If.ensures.found e
-    ∙ ap (found_from (g.V.Visitor.violations c.args.visitor.now) (g.V.Visitor.found c.args.visitor.now)) (sym both)) (rw c.deref-in-If.ensures at c.statement-in-If.ensures.found)
+    found_both_as _ _ _ _ _ test body (sites.within m (stmt_tree c.args.stmt.now)) both c.in_ok-expression-in-If.ensures.same c.in_ok-expression-in-If.ensures.found e) (rw c.deref-in-If.ensures at c.statement-in-If.ensures.found)
 
 pub within-returns-in_ok-maybe-in-For-2-clause-found : goal.within-returns-in_ok-maybe-in-For-2-clause-found
 within-returns-in_ok-maybe-in-For-2-clause-found g t c =
@@ -30,9 +29,8 @@ within-returns-in_ok-maybe-in-For-2-clause-found g t c =
     let body = stmt_sites m (stmt_tree c.in-For.body.value) in
     let all : sites.within m (stmt_tree c.args.stmt.now) ≡ beginning ++ (test ++ (step ++ body)) = ap (λ s. sites.within m (stmt_tree s)) c.in-For.is in
     on_ok_weaker c.statement-in-For-2.result (λ e.
-    found_both _ _ _ _ _ beginning (test ++ (step ++ body)) c.in_ok-statement-in-For.ensures.same (rw c.deref-in-For.ensures at c.in_ok-statement-in-For.ensures.found)
-    (found_three _ _ _ _ _ _ _ test step body c.in_ok-maybe-in-For.ensures.same c.in_ok-maybe-in-For-2.ensures.same c.in_ok-maybe-in-For.ensures.found c.in_ok-maybe-in-For-2.ensures.found e)
-    ∙ ap (found_from (g.V.Visitor.violations c.args.visitor.now) (g.V.Visitor.found c.args.visitor.now)) (sym all)) (rw c.deref-in-For-2.ensures at c.statement-in-For-2.ensures.found)
+    found_both_as _ _ _ _ _ beginning (test ++ (step ++ body)) (sites.within m (stmt_tree c.args.stmt.now)) all c.in_ok-statement-in-For.ensures.same (rw c.deref-in-For.ensures at c.in_ok-statement-in-For.ensures.found)
+    (found_three _ _ _ _ _ _ _ test step body c.in_ok-maybe-in-For.ensures.same c.in_ok-maybe-in-For-2.ensures.same c.in_ok-maybe-in-For.ensures.found c.in_ok-maybe-in-For-2.ensures.found e)) (rw c.deref-in-For-2.ensures at c.statement-in-For-2.ensures.found)
 
 pub within-returns-in_ok-statement-in-IfElse-clause-found : goal.within-returns-in_ok-statement-in-IfElse-clause-found
 within-returns-in_ok-statement-in-IfElse-clause-found g t c =
@@ -42,9 +40,8 @@ within-returns-in_ok-statement-in-IfElse-clause-found g t c =
     let other = stmt_sites m (stmt_tree c.in-IfElse.other.value) in
     let all : sites.within m (stmt_tree c.args.stmt.now) ≡ test ++ (then ++ other) = ap (λ s. sites.within m (stmt_tree s)) c.in-IfElse.is in
     on_ok_weaker c.statement-in-IfElse.result (λ e.
-    found_three _ _ _ _ _ _ _ test then other c.in_ok-expression-in-IfElse.ensures.same c.in_ok-statement-in-IfElse.ensures.same c.in_ok-expression-in-IfElse.ensures.found
-    (rw c.deref-in-IfElse.ensures at c.in_ok-statement-in-IfElse.ensures.found) e
-    ∙ ap (found_from (g.V.Visitor.violations c.args.visitor.now) (g.V.Visitor.found c.args.visitor.now)) (sym all)) (rw c.deref-in-IfElse-2.ensures at c.statement-in-IfElse.ensures.found)
+    found_three_as _ _ _ _ _ _ _ test then other (sites.within m (stmt_tree c.args.stmt.now)) all c.in_ok-expression-in-IfElse.ensures.same c.in_ok-statement-in-IfElse.ensures.same c.in_ok-expression-in-IfElse.ensures.found
+    (rw c.deref-in-IfElse.ensures at c.in_ok-statement-in-IfElse.ensures.found) e) (rw c.deref-in-IfElse-2.ensures at c.statement-in-IfElse.ensures.found)
 
 pub statements-loop-stmt-preserved : goal.statements-loop-stmt-preserved
 statements-loop-stmt-preserved g t c =
