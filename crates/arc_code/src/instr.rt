@@ -1,8 +1,11 @@
 //! Instructions, of actions and of code alike: they take numbers from a stack and put numbers on it, take references
 //! and give references, and keep strong places, which name objects.
 
+ghost use Rattle.std.specs.Prelude.{◌≡◌, ⊤};
+
 use arc_ast::tree::{BinaryOperator, Kind, UnaryOperator};
 use arc_spec::class::Gives;
+use std::alloc::AllocError;
 
 /// What works on the numbers, the references, the places and the objects, and goes on with the next instruction. A
 /// depth counts the numbers above the one that is meant. A reference names an object or nil, and holds nothing; a
@@ -73,7 +76,7 @@ pub enum Op {
 }
 
 /// One instruction. A jump names where it goes on by a `J`, a call names a function by an `F`, and `T` is a text.
-#[derive(Clone, Copy, Drop)]
+#[derive(Copy, Drop)]
 pub enum Instr<J, F, T> {
     /// An operation, which goes on with the next instruction.
     Plain(Op),
@@ -126,4 +129,14 @@ pub enum Instr<J, F, T> {
     /// The end of an object goes on: with the dealloc of the next class, with the next of its fields that name
     /// objects, which lets go of what it names, or to its last step, in which the object is gone.
     EndStep,
+}
+
+impl<J: Copy, F: Copy, T: Copy> Clone for Instr<J, F, T> {
+    ghost is_clone = { λ x y. y ≡ x };
+
+    ghost is_infallible = { λ _. ⊤ };
+
+    fn clone(&self) -> Result<Instr<J, F, T>, AllocError> {
+        Ok(*self)
+    }
 }

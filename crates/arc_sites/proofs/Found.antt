@@ -37,3 +37,13 @@ turn rules now_rules all_of one rest xs i x so_far now whole s r l e n w =
 pub found_three : (rules second third : Enclosing → Node → List Violation) (before mid then now : Option Violation) (xs ys zs : List Site)
     → second ≡ rules → third ≡ second → mid ≡ found_from rules before xs → then ≡ found_from second mid ys → now ≡ found_from third then zs → now ≡ found_from rules before (xs ++ (ys ++ zs))
 found_three rules second third before mid then now xs ys zs s t m n o = found_both rules second before mid now xs (ys ++ zs) s m (found_both second third mid then now ys zs t n o)
+
+-- the same of sites that are those in a row
+pub found_both_as : (rules second : Enclosing → Node → List Violation) (before mid now : Option Violation) (xs ys all : List Site)
+    → all ≡ xs ++ ys → second ≡ rules → mid ≡ found_from rules before xs → now ≡ found_from second mid ys → now ≡ found_from rules before all
+found_both_as rules second before mid now xs ys all a s m n = found_both rules second before mid now xs ys s m n ∙ ap (found_from rules before) (sym a)
+
+pub found_three_as : (rules second third : Enclosing → Node → List Violation) (before mid then now : Option Violation) (xs ys zs all : List Site)
+    → all ≡ xs ++ (ys ++ zs) → second ≡ rules → third ≡ second → mid ≡ found_from rules before xs → then ≡ found_from second mid ys → now ≡ found_from third then zs
+    → now ≡ found_from rules before all
+found_three_as rules second third before mid then now xs ys zs all a s t m n o = found_three rules second third before mid then now xs ys zs s t m n o ∙ ap (found_from rules before) (sym a)

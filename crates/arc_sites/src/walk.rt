@@ -58,12 +58,13 @@ fn inside<V: Visitor>(visitor: &mut V, enclosing: Enclosing, expr: &Expr) -> Res
         | Expr::Nil(_)
         | Expr::Itself(_)
         | Expr::Name(_, _) => Ok(()),
-        Expr::Paren(_, operand) => expression(visitor, enclosing, operand),
-        Expr::Call(_, _, all) => arguments(visitor, enclosing, all),
-        Expr::Unary(_, _, operand) => expression(visitor, enclosing, operand),
-        Expr::Cast(_, _, operand) => expression(visitor, enclosing, operand),
-        Expr::Arrow(_, _, object, _) => expression(visitor, enclosing, object),
-        Expr::Binary(_, _, left, right) => {
+        Expr::Paren(_, operand)
+        | Expr::Unary(_, _, operand)
+        | Expr::Cast(_, _, operand)
+        | Expr::Arrow(_, _, operand, _) => expression(visitor, enclosing, operand),
+        Expr::Binary(_, _, left, right)
+        | Expr::Assign(_, _, left, right)
+        | Expr::Update(_, _, _, _, left, right) => {
             expression(visitor, enclosing, left)?;
             expression(visitor, enclosing, right)
         }
@@ -72,19 +73,13 @@ fn inside<V: Visitor>(visitor: &mut V, enclosing: Enclosing, expr: &Expr) -> Res
             expression(visitor, enclosing, first)?;
             expression(visitor, enclosing, second)
         }
-        Expr::Assign(_, _, left, right) => {
-            expression(visitor, enclosing, left)?;
-            expression(visitor, enclosing, right)
-        }
-        Expr::Update(_, _, _, _, left, right) => {
-            expression(visitor, enclosing, left)?;
-            expression(visitor, enclosing, right)
+        Expr::Call(_, _, all) | Expr::SendSuper(_, _, _, _, all) => {
+            arguments(visitor, enclosing, all)
         }
         Expr::Send(_, _, receiver, _, all) => {
             expression(visitor, enclosing, receiver)?;
             arguments(visitor, enclosing, all)
         }
-        Expr::SendSuper(_, _, _, _, all) => arguments(visitor, enclosing, all),
     }
 }
 
@@ -161,18 +156,14 @@ fn within<V: Visitor>(visitor: &mut V, enclosing: Enclosing, stmt: &Stmt) -> Res
         Stmt::Variables(_, qualifiers, type_name, all) => {
             variables(visitor, enclosing, *qualifiers, type_name, all)
         }
-        Stmt::If(_, test, then) => {
+        Stmt::If(_, test, body) | Stmt::While(_, _, test, body) => {
             expression(visitor, enclosing, test)?;
-            statement(visitor, enclosing, then)
+            statement(visitor, enclosing, body)
         }
         Stmt::IfElse(_, test, then, other) => {
             expression(visitor, enclosing, test)?;
             statement(visitor, enclosing, then)?;
             statement(visitor, enclosing, other)
-        }
-        Stmt::While(_, _, test, body) => {
-            expression(visitor, enclosing, test)?;
-            statement(visitor, enclosing, body)
         }
         Stmt::For(_, beginning, test, step, body) => {
             statement(visitor, enclosing, beginning)?;

@@ -1,6 +1,6 @@
 //! Reads the program's words.
-ghost use Rattle.std.specs.Prelude.{ℕ, List, IsErrAnd, ◌≡◌, ◌≤◌, ◌<◌, ◌^◌, ◌⊎◌, IfOk, IfErr, IfSome, MatchResult, false, codes, Some, None, map, string_bytes};
-ghost use Rattle.clap.specs.Words.{IsAmong, app_of, found_of, kind_of, one_of, rows_of, rule_of, subcommand_rows_of};
+ghost use Rattle.std.specs.Prelude.{ℕ, List, IsErrAnd, ◌≡◌, ◌≤◌, ◌<◌, ◌^◌, ◌⊎◌, IfOk, IfErr, IfSome, MatchResult, false, true, codes, Some, None, map, string_bytes};
+ghost use Rattle.clap.specs.Words.{IsAmong, Shape, app_of, found_of, kind_of, one_of, rows_of, rule_of, subcommand_rows_of, with_subcommand};
 ghost use Rattle.arc_words.specs.Commands.{alone, arcc_commands, asked, asked_in, asked_of, IsRefused, IsRefusedBy, Refuses, command_named, file_rule, of_file, of_steps, steps_in, steps_rule};
 ghost use Rattle.arc_words.specs.Asks.{Asks, AsksHelp, AsksNothing, IsAnswer, IsHelpOrMemory, IsUsageOrMemory};
 
@@ -47,47 +47,58 @@ pub fn words(alloc: Global, words: &[String]) -> Result<Words, WordsFault>
 fn reader<'a>(alloc: Global) -> Result<clap::Command<'a>, AllocError>
     ensures { IfOk result (λ r. app_of r ≡ arcc_commands) }
 {
-    clap::Command::new(alloc, "arcc")
+    let app = clap::Command::new(alloc, "arcc")
         .about("Compiles Objective-C with automatic reference counting, and runs it")
-        .subcommand_required(true)
-        .subcommand(check_command(alloc)?)?
-        .subcommand(run_command(alloc)?)?
-        .subcommand(trace_command(alloc)?)?
-        .subcommand(code_command(alloc)?)
+        .subcommand_required(true);
+    let check = with_file(alloc, "check", "Say whether FILE is accepted");
+    let app = with_command(app, check)?;
+    let run = with_steps(alloc, "run", "Compile FILE and run it");
+    let app = with_command(app, run)?;
+    let shown = "Compile FILE, run it and show what it prints and which objects end";
+    let app = with_command(app, with_steps(alloc, "trace", shown))?;
+    with_command(app, with_file(alloc, "code", "List the code of FILE"))
 }
 
-fn check_command<'a>(alloc: Global) -> Result<clap::Command<'a>, AllocError>
-    ensures { IfOk result (λ r. app_of r ≡ alone (of_file (codes "check"))) }
+/// The program with one command more, if there was memory for that.
+fn with_command<'a>(
+    app: clap::Command<'a>,
+    command: Result<clap::Command<'a>, AllocError>,
+) -> Result<clap::Command<'a>, AllocError>
+    ensures { (s : Shape) → IfOk command.entry (λ k. app_of k ≡ alone s) → s.is_plain ≡ true
+        → IfOk result (λ r. app_of r ≡ with_subcommand (app_of app.entry) s) }
 {
-    clap::Command::new(alloc, "check")
-        .about("Say whether FILE is accepted")
+    match command {
+        Ok(command) => app.subcommand(command),
+        Err(error) => {
+            // A call: the proof follows each part of what ends with its block.
+            drop(app);
+            Err(error)
+        }
+    }
+}
+
+/// A command of FILE alone.
+fn with_file<'a>(
+    alloc: Global,
+    name: &'a str,
+    about: &'a str,
+) -> Result<clap::Command<'a>, AllocError>
+    ensures { IfOk result (λ r. app_of r ≡ alone (of_file name.now)) }
+{
+    clap::Command::new(alloc, name)
+        .about(about)
         .arg(file(alloc))
 }
 
-fn run_command<'a>(alloc: Global) -> Result<clap::Command<'a>, AllocError>
-    ensures { IfOk result (λ r. app_of r ≡ alone (of_steps (codes "run"))) }
+/// A command of FILE that makes steps.
+fn with_steps<'a>(
+    alloc: Global,
+    name: &'a str,
+    about: &'a str,
+) -> Result<clap::Command<'a>, AllocError>
+    ensures { IfOk result (λ r. app_of r ≡ alone (of_steps name.now)) }
 {
-    clap::Command::new(alloc, "run")
-        .about("Compile FILE and run it")
-        .arg(file(alloc))?
-        .arg(steps(alloc))
-}
-
-fn trace_command<'a>(alloc: Global) -> Result<clap::Command<'a>, AllocError>
-    ensures { IfOk result (λ r. app_of r ≡ alone (of_steps (codes "trace"))) }
-{
-    clap::Command::new(alloc, "trace")
-        .about("Compile FILE, run it and show what it prints and which objects end")
-        .arg(file(alloc))?
-        .arg(steps(alloc))
-}
-
-fn code_command<'a>(alloc: Global) -> Result<clap::Command<'a>, AllocError>
-    ensures { IfOk result (λ r. app_of r ≡ alone (of_file (codes "code"))) }
-{
-    clap::Command::new(alloc, "code")
-        .about("List the code of FILE")
-        .arg(file(alloc))
+    with_file(alloc, name, about)?.arg(steps(alloc))
 }
 
 fn file<'a>(alloc: Global) -> Arg<'a>

@@ -1,4 +1,5 @@
 use Rattle.std.proofs.Common.{◌≡◌, ◌∷◌, ◌+◌, Bool, true, false, get_or, drop, ap, sym, ◌∙◌, subst, arith}
+use Rattle.std.proofs.lemmas.Grind.{common_steps}
 use Rattle.std.proofs.lemmas.List.{drop_more}
 use Rattle.arc_lex.proofs.ReadTexts.{ReadSoFar, same, right_plain, wrong_plain, right_escape, wrong_escape, backslash}
 use Rattle.arc_lex.proofs.text.read_quoted.Goals as goal
@@ -22,3 +23,12 @@ loop-len-preserved c =
       | else-escaped+else-b-quote+else-b-eq92+then-is_plain+in_ok-push w ↦ same quote _ _ _ _ _ _ (i + 1) rest bytes w.right-is (w.escaped-is ∙ w.if-escaped.false) (ap (λ v. v.items) w.value-is ∙ w.in_ok-push.ensures.items) (right_plain quote c.loop-len.right items i b rest bytes c.if-b-eq10.false w.if-b-quote.false w.if-b-eq92.false (sym w.is_plain.ensures ∙ w.if-is_plain.true) (known false w.if-escaped.false))
       | else-escaped+else-b-quote+else-b-eq92+else-is_plain w ↦ same quote _ _ _ _ _ _ (i + 1) rest bytes w.right-is (w.escaped-is ∙ w.if-escaped.false) (ap (λ v. v.items) w.value-is) (wrong_plain quote c.loop-len.right items i b rest bytes c.if-b-eq10.false w.if-b-quote.false w.if-b-eq92.false (sym w.is_plain.ensures ∙ w.if-is_plain.false) (known false w.if-escaped.false))
     ]
+
+pub returns-then-b-eq10-clause-value : goal.returns-then-b-eq10-clause-value
+returns-then-b-eq10-clause-value c = grind (arith, common_steps)
+
+pub returns-then-b-quote-clause-value : goal.returns-then-b-quote-clause-value
+returns-then-b-quote-clause-value c = grind (arith, common_steps)
+
+pub returns-clause-value : goal.returns-clause-value
+returns-clause-value c = grind (arith, common_steps)

@@ -1,22 +1,24 @@
-use Rattle.std.proofs.Common.{◌+◌, ◌++◌, drop, option_map, refl, sym, ap, ◌∙◌}
+use Rattle.std.proofs.Common.{◌≡◌, ◌+◌, ◌++◌, drop, option_map, refl, sym, ap, inl, inr, ◌∙◌}
 use Rattle.std.proofs.lemmas.Result.{on_ok_weaker}
 use Rattle.arc_ast.specs.Tree.{expr_tree, stmt_tree, stmt_trees}
 use Rattle.arc_sites.specs.Sites as sites
 use Rattle.arc_sites.specs.Sites.{maybe_sites, stmt_sites, all_sites}
 use Rattle.arc_sites.specs.Finding.{enclosing_of, found_from}
 use Rattle.arc_ast.proofs.Trees.{block_tree}
-use Rattle.arc_sites.proofs.Found.{found_both, found_three, turn}
+use Rattle.arc_sites.proofs.Found.{found_both_as, found_three, found_three_as, turn}
 use Rattle.arc_sites.proofs.walk.+statements.Goals as goal
 
 pub within-returns-in_ok-expression-in-If-clause-found : goal.within-returns-in_ok-expression-in-If-clause-found
 within-returns-in_ok-expression-in-If-clause-found g t c =
     let m = enclosing_of c.args.enclosing in
-    rw c.in-If.is (on_ok_weaker c.statement.result (found_both _ _ _ _ _ (sites.sites m (expr_tree c.in-If.test)) (stmt_sites m (stmt_tree c.in-If.then.value)) c.in_ok-expression-in-If.ensures.same c.in_ok-expression-in-If.ensures.found) (rw c.deref-in-If.ensures at c.statement.ensures.found))
-
-pub within-returns-in_ok-expression-in-While-clause-found : goal.within-returns-in_ok-expression-in-While-clause-found
-within-returns-in_ok-expression-in-While-clause-found g t c =
-    let m = enclosing_of c.args.enclosing in
-    rw c.in-While.is (on_ok_weaker c.statement-in-While.result (found_both _ _ _ _ _ (sites.sites m (expr_tree c.in-While.test)) (stmt_sites m (stmt_tree c.in-While.body.value)) c.in_ok-expression-in-While.ensures.same c.in_ok-expression-in-While.ensures.found) (rw c.deref-in-While.ensures at c.statement-in-While.ensures.found))
+    let test = sites.sites m (expr_tree c.in-If.test) in
+    let body = stmt_sites m (stmt_tree c.in-If.body.value) in
+    let both : sites.within m (stmt_tree c.args.stmt.now) ≡ test ++ body = elim c.in-If.is [
+      | inl w ↦ ap (λ s. sites.within m (stmt_tree s)) w.1
+      | inr w ↦ ap (λ s. sites.within m (stmt_tree s)) w.2
+    ] in
+    on_ok_weaker c.statement-in-If.result (λ e.
+    found_both_as _ _ _ _ _ test body (sites.within m (stmt_tree c.args.stmt.now)) both c.in_ok-expression-in-If.ensures.same c.in_ok-expression-in-If.ensures.found e) (rw c.deref-in-If.ensures at c.statement-in-If.ensures.found)
 
 pub within-returns-in_ok-maybe-in-For-2-clause-found : goal.within-returns-in_ok-maybe-in-For-2-clause-found
 within-returns-in_ok-maybe-in-For-2-clause-found g t c =
@@ -25,8 +27,10 @@ within-returns-in_ok-maybe-in-For-2-clause-found g t c =
     let test = maybe_sites m (option_map expr_tree c.in-For.test) in
     let step = maybe_sites m (option_map expr_tree c.in-For.step) in
     let body = stmt_sites m (stmt_tree c.in-For.body.value) in
-    rw c.in-For.is (on_ok_weaker c.statement-in-For-2.result (λ e. found_both _ _ _ _ _ beginning (test ++ (step ++ body)) c.in_ok-statement-in-For.ensures.same (rw c.deref-in-For.ensures at c.in_ok-statement-in-For.ensures.found)
-    (found_three _ _ _ _ _ _ _ test step body c.in_ok-maybe-in-For.ensures.same c.in_ok-maybe-in-For-2.ensures.same c.in_ok-maybe-in-For.ensures.found c.in_ok-maybe-in-For-2.ensures.found e)) (rw c.deref-in-For-2.ensures at c.statement-in-For-2.ensures.found))
+    let all : sites.within m (stmt_tree c.args.stmt.now) ≡ beginning ++ (test ++ (step ++ body)) = ap (λ s. sites.within m (stmt_tree s)) c.in-For.is in
+    on_ok_weaker c.statement-in-For-2.result (λ e.
+    found_both_as _ _ _ _ _ beginning (test ++ (step ++ body)) (sites.within m (stmt_tree c.args.stmt.now)) all c.in_ok-statement-in-For.ensures.same (rw c.deref-in-For.ensures at c.in_ok-statement-in-For.ensures.found)
+    (found_three _ _ _ _ _ _ _ test step body c.in_ok-maybe-in-For.ensures.same c.in_ok-maybe-in-For-2.ensures.same c.in_ok-maybe-in-For.ensures.found c.in_ok-maybe-in-For-2.ensures.found e)) (rw c.deref-in-For-2.ensures at c.statement-in-For-2.ensures.found)
 
 pub within-returns-in_ok-statement-in-IfElse-clause-found : goal.within-returns-in_ok-statement-in-IfElse-clause-found
 within-returns-in_ok-statement-in-IfElse-clause-found g t c =
@@ -34,8 +38,10 @@ within-returns-in_ok-statement-in-IfElse-clause-found g t c =
     let test = sites.sites m (expr_tree c.in-IfElse.test) in
     let then = stmt_sites m (stmt_tree c.in-IfElse.then.value) in
     let other = stmt_sites m (stmt_tree c.in-IfElse.other.value) in
-    rw c.in-IfElse.is (on_ok_weaker c.statement-in-IfElse-2.result (found_three _ _ _ _ _ _ _ test then other c.in_ok-expression-in-IfElse.ensures.same c.in_ok-statement-in-IfElse.ensures.same c.in_ok-expression-in-IfElse.ensures.found
-    (rw c.deref-in-IfElse.ensures at c.in_ok-statement-in-IfElse.ensures.found)) (rw c.deref-in-IfElse-2.ensures at c.statement-in-IfElse-2.ensures.found))
+    let all : sites.within m (stmt_tree c.args.stmt.now) ≡ test ++ (then ++ other) = ap (λ s. sites.within m (stmt_tree s)) c.in-IfElse.is in
+    on_ok_weaker c.statement-in-IfElse.result (λ e.
+    found_three_as _ _ _ _ _ _ _ test then other (sites.within m (stmt_tree c.args.stmt.now)) all c.in_ok-expression-in-IfElse.ensures.same c.in_ok-statement-in-IfElse.ensures.same c.in_ok-expression-in-IfElse.ensures.found
+    (rw c.deref-in-IfElse.ensures at c.in_ok-statement-in-IfElse.ensures.found) e) (rw c.deref-in-IfElse-2.ensures at c.statement-in-IfElse.ensures.found)
 
 pub statements-loop-stmt-preserved : goal.statements-loop-stmt-preserved
 statements-loop-stmt-preserved g t c =
