@@ -1,5 +1,5 @@
 -- The stages one after another.
-use Rattle.std.proofs.Common.{◌≡◌, ℕ, ◌<◌, ◌≤◌, List, [], length, refl, sym, ap, subst, ◌∙◌}
+use Rattle.std.proofs.Common.{◌≡◌, ℕ, suc, ◌+◌, ◌<◌, ◌≤◌, List, [], ◌∷◌, length, refl, sym, ap, subst, ◌∙◌}
 use Rattle.std.proofs.lemmas.List.{length-map}
 use Rattle.arc_lex.specs.declared.token.Token.{Token}
 use Rattle.arc_lex.specs.Tokens.{toks}
@@ -24,12 +24,12 @@ use Rattle.arc_lower.proofs.Sizes.{actions_counted}
 use Rattle.arc_emit.specs.declared.fault.EmitFault.{EmitFault}
 use Rattle.arc_emit.specs.declared.fault.EmitFault.TheVariants as f
 use Rattle.arc_emit.specs.Faults as emitting
-use Rattle.arc_emit.specs.Emitted.{IsLarge}
+use Rattle.arc_emit.specs.Emitted.{IsLarge, code_of, instrs_of, text_of}
 use Rattle.arc_code.specs.Running.{Program, seen, IsSound}
 use Rattle.arc_tool.specs.declared.refusal.Refusal.{Refusal}
 use Rattle.arc_source.specs.Accepted.{Spelled, Accepted, program_meant, meant}
 use Rattle.arc_tool.specs.Compiled.{Compiles, CompilesNamed, class_names}
-use Rattle.arc_tool.specs.Refused.{IsTooLarge, IsCompilable, IsRefusal, too_large, no_memory}
+use Rattle.arc_tool.specs.Refused.{IsTooLarge, IsSmall, IsCompilable, IsRefusal, too_large, no_memory}
 use Rattle.arc_tool.specs.Reports.{Reports}
 use Rattle.arc_tool.specs.private.Checked.{IsChecked}
 use Rattle.arc_emit.specs.declared.emit.TheConstants.{MOST_INSTRS}
@@ -42,6 +42,15 @@ passed source items these_tokens same h = subst (λ ts. Tokens source (toks ts))
 
 too_many : (P : resolved.Program) (actions : acting.Program) → orders actions.actions ≡ lowered P → IsLarge actions → IsTooLarge P
 too_many P actions is large = subst (λ n. MOST_INSTRS < n) (sym (length-map actions.actions order.order) ∙ ap length is ∙ actions_counted P) large
+
+-- there are as many instructions as actions
+instrs_counted : (p : acting.Program) (at from : ℕ) (actions : List acting.Action) → length (instrs_of p at from actions) ≡ length actions
+instrs_counted p at from [] = refl
+instrs_counted p at from (a ∷ rest) = ap suc (instrs_counted p (at + 1) (from + length (text_of a)) rest)
+
+as_many : (P : resolved.Program) (actions : acting.Program) (code : Program) → orders actions.actions ≡ lowered P → code ≡ code_of actions → length code.instrs ≡ program_size P
+as_many P actions code is emits = ap (λ (c : Program). length c.instrs) emits ∙ instrs_counted actions 0 0 actions.actions
+    ∙ sym (length-map actions.actions order.order) ∙ ap length is ∙ actions_counted P
 
 -- a program that becomes so many actions, where there is no room for them
 pub too_long : (source : List ℕ) (program : Accepted source) (count : ℕ) → count ≡ length (lowered (program_meant program)) → (e : EmitFault) (r : Refusal)
@@ -77,17 +86,19 @@ module _ (source : List ℕ) (program : Checked) (of : IsChecked source program)
     pub lowers : IsLowered (program_meant accepted) actions
     lowers = subst (λ P. IsLowered P actions) (ap program_of same ∙ of.resolved) exact
 
-    abbrev pub compiled : (code : Program) → IsSound code → Refines (acting.seen actions) (seen code) → Steady (seen code) → Compiles source code
-    compiled code sound refines steady = record {
+    abbrev pub compiled : (code : Program) → code ≡ code_of actions → length code.instrs ≤ MOST_INSTRS → IsSound code → Refines (acting.seen actions) (seen code) → Steady (seen code) → Compiles source code
+    compiled code emits few sound refines steady = record {
       program = accepted;
+      small = subst (λ n. n ≤ MOST_INSTRS) (as_many (program_meant accepted) actions code lowers.actions emits) few;
+      counted = as_many (program_meant accepted) actions code lowers.actions emits;
       behaves = composed (meant accepted) (acting.seen actions) (seen code) performed.behaves performed.steady refines;
       steady = steady;
       sound = sound;
     }
 
-    pub compiled_named : (code : Program) → IsSound code → Refines (acting.seen actions) (seen code) → Steady (seen code)
+    pub compiled_named : (code : Program) → code ≡ code_of actions → length code.instrs ≤ MOST_INSTRS → IsSound code → Refines (acting.seen actions) (seen code) → Steady (seen code)
         → CompilesNamed source code (class_names (unit_tree program.unit.now))
-    compiled_named code sound refines steady = record { compiled = compiled code sound refines steady; named = refl }
+    compiled_named code emits few sound refines steady = record { compiled = compiled code emits few sound refines steady; named = refl }
 
     pub not_emitted : (e : EmitFault) (r : Refusal) → (e ≡ f.TooLarge → IsLarge actions) → Reports (record { number = emitting.fault_number e; name = emitting.fault_name e; at = 0 }) r → IsRefusal source r
     not_emitted f.TooLarge r large reports = too_large accepted (too_many (program_meant accepted) actions lowers.actions (large refl)) reports

@@ -1,5 +1,5 @@
 -- What the program answers where a stage before the end refuses, or a device fails.
-use Rattle.std.proofs.Common.{◌≡◌, ℕ, List, Result, Ok, Err, refl, sym, subst, ⊎_elim}
+use Rattle.std.proofs.Common.{◌≡◌, ℕ, List, codes, Result, Ok, Err, refl, sym, subst, ⊎_elim}
 use Rattle.arc_machine.specs.declared.stop.Stop.{Stop}
 use Rattle.arc_machine.specs.declared.stop.Stop.TheVariants as stop
 use Rattle.arc_tool.specs.declared.refusal.Refusal.{Refusal}
@@ -8,7 +8,7 @@ use Rattle.arc_tool.specs.declared.report.Trouble.TheVariants as trouble
 use Rattle.arc_tool.specs.declared.run.ToolFault.{ToolFault}
 use Rattle.arc_tool.specs.declared.run.ToolFault.TheVariants.{Refused, Memory, Io}
 use Rattle.arc_tool.specs.Refused.{IsRefusal}
-use Rattle.arc_tool.specs.Reports.{Becomes}
+use Rattle.arc_tool.specs.Reports.{Becomes, Names}
 use Rattle.arc_tool.specs.Ran.{Untouched, Blames, blamed}
 use Rattle.arc_tool.specs.Status.{trouble_of}
 use Rattle.arc_tool.specs.Served.{RunsTo, UnlessRefused, device_of, ended_with}
@@ -16,13 +16,13 @@ use Rattle.arc_tool.specs.Served.{RunsTo, UnlessRefused, device_of, ended_with}
 pub refused_so : (source : List ℕ) (r : Refusal) (t : Trouble) (kept done : Type 0) → IsRefusal source r → Becomes trouble.Memory trouble.Refused r t → kept → UnlessRefused source (Err t) kept done
 refused_so source r t kept done is becomes k = ⊎_elim
     (λ memory. subst (λ x. UnlessRefused source (Err x) kept done) (sym memory.1) k)
-    (λ other. subst (λ x. UnlessRefused source (Err x) kept done) (sym other.1) (is, k))
+    (λ other. subst (λ x. UnlessRefused source (Err x) kept done) (sym other.1) (is, other.0, k))
     becomes
 
 -- nothing was run, or a device failed in a run
-pub not_run : {I O : Type 0} (source : List ℕ) (answered : Result Stop ToolFault → Type 0) (i0 i1 : I) (o0 o1 : O) (f : ToolFault) → ((r : Refusal) → answered (Err (Refused r)) → IsRefusal source r)
+pub not_run : {I O : Type 0} (source : List ℕ) (answered : Result Stop ToolFault → Type 0) (i0 i1 : I) (o0 o1 : O) (f : ToolFault) → ((r : Refusal) → answered (Err (Refused r)) → IsRefusal source r × (Names (codes "Memory") r → ⊥))
     → answered (Err f) → Untouched (Err f) i0 i1 o0 o1 → UnlessRefused source (Err (trouble_of f)) ((i1 ≡ i0) × (o1 ≡ o0)) (RunsTo (Err (trouble_of f)) answered)
-not_run source answered i0 i1 o0 o1 (Refused r) refused h u = (refused r h, u)
+not_run source answered i0 i1 o0 o1 (Refused r) refused h u = ((refused r h).0, (refused r h).1, u)
 not_run source answered i0 i1 o0 o1 Memory refused h u = u
 not_run source answered i0 i1 o0 o1 (Io f) refused h u = h
 

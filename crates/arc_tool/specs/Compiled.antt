@@ -1,14 +1,19 @@
 -- When code does what a source means.
-use Rattle.std.specs.Prelude.{◌≡◌, ℕ, List, ◌∷◌, map, codes, Vec}
+use Rattle.std.specs.Prelude.{◌≡◌, ℕ, List, ◌∷◌, length, map, codes, Vec}
 use Rattle.std.specs.Global.{Global}
 use Rattle.arc_ast.specs.Tree.{UnitTree}
-use Rattle.arc_source.specs.Accepted.{Accepted, meant}
+use Rattle.arc_source.specs.Accepted.{Accepted, meant, program_meant}
 use Rattle.arc_spec.specs.Correct.{Behaves, Steady}
 use Rattle.arc_code.specs.Running.{Program, seen, IsSound}
+use Rattle.arc_lower.specs.Size.{program_size}
+use Rattle.arc_tool.specs.Refused.{IsSmall}
 
--- The source is a program, and the code does what it means, on each input, and is never without what it needs.
+-- The source is a program that isn't too large, and the code has an instruction for each of its actions. It does what the source means, on each input, and is
+-- never without what it needs.
 pub record Compiles (source : List ℕ) (code : Program) : Type 0 where
   pub program : Accepted source
+  pub small : IsSmall (program_meant program)
+  pub counted : length code.instrs ≡ program_size (program_meant program)
   pub behaves : Behaves (meant program) (seen code)
   pub steady : Steady (seen code)
   pub sound : IsSound code

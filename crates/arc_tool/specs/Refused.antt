@@ -31,9 +31,13 @@ use Rattle.arc_tool.specs.Reports.{Reports}
 abbrev pub IsTooLarge : resolved.Program → Type 0
 IsTooLarge P = MOST_INSTRS < program_size P
 
+-- the program becomes no more actions than that
+abbrev pub IsSmall : resolved.Program → Type 0
+IsSmall P = program_size P ≤ MOST_INSTRS
+
 -- the source is a program that isn't too large
 abbrev pub IsCompilable : List ℕ → Type 0
-IsCompilable source = (program : Accepted source) × (program_size (program_meant program) ≤ MOST_INSTRS)
+IsCompilable source = (program : Accepted source) × IsSmall (program_meant program)
 
 -- The refusal reports the fault of a stage, all stages before which have nothing to refuse. Where tokens pass a limit, that is reported (`ReportsLimit`). A stage to which memory is refused has a fault of its own for that,
 -- which says no more of the source.

@@ -24,6 +24,7 @@ use Rattle.arc_tool.specs.declared.report.Trouble.TheVariants.{Usage, Refused, M
 use Rattle.arc_tool.specs.Compiled.{Compiles}
 use Rattle.arc_tool.specs.Refused.{IsCompilable, IsRefusal}
 use Rattle.arc_tool.specs.Ran.{Answered}
+use Rattle.arc_tool.specs.Reports.{Names}
 use Rattle.arc_tool.specs.Traced.{AnsweredTrace}
 use Rattle.arc_tool.specs.Status as outcome
 use Rattle.arc_tool.specs.Status.{line_of}
@@ -47,9 +48,9 @@ RunsTo (Err StepsUsed) answered = answered (Ok stop.StepsUsed)
 RunsTo (Err (Io f)) answered = answered (Err (tool_fault.Io f))
 RunsTo (Err _) answered = ⊥
 
--- Where the source is refused, or memory was, the devices are kept as they were; else this is done with it.
+-- Where the source is refused, or memory was, which is no refusal of the source, the devices are kept as they were; else this is done with it.
 abbrev pub UnlessRefused : List ℕ → Result ℕ Trouble → (kept done : Type 0) → Type 0
-UnlessRefused source (Err (Refused r)) kept done = IsRefusal source r × kept
+UnlessRefused source (Err (Refused r)) kept done = IsRefusal source r × (Names (codes "Memory") r → ⊥) × kept
 UnlessRefused source (Err Memory) kept done = kept
 UnlessRefused source _ kept done = done
 

@@ -29,4 +29,4 @@ pub returns-clause-compiled : goal.returns-clause-compiled
 returns-clause-compiled c = λ source of.
     compiled_named source c.args.program.now of c.in_ok-owned.ensures.accepted
     c.in_ok-owned.owned.program.now (acting.program_of c.in_ok-actions.actions)
-    c.in_ok-owned.ensures.same c.in_ok-actions.ensures.performs c.in_ok-actions.ensures.exact (program_of c.in_ok-emitted.field-0) c.in_ok-emitted.ensures.sound c.in_ok-emitted.ensures.refines c.in_ok-emitted.ensures.steady
+    c.in_ok-owned.ensures.same c.in_ok-actions.ensures.performs c.in_ok-actions.ensures.exact (program_of c.in_ok-emitted.field-0) c.in_ok-emitted.ensures.code c.in_ok-emitted.ensures.few_instrs c.in_ok-emitted.ensures.sound c.in_ok-emitted.ensures.refines c.in_ok-emitted.ensures.steady

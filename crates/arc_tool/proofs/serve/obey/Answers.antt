@@ -6,13 +6,13 @@ pub returns-in_err-stop-in-Run-clause-obeyed : goal.returns-in_err-stop-in-Run-c
 returns-in_err-stop-in-Run-clause-obeyed g c =
     let p = err_from_is_err_and c.from_residual.result c.from_residual.ensures.1 in
     rw (c.in-Run.is, p.1, p.2)
-    (not_run c.args.source.now _ c.args.input.now c.run_text.new.reader c.args.output.now c.run_text.new.writer c.in_err-stop-in-Run.field-0.0 (λ r h. h.0) c.in_err-stop-in-Run.ensures.answered c.in_err-stop-in-Run.ensures.untouched)
+    (not_run c.args.source.now _ c.args.input.now c.run_text.new.reader c.args.output.now c.run_text.new.writer c.in_err-stop-in-Run.field-0.0 (λ r h. h) c.in_err-stop-in-Run.ensures.answered c.in_err-stop-in-Run.ensures.untouched)
 
 pub returns-in_err-stop-in-Trace-clause-obeyed : goal.returns-in_err-stop-in-Trace-clause-obeyed
 returns-in_err-stop-in-Trace-clause-obeyed g c =
     let p = err_from_is_err_and c.from_residual-in_err-stop-in-Trace.result c.from_residual-in_err-stop-in-Trace.ensures.1 in
     rw (c.in-Trace.is, p.1, p.2)
-    (not_run c.args.source.now _ c.args.input.now c.trace_text.new.reader c.args.output.now c.trace_text.new.writer c.in_err-stop-in-Trace.field-0.0 (λ r h. h.0) c.in_err-stop-in-Trace.ensures.answered c.in_err-stop-in-Trace.ensures.untouched)
+    (not_run c.args.source.now _ c.args.input.now c.trace_text.new.reader c.args.output.now c.trace_text.new.writer c.in_err-stop-in-Trace.field-0.0 (λ r h. h) c.in_err-stop-in-Trace.ensures.answered c.in_err-stop-in-Trace.ensures.untouched)
 
 pub returns-in_err-stop-in-Run-clause-blamed : goal.returns-in_err-stop-in-Run-clause-blamed
 returns-in_err-stop-in-Run-clause-blamed g c =
