@@ -19,6 +19,7 @@ use Rattle.arc_ir.specs.Acting as acting
 use Rattle.arc_lower.specs.Order as order
 use Rattle.arc_lower.specs.Order.{orders}
 use Rattle.arc_lower.specs.Lowered.{lowered}
+use Rattle.arc_lower.specs.Size.{program_size}
 use Rattle.arc_lower.specs.Promise.{Performs, IsLowered}
 use Rattle.arc_lower.proofs.Sizes.{actions_counted}
 use Rattle.arc_emit.specs.declared.fault.EmitFault.{EmitFault}
