@@ -49,7 +49,7 @@ instrs_counted : (p : acting.Program) (at from : ℕ) (actions : List acting.Act
 instrs_counted p at from [] = refl
 instrs_counted p at from (a ∷ rest) = ap suc (instrs_counted p (at + 1) (from + length (text_of a)) rest)
 
-as_many : (P : resolved.Program) (actions : acting.Program) (code : Program) → orders actions.actions ≡ lowered P → code ≡ code_of actions → length code.instrs ≡ program_size P
+pub as_many : (P : resolved.Program) (actions : acting.Program) (code : Program) → orders actions.actions ≡ lowered P → code ≡ code_of actions → length code.instrs ≡ program_size P
 as_many P actions code is emits = ap (λ (c : Program). length c.instrs) emits ∙ instrs_counted actions 0 0 actions.actions
     ∙ sym (length-map actions.actions order.order) ∙ ap length is ∙ actions_counted P
 
