@@ -8,9 +8,6 @@ use Rattle.arc_class.specs.Table.{superclass_of_fields, own_place_in}
 use Rattle.arc_class.proofs.Leasts.{least_turn, least_over}
 use Rattle.arc_class.proofs.fields.least_from.Goals as goal
 
-pub loop-passed-init : goal.loop-passed-init
-loop-passed-init c = ap (least_among (λ class. own_place_in (slice_get c.args.classes.now class) c.args.name.now)) (all_rows superclass_of_fields c.args.classes.now c.args.class)
-
 pub returns-in_default-get : goal.returns-in_default-get
 returns-in_default-get c =
     let all = c.args.classes.now in
@@ -39,3 +36,6 @@ loop-passed-preserved c =
     (ap (least_among own) (in_row superclass_of_fields all passed number known c.loop-passed-test.true there) ∙ ap (λ o. least_of (own_place_in o name) further) there)
     (c.least_of-place.ensures ∙ ap (least_of place) c.at_name.ensures)
     (c.loop-passed.invariant ∙ ap (λ n. least_of place (least_among own (ancestry_within (length all - passed) (map superclass_of_fields all) n))) c.in-Some.is)
+
+pub loop-passed-init : goal.loop-passed-init
+loop-passed-init c = ap (least_among (λ class. own_place_in (slice_get c.args.classes.now class) c.args.name.now)) (all_rows superclass_of_fields c.args.classes.now c.args.class)

@@ -10,17 +10,6 @@ use Rattle.std.specs.Option.{option_or}
 pub loop-passed-init : goal.loop-passed-init
 loop-passed-init c = ap (first_that_has (λ class. own_dealloc (slice_get (classes_of c.args.classes.now) class))) (all_classes c.args.classes.now c.args.class)
 
-pub returns-in_default-get : goal.returns-in_default-get
-returns-in_default-get c =
-    let all = c.args.classes.now in
-    let number = c.in-Some.number in
-    let passed = c.loop-passed._passed in
-    let above = superclasses (classes_of all) in
-    let own = λ (class : ℕ). own_dealloc (slice_get (classes_of all) class) in
-    let none : slice_get all number ≡ None = slice_get_past all number (ltb-false _ _ (sym c.in_default-get.ensures.lookup.0)) in
-    sym (c.loop-passed.invariant ∙ ap (λ n. first_that_has own (ancestry_within (length all - passed) above n)) c.in-Some.is
-    ∙ ap (first_that_has own) (no_class above (length all) passed number c.loop-passed-test.true (superclass_there all number None none)))
-
 pub returns-in-Some-dealloc : goal.returns-in-Some-dealloc
 returns-in-Some-dealloc c =
     let all = c.args.classes.now in
@@ -52,3 +41,14 @@ loop-passed-preserved c =
     (c.loop-passed.invariant ∙ ap (λ n. first_that_has own (ancestry_within (length all - passed) above n)) c.in-Some.is
     ∙ ap (first_that_has own) (in_class above (length all) passed number known.superclass c.loop-passed-test.true (superclass_there all number (Some known) there))
     ∙ ap (λ o. option_or (own_dealloc o) further) (class_there all number (Some known) there))
+
+pub returns-in_default-get : goal.returns-in_default-get
+returns-in_default-get c =
+    let all = c.args.classes.now in
+    let number = c.in-Some.number in
+    let passed = c.loop-passed._passed in
+    let above = superclasses (classes_of all) in
+    let own = λ (class : ℕ). own_dealloc (slice_get (classes_of all) class) in
+    let none : slice_get all number ≡ None = slice_get_past all number (ltb-false _ _ (sym c.in_default-get.ensures.lookup.0)) in
+    sym (c.loop-passed.invariant ∙ ap (λ n. first_that_has own (ancestry_within (length all - passed) above n)) c.in-Some.is
+    ∙ ap (first_that_has own) (no_class above (length all) passed number c.loop-passed-test.true (superclass_there all number None none)))

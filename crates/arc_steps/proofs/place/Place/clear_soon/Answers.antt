@@ -80,12 +80,12 @@ lower-requires-clause-object g c =
     let block : NamesBlock (g.S.Store.out c.args.objects.now.store) can.1 = λ above. (let held = can.3 above in (held.0, held.1)) in
     subst (λ name. NamesBlock (g.S.Store.out c.args.objects.now.store) name) (sym same) block
 
-pub clear-requires-clause-some : goal.clear-requires-clause-some
-clear-requires-clause-some g c =
-    let can = c.requires.can.next c.in-Some.slot (λ x is. sym c.in-Some.is ∙ c.next_slot.ensures x is) in
-    can.0
-
 pub clear-requires-clause-slot : goal.clear-requires-clause-slot
 clear-requires-clause-slot g c =
     let can = c.requires.can.next c.in-Some.slot (λ x is. sym c.in-Some.is ∙ c.next_slot.ensures x is) in
     can.2.short
+
+pub clear-requires-clause-some : goal.clear-requires-clause-some
+clear-requires-clause-some g c =
+    let can = c.requires.can.next c.in-Some.slot (λ x is. sym c.in-Some.is ∙ c.next_slot.ensures x is) in
+    can.0
