@@ -1,5 +1,7 @@
 //! Instructions, of actions and of code alike: they take numbers from a stack and put numbers on it, take references
 //! and give references, and keep strong places, which name objects.
+//! Each has a row in the table of instructions: its name and operands, as it is listed, and what it takes and
+//! gives.
 
 ghost use Rattle.std.specs.Prelude.{◌≡◌, ◌++◌, ⊤, IfSome};
 ghost use Rattle.arc_code.specs.InstructionTable.{operand, op_parts, operation_effect, message_operands, parts, effect};
