@@ -1,12 +1,10 @@
--- Operations take and give what the table of effects says.
-use Rattle.std.proofs.Common.{◌≡◌, ℕ, suc, ◌+◌, ℤ, List, ◌∷◌, length, Option, Some, None, refl, ap, arith, slice_get}
+-- Operations take and give what the table of instructions says.
+use Rattle.std.proofs.Common.{◌≡◌, ℕ, suc, ◌+◌, ℤ, List, ◌∷◌, length, Option, Some, None, refl, ap, arith}
 use Rattle.std.proofs.lemmas.List.{length-set}
-use Rattle.arc_spec.specs.Classes.{Class, class_at}
-use Rattle.arc_spec.specs.Number.{combined}
+use Rattle.arc_spec.specs.Classes.{Class}
 use Rattle.arc_spec.specs.Holding.{Held}
-use Rattle.arc_spec.specs.World.{name_at}
 use Rattle.arc_code.specs.declared.instr.Op.{Op}
-use Rattle.arc_code.specs.declared.instr.Op.TheVariants.{Num, Bin, Un, Narrow, Pop, Get, Set, GetGlobal, SetGlobal, PrintNum, PrintByte, GetChar, Declare, Nil, ReadSelf, ReadRef, ReadGlobal, ReadField, Hold, Again, Forget, Alloc, Finds, GetField, SetField, Differ, IsObject}
+use Rattle.arc_code.specs.declared.instr.Op.TheVariants.{ReadField, Alloc}
 use Rattle.arc_code.specs.Instructions.{State, or_fault, allocates, operates}
 use Rattle.arc_code.specs.Effects.{Effect, of_names, on_numbers, on_names, operation_effect, Follows, After}
 use Rattle.arc_code.proofs.Outcomes.{top_after, found_after, reference_after, named_after, field_after, declares_after}
@@ -50,33 +48,10 @@ module _ (classes : List Class) (s : State) where
   allocates_follows rest None e = tt
   allocates_follows rest (Some class) e = record { numbers = omega (arith, e); names = omega arith; temporaries = omega arith; variables = omega arith; places = refl; at = refl; frames = refl }
 
-  -- each operation follows its line of the table
+  -- what a step is made of, and what it leaves
+  ruleset follows = (top_after, found_after, reference_after, named_after, field_after, declares_after, or_fault_follows, allocates_follows, gives, counts, refers, length-set)
+
+  -- Each operation follows its row of the table. One that is made of the words above needs no line.
   pub operation_follows : (o : Op) → After (By (operation_effect o)) (operates classes o s)
-  operation_follows (Num n) = counts 0 1 _ (omega arith)
-  operation_follows (Bin operator kind) = top_after (By (on_numbers 2 1)) s.stack _ (λ y above e1. top_after (By (on_numbers 2 1)) above _ (λ x rest e2. or_fault_follows (combined operator kind x y) rest (omega (arith, e1, e2))))
-  operation_follows (Un operator kind) = top_after (By (on_numbers 1 1)) s.stack _ (λ x rest e. counts 1 1 _ (omega (arith, e)))
-  operation_follows (Narrow kind) = top_after (By (on_numbers 1 1)) s.stack _ (λ x rest e. counts 1 1 _ (omega (arith, e)))
-  operation_follows Pop = top_after (By (on_numbers 1 0)) s.stack _ (λ x rest e. counts 1 0 _ (omega (arith, e)))
-  operation_follows (Get depth) = found_after (By (on_numbers 0 1)) (slice_get s.stack depth) _ (λ v _. counts 0 1 _ (omega arith))
-  operation_follows (Set depth) = top_after (By (on_numbers 1 0)) s.stack _ (λ v rest e. found_after (By (on_numbers 1 0)) (slice_get rest depth) _ (λ _ _. counts 1 0 _ (omega (arith, e, length-set rest depth v))))
-  operation_follows (GetGlobal i) = counts 0 1 _ (omega arith)
-  operation_follows (SetGlobal i) = top_after (By (on_numbers 1 0)) s.stack _ (λ v rest e. gives 1 0 0 _ _ (omega (arith, e)) (omega arith) refl refl refl)
-  operation_follows PrintNum = top_after (By (on_numbers 2 1)) s.stack _ (λ v above e1. top_after (By (on_numbers 2 1)) above _ (λ count rest e2. counts 2 1 _ (omega (arith, e1, e2))))
-  operation_follows PrintByte = top_after (By (on_numbers 2 1)) s.stack _ (λ v above e1. top_after (By (on_numbers 2 1)) above _ (λ count rest e2. counts 2 1 _ (omega (arith, e1, e2))))
-  operation_follows GetChar = λ answer. counts 0 1 _ (omega arith)
-  operation_follows Declare = declares_after (By (operation_effect Declare)) s.held.temporaries s.held _ (record { numbers = refl; names = refl; temporaries = omega arith; variables = omega arith; places = refl; at = refl; frames = refl })
-  operation_follows Nil = refers 0 1 0 _ (omega arith) (omega arith) refl refl
-  operation_follows ReadSelf = named_after (By (on_names 0 1 1)) s.held.self _ _ (refers 0 1 1 _ (omega arith) (omega arith) refl refl)
-  operation_follows (ReadRef i) = found_after (By (on_names 0 1 1)) (slice_get s.held.variables i) _ (λ r _. named_after (By (on_names 0 1 1)) r _ _ (refers 0 1 1 _ (omega arith) (omega arith) refl refl))
-  operation_follows (ReadGlobal i) = named_after (By (on_names 0 1 1)) (name_at s.held.strong_globals i) _ _ (refers 0 1 1 _ (omega arith) (omega arith) refl refl)
-  operation_follows (ReadField class index) = reference_after (By (on_names 1 1 1)) s.held.names _ (λ r rest e. field_after (By (on_names 1 1 1)) classes class r s.held _
-      (λ o. named_after (By (on_names 1 1 1)) (name_at o.strong index) _ _ (refers 1 1 1 _ (omega (arith, e)) (omega arith) refl refl)))
-  operation_follows Hold = reference_after (By (on_names 1 1 1)) s.held.names _ (λ r rest _. named_after (By (on_names 1 1 1)) r _ _ (refers 1 1 1 _ refl (omega arith) refl refl))
-  operation_follows Again = reference_after (By (on_names 1 2 0)) s.held.names _ (λ r rest _. refers 1 2 0 _ (omega arith) (omega arith) refl refl)
-  operation_follows Forget = reference_after (By (on_names 1 0 0)) s.held.names _ (λ r rest e. refers 1 0 0 _ (omega (arith, e)) (omega arith) refl refl)
-  operation_follows Alloc = top_after (By (operation_effect Alloc)) s.stack _ (λ v rest e. allocates_follows rest (class_at v) e)
-  operation_follows (Finds selector) = top_after (By (on_numbers 1 2)) s.stack _ (λ v rest _. counts 1 2 _ (omega arith))
-  operation_follows (GetField class index) = reference_after (By (of_names 0 1 1)) s.held.names _ (λ r rest e. field_after (By (of_names 0 1 1)) classes class r s.held _ (λ o. gives 0 1 1 _ _ (omega arith) (omega (arith, e)) refl refl refl))
-  operation_follows (SetField class index) = reference_after (By (of_names 1 1 1)) s.held.names _ (λ r rest e. top_after (By (of_names 1 1 1)) s.stack _ (λ v _ _. field_after (By (of_names 1 1 1)) classes class r s.held _ (λ o. gives 1 1 1 _ _ refl (omega (arith, e)) refl refl refl)))
-  operation_follows Differ = reference_after (By (of_names 0 1 2)) s.held.names _ (λ r names e1. reference_after (By (of_names 0 1 2)) names _ (λ other rest e2. named_after (By (of_names 0 1 2)) r s.held _ (named_after (By (of_names 0 1 2)) other s.held _ (gives 0 1 2 _ _ (omega arith) (omega (arith, e1, e2)) refl refl refl))))
-  operation_follows IsObject = reference_after (By (of_names 0 1 1)) s.held.names _ (λ r rest e. named_after (By (of_names 0 1 1)) r s.held _ (gives 0 1 1 _ _ (omega arith) (omega (arith, e)) refl refl refl))
+  operation_follows (ReadField class index) = reference_after (By (on_names 1 1 1)) s.held.names _ (λ r rest e. field_after (By (on_names 1 1 1)) classes class r s.held _ (λ o. search (arith, e, follows)))
+  operation_follows _ = search (arith, follows) depth 8

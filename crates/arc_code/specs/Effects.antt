@@ -1,108 +1,18 @@
--- How many numbers, references and strong places each instruction takes and gives; what a table of heights says of the instructions of a program, so that no run has more.
+-- When a step takes and gives what the table of instructions says; what a table of heights says of the instructions of a program, so that no run has more.
 use Rattle.std.specs.Prelude.{◌≡◌, ◌≤◌, ℕ, suc, ◌+◌, ◌-◌, ◌*◌, List, [], length, Option, Some, slice_get}
 use Rattle.arc_ast.specs.declared.tree.Sign.{Sign}
-use Rattle.arc_ast.specs.declared.tree.Sign.TheVariants as signs
 use Rattle.arc_spec.specs.declared.class.Gives.{Gives}
 use Rattle.arc_spec.specs.declared.class.Gives.TheVariants as gives
 use Rattle.arc_spec.specs.Classes.{lookup}
 use Rattle.arc_spec.specs.declared.limits.TheConstants.{MOST_LEVELS}
 use Rattle.arc_spec.specs.Stepping.{Next, Goes, Asks, Ends, Faults, Stuck, Reached, Running, Ended, Faulted, Wedged, after_steps}
-use Rattle.arc_code.specs.declared.instr.Op.{Op}
-use Rattle.arc_code.specs.declared.instr.Op.TheVariants.{Num, Bin, Un, Narrow, Pop, Get, Set, GetGlobal, SetGlobal, PrintNum, PrintByte, GetChar, Declare, Nil, ReadSelf, ReadRef, ReadGlobal, ReadField, Hold, Again, Forget, Alloc, Finds, GetField, SetField, Differ, IsObject}
 use Rattle.arc_code.specs.declared.instr.Instr.{Instr}
 use Rattle.arc_code.specs.declared.instr.Instr.TheVariants.{Plain, PrintText, Jump, JumpZero, Call, Send, SendSuper, SendTo, SendToSuper, StoreStrong, StoreGlobal, StoreField, Empty, DropAll, Settle, Give, Return, EndStep}
 use Rattle.arc_spec.specs.Holding.{stacked}
 use Rattle.arc_code.specs.Instructions.{Program, State, start, step}
 pub use Rattle.arc_code.specs.declared.effect.Effect.{Effect}
 pub use Rattle.arc_code.specs.declared.effect.Height.{Height}
-
--- what takes references and gives numbers
-abbrev pub of_names : (taken given names : ℕ) → Effect
-of_names taken given names = record { numbers_taken = taken; numbers_given = given; names_taken = names; names_given = 0; temporaries = 0; variables = 0 }
-
--- what leaves the references and places as they are
-abbrev pub on_numbers : (taken given : ℕ) → Effect
-on_numbers taken given = of_names taken given 0
-
--- what takes references, gives references, and has temporaries take objects
-abbrev pub on_names : (taken given temporaries : ℕ) → Effect
-on_names taken given temporaries = record { numbers_taken = 0; numbers_given = 0; names_taken = taken; names_given = given; temporaries = temporaries; variables = 0 }
-
--- how many numbers a result is, and how many objects
-abbrev pub as_number : Gives → ℕ
-as_number gives.Number = 1
-as_number gives.Object = 0
-
-abbrev pub as_object : Gives → ℕ
-as_object gives.Number = 0
-as_object gives.Object = 1
-
--- what takes numbers and references, and gives a number, or an object, which a temporary takes
-abbrev pub giving : Gives → (taken names : ℕ) → Effect
-giving given taken names = record {
-  numbers_taken = taken;
-  numbers_given = as_number given;
-  names_taken = names;
-  names_given = as_object given;
-  temporaries = as_object given;
-  variables = 0;
-}
-
-abbrev pub operation_effect : Op → Effect
-operation_effect (Num n) = on_numbers 0 1
-operation_effect (Bin operator kind) = on_numbers 2 1
-operation_effect (Un operator kind) = on_numbers 1 1
-operation_effect (Narrow kind) = on_numbers 1 1
-operation_effect Pop = on_numbers 1 0
-operation_effect (Get depth) = on_numbers 0 1
-operation_effect (Set depth) = on_numbers 1 0
-operation_effect (GetGlobal i) = on_numbers 0 1
-operation_effect (SetGlobal i) = on_numbers 1 0
-operation_effect PrintNum = on_numbers 2 1
-operation_effect PrintByte = on_numbers 2 1
-operation_effect GetChar = on_numbers 0 1
-operation_effect Declare = record (on_numbers 0 0) { variables = 1 }
-operation_effect Nil = on_names 0 1 0
-operation_effect ReadSelf = on_names 0 1 1
-operation_effect (ReadRef i) = on_names 0 1 1
-operation_effect (ReadGlobal i) = on_names 0 1 1
-operation_effect (ReadField class index) = on_names 1 1 1
-operation_effect Hold = on_names 1 1 1
-operation_effect Again = on_names 1 2 0
-operation_effect Forget = on_names 1 0 0
-operation_effect Alloc = record (on_names 0 1 1) { numbers_taken = 1 }
-operation_effect (Finds selector) = on_numbers 1 2
-operation_effect (GetField class index) = of_names 0 1 1
-operation_effect (SetField class index) = of_names 1 1 1
-operation_effect Differ = of_names 0 1 2
-operation_effect IsObject = of_names 0 1 1
-
--- how many numbers a message with so many arguments passes: one to a class passes the class, too
-abbrev pub passes : Sign → (takes : ℕ) → ℕ
-passes signs.Class takes = suc takes
-passes signs.Instance takes = takes
-
--- A call or a message takes what it passes, and gives a number or an object, when it comes back. What a function is passed are its variables that hold numbers, and references
--- for its parameters that name objects, whose numbers the call doesn't say: a table says them of where the function begins.
-abbrev pub effect : {J F T : Type 0} → Instr J F T → Effect
-effect (Plain o) = operation_effect o
-effect (PrintText t) = on_numbers 1 1
-effect (Jump j) = on_numbers 0 0
-effect (JumpZero j) = on_numbers 1 0
-effect (Call f gives) = giving gives 0 0
-effect (Send selector takes objects gives) = giving gives (passes signs.Class takes) objects
-effect (SendSuper from selector takes objects gives) = giving gives (passes signs.Class takes) objects
-effect (SendTo selector takes objects gives) = giving gives (passes signs.Instance takes) (suc objects)
-effect (SendToSuper from selector takes objects gives) = giving gives (passes signs.Instance takes) (suc objects)
-effect (StoreStrong i) = on_names 1 1 0
-effect (StoreGlobal i) = on_names 1 1 0
-effect (StoreField class index) = on_names 2 1 0
-effect (Empty i) = on_names 0 0 0
-effect DropAll = on_numbers 0 0
-effect Settle = on_numbers 0 0
-effect Give = on_numbers 1 0
-effect Return = on_numbers 1 0
-effect EndStep = on_numbers 0 0
+pub use Rattle.arc_code.specs.InstructionTable.{of_names, on_numbers, on_names, as_number, as_object, giving, operation_effect, passes, effect}
 
 -- from one state to another, at the next instruction of the running function, there are as many numbers, references and places more or less as an effect says
 pub record Follows (e : Effect) (s t : State) : Type 0 where

@@ -1,6 +1,7 @@
 pub mod Attempts
 pub mod Calls
 pub mod Instructions
+pub mod InstructionTable
 pub mod Effects
 pub mod Renaming
 pub mod Running

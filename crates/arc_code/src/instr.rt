@@ -1,8 +1,14 @@
 //! Instructions, of actions and of code alike: they take numbers from a stack and put numbers on it, take references
 //! and give references, and keep strong places, which name objects.
+//! Each has a row in the table of instructions: its name and operands, as it is listed, and what it takes and
+//! gives.
 
-ghost use Rattle.std.specs.Prelude.{◌≡◌, ⊤};
+ghost use Rattle.std.specs.Prelude.{◌≡◌, ◌++◌, ⊤, IfSome};
+ghost use Rattle.arc_code.specs.InstructionTable.{operand, op_parts, operation_effect, message_operands, parts, effect};
+ghost use Rattle.arc_code.specs.Listing.{operands_text};
 
+use crate::code::Piece;
+use crate::effect::{Effect, giving, of_names, on_names, on_numbers, one_more};
 use arc_ast::tree::{BinaryOperator, Kind, UnaryOperator};
 use arc_spec::class::Gives;
 use std::alloc::AllocError;
@@ -139,4 +145,184 @@ impl<J: Copy, F: Copy, T: Copy> Clone for Instr<J, F, T> {
     fn clone(&self) -> Result<Instr<J, F, T>, AllocError> {
         Ok(*self)
     }
+}
+
+/// The operands of an instruction, as they are listed.
+#[derive(Clone, Copy)]
+pub(crate) enum Operands {
+    Nothing,
+    Signed(i64),
+    One(u64),
+    Two(u64, u64),
+    Four(u64, u64, u64, u64),
+    Five(u64, u64, u64, u64, u64),
+}
+
+impl Op {
+    /// The operation's name, and its operands.
+    pub(crate) fn parts(self) -> (&'static str, Operands)
+        ensures name { result.0.now ≡ (op_parts self).0 }
+        ensures operands { operands_text result.1 ≡ (op_parts self).1 }
+    {
+        match self {
+            Op::Num(number) => ("Num", Operands::Signed(number)),
+            Op::Bin(operator, kind) => ("Bin", Operands::Two(operator as u64, kind as u64)),
+            Op::Un(operator, kind) => ("Un", Operands::Two(operator as u64, kind as u64)),
+            Op::Narrow(kind) => ("Narrow", Operands::One(kind as u64)),
+            Op::Pop => ("Pop", Operands::Nothing),
+            Op::Get(depth) => ("Get", Operands::One(depth as u64)),
+            Op::Set(depth) => ("Set", Operands::One(depth as u64)),
+            Op::GetGlobal(number) => ("GetGlobal", Operands::One(number as u64)),
+            Op::SetGlobal(number) => ("SetGlobal", Operands::One(number as u64)),
+            Op::PrintNum => ("PrintNum", Operands::Nothing),
+            Op::PrintByte => ("PrintByte", Operands::Nothing),
+            Op::GetChar => ("GetChar", Operands::Nothing),
+            Op::Declare => ("Declare", Operands::Nothing),
+            Op::Nil => ("Nil", Operands::Nothing),
+            Op::ReadSelf => ("ReadSelf", Operands::Nothing),
+            Op::ReadRef(number) => ("ReadRef", Operands::One(number as u64)),
+            Op::ReadGlobal(number) => ("ReadGlobal", Operands::One(number as u64)),
+            Op::ReadField(class, index) => ("ReadField", Operands::Two(class as u64, index as u64)),
+            Op::Hold => ("Hold", Operands::Nothing),
+            Op::Again => ("Again", Operands::Nothing),
+            Op::Forget => ("Forget", Operands::Nothing),
+            Op::Alloc => ("Alloc", Operands::Nothing),
+            Op::Finds(selector) => ("Finds", Operands::One(selector as u64)),
+            Op::GetField(class, index) => ("GetField", Operands::Two(class as u64, index as u64)),
+            Op::SetField(class, index) => ("SetField", Operands::Two(class as u64, index as u64)),
+            Op::Differ => ("Differ", Operands::Nothing),
+            Op::IsObject => ("IsObject", Operands::Nothing),
+        }
+    }
+
+    /// What the operation takes and gives.
+    pub fn effect(self) -> Effect
+        ensures { result ≡ operation_effect self }
+    {
+        match self {
+            Op::Num(_) | Op::Get(_) | Op::GetGlobal(_) | Op::GetChar => on_numbers(0, 1),
+            Op::Finds(_) => on_numbers(1, 2),
+            Op::Bin(_, _) | Op::PrintNum | Op::PrintByte => on_numbers(2, 1),
+            Op::Un(_, _) | Op::Narrow(_) => on_numbers(1, 1),
+            Op::Pop | Op::Set(_) | Op::SetGlobal(_) => on_numbers(1, 0),
+            Op::Declare => Effect {
+                variables: 1,
+                ..on_numbers(0, 0)
+            },
+            Op::Nil => on_names(0, 1, 0),
+            Op::ReadSelf | Op::ReadRef(_) | Op::ReadGlobal(_) => on_names(0, 1, 1),
+            Op::Hold | Op::ReadField(_, _) => on_names(1, 1, 1),
+            Op::Again => on_names(1, 2, 0),
+            Op::Forget => on_names(1, 0, 0),
+            Op::Alloc => Effect {
+                numbers_taken: 1,
+                ..on_names(0, 1, 1)
+            },
+            Op::GetField(_, _) | Op::IsObject => of_names(0, 1, 1),
+            Op::SetField(_, _) => of_names(1, 1, 1),
+            Op::Differ => of_names(0, 1, 2),
+        }
+    }
+}
+
+impl Instr<usize, usize, Piece> {
+    /// The instruction's name, and its operands.
+    pub(crate) fn parts(self) -> (&'static str, Operands)
+        ensures name { result.0.now ≡ (parts self).0 }
+        ensures operands { operands_text result.1 ≡ (parts self).1 }
+    {
+        match self {
+            Instr::Plain(operation) => operation.parts(),
+            Instr::PrintText(piece) => (
+                "PrintText",
+                Operands::Two(u64::from(piece.from), u64::from(piece.len)),
+            ),
+            Instr::Jump(to) => ("Jump", Operands::One(to as u64)),
+            Instr::JumpZero(to) => ("JumpZero", Operands::One(to as u64)),
+            Instr::Call(to, gives) => ("Call", Operands::Two(to as u64, gives as u64)),
+            Instr::Send(selector, takes, objects, gives) => (
+                "Send",
+                message(selector, takes, objects, gives),
+            ),
+            Instr::SendSuper(from, selector, takes, objects, gives) => (
+                "SendSuper",
+                super_message(from, selector, takes, objects, gives),
+            ),
+            Instr::SendTo(selector, takes, objects, gives) => (
+                "SendTo",
+                message(selector, takes, objects, gives),
+            ),
+            Instr::SendToSuper(from, selector, takes, objects, gives) => (
+                "SendToSuper",
+                super_message(from, selector, takes, objects, gives),
+            ),
+            Instr::StoreStrong(number) => ("StoreStrong", Operands::One(number as u64)),
+            Instr::StoreGlobal(number) => ("StoreGlobal", Operands::One(number as u64)),
+            Instr::StoreField(class, index) => (
+                "StoreField",
+                Operands::Two(class as u64, index as u64),
+            ),
+            Instr::Empty(number) => ("Empty", Operands::One(number as u64)),
+            Instr::DropAll => ("DropAll", Operands::Nothing),
+            Instr::Settle => ("Settle", Operands::Nothing),
+            Instr::Give => ("Give", Operands::Nothing),
+            Instr::Return => ("Return", Operands::Nothing),
+            Instr::EndStep => ("EndStep", Operands::Nothing),
+        }
+    }
+}
+
+impl<J, F, T> Instr<J, F, T> {
+    /// What the instruction takes and gives; of a call it is that of what the function gives. None:
+    /// the instruction takes more numbers than can be counted.
+    pub fn effect(&self) -> Option<Effect>
+        ensures { IfSome result (λ found. found ≡ effect self.now) }
+    {
+        match self {
+            Instr::Plain(operation) => Some(operation.effect()),
+            Instr::PrintText(_) => Some(on_numbers(1, 1)),
+            Instr::Jump(_) | Instr::Empty(_) | Instr::DropAll | Instr::Settle | Instr::EndStep =>
+                Some(on_numbers(0, 0)),
+            Instr::JumpZero(_) | Instr::Return | Instr::Give => Some(on_numbers(1, 0)),
+            Instr::Call(_, gives) => Some(giving(*gives, 0, 0)),
+            Instr::Send(_, takes, objects, gives) | Instr::SendSuper(_, _, takes, objects, gives) =>
+                {
+                    let taken = one_more(*takes)?;
+                    Some(giving(*gives, taken, *objects))
+                }
+            Instr::SendTo(_, takes, objects, gives)
+            | Instr::SendToSuper(_, _, takes, objects, gives) => {
+                let references = one_more(*objects)?;
+                Some(giving(*gives, *takes, references))
+            }
+            Instr::StoreStrong(_) | Instr::StoreGlobal(_) => Some(on_names(1, 1, 0)),
+            Instr::StoreField(_, _) => Some(on_names(2, 1, 0)),
+        }
+    }
+}
+
+/// The operands of a message.
+fn message(selector: usize, takes: usize, objects: usize, gives: Gives) -> Operands
+    ensures { operands_text result ≡ message_operands selector takes objects gives }
+{
+    Operands::Four(selector as u64, takes as u64, objects as u64, gives as u64)
+}
+
+/// The operands of a message for which the class comes first from which its method is looked up.
+fn super_message(
+    from: usize,
+    selector: usize,
+    takes: usize,
+    objects: usize,
+    gives: Gives,
+) -> Operands
+    ensures { operands_text result ≡ operand from ++ message_operands selector takes objects gives }
+{
+    Operands::Five(
+        from as u64,
+        selector as u64,
+        takes as u64,
+        objects as u64,
+        gives as u64,
+    )
 }

@@ -5,16 +5,16 @@ use Rattle.arc_spec.specs.declared.event.Fault.TheVariants.{Resurrected}
 use Rattle.arc_spec.specs.declared.class.Gives.{Gives}
 use Rattle.arc_spec.specs.declared.class.Gives.TheVariants as gives
 use Rattle.arc_spec.specs.Classes.{Class, class_at, lookup, is_root_init, descends, field_order}
-use Rattle.arc_spec.specs.World.{name_at}
-use Rattle.arc_spec.specs.Number.{combined, is_zero}
+use Rattle.arc_spec.specs.Number.{is_zero}
 use Rattle.arc_spec.specs.Meaning.{chosen}
 use Rattle.arc_spec.specs.Objects.{Gone, Object, Dying, object_at, with_object, in_phase, is_live, is_emptying}
 use Rattle.arc_spec.specs.Stepping.{Next, Goes, Faults, on_top, on_two, on_found, only_if, Asks, Ends, Reached, Running, Ended, Faulted, Wedged, Along, fed, follow, further, after_steps}
-use Rattle.arc_spec.specs.Holding.{Held, Frame, Calling, Ending, Clearing, Waiter, with_strong_globals, with_strong_field, on_place, Counted, holders, all_places, is_there, all_nil, with_things, with_temporaries, with_variables, on_object, on_named, named, declares, lets_go, on_left, on_last, on_result, on_field, with_names, resumed, turned_in}
+use Rattle.arc_spec.specs.Holding.{Held, Frame, Calling, Ending, Clearing, Waiter, with_strong_globals, with_strong_field, on_place, Counted, holders, all_places, is_there, all_nil, with_things, with_temporaries, with_variables, on_object, on_named, declares, lets_go, on_left, on_last, on_result, on_field, with_names, resumed, turned_in}
 use Rattle.arc_ir.specs.Acting.{Action, linked, Program, State, entry, or_fault, keeps, has_level, enters, answers, taken, sends, begins_end, releases, drops_all, ends_object, runs_dealloc, clears, after_deallocs, clears_next, ends_class, end_goes_on, leaves, allocates, executes, IsSound, start, step, seen}
 use Rattle.arc_code.specs.Instructions as instructions
-use Rattle.arc_code.specs.declared.instr.Op.TheVariants as ops
-use Rattle.arc_code.specs.declared.instr.Op.TheVariants.{Bin, Un, Narrow, Pop, Get, Set, PrintNum, PrintByte, Declare, ReadSelf, ReadRef, ReadGlobal, ReadField, Hold, Forget, Alloc, Finds, GetField, SetField, Differ, IsObject}
+use Rattle.arc_code.specs.declared.instr.Op.{Op}
+use Rattle.arc_code.specs.declared.instr.Op.TheVariants.{Num}
+use Rattle.arc_code.specs.Instructions.{operates}
 use Rattle.arc_code.specs.declared.instr.Instr.TheVariants.{Plain, PrintText, JumpZero, Call, Send, SendSuper, SendTo, SendToSuper, StoreStrong, StoreGlobal, StoreField, Empty, DropAll, Settle, Give, Return, EndStep}
 use Rattle.arc_lower.proofs.Standing.{ending, AllDying, no_nil}
 use Rattle.arc_lower.proofs.Doing.{fresh, recount, at, moves}
@@ -239,30 +239,16 @@ module _ (p : Program) (s : State) (right : Counted s.held) where
   stored_agrees : (i r old : ℕ) → Agree (releases p s old (counted_by (with_variables s.held (slice_set s.held.variables i r)) (λ k. if nat_eq k r then suc (s.held.counts k) else s.held.counts k))) (releases p t old (counted_by (with_variables s.held (slice_set s.held.variables i r)) (λ k. if nat_eq k r then suc (places k) else places k)))
   stored_agrees i r old = releases_agree old (with_variables s.held (slice_set s.held.variables i r)) _ _ (more_same r s.held.counts places right.counted)
 
+  -- what operations are made of
+  ruleset agrees = (top_agrees, two_agree, found_agrees, reference_agrees, named_agrees, declares_agree, or_fault_agrees, allocates_agree, field_agrees)
+
+  -- an operation that is made of these needs no line
+  operation_agrees : (o : Op) → Agree (operates p.classes o s) (operates p.classes o t)
+  operation_agrees (Num n) = refl
+  operation_agrees _ = search agrees depth 8
+
   pub acts_agree : (action : Option Action) → AllDying s.held.objects (ending s.frames) → Agree (executes p action s) (executes p action t)
-  acts_agree (Some (Plain (Bin operator kind))) dying = two_agree s.stack _ _ (λ y x rest. or_fault_agrees (combined operator kind x y) rest)
-  acts_agree (Some (Plain (Un operator kind))) dying = top_agrees s.stack _ _ (λ x rest. refl)
-  acts_agree (Some (Plain (Narrow kind))) dying = top_agrees s.stack _ _ (λ x rest. refl)
-  acts_agree (Some (Plain Pop)) dying = top_agrees s.stack _ _ (λ x rest. refl)
-  acts_agree (Some (Plain (Get depth))) dying = found_agrees (slice_get s.stack depth) _ _ (λ v _. refl)
-  acts_agree (Some (Plain (Set depth))) dying = top_agrees s.stack _ _ (λ v rest. found_agrees (slice_get rest depth) _ _ (λ _ _. refl))
-  acts_agree (Some (Plain (ops.SetGlobal i))) dying = top_agrees s.stack _ _ (λ v rest. refl)
-  acts_agree (Some (Plain PrintNum)) dying = two_agree s.stack _ _ (λ v count rest. refl)
-  acts_agree (Some (Plain PrintByte)) dying = two_agree s.stack _ _ (λ v count rest. refl)
-  acts_agree (Some (Plain Declare)) dying = declares_agree s.held.temporaries s.held places s s.stack
-  acts_agree (Some (Plain ReadSelf)) dying = named_agrees s.held.self (named s.held.self s.held) places _ _ refl
-  acts_agree (Some (Plain (ReadRef i))) dying = found_agrees (slice_get s.held.variables i) _ _ (λ r _. named_agrees r (named r s.held) places _ _ refl)
-  acts_agree (Some (Plain (ReadGlobal i))) dying = named_agrees (name_at s.held.strong_globals i) (named (name_at s.held.strong_globals i) s.held) places _ _ refl
-  acts_agree (Some (Plain (ReadField class index))) dying = reference_agrees s.held.names _ _ (λ r rest. field_agrees class r _ _ (λ o. named_agrees (name_at o.strong index) (with_names s.held (name_at o.strong index ∷ rest)) places _ _ refl))
-  acts_agree (Some (Plain Hold)) dying = reference_agrees s.held.names _ _ (λ r rest. named_agrees r s.held places _ _ refl)
-  acts_agree (Some (Plain ops.Again)) dying = reference_agrees s.held.names _ _ (λ r rest. refl)
-  acts_agree (Some (Plain Forget)) dying = reference_agrees s.held.names _ _ (λ r rest. refl)
-  acts_agree (Some (Plain Alloc)) dying = top_agrees s.stack _ _ (λ v rest. allocates_agree rest (class_at v))
-  acts_agree (Some (Plain (Finds selector))) dying = top_agrees s.stack _ _ (λ v rest. refl)
-  acts_agree (Some (Plain (GetField class index))) dying = reference_agrees s.held.names _ _ (λ r rest. field_agrees class r _ _ (λ o. refl))
-  acts_agree (Some (Plain (SetField class index))) dying = reference_agrees s.held.names _ _ (λ r rest. top_agrees s.stack _ _ (λ v _. field_agrees class r _ _ (λ o. refl)))
-  acts_agree (Some (Plain Differ)) dying = reference_agrees s.held.names _ _ (λ r names. reference_agrees names _ _ (λ other rest. named_agrees r s.held places _ _ (named_agrees other s.held places _ _ refl)))
-  acts_agree (Some (Plain IsObject)) dying = reference_agrees s.held.names _ _ (λ r rest. named_agrees r s.held places _ _ refl)
+  acts_agree (Some (Plain o)) dying = operation_agrees o
   acts_agree (Some (PrintText bytes)) dying = top_agrees s.stack _ _ (λ count rest. refl)
   acts_agree (Some (JumpZero to)) dying = top_agrees s.stack _ _ (λ v rest. chosen_agrees (is_zero v) _ _ _ _ refl refl)
   acts_agree (Some (Call f wanted)) dying = enters_agree s places (entry p f) 0 (has_level s)

@@ -9,7 +9,7 @@ ghost use Rattle.arc_lower.specs.Heights.{height, between, highest, after_effect
 use crate::call::{parameters_of, slots_of};
 use crate::variable::add_operands;
 use arc_checked::program::Checked;
-use arc_code::effect::{Effect, Height, instr_effect};
+use arc_code::effect::{Effect, Height};
 use arc_code::instr::Instr;
 use arc_ir::action::Action;
 use arc_spec::event::NoMemory;
@@ -87,7 +87,7 @@ fn take_part(pending: &mut Vec<Height>, base: Height) -> Height
 fn effect_in(program: &Checked, action: &Action) -> Result<Effect, NoMemory>
     ensures { IfOk result (λ found. found ≡ effect_in (program_of program.now) (order action.now)) }
 {
-    let Some(effect) = instr_effect(action) else {
+    let Some(effect) = action.effect() else {
         return Err(NoMemory);
     };
     match action {

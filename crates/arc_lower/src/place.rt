@@ -9,7 +9,6 @@ ghost use Rattle.arc_lower.specs.Lowered.{declare_orders, forget_orders, nil_ord
 
 use crate::expression::append;
 use crate::variable::add_operands;
-use arc_code::effect::operation_effect;
 use arc_code::instr::{Instr, Op};
 use arc_ir::action::Action;
 use arc_spec::class::Gives;
@@ -134,7 +133,7 @@ fn takes(action: &Action) -> bool
     ensures { result ≡ order_takes (order action.now) }
 {
     match action {
-        Instr::Plain(operation) => operation_effect(*operation).temporaries > 0,
+        Instr::Plain(operation) => operation.effect().temporaries > 0,
         Instr::Call(_, gives)
         | Instr::Send(_, _, _, gives)
         | Instr::SendSuper(_, _, _, _, gives)

@@ -1,6 +1,6 @@
 use Rattle.std.proofs.Common.{[], ◌∷◌, ◌++◌, decimal}
 use Rattle.std.proofs.lemmas.Result.{err_from_is_err_and}
-use Rattle.arc_code.specs.Listing.{parts}
+use Rattle.arc_code.specs.InstructionTable.{parts}
 use Rattle.arc_code.proofs.Parts.{first_failed, second_failed, third_failed, then_ok, then_failed, then_written}
 use Rattle.arc_code.proofs.lines.put_line.Goals as goal
 
@@ -9,12 +9,13 @@ returns-in_err-put_number g c =
     let p = err_from_is_err_and c.from_residual.result c.from_residual.ensures.1 in
     rw (p.1, p.2) (first_failed _ _ _ _ _ _ (decimal c.args.number) (32 ∷ (parts c.args.instr).0) (parts c.args.instr).1 (10 ∷ []) c.in_err-put_number.ensures)
 
-pub returns-in_err-put_name : goal.returns-in_err-put_name
-returns-in_err-put_name g c =
-    let p = err_from_is_err_and c.from_residual-in_err-put_name.result c.from_residual-in_err-put_name.ensures.1 in
+pub returns-in_err-put_word : goal.returns-in_err-put_word
+returns-in_err-put_word g c =
+    let p = err_from_is_err_and c.from_residual-in_err-put_word.result c.from_residual-in_err-put_word.ensures.1 in
     let number = decimal c.args.number in
     let instr = c.args.instr in
-    let done = then_failed _ _ _ _ _ _ _ _ number (32 ∷ (parts instr).0) c.in_ok-put_number.ensures c.in_err-put_name.ensures in
+    let name = rw (c.as_bytes.ensures.value, c.parts-operands.ensures.name) at c.in_err-put_word.ensures in
+    let done = then_failed _ _ _ _ _ _ _ _ number (32 ∷ (parts instr).0) c.in_ok-put_number.ensures name in
     rw (p.1, p.2) (second_failed _ _ _ _ _ _ number (32 ∷ (parts instr).0) (parts instr).1 (10 ∷ []) done)
 
 pub returns-in_err-put_operands : goal.returns-in_err-put_operands
@@ -22,14 +23,18 @@ returns-in_err-put_operands g c =
     let p = err_from_is_err_and c.from_residual-in_err-put_operands.result c.from_residual-in_err-put_operands.ensures.1 in
     let number = decimal c.args.number in
     let instr = c.args.instr in
-    let one = then_ok _ _ _ _ _ _ (Unit {0}) number (32 ∷ (parts instr).0) c.in_ok-put_number.ensures c.in_ok-put_name.ensures in
-    let done = then_failed _ _ _ _ _ _ _ _ (number ++ 32 ∷ (parts instr).0) (parts instr).1 one c.in_err-put_operands.ensures in
+    let name = rw (c.as_bytes.ensures.value, c.parts-operands.ensures.name) at c.in_ok-put_word.ensures in
+    let operands = rw c.parts-operands.ensures.operands at c.in_err-put_operands.ensures in
+    let one = then_ok _ _ _ _ _ _ (Unit {0}) number (32 ∷ (parts instr).0) c.in_ok-put_number.ensures name in
+    let done = then_failed _ _ _ _ _ _ _ _ (number ++ 32 ∷ (parts instr).0) (parts instr).1 one operands in
     rw (p.1, p.2) (third_failed _ _ _ _ _ _ number (32 ∷ (parts instr).0) (parts instr).1 (10 ∷ []) done)
 
 pub returns : goal.returns
 returns g c =
     let number = decimal c.args.number in
     let instr = c.args.instr in
-    let one = then_ok _ _ _ _ _ _ (Unit {0}) number (32 ∷ (parts instr).0) c.in_ok-put_number.ensures c.in_ok-put_name.ensures in
-    let two = then_ok _ _ _ _ _ _ (Unit {0}) (number ++ 32 ∷ (parts instr).0) (parts instr).1 one c.in_ok-put_operands.ensures in
+    let name = rw (c.as_bytes.ensures.value, c.parts-operands.ensures.name) at c.in_ok-put_word.ensures in
+    let operands = rw c.parts-operands.ensures.operands at c.in_ok-put_operands.ensures in
+    let one = then_ok _ _ _ _ _ _ (Unit {0}) number (32 ∷ (parts instr).0) c.in_ok-put_number.ensures name in
+    let two = then_ok _ _ _ _ _ _ (Unit {0}) (number ++ 32 ∷ (parts instr).0) (parts instr).1 one operands in
     then_written _ _ _ _ _ _ _ _ ((number ++ 32 ∷ (parts instr).0) ++ (parts instr).1) (10 ∷ []) two c.put.ensures
