@@ -1,3 +1,3 @@
 pub mod Passed
-pub mod Printing
+pub mod Preparing
 pub mod Starting
