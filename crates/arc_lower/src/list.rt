@@ -24,14 +24,18 @@ use arc_ir::action::{Action, Target};
 use arc_spec::class::{Class, Gives};
 use arc_spec::event::NoMemory;
 use std::alloc::Global;
+use std::mem;
+use std::mem::drop;
 
 /// The actions that a program becomes, of which nothing is asked but what they are or how many. NoMemory: memory was refused, or a
 /// function has more places than can be numbered.
 pub fn list_actions(alloc: Global, program: &Owned) -> Result<Vec<Action>, NoMemory>
     ensures { IfOk result (λ actions. orders actions.items ≡ lowered (program_of program.now.program.now)) }
 {
-    let listed = list(alloc, program.program, &mut None)?;
-    Ok(listed.actions)
+    let mut listed = list(alloc, program.program, &mut None)?;
+    let actions = mem::replace(&mut listed.actions, Vec::new(alloc));
+    drop(listed);
+    Ok(actions)
 }
 
 /// What a program becomes: its actions, where its functions are entered and where the ends of objects go on, and its
@@ -57,8 +61,8 @@ pub(crate) fn list(
     ensures most { OnOk result (most.new ≡ raised (lowered_heights (program_of program.now)) most.old) }
 {
     let mut actions = Vec::new(alloc);
-    let mut entries = Vec::new(alloc);
     let end_step = append_start(alloc, &mut actions, program, most)?;
+    let mut entries = Vec::new(alloc);
     append_functions(alloc, &mut actions, &mut entries, program, most)?;
     let classes = append_classes(alloc, &mut actions, program, &entries, most)?;
     Ok(Listed {

@@ -3,11 +3,14 @@ ghost use Rattle.std.specs.Prelude.{◌≡◌, IfOk};
 ghost use Rattle.arc_code.specs.Effects.{room_for};
 ghost use Rattle.arc_ir.specs.Acting as acting;
 ghost use Rattle.arc_checked.specs.Checked.{program_of};
+ghost use Rattle.arc_lower.specs.Heights.{places_in};
 ghost use Rattle.arc_lower.specs.Promise.{Performs, IsLowered};
 
 use crate::height::no_height;
 use crate::list::list;
 use crate::variable::add_operands;
+use arc_checked::program::Checked;
+use arc_code::effect::Height;
 use arc_family::owned::Owned;
 use arc_ir::action::Ir;
 use arc_spec::event::NoMemory;
@@ -23,21 +26,42 @@ pub fn lower(alloc: Global, program: &Owned) -> Result<Ir, NoMemory>
 {
     let mut most = Some(no_height());
     let listed = list(alloc, program.program, &mut most)?;
-    let most = most.unwrap_or(no_height());
-    let room = room_for(most.numbers)?;
-    let names = room_for(most.names)?;
-    let places = room_for(add_operands(most.temporaries, most.variables)?)?;
-    let globals = Vec::from_slice(alloc, &program.program.globals)?;
+    let needs = needs_of(alloc, program.program, most.unwrap_or(no_height()))?;
     Ok(Ir {
         actions: listed.actions,
         entries: listed.entries,
         end_step: listed.end_step,
+        room: needs.room,
+        names: needs.names,
+        places: needs.places,
+        globals: needs.globals,
+        strong_globals: program.program.strong_globals,
+        classes: listed.classes,
+    })
+}
+
+/// What a program needs beside its actions: room for its numbers, references and places, and what its variables hold first.
+#[derive(Drop)]
+struct Needs {
+    room: usize,
+    names: usize,
+    places: usize,
+    globals: Vec<i64>,
+}
+
+/// What a program needs whose greatest height is this.
+fn needs_of(alloc: Global, program: &Checked, most: Height) -> Result<Needs, NoMemory>
+    ensures { IfOk result (λ needs. (needs.room ≡ room_for most.numbers) × (needs.names ≡ room_for most.names) × (needs.places ≡ room_for (places_in most)) × (needs.globals.items ≡ program.now.globals.items)) }
+{
+    let room = room_for(most.numbers)?;
+    let names = room_for(most.names)?;
+    let places = room_for(add_operands(most.temporaries, most.variables)?)?;
+    let globals = Vec::from_slice(alloc, &program.globals)?;
+    Ok(Needs {
         room,
         names,
         places,
         globals,
-        strong_globals: program.program.strong_globals,
-        classes: listed.classes,
     })
 }
 

@@ -2,20 +2,24 @@
 ghost use Rattle.std.specs.Prelude.{◌≡◌, IfOk};
 ghost use Rattle.arc_checked.specs.Checked.{program_of};
 ghost use Rattle.arc_spec.specs.Meaning.{mean};
+ghost use Rattle.arc_spec.specs.World.{nothing_given};
+ghost use Rattle.arc_spec.specs.declared.class.Gives.TheVariants.{Number};
 ghost use Rattle.arc_spec.specs.Correct.{meaning_seen};
-ghost use Rattle.arc_plain.specs.Views.{Stops, seen};
+ghost use Rattle.arc_plain.specs.Views.{Stops, as_int, deeper, seen, world};
 
 use crate::call::call;
 use crate::context::Context;
 use crate::given::{Answered, nothing};
 use crate::halt::Halt;
-use crate::progress::start;
+use crate::progress::{Progress, start};
 use arc_checked::program::Checked;
 use arc_spec::class::Gives;
 use arc_spec::event::{Event, Fault, NoMemory};
 use arc_spec::limits::MOST_LEVELS;
 use arc_spec::number::low_half;
 use std::alloc::Global;
+use std::mem;
+use std::mem::drop;
 
 /// How a program stopped.
 #[derive(Clone, Copy, Debug, PartialEq, Eq)]
@@ -50,21 +54,29 @@ pub fn interpret(
         bound,
         levels: MOST_LEVELS,
     };
+    let answer = run(alloc, &context, &mut progress);
+    drop(progress);
+    answer
+}
+
+/// Calls the program's `main`, and takes what it has shown.
+fn run(alloc: Global, context: &Context, progress: &mut Progress) -> Result<Answer, NoMemory>
+    ensures { IfOk result (λ answer. meaning_seen (as_int ((deeper context.now).call Number context.now.program.now.main 0 nothing_given (world progress.old))) ≡ seen answer) }
+{
     let none = nothing(alloc);
     let left = call(
         alloc,
-        &context,
-        &mut progress,
+        context,
+        progress,
         Gives::Number,
-        program.main,
+        context.program.main,
         0,
         &none,
     );
+    drop(none);
     let stop = stop_of(left)?;
-    Ok(Answer {
-        trace: progress.trace,
-        stop,
-    })
+    let trace = mem::replace(&mut progress.trace, Vec::new(alloc));
+    Ok(Answer { trace, stop })
 }
 
 /// How a program stopped whose `main` was left so.

@@ -17,16 +17,17 @@ returns c =
     let found = c.list.new.most in
     let other = c.no_height-2.result in
     let raised_is : found ≡ Some (greatest_height R) = c.in_ok-listed.ensures.most ∙ ap (λ h. raised (lowered_heights R) (Some h)) c.no_height.ensures in
-    let most : c.unwrap_or-most.result ≡ greatest_height R = c.unwrap_or-most.ensures ∙ ap (λ h. unwrap_or h other) raised_is in
-    let made : Program = record { actions = listed.actions.items; entries = listed.entries.items; end_step = listed.end_step; room = c.in_ok-room.room; names = c.in_ok-names.names; places = c.in_ok-places.places; globals = c.in_ok-globals.globals.items; strong_globals = R.strong_globals; classes = classes_of listed.classes.items } in
+    let most : c.unwrap_or.result ≡ greatest_height R = c.unwrap_or.ensures ∙ ap (λ h. unwrap_or h other) raised_is in
+    let needs = c.in_ok-needs.needs in
+    let made : Program = record { actions = listed.actions.items; entries = listed.entries.items; end_step = listed.end_step; room = needs.room; names = needs.names; places = needs.places; globals = needs.globals.items; strong_globals = R.strong_globals; classes = classes_of listed.classes.items } in
     let exact : IsLowered R made = record {
       actions = c.in_ok-listed.ensures.actions;
       entries = c.in_ok-listed.ensures.entries;
       end_step = c.in_ok-listed.ensures.end_step;
-      room = c.in_ok-room.ensures ∙ ap (λ (h : Height). room_for h.numbers) most;
-      names = c.in_ok-names.ensures ∙ ap (λ (h : Height). room_for h.names) most;
-      places = c.in_ok-places.ensures ∙ ap room_for c.in_ok-add_operands.ensures ∙ ap (λ (h : Height). room_for (places_in h)) most;
-      globals = c.in_ok-globals.ensures.items ∙ c.deref.ensures.value;
+      room = c.in_ok-needs.ensures.0 ∙ ap (λ (h : Height). room_for h.numbers) most;
+      names = c.in_ok-needs.ensures.1 ∙ ap (λ (h : Height). room_for h.names) most;
+      places = c.in_ok-needs.ensures.2 ∙ ap (λ (h : Height). room_for (places_in h)) most;
+      globals = c.in_ok-needs.ensures.3;
       strong_globals = refl;
       classes = c.in_ok-listed.ensures.classes;
     } in
