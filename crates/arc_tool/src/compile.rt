@@ -72,7 +72,9 @@ fn translate(alloc: Global, unit: &TranslationUnit) -> Result<Code, Refusal>
     ensures refused { (source : List ℕ) → Spelled source (unit_tree unit.now) → IfErr result (λ refusal. IsRefusal source refusal) }
 {
     let table = ClassTable::build(alloc, unit)?;
-    translate_unit(alloc, unit, &table)
+    let code = translate_unit(alloc, unit, &table);
+    drop(table);
+    code
 }
 
 /// The code of a tree that breaks no rule of declarations, whose table this is.

@@ -21,6 +21,7 @@ use arc_machine::machine::Machine;
 use arc_machine::stop::Stop;
 use arc_spec::event::NoMemory;
 use std::alloc::Global;
+use std::mem::drop;
 use thiserror::Error;
 
 /// Why a source was not run to a stop.
@@ -98,7 +99,9 @@ pub fn run_text<R: Input, W: Output>(
 {
     let code = compile(alloc, source)?;
     let mut machine = Machine::new(alloc, code, PlainStore::new(alloc))?;
-    let stop = run_machine(&mut machine, steps, reader, writer)?;
+    let ran = run_machine(&mut machine, steps, reader, writer);
+    drop(machine);
+    let stop = ran?;
     Ok(stop)
 }
 
