@@ -1,4 +1,5 @@
 use Rattle.std.proofs.Common.{◌≡◌, ◌∙◌, Some, slice_get, sym, ap, refl, arith}
+use Rattle.std.proofs.lemmas.Grind.{common_steps}
 use Rattle.arc_code.specs.Running.{program_of}
 use Rattle.arc_cells.specs.declared.waiting.Waiting.TheVariants.{Call}
 use Rattle.arc_steps.specs.Places.{spot}
@@ -37,3 +38,12 @@ unreachable-requires-in-None g c =
 pub returns-clause-went : goal.returns-clause-went
 returns-clause-went g c =
     give_went g.S.Store.out (program_of c.args.code.now) (spot c.args.self.now c.args.objects.now) c.in-Some-Call.back c.in-Some-Call.waiter c.pop.result _ (c.last.ensures ∙ c.in-Some-Call.is ∙ ap Some c.in-Some-Call.field-0-is) refl (ap (λ x. x.items) c.pop.ensures.value) c.hand_over.ensures
+
+pub hand_over-requires-clause-waits : goal.hand_over-requires-clause-waits
+hand_over-requires-clause-waits c = grind (arith, common_steps)
+
+pub hand_over-requires-clause-places : goal.hand_over-requires-clause-places
+hand_over-requires-clause-places c = grind (arith, common_steps)
+
+pub hand_over-requires-clause-some : goal.hand_over-requires-clause-some
+hand_over-requires-clause-some c = grind (arith, common_steps)

@@ -1,4 +1,5 @@
 use Rattle.std.proofs.Common.{◌≡◌, ◌⊎◌, ◌+◌, inl, inr, ◌∷◌, ℕ, get_or, length, Some, None, true, false, refl, sym, ap, ◌∙◌, arith}
+use Rattle.std.proofs.lemmas.Grind.{common_steps}
 use Rattle.std.specs.Prelude.{slice_get}
 use Rattle.arc_spec.specs.Classes.{classes_of, descends}
 use Rattle.arc_code.specs.declared.instr.Op.TheVariants.{ReadField}
@@ -120,3 +121,6 @@ returns-clause-went g c =
     let change = renamed_alters g.S.Store.out old c.take.new.self raised c.take.new.self.names value (λ x. with_count x (x.count + 1)) c.take.ensures.others c.raise.ensures in
     taking_went g.S.Store.out (program_of c.args.code.now) (spot c.args.self.now old) (Plain (ReadField c.args.class c.args.index)) value (value ∷ c.take.new.self.names) taking (with_names raised old.names) change _ refl refl
     (c.name.ensures ∙ ap (λ x. with_names x (value ∷ x.names)) c.push.ensures ∙ ap (λ ns. with_names (taking_by value raised) (value ∷ ns)) (ap (λ (x : Memory). x.names) c.raise.ensures.others))
+
+pub name-requires : goal.name-requires
+name-requires c = grind (arith, common_steps)
