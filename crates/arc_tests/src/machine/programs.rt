@@ -9,7 +9,6 @@ use arc_machine::stop::Stop;
 use arc_spec::event::{Event, Fault};
 use arc_tool::compile::compile;
 use std::alloc::{AllocError, Global};
-use std::test::Fail;
 
 /// Prints `abcdef`, reads a byte, and prints 7 divided by one more than it and a newline; its end
 /// is how many bytes it printed last.
@@ -29,163 +28,221 @@ pub fn machine_of<S: Store + Drop>(
     alloc: Global,
     source: &str,
     store: S,
-) -> Result<Box<Machine<S>>, Fail> {
-    let code = compile(alloc, source.as_bytes())?;
-    let machine = Machine::new(alloc, code, store)?;
-    Ok(Box::new(alloc, machine)?)
+) -> Option<Box<Machine<S>>> {
+    let code = compile(alloc, source.as_bytes()).ok()?;
+    let machine = Machine::new(alloc, code, store).ok()?;
+    Box::new(alloc, machine).ok()
 }
 
-/// Appends what the events show: bytes as they are, and of each object that ends its number and that of its class.
-fn show(alloc: Global, shown: &mut String, events: &[Event]) -> Result<(), AllocError> {
-    for event in events {
-        match *event {
-            Event::Byte(byte) => shown.push(byte as char)?,
-            Event::Dealloc(number, class) => {
-                let end = format!(in alloc; "({number} of {class})")?;
-                shown.push_str(end.as_str())?;
-            }
+/// Appends what an event shows: a byte as it is, and of an object that ends its number and that of its class.
+fn show(alloc: Global, shown: &mut String, event: &Event) -> Result<(), AllocError> {
+    match *event {
+        Event::Byte(byte) => shown.push(byte as char),
+        Event::Dealloc(number, class) => {
+            let end = format!(in alloc; "({number} of {class})")?;
+            shown.push_str(end.as_str())
         }
     }
-    Ok(())
 }
 
-/// What a source's program shows in single steps, how many these are, and how it stops.
-fn by_steps(
+/// Makes a step, appends what it shows, and says how it stops and what is left of the input.
+fn step<'a>(
     alloc: Global,
-    source: &str,
+    machine: &mut Machine<PlainStore>,
+    input: &'a [u8],
+    shown: &mut String,
+) -> Result<(Result<Stop, IoFault>, &'a [u8]), AllocError> {
+    let mut reader = Counted::new(input);
+    let mut writer = Counted::new(Vec::new(alloc));
+    let stop = machine.run(1, &mut reader, &mut writer);
+    drop(writer);
+    for event in machine.events() {
+        show(alloc, shown, event)?;
+    }
+    Ok((stop, *reader.get_ref()))
+}
+
+/// Makes single steps, appends what they show, and says how the last one stops.
+fn step_to_the_end(
+    alloc: Global,
+    machine: &mut Machine<PlainStore>,
     input: &[u8],
-) -> Result<(String, u64, Result<Stop, IoFault>), Fail> {
-    let mut machine = machine_of(alloc, source, PlainStore::new(alloc))?;
-    let mut shown = String::new(alloc);
-    let mut stop = Ok(Stop::StepsUsed);
+    shown: &mut String,
+) -> Result<Result<Stop, IoFault>, AllocError> {
     let mut rest = input;
     for _ in 0..100_000 {
-        let mut reader = Counted::new(rest);
-        let mut writer = Counted::new(Vec::new(alloc));
-        stop = machine.run(1, &mut reader, &mut writer);
-        show(alloc, &mut shown, machine.events())?;
+        let (stop, left) = step(alloc, machine, rest, shown)?;
         if stop != Ok(Stop::StepsUsed) {
-            break;
+            return Ok(stop);
         }
-        rest = *reader.get_ref();
+        rest = left;
     }
-    Ok((shown, machine.steps_done(), stop))
+    Ok(Ok(Stop::StepsUsed))
 }
 
-/// Whether a source's program prints and shows this and stops so, at once and in single steps.
-fn does(
-    alloc: Global,
-    source: &str,
-    input: &str,
-    stop: Stop,
-    printed: &str,
-    shown: &str,
-) -> Result<bool, Fail> {
-    let (all, steps, single) = by_steps(alloc, source, input.as_bytes())?;
+/// A program: its source, its input, how it stops, what it prints, and what it shows.
+type Row<'a> = (&'a str, &'a str, Stop, &'a str, &'a str);
+
+/// How many steps the program makes one by one, if they stop it and show what the row says.
+fn single_steps(alloc: Global, row: &Row) -> Option<u64> {
+    let (source, input, stop, _, shown) = *row;
+    let mut machine = machine_of(alloc, source, PlainStore::new(alloc))?;
+    let mut all = String::new(alloc);
+    let last = step_to_the_end(alloc, &mut machine, input.as_bytes(), &mut all);
+    let steps = machine.steps_done();
+    drop(machine);
+    (last == Ok(Ok(stop)) && all.as_str() == shown).then_some(steps)
+}
+
+/// How many steps the program makes at once, if they stop it and print what the row says.
+fn steps_at_once(alloc: Global, row: &Row) -> Option<u64> {
+    let (source, input, stop, printed, _) = *row;
     let mut machine = machine_of(alloc, source, PlainStore::new(alloc))?;
     let mut reader = Counted::new(input.as_bytes());
     let mut writer = Counted::new(Vec::new(alloc));
     let last = machine.run(100_000, &mut reader, &mut writer);
-    let same = last == Ok(stop) && single == last && steps == machine.steps_done();
-    Ok(same && writer.get_ref().as_slice() == printed.as_bytes() && all.as_str() == shown)
+    let steps = machine.steps_done();
+    drop(machine);
+    let is_printed = writer.get_ref().as_slice() == printed.as_bytes();
+    (last == Ok(stop) && is_printed).then_some(steps)
 }
 
-/// Whether a program with the classes, which reads nothing, prints and shows this and stops so.
-fn does_with_classes(
-    alloc: Global,
-    rest: &str,
-    stop: Stop,
-    printed: &str,
-    shown: &str,
-) -> Result<bool, Fail> {
-    let source = format!(in alloc; "{CLASSES}{rest}")?;
-    does(alloc, source.as_str(), "", stop, printed, shown)
+/// Whether the program does what the row says, in as many steps at once as one by one.
+fn does(alloc: Global, row: &Row) -> bool {
+    let steps = steps_at_once(alloc, row);
+    steps.is_some() && steps == single_steps(alloc, row)
 }
 
-/// Programs without classes: the input, the stop, and what is printed.
-#[test]
-fn numbers(rt: HostRuntime) -> Result<(), Fail> {
-    let counting = "int f(int a) { printf(\"x\"); return a - 1; } \
-        int main(void) { int n = 3; while (n) n = f(n); return 42; }";
-    let endless = "int f(void) { return f(); } int main(void) { return f(); }";
-    let rows = [
-        (PRINTING, "\x06rest", Stop::Ended(2), "abcdef1\n"),
-        (PRINTING, "", Stop::Fault(Fault::Arithmetic), "abcdef"),
-        (counting, "", Stop::Ended(42), "xxx"),
-        (endless, "", Stop::Fault(Fault::Depth), ""),
-    ];
-    for (source, input, stop, printed) in rows {
-        assert!(rt;
-            does(rt.alloc(), source, input, stop, printed, printed)?,
-            "{source}"
-        );
+/// Whether the program does what the row says, when its source stands after these classes.
+fn does_after(alloc: Global, classes: &str, row: &Row) -> bool {
+    let (rest, input, stop, printed, shown) = *row;
+    match format!(in alloc; "{classes}{rest}") {
+        Ok(source) => does(alloc, &(source.as_str(), input, stop, printed, shown)),
+        Err(_) => false,
     }
-    Ok(())
 }
 
-/// Programs with classes, which read nothing: the stop, what is printed, and what is shown.
-#[test]
-fn objects(rt: HostRuntime) -> Result<(), Fail> {
-    let alloc = rt.alloc();
-    let rows = [
-        (
-            "int main(void) { return [A ten] + [B ten] + [B next:20]; }",
-            Stop::Ended(46),
-            "",
-            "",
-        ),
-        (
-            "int main(void) { id x = [A new]; [x own]; }",
-            Stop::Fault(Fault::Unrecognized),
-            "",
-            "",
-        ),
-        (
-            "int main(void) { A *a = nil; return a->v; }",
-            Stop::Fault(Fault::NilField),
-            "",
-            "",
-        ),
-        (
-            "int main(void) { B *b = [A new]; b->w = 5; }",
-            Stop::Fault(Fault::FieldClass),
-            "",
-            "",
-        ),
-        (
-            "int main(void) { A *a = [A new]; a->v = 5; A *b = a; a = nil; printf(\"h\"); \
-            int r = b->v; b = nil; printf(\"d\"); return r; }",
-            Stop::Ended(5),
-            "hd",
-            "h(1 of 1)d",
-        ),
-        (
-            "int main(void) { [B new]; printf(\"e\"); return 7; }",
-            Stop::Ended(7),
-            "e",
-            "(1 of 2)(2 of 1)e",
-        ),
-    ];
-    for (rest, stop, printed, shown) in rows {
-        assert!(rt;
-            does_with_classes(alloc, rest, stop, printed, shown)?,
-            "{rest}"
-        );
+/// The first of these programs that does something else after these classes, if one does.
+fn first_other<'a>(alloc: Global, classes: &str, rows: &[Row<'a>]) -> Option<&'a str> {
+    for row in rows {
+        if !does_after(alloc, classes, row) {
+            return Some(row.0);
+        }
     }
-    Ok(())
+    None
+}
+
+/// Programs without classes.
+static WITHOUT_CLASSES: [Row; 4] = [
+    (
+        PRINTING,
+        "\x06rest",
+        Stop::Ended(2),
+        "abcdef1\n",
+        "abcdef1\n",
+    ),
+    (
+        PRINTING,
+        "",
+        Stop::Fault(Fault::Arithmetic),
+        "abcdef",
+        "abcdef",
+    ),
+    (
+        "int f(int a) { printf(\"x\"); return a - 1; } \
+        int main(void) { int n = 3; while (n) n = f(n); return 42; }",
+        "",
+        Stop::Ended(42),
+        "xxx",
+        "xxx",
+    ),
+    (
+        "int f(void) { return f(); } int main(void) { return f(); }",
+        "",
+        Stop::Fault(Fault::Depth),
+        "",
+        "",
+    ),
+];
+
+#[test]
+fn numbers(rt: HostRuntime) {
+    assert_eq!(rt; first_other(rt.alloc(), "", &WITHOUT_CLASSES), None);
+}
+
+/// Programs, as they stand after the classes.
+static WITH_CLASSES: [Row; 6] = [
+    (
+        "int main(void) { return [A ten] + [B ten] + [B next:20]; }",
+        "",
+        Stop::Ended(46),
+        "",
+        "",
+    ),
+    (
+        "int main(void) { id x = [A new]; [x own]; }",
+        "",
+        Stop::Fault(Fault::Unrecognized),
+        "",
+        "",
+    ),
+    (
+        "int main(void) { A *a = nil; return a->v; }",
+        "",
+        Stop::Fault(Fault::NilField),
+        "",
+        "",
+    ),
+    (
+        "int main(void) { B *b = [A new]; b->w = 5; }",
+        "",
+        Stop::Fault(Fault::FieldClass),
+        "",
+        "",
+    ),
+    (
+        "int main(void) { A *a = [A new]; a->v = 5; A *b = a; a = nil; printf(\"h\"); \
+        int r = b->v; b = nil; printf(\"d\"); return r; }",
+        "",
+        Stop::Ended(5),
+        "hd",
+        "h(1 of 1)d",
+    ),
+    (
+        "int main(void) { [B new]; printf(\"e\"); return 7; }",
+        "",
+        Stop::Ended(7),
+        "e",
+        "(1 of 2)(2 of 1)e",
+    ),
+];
+
+#[test]
+fn objects(rt: HostRuntime) {
+    assert_eq!(rt; first_other(rt.alloc(), CLASSES, &WITH_CLASSES), None);
+}
+
+/// Faults, each with its number and its name.
+static FAULTS: [(Fault, u8, &str); 6] = [
+    (Fault::Arithmetic, 81, "Arithmetic"),
+    (Fault::Unrecognized, 82, "Unrecognized"),
+    (Fault::NilField, 83, "NilField"),
+    (Fault::FieldClass, 84, "FieldClass"),
+    (Fault::Depth, 85, "Depth"),
+    (Fault::Resurrected, 86, "Resurrected"),
+];
+
+/// Whether each fault has its number and its name.
+fn are_reported(faults: &[(Fault, u8, &str)]) -> bool {
+    for (fault, number, name) in faults {
+        if fault_number(*fault) != *number || fault_name(*fault) != *name {
+            return false;
+        }
+    }
+    true
 }
 
 #[test]
 fn faults_are_reported(rt: HostRuntime) {
-    let rows = [
-        (Fault::Arithmetic, 81, "Arithmetic"),
-        (Fault::Unrecognized, 82, "Unrecognized"),
-        (Fault::NilField, 83, "NilField"),
-        (Fault::FieldClass, 84, "FieldClass"),
-        (Fault::Depth, 85, "Depth"),
-        (Fault::Resurrected, 86, "Resurrected"),
-    ];
-    for (fault, number, name) in rows {
-        assert_eq!(rt; (fault_number(fault), fault_name(fault)), (number, name));
-    }
+    assert!(rt; are_reported(&FAULTS));
 }

@@ -7,8 +7,7 @@ use arc_heap::plain::PlainStore;
 use arc_machine::stop::Stop;
 use arc_tool::run::{ToolFault, run_text};
 use arc_tool::trace::trace_text;
-use std::alloc::{AllocError, Global};
-use std::test::Fail;
+use std::alloc::Global;
 
 /// A program that prints, makes an object, and ends with a number below 0.
 const SOURCE: &[u8] = b"@interface Leaf:NSObject @end @implementation Leaf @end \
@@ -20,17 +19,11 @@ const TEXT: &[u8] = b"a\nb";
 /// What it shows.
 const LINES: &[u8] = b"out 610a\ndealloc 1 Leaf\ndealloc 2 Leaf\nout 62\nend -1\n";
 
-/// How a source was left on a reader that fails, what the writer took, and how often each of them failed.
-#[derive(Drop)]
-struct Left {
-    answer: Result<Stop, ToolFault>,
-    taken: Vec<u8>,
-    unread: u64,
-    unwritten: u64,
-}
+/// How a source ends on a reader that fails, and how often the reader and the writer have failed then.
+type End = (Result<Stop, ToolFault>, u64, u64);
 
-/// Runs a source on a reader that fails.
-fn ran(alloc: Global, source: &[u8], writer: Narrow) -> Result<Left, AllocError> {
+/// Whether a source that runs on a reader that fails ends so, after the writer took this.
+fn runs(alloc: Global, source: &[u8], writer: Narrow, end: End, taken: &[u8]) -> bool {
     let mut reader = Counted::new(Broken);
     let mut writer = Counted::new(writer);
     let answer = run_text(
@@ -41,16 +34,12 @@ fn ran(alloc: Global, source: &[u8], writer: Narrow) -> Result<Left, AllocError>
         &mut reader,
         &mut writer,
     );
-    Ok(Left {
-        answer,
-        taken: writer.get_ref().taken.clone()?,
-        unread: reader.failures(),
-        unwritten: writer.failures(),
-    })
+    let is_taken = writer.get_ref().taken.as_slice() == taken;
+    is_taken && (answer, reader.failures(), writer.failures()) == end
 }
 
-/// Traces a source on a reader that fails.
-fn traced(alloc: Global, source: &[u8], writer: Narrow) -> Result<Left, AllocError> {
+/// The same of a source that is traced.
+fn traces(alloc: Global, source: &[u8], writer: Narrow, end: End, taken: &[u8]) -> bool {
     let mut reader = Counted::new(Broken);
     let mut writer = Counted::new(writer);
     let answer = trace_text(
@@ -61,91 +50,95 @@ fn traced(alloc: Global, source: &[u8], writer: Narrow) -> Result<Left, AllocErr
         &mut reader,
         &mut writer,
     );
-    Ok(Left {
-        answer,
-        taken: writer.get_ref().taken.clone()?,
-        unread: reader.failures(),
-        unwritten: writer.failures(),
-    })
+    let is_taken = writer.get_ref().taken.as_slice() == taken;
+    is_taken && (answer, reader.failures(), writer.failures()) == end
 }
 
-/// The answer where the writer fails.
-const UNWRITTEN: Result<Stop, ToolFault> = Err(ToolFault::Io(IoFault::Write));
+/// How a source ends whose writer fails, which is reported once.
+const UNWRITTEN: End = (Err(ToolFault::Io(IoFault::Write)), 0, 1);
 
-/// Whether a run on a writer with room for this holds it, and breaks after it, once.
-fn run_breaks_after(alloc: Global, text: &[u8]) -> Result<bool, AllocError> {
-    let left = ran(alloc, SOURCE, with_room(alloc, text.len()))?;
-    Ok(left.answer == UNWRITTEN && left.unwritten == 1 && left.taken.as_slice() == text)
+/// Whether a run on a writer that has no room for all of the text writes what there is room for.
+fn run_breaks(alloc: Global, text: &[u8]) -> bool {
+    for room in 0..text.len() {
+        if !runs(
+            alloc,
+            SOURCE,
+            with_room(alloc, room),
+            UNWRITTEN,
+            &text[..room],
+        ) {
+            return false;
+        }
+    }
+    true
 }
 
-/// Whether a trace on a writer with room for this holds it, and breaks after it, once.
-fn trace_breaks_after(alloc: Global, lines: &[u8]) -> Result<bool, AllocError> {
-    let left = traced(alloc, SOURCE, with_room(alloc, lines.len()))?;
-    Ok(left.answer == UNWRITTEN && left.unwritten == 1 && left.taken.as_slice() == lines)
+/// The same of a trace.
+fn trace_breaks(alloc: Global, lines: &[u8]) -> bool {
+    for room in 0..lines.len() {
+        if !traces(
+            alloc,
+            SOURCE,
+            with_room(alloc, room),
+            UNWRITTEN,
+            &lines[..room],
+        ) {
+            return false;
+        }
+    }
+    true
 }
 
 /// A writer that holds what it had room for of the text is reported as the fault, once; one with room for it all isn't.
 /// Nothing is read after it failed.
 #[test]
-fn a_writer_that_fails(rt: HostRuntime) -> Result<(), Fail> {
+fn a_writer_that_fails(rt: HostRuntime) {
     let alloc = rt.alloc();
-    for room in 0..TEXT.len() {
-        assert!(rt; run_breaks_after(alloc, &TEXT[..room])?);
-    }
-    for room in 0..LINES.len() {
-        assert!(rt; trace_breaks_after(alloc, &LINES[..room])?);
-    }
     let source = b"int main(void) { printf(\"a\"); getchar(); }";
-    let left = traced(alloc, source, with_room(alloc, 0))?;
-    assert!(rt; left.answer == UNWRITTEN && left.unread == 0);
-    Ok(())
-}
-
-/// Whether the source came to its end, and this was written without a failure.
-fn ended(left: &Left, taken: &[u8]) -> bool {
-    left.answer == Ok(Stop::Ended(-1)) && left.unwritten == 0 && left.taken.as_slice() == taken
+    assert!(rt; run_breaks(alloc, TEXT) && trace_breaks(alloc, LINES));
+    assert!(rt; traces(alloc, source, with_room(alloc, 0), UNWRITTEN, b""));
 }
 
 #[test]
-fn a_writer_with_room(rt: HostRuntime) -> Result<(), Fail> {
+fn a_writer_with_room(rt: HostRuntime) {
     let alloc = rt.alloc();
-    let ran = ran(alloc, SOURCE, with_room(alloc, TEXT.len()))?;
-    let traced = traced(alloc, SOURCE, with_room(alloc, LINES.len()))?;
-    assert!(rt; ended(&ran, TEXT) && ended(&traced, LINES));
-    Ok(())
+    let end = (Ok(Stop::Ended(-1)), 0, 0);
+    let ran = runs(alloc, SOURCE, with_room(alloc, TEXT.len()), end, TEXT);
+    let traced = traces(alloc, SOURCE, with_room(alloc, LINES.len()), end, LINES);
+    assert!(rt; ran && traced);
 }
 
 #[test]
-fn a_flush_that_fails(rt: HostRuntime) -> Result<(), Fail> {
+fn a_flush_that_fails(rt: HostRuntime) {
     let alloc = rt.alloc();
-    let ran = ran(alloc, SOURCE, unflushed(alloc))?;
-    let traced = traced(alloc, SOURCE, unflushed(alloc))?;
-    assert!(rt; ran.answer == UNWRITTEN && ran.taken.as_slice() == TEXT);
-    assert!(rt; traced.answer == UNWRITTEN && traced.taken.as_slice() == LINES);
-    Ok(())
-}
-
-/// Whether the reader broke the source, once, after this was written.
-fn is_unread(left: &Left, taken: &[u8]) -> bool {
-    left.answer == Err(ToolFault::Io(IoFault::Read))
-        && left.unread == 1
-        && left.taken.as_slice() == taken
+    let ran = runs(alloc, SOURCE, unflushed(alloc), UNWRITTEN, TEXT);
+    let traced = traces(alloc, SOURCE, unflushed(alloc), UNWRITTEN, LINES);
+    assert!(rt; ran && traced);
 }
 
 #[test]
-fn a_reader_that_fails(rt: HostRuntime) -> Result<(), Fail> {
+fn a_reader_that_fails(rt: HostRuntime) {
     let alloc = rt.alloc();
     let source = b"int main(void) { printf(\"a\"); getchar(); printf(\"b\"); }";
-    let ran = ran(alloc, source, with_room(alloc, 100))?;
-    let traced = traced(alloc, source, with_room(alloc, 100))?;
-    assert!(rt; is_unread(&ran, b"a"));
-    assert!(rt; is_unread(&traced, b"out 61\nio 91 Read\n"));
-    Ok(())
+    let end = (Err(ToolFault::Io(IoFault::Read)), 1, 0);
+    let ran = runs(alloc, source, with_room(alloc, 100), end, b"a");
+    let lines = b"out 61\nio 91 Read\n";
+    let traced = traces(alloc, source, with_room(alloc, 100), end, lines);
+    assert!(rt; ran && traced);
 }
 
-#[test]
-fn steps_that_go_on(rt: HostRuntime) -> Result<(), Fail> {
-    let alloc = rt.alloc();
+/// Whether each byte of the text is this one.
+fn has_only(text: &[u8], byte: u8) -> bool {
+    for each in text {
+        if *each != byte {
+            return false;
+        }
+    }
+    true
+}
+
+/// Whether a machine that prints without an end prints something in its first 1,000 steps and more in the next ones.
+fn goes_on(alloc: Global) -> Option<bool> {
     let source = "int main(void){while(1)printf(\"a\");}";
     let mut machine = machine_of(alloc, source, PlainStore::new(alloc))?;
     let mut reader = Counted::new(b"".as_slice());
@@ -153,10 +146,13 @@ fn steps_that_go_on(rt: HostRuntime) -> Result<(), Fail> {
     let stop = machine.run(1000, &mut reader, &mut writer);
     let first = writer.get_ref().len();
     let again = machine.run(1000, &mut reader, &mut writer);
-    assert!(rt; stop == Ok(Stop::StepsUsed) && again == stop);
-    assert!(rt; 0 < first && first < writer.get_ref().len());
-    for byte in writer.get_ref() {
-        assert_eq!(rt; *byte, b'a');
-    }
-    Ok(())
+    drop(machine);
+    let grows = 0 < first && first < writer.get_ref().len();
+    let goes_on = stop == Ok(Stop::StepsUsed) && again == stop;
+    Some(goes_on && grows && has_only(writer.get_ref(), b'a'))
+}
+
+#[test]
+fn steps_that_go_on(rt: HostRuntime) {
+    assert_eq!(rt; goes_on(rt.alloc()), Some(true));
 }

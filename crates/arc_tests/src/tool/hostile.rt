@@ -3,7 +3,6 @@ use arc_code::counted::Counted;
 use arc_machine::stop::Stop;
 use arc_tool::run::{ToolFault, run_text};
 use std::alloc::{AllocError, Global};
-use std::test::Fail;
 
 /// The number and the place of a source's refusal, as a run answers it.
 fn refused(alloc: Global, source: &[u8]) -> Option<(u8, usize)> {
@@ -23,32 +22,37 @@ fn append_times(text: &mut Vec<u8>, part: &[u8], times: usize) -> Result<(), All
     Ok(())
 }
 
-/// No byte alone is a program. A letter can begin a declaration, which then lacks what comes after it.
-#[test]
-fn single_bytes(rt: HostRuntime) -> Result<(), Fail> {
+/// Whether this byte alone is refused: a blank one for the lack of a main function, and a letter, which can begin a
+/// declaration, for the lack of what comes after it.
+fn is_refused(alloc: Global, byte: u8) -> bool {
+    let is_blank = matches!(byte, b' ' | b'\n' | b'\t' | b'\r' | 12);
+    let is_name = byte == b'_' || byte.is_ascii_alphabetic();
+    match refused(alloc, &[byte]) {
+        Some((number, at)) => (number == 29) == is_blank && at == usize::from(is_name),
+        None => false,
+    }
+}
+
+/// The first byte that isn't, if there is one.
+fn first_accepted(alloc: Global) -> Option<u8> {
     for byte in 0..=255 {
-        let source = [byte];
-        let is_blank = byte == b' '
-            || byte == b'\n'
-            || byte == b'\t'
-            || byte == b'\r'
-            || byte == 12;
-        let is_name = byte == b'_' || byte.is_ascii_alphabetic();
-        match refused(rt.alloc(), &source) {
-            Some((number, at)) => {
-                assert_eq!(rt; number == 29, is_blank);
-                assert_eq!(rt; at, usize::from(is_name));
-            }
-            None => assert!(rt; false),
+        if !is_refused(alloc, byte) {
+            return Some(byte);
         }
     }
-    Ok(())
+    None
+}
+
+/// No byte alone is a program.
+#[test]
+fn single_bytes(rt: HostRuntime) {
+    assert_eq!(rt; first_accepted(rt.alloc()), None);
 }
 
 /// What a source of so many spaces is refused for.
-fn refused_spaces(alloc: Global, count: usize) -> Result<Option<(u8, usize)>, AllocError> {
-    let spaces = vec![in alloc; b' '; count]?;
-    Ok(refused(alloc, &spaces))
+fn refused_spaces(alloc: Global, count: usize) -> Option<(u8, usize)> {
+    let spaces = vec![in alloc; b' '; count].ok()?;
+    refused(alloc, &spaces)
 }
 
 /// A source with 87,000 calls.
@@ -59,25 +63,30 @@ fn many_calls(alloc: Global) -> Result<Vec<u8>, AllocError> {
     Ok(calls)
 }
 
-#[test]
-fn long_sources(rt: HostRuntime) -> Result<(), Fail> {
-    let alloc = rt.alloc();
-    assert_eq!(rt; refused_spaces(alloc, 1_048_576)?, Some((29, 0)));
-    assert_eq!(rt; refused_spaces(alloc, 1_048_577)?, Some((6, 1_048_576)));
-    let calls = many_calls(alloc)?;
+/// How a source that reads nothing ends, and how many bytes it prints.
+fn run_of(alloc: Global, source: &[u8]) -> (Result<Stop, ToolFault>, usize) {
     let mut reader = Counted::new(b"".as_slice());
     let mut writer = Counted::new(Vec::new(alloc));
     let stop = run_text(
         alloc,
-        &calls,
+        source,
         1_048_576,
         1_000_000_000,
         &mut reader,
         &mut writer,
     );
-    assert_eq!(rt;
-        (stop, writer.get_ref().len()),
-        (Ok(Stop::Ended(0)), 87_000)
+    (stop, writer.get_ref().len())
+}
+
+#[test]
+fn long_sources(rt: HostRuntime) {
+    let alloc = rt.alloc();
+    let (longest, longer) = (
+        refused_spaces(alloc, 1_048_576),
+        refused_spaces(alloc, 1_048_577),
     );
-    Ok(())
+    assert_eq!(rt; (longest, longer), (Some((29, 0)), Some((6, 1_048_576))));
+    let calls = many_calls(alloc).expect(&rt, "no memory");
+    let run = run_of(alloc, &calls);
+    assert!(rt; run == (Ok(Stop::Ended(0)), 87_000));
 }

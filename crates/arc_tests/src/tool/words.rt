@@ -1,15 +1,22 @@
 //! What words say.
-use arc_tool::request::{Command, WordsFault};
+use arc_tool::request::{Command, Words, WordsFault};
 use arc_tool::words::words;
 use std::alloc::{AllocError, Global};
-use std::test::Fail;
 
-pub fn texts(alloc: Global, line: &[&str]) -> Result<Vec<String>, AllocError> {
+fn texts(alloc: Global, line: &[&str]) -> Result<Vec<String>, AllocError> {
     let mut all = Vec::new(alloc);
     for word in line {
         all.push(String::from_str(alloc, word)?)?;
     }
     Ok(all)
+}
+
+/// What the words of a line say.
+pub fn said(alloc: Global, line: &[&str]) -> Result<Words, WordsFault> {
+    match texts(alloc, line) {
+        Ok(all) => words(alloc, &all),
+        Err(_) => Err(WordsFault::Memory),
+    }
 }
 
 /// Words, each with the command, the file and the number of steps that they say.
@@ -42,46 +49,56 @@ static COMMANDS: [(&[&str], Command, &str, u64); 5] = [
 ];
 
 /// Whether the words say this command, file and number of steps.
-fn say(alloc: Global, line: &[&str], want: (Command, &str, u64)) -> Result<bool, Fail> {
-    let said = words(alloc, &texts(alloc, line)?)?;
-    Ok((said.command, said.file.as_str(), said.steps) == want)
+fn say(alloc: Global, line: &[&str], command: Command, file: &str, steps: u64) -> bool {
+    match said(alloc, line) {
+        Ok(said) => said.command == command && said.file.as_str() == file && said.steps == steps,
+        Err(_) => false,
+    }
+}
+
+/// The first file whose words say something else, if there is one.
+fn first_other<'a>(alloc: Global, rows: &[(&[&str], Command, &'a str, u64)]) -> Option<&'a str> {
+    for (line, command, file, steps) in rows {
+        if !say(alloc, line, *command, file, *steps) {
+            return Some(*file);
+        }
+    }
+    None
 }
 
 #[test]
-fn commands(rt: HostRuntime) -> Result<(), Fail> {
-    let alloc = rt.alloc();
-    for (line, command, file, steps) in &COMMANDS {
-        assert!(rt; say(alloc, line, (*command, *file, *steps))?, "at {file}");
-    }
-    Ok(())
+fn commands(rt: HostRuntime) {
+    assert_eq!(rt; first_other(rt.alloc(), &COMMANDS), None);
+}
+
+/// Whether the words are none that can be used.
+fn are_misused(alloc: Global, line: &[&str]) -> bool {
+    matches!(said(alloc, line), Err(WordsFault::Usage))
 }
 
 #[test]
-fn refused_words(rt: HostRuntime) -> Result<(), Fail> {
+fn refused_words(rt: HostRuntime) {
     let alloc = rt.alloc();
-    let rows: [&[&str]; 3] = [&[], &["arcc"], &["arcc", "run", "a.m", "--steps", ""]];
-    for line in rows {
-        let said = words(alloc, &texts(alloc, line)?);
-        assert!(rt; matches!(said, Err(WordsFault::Usage)));
-    }
-    Ok(())
+    let (nothing, program) = (are_misused(alloc, &[]), are_misused(alloc, &["arcc"]));
+    let steps = are_misused(alloc, &["arcc", "run", "a.m", "--steps", ""]);
+    assert_eq!(rt; (nothing, program, steps), (true, true, true));
 }
 
-/// The help that the words ask for.
-fn help_text(alloc: Global, line: &[&str]) -> Result<Option<String>, AllocError> {
-    let all = texts(alloc, line)?;
-    match words(alloc, &all) {
-        Err(WordsFault::Help(text)) => Ok(Some(text)),
-        Err(WordsFault::Usage) | Err(WordsFault::Memory) | Ok(_) => Ok(None),
+/// Whether this word asks for the help.
+fn helps(alloc: Global, word: &str) -> bool {
+    match said(alloc, &["arcc", word]) {
+        Err(WordsFault::Help(text)) => text.as_str().contains("check"),
+        Err(WordsFault::Usage) | Err(WordsFault::Memory) | Ok(_) => false,
     }
 }
 
 #[test]
-fn help(rt: HostRuntime) -> Result<(), Fail> {
+fn help(rt: HostRuntime) {
     let alloc = rt.alloc();
-    for word in ["--help", "-h", "help"] {
-        let text = help_text(alloc, &["arcc", word])?.ok_or("no help")?;
-        assert!(rt; text.as_str().contains("check"));
-    }
-    Ok(())
+    let helped = (
+        helps(alloc, "--help"),
+        helps(alloc, "-h"),
+        helps(alloc, "help"),
+    );
+    assert_eq!(rt; helped, (true, true, true));
 }
