@@ -5,8 +5,5 @@ use arc_fault::check::CheckFault;
 #[test]
 fn reports_want_of_memory(rt: HostRuntime) {
     let fault = CheckFault::Memory;
-    assert_eq!(rt;
-        (fault.number(), fault.name(), fault.at()),
-        (51, "Memory", 0)
-    );
+    assert!(rt; (fault.number(), fault.at()) == (51, 0) && fault.name() == "Memory");
 }

@@ -64,8 +64,10 @@ fn got_after(times: u32) -> (Result<Option<u8>, Failed>, u64, u32) {
 
 #[test]
 fn interruptions_are_retried(rt: HostRuntime) {
-    assert_eq!(rt; got_after(99), (Ok(Some(b'A')), 0, 0));
-    assert_eq!(rt; got_after(100), (Err(Failed), 1, 0));
+    assert_eq!(rt;
+        (got_after(99), got_after(100)),
+        ((Ok(Some(b'A')), 0, 0), (Err(Failed), 1, 0))
+    );
 }
 
 /// Each instruction.
@@ -163,8 +165,8 @@ fn listed_on<W: Output>(
 fn code_is_listed(rt: HostRuntime) {
     let mut writer = Counted::new(Vec::new(rt.alloc()));
     let answered = listed_on(rt.alloc(), &mut writer);
-    assert_eq!(rt; answered, Ok(((Ok(()), 0), (Ok(()), 0))));
-    assert_eq!(rt; writer.get_ref().as_slice(), LISTING.as_bytes());
+    let is_listed = writer.get_ref().as_slice() == LISTING.as_bytes();
+    assert!(rt; answered == Ok(((Ok(()), 0), (Ok(()), 0))) && is_listed);
 }
 
 /// A write of no byte is a failure, and so is a flush that fails.
@@ -175,18 +177,13 @@ fn a_failing_writer_ends_a_listing(rt: HostRuntime) {
         room: 12,
     });
     let answered = listed_on(rt.alloc(), &mut writer);
-    assert_eq!(rt; answered, Ok(((Err(IoFault::Write), 1), (Err(Failed), 2))));
-    assert_eq!(rt;
-        writer.get_ref().taken.as_slice(),
-        b"0 Num -42\n1 ".as_slice()
-    );
+    let is_begun = writer.get_ref().taken.as_slice() == b"0 Num -42\n1 ".as_slice();
+    assert!(rt; answered == Ok(((Err(IoFault::Write), 1), (Err(Failed), 2))) && is_begun);
 }
 
 #[test]
 fn faults_are_reported(rt: HostRuntime) {
     let (read, write) = (IoFault::Read, IoFault::Write);
-    assert_eq!(rt;
-        (read.number(), read.name(), write.number(), write.name()),
-        (91, "Read", 92, "Write")
-    );
+    assert_eq!(rt; (read.number(), write.number()), (91, 92));
+    assert!(rt; read.name() == "Read" && write.name() == "Write");
 }

@@ -4,12 +4,14 @@ use arc_emit::fault::EmitFault;
 
 #[test]
 fn counts_instructions(rt: HostRuntime) {
-    assert_eq!(rt; fits(16_777_216), Ok(()));
-    assert_eq!(rt; fits(16_777_217), Err(EmitFault::TooLarge));
+    assert_eq!(rt;
+        (fits(16_777_216), fits(16_777_217)),
+        (Ok(()), Err(EmitFault::TooLarge))
+    );
 }
 
 #[test]
 fn names_faults(rt: HostRuntime) {
     let fault = EmitFault::TooLarge;
-    assert_eq!(rt; (fault.number(), fault.name()), (71, "TooLarge"));
+    assert!(rt; fault.number() == 71 && fault.name() == "TooLarge");
 }

@@ -23,12 +23,20 @@ static PLACES: [(usize, u64); 8] = [
     (1, 65),
 ];
 
+/// Whether the store gives blocks for so many words at these places, one after the other.
+fn gives_at(store: &mut PlainStore, places: &[(usize, u64)]) -> bool {
+    for (words, at) in places {
+        if place_in(store, *words) != Some(*at) {
+            return false;
+        }
+    }
+    true
+}
+
 #[test]
 fn blocks_have_the_least_size(rt: HostRuntime) {
     let mut store = PlainStore::new(rt.alloc());
-    for (words, at) in &PLACES {
-        assert_eq!(rt; place_in(&mut store, *words), Some(*at));
-    }
+    assert!(rt; gives_at(&mut store, &PLACES));
 }
 
 /// Where blocks of 4, 64 and 4 words were, which were taken and then given back, and what the last one held.
@@ -50,10 +58,8 @@ fn give_three(store: &mut PlainStore) -> Option<(u64, u64, u64, u64)> {
 fn free_blocks_are_kept_by_size(rt: HostRuntime) {
     let mut store = PlainStore::new(rt.alloc());
     let (small, large, last, held) = give_three(&mut store).expect(&rt, "no memory");
-    assert_eq!(rt; held, u64::MAX);
-    for (words, at) in &[(8, 19), (4, last), (50, large), (4, small), (4, 21)] {
-        assert_eq!(rt; place_in(&mut store, *words), Some(*at));
-    }
+    let places = [(8, 19), (4, last), (50, large), (4, small), (4, 21)];
+    assert!(rt; held == u64::MAX && gives_at(&mut store, &places));
 }
 
 /// Where a block of 8 words is, and what its last word is at first. Then that becomes 1, and the block is given back.
@@ -66,10 +72,18 @@ fn use_block(store: &mut PlainStore) -> Option<(u64, u64)> {
     Some(seen)
 }
 
+/// Whether a thousand blocks in turn are at the first place, and clear at first.
+fn uses_one_place(store: &mut PlainStore) -> bool {
+    for _ in 0..1000 {
+        if use_block(store) != Some((1, 0)) {
+            return false;
+        }
+    }
+    true
+}
+
 #[test]
 fn a_thousand_blocks_in_turn_need_no_more_room(rt: HostRuntime) {
     let mut store = PlainStore::new(rt.alloc());
-    for _ in 0..1000 {
-        assert_eq!(rt; use_block(&mut store), Some((1, 0)));
-    }
+    assert!(rt; uses_one_place(&mut store));
 }

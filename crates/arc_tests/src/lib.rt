@@ -1,5 +1,5 @@
-//! Tests of the public calls of the crates below arc_tool and arc_machine, one module for each crate: what a row of `arc_rows` can't
-//! show, and one call of each kind.
+//! Tests of the public calls of the crates, one module for each crate: what a row of `arc_rows` can't show, and one call of each
+//! kind.
 #![tactic(auto)]
 
 #[cfg(test)]
@@ -10,6 +10,8 @@ mod check;
 mod class;
 #[cfg(test)]
 mod code;
+#[cfg(test)]
+mod devices;
 #[cfg(test)]
 mod emit;
 #[cfg(test)]
@@ -23,8 +25,12 @@ mod lex;
 #[cfg(test)]
 mod lower;
 #[cfg(test)]
+mod machine;
+#[cfg(test)]
 mod parse;
 #[cfg(test)]
 mod source;
 #[cfg(test)]
 mod spec;
+#[cfg(test)]
+mod tool;

@@ -9,6 +9,7 @@ use arc_checked::program::Checked;
 use arc_class::table::ClassTable;
 use arc_code::instr::{Instr, Op};
 use arc_family::owned::own;
+use arc_ir::action::Action;
 use arc_lower::list::list_actions;
 use arc_spec::class::Gives;
 use std::alloc::Global;
@@ -42,9 +43,13 @@ fn listed_kept(alloc: Global, program: &Checked) -> Result<Listed, Fail>
 {
     let owned = own(alloc, program)?;
     let actions = list_actions(alloc, &owned)?;
+    Ok(seen_of(&actions))
+}
+
+fn seen_of(actions: &[Action]) -> Listed {
     let calls = matches!(actions.get(0), Some(Instr::Call(0, Gives::Number)));
     let has_number = matches!(actions.get(4), Some(Instr::Plain(Op::Num(7))));
-    Ok((calls, has_number, actions.len()))
+    (calls, has_number, actions.len())
 }
 
 /// A call of `main` and its end, where the ends of objects go on, `main` and the two functions that do nothing.

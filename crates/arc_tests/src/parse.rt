@@ -38,25 +38,22 @@ fn fault_of(alloc: Global, source: &[u8]) -> Option<ParseFault> {
 #[test]
 fn refuses(rt: HostRuntime) {
     let alloc = rt.alloc();
-    assert_eq!(rt;
+    let faults = (
         fault_of(alloc, b"int main(void) { 1 + ; }"),
-        Some(ParseFault::Unexpected(21))
-    );
-    assert_eq!(rt;
         fault_of(alloc, b"int main(void) { return 1 . 2; }"),
-        Some(ParseFault::Unexpected(26))
     );
+    let (first, second) = (ParseFault::Unexpected(21), ParseFault::Unexpected(26));
+    assert!(rt; faults == (Some(first), Some(second)));
+}
+
+/// Whether this is the number, the name and the place of a fault.
+fn is_named(fault: ParseFault, number: u8, name: &str, at: usize) -> bool {
+    fault.number() == number && fault.name() == name && fault.at() == at
 }
 
 #[test]
 fn names_faults(rt: HostRuntime) {
-    let faults = [
-        ParseFault::Unexpected(9),
-        ParseFault::TooDeep(8),
-        ParseFault::Memory,
-    ];
-    assert_eq!(rt;
-        faults.each_ref().map(|f| (f.number(), f.name(), f.at())),
-        [(11, "Unexpected", 9), (12, "TooDeep", 8), (13, "Memory", 0)]
-    );
+    let unexpected = is_named(ParseFault::Unexpected(9), 11, "Unexpected", 9);
+    let deep = is_named(ParseFault::TooDeep(8), 12, "TooDeep", 8);
+    assert!(rt; unexpected && deep && is_named(ParseFault::Memory, 13, "Memory", 0));
 }

@@ -12,7 +12,6 @@ use arc_heap::store::{Ref, Store};
 use arc_machine::stop::Stop;
 use arc_spec::event::Event;
 use std::alloc::Global;
-use std::test::Fail;
 
 /// A store that gives so many of another's blocks, and then no more.
 #[derive(Drop)]
@@ -49,12 +48,12 @@ impl<S: Store + Drop> Store for Few<S> {
     }
 }
 
-/// The failure that breaks the printing program on these devices, where a second run answers it again and makes no step.
+/// The failure that breaks the printing program on these devices, if a second run answers it again and makes no step.
 fn failure_of<R: Input, W: Output>(
     alloc: Global,
     reader: &mut Counted<R>,
     writer: &mut Counted<W>,
-) -> Result<Option<IoFault>, Fail>
+) -> Option<IoFault>
     requires reads { failures_of reader.old ≡ 0 }
     requires writes { failures_of writer.old ≡ 0 }
 {
@@ -63,77 +62,77 @@ fn failure_of<R: Input, W: Output>(
     let steps = machine.steps_done();
     let second = machine.run(1_000, reader, writer);
     if first != second || machine.steps_done() != steps {
-        return Ok(None);
+        return None;
     }
-    Ok(first.err())
+    first.err()
 }
 
 #[test]
-fn a_failing_writer_breaks_a_step(rt: HostRuntime) -> Result<(), Fail> {
+fn a_failing_writer_breaks_a_step(rt: HostRuntime) {
     let mut reader = Counted::new(b"\x06".as_slice());
     let mut writer = Counted::new(with_room(rt.alloc(), 2));
-    let fault = failure_of(rt.alloc(), &mut reader, &mut writer)?;
-    assert_eq!(rt; (fault, writer.failures()), (Some(IoFault::Write), 1));
-    assert_eq!(rt; writer.get_ref().taken.as_slice(), b"ab".as_slice());
-    Ok(())
+    let fault = failure_of(rt.alloc(), &mut reader, &mut writer);
+    let is_taken = writer.get_ref().taken.as_slice() == b"ab".as_slice();
+    assert!(rt; fault == Some(IoFault::Write) && writer.failures() == 1 && is_taken);
 }
 
-#[test]
-fn a_broken_step_has_the_events_that_it_gave(rt: HostRuntime) -> Result<(), Fail> {
-    let mut machine = machine_of(rt.alloc(), PRINTING, PlainStore::new(rt.alloc()))?;
+/// Whether the machine of the printing program is broken by a writer with room for two bytes, and shows these then.
+fn shows_two_bytes(alloc: Global) -> Option<bool> {
+    let mut machine = machine_of(alloc, PRINTING, PlainStore::new(alloc))?;
     let mut reader = Counted::new(b"".as_slice());
-    let mut writer = Counted::new(with_room(rt.alloc(), 2));
+    let mut writer = Counted::new(with_room(alloc, 2));
     let stop = machine.run(1_000, &mut reader, &mut writer);
+    drop(writer);
     let given = [Event::Byte(b'a'), Event::Byte(b'b')];
-    assert_eq!(rt;
-        (stop, machine.events()),
-        (Err(IoFault::Write), given.as_slice())
-    );
-    Ok(())
+    Some(stop == Err(IoFault::Write) && machine.events() == given.as_slice())
 }
 
 #[test]
-fn what_was_printed_is_flushed_before_a_read(rt: HostRuntime) -> Result<(), Fail> {
+fn a_broken_step_has_the_events_that_it_gave(rt: HostRuntime) {
+    assert_eq!(rt; shows_two_bytes(rt.alloc()), Some(true));
+}
+
+#[test]
+fn what_was_printed_is_flushed_before_a_read(rt: HostRuntime) {
     let mut reader = Counted::new(b"\x06".as_slice());
     let mut writer = Counted::new(unflushed(rt.alloc()));
-    let fault = failure_of(rt.alloc(), &mut reader, &mut writer)?;
-    assert_eq!(rt; (fault, reader.get_ref().len()), (Some(IoFault::Write), 1));
-    assert_eq!(rt; writer.get_ref().taken.as_slice(), b"abcdef".as_slice());
-    Ok(())
+    let fault = failure_of(rt.alloc(), &mut reader, &mut writer);
+    let is_taken = writer.get_ref().taken.as_slice() == b"abcdef".as_slice();
+    assert!(rt; fault == Some(IoFault::Write) && reader.get_ref().len() == 1 && is_taken);
 }
 
 #[test]
-fn a_failing_reader_breaks_a_step(rt: HostRuntime) -> Result<(), Fail> {
+fn a_failing_reader_breaks_a_step(rt: HostRuntime) {
     let mut reader = Counted::new(Broken);
     let mut writer = Counted::new(Vec::new(rt.alloc()));
-    let fault = failure_of(rt.alloc(), &mut reader, &mut writer)?;
-    assert_eq!(rt;
-        (fault, reader.failures(), writer.failures()),
-        (Some(IoFault::Read), 1, 0)
-    );
-    Ok(())
+    let fault = failure_of(rt.alloc(), &mut reader, &mut writer);
+    let failures = (reader.failures(), writer.failures());
+    assert_eq!(rt; (fault, failures), (Some(IoFault::Read), (1, 0)));
 }
 
 /// Makes two objects.
 const MAKING: &str = "@interface A : NSObject @end @implementation A @end \
     int main(void) { A *a = [A new]; printf(\"a\"); A *b = [A new]; printf(\"b\"); }";
 
-#[test]
-fn a_store_with_no_block_stops_it(rt: HostRuntime) -> Result<(), Fail> {
+/// Whether a machine stops for want of a block after what it prints before, and stops again where it is.
+fn stops_without_a_block(alloc: Global) -> Option<bool> {
     let store = Few {
-        store: PlainStore::new(rt.alloc()),
+        store: PlainStore::new(alloc),
         left: 1,
     };
-    let mut machine = machine_of(rt.alloc(), MAKING, store)?;
+    let mut machine = machine_of(alloc, MAKING, store)?;
     let mut reader = Counted::new(b"".as_slice());
-    let mut writer = Counted::new(Vec::new(rt.alloc()));
+    let mut writer = Counted::new(Vec::new(alloc));
     let stop = machine.run(1_000, &mut reader, &mut writer);
     let steps = machine.steps_done();
     let again = machine.run(1_000, &mut reader, &mut writer);
-    assert_eq!(rt;
-        (stop, again, machine.steps_done()),
-        (Ok(Stop::NoHeap), Ok(Stop::NoHeap), steps)
-    );
-    assert_eq!(rt; writer.get_ref().as_slice(), b"a".as_slice());
-    Ok(())
+    let stays = machine.steps_done() == steps;
+    drop(machine);
+    let is_printed = writer.get_ref().as_slice() == b"a".as_slice();
+    Some(stop == Ok(Stop::NoHeap) && again == stop && stays && is_printed)
+}
+
+#[test]
+fn a_store_with_no_block_stops_it(rt: HostRuntime) {
+    assert_eq!(rt; stops_without_a_block(rt.alloc()), Some(true));
 }

@@ -1,10 +1,9 @@
 //! Words, files and devices that a row can't give.
 use crate::devices::{Broken, with_room};
-use crate::tool::words::texts;
+use crate::tool::words::said;
 use arc_code::counted::Counted;
 use arc_tool::request::{Words, WordsFault};
 use arc_tool::serve::{FileFault, serve};
-use arc_tool::words::words;
 use std::alloc::Global;
 use std::test::Fail;
 
@@ -28,24 +27,22 @@ fn shows(
 }
 
 #[test]
-fn devices_that_fail(rt: HostRuntime) -> Result<(), Fail> {
+fn devices_that_fail(rt: HostRuntime) {
     let alloc = rt.alloc();
-    let line = texts(alloc, &["arcc", "run", "a.m"])?;
+    let words = said(alloc, &["arcc", "run", "a.m"]);
     let source = b"int main(void) { printf(\"abcdef\"); return getchar(); }";
     let want: Shown = (106, b"ab", b"arcc: io");
-    assert!(rt; shows(alloc, words(alloc, &line), Ok(source.as_slice()), 8, want));
-    Ok(())
+    assert!(rt; shows(alloc, words, Ok(source.as_slice()), 8, want));
 }
 
 #[test]
-fn want_of_memory(rt: HostRuntime) -> Result<(), Fail> {
+fn want_of_memory(rt: HostRuntime) {
     let alloc = rt.alloc();
-    let line = texts(alloc, &["arcc", "run", "a.m"])?;
     let (of_words, of_file) = (Err(WordsFault::Memory), Err(FileFault::NoMemory));
     let want: Shown = (102, b"", b"arcc: no memory\n");
-    assert!(rt; shows(alloc, of_words, Err(FileFault::Failed), 100, want));
-    assert!(rt; shows(alloc, words(alloc, &line), of_file, 100, want));
-    Ok(())
+    let is_said = shows(alloc, of_words, Err(FileFault::Failed), 100, want);
+    let words = said(alloc, &["arcc", "run", "a.m"]);
+    assert!(rt; is_said && shows(alloc, words, of_file, 100, want));
 }
 
 #[test]
