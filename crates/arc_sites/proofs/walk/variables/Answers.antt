@@ -13,7 +13,5 @@ loop-variable-preserved g c =
     let v = c.variable-item.result in
     let rest = drop (c.loop-variable.variable-index + 1) c.args.all.now in
     let here = site m (Variable qualifiers type (variable_tree v)) in
-    let initial = maybe_sites m (option_map expr_tree v.initial) in (
-      c.in_ok-maybe.ensures.same ∙ c.in_ok-visit.ensures.same ∙ c.loop-variable.invariant.0,
-      turn (g.V.Visitor.violations c.args.visitor.now) _ (λ xs. variable_sites m qualifiers type (variable_trees xs)) (here ++ initial) (variable_sites m qualifiers type (variable_trees rest)) c.args.all.now c.loop-variable.variable-index v _ _ _
-          refl c.loop-variable.invariant.0 c.loop-variable-test.true c.variable-item.is (found_both _ _ _ _ _ here initial c.in_ok-visit.ensures.same c.in_ok-visit.ensures.found c.in_ok-maybe.ensures.found) c.loop-variable.invariant.1)
+    let initial = maybe_sites m (option_map expr_tree v.initial) in
+    (c.in_ok-maybe.ensures.same ∙ c.in_ok-visit.ensures.same ∙ c.loop-variable.invariant.0, turn (g.V.Visitor.violations c.args.visitor.now) _ (λ xs. variable_sites m qualifiers type (variable_trees xs)) (here ++ initial) (variable_sites m qualifiers type (variable_trees rest)) c.args.all.now c.loop-variable.variable-index v _ _ _ refl c.loop-variable.invariant.0 c.loop-variable-test.true c.variable-item.is (found_both _ _ _ _ _ here initial c.in_ok-visit.ensures.same c.in_ok-visit.ensures.found c.in_ok-maybe.ensures.found) c.loop-variable.invariant.1)
