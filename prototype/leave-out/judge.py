@@ -1,0 +1,25 @@
+from mk import Edit
+M = "Err(AllocError)"
+e = Edit("arc_judge", {r"Result<.*AllocError>$": M})
+e.load()
+e.cut("unit::judge_unit", "method::head", "method::heads", "method::judge_interfaces", "method::method", "method::methods", "method::judge_implementations")
+e.cut("global::judge_global", "global::judge_globals")
+e.cut("body::function", "body::judge_functions", "body::body", "body::count_fault", "body::is_void", "body::initial", "body::returned", "body::place_fault", "body::variables", "body::loop_fault", "body::maybe_test", "body::maybe_step", "body::clauses")
+e.stub("body::parameters")
+# (the cycle has to have a function)
+e.cut("body::scoped", "body::block", "body::statement", "body::stepped")
+e.ring("body::statements", "statements(table, in_loop, visible, all)")
+e.cut("whole::judge_whole", "whole::result_fault", "whole::test_fault", "whole::initial_fault")
+e.hollow("judge::judge", "proofs/judge/+judge/Invariants.antt")
+e.cut("judge::number", "judge::variable_read", "judge::no_object_read", "judge::combined", "judge::call_kind", "judge::called", "judge::judge_itself", "judge::judge_name", "judge::judge_unary", "judge::chosen", "judge::judge_choice", "judge::judge_cast", "judge::judge_own_field", "judge::judge_arrow", "judge::taken_by_left", "judge::assigned", "judge::judge_assignment", "judge::updated", "judge::judge_update", "judge::message_kind", "judge::receiver_fault", "judge::method_fault", "judge::judge_send", "judge::taken_by_super", "judge::judge_super", "judge::judge_call", "judge::judge_print", "judge::judge_argument", "judge::judge_arguments")
+e.cut("conversion::next_conversion", "conversion::take_conversion", "conversion::may_print")
+e.cut("rule::place", "rule::either_kind", "rule::number_kind", "rule::both_kinds", "rule::unary_kind", "rule::binary_kind", "rule::no_value", "rule::no_operand", "rule::no_left", "rule::no_other", "rule::no_right", "rule::call_fault")
+e.cut("taken::none", "taken::fault")
+e.cycles(); e.end_hollow(); e.uses()
+J = "proofs/Judgements.antt"
+e.put(J, "pub with_rule :", "{- pub with_rule :")
+e.put(J, "-- ---- `self`", "-}")
+e.put(J, "none_of :", "{- none_of :")
+e.put(J, "judged refl refl o k c f b t i m\njudges_other s before between at Unknown", "") if 0 else None
+e.put(J, "at Unknown given parameters all own inside judged refl refl o k c f b t i m", "-}")
+e.write("arc_judge.edit")
