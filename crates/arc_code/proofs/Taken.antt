@@ -1,5 +1,5 @@
 -- Bytes that a device takes in several writes.
-use Rattle.std.proofs.Common.{ℕ, suc, ◌+◌, ◌-◌, Option, List, length, take, drop, refl, sym, subst, take-add}
+use Rattle.std.proofs.Common.{◌≡◌, ℕ, suc, ◌+◌, ◌-◌, ◌<◌, Option, List, length, take, drop, sym, ap, subst, arith, take-add}
 use Rattle.std.specs.Io.KnownBytes.{Appends}
 use Rattle.std.proofs.lemmas.List.{take_rest}
 use Rattle.std.proofs.KnownBytes.{Appends-trans}
@@ -13,5 +13,7 @@ module _ (bytes : List ℕ) (n m : ℕ) where
   appends_on h0 h1 h2 first more =
       subst (Appends h0 h2) (sym (take-add n m bytes)) (Appends-trans h0 h1 h2 (take n bytes) (take m (drop n bytes)) first (subst (λ l. Appends h1 h2 (take m l)) (take_rest bytes n) more))
 
-  pub took_on : {T : Type 0} (writes : List ℕ → T → Attempt ℕ → T → Type 0) (t0 t1 t2 : T) → Took writes bytes t0 n t1 → Tried (writes (take (length bytes - n) (drop n bytes))) t1 (Done m) t2 → Took writes bytes t0 (n + m) t2
-  took_on {T} writes t0 t1 t2 (times, takings) tried = (suc times, (t1, n, m, refl, takings, subst (λ l. Tried (writes l) t1 (Done m) t2) (take_rest bytes n) tried))
+  pub took_on : {T : Type 0} (writes : List ℕ → T → Attempt ℕ → T → Type 0) (t0 t1 t2 : T) → 0 < m → Took writes bytes t0 n t1 → Tried (writes (take (length bytes - n) (drop n bytes))) t1 (Done m) t2 → Took writes bytes t0 (n + m) t2
+  took_on {T} writes t0 t1 t2 some (times, takings) tried =
+      let one : suc (m - 1) ≡ m = omega (arith, some) in
+      (suc times, (t1, n, m - 1, ap (λ k. n + k) (sym one), takings, subst (λ k. Tried (writes (drop n bytes)) t1 (Done k) t2) (sym one) (subst (λ l. Tried (writes l) t1 (Done m) t2) (take_rest bytes n) tried)))

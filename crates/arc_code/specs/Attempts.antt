@@ -45,11 +45,11 @@ HasFailedToWrite {T} writes flushes new = ((old : T) × (bytes : List ℕ) × Fa
 
 -- ---- all bytes
 
--- of these bytes so many first ones were taken in so many writes, each of which offers all that are left
+-- of these bytes so many first ones were taken in so many writes, each of which offers all that are left and takes one byte at least
 abbrev pub Takings : {T : Type 0} → (writes : List ℕ → T → Attempt ℕ → T → Type 0) → (bytes : List ℕ) → (times : ℕ) → (old : T) → (taken : ℕ) → (new : T) → Type 0
 Takings writes bytes zero old taken new = (taken ≡ 0) × (new ≡ old)
 Takings {T} writes bytes (suc times) old taken new =
-    (between : T) × (fewer more : ℕ) × (taken ≡ fewer + more) × Takings writes bytes times old fewer between × Tried (writes (drop fewer bytes)) between (Done more) new
+    (between : T) × (fewer more : ℕ) × (taken ≡ fewer + suc more) × Takings writes bytes times old fewer between × Tried (writes (drop fewer bytes)) between (Done (suc more)) new
 
 -- of these bytes so many first ones were taken
 abbrev pub Took : {T : Type 0} → (writes : List ℕ → T → Attempt ℕ → T → Type 0) → (bytes : List ℕ) → (old : T) → (taken : ℕ) → (new : T) → Type 0

@@ -13,5 +13,5 @@ loop-written-preserved g c =
       failures = e.fine ∙ h.failures;
       end = e.end ∙ h.end;
       appends = appends_on bytes n c.in-Ok.taken _ _ _ h.appends e.ok;
-      took = took_on bytes n c.in-Ok.taken g.W.Output.writes _ _ _ h.took e.wrote;
+      took = took_on bytes n c.in-Ok.taken g.W.Output.writes _ _ _ e.within.0 h.took e.wrote;
     }
