@@ -43,6 +43,10 @@ HasFailedToRead {T} reads new = (old : T) × Fails reads old new
 abbrev pub HasFailedToWrite : {T : Type 0} → (writes : List ℕ → T → Attempt ℕ → T → Type 0) → (flushes : T → Attempt (Unit {0}) → T → Type 0) → T → Type 0
 HasFailedToWrite {T} writes flushes new = ((old : T) × (bytes : List ℕ) × FailsToWrite writes bytes old new) ⊎ ((old : T) × Fails flushes old new)
 
+-- the device is as a flush left it that was done: what was written before it is passed on
+abbrev pub HasPassedOn : {T : Type 0} → (flushes : T → Attempt (Unit {0}) → T → Type 0) → T → Type 0
+HasPassedOn {T} flushes new = (old : T) × Tried flushes old (Done tt) new
+
 -- ---- all bytes
 
 -- of these bytes so many first ones were taken in so many writes, each of which offers all that are left and takes one byte at least

@@ -1,5 +1,5 @@
 //! How many numbers, references and strong places an instruction takes and gives.
-ghost use Rattle.std.specs.Prelude.{◌≡◌, suc, IfSome};
+ghost use Rattle.std.specs.Prelude.{◌≡◌, ◌^◌, ◌≤◌, suc, IfSome, IfNone};
 ghost use Rattle.arc_code.specs.InstructionTable.{on_numbers, of_names, on_names, giving};
 
 use arc_spec::class::Gives;
@@ -77,7 +77,8 @@ pub(crate) fn giving(gives: Gives, taken: usize, names: usize) -> Effect
 /// How many numbers a message to a class passes, the class and its arguments, and how many references a
 /// message to an object takes, that of the object and its arguments. None: these are more than can be counted.
 pub(crate) fn one_more(takes: usize) -> Option<usize>
-    ensures { IfSome result (λ sum. sum ≡ suc takes) }
+    ensures some { IfSome result (λ sum. sum ≡ suc takes) }
+    ensures none { IfNone result (2 ^ 64 ≤ suc takes) }
 {
     takes.checked_add(1)
 }

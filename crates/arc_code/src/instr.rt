@@ -3,7 +3,7 @@
 //! Each has a row in the table of instructions: its name and operands, as it is listed, and what it takes and
 //! gives.
 
-ghost use Rattle.std.specs.Prelude.{◌≡◌, ◌++◌, ⊤, IfSome};
+ghost use Rattle.std.specs.Prelude.{◌≡◌, ◌+◌, ◌^◌, ◌≤◌, ◌++◌, ⊤, IfSome, IfNone};
 ghost use Rattle.arc_code.specs.InstructionTable.{operand, op_parts, operation_effect, message_operands, parts, effect};
 ghost use Rattle.arc_code.specs.Listing.{operands_text};
 
@@ -273,10 +273,11 @@ impl Instr<usize, usize, Piece> {
 }
 
 impl<J, F, T> Instr<J, F, T> {
-    /// What the instruction takes and gives; of a call it is that of what the function gives. None:
-    /// the instruction takes more numbers than can be counted.
+    /// What the instruction takes and gives, apart from the places that it lets go; a call gives what its function
+    /// does. None: it takes 2^64 numbers and references or more.
     pub fn effect(&self) -> Option<Effect>
-        ensures { IfSome result (λ found. found ≡ effect self.now) }
+        ensures found { IfSome result (λ found. found ≡ effect self.now) }
+        ensures none { IfNone result (2 ^ 64 ≤ (effect self.now).numbers_taken + (effect self.now).names_taken) }
     {
         match self {
             Instr::Plain(operation) => Some(operation.effect()),
