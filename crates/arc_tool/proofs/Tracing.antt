@@ -22,7 +22,7 @@ use Rattle.arc_tool.specs.Refused.{IsRefusal}
 use Rattle.arc_tool.specs.Reports.{Becomes}
 use Rattle.arc_tool.specs.SourceRun.{SourceRun}
 use Rattle.arc_tool.specs.private.Stepped.{Followed, Interrupted, EndsTrace}
-use Rattle.arc_tool.specs.Traced.{AnsweredTrace, text_of}
+use Rattle.arc_tool.specs.Traced.{AnsweredTrace, text_of, events_of, end_of}
 use Rattle.arc_tool.proofs.Meant.{source_run}
 
 module _ (source : List ℕ) (p : Program) (names : List (List ℕ)) (compiled : CompilesNamed source p names) (steps : ℕ) (i0 i1 : Option (List ℕ)) where
@@ -62,22 +62,32 @@ module _ (source : List ℕ) (p : Program) (names : List (List ℕ)) (compiled :
       abbrev front : List ℕ
       front = events_text names false run.events
 
+      -- its lines, by the names of the source's classes, were written whole
+      events_so : Appends o0 o1 (events_of left source_runs)
+      events_so = subst (λ n. Appends o0 o1 (events_text n false run.events)) compiled.named run.written.0
+
+      -- what holds of a text that ends as the lines left it holds of the end of the source's run
+      end_so : (P : List ℕ → Type 0) → P (end_text begun left) → P (end_of left source_runs)
+      end_so P = subst (λ b. P (end_text b left)) run.opens
+
       same_text : front ++ end_text begun left ≡ text_of left source_runs
       same_text = ap (λ b. front ++ end_text b left) run.opens ∙ ap (λ n. trace_text n run.events left) compiled.named
 
-      all_text : (r : Result (Unit {0}) IoFault) → Written r (end_text begun left) o1 o2 w1 w2 W → Written r (text_of left source_runs) o0 o2 w0 w2 W
-      all_text r end = subst (λ t. Written r t o0 o2 w0 w2 W) same_text (then_written r o0 o1 o2 w0 w1 w2 W front (end_text begun left) run.written end)
+      all_text : Written (Ok tt) (end_text begun left) o1 o2 w1 w2 W → Appends o0 o2 (text_of left source_runs)
+      all_text end = (subst (λ t. Written (Ok tt) t o0 o2 w0 w2 W) same_text (then_written (Ok tt) o0 o1 o2 w0 w1 w2 W front (end_text begun left) run.written end)).0
 
     pub ended : (left : Left) (r : Result Stop ToolFault) → Followed p names steps left begun i0 i1 o0 o1 r0 r1 w0 w1 R → EndsTrace left begun r o1 o2 w1 w2 W → AnsweredTrace source steps r i0 i1 o0 o2 w0 w2 W
     ended (Stopped t) (Ok s) run end = subst (λ x. AnsweredTrace source steps (Ok x) i0 i1 o0 o2 w0 w2 W) (sym end.0)
-        (source_runs (Stopped t) run, (all_text (Stopped t) run (Ok tt) end.1).0)
-    ended (Stopped t) (Err (Io Write)) run end = inr (t, source_runs (Stopped t) run, (all_text (Stopped t) run (Err Write) end).1)
+        (source_runs (Stopped t) run, all_text (Stopped t) run end.1)
+    ended (Stopped t) (Err (Io Write)) run end = inr (t, source_runs (Stopped t) run, o1, events_so (Stopped t) run, end_so (Stopped t) run (AppendsPart o1 o2) end.1)
     ended (Stopped t) (Err (Io Read)) run end = absurd (let no = end.0 in cc)
     ended (Stopped t) (Err (Refused x)) run end = absurd end
     ended (Stopped t) (Err Memory) run end = absurd end
     ended Unread (Ok s) run end = absurd end
     ended Unread (Err (Io Write)) run end = absurd end
-    ended Unread (Err (Io Read)) run end = (source_runs Unread run, (end.0, all_text Unread run end.0 end.1))
+    ended Unread (Err (Io Read)) run end =
+        let same = subst (λ w. Written end.0 (end_text begun Unread) o1 o2 w w2 W) run.written.1 end.1 in
+        (source_runs Unread run, o1, events_so Unread run, (end.0, end_so Unread run (λ t. Written end.0 t o1 o2 w0 w2 W) same))
     ended Unread (Err (Refused x)) run end = absurd end
     ended Unread (Err Memory) run end = absurd end
 

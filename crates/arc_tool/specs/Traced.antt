@@ -14,7 +14,7 @@ use Rattle.arc_tool.specs.declared.lines.Left.TheVariants.{Stopped, Unread}
 use Rattle.arc_tool.specs.declared.run.ToolFault.{ToolFault}
 use Rattle.arc_tool.specs.declared.run.ToolFault.TheVariants.{Refused, Memory, Io}
 use Rattle.arc_tool.specs.Compiled.{class_names}
-use Rattle.arc_tool.specs.Lines.{trace_text, events_text, open_after}
+use Rattle.arc_tool.specs.Lines.{trace_text, events_text, end_text, open_after}
 use Rattle.arc_tool.specs.Refused.{IsRefusal}
 use Rattle.arc_tool.specs.Reports.{Names}
 use Rattle.arc_tool.specs.SourceRun.{SourceRun}
@@ -43,14 +43,23 @@ pub record BrokenOff (source : List ℕ) (steps : ℕ) (in0 in1 out0 out1 : Opti
 abbrev pub WritesUpTo : List ℕ → (out0 out1 : Option (List ℕ)) → (writes0 writes1 : ℕ) → (writer_failed : Type 0) → Type 0
 WritesUpTo text o0 o1 w0 w1 failed = (answer : Result (Unit {0}) IoFault) × Written answer text o0 o1 w0 w1 failed
 
--- What each answer says. The writer failed within the lines of the last step's events; or after the last step, with the text of a run that had stopped, or had
--- made all the steps that were allowed.
+-- the text of a run's events, and that of how it was left, which comes after it
+abbrev pub events_of : {source : List ℕ} {steps : ℕ} (left : Left) {in0 in1 : Option (List ℕ)} → SourceRun source steps left in0 in1 → List ℕ
+events_of left run = events_text (class_names run.compiled.program.tree) false run.events
+
+abbrev pub end_of : {source : List ℕ} {steps : ℕ} (left : Left) {in0 in1 : Option (List ℕ)} → SourceRun source steps left in0 in1 → List ℕ
+end_of left run = end_text (open_after false run.events) left
+
+-- What each answer says. The writer failed within the lines of the last step's events; or after the last step of a run that had stopped, or had made all the
+-- steps that were allowed: then the lines of its events were written whole, and the writer failed in the line that says how it was left. Where the reader
+-- failed, they were written whole as well, and that line too, or some first bytes of it.
 abbrev pub AnsweredTrace : List ℕ → (steps : ℕ) → Result Stop ToolFault → (in0 in1 out0 out1 : Option (List ℕ)) → (writes0 writes1 : ℕ) → (writer_failed : Type 0) → Type 0
 AnsweredTrace source steps (Err (Refused r)) i0 i1 o0 o1 w0 w1 failed = IsRefusal source r × (Names (codes "Memory") r → ⊥)
 AnsweredTrace source steps (Err Memory) i0 i1 o0 o1 w0 w1 failed = Unit {0}
 AnsweredTrace source steps (Err (Io Read)) i0 i1 o0 o1 w0 w1 failed =
-    (run : SourceRun source steps Unread i0 i1) × WritesUpTo (text_of Unread run) o0 o1 w0 w1 failed
+    (run : SourceRun source steps Unread i0 i1) × (held : Option (List ℕ)) × Appends o0 held (events_of Unread run) × WritesUpTo (end_of Unread run) held o1 w0 w1 failed
 AnsweredTrace source steps (Err (Io Write)) i0 i1 o0 o1 w0 w1 failed =
-    BrokenOff source steps i0 i1 o0 o1 ⊎ ((stop : Stop) × (run : SourceRun source steps (Stopped stop) i0 i1) × AppendsPart o0 o1 (text_of (Stopped stop) run))
+    BrokenOff source steps i0 i1 o0 o1 ⊎ ((stop : Stop) × (run : SourceRun source steps (Stopped stop) i0 i1) × (held : Option (List ℕ))
+    × Appends o0 held (events_of (Stopped stop) run) × AppendsPart held o1 (end_of (Stopped stop) run))
 AnsweredTrace source steps (Ok stop) i0 i1 o0 o1 w0 w1 failed =
     (run : SourceRun source steps (Stopped stop) i0 i1) × Appends o0 o1 (text_of (Stopped stop) run)

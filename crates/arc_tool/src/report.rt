@@ -1,7 +1,7 @@
 //! What is written on standard error, and the status with which the program ends.
 ghost use Rattle.std.specs.Prelude.{◌≡◌, ◌+◌, ◌-◌, ◌^◌, ◌<◌, ◌++◌, codes, decimal, IfErr, OnOk, OnErr};
 ghost use Rattle.std.specs.Io.KnownBytes.{Keeps};
-ghost use Rattle.arc_code.specs.Attempts.{HasFailedToWrite};
+ghost use Rattle.arc_code.specs.Attempts.{HasFailedToWrite, HasPassedOn};
 ghost use Rattle.arc_code.specs.Counting.{failures_of, inner_of, held_by};
 ghost use Rattle.arc_code.specs.Written.{Written};
 ghost use Rattle.arc_code.specs.Faulty as faulty;
@@ -214,6 +214,7 @@ pub(crate) fn flush<W: Output>(writer: &mut Counted<W>) -> Result<(), IoFault>
     ensures fault { IfErr result (λ f. f ≡ fault.Write) }
     ensures cause { OnErr result (failures_of writer.new ≡ failures_of writer.old + 1) }
     ensures failed { OnErr result (HasFailedToWrite W.writes W.flushes (inner_of writer.new)) }
+    ensures passed_on { OnOk result (HasPassedOn W.flushes (inner_of writer.new)) }
 {
     match writer.flush() {
         Ok(()) => Ok(()),

@@ -1,6 +1,6 @@
 //! Compiles a source and runs it.
-ghost use Rattle.std.specs.Prelude.{◌≡◌, ◌-◌, ◌^◌, ◌<◌, Ok};
-ghost use Rattle.arc_code.specs.Attempts.{HasFailedToRead, HasFailedToWrite};
+ghost use Rattle.std.specs.Prelude.{◌≡◌, ◌-◌, ◌^◌, ◌<◌, Ok, OnOk};
+ghost use Rattle.arc_code.specs.Attempts.{HasFailedToRead, HasFailedToWrite, HasPassedOn};
 ghost use Rattle.arc_code.specs.Counting.{failures_of, inner_of, left_in, held_by};
 ghost use Rattle.arc_code.specs.Running.{IsSound, Program};
 ghost use Rattle.arc_turns.specs.Runs.{Lacks};
@@ -96,6 +96,7 @@ pub fn run_text<R: Input, W: Output>(
         (failures_of writer.old) (failures_of writer.new)
         (HasFailedToRead R.reads (inner_of reader.new))
         (HasFailedToWrite W.writes W.flushes (inner_of writer.new)) }
+    ensures passed_on { OnOk result (HasPassedOn W.flushes (inner_of writer.new)) }
 {
     let code = compile(alloc, source)?;
     let mut machine = Machine::new(alloc, code, PlainStore::new(alloc))?;
@@ -124,6 +125,7 @@ fn run_machine<S: Store + Drop, R: Input, W: Output>(
         (failures_of writer.old) (failures_of writer.new)
         (HasFailedToRead R.reads (inner_of reader.new))
         (HasFailedToWrite W.writes W.flushes (inner_of writer.new)) }
+    ensures passed_on { OnOk result (HasPassedOn W.flushes (inner_of writer.new)) }
 {
     match machine.run(steps, reader, writer) {
         Ok(stop) => {

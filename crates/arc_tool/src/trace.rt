@@ -1,6 +1,6 @@
 //! Compiles a source and shows what its program does, in lines.
-ghost use Rattle.std.specs.Prelude.{◌≡◌, ◌≢◌, ◌-◌, ◌^◌, ◌<◌, map, IfOk, IfErr, OnErr, Ok, Err};
-ghost use Rattle.arc_code.specs.Attempts.{HasFailedToRead, HasFailedToWrite};
+ghost use Rattle.std.specs.Prelude.{◌≡◌, ◌≢◌, ◌-◌, ◌^◌, ◌<◌, map, IfOk, IfErr, OnOk, OnErr, Ok, Err};
+ghost use Rattle.arc_code.specs.Attempts.{HasFailedToRead, HasFailedToWrite, HasPassedOn};
 ghost use Rattle.arc_code.specs.Counting.{failures_of, inner_of, left_in, held_by};
 ghost use Rattle.arc_code.specs.Running.{IsSound, Program};
 ghost use Rattle.arc_code.specs.Written.{Written};
@@ -54,6 +54,7 @@ pub fn trace_text<R: Input, W: Output>(
         (failures_of writer.old) (failures_of writer.new)
         (HasFailedToRead R.reads (inner_of reader.new))
         (HasFailedToWrite W.writes W.flushes (inner_of writer.new)) }
+    ensures passed_on { OnOk result (HasPassedOn W.flushes (inner_of writer.new)) }
 {
     let named = compile_named(alloc, source)?;
     let mut machine = Machine::new(alloc, named.code, PlainStore::new(alloc))?;
@@ -67,10 +68,11 @@ pub fn trace_text<R: Input, W: Output>(
 /// where it did so before, whatever the writer does now.
 fn end_trace<W: Output>(left: Left, begun: bool, writer: &mut Counted<W>) -> Result<Stop, ToolFault>
     requires { failures_of writer.old < 2 ^ 64 - 1 }
-    ensures { EndsTrace left begun result
+    ensures ends { EndsTrace left begun result
         (held_by W.contents writer.old) (held_by W.contents writer.new)
         (failures_of writer.old) (failures_of writer.new)
         (HasFailedToWrite W.writes W.flushes (inner_of writer.new)) }
+    ensures passed_on { OnOk result (HasPassedOn W.flushes (inner_of writer.new)) }
 {
     match left {
         Left::Stopped(stop) => {

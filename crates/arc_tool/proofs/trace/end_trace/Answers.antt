@@ -4,14 +4,14 @@ use Rattle.arc_tool.specs.Lines.{end_text}
 use Rattle.arc_tool.proofs.Flushing.{and_flushed, flush_failed}
 use Rattle.arc_tool.proofs.trace.end_trace.Goals as goal
 
-pub returns-in_err-flush-in-Stopped : goal.returns-in_err-flush-in-Stopped
-returns-in_err-flush-in-Stopped g c =
+pub returns-in_err-flush-in-Stopped-clause-ends : goal.returns-in_err-flush-in-Stopped-clause-ends
+returns-in_err-flush-in-Stopped-clause-ends g c =
     let p = err_from_is_err_and c.from_residual-in_err-flush-in-Stopped.result c.from_residual-in_err-flush-in-Stopped.ensures.1 in
     let e = c.in_err-flush-in-Stopped.ensures in
     rw (c.in-Stopped.is, p.1, p.2) (flush_failed _ (end_text c.args.begun (Stopped c.in-Stopped.stop)) _ _ _ _ _ _ _ c.in_ok-put_end-in-Stopped.ensures e.kept e.fault e.cause e.failed)
 
-pub returns-in-Ok : goal.returns-in-Ok
-returns-in-Ok g c =
+pub returns-in-Ok-clause-ends : goal.returns-in-Ok-clause-ends
+returns-in-Ok-clause-ends g c =
     let e = c.flush-in-Ok.ensures in
     let wrote = rw c.in-Unread.is at c.in-Ok.ensures in
     rw c.in-Unread.is (and_flushed c.flush-in-Ok.result (end_text c.args.begun Unread) _ _ _ _ _ _ _ wrote e.kept e.fine e.cause e.failed)

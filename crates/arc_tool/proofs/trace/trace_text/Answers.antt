@@ -31,14 +31,14 @@ returns-clause-answered g c =
     let names = map bytes_of_name c.in_ok-named.named.classes.items in
     let compiled = subst (λ (q : Program). CompilesNamed c.args.source.now q names) (sym (ap (λ m. m.program) c.in_ok-machine.ensures)) c.in_ok-named.ensures.compiled in
     let run = rw c.deref.ensures.value at c.in_ok-left.ensures.followed in
-    ended c.args.source.now c.in_ok-machine.machine.program names compiled c.args.steps _ _ c.in_ok-left.begun _ _ _ _ _ _ _ _ _ _ c.in_ok-left.left c.end_trace.result run c.end_trace.ensures
+    ended c.args.source.now c.in_ok-machine.machine.program names compiled c.args.steps _ _ c.in_ok-left.begun _ _ _ _ _ _ _ _ _ _ c.in_ok-left.left c.end_trace.result run c.end_trace.ensures.ends
 
 pub returns-clause-untouched : goal.returns-clause-untouched
-returns-clause-untouched g c = run_untouched c.in_ok-left.left c.in_ok-left.begun c.end_trace.result _ _ _ _ _ _ _ _ _ c.end_trace.ensures
+returns-clause-untouched g c = run_untouched c.in_ok-left.left c.in_ok-left.begun c.end_trace.result _ _ _ _ _ _ _ _ _ c.end_trace.ensures.ends
 
 pub returns-clause-caused : goal.returns-clause-caused
 returns-clause-caused g c =
     let names = map bytes_of_name c.in_ok-named.named.classes.items in
     let compiled = subst (λ (q : Program). CompilesNamed c.args.source.now q names) (sym (ap (λ m. m.program) c.in_ok-machine.ensures)) c.in_ok-named.ensures.compiled in
     let run = rw c.deref.ensures.value at c.in_ok-left.ensures.followed in
-    blamed c.args.source.now c.in_ok-machine.machine.program names compiled c.args.steps _ _ c.in_ok-left.begun _ _ _ _ _ _ _ _ _ _ c.in_ok-left.left c.end_trace.result run c.end_trace.ensures
+    blamed c.args.source.now c.in_ok-machine.machine.program names compiled c.args.steps _ _ c.in_ok-left.begun _ _ _ _ _ _ _ _ _ _ c.in_ok-left.left c.end_trace.result run c.end_trace.ensures.ends
