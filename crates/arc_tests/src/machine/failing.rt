@@ -13,7 +13,7 @@ use arc_machine::stop::Stop;
 use arc_spec::event::Event;
 use std::alloc::Global;
 
-/// A store that gives so many of another's blocks, and then no more.
+/// A store of another's blocks, of which so many are left: each that is taken is one less, and each that is given back one more.
 #[derive(Drop)]
 struct Few<S: Store + Drop> {
     store: S,
@@ -36,6 +36,7 @@ impl<S: Store + Drop> Store for Few<S> {
     }
 
     fn give(&mut self, block: Ref) {
+        self.left = self.left.saturating_add(1);
         self.store.give(block);
     }
 
@@ -135,4 +136,28 @@ fn stops_without_a_block(alloc: Global) -> Option<bool> {
 #[test]
 fn a_store_with_no_block_stops_it(rt: HostRuntime) {
     assert_eq!(rt; stops_without_a_block(rt.alloc()), Some(true));
+}
+
+/// Makes objects one after another, of which each ends before the next one is made.
+const MAKING_AGAIN: &str = "@interface A : NSObject @end @implementation A @end \
+    int main(void) { for (int i = 0; i < 100; i++) [A new]; printf(\"a\"); }";
+
+/// Whether a machine makes many objects over a store of one block, where each is gone before the next one is made.
+fn ends_with_one_block(alloc: Global) -> Option<bool> {
+    let store = Few {
+        store: PlainStore::new(alloc),
+        left: 1,
+    };
+    let mut machine = machine_of(alloc, MAKING_AGAIN, store)?;
+    let mut reader = Counted::new(b"".as_slice());
+    let mut writer = Counted::new(Vec::new(alloc));
+    let stop = machine.run(100_000, &mut reader, &mut writer);
+    drop(machine);
+    let is_printed = writer.get_ref().as_slice() == b"a".as_slice();
+    Some(stop == Ok(Stop::Ended(0)) && is_printed)
+}
+
+#[test]
+fn a_block_is_given_back(rt: HostRuntime) {
+    assert_eq!(rt; ends_with_one_block(rt.alloc()), Some(true));
 }
