@@ -87,7 +87,7 @@ pub enum OperatorSort {
     Logic,
 }
 
-/// The sort of an operator, in which all rules but that of its value are reported.
+/// The sort of an operator. All rules of operators are stated by it, but for what each one computes.
 pub fn operator_sort(operator: BinaryOperator) -> OperatorSort
     ensures { result ≡ sort_of operator }
 {

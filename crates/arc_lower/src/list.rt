@@ -27,8 +27,8 @@ use std::alloc::Global;
 use std::mem;
 use std::mem::drop;
 
-/// The actions that a program becomes, of which nothing is asked but what they are or how many. NoMemory: memory was refused, or a
-/// function has more places than can be numbered.
+/// The actions that a program becomes, without the room that they need, for callers that list or count them alone. NoMemory: memory
+/// was refused, or a function has more places than can be numbered.
 pub fn list_actions(alloc: Global, program: &Owned) -> Result<Vec<Action>, NoMemory>
     ensures { IfOk result (λ actions. orders actions.items ≡ lowered (program_of program.now.program.now)) }
 {

@@ -54,7 +54,7 @@ impl<S: Store + Drop> Machine<S> {
         self.engine.steps()
     }
 
-    /// The events of the last step, at most 20; of a step that a device broke those that it gave
+    /// The events of the last step, of which there is room for 20; of a step that a device broke those that it gave
     /// before, and none where the store had no block. A run without a step leaves them.
     pub fn events(&self) -> &[Event]
         ensures { result.now ≡ self.now.events }
@@ -66,8 +66,8 @@ impl<S: Store + Drop> Machine<S> {
     /// that it is over, and `StepsUsed` that all steps were made, or 2^64 - 1 of them in all. The
     /// error is a reader's or a writer's failure, in a step that is then not made; nor is it made where
     /// the store was asked for the block of a new object and has none, which `NoHeap` says. Once a run
-    /// has ended, was stopped or failed, or had no block, each later one answers the same, and does
-    /// nothing; nor does a run of no steps, or one after 2^64 - 1 steps.
+    /// has ended, was stopped or failed, or had no block, each later one does nothing, and answers the
+    /// same. A run of no steps does nothing either, nor does one after 2^64 - 1 steps.
     pub fn run<R: Input, W: Output>(
         &mut self,
         steps: u64,

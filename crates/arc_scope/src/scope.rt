@@ -122,7 +122,7 @@ impl<'a> Visible<'a> {
         u32::from(next) + u32::from(names) < MOST_VARIABLES + u32::from(hidden)
     }
 
-    /// Whether there is none.
+    /// Whether there is no place for a further variable.
     pub fn is_full(&self) -> bool
         ensures { (table : ClassTable) → result ≡ not (scopes.has_place (seen table self.now)) }
     {
@@ -243,7 +243,7 @@ fn is_init_method(sign: Sign, selector: &[u8], gives: Kind) -> bool
     }
 }
 
-/// How many variables that name objects a method has without a name.
+/// How many variables without a name a method has that name objects: one where it owns `self`, and else none.
 pub fn owned_in(owns: bool) -> u8
     ensures small { result ≤ 1 }
     ensures number { result ≡ scopes.owned_in owns }

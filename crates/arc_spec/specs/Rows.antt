@@ -104,7 +104,7 @@ own_field = Field Itself 1 0
 abbrev pub sent_v : Reference → Value
 sent_v what = Sent (ObjectValue what) 0 no_arguments
 
--- [A new]
+-- [A alloc]
 abbrev pub new_a : Reference
 new_a = Made (class_value 1)
 
@@ -124,7 +124,7 @@ with_class_a body = record {
   classes = plain_class None [] ∷ record { superclass = Some 0; methods = method signs.Instance 0 1 ∷ []; dealloc = Some 2; fields = 1; strong_fields = 0 } ∷ plain_class (Some 0) [] ∷ [];
 }
 
--- { A *a = [A new]; a->_v = 3; printf("%d", [a v]); [[A new] v]; printf("x"); a = nil; printf("y"); }
+-- { A *a = [A alloc]; a->_v = 3; printf("%d", [a v]); [[A alloc] v]; printf("x"); a = nil; printf("y"); }
 abbrev pub objects_with_dealloc : Program
 objects_with_dealloc = with_class_a
     (and_command (Begin 0 new_a)
@@ -139,7 +139,7 @@ objects_with_dealloc = with_class_a
 abbrev pub dealloc_events : List Event
 dealloc_events = map Byte (codes "3") ++ Dealloc 2 1 ∷ map Byte (codes "d0x") ++ Dealloc 1 1 ∷ map Byte (codes "d3y")
 
--- { id b = [A new]; printf("%d", ((B *)b)->w); }, where w is the class 2's own
+-- { id b = [A alloc]; printf("%d", ((B *)b)->w); }, where w is the class 2's own
 abbrev pub field_of_another_class : Program
 field_of_another_class = with_class_a (and_command (Begin 0 new_a) (and_command (Evaluate (Print (Decimal ∷ []) (number_argument (Field (Variable (Local 0)) 2 0) no_arguments))) no_commands))
 
@@ -174,7 +174,7 @@ does body = record { slots = 0; names = 0; parameters = 0; gives = gives.Number;
 abbrev pub prints_v : Function
 prints_v = does (and_command (Evaluate (Print (Bytes (codes "d") ∷ Decimal ∷ []) (number_argument own_field no_arguments))) no_commands)
 
--- A class with fields _v and _next, and that dealloc: { A *h = [A new]; h->_next = [A new]; h->_next->_v = 2; printf("c"); }
+-- A class with fields _v and _next, and that dealloc: { A *h = [A alloc]; h->_next = [A alloc]; h->_next->_v = 2; printf("c"); }
 abbrev pub chain_of_two : Program
 chain_of_two = with_global
     (and_command (Begin 0 new_a)
@@ -187,7 +187,7 @@ chain_of_two = with_global
 abbrev pub chain_events : List Event
 chain_events = map Byte (codes "c") ++ Dealloc 1 1 ∷ map Byte (codes "d0") ++ Dealloc 2 1 ∷ map Byte (codes "d2")
 
--- void keep(id p) { g = p; } and { keep([A new]); printf("k"); g = nil; printf("n"); }
+-- void keep(id p) { g = p; } and { keep([A alloc]); printf("k"); g = nil; printf("n"); }
 abbrev pub replaced_global : Program
 replaced_global = with_global
     (and_command (Evaluate (Invoked 2 (object_argument new_a no_arguments)))
@@ -202,7 +202,7 @@ replaced_global = with_global
 abbrev pub replaced_events : List Event
 replaced_events = map Byte (codes "k") ++ Dealloc 1 1 ∷ map Byte (codes "d0n")
 
--- A class whose dealloc is printf("s"); g = self; and { A *a = [A new]; a = nil; printf("n"); }
+-- A class whose dealloc is printf("s"); g = self; and { A *a = [A alloc]; a = nil; printf("n"); }
 abbrev pub resurrection : Program
 resurrection = with_global
     (and_command (Begin 0 new_a) (and_command (EvaluateReference (Stored (Local 0) Nil)) (and_command (printed (codes "n")) no_commands)))
@@ -212,7 +212,7 @@ resurrection = with_global
 abbrev pub resurrection_events : List Event
 resurrection_events = Dealloc 1 1 ∷ map Byte (codes "s")
 
--- A class A with a field _next, whose dealloc is g = self;, a class B whose dealloc is ((A *)g)->_next = nil;, and { A *a = [A new]; a->_next = [B new]; }
+-- A class A with a field _next, whose dealloc is g = self;, a class B whose dealloc is ((A *)g)->_next = nil;, and { A *a = [A alloc]; a->_next = [B alloc]; }
 abbrev pub written_while_destroyed : Program
 written_while_destroyed = with_global
     (and_command (Begin 0 new_a) (and_command (EvaluateReference (ObjectFieldStored (Variable (Local 0)) 1 0 (Made (class_value 2)))) no_commands))
@@ -252,7 +252,7 @@ init_gives_nil = with_global
 abbrev pub init_events : List Event
 init_events = map Byte (codes "i") ++ Dealloc 1 1 ∷ map Byte (codes "zki") ++ Dealloc 2 1 ∷ map Byte (codes "z")
 
--- f() { A *a = [A new]; { A *b = [A new]; b->_v = 2; return b; } } and { printf("%d", f()->_v); printf("k"); }
+-- f() { A *a = [A alloc]; { A *b = [A alloc]; b->_v = 2; return b; } } and { printf("%d", f()->_v); printf("k"); }
 abbrev pub result_of_a_block : Program
 result_of_a_block = with_global
     (and_command (Evaluate (Print (Decimal ∷ []) (number_argument (Field (ObjectInvoked 2 no_arguments) 1 0) no_arguments)))
