@@ -121,9 +121,12 @@ pub record KeepsDeclared (old new : ClassTable) : Type 0 where
   pub main : new.main ≡ old.main
   pub names : new.names ≡ old.names
   pub entries : new.entries ≡ old.entries
+  pub class_methods : new.class_methods ≡ old.class_methods
+  pub instance_methods : new.instance_methods ≡ old.instance_methods
   pub declared : new.declared ≡ old.declared
   pub defined : new.defined ≡ old.defined
   pub named_fields : new.named_fields ≡ old.named_fields
+  pub field_owners : new.field_owners ≡ old.field_owners
   pub fields : new.fields ≡ old.fields
   pub classes : new.classes ≡ old.classes
   pub built_in : new.built_in ≡ old.built_in
