@@ -21,7 +21,7 @@ use Rattle.arc_class.specs.declared.table.FoundField.{FoundField}
 use Rattle.arc_class.specs.ClassRules.{field_place}
 use Rattle.arc_class.specs.Lookups.{least_among}
 use Rattle.arc_class.specs.private.Entries.{inherited_place}
-use Rattle.arc_class.specs.Classes.{class_number, superclass, superclasses}
+use Rattle.arc_class.specs.Classes.{class_number, superclass}
 use Rattle.arc_class.specs.private.Entries.{FieldsTree, fields_tree, root_fields, class_fields, class_fields_from, class_fields_with, all_class_fields, counted_at, counted_among}
 use Rattle.arc_class.specs.Fields.{ClassField, fields_declared, own_fields, owned, if_before, earlier_superclasses_from, earlier_superclasses, own_class_fields, inherited_by, fields, all_fields_from, inherited, kinds_of_fields, written_kinds, field_after, numbered, own_field, known_field}
 use Rattle.arc_class.specs.Sorts.{none_counted, with_one, with_all, counts}
@@ -166,12 +166,12 @@ root_is places named counted p n c =
 
 -- those of a class, by the maps that are made of its fields in two parts
 pub fields_made : (u : UnitTree) (class : ℕ) (inherited next counted : SortCounts) (i : InterfaceTree) (xs ys : List FieldTree) (superclass : Option ℕ) (places : Named ℕ) (named : Named FoundField)
-    → superclass ≡ class_number u.interfaces i.superclass → xs ++ ys ≡ fields_declared u class i → ((name : List ℕ) → at_name places name ≡ field_place name (xs ++ ys))
+    → superclass ≡ if_before class (class_number u.interfaces i.superclass) → xs ++ ys ≡ fields_declared u class i → ((name : List ℕ) → at_name places name ≡ field_place name (xs ++ ys))
     → ((name : List ℕ) → at_name named name ≡ option_or (numbered u.interfaces class inherited xs name) (numbered u.interfaces class next ys name))
     → next ≡ with_all inherited (written_kinds xs) → counted ≡ with_all next (written_kinds ys)
     → fields_tree (record { superclass = superclass; places = places; named = named; counted = counted }) ≡ class_fields_with u class inherited i
 fields_made u class inherited next counted i xs ys superclass places named s d p n e c =
-    let above = class_number u.interfaces i.superclass in
+    let above = if_before class (class_number u.interfaces i.superclass) in
     let own = fields_declared u class i in
     let numbers = numbered u.interfaces class in
     let all : counted ≡ with_all inherited (written_kinds own) =
@@ -245,7 +245,7 @@ not_numbered is owner k (x ∷ xs) name e = go (bytes_eq name x.name) e (not_num
 pub not_inherited : (u : UnitTree) (from : Option ℕ) (name : List ℕ) → known_field u from name ≡ None → inherited_place u from name ≡ None
 not_inherited u from name e =
     nothing_least (λ class. own_field u class name) (λ class. field_place name (own_fields u class))
-    (λ class h. not_numbered u.interfaces class (counts (kinds_of_fields (inherited u class))) (own_fields u class) name h) (ancestry (superclasses u.interfaces) from) e
+    (λ class h. not_numbered u.interfaces class (counts (kinds_of_fields (inherited u class))) (own_fields u class) name h) (ancestry (earlier_superclasses u.interfaces) from) e
 
 slice_past : {X : Type 0} (xs : List X) (n : ℕ) → n < length xs → slice_get xs n ≡ None → ⊥
 slice_past [] n l e = omega (arith, l)
@@ -263,16 +263,16 @@ said_counts u (suc n) l = ap counted_said (said u n) ∙ go (slice_get u.interfa
 -- ---- by a list that is kept
 
 module _ (u : UnitTree) (all : List ClassFields) (e : map fields_tree all ≡ all_class_fields u) where
-  superclasses_kept : map superclass_of_fields all ≡ superclasses u.interfaces
+  superclasses_kept : map superclass_of_fields all ≡ earlier_superclasses u.interfaces
   superclasses_kept = tree_superclasses all ∙ ap (map (λ t. t.superclass)) e ∙ ap (λ above. None ∷ above) (from_interfaces 1 u.interfaces)
     where
       tree_superclasses : (xs : List ClassFields) → map superclass_of_fields xs ≡ map (λ t. t.superclass) (map fields_tree xs)
       tree_superclasses [] = refl
       tree_superclasses (x ∷ xs) = ap (λ above. x.superclass ∷ above) (tree_superclasses xs)
 
-      from_interfaces : (first : ℕ) (is : List InterfaceTree) → map (λ t. t.superclass) (class_fields_from u first is) ≡ map (λ i. class_number u.interfaces i.superclass) is
+      from_interfaces : (first : ℕ) (is : List InterfaceTree) → map (λ t. t.superclass) (class_fields_from u first is) ≡ earlier_superclasses_from u.interfaces first is
       from_interfaces first [] = refl
-      from_interfaces first (i ∷ is) = ap (λ above. class_number u.interfaces i.superclass ∷ above) (from_interfaces (suc first) is)
+      from_interfaces first (i ∷ is) = ap (λ above. if_before first (class_number u.interfaces i.superclass) ∷ above) (from_interfaces (suc first) is)
 
   own_kept : (class : ℕ) (name : List ℕ) → own_field_in (slice_get all class) name ≡ own_field u class name
   own_kept class name = go (slice_get all class) ∙ ap (λ t. named_said t name) (tree_at u all class e) ∙ said_named u class name
@@ -292,7 +292,7 @@ module _ (u : UnitTree) (all : List ClassFields) (e : map fields_tree all ≡ al
   pub field_kept : (from : Option ℕ) (name : List ℕ) → field_among all from name ≡ known_field u from name
   field_kept from name =
       ap (λ above. first_that_has (λ class. own_field_in (slice_get all class) name) (ancestry above from)) superclasses_kept
-      ∙ ap (λ (own : ℕ → Option FoundField). first_that_has own (ancestry (superclasses u.interfaces) from)) (fun_ext (λ class. own_kept class name))
+      ∙ ap (λ (own : ℕ → Option FoundField). first_that_has own (ancestry (earlier_superclasses u.interfaces) from)) (fun_ext (λ class. own_kept class name))
 
   place_kept : (class : ℕ) (name : List ℕ) → own_place_in (slice_get all class) name ≡ field_place name (own_fields u class)
   place_kept class name = go (slice_get all class) ∙ ap (λ t. places_said t name) (tree_at u all class e) ∙ said_places u class name
@@ -305,7 +305,7 @@ module _ (u : UnitTree) (all : List ClassFields) (e : map fields_tree all ≡ al
   pub least_kept : (from : Option ℕ) (name : List ℕ) → place_among all from name ≡ inherited_place u from name
   least_kept from name =
       ap (λ above. least_among (λ class. own_place_in (slice_get all class) name) (ancestry above from)) superclasses_kept
-      ∙ ap (λ (own : ℕ → Option ℕ). least_among own (ancestry (superclasses u.interfaces) from)) (fun_ext (λ class. place_kept class name))
+      ∙ ap (λ (own : ℕ → Option ℕ). least_among own (ancestry (earlier_superclasses u.interfaces) from)) (fun_ext (λ class. place_kept class name))
 
 -- ---- one class more
 

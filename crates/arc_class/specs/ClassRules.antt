@@ -9,8 +9,8 @@ use Rattle.arc_sites.specs.Finding.{violations_of}
 use Rattle.arc_sites.specs.Sites.{unit_sites}
 use Rattle.arc_spec.specs.Classes.{ancestry}
 use Rattle.arc_class.specs.Broken.{Broken, broken_if}
-use Rattle.arc_class.specs.Classes.{is_root, interface_number, class_number, superclasses, first_head}
-use Rattle.arc_class.specs.Fields.{own_fields, fields_declared, fields}
+use Rattle.arc_class.specs.Classes.{is_root, interface_number, class_number, first_head}
+use Rattle.arc_class.specs.Fields.{own_fields, fields_declared, if_before, earlier_superclasses, fields}
 use Rattle.arc_class.specs.Globals.{known_global, variable_before}
 use Rattle.arc_class.specs.Functions.{is_library, duplicate, missing_main}
 use Rattle.arc_class.specs.Broken.{in_order}
@@ -40,10 +40,11 @@ abbrev pub broken_pair : Option ℕ → ℕ → List Broken
 broken_pair other at = option_map_or (λ o. record { at = if nat_lt at o then o else at; number = 21 } ∷ []) other []
 
 -- 21 Duplicate: of two fields with one name, of one class or of a class and one above it, the second by position, at its name (OPL, "Instance Variables").
--- `at` and `name` are those of a field, whose class declares the fields `all`.
+-- `at` and `name` are those of a field, whose class declares the fields `all` and inherits from `above`. Of a superclass that doesn't stand before its class, as the
+-- class itself, nothing is inherited (`if_before`): rule 22 reports it, and it is above nobody here.
 abbrev pub broken_field : UnitTree → (above : Option ℕ) → (all : List FieldTree) → (at : ℕ) → (name : List ℕ) → List Broken
 broken_field u above all at name = broken_if (is_earlier (field_place name all) at) at 21
-    ++ flat_map (λ class. broken_pair (field_place name (own_fields u class)) at) (ancestry (superclasses u.interfaces) above)
+    ++ flat_map (λ class. broken_pair (field_place name (own_fields u class)) at) (ancestry (earlier_superclasses u.interfaces) above)
 
 abbrev pub broken_fields : UnitTree → (above : Option ℕ) → (all : List FieldTree) → List FieldTree → List Broken
 broken_fields u above all = flat_map (λ f. broken_field u above all f.at f.name)
@@ -66,7 +67,7 @@ broken_names u before i = (broken_if (is_taken u before i) i.at 21 ++ broken_if 
     ++ broken_if (is_none (class_number before i.superclass)) i.superclass_at 22
 
 abbrev pub broken_own_fields : UnitTree → (class : ℕ) → InterfaceTree → List Broken
-broken_own_fields u class i = broken_fields u (class_number u.interfaces i.superclass) (fields_declared u class i) (fields_declared u class i)
+broken_own_fields u class i = broken_fields u (if_before class (class_number u.interfaces i.superclass)) (fields_declared u class i) (fields_declared u class i)
 
 -- 27 TooManyFields: a class whose objects have more fields than this, of both sorts together, at its interface's name (this project's own limit)
 abbrev pub broken_members : UnitTree → (class : ℕ) → InterfaceTree → List Broken

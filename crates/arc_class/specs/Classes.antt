@@ -12,7 +12,9 @@ use Rattle.arc_ast.specs.Tree.{TypeTree, Object, Id, ResultTree, Value, Related,
 use Rattle.arc_class.specs.declared.table.ClassId.{ClassId}
 use Rattle.arc_class.specs.declared.table.MethodResult.{MethodResult}
 use Rattle.arc_spec.specs.Families.{method_family, gives_related, is_object}
-use Rattle.arc_spec.specs.Classes.{same_sign, ancestry, first_that_has}
+use Rattle.arc_spec.specs.declared.class.Gives.{Gives}
+use Rattle.arc_spec.specs.declared.class.Gives.TheVariants.{Number}
+use Rattle.arc_spec.specs.Classes.{same_sign, gives_of, ancestry, first_that_has}
 use Rattle.arc_class.specs.Names.{has_body, first_named, parameter_kinds}
 
 -- the one root class, which is built in (this project's own choice)
@@ -160,6 +162,11 @@ any_result u selector = option_or (counting_result selector) (source_result u se
 abbrev pub kinds_passed : UnitTree → Sign → List ℕ → List Kind
 kinds_passed u sign selector =
     option_map_or (λ h. parameter_kinds h.parameters) (option_or (first_head sign selector (declared u.interfaces)) (first_head sign selector (defined u.implementations))) []
+
+-- what the methods of a sign with a selector give, a number or an object, as the first that is declared, or else defined, does; a number where there is none
+abbrev pub selector_gives : UnitTree → Sign → List ℕ → Gives
+selector_gives u sign selector =
+    option_map_or (λ h. gives_of (result_of h)) (option_or (first_head sign selector (declared u.interfaces)) (first_head sign selector (defined u.implementations))) Number
 
 -- ---- selectors
 

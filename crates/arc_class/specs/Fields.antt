@@ -11,7 +11,7 @@ use Rattle.arc_ast.specs.Types.{type_kind}
 use Rattle.arc_ast.specs.Tree.{FieldTree, InterfaceTree, ImplementationTree, UnitTree}
 use Rattle.arc_class.specs.declared.sort_counts.SortCounts.{SortCounts}
 use Rattle.arc_class.specs.declared.table.FoundField.{FoundField}
-use Rattle.arc_class.specs.Classes.{by_position, class_number, type_class, superclass, superclasses}
+use Rattle.arc_class.specs.Classes.{by_position, class_number, type_class, superclass}
 use Rattle.arc_class.specs.Sorts.{next_of, with_one, counts}
 use Rattle.arc_spec.specs.Classes.{ancestry, first_that_has}
 
@@ -110,6 +110,6 @@ numbered interfaces owner before (f ∷ others) name =
 abbrev pub own_field : UnitTree → (class : ℕ) → List ℕ → Option FoundField
 own_field u class name = numbered u.interfaces class (counts (kinds_of_fields (inherited u class))) (own_fields u class) name
 
--- the field with a name that the objects of a class have: the nearest that the class or a class above it declares
+-- the field with a name that the objects of a class have: the nearest that the class or a class that it inherits from declares
 abbrev pub known_field : UnitTree → Option ℕ → List ℕ → Option FoundField
-known_field u from name = first_that_has (λ class. own_field u class name) (ancestry (superclasses u.interfaces) from)
+known_field u from name = first_that_has (λ class. own_field u class name) (ancestry (earlier_superclasses u.interfaces) from)

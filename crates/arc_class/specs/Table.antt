@@ -20,7 +20,7 @@ use Rattle.arc_class.specs.declared.table.FoundField.{FoundField}
 use Rattle.arc_class.specs.declared.table.MethodResult.{MethodResult}
 use Rattle.arc_class.specs.declared.table.Variable.{Variable}
 use Rattle.arc_class.specs.Kept.{function_kept, head_in}
-use Rattle.arc_class.specs.Classes.{kinds_passed, and_name, class_number, superclass, built_in_result, result_of, counting_result, counting_given, known_result, any_result, class_of_result, selector_number, function_count}
+use Rattle.arc_class.specs.Classes.{kinds_passed, selector_gives, and_name, class_number, superclass, built_in_result, result_of, counting_result, counting_given, known_result, any_result, class_of_result, selector_number, function_count}
 use Rattle.arc_class.specs.Fields.{ClassField, fields, known_field}
 use Rattle.arc_class.specs.Globals.{known_global}
 use Rattle.arc_class.specs.Names.{known, parameter_kinds, listed_kinds, kinds_of_parameters, number_of, is_main}
@@ -121,9 +121,12 @@ pub record KeepsDeclared (old new : ClassTable) : Type 0 where
   pub main : new.main ≡ old.main
   pub names : new.names ≡ old.names
   pub entries : new.entries ≡ old.entries
+  pub class_methods : new.class_methods ≡ old.class_methods
+  pub instance_methods : new.instance_methods ≡ old.instance_methods
   pub declared : new.declared ≡ old.declared
   pub defined : new.defined ≡ old.defined
   pub named_fields : new.named_fields ≡ old.named_fields
+  pub field_owners : new.field_owners ≡ old.field_owners
   pub fields : new.fields ≡ old.fields
   pub classes : new.classes ≡ old.classes
   pub built_in : new.built_in ≡ old.built_in
@@ -146,6 +149,7 @@ pub record IsTableOf (u : UnitTree) (table : ClassTable) : Type 0 where
   pub globals : (name : List ℕ) → global_in table name ≡ known_global u.interfaces u.globals name
   pub parameters : (name : List ℕ) → parameters_in table name ≡ kinds_of_parameters u.functions name
   pub passed : (sign : Sign) (selector : List ℕ) → passed_in table sign selector ≡ kinds_passed u sign selector
+  pub gives : (sign : Sign) (selector : List ℕ) → gives_in table sign selector ≡ selector_gives u sign selector
   pub function_classes : (name : List ℕ) → function_class_in table name ≡ class_of_result u name
   pub main : number_of is_main u.functions ≡ Some table.main
   pub numbers : (name : List ℕ) → class_in table name ≡ class_number u.interfaces name

@@ -160,7 +160,7 @@ impl<'a> Source<'a> {
     {
         let own = self.own_fields(class, interface);
         let places = field_places(alloc, &own)?;
-        let above = class_number(&self.names, &interface.superclass);
+        let above = self.superclass_before(class, interface);
         let before = fields_fault(fields, owners, above, &places, own.earlier);
         let later_on = fields_fault(fields, owners, above, &places, own.later);
         Ok(earlier(before, later_on))

@@ -44,6 +44,7 @@ pub struct OwnFields<'a> {
 /// What is known of the fields of a class.
 #[derive(Drop)]
 pub struct ClassFields<'a> {
+    /// The superclass that it inherits from.
     pub superclass: Option<usize>,
     /// The place of its own first field with each name.
     pub places: FieldPlaces<'a>,
@@ -334,6 +335,17 @@ pub fn fields_fault<'a>(
     fault
 }
 
+/// The superclass where it stands before the class, which has this number; another one is inherited from by nobody.
+fn if_before(class: usize, superclass: Option<usize>) -> Option<usize>
+    ensures { result ≡ specs.if_before class superclass }
+{
+    match superclass {
+        None => None,
+        Some(above) if above < class => Some(above),
+        Some(_) => None,
+    }
+}
+
 /// How what has the kind holds an object, where nothing is written of it.
 fn held_by(kind: Kind) -> Option<Qual>
     ensures { result ≡ held_by kind }
@@ -444,6 +456,14 @@ impl<'a> Source<'a> {
         }
     }
 
+    /// The superclass that the interface's class inherits from, which has this number.
+    pub fn superclass_before(&self, class: usize, interface: &'a Interface) -> Option<usize>
+        requires { Knows (unit_tree self.now.unit.now) self.now }
+        ensures { result ≡ specs.if_before class (class_number (unit_tree self.now.unit.now).interfaces (interface_tree interface.now).superclass) }
+    {
+        if_before(class, class_number(&self.names, &interface.superclass))
+    }
+
     /// Learns the fields of the interface's class, which has this number. Nothing is known of it yet, but how many of each
     /// sort its superclass has. Memory: there was none, or so many fields have no numbers.
     fn learn_fields(
@@ -458,7 +478,7 @@ impl<'a> Source<'a> {
         ensures known { OnOk result (fields_tree known.new ≡ class_fields_with (unit_tree self.now.unit.now) class known.old.counted (interface_tree interface.now)) }
         ensures refused { IfErr result (λ fault. fault ≡ Memory) }
     {
-        known.superclass = class_number(&self.names, &interface.superclass);
+        known.superclass = self.superclass_before(class, interface);
         let owner = ClassId(class);
         let own = self.own_fields(class, interface);
         keep_own_places(&mut known.places, &own)?;

@@ -39,7 +39,7 @@ use arc_spec::class::{Class, Gives, descends_from, gives_of, look_up};
 use arc_spec::event::NoMemory;
 use std::alloc::Global;
 
-/// What a function gives, and how many arguments it takes: none at a count and the arguments' texts.
+/// What a function gives, and how many arguments it takes: `None` for a count and the arguments' texts.
 #[derive(Clone, Copy)]
 pub struct Signature {
     pub result: Kind,
@@ -379,8 +379,8 @@ impl<'a> ClassTable<'a> {
         at_name(&self.globals, name)
     }
 
-    /// The parameters of the functions of the name, as the first of them lists these: none where no function has the name, and none of a
-    /// count and texts.
+    /// Parameters of the kinds that the parameters of the functions of the name have, as the first of them lists these: none where no
+    /// function has the name, and none of a count and texts. Of their names and places nothing is said.
     pub fn parameters(&self, name: &'a [u8]) -> &'a [Parameter]
         ensures { parameter_kinds (parameter_trees result.now) ≡ parameters_in self.now name.now }
     {
@@ -410,8 +410,8 @@ impl<'a> ClassTable<'a> {
         }
     }
 
-    /// The parameters of the methods of the sign with the selector, as the first of them that is declared, or else defined, lists these;
-    /// none where the source has no such method.
+    /// Parameters of the kinds that the parameters of the methods of the sign with the selector have, as the first of them that is declared,
+    /// or else defined, lists these; none where the source has no such method. Of their names and places nothing is said.
     pub fn parameters_passed(&self, sign: Sign, selector: &'a [u8]) -> &'a [Parameter]
         ensures { parameter_kinds (parameter_trees result.now) ≡ passed_in self.now sign selector.now }
     {

@@ -8,9 +8,9 @@ use Rattle.arc_class.specs.declared.fields.OwnFields.{OwnFields}
 use Rattle.arc_class.specs.declared.table.Entry.{Entry}
 use Rattle.arc_class.specs.declared.table.FoundField.{FoundField}
 use Rattle.arc_class.specs.ClassRules.{field_place}
-use Rattle.arc_class.specs.Classes.{class_number, own_result, superclasses}
+use Rattle.arc_class.specs.Classes.{class_number, own_result}
 use Rattle.arc_class.specs.declared.sort_counts.SortCounts.{SortCounts}
-use Rattle.arc_class.specs.Fields.{numbered, kinds_of_fields, written_kinds, fields_declared, inherited_by, own_fields}
+use Rattle.arc_class.specs.Fields.{numbered, kinds_of_fields, written_kinds, fields_declared, if_before, earlier_superclasses, inherited_by, own_fields}
 use Rattle.arc_class.specs.Sorts.{none_counted, with_all, counts}
 use Rattle.arc_class.specs.ByName.{Named}
 use Rattle.arc_class.specs.declared.table.MethodResult.{MethodResult}
@@ -36,7 +36,7 @@ class_entry u i = record { superclass = class_number u.interfaces i.superclass; 
 abbrev pub own_trees : OwnFields → List FieldTree
 own_trees own = field_trees own.earlier.now ++ field_trees own.later.now
 
--- a class's superclass, the place of its own first field with each name, its own fields, and how many its objects have of each sort
+-- the superclass that a class inherits from, the place of its own first field with each name, its own fields, and how many its objects have of each sort
 pub record FieldsTree : Type 0 where
   pub superclass : Option ℕ
   pub places : List ℕ → Option ℕ
@@ -52,7 +52,7 @@ root_fields = record { superclass = None; places = λ name. None; named = λ nam
 -- those of a class whose superclass has so many
 abbrev pub class_fields_with : UnitTree → (class : ℕ) → (inherited : SortCounts) → InterfaceTree → FieldsTree
 class_fields_with u class inherited i = record {
-  superclass = class_number u.interfaces i.superclass;
+  superclass = if_before class (class_number u.interfaces i.superclass);
   places = λ name. field_place name (fields_declared u class i);
   named = numbered u.interfaces class inherited (fields_declared u class i);
   counted = with_all inherited (written_kinds (fields_declared u class i));
@@ -80,4 +80,4 @@ counted_among classes (Some class) = counted_at (slice_get classes class)
 
 -- the first by position of the fields with a name that a class and those above it declare, in a source
 abbrev pub inherited_place : UnitTree → (above : Option ℕ) → List ℕ → Option ℕ
-inherited_place u above name = least_among (λ class. field_place name (own_fields u class)) (ancestry (superclasses u.interfaces) above)
+inherited_place u above name = least_among (λ class. field_place name (own_fields u class)) (ancestry (earlier_superclasses u.interfaces) above)

@@ -21,9 +21,8 @@ returns-clause-known c =
     let ys = field_trees own.later.now in
     let next = c.in_ok-before.before in
     let names : (sought : List ℕ) → class_number_in source.names sought ≡ class_number u.interfaces sought = λ sought. class_number_kept source.names u.interfaces sought (c.requires.knows.class_places sought) in
-    fields_made u class first next _ (interface_tree x) xs ys c.class_number-known.result c.keep_own_places.new.places c.keep_fields-2.new.named
-    (c.class_number-known.ensures ∙ ap (class_number_in source.names) c.deref.ensures.value ∙ class_number_kept source.names u.interfaces x.superclass.items (c.requires.knows.class_places x.superclass.items))
-    c.own_fields-own.ensures c.in_ok-keep_own_places.ensures
+    fields_made u class first next _ (interface_tree x) xs ys c.superclass_before-known.result c.keep_own_places.new.places c.keep_fields-2.new.named
+    c.superclass_before-known.ensures c.own_fields-own.ensures c.in_ok-keep_own_places.ensures
     (λ name. c.in_ok-known.ensures.kept u.interfaces names name ∙ ap (λ o. option_or o (numbered u.interfaces class next ys name)) (c.in_ok-before.ensures.kept u.interfaces names name
     ∙ ap (λ o. option_or o (numbered u.interfaces class first xs name)) (kept_none c.args.known.now.named name c.requires.named)))
     c.in_ok-before.ensures.counted c.in_ok-known.ensures.counted

@@ -2,8 +2,10 @@ use Rattle.std.proofs.Common.{◌≡◌, [], Option, refl, ap, ◌∙◌}
 use Rattle.std.specs.Option.{option_map_or, option_or}
 use Rattle.arc_ast.specs.Tree.{HeadTree, unit_tree}
 use Rattle.arc_ast.specs.declared.tree.Sign.TheVariants as signs
+use Rattle.arc_spec.specs.declared.class.Gives.TheVariants.{Number}
+use Rattle.arc_spec.specs.Classes.{gives_of}
 use Rattle.arc_class.specs.declared.table.ClassTable.{ClassTable}
-use Rattle.arc_class.specs.Classes.{number_among}
+use Rattle.arc_class.specs.Classes.{result_of, number_among}
 use Rattle.arc_class.specs.Names.{parameter_kinds, listed_kinds}
 use Rattle.arc_class.specs.Table.{built_in_from}
 use Rattle.arc_class.proofs.FieldLists.{field_kept, lists_kept}
@@ -14,6 +16,9 @@ use Rattle.arc_class.proofs.table.ClassTable.with.Goals as goal
 
 first_passed : {a b x y : Option HeadTree} → a ≡ x → b ≡ y → option_map_or (λ h. parameter_kinds h.parameters) (option_or a b) [] ≡ option_map_or (λ h. parameter_kinds h.parameters) (option_or x y) []
 first_passed e f = rw (e, f) refl
+
+first_given : {a b x y : Option HeadTree} → a ≡ x → b ≡ y → option_map_or (λ h. gives_of (result_of h)) (option_or a b) Number ≡ option_map_or (λ h. gives_of (result_of h)) (option_or x y) Number
+first_given e f = rw (e, f) refl
 
 pub invariant_of-result : goal.invariant_of-result
 invariant_of-result c =
@@ -54,6 +59,7 @@ returns c =
       globals = c.requires.knows.globals;
       parameters = λ name. ap (λ f. option_map_or listed_kinds f []) (c.requires.knows.first_functions name);
       passed = λ sign selector. first_passed (c.requires.knows.declared_heads sign selector) (c.requires.knows.defined_heads sign selector);
+      gives = λ sign selector. first_given (c.requires.knows.declared_heads sign selector) (c.requires.knows.defined_heads sign selector);
       function_classes = λ name. function_class_is u table name (λ sought. class_number_kept table.names u.interfaces sought (c.requires.knows.class_places sought)) (c.requires.knows.first_functions name);
       main = c.requires.checked.main;
       numbers = λ name. class_number_kept table.names u.interfaces name (c.requires.knows.class_places name);
