@@ -130,12 +130,13 @@ pub record MethodTree : Type 0 where
   pub head : HeadTree
   pub body : StmtTrees
 
--- a field, with the place of its name (OPL, "Instance Variables")
+-- a field, with the place of its name (OPL, "Instance Variables"), and of a bit-field the width, as it is written (C99, section 6.7.2.1)
 pub record FieldTree : Type 0 where
   pub at : ℕ
   pub type : TypeTree
   pub qualifiers : Qualifiers
   pub name : List ℕ
+  pub width : Option ℤ
   pub visibility : Visibility
 
 -- a class's interface, with the places of its name and of its superclass's name
@@ -304,7 +305,7 @@ abbrev pub method_trees : List Method → List MethodTree
 method_trees = map method_tree
 
 abbrev pub field_tree : Field → FieldTree
-field_tree f = record { at = f.at; type = type_tree f.type_name; qualifiers = f.qualifiers; name = f.name.items; visibility = f.visibility }
+field_tree f = record { at = f.at; type = type_tree f.type_name; qualifiers = f.qualifiers; name = f.name.items; width = f.width; visibility = f.visibility }
 
 abbrev pub field_trees : List Field → List FieldTree
 field_trees = map field_tree

@@ -265,13 +265,14 @@ pub struct Method {
     pub body: Vec<Stmt>,
 }
 
-/// A field that each object of a class has, with its type and the place of its name.
+/// A field that each object of a class has, with its type and the place of its name. A bit-field has a width, as it is written.
 #[derive(Drop)]
 pub struct Field {
     pub at: usize,
     pub type_name: TypeName,
     pub qualifiers: Qualifiers,
     pub name: Vec<u8>,
+    pub width: Option<i64>,
     pub visibility: Visibility,
 }
 

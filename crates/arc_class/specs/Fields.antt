@@ -1,5 +1,5 @@
 -- The fields of objects.
-use Rattle.std.specs.Prelude.{ℕ, zero, suc, Bool, false, List, [], ◌∷◌, map, Option, Some, None, nat_eq, nat_lt, reverse, flat_map, slice_get, if◌then◌else◌}
+use Rattle.std.specs.Prelude.{ℕ, ℤ, zero, suc, Bool, false, List, [], ◌∷◌, map, Option, Some, None, nat_eq, nat_lt, reverse, flat_map, slice_get, if◌then◌else◌}
 use Rattle.std.specs.Option.{option_and_then, option_map_or}
 use Rattle.std.specs.Str.{bytes_eq}
 use Rattle.arc_ast.specs.declared.tree.Kind.{Kind}
@@ -15,11 +15,12 @@ use Rattle.arc_class.specs.Classes.{by_position, class_number, type_class, super
 use Rattle.arc_class.specs.Sorts.{next_of, with_one, counts}
 use Rattle.arc_spec.specs.Classes.{ancestry, first_that_has}
 
--- a field that the objects of a class have, with what it is, how it holds an object, if it is one (ARC, "Ownership qualification"), and the class that declares
--- it
+-- a field that the objects of a class have, with what it is, of a bit-field how many bits it has (C99, section 6.7.2.1), how it holds an object, if it is one
+-- (ARC, "Ownership qualification"), and the class that declares it
 pub record ClassField : Type 0 where
   pub name : List ℕ
   pub kind : Kind
+  pub width : Option ℤ
   pub qual : Option Qual
   pub owner : ℕ
   pub visibility : Visibility
@@ -53,7 +54,7 @@ held_by _ = None
 
 -- a field that a class declares
 abbrev pub owned : (owner : ℕ) → FieldTree → ClassField
-owned owner f = record { name = f.name; kind = type_kind f.type; qual = held_by (type_kind f.type); owner = owner; visibility = f.visibility }
+owned owner f = record { name = f.name; kind = type_kind f.type; width = f.width; qual = held_by (type_kind f.type); owner = owner; visibility = f.visibility }
 
 -- a superclass that stands before its class; another one is inherited from by nobody, since it is refused (rule 22, UnknownClass)
 abbrev pub if_before : (class : ℕ) → (superclass : Option ℕ) → Option ℕ
@@ -98,7 +99,7 @@ written_kinds = map (λ f. type_kind f.type)
 -- a field of a class, after so many of each sort
 abbrev pub field_after : List InterfaceTree → (owner : ℕ) → (before : SortCounts) → FieldTree → FoundField
 field_after interfaces owner before f =
-    record { owner = record { 0 = owner }; index = next_of (type_kind f.type) before; kind = type_kind f.type; class = type_class interfaces f.type; visibility = f.visibility }
+    record { owner = record { 0 = owner }; index = next_of (type_kind f.type) before; kind = type_kind f.type; width = f.width; class = type_class interfaces f.type; visibility = f.visibility }
 
 -- the first field with a name among those that a class declares, where so many of each sort come before these
 abbrev pub numbered : List InterfaceTree → (owner : ℕ) → (before : SortCounts) → List FieldTree → List ℕ → Option FoundField

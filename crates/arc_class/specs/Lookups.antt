@@ -124,7 +124,7 @@ place_among classes from name = least_among (λ class. own_place_in (slice_get c
 
 -- a field, without where it lies in memory; and all of a class's objects
 abbrev pub field_tree : Field → ClassField
-field_tree f = record { name = f.name.now; kind = f.kind; qual = f.qual; owner = number_of_class f.owner; visibility = f.visibility }
+field_tree f = record { name = f.name.now; kind = f.kind; width = f.width; qual = f.qual; owner = number_of_class f.owner; visibility = f.visibility }
 
 abbrev pub list_of : Vec Field Global → List ClassField
 list_of all = map field_tree all.items

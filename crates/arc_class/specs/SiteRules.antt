@@ -1,6 +1,6 @@
 -- The rules that a site of a source breaks by itself: names of one scope, functions, global variables and methods beside others of their names, classes of
 -- types, and calls of functions that have no body. Each says what is broken at a node.
-use Rattle.std.specs.Prelude.{ℕ, Bool, false, ◌&&◌, ◌||◌, not, nat_lt, List, [], ◌∷◌, ◌++◌, map, flat_map, Option, Some, None, is_none, codes, if◌then◌else◌}
+use Rattle.std.specs.Prelude.{ℕ, ℤ, pos, Bool, false, ◌&&◌, ◌||◌, not, nat_lt, List, [], ◌∷◌, ◌++◌, map, flat_map, Option, Some, None, is_none, codes, if◌then◌else◌}
 use Rattle.std.specs.Option.{option_map_or, option_or}
 use Rattle.std.specs.Str.{bytes_eq}
 use Rattle.arc_ast.specs.declared.tree.Kind.{Kind}
@@ -8,9 +8,10 @@ use Rattle.arc_ast.specs.declared.tree.Kind.TheVariants as k
 use Rattle.arc_ast.specs.declared.tree.Sign.{Sign}
 use Rattle.arc_ast.specs.declared.tree.Sign.TheVariants as signs
 use Rattle.arc_ast.specs.Tree as t
-use Rattle.arc_ast.specs.Tree.{TypeTree, ResultTree, Call, Cast, VariableTree, StmtTree, StmtTrees, Block, Variables, no_stmts, and_stmt, ParameterTree, FunctionTree, GlobalTree, HeadTree, InterfaceTree, UnitTree}
+use Rattle.arc_ast.specs.Tree.{TypeTree, Boolean, ResultTree, Call, Cast, VariableTree, StmtTree, StmtTrees, Block, Variables, no_stmts, and_stmt, ParameterTree, FunctionTree, GlobalTree, HeadTree, InterfaceTree, UnitTree}
 use Rattle.arc_sites.specs.Sites.{Enclosing, Node, Value, Statement, Body, Function, Global, Field, Declared, Defined, named_parameters}
 use Rattle.arc_spec.specs.Classes.{same_sign}
+use Rattle.arc_spec.specs.Number.{is_same}
 use Rattle.arc_class.specs.declared.table.Declared as table
 use Rattle.arc_class.specs.Broken.{Broken, broken_if}
 use Rattle.arc_class.specs.Classes.{is_root, class_number, first_head, result_of, built_in_result, declared, defined}
@@ -109,6 +110,16 @@ unknown_class u _ = []
 abbrev pub rule_22 : UnitTree → Node → List Broken
 rule_22 u n = flat_map (unknown_class u) (types n)
 
+-- 22: also a bit-field of another type than `BOOL`, or of another width than one bit, at its name (C99, section 6.7.2.1, paragraphs 3 and 4; that there are no
+-- others is this project's own choice)
+abbrev pub is_bit : TypeTree → (width : ℤ) → Bool
+is_bit Boolean width = is_same width (pos 1)
+is_bit _ width = false
+
+abbrev pub bit_field : Node → List Broken
+bit_field (Field f) = option_map_or (λ width. broken_if (not (is_bit f.type width)) f.at 22) f.width []
+bit_field _ = []
+
 -- ---- methods
 
 -- whether two methods give the same kind of value, and have parameters of the same kinds
@@ -178,4 +189,4 @@ rule_30 u _ = []
 
 -- all that is broken at a site
 abbrev pub violations : UnitTree → Enclosing → Node → List Broken
-violations u m n = rule_21 u n ++ (rule_22 u n ++ (rule_24 u n ++ (rule_28 n ++ rule_30 u n)))
+violations u m n = rule_21 u n ++ (rule_22 u n ++ (bit_field n ++ (rule_24 u n ++ (rule_28 n ++ rule_30 u n))))

@@ -101,6 +101,7 @@ fn field_after<'a>(
         owner,
         index: before.next(kind),
         kind,
+        width: field.width,
         class: type_class(names, &field.type_name),
         visibility: field.visibility,
     }
@@ -357,6 +358,7 @@ fn add_fields<'a>(
         all.push(Field {
             name: &field.name,
             kind,
+            width: field.width,
             qual: held_by(kind),
             owner,
             visibility: field.visibility,

@@ -1,6 +1,6 @@
 //! The rules that a site of a source breaks by itself.
 ghost use Rattle.std.specs.Prelude.{◌≡◌, ◌++◌, option_map, IfOk};
-ghost use Rattle.arc_ast.specs.Tree.{expr_tree, stmt_tree, function_tree, global_tree, head_tree, unit_tree};
+ghost use Rattle.arc_ast.specs.Tree.{type_tree, expr_tree, stmt_tree, function_tree, global_tree, head_tree, field_tree, unit_tree};
 ghost use Rattle.arc_class.specs.Broken.{first};
 ghost use Rattle.arc_class.specs.Fault.{reported};
 ghost use Rattle.arc_class.specs.Kept.{Knows};
@@ -18,7 +18,7 @@ use crate::scopes::{block_fault, body_fault, declaration_fault};
 use crate::table::at_name;
 use crate::types::{signature_fault, type_fault};
 use arc_ast::tree;
-use arc_ast::tree::{Expr, Function, MethodHead, Stmt};
+use arc_ast::tree::{Expr, Function, MethodHead, Stmt, TypeName};
 use arc_fault::class::ClassFault;
 use arc_sites::node::{Enclosing, Node};
 use arc_sites::parameter::named_parameters;
@@ -47,6 +47,29 @@ impl<'a, 's> Visitor for SiteRules<'a, 's> {
         let own = self.source.site_fault(self.alloc, node)?;
         self.fault = earlier(self.fault, own);
         Ok(())
+    }
+}
+
+/// Whether a field of this type may be a bit-field of this width.
+fn is_bit(type_name: &TypeName, width: i64) -> bool
+    ensures { result ≡ rules.is_bit (type_tree type_name.now) width }
+{
+    match type_name {
+        TypeName::Bool => width == 1,
+        _ => false,
+    }
+}
+
+/// The rule that a field breaks by its width.
+fn width_fault(field: &tree::Field) -> Option<ClassFault>
+    ensures { option_map reported result ≡ first (rules.bit_field (sites.Field (field_tree field.now))) }
+{
+    match field.width {
+        None => None,
+        Some(width) => fault_if(
+            !is_bit(&field.type_name, width),
+            ClassFault::UnknownClass(field.at),
+        ),
     }
 }
 
@@ -110,6 +133,14 @@ impl<'a> Source<'a> {
         earlier(again, type_fault(self, &global.type_name))
     }
 
+    /// The first rule that a field breaks by itself.
+    fn field_fault(&self, field: &tree::Field) -> Option<ClassFault>
+        ensures { Knows (unit_tree self.now.unit.now) self.now → option_map reported result ≡ first (violations (unit_tree self.now.unit.now) InSource (sites.Field (field_tree field.now))) }
+    {
+        let types = type_fault(self, &field.type_name);
+        earlier(types, width_fault(field))
+    }
+
     /// The first rule that a method breaks by itself, as it is declared or defined.
     fn head_fault(&self, head: &MethodHead) -> Option<ClassFault>
         ensures { Knows (unit_tree self.now.unit.now) self.now → option_map reported result ≡ first (violations (unit_tree self.now.unit.now) InSource (sites.Declared (head_tree head.now))) }
@@ -132,7 +163,7 @@ impl<'a> Source<'a> {
             Node::Body(parameters, body) => body_fault(alloc, parameters, body),
             Node::Function(function) => Ok(self.function_fault(function)),
             Node::Global(global) => Ok(self.global_fault(global)),
-            Node::Field(field) => Ok(type_fault(self, &field.type_name)),
+            Node::Field(field) => Ok(self.field_fault(field)),
             Node::Declared(head) | Node::Defined(head) => Ok(self.head_fault(head)),
         }
     }

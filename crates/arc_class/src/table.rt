@@ -169,23 +169,27 @@ pub struct Sel(pub usize);
 #[derive(Clone, Copy, Debug, PartialEq, Eq)]
 pub struct MethodId(pub usize);
 
-/// A field of a class's objects, how it holds an object, if it is one, and the class that declares it.
+/// A field of a class's objects, how many bits it has, if it is a bit-field, how it holds an object, if it is one, and the
+/// class that declares it.
 #[derive(Clone, Copy)]
 pub struct Field<'a> {
     pub name: &'a [u8],
     pub kind: Kind,
+    pub width: Option<i64>,
     pub qual: Option<Qual>,
     pub owner: ClassId,
     pub visibility: Visibility,
 }
 
 /// A field that a name stands for: the class that declares it, its number in the objects of that
-/// class and of those below it, counted from 0 among those of its sort, and the class of a type that names one.
+/// class and of those below it, counted from 0 among those of its sort, how many bits it has, if it is a bit-field, and the
+/// class of a type that names one.
 #[derive(Clone, Copy)]
 pub struct FoundField {
     pub owner: ClassId,
     pub index: usize,
     pub kind: Kind,
+    pub width: Option<i64>,
     pub class: Option<ClassId>,
     pub visibility: Visibility,
 }

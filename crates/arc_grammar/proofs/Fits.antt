@@ -10,7 +10,7 @@ use Rattle.arc_form.proofs.Static.{Facts, passes, holds, decided, Decided, nulla
 use Rattle.arc_form.proofs.Sets.{both}
 use Rattle.arc_form.proofs.Local.{Takes}
 use Rattle.arc_form.proofs.FormLocal.{some_front, read_is}
-use Rattle.arc_grammar.specs.Grammar.{Part, Rule, rules, expr, unary, binary, condition, stmt, after_comma, commas, listed, called, table, begins_suffix, begins_expr, begins_stmt, assigning, loosest, marks_up_to, further, more, up_to, chosen, choice, continued, conditional_expr, perhaps, long_type, one_word, plain_type, class_type, value_type_of, value_type, qualifier, more_qualifiers, qualifiers, some_qualifiers, literal, counting, field_name, suffix, suffixes, given, arguments, named, some_parts, parts, sent, to_super, to_object, message, inside, cast_to_plain, cast, product, cast_or_product, parenthesized, primary, postfix, operator_before, signed, counted, prefixed, operations, assigned, updated, operation, expression, full, initial, variable, declared_type, starred_variable, variables, declaration, qualified_declaration, simple, empty, value, returned, controlling, otherwise, if_else, while_do, test_after, do_while, beginning, step, clauses, for_do, breaking, continuing, by_name, item, items, block, statement, parameter, texts_name, texts, second, counted_parameters, listed_parameters, parameters, enclosed, braces, function_body, main_function, other_function, function, plain_constant, negative_constant, constant, first_constant, global, starred_global, globals, enclosed_type, typed, selector, sign, result_type, enclosed_result, method_result, method_head, next_head, method_heads, perhaps_semicolon, method, methods, qualified_name, starred_name, typed_fields, qualified_fields, group, groups, fields, interface, implementation, class_names, of_void, typed_top, of_type, typed_globals, of_qualified, external, top, tops, unit, body}
+use Rattle.arc_grammar.specs.Grammar.{Part, Rule, rules, expr, unary, binary, condition, stmt, after_comma, commas, listed, called, table, begins_suffix, begins_expr, begins_stmt, assigning, loosest, marks_up_to, further, more, up_to, chosen, choice, continued, conditional_expr, perhaps, long_type, one_word, plain_type, class_type, value_type_of, value_type, qualifier, more_qualifiers, qualifiers, some_qualifiers, literal, counting, field_name, suffix, suffixes, given, arguments, named, some_parts, parts, sent, to_super, to_object, message, inside, cast_to_plain, cast, product, cast_or_product, parenthesized, primary, postfix, operator_before, signed, counted, prefixed, operations, assigned, updated, operation, expression, full, initial, variable, declared_type, starred_variable, variables, declaration, qualified_declaration, simple, empty, value, returned, controlling, otherwise, if_else, while_do, test_after, do_while, beginning, step, clauses, for_do, breaking, continuing, by_name, item, items, block, statement, parameter, texts_name, texts, second, counted_parameters, listed_parameters, parameters, enclosed, braces, function_body, main_function, other_function, function, plain_constant, negative_constant, constant, first_constant, global, starred_global, globals, enclosed_type, typed, selector, sign, result_type, enclosed_result, method_result, method_head, next_head, method_heads, perhaps_semicolon, method, methods, width, qualified_name, starred_name, typed_fields, qualified_fields, group, groups, fields, interface, implementation, class_names, of_void, typed_top, of_type, typed_globals, of_qualified, external, top, tops, unit, body}
 use Rattle.arc_grammar.specs.Grammar as grammar
 
 -- an expression whose operators are of a level or tighter
@@ -26,7 +26,7 @@ facts (stmt d) = record { begins = begins_stmt; goes_on = none; bars = word w.El
 
 -- `unfolding lines` opens each line of the grammar, so that the test is a computation.
 unfoldable pub lines : Unit {0}
-unfolding after_comma commas listed table further more up_to chosen choice continued conditional_expr perhaps long_type one_word plain_type class_type value_type_of value_type qualifier more_qualifiers qualifiers some_qualifiers literal counting field_name suffix suffixes given arguments named some_parts parts sent to_super to_object message inside cast_to_plain cast product cast_or_product parenthesized primary postfix operator_before signed counted prefixed operations assigned updated operation expression full initial variable declared_type starred_variable variables declaration qualified_declaration simple empty value returned controlling otherwise if_else while_do test_after do_while beginning step clauses for_do breaking continuing by_name item items block statement parameter texts_name texts second counted_parameters listed_parameters parameters enclosed braces function_body main_function other_function function plain_constant negative_constant constant first_constant global starred_global globals enclosed_type typed selector sign result_type enclosed_result method_result method_head next_head method_heads perhaps_semicolon method methods qualified_name starred_name typed_fields qualified_fields group groups fields interface implementation class_names of_void typed_top of_type typed_globals of_qualified external top tops unit body
+unfolding after_comma commas listed table further more up_to chosen choice continued conditional_expr perhaps long_type one_word plain_type class_type value_type_of value_type qualifier more_qualifiers qualifiers some_qualifiers literal counting field_name suffix suffixes given arguments named some_parts parts sent to_super to_object message inside cast_to_plain cast product cast_or_product parenthesized primary postfix operator_before signed counted prefixed operations assigned updated operation expression full initial variable declared_type starred_variable variables declaration qualified_declaration simple empty value returned controlling otherwise if_else while_do test_after do_while beginning step clauses for_do breaking continuing by_name item items block statement parameter texts_name texts second counted_parameters listed_parameters parameters enclosed braces function_body main_function other_function function plain_constant negative_constant constant first_constant global starred_global globals enclosed_type typed selector sign result_type enclosed_result method_result method_head next_head method_heads perhaps_semicolon method methods width qualified_name starred_name typed_fields qualified_fields group groups fields interface implementation class_names of_void typed_top of_type typed_globals of_qualified external top tops unit body
 lines = tt
 
 -- what `fits` asks of an operand

@@ -693,16 +693,16 @@ methods = many begins_method method
 
 -- ---- fields (OPL, "Instance Variables")
 
--- the name of a field with its place, and the qualifiers before it
+-- the name of a field with its place, the qualifiers before it and, of a bit-field, the width after it
 abbrev pub QualifiedName : Type 0
-QualifiedName = Qualifiers × (ℕ × List ℕ)
+QualifiedName = Qualifiers × ((ℕ × List ℕ) × Option ℤ)
 
 -- how the fields after these are visible, and these fields
 abbrev pub Fields : Type 0
 Fields = Visibility × List FieldTree
 
 abbrev pub field_of : Visibility → QualifiedType → QualifiedName → FieldTree
-field_of v type (q, n) = record { at = n.0; type = type.1; qualifiers = both_qualifiers type.0 q; name = n.1; visibility = v }
+field_of v type (q, (n, w)) = record { at = n.0; type = type.1; qualifiers = both_qualifiers type.0 q; name = n.1; width = w; visibility = v }
 
 abbrev pub visibility_of : Sort → Visibility
 visibility_of (tokens.At words.Private) = seen.Private
@@ -712,9 +712,13 @@ visibility_of _ = seen.Protected
 abbrev pub begins_visibility : Kinds
 begins_visibility = at words.Private ∪ at words.Protected ∪ at words.Public
 
--- qualifiers and a name
+-- perhaps `:` and the width of a bit-field (C99, section 6.7.2.1, of whose constant expressions an integer or a character alone is read)
+unfoldable pub width : Part (Option ℤ)
+width = choose (mark m.Colon) (map (λ (colon, value). Some value) (the m.Colon ⨾ token integer (λ t. number_of t.sort))) (give None)
+
+-- qualifiers, a name and perhaps a width
 unfoldable pub qualified_name : Part QualifiedName
-qualified_name = qualifiers ⨾ called
+qualified_name = qualifiers ⨾ called ⨾ width
 
 unfoldable pub starred_name : Bool → Part QualifiedName
 starred_name of_class = after_star of_class qualified_name

@@ -155,12 +155,13 @@ fn next_field(
     ensures gives { Gives (λ _. field_trees all.new.items) result (toks reader.new.rest.now) (name_on of_class visibility (qualifiers, type_tree type_name.now) (field_trees all.old.items) (toks reader.old.rest.now)) }
     ensures shorter { IfOk result (λ _. length reader.new.rest.now < length reader.old.rest.now) }
 {
-    let (own, (at, name)) = starred_name(alloc, of_class, reader)?;
+    let (own, (at, name), width) = starred_name(alloc, of_class, reader)?;
     let field = Field {
         at,
         type_name: type_name.copy(alloc)?,
         qualifiers: qualifiers.both(own),
         name,
+        width,
         visibility,
     };
     keep(all, field)

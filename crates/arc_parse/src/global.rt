@@ -128,7 +128,7 @@ fn constant(reader: &mut Reader) -> Read<Constant>
 /// The number of the first token, which is an integer or a character.
 ///
 /// `Unexpected` comes where it is not, and nothing is taken.
-fn integer(reader: &mut Reader) -> Read<i64>
+pub fn integer(reader: &mut Reader) -> Read<i64>
     ensures gives { Gives (λ x. x) result (toks reader.new.rest.now) (take_one kinds.integer (λ t. grammar.number_of t.sort) (toks reader.old.rest.now)) }
     ensures shorter { IfOk result (λ _. length reader.new.rest.now < length reader.old.rest.now) }
 {
