@@ -14,7 +14,7 @@ use Rattle.arc_spec.specs.declared.class.Gives.TheVariants as gives
 use Rattle.arc_spec.specs.contracts.class.Gives as results
 use Rattle.arc_code.specs.declared.effect.Effect.{Effect}
 use Rattle.arc_code.specs.declared.instr.Op.{Op}
-use Rattle.arc_code.specs.declared.instr.Op.TheVariants.{Num, Bin, Un, Narrow, Pop, Get, Set, GetGlobal, SetGlobal, PrintNum, PrintByte, GetChar, Declare, Nil, ReadSelf, ReadRef, ReadGlobal, ReadField, Hold, Again, Forget, Alloc, Finds, GetField, SetField, Differ, IsObject}
+use Rattle.arc_code.specs.declared.instr.Op.TheVariants.{Num, Bin, Un, Narrow, Pop, Swap, Get, Set, GetGlobal, SetGlobal, PrintNum, PrintByte, GetChar, Declare, Nil, ReadSelf, ReadRef, ReadGlobal, ReadField, Hold, Again, Forget, Alloc, Finds, GetField, SetField, Differ, IsObject}
 use Rattle.arc_code.specs.declared.instr.Instr.{Instr}
 use Rattle.arc_code.specs.declared.instr.Instr.TheVariants.{Plain, PrintText, Jump, JumpZero, Call, Send, SendSuper, SendTo, SendToSuper, StoreStrong, StoreGlobal, StoreField, Empty, DropAll, Settle, Give, Return, EndStep}
 use Rattle.arc_code.specs.Running.{Instruction}
@@ -64,6 +64,7 @@ op_parts (Bin operator kind) = (codes "Bin", operand (tag_of binary.the_type ope
 op_parts (Un operator kind) = (codes "Un", operand (tag_of unary.the_type operator) ++ operand (tag_of kinds.the_type kind))
 op_parts (Narrow kind) = (codes "Narrow", operand (tag_of kinds.the_type kind))
 op_parts Pop = (codes "Pop", [])
+op_parts Swap = (codes "Swap", [])
 op_parts (Get depth) = (codes "Get", operand depth)
 op_parts (Set depth) = (codes "Set", operand depth)
 op_parts (GetGlobal i) = (codes "GetGlobal", operand i)
@@ -94,6 +95,7 @@ operation_effect (Bin operator kind) = on_numbers 2 1
 operation_effect (Un operator kind) = on_numbers 1 1
 operation_effect (Narrow kind) = on_numbers 1 1
 operation_effect Pop = on_numbers 1 0
+operation_effect Swap = on_numbers 2 2
 operation_effect (Get depth) = on_numbers 0 1
 operation_effect (Set depth) = on_numbers 1 0
 operation_effect (GetGlobal i) = on_numbers 0 1

@@ -28,6 +28,8 @@ pub enum Op {
     Narrow(Kind),
     /// Takes the top number.
     Pop,
+    /// Exchanges the two numbers on top.
+    Swap,
     /// Puts a copy of the number at this depth on the stack.
     Get(usize),
     /// Takes the top number, and puts it in the place of the one at this depth of the rest.
@@ -170,6 +172,7 @@ impl Op {
             Op::Un(operator, kind) => ("Un", Operands::Two(operator as u64, kind as u64)),
             Op::Narrow(kind) => ("Narrow", Operands::One(kind as u64)),
             Op::Pop => ("Pop", Operands::Nothing),
+            Op::Swap => ("Swap", Operands::Nothing),
             Op::Get(depth) => ("Get", Operands::One(depth as u64)),
             Op::Set(depth) => ("Set", Operands::One(depth as u64)),
             Op::GetGlobal(number) => ("GetGlobal", Operands::One(number as u64)),
@@ -203,6 +206,7 @@ impl Op {
             Op::Num(_) | Op::Get(_) | Op::GetGlobal(_) | Op::GetChar => on_numbers(0, 1),
             Op::Finds(_) => on_numbers(1, 2),
             Op::Bin(_, _) | Op::PrintNum | Op::PrintByte => on_numbers(2, 1),
+            Op::Swap => on_numbers(2, 2),
             Op::Un(_, _) | Op::Narrow(_) => on_numbers(1, 1),
             Op::Pop | Op::Set(_) | Op::SetGlobal(_) => on_numbers(1, 0),
             Op::Declare => Effect {

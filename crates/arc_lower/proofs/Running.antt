@@ -25,7 +25,7 @@ use Rattle.arc_ir.specs.Acting.{Program, State, lands, onward, goes, keeps, answ
 use Rattle.arc_ir.specs.Acting as acting
 use Rattle.arc_code.specs.Instructions as instructions
 use Rattle.arc_code.specs.declared.instr.Op.{Op}
-use Rattle.arc_code.specs.declared.instr.Op.TheVariants.{Num, Bin, Un, Narrow, Pop, Get, Set, GetChar, Nil, ReadSelf, ReadRef, ReadGlobal, ReadField, Hold, Forget, Alloc, Finds, GetField, SetField, Differ, IsObject}
+use Rattle.arc_code.specs.declared.instr.Op.TheVariants.{Num, Bin, Un, Narrow, Pop, Swap, Get, Set, GetChar, Nil, ReadSelf, ReadRef, ReadGlobal, ReadField, Hold, Forget, Alloc, Finds, GetField, SetField, Differ, IsObject}
 use Rattle.arc_code.specs.declared.instr.Op.TheVariants as ops
 use Rattle.arc_code.specs.declared.instr.Instr.TheVariants.{Plain, Jump, JumpZero, Call, SendTo, StoreStrong, StoreGlobal, StoreField, DropAll, Settle}
 use Rattle.arc_code.specs.Effects.{passes}
@@ -221,6 +221,7 @@ module _ (p : Program) (frames : List Frame) (bound : ℕ) (R : resolved.Program
   operation_runs turn calm (Un operator kind) pc (x ∷ numbers) rs w free g = quietly turn calm (pc + 1) (record { numbers = applied operator kind x ∷ numbers; names = rs }) w g
   operation_runs turn calm (Narrow kind) pc (x ∷ numbers) rs w free g = quietly turn calm (pc + 1) (record { numbers = converted kind x ∷ numbers; names = rs }) w g
   operation_runs turn calm Pop pc (x ∷ numbers) rs w free g = quietly turn calm (pc + 1) (record { numbers = numbers; names = rs }) w g
+  operation_runs turn calm Swap pc (y ∷ x ∷ numbers) rs w free g = quietly turn calm (pc + 1) (record { numbers = x ∷ y ∷ numbers; names = rs }) w g
   operation_runs turn calm (Get zero) pc (x ∷ numbers) rs w free g = quietly turn calm (pc + 1) (record { numbers = x ∷ x ∷ numbers; names = rs }) w g
   operation_runs turn calm GetChar pc numbers rs w free g = reading turn calm pc (record { numbers = numbers; names = rs }) w w.input refl g
   operation_runs turn calm Nil pc numbers rs w free g = quietly turn calm (pc + 1) (record { numbers = numbers; names = 0 ∷ rs }) w g

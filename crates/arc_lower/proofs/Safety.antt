@@ -22,7 +22,7 @@ use Rattle.arc_ir.specs.Acting.{Action, Program, State, lands, start, step, entr
 use Rattle.arc_code.specs.declared.effect.Height.{Height}
 use Rattle.arc_code.specs.declared.instr.Op.{Op}
 use Rattle.arc_code.specs.declared.instr.Op.TheVariants as ops
-use Rattle.arc_code.specs.declared.instr.Op.TheVariants.{Num, Bin, Un, Narrow, Pop, Get, Set, PrintNum, PrintByte, GetChar, Declare, Nil, ReadSelf, ReadRef, ReadGlobal, ReadField, Hold, Forget, Alloc, Finds, GetField, SetField, Differ, IsObject}
+use Rattle.arc_code.specs.declared.instr.Op.TheVariants.{Num, Bin, Un, Narrow, Pop, Swap, Get, Set, PrintNum, PrintByte, GetChar, Declare, Nil, ReadSelf, ReadRef, ReadGlobal, ReadField, Hold, Forget, Alloc, Finds, GetField, SetField, Differ, IsObject}
 use Rattle.arc_code.specs.declared.instr.Instr.TheVariants.{Plain, PrintText, Jump, JumpZero, Call, Send, SendSuper, SendTo, SendToSuper, StoreStrong, StoreGlobal, StoreField, Empty, DropAll, Settle, Give, Return, EndStep}
 use Rattle.arc_code.specs.Effects.{passes, as_number, as_object, operation_effect, Follows}
 use Rattle.arc_code.proofs.EffectsFollowed.{operation_follows}
@@ -588,6 +588,7 @@ module _ (p : Program) (R : resolved.Program) where
       operation_keeps (Un operator kind) needs = top_leads _ stack _ (omega (arith, count, needs)) (λ x rest _. stays _ _ refl tt)
       operation_keeps (Narrow kind) needs = top_leads _ stack _ (omega (arith, count, needs)) (λ x rest _. stays _ _ refl tt)
       operation_keeps Pop needs = top_leads _ stack _ (omega (arith, count, needs)) (λ x rest _. stays _ _ refl tt)
+      operation_keeps Swap needs = top_leads _ stack _ (omega (arith, count, needs)) (λ y rest e. top_leads _ rest _ (omega (arith, count, needs, e)) (λ x others _. stays _ _ refl tt))
       operation_keeps (Get depth) needs = found_leads _ stack depth _ (omega (arith, count, needs)) (λ v _. stays _ _ refl tt)
       operation_keeps (Set depth) needs = top_leads _ stack _ (omega (arith, count, needs)) (λ v rest e. found_leads _ rest depth _ (omega (arith, count, needs, e)) (λ u _. stays _ _ refl tt))
       operation_keeps (ops.GetGlobal i) needs = stays _ _ refl tt

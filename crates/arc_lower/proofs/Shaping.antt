@@ -14,7 +14,7 @@ use Rattle.arc_spec.specs.Meaning.{Deeper, held_at, holds, chosen, sent, made, m
 use Rattle.arc_code.specs.Instructions.{one_if}
 use Rattle.arc_code.specs.declared.instr.Op.{Op}
 use Rattle.arc_code.specs.declared.instr.Op.TheVariants as ops
-use Rattle.arc_code.specs.declared.instr.Op.TheVariants.{Num, Bin, Un, Narrow, Pop, Get, GetChar, Nil, ReadSelf, ReadField, Hold, Forget, Alloc, Finds, GetField, SetField, Differ, IsObject}
+use Rattle.arc_code.specs.declared.instr.Op.TheVariants.{Num, Bin, Un, Narrow, Pop, Swap, Get, GetChar, Nil, ReadSelf, ReadField, Hold, Forget, Alloc, Finds, GetField, SetField, Differ, IsObject}
 use Rattle.arc_lower.specs.Lowered.{Message, ToClass, ToSuperClass, ToObject, ToSuper, Entry, AtStep, AtTest, AtBody, Block, Idle, One, Load, Store, Read, Assign, AssignField, Clear, Format, Calls, SendsMessage, Making, IfNew, Answer, Then, Fork, Loop, Quit, Advance, Full, Leave}
 use Rattle.arc_lower.proofs.Stacking.{onto}
 
@@ -102,6 +102,7 @@ operation D (Bin operator kind) s w = on_number s w (λ y above. on_number above
 operation D (Un operator kind) s w = on_number s w (λ x rest. Done (On (push (applied operator kind x) rest)) w)
 operation D (Narrow kind) s w = on_number s w (λ x rest. Done (On (push (converted kind x) rest)) w)
 operation D Pop s w = on_number s w (λ x rest. Done (On rest) w)
+operation D Swap s w = on_number s w (λ y above. on_number above w (λ x rest. Done (On (push x (push y rest))) w))
 operation D (Get zero) s w = on_number s w (λ v rest. Done (On (push v (push v rest))) w)
 operation D GetChar s w = Done (On (push (next_number w.input) s)) (has_read w)
 operation D Nil s w = Done (On (name 0 s)) w
