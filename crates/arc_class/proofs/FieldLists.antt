@@ -13,7 +13,6 @@ use Rattle.arc_class.specs.ByName.{Named}
 use Rattle.std.specs.Str.{bytes_eq}
 use Rattle.arc_ast.specs.Tree.{FieldTree, InterfaceTree, UnitTree}
 use Rattle.arc_spec.specs.Classes.{and_above, ancestry, ancestry_within, first_that_has}
-use Rattle.arc_ast.specs.Types.{type_kind}
 use Rattle.arc_class.specs.declared.fields.ClassFields.{ClassFields}
 use Rattle.arc_class.specs.declared.sort_counts.SortCounts.{SortCounts}
 use Rattle.arc_class.specs.declared.table.Field.{Field}
@@ -23,7 +22,7 @@ use Rattle.arc_class.specs.Lookups.{least_among}
 use Rattle.arc_class.specs.private.Entries.{inherited_place}
 use Rattle.arc_class.specs.Classes.{class_number, superclass}
 use Rattle.arc_class.specs.private.Entries.{FieldsTree, fields_tree, root_fields, class_fields, class_fields_from, class_fields_with, all_class_fields, counted_at, counted_among}
-use Rattle.arc_class.specs.Fields.{ClassField, fields_declared, own_fields, owned, if_before, earlier_superclasses_from, earlier_superclasses, own_class_fields, inherited_by, fields, all_fields_from, inherited, kinds_of_fields, written_kinds, field_after, numbered, own_field, known_field}
+use Rattle.arc_class.specs.Fields.{ClassField, fields_declared, own_fields, owned, if_before, earlier_superclasses_from, earlier_superclasses, own_class_fields, inherited_by, fields, all_fields_from, inherited, sorts_of_fields, written_sorts, field_after, numbered, own_field, known_field, field_sort}
 use Rattle.arc_class.specs.Sorts.{none_counted, with_one, with_all, counts}
 use Rattle.arc_class.specs.Table.{at_name, own_field_in, own_place_in, superclass_of_fields, field_among, place_among, list_of, list_at, list_among}
 use Rattle.arc_class.proofs.Parts.{kept_none}
@@ -146,9 +145,9 @@ class_past u n e =
     ap (λ n1. flat_map (own_class_fields u) (reverse (ancestry_within (suc n1) (chain u.interfaces) (Some (suc n))))) (before_count u.interfaces 1 u.interfaces)
     ∙ ap (λ o. flat_map (own_class_fields u) (reverse (and_above (suc n) o (λ above. ancestry_within (length u.interfaces) (chain u.interfaces) above)))) (chain_past u.interfaces n e)
 
-pub class_counts : (u : UnitTree) (n : ℕ) (i : InterfaceTree) → slice_get u.interfaces n ≡ Some i → counts (kinds_of_fields (fields u (suc n))) ≡ (class_fields u (suc n) i).counted
+pub class_counts : (u : UnitTree) (n : ℕ) (i : InterfaceTree) → slice_get u.interfaces n ≡ Some i → counts (sorts_of_fields (fields u (suc n))) ≡ (class_fields u (suc n) i).counted
 class_counts u n i e =
-    ap (λ fs. counts (kinds_of_fields fs)) (class_here u n i e) ∙ counts_of_class (inherited_by u (suc n) (class_number u.interfaces i.superclass)) (suc n) (fields_declared u (suc n) i)
+    ap (λ fs. counts (sorts_of_fields fs)) (class_here u n i e) ∙ counts_of_class (inherited_by u (suc n) (class_number u.interfaces i.superclass)) (suc n) (fields_declared u (suc n) i)
 
 -- ---- what is known of the fields of classes
 
@@ -168,23 +167,23 @@ root_is places named counted p n c =
 pub fields_made : (u : UnitTree) (class : ℕ) (inherited next counted : SortCounts) (i : InterfaceTree) (xs ys : List FieldTree) (superclass : Option ℕ) (places : Named ℕ) (named : Named FoundField)
     → superclass ≡ if_before class (class_number u.interfaces i.superclass) → xs ++ ys ≡ fields_declared u class i → ((name : List ℕ) → at_name places name ≡ field_place name (xs ++ ys))
     → ((name : List ℕ) → at_name named name ≡ option_or (numbered u.interfaces class inherited xs name) (numbered u.interfaces class next ys name))
-    → next ≡ with_all inherited (written_kinds xs) → counted ≡ with_all next (written_kinds ys)
+    → next ≡ with_all inherited (written_sorts xs) → counted ≡ with_all next (written_sorts ys)
     → fields_tree (record { superclass = superclass; places = places; named = named; counted = counted }) ≡ class_fields_with u class inherited i
 fields_made u class inherited next counted i xs ys superclass places named s d p n e c =
     let above = if_before class (class_number u.interfaces i.superclass) in
     let own = fields_declared u class i in
     let numbers = numbered u.interfaces class in
-    let all : counted ≡ with_all inherited (written_kinds own) =
-    c ∙ ap (λ m. with_all m (written_kinds ys)) e ∙ counts_of_parts inherited xs ys ∙ ap (λ fs. with_all inherited (written_kinds fs)) d in
+    let all : counted ≡ with_all inherited (written_sorts own) =
+    c ∙ ap (λ m. with_all m (written_sorts ys)) e ∙ counts_of_parts inherited xs ys ∙ ap (λ fs. with_all inherited (written_sorts fs)) d in
     ap (λ o. whole o (at_name places) (at_name named) counted) s ∙ ap (λ f. whole above f (at_name named) counted) (fun_ext (λ name. p name ∙ ap (field_place name) d))
     ∙ ap (λ f. whole above (λ name. field_place name own) f counted) (fun_ext (λ name. n name
     ∙ ap (λ m. option_or (numbers inherited xs name) (numbers m ys name)) e ∙ sym (numbered_append inherited xs ys name) ∙ ap (λ fs. numbers inherited fs name) d))
     ∙ ap (whole above (λ name. field_place name own) (numbers inherited own)) all
   where
     numbered_append : (k : SortCounts) (xs ys : List FieldTree) (name : List ℕ)
-        → numbered u.interfaces class k (xs ++ ys) name ≡ option_or (numbered u.interfaces class k xs name) (numbered u.interfaces class (with_all k (written_kinds xs)) ys name)
+        → numbered u.interfaces class k (xs ++ ys) name ≡ option_or (numbered u.interfaces class k xs name) (numbered u.interfaces class (with_all k (written_sorts xs)) ys name)
     numbered_append k [] ys name = refl
-    numbered_append k (x ∷ xs) ys name = go (bytes_eq name x.name) (field_after u.interfaces class k x) _ _ _ (numbered_append (with_one (type_kind x.type) k) xs ys name)
+    numbered_append k (x ∷ xs) ys name = go (bytes_eq name x.name) (field_after u.interfaces class k x) _ _ _ (numbered_append (with_one (field_sort x) k) xs ys name)
       where
         go : (b : Bool) (found : FoundField) (p q r : Option FoundField) → p ≡ option_or q r → (if b then Some found else p) ≡ option_or (if b then Some found else q) r
         go true found p q r h = refl
@@ -220,9 +219,9 @@ said_named u zero name = refl
 said_named u (suc n) name = ap (λ t. named_said t name) (said u n) ∙ go (slice_get u.interfaces n) refl
   where
     go : (o : Option InterfaceTree) → slice_get u.interfaces n ≡ o → named_said (option_map (class_fields u (suc n)) o) name ≡ own_field u (suc n) name
-    go None e = sym (ap (λ o. numbered u.interfaces (suc n) (counts (kinds_of_fields (inherited u (suc n)))) (option_map_or (fields_declared u (suc n)) o []) name) e)
-    go (Some i) e = sym (ap (λ s. numbered u.interfaces (suc n) (counts (kinds_of_fields (inherited_by u (suc n) s))) (own_fields u (suc n)) name) (superclass_here u n i e)
-        ∙ ap (λ fs. numbered u.interfaces (suc n) (counts (kinds_of_fields (inherited_by u (suc n) (class_number u.interfaces i.superclass)))) fs name) (own_here u n i e))
+    go None e = sym (ap (λ o. numbered u.interfaces (suc n) (counts (sorts_of_fields (inherited u (suc n)))) (option_map_or (fields_declared u (suc n)) o []) name) e)
+    go (Some i) e = sym (ap (λ s. numbered u.interfaces (suc n) (counts (sorts_of_fields (inherited_by u (suc n) s))) (own_fields u (suc n)) name) (superclass_here u n i e)
+        ∙ ap (λ fs. numbered u.interfaces (suc n) (counts (sorts_of_fields (inherited_by u (suc n) (class_number u.interfaces i.superclass)))) fs name) (own_here u n i e))
 
 said_places : (u : UnitTree) (class : ℕ) (name : List ℕ) → places_said (slice_get (all_class_fields u) class) name ≡ field_place name (own_fields u class)
 said_places u zero name = refl
@@ -235,28 +234,28 @@ said_places u (suc n) name = ap (λ t. places_said t name) (said u n) ∙ go (sl
 -- a class that has no field of a name has no place of one
 not_numbered : (is : List InterfaceTree) (owner : ℕ) (k : SortCounts) (xs : List FieldTree) (name : List ℕ) → numbered is owner k xs name ≡ None → field_place name xs ≡ None
 not_numbered is owner k [] name e = refl
-not_numbered is owner k (x ∷ xs) name e = go (bytes_eq name x.name) e (not_numbered is owner (with_one (type_kind x.type) k) xs name)
+not_numbered is owner k (x ∷ xs) name e = go (bytes_eq name x.name) e (not_numbered is owner (with_one (field_sort x) k) xs name)
   where
-    go : (b : Bool) → (if b then Some (field_after is owner k x) else numbered is owner (with_one (type_kind x.type) k) xs name) ≡ None
-        → (numbered is owner (with_one (type_kind x.type) k) xs name ≡ None → field_place name xs ≡ None) → (if b then Some x.at else field_place name xs) ≡ None
+    go : (b : Bool) → (if b then Some (field_after is owner k x) else numbered is owner (with_one (field_sort x) k) xs name) ≡ None
+        → (numbered is owner (with_one (field_sort x) k) xs name ≡ None → field_place name xs ≡ None) → (if b then Some x.at else field_place name xs) ≡ None
     go true h more = absurd (none-some _ (sym h))
     go false h more = more h
 
 pub not_inherited : (u : UnitTree) (from : Option ℕ) (name : List ℕ) → known_field u from name ≡ None → inherited_place u from name ≡ None
 not_inherited u from name e =
     nothing_least (λ class. own_field u class name) (λ class. field_place name (own_fields u class))
-    (λ class h. not_numbered u.interfaces class (counts (kinds_of_fields (inherited u class))) (own_fields u class) name h) (ancestry (earlier_superclasses u.interfaces) from) e
+    (λ class h. not_numbered u.interfaces class (counts (sorts_of_fields (inherited u class))) (own_fields u class) name h) (ancestry (earlier_superclasses u.interfaces) from) e
 
 slice_past : {X : Type 0} (xs : List X) (n : ℕ) → n < length xs → slice_get xs n ≡ None → ⊥
 slice_past [] n l e = omega (arith, l)
 slice_past (x ∷ xs) zero l e = cc
 slice_past (x ∷ xs) (suc n) l e = slice_past xs n (omega (arith, l)) e
 
-said_counts : (u : UnitTree) (class : ℕ) → class ≤ length u.interfaces → counted_said (slice_get (all_class_fields u) class) ≡ counts (kinds_of_fields (fields u class))
+said_counts : (u : UnitTree) (class : ℕ) → class ≤ length u.interfaces → counted_said (slice_get (all_class_fields u) class) ≡ counts (sorts_of_fields (fields u class))
 said_counts u zero l = refl
 said_counts u (suc n) l = ap counted_said (said u n) ∙ go (slice_get u.interfaces n) refl
   where
-    go : (o : Option InterfaceTree) → slice_get u.interfaces n ≡ o → counted_said (option_map (class_fields u (suc n)) o) ≡ counts (kinds_of_fields (fields u (suc n)))
+    go : (o : Option InterfaceTree) → slice_get u.interfaces n ≡ o → counted_said (option_map (class_fields u (suc n)) o) ≡ counts (sorts_of_fields (fields u (suc n)))
     go None e = absurd (slice_past u.interfaces n (omega (arith, l)) e)
     go (Some i) e = sym (class_counts u n i e)
 
@@ -281,7 +280,7 @@ module _ (u : UnitTree) (all : List ClassFields) (e : map fields_tree all ≡ al
       go None = refl
       go (Some x) = refl
 
-  pub counts_kept : (class : ℕ) → class ≤ length u.interfaces → counted_among all (Some class) ≡ counts (kinds_of_fields (fields u class))
+  pub counts_kept : (class : ℕ) → class ≤ length u.interfaces → counted_among all (Some class) ≡ counts (sorts_of_fields (fields u class))
   counts_kept class l = go (slice_get all class) ∙ ap counted_said (tree_at u all class e) ∙ said_counts u class l
     where
       go : (o : Option ClassFields) → counted_at o ≡ counted_said (option_map fields_tree o)
@@ -321,7 +320,7 @@ slice_none (x ∷ xs) (suc n) l = slice_none xs n (omega (arith, l))
 
 -- how many fields a class inherits, by what is kept of those before it
 pub inherited_so_far : (u : UnitTree) (all : List ClassFields) (rest : List FieldsTree) → all_class_fields u ≡ map fields_tree all ++ rest → length all ≤ suc (length u.interfaces)
-    → (superclass : Option ℕ) → counted_among all superclass ≡ counts (kinds_of_fields (inherited_by u (length all) superclass))
+    → (superclass : Option ℕ) → counted_among all superclass ≡ counts (sorts_of_fields (inherited_by u (length all) superclass))
 inherited_so_far u all rest e l None = refl
 inherited_so_far u all rest e l (Some class) = go (nat_lt class (length all)) refl
   where
@@ -329,15 +328,15 @@ inherited_so_far u all rest e l (Some class) = go (nat_lt class (length all)) re
     tree None = refl
     tree (Some x) = refl
 
-    go : (b : Bool) → nat_lt class (length all) ≡ b → counted_at (slice_get all class) ≡ counts (kinds_of_fields (inherited_by u (length all) (Some class)))
+    go : (b : Bool) → nat_lt class (length all) ≡ b → counted_at (slice_get all class) ≡ counts (sorts_of_fields (inherited_by u (length all) (Some class)))
     go true t =
         let lt : class < length all = (Decides-ltb class (length all)).0 t in
         let within : class < length (map fields_tree all) = omega (arith, lt, length-map all fields_tree) in
         tree (slice_get all class) ∙ ap counted_said (sym (slice_get-map fields_tree all class) ∙ sym (slice_front (map fields_tree all) rest class within) ∙ ap (λ ts. slice_get ts class) (sym e))
-        ∙ said_counts u class (omega (arith, lt, l)) ∙ ap (λ fs. counts (kinds_of_fields fs)) (sym (fields_among (length all) u class lt))
+        ∙ said_counts u class (omega (arith, lt, l)) ∙ ap (λ fs. counts (sorts_of_fields fs)) (sym (fields_among (length all) u class lt))
     go false t =
         let past : length all ≤ class = grind (arith, nat_tests) in
-        ap counted_at (slice_none all class past) ∙ ap (λ fs. counts (kinds_of_fields fs)) (sym (fields_past (length all) u class past))
+        ap counted_at (slice_none all class past) ∙ ap (λ fs. counts (sorts_of_fields fs)) (sym (fields_past (length all) u class past))
 
 -- and which
 zero_more : (n : ℕ) → 0 + n ≡ n

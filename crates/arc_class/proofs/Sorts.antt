@@ -1,50 +1,51 @@
 -- How many there are of each sort, of lists one after the other.
-use Rattle.std.proofs.Common.{◌≡◌, ℕ, suc, ◌+◌, List, [], ◌∷◌, ◌++◌, length, map, refl, ap, ◌∙◌, arith}
-use Rattle.arc_ast.specs.declared.tree.Kind.{Kind}
-use Rattle.arc_ast.specs.declared.tree.Kind.TheVariants as k
-use Rattle.arc_ast.specs.Types.{type_kind}
+use Rattle.std.proofs.Common.{◌≡◌, ◌≤◌, ℕ, suc, ◌+◌, List, [], ◌∷◌, ◌++◌, length, map, Option, Some, None, refl, ap, ◌∙◌, arith}
+use Rattle.arc_ast.specs.declared.tree.Qual.{Qual}
+use Rattle.arc_ast.specs.declared.tree.Qual.TheVariants as quals
 use Rattle.arc_ast.specs.Tree.{FieldTree}
 use Rattle.arc_class.specs.declared.sort_counts.SortCounts.{SortCounts}
-use Rattle.arc_class.specs.Fields.{ClassField, owned, kinds_of_fields, written_kinds}
-use Rattle.arc_class.specs.Sorts.{with_one, with_all, counts, none_counted}
+use Rattle.arc_class.specs.Fields.{ClassField, owned, field_sort, sorts_of_fields, written_sorts}
+use Rattle.arc_class.specs.Sorts.{next_of, with_one, with_all, counts, none_counted, total}
 use Rattle.arc_class.proofs.Parts.{map_append}
 
-pub with_both : (c : SortCounts) (ks ls : List Kind) → with_all c (ks ++ ls) ≡ with_all (with_all c ks) ls
-with_both c [] ls = refl
-with_both c (k ∷ ks) ls = with_both (with_one k c) ks ls
+pub with_both : (c : SortCounts) (ss ts : List (Option Qual)) → with_all c (ss ++ ts) ≡ with_all (with_all c ss) ts
+with_both c [] ts = refl
+with_both c (s ∷ ss) ts = with_both (with_one s c) ss ts
 
-abbrev pub total : SortCounts → ℕ
-total c = c.numbers + c.objects
+pub next_within : (c : SortCounts) (sort : Option Qual) → next_of sort c ≤ total c
+next_within c None = omega arith
+next_within c (Some quals.Strong) = omega arith
+next_within c (Some quals.Weak) = omega arith
+next_within c (Some quals.Autoreleasing) = omega arith
 
-one_total : (c : SortCounts) (k : Kind) (n : ℕ) → total (with_one k c) + n ≡ total c + suc n
-one_total c k.Void n = omega arith
-one_total c k.Bool n = omega arith
-one_total c k.Int n = omega arith
-one_total c k.Long n = omega arith
-one_total c k.Object n = omega arith
+pub one_total : (c : SortCounts) (sort : Option Qual) (n : ℕ) → total (with_one sort c) + n ≡ total c + suc n
+one_total c None n = omega arith
+one_total c (Some quals.Strong) n = omega arith
+one_total c (Some quals.Weak) n = omega arith
+one_total c (Some quals.Autoreleasing) n = omega arith
 
-all_total : (c : SortCounts) (ks : List Kind) → total (with_all c ks) ≡ total c + length ks
+all_total : (c : SortCounts) (sorts : List (Option Qual)) → total (with_all c sorts) ≡ total c + length sorts
 all_total c [] = omega arith
-all_total c (k ∷ ks) = all_total (with_one k c) ks ∙ one_total c k (length ks)
+all_total c (s ∷ ss) = all_total (with_one s c) ss ∙ one_total c s (length ss)
 
--- there are as many of both sorts together as in all
-pub counts_total : (ks : List Kind) → total (counts ks) ≡ length ks
-counts_total ks = all_total none_counted ks ∙ omega arith
+-- there are as many of all sorts together as in all
+pub counts_total : (sorts : List (Option Qual)) → total (counts sorts) ≡ length sorts
+counts_total sorts = all_total none_counted sorts ∙ omega arith
 
-pub kinds_length : (fs : List ClassField) → length (kinds_of_fields fs) ≡ length fs
-kinds_length [] = refl
-kinds_length (f ∷ fs) = ap suc (kinds_length fs)
+pub sorts_length : (fs : List ClassField) → length (sorts_of_fields fs) ≡ length fs
+sorts_length [] = refl
+sorts_length (f ∷ fs) = ap suc (sorts_length fs)
 
-kinds_owned : (owner : ℕ) (fs : List FieldTree) → kinds_of_fields (map (owned owner) fs) ≡ written_kinds fs
-kinds_owned owner [] = refl
-kinds_owned owner (f ∷ fs) = ap (λ ks. type_kind f.type ∷ ks) (kinds_owned owner fs)
+sorts_owned : (owner : ℕ) (fs : List FieldTree) → sorts_of_fields (map (owned owner) fs) ≡ written_sorts fs
+sorts_owned owner [] = refl
+sorts_owned owner (f ∷ fs) = ap (λ ss. field_sort f ∷ ss) (sorts_owned owner fs)
 
 -- those of a class are counted after those that it inherits
-pub counts_of_class : (inherited : List ClassField) (owner : ℕ) (own : List FieldTree) → counts (kinds_of_fields (inherited ++ map (owned owner) own)) ≡ with_all (counts (kinds_of_fields inherited)) (written_kinds own)
+pub counts_of_class : (inherited : List ClassField) (owner : ℕ) (own : List FieldTree) → counts (sorts_of_fields (inherited ++ map (owned owner) own)) ≡ with_all (counts (sorts_of_fields inherited)) (written_sorts own)
 counts_of_class inherited owner own =
-    ap counts (map_append (λ f. f.kind) inherited (map (owned owner) own)) ∙ with_both none_counted (kinds_of_fields inherited) (kinds_of_fields (map (owned owner) own))
-    ∙ ap (with_all (counts (kinds_of_fields inherited))) (kinds_owned owner own)
+    ap counts (map_append (λ f. f.qual) inherited (map (owned owner) own)) ∙ with_both none_counted (sorts_of_fields inherited) (sorts_of_fields (map (owned owner) own))
+    ∙ ap (with_all (counts (sorts_of_fields inherited))) (sorts_owned owner own)
 
-pub counts_of_parts : (before : SortCounts) (xs ys : List FieldTree) → with_all (with_all before (written_kinds xs)) (written_kinds ys) ≡ with_all before (written_kinds (xs ++ ys))
+pub counts_of_parts : (before : SortCounts) (xs ys : List FieldTree) → with_all (with_all before (written_sorts xs)) (written_sorts ys) ≡ with_all before (written_sorts (xs ++ ys))
 counts_of_parts before [] ys = refl
-counts_of_parts before (x ∷ xs) ys = counts_of_parts (with_one (type_kind x.type) before) xs ys
+counts_of_parts before (x ∷ xs) ys = counts_of_parts (with_one (field_sort x) before) xs ys

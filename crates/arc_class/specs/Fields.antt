@@ -3,16 +3,14 @@ use Rattle.std.specs.Prelude.{ℕ, zero, suc, Bool, false, List, [], ◌∷◌, 
 use Rattle.std.specs.Option.{option_and_then, option_map_or}
 use Rattle.std.specs.Str.{bytes_eq}
 use Rattle.arc_ast.specs.declared.tree.Kind.{Kind}
-use Rattle.arc_ast.specs.declared.tree.Kind.TheVariants as k
 use Rattle.arc_ast.specs.declared.tree.Qual.{Qual}
-use Rattle.arc_ast.specs.declared.tree.Qual.TheVariants as quals
 use Rattle.arc_ast.specs.declared.tree.Visibility.{Visibility}
 use Rattle.arc_ast.specs.Types.{type_kind}
 use Rattle.arc_ast.specs.Tree.{FieldTree, InterfaceTree, ImplementationTree, UnitTree}
 use Rattle.arc_class.specs.declared.sort_counts.SortCounts.{SortCounts}
 use Rattle.arc_class.specs.declared.table.FoundField.{FoundField}
 use Rattle.arc_class.specs.Classes.{by_position, class_number, type_class, superclass}
-use Rattle.arc_class.specs.Sorts.{next_of, with_one, counts}
+use Rattle.arc_class.specs.Sorts.{held_by, next_of, with_one, counts}
 use Rattle.arc_spec.specs.Classes.{ancestry, first_that_has}
 
 -- a field that the objects of a class have, with what it is, how it holds an object, if it is one (ARC, "Ownership qualification"), and the class that declares
@@ -46,14 +44,13 @@ abbrev pub own_fields : UnitTree → (class : ℕ) → List FieldTree
 own_fields u zero = []
 own_fields u (suc n) = option_map_or (fields_declared u (suc n)) (slice_get u.interfaces n) []
 
--- how what has a kind holds an object, where nothing is written of it: a number holds none, and an object is held strongly (ARC, "Ownership qualification")
-abbrev pub held_by : Kind → Option Qual
-held_by k.Object = Some quals.Strong
-held_by _ = None
+-- the sort of a field: how it holds an object, if it is one (ARC, "Ownership qualification")
+abbrev pub field_sort : FieldTree → Option Qual
+field_sort f = held_by (type_kind f.type)
 
 -- a field that a class declares
 abbrev pub owned : (owner : ℕ) → FieldTree → ClassField
-owned owner f = record { name = f.name; kind = type_kind f.type; qual = held_by (type_kind f.type); owner = owner; visibility = f.visibility }
+owned owner f = record { name = f.name; kind = type_kind f.type; qual = field_sort f; owner = owner; visibility = f.visibility }
 
 -- a superclass that stands before its class; another one is inherited from by nobody, since it is refused (rule 22, UnknownClass)
 abbrev pub if_before : (class : ℕ) → (superclass : Option ℕ) → Option ℕ
@@ -88,27 +85,27 @@ all_fields_from u class (suc n) = fields u class ∷ all_fields_from u (suc clas
 abbrev pub inherited : UnitTree → (class : ℕ) → List ClassField
 inherited u class = inherited_by u class (superclass u.interfaces class)
 
--- the kinds of fields, in their order
-abbrev pub kinds_of_fields : List ClassField → List Kind
-kinds_of_fields = map (λ f. f.kind)
+-- the sorts of fields, in their order
+abbrev pub sorts_of_fields : List ClassField → List (Option Qual)
+sorts_of_fields = map (λ f. f.qual)
 
-abbrev pub written_kinds : List FieldTree → List Kind
-written_kinds = map (λ f. type_kind f.type)
+abbrev pub written_sorts : List FieldTree → List (Option Qual)
+written_sorts = map field_sort
 
 -- a field of a class, after so many of each sort
 abbrev pub field_after : List InterfaceTree → (owner : ℕ) → (before : SortCounts) → FieldTree → FoundField
 field_after interfaces owner before f =
-    record { owner = record { 0 = owner }; index = next_of (type_kind f.type) before; kind = type_kind f.type; class = type_class interfaces f.type; visibility = f.visibility }
+    record { owner = record { 0 = owner }; index = next_of (field_sort f) before; kind = type_kind f.type; qual = field_sort f; class = type_class interfaces f.type; visibility = f.visibility }
 
 -- the first field with a name among those that a class declares, where so many of each sort come before these
 abbrev pub numbered : List InterfaceTree → (owner : ℕ) → (before : SortCounts) → List FieldTree → List ℕ → Option FoundField
 numbered interfaces owner before [] name = None
 numbered interfaces owner before (f ∷ others) name =
-    if bytes_eq name f.name then Some (field_after interfaces owner before f) else numbered interfaces owner (with_one (type_kind f.type) before) others name
+    if bytes_eq name f.name then Some (field_after interfaces owner before f) else numbered interfaces owner (with_one (field_sort f) before) others name
 
 -- the field with a name that a class itself declares
 abbrev pub own_field : UnitTree → (class : ℕ) → List ℕ → Option FoundField
-own_field u class name = numbered u.interfaces class (counts (kinds_of_fields (inherited u class))) (own_fields u class) name
+own_field u class name = numbered u.interfaces class (counts (sorts_of_fields (inherited u class))) (own_fields u class) name
 
 -- the field with a name that the objects of a class have: the nearest that the class or a class that it inherits from declares
 abbrev pub known_field : UnitTree → Option ℕ → List ℕ → Option FoundField

@@ -7,17 +7,17 @@ use Rattle.arc_ast.specs.Types.{type_kind}
 use Rattle.arc_class.specs.declared.sort_counts.SortCounts.{SortCounts}
 use Rattle.arc_class.specs.declared.table.Variable.{Variable}
 use Rattle.arc_class.specs.Classes.{type_class}
-use Rattle.arc_class.specs.Sorts.{none_counted, next_of, with_one}
+use Rattle.arc_class.specs.Sorts.{held_by, none_counted, next_of, with_one}
 
 -- a variable after so many of each sort, where classes have these interfaces
 abbrev pub variable_after : List InterfaceTree → (before : SortCounts) → GlobalTree → Variable
-variable_after interfaces before g = record { number = next_of (type_kind g.type) before; kind = type_kind g.type; class = type_class interfaces g.type; at = g.at }
+variable_after interfaces before g = record { number = next_of (held_by (type_kind g.type)) before; kind = type_kind g.type; class = type_class interfaces g.type; at = g.at }
 
 -- the first variable with a name, where so many of each sort come before these
 abbrev pub variables : List InterfaceTree → (before : SortCounts) → List GlobalTree → List ℕ → Option Variable
 variables interfaces before [] name = None
 variables interfaces before (g ∷ others) name =
-    if bytes_eq name g.name then Some (variable_after interfaces before g) else variables interfaces (with_one (type_kind g.type) before) others name
+    if bytes_eq name g.name then Some (variable_after interfaces before g) else variables interfaces (with_one (held_by (type_kind g.type)) before) others name
 
 -- the same of all variables of a source
 abbrev pub known_global : List InterfaceTree → List GlobalTree → List ℕ → Option Variable

@@ -7,14 +7,14 @@ use Rattle.arc_spec.specs.declared.class.Method.{Method}
 use Rattle.arc_spec.specs.Classes.{Class, gives_of}
 use Rattle.arc_class.specs.Classes.{class_number, result_of, selectors, number_among, is_dealloc, bodies}
 use Rattle.arc_class.specs.declared.sort_counts.SortCounts.{SortCounts}
-use Rattle.arc_class.specs.Fields.{fields, kinds_of_fields}
+use Rattle.arc_class.specs.Fields.{fields, sorts_of_fields}
 use Rattle.arc_class.specs.Names.{parameter_kinds}
-use Rattle.arc_class.specs.Sorts.{counts}
+use Rattle.arc_class.specs.Sorts.{counts, counts_of_kinds}
 
 -- a method that runs this function, where selectors have these names
 abbrev pub method_made : (selectors : List (List ℕ)) → (runs : ℕ) → HeadTree → Method
 method_made selectors runs h =
-    let passed = counts (parameter_kinds h.parameters) in
+    let passed = counts_of_kinds (parameter_kinds h.parameters) in
     record { sign = h.sign; selector = unwrap_or (number_among selectors h.selector) 0; takes = passed.numbers; objects = passed.objects; gives = gives_of (result_of h); runs = runs }
 
 -- methods and one more, unless it ends objects
@@ -52,7 +52,7 @@ class_with u fields i = record {
 }
 
 abbrev pub class_of : UnitTree → (number : ℕ) → InterfaceTree → Class
-class_of u number i = class_with u (counts (kinds_of_fields (fields u number))) i
+class_of u number i = class_with u (counts (sorts_of_fields (fields u number))) i
 
 -- the classes of these interfaces, of which the first has this number
 abbrev pub classes_from : UnitTree → (number : ℕ) → List InterfaceTree → List Class

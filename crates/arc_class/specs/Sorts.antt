@@ -1,26 +1,41 @@
 -- How many fields, variables or parameters there are of each sort: of those that hold numbers, and of those that name objects. Each sort is numbered from 0, apart
--- from the other (this project's own choice).
-use Rattle.std.specs.Prelude.{ℕ, suc, List, fold}
+-- from the other (this project's own choice). The sort is how an object is held, if one is.
+use Rattle.std.specs.Prelude.{ℕ, suc, ◌+◌, List, map, fold, Option, Some, None}
 use Rattle.arc_ast.specs.declared.tree.Kind.{Kind}
 use Rattle.arc_ast.specs.declared.tree.Kind.TheVariants as k
+use Rattle.arc_ast.specs.declared.tree.Qual.{Qual}
+use Rattle.arc_ast.specs.declared.tree.Qual.TheVariants as quals
 use Rattle.arc_class.specs.declared.sort_counts.SortCounts.{SortCounts}
+
+-- how what has a kind holds an object, where nothing is written of it: a number holds none, and an object is held strongly (ARC, "Ownership qualification")
+abbrev pub held_by : Kind → Option Qual
+held_by k.Object = Some quals.Strong
+held_by _ = None
 
 abbrev pub none_counted : SortCounts
 none_counted = record { numbers = 0; objects = 0 }
 
--- the number that the next one of a kind gets, after so many
-abbrev pub next_of : Kind → SortCounts → ℕ
-next_of k.Object c = c.objects
-next_of _ c = c.numbers
+-- the number that the next one of a sort gets, after so many
+abbrev pub next_of : (sort : Option Qual) → SortCounts → ℕ
+next_of None c = c.numbers
+next_of (Some held) c = c.objects
 
--- one more of a kind
-abbrev pub with_one : Kind → SortCounts → SortCounts
-with_one k.Object c = record { numbers = c.numbers; objects = suc c.objects }
-with_one _ c = record { numbers = suc c.numbers; objects = c.objects }
+-- one more of a sort
+abbrev pub with_one : (sort : Option Qual) → SortCounts → SortCounts
+with_one None c = record c { numbers = suc c.numbers }
+with_one (Some held) c = record c { objects = suc c.objects }
 
--- more of these kinds
-abbrev pub with_all : SortCounts → List Kind → SortCounts
-with_all = fold (λ c kind. with_one kind c)
+-- more of these sorts
+abbrev pub with_all : SortCounts → (sorts : List (Option Qual)) → SortCounts
+with_all = fold (λ c sort. with_one sort c)
 
-abbrev pub counts : List Kind → SortCounts
+abbrev pub counts : (sorts : List (Option Qual)) → SortCounts
 counts = with_all none_counted
+
+-- the same of what has these kinds, where nothing else is written of it
+abbrev pub counts_of_kinds : List Kind → SortCounts
+counts_of_kinds kinds = counts (map held_by kinds)
+
+-- how many there are of all sorts together
+abbrev pub total : SortCounts → ℕ
+total c = c.numbers + c.objects

@@ -25,7 +25,7 @@ use Rattle.arc_class.specs.Fields.{ClassField, fields, known_field}
 use Rattle.arc_class.specs.Globals.{known_global}
 use Rattle.arc_class.specs.Names.{known, parameter_kinds, listed_kinds, kinds_of_parameters, number_of, is_main}
 use Rattle.arc_class.specs.Running.{classes}
-use Rattle.arc_class.specs.Sorts.{counts}
+use Rattle.arc_class.specs.Sorts.{counts_of_kinds}
 
 -- what a table knows of the functions of a name
 abbrev pub function_in : ClassTable → List ℕ → Option Declared
@@ -101,7 +101,7 @@ gives_in table sign selector =
 abbrev pub defined_in : ClassTable → (class : ℕ) → Sign → (selector : ℕ) → Option ℕ
 defined_in table class sign selector =
     if ends_object sign (selector_name table selector) then nearest_dealloc (classes_of table.classes.items) (Some class)
-    else look_up_passing table class sign selector (counts (passed_in table sign (selector_name table selector))) (gives_in table sign (selector_name table selector))
+    else look_up_passing table class sign selector (counts_of_kinds (passed_in table sign (selector_name table selector))) (gives_in table sign (selector_name table selector))
 
 abbrev pub built_in_method : ClassTable → (class : ℕ) → Sign → (selector : ℕ) → Option ℕ
 built_in_method table class sign selector =

@@ -1,7 +1,6 @@
 //! The fields of objects.
 ghost use Rattle.std.specs.Prelude.{◌≡◌, ℕ, List, [], ◌++◌, length, map, option_map, slice_get, suc, IfOk, IfErr, OnOk};
 ghost use Rattle.arc_ast.specs.Tree.{UnitTree, FieldTree, InterfaceTree, unit_tree, interface_tree, field_tree as written_field, field_trees};
-ghost use Rattle.arc_ast.specs.Types.{type_kind};
 ghost use Rattle.arc_class.specs.Broken.{first};
 ghost use Rattle.arc_class.specs.Classes.{class_number};
 ghost use Rattle.arc_class.specs.ClassRules as rules;
@@ -10,7 +9,7 @@ ghost use Rattle.arc_fault.specs.declared.class.ClassFault.TheVariants.{Memory};
 ghost use Rattle.arc_class.specs.private.Entries.{own_trees, fields_tree, root_fields, all_class_fields, class_fields_with, counted_among, inherited_place};
 ghost use Rattle.arc_class.specs.Fault.{reported};
 ghost use Rattle.arc_class.specs.Fields as specs;
-ghost use Rattle.arc_class.specs.Fields.{numbered, field_after, written_kinds, held_by, owned, fields_declared, all_fields_from};
+ghost use Rattle.arc_class.specs.Fields.{numbered, field_after, field_sort, written_sorts, owned, fields_declared, all_fields_from};
 ghost use Rattle.arc_class.specs.Kept.{Knows};
 ghost use Rattle.arc_class.specs.Lookups.{at_name, class_number_in, own_field_in, own_place_in, field_among, place_among, field_tree, list_of, list_among, number_of_class, least_of};
 ghost use Rattle.arc_class.specs.Owners.{FindsFields};
@@ -22,10 +21,10 @@ use crate::fault::fault_if;
 use crate::heads::keep_first;
 use crate::kept::Source;
 use crate::owners::Owners;
-use crate::sort_counts::SortCounts;
+use crate::sort_counts::{SortCounts, held_by};
 use crate::table::{ClassId, Field, FoundField, Names, at_name, class_number, type_class};
 use arc_ast::tree;
-use arc_ast::tree::{Interface, Kind, Qual};
+use arc_ast::tree::{Interface, Qual};
 use arc_fault::class::ClassFault;
 use arc_sites::violation::earlier;
 use std::alloc::{AllocError, Global};
@@ -86,6 +85,13 @@ pub fn field_places<'a>(alloc: Global, own: &OwnFields<'a>) -> Result<FieldPlace
     Ok(places)
 }
 
+/// How the field holds an object, if it is one.
+fn field_sort(field: &tree::Field) -> Option<Qual>
+    ensures { result ≡ field_sort (written_field field.now) }
+{
+    held_by(field.type_name.kind())
+}
+
 /// A field of the class after so many of each sort, where classes have these names.
 fn field_after<'a>(
     names: &Names<'a>,
@@ -95,13 +101,14 @@ fn field_after<'a>(
 ) -> FoundField
     ensures field { (interfaces : List InterfaceTree) → ((sought : List ℕ) → class_number_in names.now sought ≡ class_number interfaces sought)
         → result ≡ field_after interfaces (number_of_class owner) before (written_field field.now) }
-    ensures kind { result.kind ≡ type_kind (written_field field.now).type }
+    ensures sort { result.qual ≡ field_sort (written_field field.now) }
 {
-    let kind = field.type_name.kind();
+    let qual = field_sort(field);
     FoundField {
         owner,
-        index: before.next(kind),
-        kind,
+        index: before.next(qual),
+        kind: field.type_name.kind(),
+        qual,
         class: type_class(names, &field.type_name),
         visibility: field.visibility,
     }
@@ -118,14 +125,14 @@ fn keep_fields<'a>(
 ) -> Result<SortCounts, ClassFault>
     ensures kept { (interfaces : List InterfaceTree) → ((sought : List ℕ) → class_number_in names.now sought ≡ class_number interfaces sought) → OnOk result ((sought : List ℕ)
         → at_name named.new sought ≡ option_or (at_name named.old sought) (numbered interfaces (number_of_class owner) before (field_trees fields.now) sought)) }
-    ensures counted { IfOk result (λ counted. counted ≡ with_all before (written_kinds (field_trees fields.now))) }
+    ensures counted { IfOk result (λ counted. counted ≡ with_all before (written_sorts (field_trees fields.now))) }
     ensures refused { IfErr result (λ fault. fault ≡ Memory) }
 {
     let mut counted = before;
     for field in fields {
         let found = field_after(names, owner, counted, field);
         keep_first(named, &field.name, found)?;
-        counted = counted.with(found.kind)?;
+        counted = counted.with(found.qual)?;
     }
     Ok(counted)
 }
@@ -346,16 +353,6 @@ fn if_before(class: usize, superclass: Option<usize>) -> Option<usize>
     }
 }
 
-/// How what has the kind holds an object, where nothing is written of it.
-fn held_by(kind: Kind) -> Option<Qual>
-    ensures { result ≡ held_by kind }
-{
-    match kind {
-        Kind::Object => Some(Qual::Strong),
-        Kind::Void | Kind::Bool | Kind::Int | Kind::Long => None,
-    }
-}
-
 /// Adds the fields that the class declares.
 fn add_fields<'a>(
     all: &mut Vec<Field<'a>>,
@@ -365,11 +362,10 @@ fn add_fields<'a>(
     ensures { OnOk result (map field_tree all.new.items ≡ map field_tree all.old.items ++ map (owned (number_of_class owner)) (field_trees fields.now)) }
 {
     for field in fields {
-        let kind = field.type_name.kind();
         all.push(Field {
             name: &field.name,
-            kind,
-            qual: held_by(kind),
+            kind: field.type_name.kind(),
+            qual: field_sort(field),
             owner,
             visibility: field.visibility,
         })?;

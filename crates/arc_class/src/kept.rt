@@ -15,7 +15,7 @@ ghost use Rattle.arc_class.specs.Table.{at_name, class_number_in};
 
 use crate::by_name::ByName;
 use crate::heads::{Heads, keep_first};
-use crate::sort_counts::SortCounts;
+use crate::sort_counts::{SortCounts, held_by};
 use crate::table::{Known, Names, Place, Variable, Variables, at_name, type_class};
 use arc_ast::tree;
 use arc_ast::tree::{Function, Implementation, Interface, Method, TranslationUnit};
@@ -118,7 +118,7 @@ fn variable<'a>(names: &Names<'a>, before: SortCounts, global: &'a tree::Global)
 {
     let kind = global.type_name.kind();
     Variable {
-        number: before.next(kind),
+        number: before.next(held_by(kind)),
         kind,
         class: type_class(names, &global.type_name),
         at: global.at,
@@ -141,7 +141,7 @@ fn first_globals<'a>(
     for global in globals {
         let variable = variable(names, before, global);
         keep_first(&mut map, &global.name, variable)?;
-        before = before.with(variable.kind)?;
+        before = before.with(held_by(variable.kind))?;
     }
     Ok(map)
 }

@@ -1,13 +1,23 @@
 //! How many fields, variables or parameters there are of each sort: of those that hold numbers, and of those that name
-//! objects.
-ghost use Rattle.std.specs.Prelude.{◌≡◌, ◌+◌, nat_lt, IfOk, IfErr};
+//! objects. The sort is how an object is held, if one is.
+ghost use Rattle.std.specs.Prelude.{◌≡◌, ◌<◌, nat_lt, IfOk, IfErr};
 ghost use Rattle.arc_ast.specs.Tree.{parameter_trees};
 ghost use Rattle.arc_fault.specs.declared.class.ClassFault.TheVariants.{Memory};
 ghost use Rattle.arc_class.specs.Names.{parameter_kinds};
 ghost use Rattle.arc_class.specs.Sorts as sorts;
 
-use arc_ast::tree::{Kind, Parameter};
+use arc_ast::tree::{Kind, Parameter, Qual};
 use arc_fault::class::ClassFault;
+
+/// How what has the kind holds an object, where nothing is written of it.
+pub fn held_by(kind: Kind) -> Option<Qual>
+    ensures { result ≡ sorts.held_by kind }
+{
+    match kind {
+        Kind::Object => Some(Qual::Strong),
+        Kind::Void | Kind::Bool | Kind::Int | Kind::Long => None,
+    }
+}
 
 /// How many there are of each sort. What is of a sort is numbered from 0, apart from the other.
 #[derive(Clone, Copy)]
@@ -26,39 +36,47 @@ impl SortCounts {
         }
     }
 
-    /// The number that the next one of the kind gets.
-    pub fn next(self, kind: Kind) -> usize
-        ensures { result ≡ sorts.next_of kind self }
+    /// The number that the next one of the sort gets.
+    pub fn next(self, sort: Option<Qual>) -> usize
+        ensures { result ≡ sorts.next_of sort self }
     {
-        match kind {
-            Kind::Object => self.objects,
-            Kind::Void | Kind::Bool | Kind::Int | Kind::Long => self.numbers,
+        match sort {
+            None => self.numbers,
+            Some(_) => self.objects,
         }
     }
 
-    /// One more of the kind. Memory: so many have no numbers.
-    pub fn with(self, kind: Kind) -> Result<SortCounts, ClassFault>
-        ensures counted { IfOk result (λ counts. counts ≡ sorts.with_one kind self) }
+    /// One more of the sort, where it has a number.
+    fn and(self, sort: Option<Qual>) -> SortCounts
+        requires { sorts.next_of sort self < usize.MAX }
+        ensures { result ≡ sorts.with_one sort self }
+    {
+        match sort {
+            None => SortCounts {
+                numbers: self.numbers + 1,
+                ..self
+            },
+            Some(_) => SortCounts {
+                objects: self.objects + 1,
+                ..self
+            },
+        }
+    }
+
+    /// One more of the sort. Memory: so many have no numbers.
+    pub fn with(self, sort: Option<Qual>) -> Result<SortCounts, ClassFault>
+        ensures counted { IfOk result (λ counts. counts ≡ sorts.with_one sort self) }
         ensures refused { IfErr result (λ fault. fault ≡ Memory) }
     {
-        if self.next(kind) == usize::MAX {
+        if self.next(sort) == usize::MAX {
             return Err(ClassFault::Memory);
         }
-        match kind {
-            Kind::Object => Ok(SortCounts {
-                numbers: self.numbers,
-                objects: self.objects + 1,
-            }),
-            Kind::Void | Kind::Bool | Kind::Int | Kind::Long => Ok(SortCounts {
-                numbers: self.numbers + 1,
-                objects: self.objects,
-            }),
-        }
+        Ok(self.and(sort))
     }
 
-    /// Whether there are more of both sorts together.
+    /// Whether there are more of all sorts together.
     pub fn is_above(self, most: usize) -> bool
-        ensures { result ≡ nat_lt most (self.numbers + self.objects) }
+        ensures { result ≡ nat_lt most (sorts.total self) }
     {
         self.numbers > most || self.objects > most - self.numbers
     }
@@ -66,15 +84,11 @@ impl SortCounts {
 
 /// How many parameters there are of each sort.
 pub fn parameter_counts(parameters: &[Parameter]) -> SortCounts
-    ensures { result ≡ sorts.counts (parameter_kinds (parameter_trees parameters.now)) }
+    ensures { result ≡ sorts.counts_of_kinds (parameter_kinds (parameter_trees parameters.now)) }
 {
-    let mut numbers = 0;
-    let mut objects = 0;
+    let mut counts = SortCounts::none();
     for parameter in parameters {
-        match parameter.type_name.kind() {
-            Kind::Object => objects += 1,
-            Kind::Void | Kind::Bool | Kind::Int | Kind::Long => numbers += 1,
-        }
+        counts = counts.and(held_by(parameter.type_name.kind()));
     }
-    SortCounts { numbers, objects }
+    counts
 }

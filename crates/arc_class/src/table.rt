@@ -180,12 +180,14 @@ pub struct Field<'a> {
 }
 
 /// A field that a name stands for: the class that declares it, its number in the objects of that
-/// class and of those below it, counted from 0 among those of its sort, and the class of a type that names one.
+/// class and of those below it, counted from 0 among those of its sort, its kind, how it holds an object, if it is one,
+/// and the class of a type that names one.
 #[derive(Clone, Copy)]
 pub struct FoundField {
     pub owner: ClassId,
     pub index: usize,
     pub kind: Kind,
+    pub qual: Option<Qual>,
     pub class: Option<ClassId>,
     pub visibility: Visibility,
 }

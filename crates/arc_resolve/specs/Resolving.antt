@@ -18,6 +18,7 @@ use Rattle.arc_ast.specs.declared.tree.OperatorSort.{OperatorSort}
 use Rattle.arc_ast.specs.declared.tree.OperatorSort.TheVariants.{Equality, Logic}
 use Rattle.arc_ast.specs.declared.tree.Kind.{Kind}
 use Rattle.arc_ast.specs.declared.tree.Kind.TheVariants as k
+use Rattle.arc_ast.specs.declared.tree.Qual.{Qual}
 use Rattle.arc_ast.specs.declared.tree.Sign.{Sign}
 use Rattle.arc_ast.specs.declared.tree.Sign.TheVariants as signs
 use Rattle.arc_ast.specs.Tree as tree
@@ -144,15 +145,20 @@ argument (Some kind) a others = if is_object (Some kind) then object_argument (o
 
 -- ---- names, fields and assignments
 
--- a field of an object, which holds a number or names an object, and an assignment to it
+-- a field of an object, by its sort: it holds a number, or names an object; and an assignment to it
 abbrev pub read_field : Reference → FoundField → Resolution
-read_field r f =
-    if is_object (Some f.kind) then Refers (ObjectField r (number_of_class f.owner) f.index) else Gives f.kind (Field r (number_of_class f.owner) f.index)
+read_field r f = read f.qual
+  where
+    read : (sort : Option Qual) → Resolution
+    read None = Gives f.kind (Field r (number_of_class f.owner) f.index)
+    read (Some held) = Refers (ObjectField r (number_of_class f.owner) f.index)
 
 abbrev pub store_field : Reference → FoundField → Resolution → Resolution
-store_field r f a =
-    if is_object (Some f.kind) then Refers (ObjectFieldStored r (number_of_class f.owner) f.index (object_in a))
-    else Gives f.kind (FieldAssigned r (number_of_class f.owner) f.index (converted f.kind a))
+store_field r f a = store f.qual
+  where
+    store : (sort : Option Qual) → Resolution
+    store None = Gives f.kind (FieldAssigned r (number_of_class f.owner) f.index (converted f.kind a))
+    store (Some held) = Refers (ObjectFieldStored r (number_of_class f.owner) f.index (object_in a))
 
 -- the same of a field that may be there
 abbrev pub field : Reference → Option FoundField → Resolution

@@ -447,12 +447,11 @@ fn read_field(alloc: Global, object: Reference, field: FoundField) -> Result<Res
     ensures { IfOk result (λ new. resolution new ≡ resolving.read_field (checked.reference object) field) }
 {
     let object = Box::new(alloc, object)?;
-    if is_object(Some(field.kind)) {
-        Ok(Resolution::Refers(Reference::ObjectField(object, field.owner.0, field.index)))
-    } else {
-        let value = Value::Field(object, field.owner.0, field.index);
-        Ok(Resolution::Gives(field.kind, value))
-    }
+    let (owner, index) = (field.owner.0, field.index);
+    Ok(match field.qual {
+        None => Resolution::Gives(field.kind, Value::Field(object, owner, index)),
+        Some(_) => Resolution::Refers(Reference::ObjectField(object, owner, index)),
+    })
 }
 
 /// An assignment to the field of the object.
@@ -483,14 +482,17 @@ fn store_field(
     ensures { IfOk result (λ new. resolution new ≡ resolving.store_field (checked.reference object) field (part_of of)) }
 {
     let object = Box::new(alloc, object)?;
-    if is_object(Some(field.kind)) {
-        let stored = object_part(alloc, of)?;
-        let (owner, index) = (field.owner.0, field.index);
-        Ok(Resolution::Refers(Reference::ObjectFieldStored(object, owner, index, stored)))
-    } else {
-        let value = converted_part(alloc, field.kind, of)?;
-        let value = Value::FieldAssigned(object, field.owner.0, field.index, value);
-        Ok(Resolution::Gives(field.kind, value))
+    let (owner, index) = (field.owner.0, field.index);
+    match field.qual {
+        None => {
+            let value = converted_part(alloc, field.kind, of)?;
+            let value = Value::FieldAssigned(object, owner, index, value);
+            Ok(Resolution::Gives(field.kind, value))
+        }
+        Some(_) => {
+            let stored = object_part(alloc, of)?;
+            Ok(Resolution::Refers(Reference::ObjectFieldStored(object, owner, index, stored)))
+        }
     }
 }
 

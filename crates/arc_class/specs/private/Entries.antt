@@ -10,7 +10,7 @@ use Rattle.arc_class.specs.declared.table.FoundField.{FoundField}
 use Rattle.arc_class.specs.ClassRules.{field_place}
 use Rattle.arc_class.specs.Classes.{class_number, own_result}
 use Rattle.arc_class.specs.declared.sort_counts.SortCounts.{SortCounts}
-use Rattle.arc_class.specs.Fields.{numbered, kinds_of_fields, written_kinds, fields_declared, if_before, earlier_superclasses, inherited_by, own_fields}
+use Rattle.arc_class.specs.Fields.{numbered, sorts_of_fields, written_sorts, fields_declared, if_before, earlier_superclasses, inherited_by, own_fields}
 use Rattle.arc_class.specs.Sorts.{none_counted, with_all, counts}
 use Rattle.arc_class.specs.ByName.{Named}
 use Rattle.arc_class.specs.declared.table.MethodResult.{MethodResult}
@@ -55,11 +55,11 @@ class_fields_with u class inherited i = record {
   superclass = if_before class (class_number u.interfaces i.superclass);
   places = λ name. field_place name (fields_declared u class i);
   named = numbered u.interfaces class inherited (fields_declared u class i);
-  counted = with_all inherited (written_kinds (fields_declared u class i));
+  counted = with_all inherited (written_sorts (fields_declared u class i));
 }
 
 abbrev pub class_fields : UnitTree → (class : ℕ) → InterfaceTree → FieldsTree
-class_fields u class i = class_fields_with u class (counts (kinds_of_fields (inherited_by u class (class_number u.interfaces i.superclass)))) i
+class_fields u class i = class_fields_with u class (counts (sorts_of_fields (inherited_by u class (class_number u.interfaces i.superclass)))) i
 
 abbrev pub class_fields_from : UnitTree → (class : ℕ) → List InterfaceTree → List FieldsTree
 class_fields_from u class [] = []

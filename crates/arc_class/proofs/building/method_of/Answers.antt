@@ -7,7 +7,7 @@ use Rattle.arc_spec.specs.Classes.{gives_of}
 use Rattle.arc_class.specs.declared.sort_counts.SortCounts.{SortCounts}
 use Rattle.arc_class.specs.Classes.{number_among, result_of}
 use Rattle.arc_class.specs.Names.{parameter_kinds}
-use Rattle.arc_class.specs.Sorts.{counts}
+use Rattle.arc_class.specs.Sorts.{counts_of_kinds}
 use Rattle.arc_class.specs.Table.{names_of}
 use Rattle.arc_class.proofs.building.method_of.Goals as goal
 
@@ -19,9 +19,9 @@ returns c =
     let h = c.args.head.now in
     let number : c.selector_number.result ≡ unwrap_or (number_among (names_of c.args.selectors.now.keys) h.selector.items) 0 =
     c.selector_number.ensures ∙ ap (λ n. unwrap_or (number_among (names_of c.args.selectors.now.keys) n) 0) c.deref-2.ensures.value in
-    let passed : c.parameter_counts-passed.result ≡ counts (parameter_kinds (parameter_trees h.parameters.items)) =
-    c.parameter_counts-passed.ensures ∙ ap (λ ps. counts (parameter_kinds (parameter_trees ps))) c.deref.ensures.value in
+    let passed : c.parameter_counts-passed.result ≡ counts_of_kinds (parameter_kinds (parameter_trees h.parameters.items)) =
+    c.parameter_counts-passed.ensures ∙ ap (λ ps. counts_of_kinds (parameter_kinds (parameter_trees ps))) c.deref.ensures.value in
     let gives : c.gives_of.result ≡ gives_of (result_of (head_tree h)) = c.gives_of.ensures ∙ ap gives_of c.kind.ensures in
     ap (λ n. method_with h.sign n c.parameter_counts-passed.result c.gives_of.result c.args.runs) number
     ∙ ap (λ p. method_with h.sign (unwrap_or (number_among (names_of c.args.selectors.now.keys) h.selector.items) 0) p c.gives_of.result c.args.runs) passed
-    ∙ ap (λ g. method_with h.sign (unwrap_or (number_among (names_of c.args.selectors.now.keys) h.selector.items) 0) (counts (parameter_kinds (parameter_trees h.parameters.items))) g c.args.runs) gives
+    ∙ ap (λ g. method_with h.sign (unwrap_or (number_among (names_of c.args.selectors.now.keys) h.selector.items) 0) (counts_of_kinds (parameter_kinds (parameter_trees h.parameters.items))) g c.args.runs) gives

@@ -15,7 +15,7 @@ loop-field-preserved c =
     let x = c.field-item.result in
     let owner = number_of_class c.args.owner in
     made_turn field_tree c.loop-field.all.items c.push.new.self.items _ (owned owner (tree.field_tree x)) (map (owned owner) (field_trees (drop (k + 1) xs))) _
-    c.in_ok-push.ensures.items (rw (c.held_by.ensures, c.kind-kind.ensures, c.deref.ensures.value) refl)
+    c.in_ok-push.ensures.items (rw (c.field_sort.ensures, c.kind.ensures, c.deref.ensures.value) refl)
     (c.loop-field.invariant ∙ ap (λ us. map field_tree c.loop-field.all.items ++ map (owned owner) (field_trees us)) (drop_turn xs k x c.loop-field-test.true c.field-item.is))
 
 pub returns : goal.returns

@@ -1,9 +1,8 @@
 use Rattle.std.proofs.Common.{◌≡◌, ◌+◌, drop, sym, ap, ◌∙◌, arith}
 use Rattle.std.proofs.lemmas.Grind.{common_steps}
-use Rattle.arc_ast.specs.Tree.{type_tree, field_tree, field_trees}
-use Rattle.arc_ast.specs.Types.{type_kind}
+use Rattle.arc_ast.specs.Tree.{field_tree, field_trees}
 use Rattle.std.specs.Option.{option_or}
-use Rattle.arc_class.specs.Fields.{field_after, numbered, written_kinds}
+use Rattle.arc_class.specs.Fields.{field_after, field_sort, numbered, written_sorts}
 use Rattle.arc_class.specs.Kept.{one_at}
 use Rattle.arc_class.specs.Sorts.{with_one, with_all}
 use Rattle.arc_class.specs.Table.{at_name, number_of_class}
@@ -18,8 +17,8 @@ loop-field-preserved c =
     let x = c.field-item.result in
     let owner = number_of_class c.args.owner in
     let before = c.loop-field.counted in
-    let kind = type_kind (type_tree x.type_name) in
-    let next : c.in_ok-counted.counted ≡ with_one kind before = c.in_ok-counted.ensures.counted ∙ ap (λ f. with_one f before) c.field_after-found.ensures.kind in
+    let sort = field_sort (field_tree x) in
+    let next : c.in_ok-counted.counted ≡ with_one sort before = c.in_ok-counted.ensures.counted ∙ ap (λ f. with_one f before) c.field_after-found.ensures.sort in
     record {
       kept = λ interfaces names sought.
           let old = at_name c.loop-field.named sought in
@@ -28,15 +27,15 @@ loop-field-preserved c =
           kept_turn old (one_at x.name.items found sought) _ rest _
           (c.in_ok-keep_first.ensures sought ∙ ap (λ f. option_or old (one_at c.deref.result.now f sought)) (c.field_after-found.ensures.field interfaces names) ∙ ap (λ n. option_or old (one_at n found sought)) c.deref.ensures.value)
           (c.loop-field.invariant.kept interfaces names sought ∙ ap (option_or old) (ap (λ us. numbered interfaces owner before (field_trees us) sought) (drop_turn xs k x c.loop-field-test.true c.field-item.is)
-          ∙ or_one x.name.items found (numbered interfaces owner (with_one kind before) (field_trees (drop (k + 1) xs)) sought) sought
+          ∙ or_one x.name.items found (numbered interfaces owner (with_one sort before) (field_trees (drop (k + 1) xs)) sought) sought
           ∙ ap (λ n. option_or (one_at x.name.items found sought) (numbered interfaces owner n (field_trees (drop (k + 1) xs)) sought)) (sym next)));
-      counted = c.loop-field.invariant.counted ∙ ap (λ us. with_all before (written_kinds (field_trees us))) (drop_turn xs k x c.loop-field-test.true c.field-item.is)
-          ∙ ap (λ n. with_all n (written_kinds (field_trees (drop (k + 1) xs)))) (sym next);
+      counted = c.loop-field.invariant.counted ∙ ap (λ us. with_all before (written_sorts (field_trees us))) (drop_turn xs k x c.loop-field-test.true c.field-item.is)
+          ∙ ap (λ n. with_all n (written_sorts (field_trees (drop (k + 1) xs)))) (sym next);
     }
 
 pub returns-clause-counted : goal.returns-clause-counted
 returns-clause-counted c =
-    sym (c.loop-field.invariant.counted ∙ ap (λ us. with_all c.loop-field.counted (written_kinds (field_trees us))) (drop_end c.args.fields.now c.loop-field.field-index c.loop-field-test.false))
+    sym (c.loop-field.invariant.counted ∙ ap (λ us. with_all c.loop-field.counted (written_sorts (field_trees us))) (drop_end c.args.fields.now c.loop-field.field-index c.loop-field-test.false))
 
 pub returns-clause-kept : goal.returns-clause-kept
 returns-clause-kept c = grind (arith, common_steps)

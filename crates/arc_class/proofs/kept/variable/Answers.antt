@@ -4,7 +4,7 @@ use Rattle.arc_ast.specs.Tree.{type_tree}
 use Rattle.arc_ast.specs.Types.{type_kind}
 use Rattle.arc_class.specs.declared.table.ClassId.{ClassId}
 use Rattle.arc_class.specs.declared.table.Variable.{Variable}
-use Rattle.arc_class.specs.Sorts.{next_of}
+use Rattle.arc_class.specs.Sorts.{held_by, next_of}
 use Rattle.arc_class.proofs.Typed.{class_same}
 use Rattle.arc_class.proofs.kept.variable.Goals as goal
 
@@ -17,5 +17,5 @@ returns-clause-variable c = λ interfaces same.
     let before = c.args.before in
     let type = type_tree c.args.global.now.type_name in
     let kind = type_kind type in
-    ap (λ n. variable at n c.kind-kind.result c.type_class.result) (c.next.ensures ∙ ap (λ k. next_of k before) c.kind-kind.ensures) ∙ ap (λ k. variable at (next_of kind before) k c.type_class.result) c.kind-kind.ensures
-    ∙ ap (variable at (next_of kind before) kind) (c.type_class.ensures ∙ class_same c.args.names.now interfaces same type)
+    ap (λ n. variable at n c.kind-kind.result c.type_class.result) (c.next.ensures ∙ ap (λ s. next_of s before) c.held_by.ensures ∙ ap (λ k. next_of (held_by k) before) c.kind-kind.ensures) ∙ ap (λ k. variable at (next_of (held_by kind) before) k c.type_class.result) c.kind-kind.ensures
+    ∙ ap (variable at (next_of (held_by kind) before) kind) (c.type_class.ensures ∙ class_same c.args.names.now interfaces same type)

@@ -3,7 +3,7 @@ use Rattle.std.proofs.lemmas.Grind.{common_steps}
 use Rattle.arc_ast.specs.Tree.{unit_tree, interface_tree, interface_trees}
 use Rattle.arc_class.specs.Classes.{class_number}
 use Rattle.arc_class.specs.private.Entries.{fields_tree, class_fields, class_fields_with, class_fields_from, counted_among}
-use Rattle.arc_class.specs.Fields.{inherited_by, kinds_of_fields}
+use Rattle.arc_class.specs.Fields.{inherited_by, sorts_of_fields}
 use Rattle.arc_class.specs.Sorts.{counts}
 use Rattle.arc_class.specs.Table.{class_number_in}
 use Rattle.arc_class.proofs.FieldLists.{inherited_so_far}
@@ -28,13 +28,13 @@ loop-interface-preserved c =
     let few : length all ≤ suc (length u.interfaces) = omega (arith, within, c.loop-interface.invariant.counted, interfaces_count xs) in
     let superclass : c.class_number-superclass.result ≡ class_number u.interfaces i.superclass =
     c.class_number-superclass.ensures ∙ ap (class_number_in source.names) c.deref.ensures.value ∙ class_number_kept source.names u.interfaces x.superclass.items (c.requires.knows.class_places x.superclass.items) in
-    let inherited : c.counted_among-inherited.result ≡ counts (kinds_of_fields (inherited_by u (length all) (class_number u.interfaces i.superclass))) =
+    let inherited : c.counted_among-inherited.result ≡ counts (sorts_of_fields (inherited_by u (length all) (class_number u.interfaces i.superclass))) =
     c.counted_among-inherited.ensures ∙ ap (λ us. counted_among us c.class_number-superclass.result) c.deref-in-loop-interface.ensures.value ∙ inherited_so_far u all (class_fields_from u (k + 1) (interface_trees (drop k xs))) c.loop-interface.invariant.made few c.class_number-superclass.result
-    ∙ ap (λ s. counts (kinds_of_fields (inherited_by u (length all) s))) superclass in
+    ∙ ap (λ s. counts (sorts_of_fields (inherited_by u (length all) s))) superclass in
     let number : c.loop-interface.class + 1 ≡ k + 1 = ap (λ n. n + 1) c.loop-interface.invariant.numbered in
     let one : fields_tree known ≡ class_fields u (k + 1) i =
     c.in_ok-known.ensures.known ∙ ap (λ n. class_fields_with u n c.counted_among-inherited.result i) number ∙ ap (λ n. class_fields_with u (k + 1) n i) inherited
-    ∙ ap (λ n. class_fields_with u (k + 1) (counts (kinds_of_fields (inherited_by u n (class_number u.interfaces i.superclass)))) i) c.loop-interface.invariant.counted in
+    ∙ ap (λ n. class_fields_with u (k + 1) (counts (sorts_of_fields (inherited_by u n (class_number u.interfaces i.superclass)))) i) c.loop-interface.invariant.counted in
     let next : suc (k + 1) ≡ k + 1 + 1 = omega arith in
     record {
       made = made_turn fields_tree all c.push-in-loop-interface.new.self.items known (class_fields u (k + 1) i) rest _ c.in_ok-push-2.ensures.items one

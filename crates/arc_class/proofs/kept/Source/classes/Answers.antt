@@ -3,7 +3,7 @@ use Rattle.std.proofs.lemmas.Grind.{common_steps}
 use Rattle.arc_ast.specs.Tree.{unit_tree, interface_tree, interface_trees}
 use Rattle.arc_spec.specs.Classes.{class_of}
 use Rattle.arc_class.specs.private.Entries.{counted_among}
-use Rattle.arc_class.specs.Fields.{fields, kinds_of_fields}
+use Rattle.arc_class.specs.Fields.{fields, sorts_of_fields}
 use Rattle.arc_class.specs.Sorts.{counts}
 use Rattle.arc_class.specs.Running as running
 use Rattle.arc_class.specs.Running.{class_with, classes_from}
@@ -25,7 +25,7 @@ loop-interface-preserved c =
     let same : x ≡ get_or xs k x = c.interface-item.is ∙ ap (λ us. get_or us k x) c.deref-interface-items.ensures.value in
     let few : k + 1 ≤ length u.interfaces = omega (arith, within, interfaces_count xs) in
     let number : c.loop-interface.number + 1 ≡ k + 1 = ap (λ n. n + 1) c.loop-interface.invariant.numbered in
-    let count : c.counted_among-counted.result ≡ counts (kinds_of_fields (fields u (k + 1))) =
+    let count : c.counted_among-counted.result ≡ counts (sorts_of_fields (fields u (k + 1))) =
     c.counted_among-counted.ensures ∙ ap (λ n. counted_among c.args.fields.now (Some n)) number ∙ counts_kept u c.args.fields.now c.requires.fields (k + 1) few in
     let one : class_of c.in_ok-class.class ≡ running.class_of u (k + 1) i = c.in_ok-class.ensures.made ∙ ap (λ n. class_with u n i) count in
     let next : suc (k + 1) ≡ k + 1 + 1 = omega arith in
