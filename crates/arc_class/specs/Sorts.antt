@@ -1,5 +1,5 @@
--- How many fields, variables or parameters there are of each sort: of those that hold numbers, and of those that name objects. Each sort is numbered from 0, apart
--- from the other (this project's own choice). The sort is how an object is held, if one is.
+-- How many fields, variables or parameters there are that hold numbers, and that hold objects strongly. These are numbered from 0, apart from the others (this project's
+-- own choice). The sort of what is declared is how it holds an object, if it is one.
 use Rattle.std.specs.Prelude.{ℕ, suc, ◌+◌, List, map, fold, Option, Some, None}
 use Rattle.arc_ast.specs.declared.tree.Kind.{Kind}
 use Rattle.arc_ast.specs.declared.tree.Kind.TheVariants as k
@@ -17,13 +17,13 @@ none_counted = record { numbers = 0; objects = 0 }
 
 -- the number that the next one of a sort gets, after so many
 abbrev pub next_of : (sort : Option Qual) → SortCounts → ℕ
-next_of None c = c.numbers
-next_of (Some held) c = c.objects
+next_of (Some quals.Strong) c = c.objects
+next_of _ c = c.numbers
 
 -- one more of a sort
 abbrev pub with_one : (sort : Option Qual) → SortCounts → SortCounts
-with_one None c = record c { numbers = suc c.numbers }
-with_one (Some held) c = record c { objects = suc c.objects }
+with_one (Some quals.Strong) c = record c { objects = suc c.objects }
+with_one _ c = record c { numbers = suc c.numbers }
 
 -- more of these sorts
 abbrev pub with_all : SortCounts → (sorts : List (Option Qual)) → SortCounts
@@ -36,6 +36,6 @@ counts = with_all none_counted
 abbrev pub counts_of_kinds : List Kind → SortCounts
 counts_of_kinds kinds = counts (map held_by kinds)
 
--- how many there are of all sorts together
+-- how many there are together
 abbrev pub total : SortCounts → ℕ
 total c = c.numbers + c.objects

@@ -1,5 +1,5 @@
-//! How many fields, variables or parameters there are of each sort: of those that hold numbers, and of those that name
-//! objects. The sort is how an object is held, if one is.
+//! How many fields, variables or parameters there are that hold numbers, and that hold objects strongly. The sort of
+//! what is declared is how it holds an object, if it is one.
 ghost use Rattle.std.specs.Prelude.{◌≡◌, ◌<◌, nat_lt, IfOk, IfErr};
 ghost use Rattle.arc_ast.specs.Tree.{parameter_trees};
 ghost use Rattle.arc_fault.specs.declared.class.ClassFault.TheVariants.{Memory};
@@ -19,7 +19,8 @@ pub fn held_by(kind: Kind) -> Option<Qual>
     }
 }
 
-/// How many there are of each sort. What is of a sort is numbered from 0, apart from the other.
+/// How many there are that hold numbers, and that hold objects strongly. These are numbered from 0, apart from the
+/// others.
 #[derive(Clone, Copy)]
 pub struct SortCounts {
     pub numbers: usize,
@@ -41,8 +42,8 @@ impl SortCounts {
         ensures { result ≡ sorts.next_of sort self }
     {
         match sort {
-            None => self.numbers,
-            Some(_) => self.objects,
+            Some(Qual::Strong) => self.objects,
+            Some(Qual::Weak | Qual::Autoreleasing) | None => self.numbers,
         }
     }
 
@@ -52,12 +53,12 @@ impl SortCounts {
         ensures { result ≡ sorts.with_one sort self }
     {
         match sort {
-            None => SortCounts {
-                numbers: self.numbers + 1,
+            Some(Qual::Strong) => SortCounts {
+                objects: self.objects + 1,
                 ..self
             },
-            Some(_) => SortCounts {
-                objects: self.objects + 1,
+            Some(Qual::Weak | Qual::Autoreleasing) | None => SortCounts {
+                numbers: self.numbers + 1,
                 ..self
             },
         }
@@ -74,7 +75,7 @@ impl SortCounts {
         Ok(self.and(sort))
     }
 
-    /// Whether there are more of all sorts together.
+    /// Whether there are more of them together.
     pub fn is_above(self, most: usize) -> bool
         ensures { result ≡ nat_lt most (sorts.total self) }
     {
