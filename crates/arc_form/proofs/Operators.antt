@@ -52,7 +52,7 @@ module _ {O : Type 0} where
       go false e true f n h = rw (f, e) h
       go false e false f n h = rw (f, e) h
 
-  other_has : (rows : List (Row O)) (l i : ℕ) (j : List ℕ) → nat_eq i 5 ≡ false → has (marks_at l rows) (i, j) ≡ false
+  other_has : (rows : List (Row O)) (l i : ℕ) (j : List ℕ) → nat_eq i 6 ≡ false → has (marks_at l rows) (i, j) ≡ false
   other_has [] l i j e = refl
   other_has (r ∷ rows) l i j e =
       let rest = other_has rows l i j e in

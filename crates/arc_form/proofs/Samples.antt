@@ -1,12 +1,12 @@
 -- A token of each set of kinds.
 use Rattle.std.proofs.Common.{pos, false, List, [], ◌∷◌, ◌++◌, map, if◌then◌else◌}
 use Rattle.arc_lex.specs.declared.token.TheConstants.{MARKS, WORDS, AT_WORDS}
-use Rattle.arc_lex.specs.Tokens.{Tok, Sort, Name, Integer, Text, Key, At, Sign}
+use Rattle.arc_lex.specs.Tokens.{Tok, Sort, Name, Integer, Character, Text, Key, At, Sign}
 use Rattle.arc_form.specs.Kinds.{Kind, Kinds, main_bytes, none, one, ◌∪◌, kind, same}
 
 -- one of each kind
 abbrev sorts : List Sort
-sorts = Name [] ∷ Name main_bytes ∷ Integer (pos 0) false ∷ Text [] ∷ (map Key WORDS ++ (map At AT_WORDS ++ map Sign MARKS))
+sorts = Name [] ∷ Name main_bytes ∷ Integer (pos 0) false ∷ Character 0 ∷ Text [] ∷ (map Key WORDS ++ (map At AT_WORDS ++ map Sign MARKS))
 
 abbrev found : Kind → List Sort → Sort
 found k [] = Name []

@@ -4,13 +4,14 @@ use Rattle.arc_lex.specs.declared.token.Mark.{Mark}
 use Rattle.arc_lex.specs.declared.token.Word.{Word}
 use Rattle.arc_lex.specs.declared.token.AtWord.{AtWord}
 use Rattle.arc_lex.specs.Spellings.{mark_bytes, word_bytes, at_bytes}
-use Rattle.arc_lex.specs.Tokens.{Tok, Sort, Name, Integer, Text, Key, At, Sign, Unused}
+use Rattle.arc_lex.specs.Tokens.{Tok, Sort, Name, Integer, Character, Text, Key, At, Sign, Unused}
 
 -- the bytes of `main`
 abbrev pub main_bytes : List ℕ
 main_bytes = codes "main"
 
--- The kind of a token: what a grammar keeps apart. A word, a mark and the name `main` go by how they are written, any other name, an integer, a text and an unused token by what they are alone.
+-- The kind of a token: what a grammar keeps apart. A word, a mark and the name `main` go by how they are written, any other name, an integer, a character
+-- constant, a text and an unused token by what they are alone.
 abbrev pub Kind : Type 0
 Kind = ℕ × List ℕ
 
@@ -18,11 +19,12 @@ Kind = ℕ × List ℕ
 abbrev pub kind : Sort → Kind
 kind (Name bytes) = (0, if bytes_eq bytes main_bytes then main_bytes else [])
 kind (Integer value suffixed) = (1, [])
-kind (Text bytes) = (2, [])
-kind (Key word) = (3, word_bytes word)
-kind (At word) = (4, at_bytes word)
-kind (Sign mark) = (5, mark_bytes mark)
-kind Unused = (6, [])
+kind (Character byte) = (2, [])
+kind (Text bytes) = (3, [])
+kind (Key word) = (4, word_bytes word)
+kind (At word) = (5, at_bytes word)
+kind (Sign mark) = (6, mark_bytes mark)
+kind Unused = (7, [])
 
 -- whether two kinds are the same
 abbrev pub same : Kind → Kind → Bool
@@ -45,8 +47,8 @@ has (A ∪ B) k = has A k || has B k
 abbrev pub is : Kinds → Tok → Bool
 is T t = has T (kind t.sort)
 
--- The sets that grammars are written with: of a mark, of a word, of a word after `@`, of the name `main`, of all other names, of all names, of all integers (and
--- characters), and of all texts.
+-- The sets that grammars are written with: of a mark, of a word, of a word after `@`, of the name `main`, of all other names, of all names, of all integers,
+-- of all character constants, and of all texts.
 abbrev pub mark : Mark → Kinds
 mark m = one (kind (Sign m))
 
@@ -68,5 +70,8 @@ name = other_name ∪ main
 abbrev pub integer : Kinds
 integer = one (1, [])
 
+abbrev pub character : Kinds
+character = one (2, [])
+
 abbrev pub text : Kinds
-text = one (2, [])
+text = one (3, [])

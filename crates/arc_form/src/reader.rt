@@ -114,7 +114,7 @@ impl<'a> Reader<'a> {
         }
     }
 
-    /// Whether the first token is an integer or a character.
+    /// Whether the first token is an integer.
     pub fn sees_integer(&self) -> bool
         ensures { result ≡ sees kinds.integer (toks self.now.rest.now) }
     {
@@ -122,6 +122,19 @@ impl<'a> Reader<'a> {
             self.rest.first(),
             Some(Token {
                 kind: TokenKind::Integer(_, _),
+                ..
+            })
+        )
+    }
+
+    /// Whether the first token is a character constant.
+    pub fn sees_character(&self) -> bool
+        ensures { result ≡ sees kinds.character (toks self.now.rest.now) }
+    {
+        matches!(
+            self.rest.first(),
+            Some(Token {
+                kind: TokenKind::Character(_),
                 ..
             })
         )

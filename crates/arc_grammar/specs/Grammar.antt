@@ -30,7 +30,7 @@ use Rattle.arc_ast.specs.declared.tree.Constant.{Constant}
 use Rattle.arc_ast.specs.declared.tree.Constant.TheVariants as constants
 use Rattle.arc_ast.specs.Tree.{TypeTree, ResultTree, ExprTree, ExprTrees, VariableTree, StmtTree, StmtTrees, ParameterTree, ParametersTree, FunctionTree, GlobalTree, HeadTree, MethodTree, FieldTree, InterfaceTree, ImplementationTree, UnitTree, Boolean, Int, Long, Id, Object, Void, Value, Related, Integer, Text, Paren, Call, Nil, Itself, Name, Unary, Cast, Binary, Conditional, Arrow, Assign, Update, Send, SendSuper, no_exprs, and_expr, Block, Empty, Simple, Return, Variables, If, IfElse, While, For, Break, Continue, no_stmts, and_stmt, Listed, CountAndTexts, begins}
 use Rattle.arc_grammar.specs.declared.limits.TheConstants.{DEEPEST, MOST_TOKENS}
-use Rattle.arc_form.specs.Kinds.{Kinds, none, ◌∪◌, mark, word, at, name, main, other_name, integer, text}
+use Rattle.arc_form.specs.Kinds.{Kinds, none, ◌∪◌, mark, word, at, name, main, other_name, integer, character, text}
 use Rattle.arc_form.specs.Reader.{Reader, ◌>>=◌, ret, from}
 use Rattle.arc_form.specs.Reader as readers
 use Rattle.arc_form.specs.Operators.{Row, marks_at, placed_operator, fold}
@@ -239,6 +239,7 @@ bool_of at value = Cast at Boolean (Integer at value false)
 
 abbrev pub literal_of : ℕ → Sort → ExprTree
 literal_of at (tokens.Integer value suffixed) = Integer at value suffixed
+literal_of at (tokens.Character byte) = Integer at (pos byte) false
 literal_of at (tokens.Text bytes) = Text at bytes
 literal_of at (tokens.Key w.SelfWord) = Itself at
 literal_of at (tokens.Key w.Yes) = bool_of at (pos 1)
@@ -246,9 +247,9 @@ literal_of at (tokens.Key w.No) = bool_of at (pos 0)
 literal_of at _ = Nil at
 
 abbrev pub begins_literal : Kinds
-begins_literal = integer ∪ text ∪ word w.Nil ∪ word w.SelfWord ∪ word w.Yes ∪ word w.No
+begins_literal = integer ∪ character ∪ text ∪ word w.Nil ∪ word w.SelfWord ∪ word w.Yes ∪ word w.No
 
--- an integer, a text, `nil`, `self`, `YES` or `NO` (6.5.1)
+-- an integer, a character constant, which is an `int` (6.4.4.4), a text, `nil`, `self`, `YES` or `NO` (6.5.1)
 unfoldable pub literal : Part ExprTree
 literal = token begins_literal (λ t. literal_of t.from t.sort)
 
@@ -603,6 +604,7 @@ function = choose main main_function other_function
 
 abbrev pub number_of : Sort → ℤ
 number_of (tokens.Integer value suffixed) = value
+number_of (tokens.Character byte) = pos byte
 number_of _ = pos 0
 
 abbrev pub constant_of : ℕ → Sort → Constant
@@ -610,11 +612,11 @@ constant_of at (tokens.Key w.Nil) = constants.Nil at
 constant_of at (tokens.Key w.Yes) = constants.Number at (pos 1)
 constant_of at sort = constants.Number at (number_of sort)
 
--- an integer or a character, `YES`, `NO` or `nil`
+-- an integer, a character constant, `YES`, `NO` or `nil`
 unfoldable pub plain_constant : Part Constant
-plain_constant = token (integer ∪ word w.Yes ∪ word w.No ∪ word w.Nil) (λ t. constant_of t.from t.sort)
+plain_constant = token (integer ∪ character ∪ word w.Yes ∪ word w.No ∪ word w.Nil) (λ t. constant_of t.from t.sort)
 
--- `-`, and an integer or a character; the negation wraps, as all of them do
+-- `-`, and an integer; the negation wraps, as all of them do
 unfoldable pub negative_constant : Part Constant
 negative_constant = map (λ (at, value). constants.Number at (int_wrapping_neg w64 value)) (the m.Minus ⨾ token integer (λ t. number_of t.sort))
 

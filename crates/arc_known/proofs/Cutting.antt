@@ -5,7 +5,7 @@ use Rattle.std.proofs.lemmas.List.{append-nil}
 use Rattle.arc_lex.specs.declared.piece.Rule.{Rule}
 use Rattle.arc_lex.specs.Source.{Cuts, done, breaks}
 use Rattle.arc_lex.specs.Texts.{Part, Plain, Escape}
-use Rattle.arc_lex.specs.Tokens.{Tok, Sort, Name, Integer, Text, Key, At, Sign, Unused}
+use Rattle.arc_lex.specs.Tokens.{Tok, Sort, Name, Integer, Character, Text, Key, At, Sign, Unused}
 use Rattle.arc_lex.specs.private.Pieces.{Piece, Blank, Skip, Whole, Broken, Law, piece, text_found, text_piece, character_found, character_piece, scan}
 use Rattle.arc_lex.proofs.Law.{piece_law}
 use Rattle.arc_lex.proofs.Walks.{blank_cuts, skip_cuts, token_cuts}
@@ -106,6 +106,7 @@ abbrev pub with_sort : {A : Type 0} → Sort → (Sort → A) → A
 with_sort (Name bytes) go = with_bytes bytes (λ bs. go (Name bs))
 with_sort (Text bytes) go = with_bytes bytes (λ bs. go (Text bs))
 with_sort (Integer (pos n) suffixed) go = with_number n (λ m. go (Integer (pos m) suffixed))
+with_sort (Character byte) go = with_number byte (λ b. go (Character b))
 with_sort s go = go s
 
 number_is : {A : Type 0} (n : ℕ) (go : ℕ → A) → with_number n go ≡ go n
@@ -121,6 +122,7 @@ sort_is (Name bytes) go = bytes_are bytes (λ bs. go (Name bs))
 sort_is (Text bytes) go = bytes_are bytes (λ bs. go (Text bs))
 sort_is (Integer (pos n) suffixed) go = number_is n (λ m. go (Integer (pos m) suffixed))
 sort_is (Integer (negsuc n) suffixed) go = refl
+sort_is (Character byte) go = number_is byte (λ b. go (Character b))
 sort_is (Key word) go = refl
 sort_is (At word) go = refl
 sort_is (Sign mark) go = refl

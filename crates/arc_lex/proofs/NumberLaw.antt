@@ -30,17 +30,12 @@ module _ (starts : Bool) (b : ℕ) (bs : List ℕ) (digit : is_digit b ≡ true)
   cut : b ∷ bs ≡ name ++ rest
   cut = ap (λ us. b ∷ us) (run_cut c.InName bs)
 
-  -- an integer at the front is of letters, `_` and digits
-  number_run : (d : ℕ) (ys : List ℕ) (value : ℤ) (suffixed : Bool) → b ≡ d → IsToken (d ∷ ys) (Integer value suffixed) → all_in c.InName (d ∷ ys) ≡ true
-  number_run d ys value suffixed same (inl (like, e)) = like.1
-  number_run d ys value suffixed same (inr (n, (parts, e, v), value_is, bare)) = absurd (digit_not b 39 digit refl (same ∙ head_is d 39 ys _ e))
-
   no_longer : (ys r : List ℕ) (o : Sort) → name ++ rest ≡ ys ++ r → IsToken ys o → length ys ≤ length name
   no_longer [] r o e h = omega arith
   no_longer (d ∷ ys) r o e h =
       let same : b ≡ d = head_is b d (take (run c.InName bs) bs ++ rest) (ys ++ r) e in
       let (value, suffixed, f) = by_digit o b digit (subst (opens o) (sym same) (first_opens o d ys h)) in
-      let all = number_run d ys value suffixed same (subst (IsToken (d ∷ ys)) f h) in
+      let all = (subst (IsToken (d ∷ ys)) f h).0.1 in
       let whole : b ∷ bs ≡ (d ∷ ys) ++ r = cut ∙ e in
       let short : length (d ∷ ys) ≤ run c.InName (b ∷ bs) = subst (λ us. length (d ∷ ys) ≤ run c.InName us) (sym whole) (run_longest c.InName (d ∷ ys) r all) in
       let full : length name ≡ run c.InName (b ∷ bs) = ap length (sym run_name) ∙ length_run c.InName (b ∷ bs) in
@@ -54,7 +49,7 @@ module _ (starts : Bool) (b : ℕ) (bs : List ℕ) (digit : is_digit b ≡ true)
       ap integer (two ∙ sym one) ∙ none
 
   clean : (i : ℤ × Bool) → integer name ≡ Some i → Faultless starts (name ++ rest)
-  clean i e = faultless starts b (take (run c.InName bs) bs ++ rest) (inr (inl (take (run c.InName bs) bs, Integer i.0 i.1, inl (number_like, e))))
+  clean i e = faultless starts b (take (run c.InName bs) bs ++ rest) (inr (inl (take (run c.InName bs) bs, Integer i.0 i.1, (number_like, e))))
       (λ k. absurd (digit_not b 47 digit refl k)) (λ _ h. let none = wrong_is h in cc) (λ k. absurd (digit_not b 34 digit refl k))
       (λ k. absurd (digit_not b 39 digit refl k)) (λ k h. digit_not b 64 digit refl k) (λ k h. digit_not b 35 digit refl k)
 
@@ -66,7 +61,7 @@ module _ (starts : Bool) (b : ℕ) (bs : List ℕ) (digit : is_digit b ≡ true)
     cut,
     refl,
     omega arith,
-    record { token = inl (number_like, e); longest = no_longer },
+    record { token = (number_like, e); longest = no_longer },
     λ h. digit_not b 47 digit refl (comment_first b _ h),
     clean i e,
   )

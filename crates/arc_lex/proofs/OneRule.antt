@@ -11,7 +11,7 @@ use Rattle.arc_lex.specs.Bytes.{has, is_letter, is_digit}
 use Rattle.arc_lex.specs.Source.{IsToken, IsClosed, IsOpenQuoted, IsWrongInteger, Breaks}
 use Rattle.arc_lex.specs.Texts.{Part, Plain, number_after}
 use Rattle.arc_lex.specs.declared.number.TheConstants.{LARGEST}
-use Rattle.arc_lex.specs.Tokens.{Sort, Integer, Text, At, Sign}
+use Rattle.arc_lex.specs.Tokens.{Sort, Integer, Character, Text, At, Sign}
 use Rattle.arc_lex.proofs.Faultless.{Begun, begun_first, wrong_first}
 use Rattle.arc_lex.proofs.Firsts.{head_is, tail_is, digit_not}
 
@@ -19,7 +19,7 @@ use Rattle.arc_lex.proofs.Firsts.{head_is, tail_is, digit_not}
 digit_token : (b : ℕ) → is_digit b ≡ true → IsToken (b ∷ []) (Integer (pos (number_after 10 0 (b ∷ []))) false)
 digit_token b e =
     let small : nat_le (number_after 10 0 (b ∷ [])) LARGEST ≡ true = grind (arith, nat_tests) in
-    inl ((e, and_from (has c.InName b) true (or_right (is_letter b) (is_digit b) e) refl), rw (e, small) refl)
+    ((e, and_from (has c.InName b) true (or_right (is_letter b) (is_digit b) e) refl), rw (e, small) refl)
 
 -- the bytes with which a rule but BadByte can be broken, by rule
 abbrev opener : ℕ → ℕ
@@ -56,7 +56,7 @@ module _ (starts : Bool) (b : ℕ) (bs : List ℕ) where
   begun_quote e = begun_token 34 (34 ∷ []) (Text []) ([], refl, refl) e
 
   begun_apostrophe : b ≡ 39 → Begun b
-  begun_apostrophe e = begun_token 39 (97 ∷ 39 ∷ []) (Integer (pos 97) false) (inr (97, (Plain 97 ∷ [], refl, refl), refl, refl)) e
+  begun_apostrophe e = begun_token 39 (97 ∷ 39 ∷ []) (Character 97) (Plain 97 ∷ [], refl, refl) e
 
   begun_at : b ≡ 64 → Begun b
   begun_at e = begun_token 64 (99 ∷ 108 ∷ 97 ∷ 115 ∷ 115 ∷ []) (At ats.Class) refl e

@@ -1,17 +1,16 @@
 -- Bytes are a token of one sort, and one token stands at a place.
-use Rattle.std.proofs.Common.{◌≡◌, ◌⊎◌, inl, inr, ℕ, ℤ, pos, List, [], ◌∷◌, ◌++◌, length, take, drop, Bool, true, false, Option, Some, refl, sym, ap, subst, ◌∙◌, arith}
+use Rattle.std.proofs.Common.{◌≡◌, ◌⊎◌, inl, inr, ℕ, ℤ, List, [], ◌∷◌, ◌++◌, length, take, drop, Bool, false, Option, Some, refl, sym, ap, subst, ◌∙◌, arith}
 use Rattle.std.proofs.lemmas.List.{take_at, drop_at}
 use Rattle.std.specs.List.{Contains}
 use Rattle.arc_lex.specs.declared.token.Mark.{Mark}
 use Rattle.arc_lex.specs.declared.token.Word.{Word}
 use Rattle.arc_lex.specs.declared.token.AtWord.{AtWord}
-use Rattle.arc_lex.specs.Bytes.{is_digit}
 use Rattle.arc_lex.specs.private.Pieces.{scan}
 use Rattle.arc_lex.specs.Source.{IsToken, IsQuoted, Longest}
 use Rattle.arc_lex.specs.Spellings.{unused}
 use Rattle.arc_lex.specs.Texts.{parts_bytes, parts_value}
-use Rattle.arc_lex.specs.Tokens.{Sort, Name, Integer, Text, Key, At, Sign, Unused}
-use Rattle.arc_lex.proofs.Firsts.{head_is, tail_is, first_opens, not_empty, opens, digit_not, by_letter, by_digit, by_quote, by_apostrophe, by_at, by_mark, mark_not_letter, mark_not_digit, mark_not, unused_not, unused_not_digit}
+use Rattle.arc_lex.specs.Tokens.{Sort, Name, Integer, Character, Text, Key, At, Sign, Unused}
+use Rattle.arc_lex.proofs.Firsts.{head_is, tail_is, first_opens, not_empty, opens, by_letter, by_digit, by_quote, by_apostrophe, by_at, by_mark, mark_not_letter, mark_not_digit, mark_not, unused_not, unused_not_digit}
 use Rattle.arc_lex.proofs.Marks.{one_mark, one_word, one_at_word}
 use Rattle.arc_lex.proofs.TextLaw.{IsQuote, parts_go_on, scan_closed}
 use Rattle.arc_lex.proofs.Unused.{no_word, no_at_word, no_mark}
@@ -50,31 +49,25 @@ module _ (b : ℕ) (bs : List ℕ) where
       let values : Some t ≡ Some u = sym v ∙ (ap (parts_value q) parts ∙ w) in
       cc
 
-  number_or_character : is_digit b ≡ true → (bytes : List ℕ) → IsQuoted 39 (b ∷ bs) bytes → ⊥
-  number_or_character digit bytes (ps, e, v) = digit_not b 39 digit refl (head_is b 39 bs _ e)
-
-  -- a number or a character has one value
   valued : (v u : ℤ) (s o : Bool) → IsToken (b ∷ bs) (Integer v s) → IsToken (b ∷ bs) (Integer u o) → Integer v s ≡ Integer u o
-  valued v u s o (inl (like, e)) (inl (also, f)) = same_integer v u s o (sym e ∙ f)
-  valued v u s o (inl (like, e)) (inr (n, is, value_is, bare)) = absurd (number_or_character like.0 (n ∷ []) is)
-  valued v u s o (inr (n, is, value_is, bare)) (inl (like, f)) = absurd (number_or_character like.0 (n ∷ []) is)
-  valued v u s o (inr (n, is, e, f)) (inr (k, also, g, h)) =
-      let one : n ≡ k = head_is n k [] [] (quoted 39 (refl, refl) (n ∷ []) (k ∷ []) is also) in
-      ap (λ w. Integer w s) (e ∙ ap pos one ∙ sym g) ∙ ap (Integer u) (f ∙ sym h)
+  valued v u s o (like, e) (also, f) = same_integer v u s o (sym e ∙ f)
+
+  single : (n k : ℕ) → IsToken (b ∷ bs) (Character n) → IsToken (b ∷ bs) (Character k) → Character n ≡ Character k
+  single n k h other = ap Character (head_is n k [] [] (quoted 39 (refl, refl) (n ∷ []) (k ∷ []) h other))
 
   by_first : (s o : Sort) → IsToken (b ∷ bs) s → IsToken (b ∷ bs) o → opens s b → opens o b → s ≡ o
   by_first (Name n) o h k first other = named n o h k (by_letter o b first other)
   by_first (Key w) o h k first other = keyed w o h k (by_letter o b first other)
-  by_first (Integer v s) o h k (inl digit) other = let (u, t, e) = by_digit o b digit other in valued v u s t h (subst (IsToken (b ∷ bs)) e k) ∙ sym e
-  by_first (Integer v s) o h k (inr quote) other = let (u, t, e) = by_apostrophe o b quote other in valued v u s t h (subst (IsToken (b ∷ bs)) e k) ∙ sym e
+  by_first (Integer v s) o h k first other = let (u, t, e) = by_digit o b first other in valued v u s t h (subst (IsToken (b ∷ bs)) e k) ∙ sym e
+  by_first (Character n) o h k first other = let (u, e) = by_apostrophe o b first other in single n u h (subst (IsToken (b ∷ bs)) e k) ∙ sym e
   by_first (Text t) o h k first other = let (u, e) = by_quote o b first other in ap Text (quoted 34 (refl, refl) t u h (subst (IsToken (b ∷ bs)) e k)) ∙ sym e
   by_first (At w) o h k first other = directed w o h k (by_at o b first other)
   by_first (Sign m) o h k first other =
       marked m o h k (by_mark o b (mark_not_letter b first) (mark_not_digit b first) (mark_not b 34 first refl) (mark_not b 39 first refl) (mark_not b 64 first refl) other)
   by_first Unused (Name n) h k first other = absurd (k.3 h)
   by_first Unused (Key w) h k first other = absurd (no_word w (subst (Contains unused) k h))
-  by_first Unused (Integer v s) h k first (inl digit) = absurd (unused_not_digit b first digit)
-  by_first Unused (Integer v s) h k first (inr quote) = absurd (unused_not b 39 first refl quote)
+  by_first Unused (Integer v s) h k first other = absurd (unused_not_digit b first other)
+  by_first Unused (Character n) h k first other = absurd (unused_not b 39 first refl other)
   by_first Unused (Text t) h k first other = absurd (unused_not b 34 first refl other)
   by_first Unused (At w) h k first other = absurd (no_at_word w (subst (Contains unused) k h))
   by_first Unused (Sign m) h k first other = absurd (no_mark m (subst (Contains unused) k h))

@@ -1,5 +1,5 @@
 -- The piece where a quote stands.
-use Rattle.std.proofs.Common.{◌≡◌, ◌≤◌, inl, inr, ℕ, ◌+◌, ℤ, pos, List, [], ◌∷◌, ◌++◌, length, length-append, append_assoc, Bool, true, false, not, cond, ◌&&◌, nat_eq, Option, Some, None, refl, sym, ap, subst, ◌∙◌, arith}
+use Rattle.std.proofs.Common.{◌≡◌, ◌≤◌, inl, inr, ℕ, ◌+◌, List, [], ◌∷◌, ◌++◌, length, length-append, append_assoc, Bool, true, false, not, cond, ◌&&◌, nat_eq, Option, Some, None, refl, sym, ap, subst, ◌∙◌, arith}
 use Rattle.std.proofs.lemmas.List.{append-nil}
 use Rattle.std.proofs.lemmas.Bool.{and_parts, and_from, eqb-true, not-true, not_from_false}
 use Rattle.std.proofs.lemmas.Bool.Decides.{nat_tests}
@@ -7,7 +7,7 @@ use Rattle.arc_lex.specs.declared.piece.Rule.TheVariants as rules
 use Rattle.arc_lex.specs.private.Pieces.{Broken, Law, scan, text_value, text_found, text_piece, character_value, character_found, character_piece}
 use Rattle.arc_lex.specs.Source.{IsToken, IsQuoted, IsOpenQuoted, IsClosed, Faultless}
 use Rattle.arc_lex.specs.Texts.{Part, Plain, Escape, parts_bytes, part_value, parts_value, put_front, is_plain, escape_value, goes_on, all_go_on}
-use Rattle.arc_lex.specs.Tokens.{Sort, Integer, Text}
+use Rattle.arc_lex.specs.Tokens.{Sort, Character, Text}
 use Rattle.arc_lex.proofs.Faultless.{faultless, comment_first}
 use Rattle.arc_lex.proofs.Firsts.{head_is, tail_is, first_opens, opens, by_quote, by_apostrophe, digit_not}
 
@@ -208,20 +208,15 @@ text_law starts b bs e = subst (λ d. Law starts (d ∷ bs) (text_found (scan 34
 -- ---- a character
 
 module _ (starts : Bool) (bs : List ℕ) (ps : List Part) (after : List ℕ) (scanned : scan 39 false [] bs ≡ Some ps) (cut : bs ≡ parts_bytes ps ++ 39 ∷ after) (on : all_go_on 39 ps ≡ true) where
-  character_size : (d : ℕ) (ys r : List ℕ) (value : ℤ) (suffixed : Bool) → 39 ≡ d → quoted 39 (refl, refl) bs ps after scanned cut on ++ after ≡ (d ∷ ys) ++ r → IsToken (d ∷ ys) (Integer value suffixed)
-      → length (d ∷ ys) ≤ length (quoted 39 (refl, refl) bs ps after scanned cut on)
-  character_size d ys r value suffixed same e (inl ((digit, all), f)) = absurd (digit_not d 39 digit refl (sym same))
-  character_size d ys r value suffixed same e (inr (n, is, value_is, bare)) = quoted_same 39 (refl, refl) bs ps after scanned cut on (d ∷ ys) r (n ∷ []) e is
-
   character_longest : (ys r : List ℕ) (o : Sort) → quoted 39 (refl, refl) bs ps after scanned cut on ++ after ≡ ys ++ r → IsToken ys o → length ys ≤ length (quoted 39 (refl, refl) bs ps after scanned cut on)
   character_longest [] r o e h = omega arith
   character_longest (d ∷ ys) r o e h =
       let same : 39 ≡ d = head_is 39 d _ (ys ++ r) e in
-      let (value, suffixed, f) = by_apostrophe o 39 refl (subst (opens o) (sym same) (first_opens o d ys h)) in
-      character_size d ys r value suffixed same e (subst (IsToken (d ∷ ys)) f h)
+      let (byte, f) = by_apostrophe o 39 refl (subst (opens o) (sym same) (first_opens o d ys h)) in
+      quoted_same 39 (refl, refl) bs ps after scanned cut on (d ∷ ys) r (byte ∷ []) e (subst (IsToken (d ∷ ys)) f h)
 
   character_clean : (b : ℕ) → parts_value 39 ps ≡ Some (b ∷ []) → Faultless starts (quoted 39 (refl, refl) bs ps after scanned cut on ++ after)
-  character_clean b v = faultless starts 39 ((parts_bytes ps ++ 39 ∷ []) ++ after) (inr (inl (parts_bytes ps ++ 39 ∷ [], Integer (pos b) false, inr (b, (ps, refl, v), refl, refl))))
+  character_clean b v = faultless starts 39 ((parts_bytes ps ++ 39 ∷ []) ++ after) (inr (inl (parts_bytes ps ++ 39 ∷ [], Character b, (ps, refl, v))))
       (λ k. absurd (omega (arith, k))) (λ digit. absurd (digit_not 39 39 digit refl refl)) (λ k. absurd (omega (arith, k)))
       (λ k. (
         not_open 39 (refl, refl) bs ps after scanned cut on,
@@ -242,7 +237,7 @@ module _ (starts : Bool) (bs : List ℕ) (ps : List Part) (after : List ℕ) (sc
     whole 39 (refl, refl) bs ps after scanned cut on,
     size 39 (refl, refl) bs ps after scanned cut on,
     omega arith,
-    record { token = inr (b, (ps, refl, e), refl, refl); longest = character_longest },
+    record { token = (ps, refl, e); longest = character_longest },
     λ h. let k = comment_first 39 _ h in omega (arith, k),
     character_clean b e,
   )

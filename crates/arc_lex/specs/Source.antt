@@ -1,5 +1,5 @@
 -- What the tokens of a source are, and where a source has none.
-use Rattle.std.specs.Prelude.{◌≡◌, ◌≤◌, ◌⊎◌, ℕ, ◌+◌, ℤ, pos, List, [], ◌∷◌, ◌++◌, length, slice_range, drop, codes, Bool, true, false, ◌&&◌, ◌||◌, nat_eq, if◌then◌else◌, Option, Some, None, option_map}
+use Rattle.std.specs.Prelude.{◌≡◌, ◌≤◌, ◌⊎◌, ℕ, ◌+◌, List, [], ◌∷◌, ◌++◌, length, slice_range, drop, codes, Bool, true, false, ◌&&◌, ◌||◌, nat_eq, if◌then◌else◌, Option, Some, None, option_map}
 use Rattle.std.specs.List.{starts_with, Contains}
 use Rattle.arc_lex.specs.declared.token.Word.{Word}
 use Rattle.arc_lex.specs.declared.bytes.Class.TheVariants as c
@@ -9,7 +9,7 @@ use Rattle.arc_lex.specs.declared.lex.TheConstants.{MOST_BYTES}
 use Rattle.arc_lex.specs.Bytes.{has, all_in, begins, is_blank, after_run}
 use Rattle.arc_lex.specs.Spellings.{mark_bytes, word_bytes, at_bytes, unused}
 use Rattle.arc_lex.specs.Texts.{Part, parts_bytes, parts_value, all_go_on, integer}
-use Rattle.arc_lex.specs.Tokens.{Sort, Name, Integer, Text, Key, At, Sign, Unused, Tok}
+use Rattle.arc_lex.specs.Tokens.{Sort, Name, Integer, Character, Text, Key, At, Sign, Unused, Tok}
 
 -- ---- tokens
 
@@ -25,14 +25,11 @@ IsNumberLike xs = (begins c.Digit xs ≡ true) × (all_in c.InName xs ≡ true)
 abbrev pub IsQuoted : ℕ → List ℕ → List ℕ → Type 0
 IsQuoted quote xs bytes = (parts : List Part) × (xs ≡ quote ∷ (parts_bytes parts ++ quote ∷ [])) × (parts_value quote parts ≡ Some bytes)
 
--- one byte between two `'` (C99, section 6.4.4.4)
-abbrev pub IsCharacter : List ℕ → ℤ → Bool → Type 0
-IsCharacter xs value suffixed = (b : ℕ) × IsQuoted 39 xs (b ∷ []) × (value ≡ pos b) × (suffixed ≡ false)
-
--- bytes that are a token of this sort (C99, section 6.4)
+-- bytes that are a token of this sort (C99, section 6.4): a character constant is one byte between two `'` (6.4.4.4)
 abbrev pub IsToken : List ℕ → Sort → Type 0
 IsToken xs (Name bytes) = (xs ≡ bytes) × IsWordLike xs × ((word : Word) → xs ≡ word_bytes word → ⊥) × (Contains unused xs → ⊥)
-IsToken xs (Integer value suffixed) = (IsNumberLike xs × (integer xs ≡ Some (value, suffixed))) ⊎ IsCharacter xs value suffixed
+IsToken xs (Integer value suffixed) = IsNumberLike xs × (integer xs ≡ Some (value, suffixed))
+IsToken xs (Character byte) = IsQuoted 39 xs (byte ∷ [])
 IsToken xs (Text bytes) = IsQuoted 34 xs bytes
 IsToken xs (Key word) = xs ≡ word_bytes word
 IsToken xs (At word) = xs ≡ at_bytes word

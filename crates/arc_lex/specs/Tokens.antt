@@ -7,11 +7,12 @@ use Rattle.arc_lex.specs.declared.token.TokenKind.{TokenKind}
 use Rattle.arc_lex.specs.declared.token.TokenKind.TheVariants as kinds
 use Rattle.arc_lex.specs.declared.token.Token.{Token}
 
--- what a token is (C99, section 6.4). An integer or a character has its value, and whether it has a suffix. An unused word or mark of C or
--- Objective-C is `Unused`, whichever it is
+-- what a token is (C99, section 6.4). An integer has its value, and whether it has a suffix, and a character constant the byte that it
+-- stands for. An unused word or mark of C or Objective-C is `Unused`, whichever it is
 pub data Sort : Type 0 where
   Name : List ℕ → Sort
   Integer : ℤ → Bool → Sort
+  Character : ℕ → Sort
   Text : List ℕ → Sort
   Key : Word → Sort
   At : AtWord → Sort
@@ -28,6 +29,7 @@ pub record Tok : Type 0 where
 abbrev pub sort_of : TokenKind → Sort
 sort_of (kinds.Name bytes) = Name bytes.items
 sort_of (kinds.Integer value suffixed) = Integer value suffixed
+sort_of (kinds.Character byte) = Character byte
 sort_of (kinds.Text bytes) = Text bytes.items
 sort_of (kinds.Word word) = Key word
 sort_of (kinds.At word) = At word

@@ -88,7 +88,7 @@ fn character_value(value: Option<Vec<u8>>, n: usize) -> Piece
     match value {
         None => Piece::Broken(Rule::Literal),
         Some(bytes) => match bytes.as_slice() {
-            [b] => Piece::Whole(TokenKind::Integer(i64::from(*b), false), n),
+            [b] => Piece::Whole(TokenKind::Character(*b), n),
             _ => Piece::Broken(Rule::Literal),
         },
     }

@@ -189,12 +189,14 @@ pub const AT_WORDS: [AtWord; 7] = [
 /// The bytes of a name. Most names are short, and need no memory of their own.
 pub type NameBytes = SmallVec<u8, 16>;
 
-/// What a token is. A name holds its bytes, an integer or a character its value and whether it has a suffix, and a text
-/// the bytes that it stands for. `Unused` is any word or mark of C or Objective-C that this project doesn't use.
+/// What a token is. A name holds its bytes, an integer its value and whether it has a suffix, and a character constant
+/// and a text what they stand for, a byte and bytes. `Unused` is any word or mark of C or Objective-C that this project
+/// doesn't use.
 #[derive(Debug, Drop)]
 pub enum TokenKind {
     Name(NameBytes),
     Integer(i64, bool),
+    Character(u8),
     Text(Vec<u8>),
     Word(Word),
     At(AtWord),

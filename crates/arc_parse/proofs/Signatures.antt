@@ -3,7 +3,7 @@ use Rattle.std.proofs.Common.{◌≡◌, ℕ, List, [], ◌∷◌, ◌++◌, byt
 use Rattle.arc_lex.specs.declared.token.Mark.TheVariants as m
 use Rattle.arc_lex.specs.declared.token.Word.TheVariants as w
 use Rattle.arc_ast.specs.declared.tree.Qualifiers.TheVariants.{Unqualified}
-use Rattle.arc_lex.specs.Tokens.{Tok, Sort, Name, Integer, Text, Key, At, Sign, Unused}
+use Rattle.arc_lex.specs.Tokens.{Tok, Sort, Name, Integer, Character, Text, Key, At, Sign, Unused}
 use Rattle.arc_ast.specs.Tree.{ParameterTree, ParametersTree, Listed, Int, HeadTree, ResultTree, FunctionTree}
 use Rattle.arc_form.specs.Kinds.{main_bytes, kind, name, mark, word, ◌∪◌}
 use Rattle.arc_form.specs.Reader.{Read, Reader, bind, ◌>>=◌, ret, take_one, from, sees, if_sees, sees_two, bytes_of, named}
@@ -37,6 +37,7 @@ read_function type (t ∷ ts) = go t.sort refl
         let taken : take_one name named (t ∷ ts) ≡ Ok ((t.from, called), ts) = rw (e, name_has is_main) refl in
         signed called is_main (ap kind e) (ap bytes_of e) ∙ sym (ap (λ x. bind x (λ n. reads (enclosed_to n.1) >>= (λ ps. reads function_body >>= (λ b. ret (with_result (n, (ps, b)) type))))) taken)
     go (Integer value suffixed) e = rw e refl
+    go (Character byte) e = rw e refl
     go (Text bytes) e = rw e refl
     go (Key w) e = rw e refl
     go (At w) e = rw e refl

@@ -16,6 +16,7 @@ fn begins_literal(reader: &Reader) -> bool
     ensures { result ≡ sees grammar.begins_literal (toks reader.now.rest.now) }
 {
     reader.sees_integer()
+        || reader.sees_character()
         || reader.sees_text()
         || reader.sees_word(Word::Nil)
         || reader.sees_word(Word::SelfWord)

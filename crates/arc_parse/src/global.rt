@@ -112,7 +112,7 @@ fn first_constant(reader: &mut Reader) -> Read<Option<Constant>>
     Ok(Some(value))
 }
 
-/// What a variable of the whole program may begin with: `-` and an integer or a character, or what a token stands for.
+/// What a variable of the whole program may begin with: `-` and an integer, or what a token stands for.
 #[tactic(auto, unfolding(arc_grammar::specs::Grammar::constant, arc_grammar::specs::Grammar::negative_constant))]
 fn constant(reader: &mut Reader) -> Read<Constant>
     ensures gives { Gives (λ x. x) result (toks reader.new.rest.now) (reads grammar.constant (toks reader.old.rest.now)) }
@@ -125,7 +125,7 @@ fn constant(reader: &mut Reader) -> Read<Constant>
     Ok(Constant::Number(at, value.wrapping_neg()))
 }
 
-/// The number of the first token, which is an integer or a character.
+/// The number of the first token, which is an integer.
 ///
 /// `Unexpected` comes where it is not, and nothing is taken.
 fn integer(reader: &mut Reader) -> Read<i64>
@@ -144,7 +144,7 @@ fn integer(reader: &mut Reader) -> Read<i64>
     }
 }
 
-/// What the first token stands for, which is an integer, a character, `YES`, `NO` or `nil`.
+/// What the first token stands for, which is an integer, a character constant, `YES`, `NO` or `nil`.
 ///
 /// `Unexpected` comes where it is not, and nothing is taken.
 #[tactic(auto, unfolding(arc_grammar::specs::Grammar::plain_constant))]
@@ -158,6 +158,7 @@ fn plain_constant(reader: &mut Reader) -> Read<Constant>
     let at = token.span.from;
     let constant = match token.kind {
         TokenKind::Integer(value, _) => Constant::Number(at, value),
+        TokenKind::Character(byte) => Constant::Number(at, i64::from(byte)),
         TokenKind::Word(Word::Yes) => Constant::Number(at, 1),
         TokenKind::Word(Word::No) => Constant::Number(at, 0),
         TokenKind::Word(Word::Nil) => Constant::Nil(at),

@@ -26,7 +26,7 @@ fn boolean(alloc: Global, at: usize, value: i64) -> Read<Expr>
     Ok(Expr::Cast(at, TypeName::Bool, number))
 }
 
-/// The first token, which is an integer, a text, `nil`, `self`, `YES` or `NO`.
+/// The first token, which is an integer, a character constant, a text, `nil`, `self`, `YES` or `NO`.
 #[tactic(auto, unfolding(arc_grammar::specs::Grammar::literal))]
 pub fn literal(alloc: Global, reader: &mut Reader) -> Read<Box<Expr>>
     ensures gives { Gives (λ x. expr_tree x.value) result (toks reader.new.rest.now) (reads_free grammar.literal (toks reader.old.rest.now)) }
@@ -38,6 +38,7 @@ pub fn literal(alloc: Global, reader: &mut Reader) -> Read<Box<Expr>>
     let at = token.span.from;
     let value = match &token.kind {
         TokenKind::Integer(value, suffixed) => Expr::Integer(at, *value, *suffixed),
+        TokenKind::Character(byte) => Expr::Integer(at, i64::from(*byte), false),
         TokenKind::Text(bytes) => Expr::Text(at, Vec::from_slice(alloc, bytes)?),
         TokenKind::Word(Word::Nil) => Expr::Nil(at),
         TokenKind::Word(Word::SelfWord) => Expr::Itself(at),

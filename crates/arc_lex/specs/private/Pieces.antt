@@ -1,5 +1,5 @@
 -- The piece at the front of bytes, as the code finds it.
-use Rattle.std.specs.Prelude.{◌≡◌, ◌≤◌, ◌<◌, ◌++◌, length, ℕ, ◌+◌, ℤ, pos, List, [], ◌∷◌, take, Bool, true, false, ◌&&◌, nat_eq, if◌then◌else◌, Option, Some, None}
+use Rattle.std.specs.Prelude.{◌≡◌, ◌≤◌, ◌<◌, ◌++◌, length, ℕ, ◌+◌, ℤ, List, [], ◌∷◌, take, Bool, true, false, ◌&&◌, nat_eq, if◌then◌else◌, Option, Some, None}
 use Rattle.std.specs.Borrow.{Bor}
 use Rattle.std.specs.List.{starts_with, list_any}
 use Rattle.std.specs.Cmp.Lexicographic.{pointwise}
@@ -15,7 +15,7 @@ use Rattle.arc_lex.specs.declared.token.TheConstants.{MARKS, WORDS, AT_WORDS}
 use Rattle.arc_lex.specs.Bytes.{has, run, is_blank}
 use Rattle.arc_lex.specs.Spellings.{mark_bytes, word_bytes, at_bytes, unused}
 use Rattle.arc_lex.specs.Texts.{Part, Plain, Escape, parts_bytes, parts_value, integer}
-use Rattle.arc_lex.specs.Tokens.{Sort, Name, Integer, Text, Key, At, Sign, Unused, sort_of}
+use Rattle.arc_lex.specs.Tokens.{Sort, Name, Integer, Character, Text, Key, At, Sign, Unused, sort_of}
 use Rattle.arc_lex.specs.Source.{Longest, IsComment, Skipped, is_skipped, to_close, Faultless, Breaks}
 
 pub data Piece : Type 0 where
@@ -91,7 +91,7 @@ text_piece [] = Broken rules.OpenLiteral
 text_piece (b ∷ bs) = text_found (scan 34 false [] bs)
 
 abbrev pub character_value : Option (List ℕ) → ℕ → Piece
-character_value (Some (b ∷ [])) n = Whole (Integer (pos b) false) n
+character_value (Some (b ∷ [])) n = Whole (Character b) n
 character_value _ n = Broken rules.Literal
 
 abbrev pub character_found : Option (List Part) → Piece
