@@ -1,4 +1,6 @@
 -- Each mark and each reserved word stands in its table.
+use Rattle.std.specs.Prelude.{position, unwrap_or}
+use Rattle.std.specs.Str.{bytes_eq}
 use Rattle.std.proofs.Common.{◌≡◌, ℕ, Bool, true, false, Option, Some, not, ◌&&◌, nat_eq, List, [], ◌∷◌, take, None, is_some, sym, ap, ◌∙◌, refl}
 use Rattle.arc_lex.specs.declared.token.Mark.{Mark}
 use Rattle.arc_lex.specs.declared.token.Mark.TheVariants as m
@@ -13,86 +15,22 @@ use Rattle.arc_lex.specs.Spellings.{mark_bytes, word_bytes, at_bytes}
 use Rattle.arc_lex.specs.private.Pieces.{first_equal}
 use Rattle.arc_lex.proofs.Tables.{nth, passes, longest_first, equal_sound, one_entry}
 
+-- the number of the first entry of a table that is written so
+abbrev place_of : {A : Type 0} → (written : A → List ℕ) → (table : List A) → List ℕ → ℕ
+place_of written table bytes = unwrap_or (position (λ it. bytes_eq bytes (written it)) table) 0
+
+-- the first lines name a variant, so that the second ones hold of each of the others by itself
 pub mark_stands : (it : Mark) → (n : ℕ) × (nth n MARKS ≡ Some it)
 mark_stands m.OpenBrace = (21, refl)
-mark_stands m.CloseBrace = (22, refl)
-mark_stands m.OpenParen = (23, refl)
-mark_stands m.CloseParen = (24, refl)
-mark_stands m.OpenSquare = (25, refl)
-mark_stands m.CloseSquare = (26, refl)
-mark_stands m.Semicolon = (27, refl)
-mark_stands m.Comma = (28, refl)
-mark_stands m.Colon = (29, refl)
-mark_stands m.Arrow = (2, refl)
-mark_stands m.Question = (30, refl)
-mark_stands m.Less = (31, refl)
-mark_stands m.Greater = (32, refl)
-mark_stands m.LessEqual = (3, refl)
-mark_stands m.GreaterEqual = (4, refl)
-mark_stands m.Equal = (5, refl)
-mark_stands m.NotEqual = (6, refl)
-mark_stands m.Assign = (33, refl)
-mark_stands m.Plus = (34, refl)
-mark_stands m.Minus = (35, refl)
-mark_stands m.Star = (36, refl)
-mark_stands m.Slash = (37, refl)
-mark_stands m.Percent = (38, refl)
-mark_stands m.Ampersand = (39, refl)
-mark_stands m.Caret = (40, refl)
-mark_stands m.Tilde = (41, refl)
-mark_stands m.Not = (42, refl)
-mark_stands m.And = (7, refl)
-mark_stands m.Increment = (8, refl)
-mark_stands m.Decrement = (9, refl)
-mark_stands m.ShiftLeft = (10, refl)
-mark_stands m.ShiftRight = (11, refl)
-mark_stands m.PlusAssign = (12, refl)
-mark_stands m.MinusAssign = (13, refl)
-mark_stands m.StarAssign = (14, refl)
-mark_stands m.SlashAssign = (15, refl)
-mark_stands m.PercentAssign = (16, refl)
-mark_stands m.AmpersandAssign = (17, refl)
-mark_stands m.CaretAssign = (18, refl)
-mark_stands m.ShiftLeftAssign = (0, refl)
-mark_stands m.ShiftRightAssign = (1, refl)
-mark_stands m.Bar = (43, refl)
-mark_stands m.Or = (19, refl)
-mark_stands m.BarAssign = (20, refl)
+mark_stands it = (place_of mark_bytes MARKS (mark_bytes it), refl)
 
 pub word_stands : (it : Word) → (n : ℕ) × (nth n WORDS ≡ Some it)
 word_stands w.Bool = (0, refl)
-word_stands w.No = (1, refl)
-word_stands w.NsInteger = (2, refl)
-word_stands w.Yes = (3, refl)
-word_stands w.Break = (4, refl)
-word_stands w.Char = (5, refl)
-word_stands w.Const = (6, refl)
-word_stands w.Continue = (7, refl)
-word_stands w.Do = (8, refl)
-word_stands w.Else = (9, refl)
-word_stands w.For = (10, refl)
-word_stands w.Id = (11, refl)
-word_stands w.If = (12, refl)
-word_stands w.InstanceType = (13, refl)
-word_stands w.Int = (14, refl)
-word_stands w.Long = (15, refl)
-word_stands w.Nil = (16, refl)
-word_stands w.Return = (17, refl)
-word_stands w.SelfWord = (18, refl)
-word_stands w.Static = (19, refl)
-word_stands w.Super = (20, refl)
-word_stands w.Void = (21, refl)
-word_stands w.While = (22, refl)
-word_stands w.Strong = (23, refl)
+word_stands it = (place_of word_bytes WORDS (word_bytes it), refl)
 
 pub at_stands : (it : AtWord) → (n : ℕ) × (nth n AT_WORDS ≡ Some it)
 at_stands ats.Class = (5, refl)
-at_stands ats.Interface = (1, refl)
-at_stands ats.Implementation = (0, refl)
-at_stands ats.End = (6, refl)
-at_stands ats.Public = (4, refl)
-at_stands ats.Protected = (2, refl)
-at_stands ats.Private = (3, refl)
+at_stands it = (place_of at_bytes AT_WORDS (at_bytes it), refl)
 
 pub marks_longest_first : longest_first mark_bytes MARKS ≡ true
 marks_longest_first = refl
