@@ -4,6 +4,8 @@ use Rattle.std.specs.Option.{option_and_then, option_map_or}
 use Rattle.std.specs.Str.{bytes_eq}
 use Rattle.arc_ast.specs.declared.tree.Kind.{Kind}
 use Rattle.arc_ast.specs.declared.tree.Qual.{Qual}
+use Rattle.arc_ast.specs.declared.tree.Qualifiers.{Qualifiers}
+use Rattle.arc_ast.specs.declared.tree.Qualifiers.TheVariants as qualifiers
 use Rattle.arc_ast.specs.declared.tree.Visibility.{Visibility}
 use Rattle.arc_ast.specs.Types.{type_kind}
 use Rattle.arc_ast.specs.Tree.{FieldTree, InterfaceTree, ImplementationTree, UnitTree}
@@ -44,9 +46,14 @@ abbrev pub own_fields : UnitTree → (class : ℕ) → List FieldTree
 own_fields u zero = []
 own_fields u (suc n) = option_map_or (fields_declared u (suc n)) (slice_get u.interfaces n) []
 
--- the sort of a field: how it holds an object, if it is one (ARC, "Ownership qualification")
+-- how what has a kind holds an object, after these qualifiers: as one of them says, and else strongly (ARC, "Ownership qualification")
+abbrev pub qualified : Qualifiers → (sort : Option Qual) → Option Qual
+qualified (qualifiers.Qualified q) (Some held) = Some q
+qualified _ sort = sort
+
+-- the sort of a field: how it holds an object, if it is one
 abbrev pub field_sort : FieldTree → Option Qual
-field_sort f = held_by (type_kind f.type)
+field_sort f = qualified f.qualifiers (held_by (type_kind f.type))
 
 -- a field that a class declares
 abbrev pub owned : (owner : ℕ) → FieldTree → ClassField

@@ -24,7 +24,7 @@ use crate::owners::Owners;
 use crate::sort_counts::{SortCounts, held_by};
 use crate::table::{ClassId, Field, FoundField, Names, at_name, class_number, type_class};
 use arc_ast::tree;
-use arc_ast::tree::{Interface, Qual};
+use arc_ast::tree::{Interface, Qual, Qualifiers};
 use arc_fault::class::ClassFault;
 use arc_sites::violation::earlier;
 use std::alloc::{AllocError, Global};
@@ -89,7 +89,10 @@ pub fn field_places<'a>(alloc: Global, own: &OwnFields<'a>) -> Result<FieldPlace
 fn field_sort(field: &tree::Field) -> Option<Qual>
     ensures { result ≡ field_sort (written_field field.now) }
 {
-    held_by(field.type_name.kind())
+    match (field.qualifiers, held_by(field.type_name.kind())) {
+        (Qualifiers::Qualified(qual), Some(_)) => Some(qual),
+        (_, sort) => sort,
+    }
 }
 
 /// A field of the class after so many of each sort, where classes have these names.

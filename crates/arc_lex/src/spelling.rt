@@ -6,7 +6,7 @@ ghost use Rattle.arc_lex.specs.Spellings.{mark_bytes, word_bytes, at_bytes, unus
 use crate::token::{AT_WORDS, AtWord, MARKS, Mark, WORDS, Word};
 
 /// How the words and marks that this project doesn't use are written.
-const UNUSED: [&str; 32] = [
+const UNUSED: [&str; 31] = [
     "auto",
     "case",
     "default",
@@ -29,7 +29,6 @@ const UNUSED: [&str; 32] = [
     "volatile",
     ".",
     "NULL",
-    "__weak",
     "__autoreleasing",
     "__unsafe_unretained",
     "@autoreleasepool",
@@ -122,6 +121,7 @@ fn word_text(word: Word) -> &'static str
         Word::Void => "void",
         Word::While => "while",
         Word::Strong => "__strong",
+        Word::Weak => "__weak",
     }
 }
 
@@ -311,7 +311,7 @@ pub fn word_of(name: &[u8]) -> Option<Word>
         [b's', ..] => first_word(&[Word::SelfWord, Word::Static, Word::Super], name),
         [b'v', ..] => first_word(&[Word::Void], name),
         [b'w', ..] => first_word(&[Word::While], name),
-        [b'_', ..] => first_word(&[Word::Strong], name),
+        [b'_', ..] => first_word(&[Word::Strong, Word::Weak], name),
         _ => None,
     }
 }
@@ -334,7 +334,7 @@ pub fn is_unused(name: &[u8]) -> bool
         [b't', ..] => is_one(&["typedef"], name),
         [b'u', ..] => is_one(&["union", "unsigned"], name),
         [b'v', ..] => is_one(&["volatile"], name),
-        [b'_', ..] => is_one(&["__weak", "__autoreleasing", "__unsafe_unretained"], name),
+        [b'_', ..] => is_one(&["__autoreleasing", "__unsafe_unretained"], name),
         [b'@' | b'.', ..] => is_one(&UNUSED, name),
         _ => false,
     }

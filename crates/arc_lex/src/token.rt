@@ -85,6 +85,7 @@ pub enum Word {
     Void,
     While,
     Strong,
+    Weak,
 }
 
 /// A word after `@` that this project uses.
@@ -148,7 +149,7 @@ pub const MARKS: [Mark; 44] = [
 ];
 
 /// The reserved words.
-pub const WORDS: [Word; 24] = [
+pub const WORDS: [Word; 25] = [
     Word::Bool,
     Word::No,
     Word::NsInteger,
@@ -173,6 +174,7 @@ pub const WORDS: [Word; 24] = [
     Word::Void,
     Word::While,
     Word::Strong,
+    Word::Weak,
 ];
 
 /// The words after `@`, the longest first.
