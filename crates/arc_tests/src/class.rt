@@ -1,7 +1,7 @@
 //! A source's table, and a fault. Rows of `arc_rows` show the sources that are refused.
 use crate::source::tree;
-use arc_ast::tree::{Sign, TranslationUnit};
-use arc_class::table::{ClassId, ClassTable, MethodId, Sel};
+use arc_ast::tree::{Kind, Qual, Sign, TranslationUnit};
+use arc_class::table::{ClassId, ClassTable, Field, MethodId, Sel};
 use arc_fault::class::ClassFault;
 use arc_spec::event::NoMemory;
 use std::alloc::Global;
@@ -53,4 +53,39 @@ fn registers(rt: HostRuntime) {
     let unit = tree(alloc, TWO_CLASSES).expect(&rt, "no tree");
     let registered = registered_in(alloc, &unit);
     assert_eq!(rt; registered, Some((Sel(9), Sel(9), Sel(10))));
+}
+
+/// `A` has a number and an object, and `B` an object more, which its implementation declares.
+const FIELDS: &[u8] = b"@interface A : NSObject { int n; id o; } @end @interface B : A @end \
+    @implementation A @end @implementation B { A *p; } @end int main(void) { }";
+
+/// Whether the field has this name and kind, holds an object so, and is the own one of this class.
+fn is_field(field: &Field, name: &[u8], kind: Kind, qual: Option<Qual>, owner: ClassId) -> bool {
+    field.name == name && field.kind == kind && field.qual == qual && field.owner == owner
+}
+
+/// Whether a table has the fields of `FIELDS`, those of the superclass first.
+fn has_fields(table: &ClassTable) -> bool {
+    let (above, class) = (ClassId(1), ClassId(2));
+    let [number, object, own] = table.fields(class) else {
+        return false;
+    };
+    table.superclass(class) == Some(above)
+        && is_field(number, b"n", Kind::Int, None, above)
+        && is_field(object, b"o", Kind::Object, Some(Qual::Strong), above)
+        && is_field(own, b"p", Kind::Object, Some(Qual::Strong), class)
+}
+
+/// Whether the table of this tree has them.
+fn has_fields_in(alloc: Global, unit: &TranslationUnit) -> Option<bool> {
+    let table = ClassTable::build(alloc, unit).ok()?;
+    let table = Box::new(alloc, table).ok()?;
+    Some(has_fields(&table))
+}
+
+#[test]
+fn knows_fields(rt: HostRuntime) {
+    let alloc = rt.alloc();
+    let unit = tree(alloc, FIELDS).expect(&rt, "no tree");
+    assert_eq!(rt; has_fields_in(alloc, &unit), Some(true));
 }

@@ -91,6 +91,7 @@ starts out p store i sound = record {
     writes = tt;
     none = λ _. (refl, λ _. refl);
     asks = λ broke. absurd (cc);
+    writing = λ broke. absurd (cc);
     last = λ k rest e l on. absurd (omega (arith, e));
   };
 }

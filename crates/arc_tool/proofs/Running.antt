@@ -21,7 +21,7 @@ use Rattle.arc_steps.specs.declared.answer.Answer.{Answer}
 use Rattle.arc_steps.specs.declared.answer.Answer.TheVariants as answer
 use Rattle.arc_steps.specs.Views.{Seen, fresh}
 use Rattle.arc_machine.specs.Said.{said}
-use Rattle.arc_turns.specs.Runs.{Leaves, Writes, Moves, IsAsking, Runs, Lacks, is_stopped, reached, next_events}
+use Rattle.arc_turns.specs.Runs.{Leaves, Writes, Moves, IsAsking, IsWriting, Runs, Lacks, is_stopped, reached, next_events}
 use Rattle.arc_steps.specs.Steps.{bytes_of}
 use Rattle.arc_turns.proofs.Farther.{bytes_of-append}
 use Rattle.arc_tool.specs.declared.lines.Left.{Left}
@@ -35,6 +35,7 @@ use Rattle.arc_tool.specs.Refused.{IsRefusal}
 use Rattle.arc_tool.specs.Reports.{Becomes}
 use Rattle.arc_tool.specs.private.Printed.{Printed, PrintedPart, RanCode}
 use Rattle.arc_tool.specs.Ran.{PrintsAll, PrintsPart, Answered}
+use Rattle.arc_tool.specs.Progress.{run_of, WritesByte}
 use Rattle.arc_tool.specs.SourceRun.{Follows}
 use Rattle.arc_machine.proofs.Starting.{fresh_stands}
 use Rattle.arc_tool.proofs.Following.{follows_moves, left_of, left_stopped, left_unread, makes_so, write_broke, within_so}
@@ -164,7 +165,13 @@ module _ {S : Type 0} (out : S → Blocks) (stock : S → Option Stock) (refuses
   abbrev Begins : Left → Type 0
   Begins left =
       (r : Follows p runs.0 left in0 in1 runs.2)
+      × ((rest : List ℕ) → Leaves in1 rest → WritesByte p part (run_of p (r.taken ++ rest) runs.0))
       × ((rest : List ℕ) → Leaves in1 rest → IsPrefix (bytes_of runs.2 ++ part) (bytes_of (seen p (r.taken ++ rest) (suc runs.0)).trace))
+
+  writing_in : new.answer ≡ answer.Broken Write → (rest : List ℕ) → Leaves in1 rest → WritesByte p part (run_of p (runs.1 ++ rest) runs.0)
+  writing_in broke rest l =
+      let here = runs.4.run rest l ∙ ap (λ a. reached a runs.4.state rest runs.2) broke in
+      subst (WritesByte p part) (sym here) (new.events, refl, subst (λ (q : Program). IsWriting (step q runs.4.state) new.events) runs.4.program (runs.4.writing broke))
 
   broken_in : new.answer ≡ answer.Broken Write → (others : List Event) → next_events (step p runs.4.state) ≡ new.events ++ others → (rest : List ℕ) → Leaves in1 rest
       → IsPrefix (bytes_of runs.2 ++ part) (bytes_of (seen p (runs.1 ++ rest) (suc runs.0)).trace)
@@ -179,7 +186,7 @@ module _ {S : Type 0} (out : S → Blocks) (stock : S → Option Stock) (refuses
   machine_broken is =
       let broke = write_broke new.answer is in
       let w = subst (λ a. Writes (is_stopped a) (step p runs.4.state) runs.2 new.events out0 out1) broke wrote in
-      let b = subst (λ a. Begins (left_of a)) broke (run, broken_in broke w.0 w.1) in
+      let b = subst (λ a. Begins (left_of a)) broke (run, writing_in broke, broken_in broke w.0 w.1) in
       inl (subst (λ q. PrintedPart q steps in0 in1 out0 out1) program_is (record {
         made = runs.0;
         fewer = fewer (ap is_stopped broke);
@@ -187,7 +194,8 @@ module _ {S : Type 0} (out : S → Blocks) (stock : S → Option Stock) (refuses
         follows = b.0;
         part = part;
         writes = subst (Appends out0 out1) (bytes_of-append runs.2 new.events) w.2;
-        begins = b.1;
+        writing = b.1;
+        begins = b.2;
       }))
 
 -- ---- what the program means
@@ -203,6 +211,7 @@ module _ (source : List ℕ) (p : Program) (compiled : Compiles source p) (steps
     run = source_run source p compiled run.made run.made (Stopped StepsUsed) i0 i1 run.events refl run.follows;
     part = run.part;
     writes = run.writes;
+    writing = run.writing;
     begins = run.begins;
     means = λ rest l.
         let input = run.follows.taken ++ rest in

@@ -1,10 +1,12 @@
 -- Where a run of code is after some steps on an input.
 use Rattle.std.specs.Prelude.{◌≡◌, ℕ, List, [], ◌++◌, Some, slice_get}
+use Rattle.arc_spec.specs.declared.event.Event.{Event}
 use Rattle.arc_spec.specs.Stepping.{Reached, Running, Ended, Faulted, Wedged, after_steps}
 use Rattle.arc_code.specs.declared.instr.Op.TheVariants.{Alloc}
 use Rattle.arc_code.specs.declared.instr.Instr.TheVariants.{Plain}
 use Rattle.arc_code.specs.Running.{Program, State, start, step}
-use Rattle.arc_turns.specs.Runs.{IsAsking}
+use Rattle.arc_steps.specs.Steps.{bytes_of}
+use Rattle.arc_turns.specs.Runs.{IsAsking, IsWriting}
 
 -- a run after so many steps
 abbrev pub run_of : Program → (input : List ℕ) → (made : ℕ) → Reached State
@@ -30,3 +32,8 @@ MakesObject p _ = ⊥
 abbrev pub ReadsByte : Program → Reached State → Type 0
 ReadsByte p (Running s i t) = IsAsking (step p s)
 ReadsByte p _ = ⊥
+
+-- it goes on at an instruction that writes a byte after these, or reads one, before which what was written is passed on
+abbrev pub WritesByte : Program → (part : List ℕ) → Reached State → Type 0
+WritesByte p part (Running s i t) = (given : List Event) × (part ≡ bytes_of given) × IsWriting (step p s) given
+WritesByte p part _ = ⊥

@@ -14,6 +14,7 @@ use Rattle.arc_tool.specs.declared.lines.Left.TheVariants.{Stopped, Unread}
 use Rattle.arc_tool.specs.declared.run.ToolFault.{ToolFault}
 use Rattle.arc_tool.specs.declared.run.ToolFault.TheVariants.{Refused, Memory, Io}
 use Rattle.arc_source.specs.Accepted.{meant}
+use Rattle.arc_tool.specs.Progress.{run_of, WritesByte}
 use Rattle.arc_tool.specs.Refused.{IsRefusal}
 use Rattle.arc_tool.specs.Reports.{Names}
 use Rattle.arc_tool.specs.SourceRun.{SourceRun}
@@ -23,13 +24,14 @@ abbrev pub PrintsAll : List ℕ → (steps : ℕ) → Left → (in0 in1 out0 out
 PrintsAll source steps left i0 i1 o0 o1 = (run : SourceRun source steps left i0 i1) × Appends o0 o1 (bytes_of run.events)
 
 -- The writer failed in the step after those of a run, one of those that were allowed: what they printed was written, and some first bytes of what that step
--- prints; and all of these are first ones of what the program means to print.
+-- prints, which has a further one to write, or reads; and all of these are first ones of what the program means to print.
 pub record PrintsPart (source : List ℕ) (steps : ℕ) (in0 in1 out0 out1 : Option (List ℕ)) : Type 0 where
   pub made : ℕ
   pub fewer : made < steps
   pub run : SourceRun source made (Stopped StepsUsed) in0 in1
   pub part : List ℕ
   pub writes : Appends out0 out1 (bytes_of run.events ++ part)
+  pub writing : (rest : List ℕ) → Leaves in1 rest → WritesByte run.code part (run_of run.code (run.follows.taken ++ rest) made)
   pub begins : (rest : List ℕ) → Leaves in1 rest → IsPrefix (bytes_of run.events ++ part) (bytes_of (seen run.code (run.follows.taken ++ rest) (suc made)).trace)
   pub means : (rest : List ℕ) → Leaves in1 rest → IsPrefix (bytes_of run.events ++ part) (bytes_of (meant run.compiled.program (run.follows.taken ++ rest) (suc made)).trace)
 

@@ -12,6 +12,7 @@ use Rattle.arc_steps.specs.Steps.{bytes_of}
 use Rattle.arc_turns.specs.Runs.{Leaves}
 use Rattle.arc_tool.specs.declared.lines.Left.{Left}
 use Rattle.arc_tool.specs.declared.lines.Left.TheVariants.{Stopped, Unread}
+use Rattle.arc_tool.specs.Progress.{run_of, WritesByte}
 use Rattle.arc_tool.specs.SourceRun.{Follows, Within}
 
 -- A run of the code, of at most so many steps, that was left so, and what it printed was written.
@@ -22,7 +23,8 @@ pub record Printed (code : Program) (steps : ℕ) (left : Left) (in0 in1 out0 ou
   pub follows : Follows code made left in0 in1 events
   pub writes : Appends out0 out1 (bytes_of events)
 
--- The writer failed in the step after these, one of those that were allowed: what they printed was written, and some first bytes of what that step prints.
+-- The writer failed in the step after these, one of those that were allowed: what they printed was written, and some first bytes of what that step prints, which
+-- has a further one to write, or reads.
 pub record PrintedPart (code : Program) (steps : ℕ) (in0 in1 out0 out1 : Option (List ℕ)) : Type 0 where
   pub made : ℕ
   pub fewer : made < steps
@@ -30,6 +32,7 @@ pub record PrintedPart (code : Program) (steps : ℕ) (in0 in1 out0 out1 : Optio
   pub follows : Follows code made (Stopped StepsUsed) in0 in1 events
   pub part : List ℕ
   pub writes : Appends out0 out1 (bytes_of events ++ part)
+  pub writing : (rest : List ℕ) → Leaves in1 rest → WritesByte code part (run_of code (follows.taken ++ rest) made)
   pub begins : (rest : List ℕ) → Leaves in1 rest → IsPrefix (bytes_of events ++ part) (bytes_of (seen code (follows.taken ++ rest) (suc made)).trace)
 
 -- what each answer says of the run; the writer failed in a step, or after the last one
