@@ -13,7 +13,7 @@ use Rattle.arc_class.specs.Classes.{by_position, class_number, type_class, super
 use Rattle.arc_class.specs.Sorts.{held_by, next_of, with_one, counts}
 use Rattle.arc_spec.specs.Classes.{ancestry, first_that_has}
 
--- a field that the objects of a class have, with what it is, how it holds an object, if it is one (ARC, "Ownership qualification"), and the class that declares
+-- a field that the objects of a class have, with what it is, how it holds an object, if it names one (ARC, "Ownership qualification"), and the class that declares
 -- it
 pub record ClassField : Type 0 where
   pub name : List ℕ
@@ -44,7 +44,7 @@ abbrev pub own_fields : UnitTree → (class : ℕ) → List FieldTree
 own_fields u zero = []
 own_fields u (suc n) = option_map_or (fields_declared u (suc n)) (slice_get u.interfaces n) []
 
--- the sort of a field: how it holds an object, if it is one (ARC, "Ownership qualification")
+-- the sort of a field: how it holds an object, if it names one (ARC, "Ownership qualification")
 abbrev pub field_sort : FieldTree → Option Qual
 field_sort f = held_by (type_kind f.type)
 

@@ -1,5 +1,5 @@
--- How many fields, variables or parameters there are that hold numbers, and that hold objects strongly. These are numbered from 0, apart from the others (this project's
--- own choice). The sort of what is declared is how it holds an object, if it is one.
+-- How many fields, variables or parameters there are that hold objects strongly (`objects`), and how many others (`numbers`). Each of the two is numbered from 0
+-- (this project's own choice). The sort of what is declared is how it holds an object, if it names one.
 use Rattle.std.specs.Prelude.{ℕ, suc, ◌+◌, List, map, fold, Option, Some, None}
 use Rattle.arc_ast.specs.declared.tree.Kind.{Kind}
 use Rattle.arc_ast.specs.declared.tree.Kind.TheVariants as k

@@ -85,7 +85,7 @@ pub fn field_places<'a>(alloc: Global, own: &OwnFields<'a>) -> Result<FieldPlace
     Ok(places)
 }
 
-/// How the field holds an object, if it is one.
+/// How the field holds an object, if it names one.
 fn field_sort(field: &tree::Field) -> Option<Qual>
     ensures { result ≡ field_sort (written_field field.now) }
 {

@@ -1,5 +1,5 @@
-//! How many fields, variables or parameters there are that hold numbers, and that hold objects strongly. The sort of
-//! what is declared is how it holds an object, if it is one.
+//! How many fields, variables or parameters there are that hold objects strongly, and how many others. The sort of
+//! what is declared is how it holds an object, if it names one.
 ghost use Rattle.std.specs.Prelude.{◌≡◌, ◌<◌, nat_lt, IfOk, IfErr};
 ghost use Rattle.arc_ast.specs.Tree.{parameter_trees};
 ghost use Rattle.arc_fault.specs.declared.class.ClassFault.TheVariants.{Memory};
@@ -19,8 +19,7 @@ pub fn held_by(kind: Kind) -> Option<Qual>
     }
 }
 
-/// How many there are that hold numbers, and that hold objects strongly. These are numbered from 0, apart from the
-/// others.
+/// How many there are that hold objects strongly (`objects`), and how many others. Each of the two is numbered from 0.
 #[derive(Clone, Copy)]
 pub struct SortCounts {
     pub numbers: usize,
@@ -47,7 +46,7 @@ impl SortCounts {
         }
     }
 
-    /// One more of the sort, where it has a number.
+    /// The counts with one more of the sort, whose number isn't the largest one.
     fn and(self, sort: Option<Qual>) -> SortCounts
         requires { sorts.next_of sort self < usize.MAX }
         ensures { result ≡ sorts.with_one sort self }
@@ -75,7 +74,7 @@ impl SortCounts {
         Ok(self.and(sort))
     }
 
-    /// Whether there are more of them together.
+    /// Whether there are more than `most`, numbers and objects together.
     pub fn is_above(self, most: usize) -> bool
         ensures { result ≡ nat_lt most (sorts.total self) }
     {

@@ -169,7 +169,7 @@ pub struct Sel(pub usize);
 #[derive(Clone, Copy, Debug, PartialEq, Eq)]
 pub struct MethodId(pub usize);
 
-/// A field of a class's objects, how it holds an object, if it is one, and the class that declares it.
+/// A field of a class's objects, how it holds an object, if it names one, and the class that declares it.
 #[derive(Clone, Copy)]
 pub struct Field<'a> {
     pub name: &'a [u8],
@@ -180,8 +180,8 @@ pub struct Field<'a> {
 }
 
 /// A field that a name stands for: the class that declares it, its number in the objects of that
-/// class and of those below it, counted from 0 among those of its sort, its kind, how it holds an object, if it is one,
-/// and the class of a type that names one.
+/// class and of those below it, counted from 0 among those of its sort, its kind, how it holds an object, if it names
+/// one, the class of a type that names one, and who may name it.
 #[derive(Clone, Copy)]
 pub struct FoundField {
     pub owner: ClassId,

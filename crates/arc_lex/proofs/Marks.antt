@@ -15,21 +15,21 @@ use Rattle.arc_lex.specs.Spellings.{mark_bytes, word_bytes, at_bytes}
 use Rattle.arc_lex.specs.private.Pieces.{first_equal}
 use Rattle.arc_lex.proofs.Tables.{nth, passes, longest_first, equal_sound, one_entry}
 
--- the number of the first entry of a table that is written so
+-- the number of the first entry of a table that is written so, or 0 where none is
 abbrev place_of : {A : Type 0} → (written : A → List ℕ) → (table : List A) → List ℕ → ℕ
 place_of written table bytes = unwrap_or (position (λ it. bytes_eq bytes (written it)) table) 0
 
--- the first lines name a variant, so that the second ones hold of each of the others by itself
+-- The first line names a variant, so that the second one is checked for each of the others apart.
 pub mark_stands : (it : Mark) → (n : ℕ) × (nth n MARKS ≡ Some it)
-mark_stands m.OpenBrace = (21, refl)
+mark_stands m.OpenBrace = (place_of mark_bytes MARKS (mark_bytes m.OpenBrace), refl)
 mark_stands it = (place_of mark_bytes MARKS (mark_bytes it), refl)
 
 pub word_stands : (it : Word) → (n : ℕ) × (nth n WORDS ≡ Some it)
-word_stands w.Bool = (0, refl)
+word_stands w.Bool = (place_of word_bytes WORDS (word_bytes w.Bool), refl)
 word_stands it = (place_of word_bytes WORDS (word_bytes it), refl)
 
 pub at_stands : (it : AtWord) → (n : ℕ) × (nth n AT_WORDS ≡ Some it)
-at_stands ats.Class = (5, refl)
+at_stands ats.Class = (place_of at_bytes AT_WORDS (at_bytes ats.Class), refl)
 at_stands it = (place_of at_bytes AT_WORDS (at_bytes it), refl)
 
 pub marks_longest_first : longest_first mark_bytes MARKS ≡ true

@@ -59,7 +59,7 @@ fn registers(rt: HostRuntime) {
 const FIELDS: &[u8] = b"@interface A : NSObject { int n; id o; } @end @interface B : A @end \
     @implementation A @end @implementation B { A *p; } @end int main(void) { }";
 
-/// Whether the field has this name and kind, holds an object so, and is the own one of this class.
+/// Whether the field has this name, kind and sort, and this class declares it.
 fn is_field(field: &Field, name: &[u8], kind: Kind, qual: Option<Qual>, owner: ClassId) -> bool {
     field.name == name && field.kind == kind && field.qual == qual && field.owner == owner
 }
@@ -76,7 +76,7 @@ fn has_fields(table: &ClassTable) -> bool {
         && is_field(own, b"p", Kind::Object, Some(Qual::Strong), class)
 }
 
-/// Whether the table of this tree has them.
+/// Whether the table of this tree has them; None where it is refused, or memory is.
 fn has_fields_in(alloc: Global, unit: &TranslationUnit) -> Option<bool> {
     let table = ClassTable::build(alloc, unit).ok()?;
     let table = Box::new(alloc, table).ok()?;

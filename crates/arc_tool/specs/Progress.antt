@@ -33,7 +33,7 @@ abbrev pub ReadsByte : Program → Reached State → Type 0
 ReadsByte p (Running s i t) = IsAsking (step p s)
 ReadsByte p _ = ⊥
 
--- it goes on at an instruction that writes a byte after these, or reads one, before which what was written is passed on
+-- it goes on at an instruction that writes a further byte after these, or that reads one, before which what was written is passed on
 abbrev pub WritesByte : Program → (part : List ℕ) → Reached State → Type 0
 WritesByte p part (Running s i t) = (given : List Event) × (part ≡ bytes_of given) × IsWriting (step p s) given
 WritesByte p part _ = ⊥

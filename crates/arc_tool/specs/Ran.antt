@@ -23,8 +23,8 @@ use Rattle.arc_tool.specs.SourceRun.{SourceRun}
 abbrev pub PrintsAll : List ℕ → (steps : ℕ) → Left → (in0 in1 out0 out1 : Option (List ℕ)) → Type 0
 PrintsAll source steps left i0 i1 o0 o1 = (run : SourceRun source steps left i0 i1) × Appends o0 o1 (bytes_of run.events)
 
--- The writer failed in the step after those of a run, one of those that were allowed: what they printed was written, and some first bytes of what that step
--- prints, which has a further one to write, or reads; and all of these are first ones of what the program means to print.
+-- The writer failed in the step after those of a run, one of those that were allowed: that step has a further byte to write, or reads one. What they printed was
+-- written, and some first bytes of what that step prints; and all of these are first ones of what the program means to print.
 pub record PrintsPart (source : List ℕ) (steps : ℕ) (in0 in1 out0 out1 : Option (List ℕ)) : Type 0 where
   pub made : ℕ
   pub fewer : made < steps

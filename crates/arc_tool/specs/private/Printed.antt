@@ -23,8 +23,8 @@ pub record Printed (code : Program) (steps : ℕ) (left : Left) (in0 in1 out0 ou
   pub follows : Follows code made left in0 in1 events
   pub writes : Appends out0 out1 (bytes_of events)
 
--- The writer failed in the step after these, one of those that were allowed: what they printed was written, and some first bytes of what that step prints, which
--- has a further one to write, or reads.
+-- The writer failed in the step after these, one of those that were allowed: that step has a further byte to write, or reads one. What they printed was
+-- written, and some first bytes of what that step prints.
 pub record PrintedPart (code : Program) (steps : ℕ) (in0 in1 out0 out1 : Option (List ℕ)) : Type 0 where
   pub made : ℕ
   pub fewer : made < steps
