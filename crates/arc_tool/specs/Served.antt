@@ -61,7 +61,7 @@ ended_with (stop.Fault f) = Err (Fault f)
 ended_with stop.NoHeap = Err NoHeap
 ended_with stop.StepsUsed = Err StepsUsed
 
--- `check` says `ok` of a program, and `code` lists its code
+-- what each command does: `check` says `ok` of a program, `run` and `trace` run it (`RunsTo`), and `code` lists its code
 abbrev pub Obeyed : {R W : Type 0} → (remaining : R → Option (List ℕ)) → (contents : W → Option (List ℕ)) → (writer_failed : Type 0)
     → Command → List ℕ → (steps : ℕ) → Result ℕ Trouble → (i0 i1 : Counted R) → (o0 o1 : Counted W) → Type 0
 Obeyed remaining contents failed Check source steps answer i0 i1 o0 o1 = UnlessRefused source answer (o1 ≡ o0) (IsCompilable source × Says contents failed (codes "ok\n") answer o0 o1) × (i1 ≡ i0)
