@@ -14,7 +14,7 @@ use Rattle.std.specs.Str.{bytes_eq}
 use Rattle.arc_ast.specs.Tree.{FieldTree, InterfaceTree, UnitTree}
 use Rattle.arc_spec.specs.Classes.{and_above, ancestry, ancestry_within, first_that_has}
 use Rattle.arc_class.specs.declared.fields.ClassFields.{ClassFields}
-use Rattle.arc_class.specs.declared.sort_counts.SortCounts.{SortCounts}
+use Rattle.arc_spec.specs.declared.sort_counts.SortCounts.{SortCounts}
 use Rattle.arc_class.specs.declared.table.Field.{Field}
 use Rattle.arc_class.specs.declared.table.FoundField.{FoundField}
 use Rattle.arc_class.specs.ClassRules.{field_place}
@@ -23,7 +23,7 @@ use Rattle.arc_class.specs.private.Entries.{inherited_place}
 use Rattle.arc_class.specs.Classes.{class_number, superclass}
 use Rattle.arc_class.specs.private.Entries.{FieldsTree, fields_tree, root_fields, class_fields, class_fields_from, class_fields_with, all_class_fields, counted_at, counted_among}
 use Rattle.arc_class.specs.Fields.{ClassField, fields_declared, own_fields, owned, if_before, earlier_superclasses_from, earlier_superclasses, own_class_fields, inherited_by, fields, all_fields_from, inherited, sorts_of_fields, written_sorts, field_after, numbered, own_field, known_field, field_sort}
-use Rattle.arc_class.specs.Sorts.{none_counted, with_one, with_all, counts}
+use Rattle.arc_spec.specs.Sorts.{none_counted, with_one, with_all, counts}
 use Rattle.arc_class.specs.Table.{at_name, own_field_in, own_place_in, superclass_of_fields, field_among, place_among, list_of, list_at, list_among}
 use Rattle.arc_class.proofs.Parts.{kept_none}
 use Rattle.arc_class.proofs.Sorts.{counts_of_class, counts_of_parts}

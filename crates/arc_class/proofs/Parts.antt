@@ -12,7 +12,7 @@ use Rattle.arc_ast.specs.Tree.{HeadTree, MethodTree, FieldTree, InterfaceTree, I
 use Rattle.arc_spec.specs.declared.class.Method.{Method}
 use Rattle.arc_spec.specs.Classes.{Class}
 use Rattle.arc_class.specs.declared.heads.Heads.{Heads}
-use Rattle.arc_class.specs.declared.sort_counts.SortCounts.{SortCounts}
+use Rattle.arc_spec.specs.declared.sort_counts.SortCounts.{SortCounts}
 use Rattle.arc_class.specs.declared.table.MethodResult.{MethodResult}
 use Rattle.arc_class.specs.declared.table.Place.{Place}
 use Rattle.arc_class.specs.Classes.{first_head, result_of, own_result, defined_by, class_number, implemented_before, own_heads}
@@ -122,7 +122,7 @@ pub root_is : (names : Named Place) (methods : Heads) → ((sign : Sign) (select
 root_is names methods h = ap (entry_of None) (fun_ext (λ sign. fun_ext (λ selector. ap (option_map (λ h. given_in names (head_tree h.now))) (h sign selector))))
 
 abbrev class_made : Option ℕ → List Method → Option ℕ → SortCounts → Class
-class_made superclass methods dealloc fields = record { superclass = superclass; methods = methods; dealloc = dealloc; fields = fields.numbers; strong_fields = fields.objects }
+class_made superclass methods dealloc fields = record { superclass = superclass; methods = methods; dealloc = dealloc; fields = fields }
 
 pub class_is : (u : UnitTree) (fields : SortCounts) (i : InterfaceTree) (superclass : Option ℕ) (methods : List Method) (dealloc : Option ℕ) → superclass ≡ class_number u.interfaces i.superclass
     → methods ≡ option_map_or (λ p. methods_from u p.0 (p.1).methods) (implementation_of u i) [] → dealloc ≡ option_and_then (λ p. dealloc_from p.0 (p.1).methods) (implementation_of u i) → class_made superclass methods dealloc fields ≡ class_with u fields i

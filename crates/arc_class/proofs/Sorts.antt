@@ -3,9 +3,9 @@ use Rattle.std.proofs.Common.{◌≡◌, ◌≤◌, ℕ, suc, ◌+◌, List, [],
 use Rattle.arc_ast.specs.declared.tree.Qual.{Qual}
 use Rattle.arc_ast.specs.declared.tree.Qual.TheVariants as quals
 use Rattle.arc_ast.specs.Tree.{FieldTree}
-use Rattle.arc_class.specs.declared.sort_counts.SortCounts.{SortCounts}
+use Rattle.arc_spec.specs.declared.sort_counts.SortCounts.{SortCounts}
 use Rattle.arc_class.specs.Fields.{ClassField, owned, field_sort, sorts_of_fields, written_sorts}
-use Rattle.arc_class.specs.Sorts.{next_of, with_one, with_all, counts, none_counted, total}
+use Rattle.arc_spec.specs.Sorts.{next_of, with_one, with_all, counts, none_counted, total}
 use Rattle.arc_class.proofs.Parts.{map_append}
 
 pub with_both : (c : SortCounts) (ss ts : List (Option Qual)) → with_all c (ss ++ ts) ≡ with_all (with_all c ss) ts

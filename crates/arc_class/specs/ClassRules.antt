@@ -56,7 +56,7 @@ broken_fields u above all = flat_map (λ f. broken_field u above all f.at f.name
 abbrev pub is_taken : UnitTree → (before : List InterfaceTree) → InterfaceTree → Bool
 is_taken u before i = is_root i.name || (is_library i.name || (is_some (interface_number before i.name) || (stands_before (first_named i.name u.functions) i.at || variable_before (known_global u.interfaces u.globals i.name) i.at)))
 
--- the first implementation with a name is there
+-- whether one of these implementations has the name
 abbrev pub is_implemented : List ImplementationTree → List ℕ → Bool
 is_implemented implementations name = list_any (λ i. bytes_eq name i.name) implementations
 

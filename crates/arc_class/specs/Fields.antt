@@ -7,10 +7,10 @@ use Rattle.arc_ast.specs.declared.tree.Qual.{Qual}
 use Rattle.arc_ast.specs.declared.tree.Visibility.{Visibility}
 use Rattle.arc_ast.specs.Types.{type_kind}
 use Rattle.arc_ast.specs.Tree.{FieldTree, InterfaceTree, ImplementationTree, UnitTree}
-use Rattle.arc_class.specs.declared.sort_counts.SortCounts.{SortCounts}
+use Rattle.arc_spec.specs.declared.sort_counts.SortCounts.{SortCounts}
 use Rattle.arc_class.specs.declared.table.FoundField.{FoundField}
 use Rattle.arc_class.specs.Classes.{by_position, class_number, type_class, superclass}
-use Rattle.arc_class.specs.Sorts.{held_by, next_of, with_one, counts}
+use Rattle.arc_spec.specs.Sorts.{sort_of, next_of, with_one, counts}
 use Rattle.arc_spec.specs.Classes.{ancestry, first_that_has}
 
 -- a field that the objects of a class have, with what it is, how it holds an object, if it names one (ARC, "Ownership qualification"), and the class that declares
@@ -46,7 +46,7 @@ own_fields u (suc n) = option_map_or (fields_declared u (suc n)) (slice_get u.in
 
 -- the sort of a field: how it holds an object, if it names one (ARC, "Ownership qualification")
 abbrev pub field_sort : FieldTree → Option Qual
-field_sort f = held_by (type_kind f.type)
+field_sort f = sort_of f.qualifiers (type_kind f.type)
 
 -- a field that a class declares
 abbrev pub owned : (owner : ℕ) → FieldTree → ClassField

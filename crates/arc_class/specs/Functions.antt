@@ -32,7 +32,7 @@ same_signature a b = same_kind a.result b.result && same_number a.takes b.takes
 abbrev pub is_library : List ℕ → Bool
 is_library name = bytes_eq name (codes "printf") || bytes_eq name (codes "getchar")
 
--- A function has one body (C99, section 6.9), and its declarations agree with the first (section 6.7).
+-- whether a function can't stand after those of its name: it has one body (C99, section 6.9), and its declarations agree with the first (section 6.7)
 abbrev pub clashes : Option Declared → FunctionTree → Bool
 clashes None f = false
 clashes (Some earlier) f = (is_some earlier.body && has_body f) || not (same_signature earlier.signature (signature f))

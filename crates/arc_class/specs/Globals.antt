@@ -4,10 +4,10 @@ use Rattle.std.specs.Option.{option_map_or}
 use Rattle.std.specs.Str.{bytes_eq}
 use Rattle.arc_ast.specs.Tree.{GlobalTree, InterfaceTree}
 use Rattle.arc_ast.specs.Types.{type_kind}
-use Rattle.arc_class.specs.declared.sort_counts.SortCounts.{SortCounts}
+use Rattle.arc_spec.specs.declared.sort_counts.SortCounts.{SortCounts}
 use Rattle.arc_class.specs.declared.table.Variable.{Variable}
 use Rattle.arc_class.specs.Classes.{type_class}
-use Rattle.arc_class.specs.Sorts.{held_by, none_counted, next_of, with_one}
+use Rattle.arc_spec.specs.Sorts.{held_by, none_counted, next_of, with_one}
 
 -- a variable after so many of each sort, where classes have these interfaces
 abbrev pub variable_after : List InterfaceTree → (before : SortCounts) → GlobalTree → Variable

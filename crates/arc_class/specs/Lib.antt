@@ -1,6 +1,5 @@
 pub mod Broken
 pub mod Names
-pub mod Sorts
 pub mod Functions
 pub mod Globals
 pub mod Classes

@@ -6,10 +6,10 @@ use Rattle.arc_ast.specs.Tree.{HeadTree, MethodTree, InterfaceTree, Implementati
 use Rattle.arc_spec.specs.declared.class.Method.{Method}
 use Rattle.arc_spec.specs.Classes.{Class, gives_of}
 use Rattle.arc_class.specs.Classes.{class_number, result_of, selectors, number_among, is_dealloc, bodies}
-use Rattle.arc_class.specs.declared.sort_counts.SortCounts.{SortCounts}
+use Rattle.arc_spec.specs.declared.sort_counts.SortCounts.{SortCounts}
 use Rattle.arc_class.specs.Fields.{fields, sorts_of_fields}
 use Rattle.arc_class.specs.Names.{parameter_kinds}
-use Rattle.arc_class.specs.Sorts.{counts, counts_of_kinds}
+use Rattle.arc_spec.specs.Sorts.{none_counted, counts, counts_of_kinds}
 
 -- a method that runs this function, where selectors have these names
 abbrev pub method_made : (selectors : List (List ℕ)) → (runs : ℕ) → HeadTree → Method
@@ -47,8 +47,7 @@ class_with u fields i = record {
   superclass = class_number u.interfaces i.superclass;
   methods = option_map_or (λ p. methods_from u p.0 (p.1).methods) (implementation_of u i) [];
   dealloc = option_and_then (λ p. dealloc_from p.0 (p.1).methods) (implementation_of u i);
-  fields = fields.numbers;
-  strong_fields = fields.objects;
+  fields = fields;
 }
 
 abbrev pub class_of : UnitTree → (number : ℕ) → InterfaceTree → Class
@@ -61,4 +60,4 @@ classes_from u number (i ∷ others) = class_of u number i ∷ classes_from u (s
 
 -- The classes of a source as a running program knows them: the root, and then those of the interfaces.
 abbrev pub classes : UnitTree → List Class
-classes u = record { superclass = None; methods = []; dealloc = None; fields = 0; strong_fields = 0 } ∷ classes_from u 1 u.interfaces
+classes u = record { superclass = None; methods = []; dealloc = None; fields = none_counted } ∷ classes_from u 1 u.interfaces

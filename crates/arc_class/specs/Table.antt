@@ -12,7 +12,7 @@ use Rattle.arc_spec.specs.declared.class.Gives.{Gives}
 use Rattle.arc_spec.specs.declared.class.Gives.TheVariants.{Number}
 use Rattle.arc_spec.specs.Classes.{classes_of, gives_of, lookup, descends}
 use Rattle.arc_class.specs.declared.owners.Owners.{Owners}
-use Rattle.arc_class.specs.declared.sort_counts.SortCounts.{SortCounts}
+use Rattle.arc_spec.specs.declared.sort_counts.SortCounts.{SortCounts}
 use Rattle.arc_class.specs.declared.table.ClassId.{ClassId}
 use Rattle.arc_class.specs.declared.table.ClassTable.{ClassTable}
 use Rattle.arc_class.specs.declared.table.Declared.{Declared}
@@ -25,7 +25,7 @@ use Rattle.arc_class.specs.Fields.{ClassField, fields, known_field}
 use Rattle.arc_class.specs.Globals.{known_global}
 use Rattle.arc_class.specs.Names.{known, parameter_kinds, listed_kinds, kinds_of_parameters, number_of, is_main}
 use Rattle.arc_class.specs.Running.{classes}
-use Rattle.arc_class.specs.Sorts.{counts_of_kinds}
+use Rattle.arc_spec.specs.Sorts.{counts_of_kinds}
 
 -- what a table knows of the functions of a name
 abbrev pub function_in : ClassTable → List ℕ → Option Declared

@@ -17,18 +17,19 @@ ghost use Rattle.arc_class.specs.Running.{method_made, with_method, methods_from
 ghost use Rattle.arc_class.specs.declared.table.Place.{Place};
 ghost use Rattle.arc_class.specs.Table.{names_of, list_of, built_in_from};
 
+use crate::counting::parameter_counts;
 use crate::fields::{ClassFields, counted_among};
 use crate::heads::Heads;
 use crate::kept::Source;
 use crate::nearest::method_owners;
 use crate::owners::Owners;
 use crate::root::BuiltIn;
-use crate::sort_counts::{SortCounts, parameter_counts};
 use crate::table::{Entry, Field, at_name, class_number};
 use arc_ast::tree::{Implementation, Interface, Method, MethodHead, Sign, TranslationUnit};
 use arc_fault::class::ClassFault;
 use arc_spec::class;
 use arc_spec::class::{Class, gives_of};
+use arc_spec::sort_counts::SortCounts;
 use indexmap::IndexSet;
 use std::alloc::{AllocError, Global};
 
@@ -340,8 +341,7 @@ impl<'a> Source<'a> {
                 superclass,
                 methods,
                 dealloc: None,
-                fields: fields.numbers,
-                strong_fields: fields.objects,
+                fields,
             });
         };
         let all: &'a [Method] = &own.implementation.methods;
@@ -351,8 +351,7 @@ impl<'a> Source<'a> {
             superclass,
             methods,
             dealloc,
-            fields: fields.numbers,
-            strong_fields: fields.objects,
+            fields,
         })
     }
 
@@ -375,8 +374,7 @@ impl<'a> Source<'a> {
             superclass: None,
             methods: Vec::new(alloc),
             dealloc: None,
-            fields: 0,
-            strong_fields: 0,
+            fields: SortCounts::none(),
         })?;
         let mut number = 0;
         for interface in &self.unit.interfaces {

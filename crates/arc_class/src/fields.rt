@@ -13,20 +13,21 @@ ghost use Rattle.arc_class.specs.Fields.{numbered, field_after, field_sort, writ
 ghost use Rattle.arc_class.specs.Kept.{Knows};
 ghost use Rattle.arc_class.specs.Lookups.{at_name, class_number_in, own_field_in, own_place_in, field_among, place_among, field_tree, list_of, list_among, number_of_class, least_of};
 ghost use Rattle.arc_class.specs.Owners.{FindsFields};
-ghost use Rattle.arc_class.specs.Sorts.{with_all};
+ghost use Rattle.arc_spec.specs.Sorts.{with_all};
 ghost use Rattle.std.specs.Option.{option_or};
 
 use crate::by_name::ByName;
+use crate::counting::one_more;
 use crate::fault::fault_if;
 use crate::heads::keep_first;
 use crate::kept::Source;
 use crate::owners::Owners;
-use crate::sort_counts::{SortCounts, held_by};
 use crate::table::{ClassId, Field, FoundField, Names, at_name, class_number, type_class};
 use arc_ast::tree;
 use arc_ast::tree::{Interface, Qual};
 use arc_fault::class::ClassFault;
 use arc_sites::violation::earlier;
+use arc_spec::sort_counts::{SortCounts, sort_of};
 use std::alloc::{AllocError, Global};
 
 /// The place of the first field of each name.
@@ -89,7 +90,7 @@ pub fn field_places<'a>(alloc: Global, own: &OwnFields<'a>) -> Result<FieldPlace
 fn field_sort(field: &tree::Field) -> Option<Qual>
     ensures { result ≡ field_sort (written_field field.now) }
 {
-    held_by(field.type_name.kind())
+    sort_of(field.qualifiers, field.type_name.kind())
 }
 
 /// A field of the class after so many of each sort, where classes have these names.
@@ -132,7 +133,7 @@ fn keep_fields<'a>(
     for field in fields {
         let found = field_after(names, owner, counted, field);
         keep_first(named, &field.name, found)?;
-        counted = counted.with(found.qual)?;
+        counted = one_more(counted, found.qual)?;
     }
     Ok(counted)
 }

@@ -14,12 +14,13 @@ ghost use Rattle.arc_class.specs.Running.{implemented};
 ghost use Rattle.arc_class.specs.Table.{at_name, class_number_in};
 
 use crate::by_name::ByName;
+use crate::counting::one_more;
 use crate::heads::{Heads, keep_first};
-use crate::sort_counts::{SortCounts, held_by};
 use crate::table::{Known, Names, Place, Variable, Variables, at_name, type_class};
 use arc_ast::tree;
 use arc_ast::tree::{Function, Implementation, Interface, Method, TranslationUnit};
 use arc_fault::class::ClassFault;
+use arc_spec::sort_counts::{SortCounts, held_by};
 use std::alloc::{AllocError, Global};
 
 /// A function for each name.
@@ -141,7 +142,7 @@ fn first_globals<'a>(
     for global in globals {
         let variable = variable(names, before, global);
         keep_first(&mut map, &global.name, variable)?;
-        before = before.with(held_by(variable.kind))?;
+        before = one_more(before, held_by(variable.kind))?;
     }
     Ok(map)
 }

@@ -4,6 +4,7 @@
 mod building;
 mod by_name;
 mod classes;
+mod counting;
 pub mod fault;
 mod fields;
 mod heads;
@@ -17,6 +18,5 @@ mod owners;
 mod root;
 mod scopes;
 mod site_rules;
-mod sort_counts;
 pub mod table;
 mod types;

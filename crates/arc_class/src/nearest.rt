@@ -55,8 +55,7 @@ pub fn method_owners<'a>(
 fn field_count(classes: &[ClassFields]) -> usize {
     let mut count = 0_usize;
     for known in classes {
-        count = count.saturating_add(known.counted.numbers);
-        count = count.saturating_add(known.counted.objects);
+        count = count.saturating_add(known.counted.total());
     }
     count
 }

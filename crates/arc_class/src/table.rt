@@ -21,6 +21,7 @@ ghost use Rattle.std.proofs.Props.{props};
 
 use crate::building::{Parts, PartsAndOwners, Selectors, parts_and_owners};
 use crate::by_name::ByName;
+use crate::counting::parameter_counts;
 use crate::fields::{ClassFields, field_of};
 use crate::heads::{Heads, is_related};
 use crate::kept::{Functions, Source};
@@ -28,7 +29,6 @@ use crate::look::look;
 use crate::nearest::field_owners;
 use crate::owners::Owners;
 use crate::root::{BuiltIn, built_in_given, built_in_result, counting_given, counting_result};
-use crate::sort_counts::parameter_counts;
 use arc_ast::tree::{
     Kind, MethodHead, Parameter, Qual, ResultType, Sign, TranslationUnit, TypeName, Visibility,
 };

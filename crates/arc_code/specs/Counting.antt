@@ -31,6 +31,10 @@ abbrev pub Answers : Option (List ℕ) → Option ℕ → Option (List ℕ) → 
 Answers old (Some b) new = Consumes old new (b ∷ [])
 Answers old None new = IsAtEnd old × (new ≡ Some [])
 
--- known bytes grow by some first ones of these
+-- known bytes grow by some first ones of these, and not by all: there is a further one
+abbrev pub AppendsLess : Option (List ℕ) → Option (List ℕ) → List ℕ → Type 0
+AppendsLess old new bytes = (part rest : List ℕ) × (next : ℕ) × (bytes ≡ part ++ next ∷ rest) × Appends old new part
+
+-- known bytes grow by some first ones of these, or by all
 abbrev pub AppendsPart : Option (List ℕ) → Option (List ℕ) → List ℕ → Type 0
 AppendsPart old new bytes = (part rest : List ℕ) × (bytes ≡ part ++ rest) × Appends old new part

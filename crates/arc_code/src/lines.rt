@@ -16,7 +16,7 @@ use itoa::Buffer;
 /// Writes a line for each instruction: its number, counted from 0, its name, and its operands in
 /// decimal, with single spaces between them. An operator and a kind are written as their number in
 /// their order, counted from 0. The error is `IoFault::Write`, where the writer failed; then some
-/// of the first bytes are written.
+/// of the first bytes are written, and not all.
 pub fn list<W: Output>(code: &Code, writer: &mut Counted<W>) -> Result<(), IoFault>
     requires { failures_of writer.old < 2 ^ 64 - 1 }
     ensures { Written result (listing code.now.instrs.items)

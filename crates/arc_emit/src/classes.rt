@@ -19,7 +19,6 @@ pub fn copy_classes(alloc: Global, classes: &[Class]) -> Result<Vec<Class>, Emit
             methods,
             dealloc: class.dealloc,
             fields: class.fields,
-            strong_fields: class.strong_fields,
         })?;
     }
     Ok(copies)

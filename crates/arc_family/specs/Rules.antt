@@ -80,7 +80,7 @@ is_in_instance _ = false
 abbrev pub is_delegated : UnitTree → Enclosing → Message → Bool
 is_delegated u enclosing m = (is_in_instance enclosing && not (owns_self enclosing)) && (is_to_itself m && is_init_message u m)
 
--- 63 DelegateInit: an init method is sent to `self` or `super` outside of the methods of the init family (ARC, "Semantics of init"); at the first part of the selector
+-- 63 DelegateInit: an init method is sent to `self` or `super` in a method of objects that isn't of init (ARC, "Semantics of init"); at the first part of the selector
 abbrev pub rule_63 : UnitTree → Enclosing → Node → Option ℕ
 rule_63 u m (Value a) = sends (is_delegated u m) a
 rule_63 u m _ = None

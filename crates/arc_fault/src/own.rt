@@ -19,7 +19,7 @@ pub enum OwnFault {
     /// A message `dealloc`; the place is that of its selector.
     #[error("dealloc is sent at {0}")]
     DeallocSent(usize),
-    /// A message of an init method to `self` or `super` outside of the methods of the init family; the place is that of its selector.
+    /// A message of an init method to `self` or `super` in a method of objects that isn't of the init family; the place is that of its selector's first part.
     #[error("an init method is delegated at {0}")]
     DelegateInit(usize),
     /// A method of the init family that gives an object of a class that isn't related to its own, at its `-`.

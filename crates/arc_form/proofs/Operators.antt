@@ -1,6 +1,6 @@
 -- Operators between operands: what a token of a level is, and loops that join from the left.
 use Rattle.std.proofs.Common.{◌≡◌, ℕ, List, [], ◌∷◌, drop, Ok, Err, Bool, true, false, cond, ◌&&◌, Option, Some, None, nat_eq, if◌then◌else◌, refl, ap, ◌∙◌}
-use Rattle.arc_lex.specs.declared.token.Mark.{Mark}
+use Rattle.arc_lex.specs.declared.mark.Mark.{Mark}
 use Rattle.arc_lex.specs.Tokens.{Tok, Sort, Sign}
 use Rattle.arc_lex.specs.Spellings.{mark_bytes}
 use Rattle.arc_form.specs.Kinds.{Kind, ◌∪◌, mark, has, kind, is}

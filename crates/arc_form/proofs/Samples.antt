@@ -1,6 +1,7 @@
 -- A token of each set of kinds.
 use Rattle.std.proofs.Common.{pos, false, List, [], ◌∷◌, ◌++◌, map, if◌then◌else◌}
-use Rattle.arc_lex.specs.declared.token.TheConstants.{MARKS, WORDS, AT_WORDS}
+use Rattle.arc_lex.specs.declared.mark.TheConstants.{MARKS}
+use Rattle.arc_lex.specs.declared.word.TheConstants.{WORDS, AT_WORDS}
 use Rattle.arc_lex.specs.Tokens.{Tok, Sort, Name, Integer, Character, Text, Key, At, Sign}
 use Rattle.arc_form.specs.Kinds.{Kind, Kinds, main_bytes, none, one, ◌∪◌, kind, same}
 

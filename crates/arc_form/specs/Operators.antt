@@ -1,6 +1,6 @@
 -- Tables of operators between two operands.
 use Rattle.std.specs.Prelude.{ℕ, List, [], ◌∷◌, Option, Some, None, nat_eq, if◌then◌else◌}
-use Rattle.arc_lex.specs.declared.token.Mark.{Mark}
+use Rattle.arc_lex.specs.declared.mark.Mark.{Mark}
 use Rattle.arc_lex.specs.Tokens.{Tok, Sort, Sign}
 use Rattle.arc_form.specs.Kinds.{Kinds, none, ◌∪◌, mark, kind, has, is}
 -- what is joined from the left

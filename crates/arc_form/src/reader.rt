@@ -7,7 +7,9 @@ ghost use Rattle.arc_form.specs.Kinds as kinds;
 ghost use Rattle.arc_form.specs.Reader.{Gives, Taken, sees, sees_two, take_one, from, named};
 
 use crate::fail::{Fail, Read};
-use arc_lex::token::{AtWord, Mark, Token, TokenKind, Word};
+use arc_lex::mark::Mark;
+use arc_lex::token::{Token, TokenKind};
+use arc_lex::word::{AtWord, Word};
 use std::alloc::Global;
 
 fn same_mark(found: Mark, mark: Mark) -> bool

@@ -2,8 +2,8 @@
 use Rattle.std.proofs.Common.{◌≡◌, ℕ, zero, suc, min, List, Bool, true, false, ◌&&◌, ◌<◌, ◌≤◌, ◌⊎◌, inl, inr, refl, subst, arith}
 use Rattle.std.proofs.lemmas.Bool.{cases_lt}
 use Rattle.arc_lex.specs.Tokens.{Tok}
-use Rattle.arc_lex.specs.declared.token.Mark.TheVariants as m
-use Rattle.arc_lex.specs.declared.token.Word.TheVariants as w
+use Rattle.arc_lex.specs.declared.mark.Mark.TheVariants as m
+use Rattle.arc_lex.specs.declared.word.Word.TheVariants as w
 use Rattle.arc_form.specs.Kinds.{none, ◌∪◌, mark, word}
 use Rattle.arc_form.specs.Form.{Limits, ◌⨾◌, bounded, call, run}
 use Rattle.arc_form.proofs.Static.{Facts, passes, holds, decided, Decided, nullable, fits_as, fits, Fits, of_fits}

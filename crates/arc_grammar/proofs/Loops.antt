@@ -3,7 +3,7 @@ use Rattle.std.proofs.Common.{◌≡◌, ◌≤◌, List, [], ◌∷◌, ◌++�
 pub use Rattle.std.proofs.Common.{length}
 use Rattle.arc_lex.specs.declared.token.Token.{Token}
 use Rattle.arc_lex.specs.Tokens.{Tok, toks}
-use Rattle.arc_lex.specs.declared.token.Mark.TheVariants.{Comma}
+use Rattle.arc_lex.specs.declared.mark.Mark.TheVariants.{Comma}
 use Rattle.arc_form.specs.Kinds.{Kinds, mark}
 use Rattle.arc_form.specs.Views.{all}
 use Rattle.arc_form.specs.Reader.{Reader, ◌>>=◌, ret, sees, if_sees, take_one, from}

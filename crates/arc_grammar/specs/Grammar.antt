@@ -3,12 +3,12 @@ use Rattle.std.specs.Prelude.{ℕ, zero, suc, ℤ, pos, Bool, true, false, ◌+�
 use Rattle.std.specs.List.{flat_map}
 use Rattle.std.specs.Option.{option_map_or}
 use Rattle.std.specs.Int.{w64, int_wrapping_neg}
-use Rattle.arc_lex.specs.declared.token.Mark.{Mark}
-use Rattle.arc_lex.specs.declared.token.Mark.TheVariants as m
-use Rattle.arc_lex.specs.declared.token.Word.{Word}
-use Rattle.arc_lex.specs.declared.token.Word.TheVariants as w
-use Rattle.arc_lex.specs.declared.token.AtWord.{AtWord}
-use Rattle.arc_lex.specs.declared.token.AtWord.TheVariants as words
+use Rattle.arc_lex.specs.declared.mark.Mark.{Mark}
+use Rattle.arc_lex.specs.declared.mark.Mark.TheVariants as m
+use Rattle.arc_lex.specs.declared.word.Word.{Word}
+use Rattle.arc_lex.specs.declared.word.Word.TheVariants as w
+use Rattle.arc_lex.specs.declared.word.AtWord.{AtWord}
+use Rattle.arc_lex.specs.declared.word.AtWord.TheVariants as words
 use Rattle.arc_lex.specs.Tokens.{Sort}
 use Rattle.arc_lex.specs.Tokens as tokens
 use Rattle.arc_ast.specs.declared.tree.Sign.{Sign}

@@ -2,9 +2,9 @@
 use Rattle.std.proofs.Common.{◌≡◌, ℕ, List, Some, Bool, true, false, refl}
 use Rattle.std.specs.Str.{bytes_eq}
 use denote.Enum.Bare.{sameb}
-use Rattle.arc_lex.specs.declared.token.Word.{Word}
-use Rattle.arc_lex.specs.declared.token.TheConstants.{WORDS}
-use Rattle.arc_lex.specs.contracts.token.Word.{the_type}
+use Rattle.arc_lex.specs.declared.word.Word.{Word}
+use Rattle.arc_lex.specs.declared.word.TheConstants.{WORDS}
+use Rattle.arc_lex.specs.contracts.word.Word.{the_type}
 use Rattle.arc_lex.specs.Spellings.{word_bytes}
 use Rattle.arc_lex.proofs.Tables.{nth, all_pass, passes}
 use Rattle.arc_lex.proofs.Marks.{word_stands}

@@ -3,9 +3,9 @@ use Rattle.std.proofs.Common.{◌≡◌, ◌⊎◌, inl, inr, ℕ, ℤ, List, []
 use Rattle.std.proofs.lemmas.Bool.{and_parts, eqb-true}
 use Rattle.std.proofs.lemmas.Bool.Decides.{nat_tests}
 use Rattle.arc_lex.specs.declared.bytes.Class.TheVariants as c
-use Rattle.arc_lex.specs.declared.token.Mark.{Mark}
-use Rattle.arc_lex.specs.declared.token.Word.{Word}
-use Rattle.arc_lex.specs.declared.token.AtWord.{AtWord}
+use Rattle.arc_lex.specs.declared.mark.Mark.{Mark}
+use Rattle.arc_lex.specs.declared.word.Word.{Word}
+use Rattle.arc_lex.specs.declared.word.AtWord.{AtWord}
 use Rattle.arc_lex.specs.Bytes.{all_in, begins, is_letter, is_digit, is_blank}
 use Rattle.arc_lex.specs.Source.{IsToken}
 use Rattle.arc_lex.specs.Tokens.{Sort, Name, Integer, Character, Text, Key, At, Sign, Unused}

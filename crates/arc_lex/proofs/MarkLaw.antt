@@ -1,9 +1,10 @@
 -- The piece where a mark, a word after `@` or a blank stands.
 use Rattle.std.proofs.Common.{◌≡◌, ◌≤◌, ◌<◌, ◌⊎◌, inl, inr, ℕ, List, [], ◌∷◌, ◌++◌, length, true, false, Bool, nat_eq, Option, Some, None, refl, sym, subst, ◌∙◌, arith}
 use Rattle.std.specs.List.{Contains}
-use Rattle.arc_lex.specs.declared.token.TheConstants.{MARKS, AT_WORDS}
-use Rattle.arc_lex.specs.declared.token.Mark.{Mark}
-use Rattle.arc_lex.specs.declared.token.AtWord.{AtWord}
+use Rattle.arc_lex.specs.declared.mark.TheConstants.{MARKS}
+use Rattle.arc_lex.specs.declared.word.TheConstants.{AT_WORDS}
+use Rattle.arc_lex.specs.declared.mark.Mark.{Mark}
+use Rattle.arc_lex.specs.declared.word.AtWord.{AtWord}
 use Rattle.arc_lex.specs.Bytes.{is_letter, is_digit, is_blank}
 use Rattle.arc_lex.specs.private.Pieces.{Blank, Whole, Law, first_front, itself, at_found, at_piece, mark_found, mark_piece}
 use Rattle.arc_lex.specs.Source.{IsToken, IsComment, NothingBegins, Faultless}

@@ -2,14 +2,15 @@
 use Rattle.std.specs.Prelude.{position, unwrap_or}
 use Rattle.std.specs.Str.{bytes_eq}
 use Rattle.std.proofs.Common.{◌≡◌, ℕ, Bool, true, false, Option, Some, not, ◌&&◌, nat_eq, List, [], ◌∷◌, take, None, is_some, sym, ap, ◌∙◌, refl}
-use Rattle.arc_lex.specs.declared.token.Mark.{Mark}
-use Rattle.arc_lex.specs.declared.token.Mark.TheVariants as m
-use Rattle.arc_lex.specs.declared.token.Word.{Word}
-use Rattle.arc_lex.specs.declared.token.Word.TheVariants as w
-use Rattle.arc_lex.specs.declared.token.AtWord.{AtWord}
-use Rattle.arc_lex.specs.declared.token.AtWord.TheVariants as ats
+use Rattle.arc_lex.specs.declared.mark.Mark.{Mark}
+use Rattle.arc_lex.specs.declared.mark.Mark.TheVariants as m
+use Rattle.arc_lex.specs.declared.word.Word.{Word}
+use Rattle.arc_lex.specs.declared.word.Word.TheVariants as w
+use Rattle.arc_lex.specs.declared.word.AtWord.{AtWord}
+use Rattle.arc_lex.specs.declared.word.AtWord.TheVariants as ats
 use Rattle.arc_lex.specs.declared.bytes.Class.TheVariants as c
-use Rattle.arc_lex.specs.declared.token.TheConstants.{MARKS, WORDS, AT_WORDS}
+use Rattle.arc_lex.specs.declared.mark.TheConstants.{MARKS}
+use Rattle.arc_lex.specs.declared.word.TheConstants.{WORDS, AT_WORDS}
 use Rattle.arc_lex.specs.Bytes.{all_in, begins, is_letter, is_digit, is_blank}
 use Rattle.arc_lex.specs.Spellings.{mark_bytes, word_bytes, at_bytes}
 use Rattle.arc_lex.specs.private.Pieces.{first_equal}

@@ -2,8 +2,8 @@
 use Rattle.std.proofs.Common.{◌≡◌, ◌≤◌, ◌⊎◌, inl, inr, ℕ, List, [], ◌∷◌, ◌++◌, length, take, drop, Bool, true, add-one, false, Option, Some, None, refl, sym, ap, subst, ◌∙◌, arith}
 use Rattle.std.proofs.lemmas.Bool.{and_parts, and_from, or_left}
 use Rattle.arc_lex.specs.declared.bytes.Class.TheVariants as c
-use Rattle.arc_lex.specs.declared.token.TheConstants.{WORDS}
-use Rattle.arc_lex.specs.declared.token.Word.{Word}
+use Rattle.arc_lex.specs.declared.word.TheConstants.{WORDS}
+use Rattle.arc_lex.specs.declared.word.Word.{Word}
 use Rattle.arc_lex.specs.Bytes.{has, all_in, begins, run, is_letter, is_digit}
 use Rattle.arc_lex.specs.private.Pieces.{Whole, Law, first_equal, is_one, word_or_name, name_piece}
 use Rattle.arc_lex.specs.Source.{IsToken, IsWordLike, Faultless}

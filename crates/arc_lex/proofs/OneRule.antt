@@ -5,8 +5,8 @@ use Rattle.std.proofs.lemmas.Bool.Decides.{nat_tests}
 use Rattle.arc_lex.specs.declared.bytes.Class.TheVariants as c
 use Rattle.arc_lex.specs.declared.piece.Rule.{Rule}
 use Rattle.arc_lex.specs.declared.piece.Rule.TheVariants as rules
-use Rattle.arc_lex.specs.declared.token.AtWord.TheVariants as ats
-use Rattle.arc_lex.specs.declared.token.Mark.TheVariants as m
+use Rattle.arc_lex.specs.declared.word.AtWord.TheVariants as ats
+use Rattle.arc_lex.specs.declared.mark.Mark.TheVariants as m
 use Rattle.arc_lex.specs.Bytes.{has, is_letter, is_digit}
 use Rattle.arc_lex.specs.Source.{IsToken, IsClosed, IsOpenQuoted, IsWrongInteger, Breaks}
 use Rattle.arc_lex.specs.Texts.{Part, Plain, number_after}

@@ -2,9 +2,9 @@
 use Rattle.std.proofs.Common.{◌≡◌, ◌⊎◌, inl, inr, ℕ, ℤ, List, [], ◌∷◌, ◌++◌, length, take, drop, Bool, false, Option, Some, refl, sym, ap, subst, ◌∙◌, arith}
 use Rattle.std.proofs.lemmas.List.{take_at, drop_at}
 use Rattle.std.specs.List.{Contains}
-use Rattle.arc_lex.specs.declared.token.Mark.{Mark}
-use Rattle.arc_lex.specs.declared.token.Word.{Word}
-use Rattle.arc_lex.specs.declared.token.AtWord.{AtWord}
+use Rattle.arc_lex.specs.declared.mark.Mark.{Mark}
+use Rattle.arc_lex.specs.declared.word.Word.{Word}
+use Rattle.arc_lex.specs.declared.word.AtWord.{AtWord}
 use Rattle.arc_lex.specs.private.Pieces.{scan}
 use Rattle.arc_lex.specs.Source.{IsToken, IsQuoted, Longest}
 use Rattle.arc_lex.specs.Spellings.{unused}

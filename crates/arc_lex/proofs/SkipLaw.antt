@@ -4,7 +4,7 @@ use Rattle.std.proofs.lemmas.Bool.{and_parts, eqb-true, cond_both, true≢false}
 use Rattle.std.proofs.lemmas.List.{take-append-drop, length-take}
 use Rattle.arc_lex.specs.declared.bytes.Class.TheVariants as c
 use Rattle.arc_lex.specs.declared.piece.Rule.TheVariants as rules
-use Rattle.arc_lex.specs.declared.token.Mark.TheVariants as m
+use Rattle.arc_lex.specs.declared.mark.Mark.TheVariants as m
 use Rattle.arc_lex.specs.Bytes.{run, is_letter, is_digit, is_blank}
 use Rattle.arc_lex.specs.private.Pieces.{Skip, Broken, Law, line_piece, closed_piece, slash_piece, mark_piece}
 use Rattle.arc_lex.specs.Source.{IsComment, IsOpenComment, IsOtherLine, Faultless, is_skipped, to_close}

@@ -1,7 +1,7 @@
 -- What the tokens of a source are, and where a source has none.
 use Rattle.std.specs.Prelude.{◌≡◌, ◌≤◌, ◌⊎◌, ℕ, ◌+◌, List, [], ◌∷◌, ◌++◌, length, slice_range, drop, codes, Bool, true, false, ◌&&◌, ◌||◌, nat_eq, if◌then◌else◌, Option, Some, None, option_map}
 use Rattle.std.specs.List.{starts_with, Contains}
-use Rattle.arc_lex.specs.declared.token.Word.{Word}
+use Rattle.arc_lex.specs.declared.word.Word.{Word}
 use Rattle.arc_lex.specs.declared.bytes.Class.TheVariants as c
 use Rattle.arc_lex.specs.declared.piece.Rule.{Rule}
 use Rattle.arc_lex.specs.declared.piece.Rule.TheVariants as rules

@@ -1,11 +1,11 @@
 -- How the marks and the reserved words are written.
 use Rattle.std.specs.Prelude.{ℕ, List, [], ◌∷◌, map, codes}
-use Rattle.arc_lex.specs.declared.token.Mark.{Mark}
-use Rattle.arc_lex.specs.declared.token.Mark.TheVariants as m
-use Rattle.arc_lex.specs.declared.token.Word.{Word}
-use Rattle.arc_lex.specs.declared.token.Word.TheVariants as w
-use Rattle.arc_lex.specs.declared.token.AtWord.{AtWord}
-use Rattle.arc_lex.specs.declared.token.AtWord.TheVariants as ats
+use Rattle.arc_lex.specs.declared.mark.Mark.{Mark}
+use Rattle.arc_lex.specs.declared.mark.Mark.TheVariants as m
+use Rattle.arc_lex.specs.declared.word.Word.{Word}
+use Rattle.arc_lex.specs.declared.word.Word.TheVariants as w
+use Rattle.arc_lex.specs.declared.word.AtWord.{AtWord}
+use Rattle.arc_lex.specs.declared.word.AtWord.TheVariants as ats
 
 -- the bytes of a mark that is used (C99, section 6.4.6)
 abbrev pub mark_bytes : Mark → List ℕ

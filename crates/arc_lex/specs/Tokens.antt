@@ -1,8 +1,8 @@
 -- Tokens, without where they lie in memory.
 use Rattle.std.specs.Prelude.{ℕ, ℤ, List, Bool, map}
-use Rattle.arc_lex.specs.declared.token.Mark.{Mark}
-use Rattle.arc_lex.specs.declared.token.Word.{Word}
-use Rattle.arc_lex.specs.declared.token.AtWord.{AtWord}
+use Rattle.arc_lex.specs.declared.mark.Mark.{Mark}
+use Rattle.arc_lex.specs.declared.word.Word.{Word}
+use Rattle.arc_lex.specs.declared.word.AtWord.{AtWord}
 use Rattle.arc_lex.specs.declared.token.TokenKind.{TokenKind}
 use Rattle.arc_lex.specs.declared.token.TokenKind.TheVariants as kinds
 use Rattle.arc_lex.specs.declared.token.Token.{Token}

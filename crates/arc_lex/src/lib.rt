@@ -4,9 +4,10 @@
 mod bytes;
 pub mod fault;
 pub mod lex;
+pub mod mark;
 mod number;
 mod piece;
 mod skipped;
-mod spelling;
 mod text;
 pub mod token;
+pub mod word;

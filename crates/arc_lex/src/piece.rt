@@ -5,11 +5,12 @@ ghost use Rattle.arc_lex.specs.Spellings.{unused};
 ghost use Rattle.arc_lex.specs.private.Scans.{seen_value};
 
 use crate::bytes::{Class, has, is_blank, run};
+use crate::mark::{mark_at, mark_text};
 use crate::number::integer;
 use crate::skipped::{is_skipped, to_close};
-use crate::spelling::{at_text, at_word_at, is_unused, mark_at, mark_text, unused_at, word_of};
 use crate::text::{Scan, read_quoted};
 use crate::token::{NameBytes, TokenKind};
+use crate::word::{at_text, at_word_at, is_unused, unused_at, word_of};
 use std::alloc::{AllocError, Global};
 
 /// A rule about tokens that bytes break.

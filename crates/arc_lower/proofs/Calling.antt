@@ -27,7 +27,7 @@ use Rattle.arc_lower.proofs.Shaping.{then_twice}
 use Rattle.arc_lower.proofs.Releasing.{Kept, kept_trans, Ends, laid, dying_in, there_runs, place_takes, lets_runs}
 use Rattle.arc_lower.proofs.Running.{after_call, Returns, answered, Deep, same_put}
 use Rattle.arc_lower.proofs.Leaving.{leaving, Left, function_runs}
-use Rattle.arc_lower.proofs.Linking.{Begins, call_enters, function_gives, Stub, Meets, Same, Linked, lookup_meets, descent_same, fields_same, strong_fields_same, order_same, found_same}
+use Rattle.arc_lower.proofs.Linking.{Begins, call_enters, function_gives, Stub, Meets, Same, Linked, lookup_meets, descent_same, fields_same, order_same, found_same}
 use Rattle.arc_spec.specs.declared.limits.TheConstants.{MOST_LEVELS}
 
 then_thrice : {A B C E : Type 0} (o : Outcome A) (f : A → World → Outcome B) (g : B → World → Outcome C) (h : C → World → Outcome E) → then_do o (λ a w. then_do (then_do (f a w) g) h) ≡ then_do (then_do (then_do o f) g) h
@@ -422,7 +422,7 @@ module _ (p : Program) (R : resolved.Program) (bound : ℕ) (begins : (wanted : 
           let s = at inner1 p.end_step stack h in
           let next = recount (runs_dealloc d.dealloc (at [] p.end_step stack h) (Ending back waits o x.superclass n ∷ frames)) in
           let step : moves p s ≡ next = e ∙ ap (λ up. recount (runs_dealloc d.dealloc s (Ending back waits o up n ∷ frames))) same.0 ∙ deallocs_alike d.dealloc (Ending back waits o x.superclass n ∷ frames) in
-          by_dealloc n x.superclass w (at_end rs inner1 o stack w) x.dealloc d.dealloc still same.3 (leads_step (moves p) s w.input w.trace next step) (go x.superclass)
+          by_dealloc n x.superclass w (at_end rs inner1 o stack w) x.dealloc d.dealloc still same.2 (leads_step (moves p) s w.input w.trace next step) (go x.superclass)
         where
           -- what waited before doesn't matter
           deallocs_alike : (dealloc : Option ℕ) (all : List Frame) → recount (runs_dealloc dealloc (at (Ending back waits o (Some c) (suc n) ∷ frames) p.end_step stack (ended_held rs o w)) all) ≡ recount (runs_dealloc dealloc (at [] p.end_step stack (ended_held rs o w)) all)
@@ -480,7 +480,6 @@ module _ (p : Program) (R : resolved.Program) (bound : ℕ) (begins : (wanted : 
       same_classes = refl;
       same_descent = descent_same p R links;
       same_fields = fields_same p R links;
-      same_strong = strong_fields_same p R links;
     }
     calls_run (suc levels) frames full = record {
       invokes = λ wanted f given stack rs w pc has.
@@ -499,5 +498,4 @@ module _ (p : Program) (R : resolved.Program) (bound : ℕ) (begins : (wanted : 
       same_classes = refl;
       same_descent = descent_same p R links;
       same_fields = fields_same p R links;
-      same_strong = strong_fields_same p R links;
     }

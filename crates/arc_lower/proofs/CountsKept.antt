@@ -2,9 +2,9 @@
 use Rattle.std.proofs.Common.{◌≡◌, ℕ, zero, suc, ◌+◌, ◌<◌, ◌≤◌, true, false, ◌&&◌, nat_eq, ℤ, List, [], ◌∷◌, ◌++◌, length, Option, Some, None, slice_get, slice_set, refl, sym, ap, ◌∙◌, subst, ⊎_elim, arith}
 use Rattle.std.proofs.lemmas.Bool.{eqb-true, cases_eq, eq-eqb, and_from, false≢true}
 use Rattle.std.proofs.lemmas.List.{length-set}
-use Rattle.arc_spec.specs.Classes.{Class, strong_count}
+use Rattle.arc_spec.specs.Classes.{Class, field_counts, strong_count}
 use Rattle.arc_spec.specs.Objects.{Object, Live, Dying, Emptying, Gone, nils, object_at, with_object, in_phase, with_fields, with_strong_fields, is_live, is_there, new_object, fields_of, field_places}
-use Rattle.arc_spec.specs.Holding.{Held, nothing_held, Counted, holders, all_places, with_temporaries, with_variables, with_names, with_things, with_globals, with_strong_globals, raised, lowered, taken_by, makes, count_of, entered, stacked}
+use Rattle.arc_spec.specs.Holding.{Held, nothing_held, Counted, holders, all_places, with_temporaries, with_variables, with_names, with_things, with_globals, with_strong_globals, raised, lowered, taken_by, makes, entered, stacked}
 use Rattle.arc_lower.proofs.CountsPlaces.{tally, tally_nil, tally_same, tally_other, holders_head, holders_nil, holders_append, all_holders, raised_count, lowered_count, there_fields, fields_set, fields_made, nils_holders, same_fields, variable_moves, global_moves, field_moves, last_moves, second_moves, IsThere, AllThere, set_here, set_other, get_new, get_other}
 
 -- ---- objects and their counts
@@ -198,7 +198,7 @@ module _ {classes : List Class} where
   sane_make h class c =
       let r = length h.objects in
       let n = strong_count (slice_get classes class) in
-      let x = new_object class (count_of (slice_get classes class)) n in
+      let x = new_object class (field_counts (slice_get classes class)) in
       let h1 = with_things h (h.objects ++ x ∷ []) in
       let made = makes classes class h in
       let new : Fits classes (made.counts (suc r)) x = record { there = λ some. refl; held = λ live. omega (arith, raised_count (suc r) h (suc r), tally_same (suc r)); sized = nils_length n } in

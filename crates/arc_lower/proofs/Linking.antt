@@ -7,9 +7,10 @@ use Rattle.arc_ast.specs.declared.tree.Sign.TheVariants as signs
 use Rattle.arc_spec.specs.declared.class.Method.{Method}
 use Rattle.arc_spec.specs.declared.class.Gives.{Gives}
 use Rattle.arc_spec.specs.declared.class.Gives.TheVariants as gives
-use Rattle.arc_spec.specs.Classes.{Class, superclasses, ancestry, first_that_has, own_methods, same_sign, same_gives, answers, found, lookup, descends, strong_count, strong_counts, order_of_fields, above_class, field_order}
+use Rattle.arc_spec.specs.Classes.{Class, superclasses, ancestry, first_that_has, own_methods, same_sign, same_gives, answers, found, lookup, descends, field_counts, strong_count, strong_counts, order_of_fields, above_class, field_order}
 use Rattle.arc_spec.specs.Meaning.{function_at, nothing_giving}
-use Rattle.arc_spec.specs.Holding.{count_of, Held, Frame}
+use Rattle.arc_spec.specs.Holding.{Held, Frame}
+use Rattle.arc_spec.specs.declared.sort_counts.SortCounts.{SortCounts}
 use Rattle.arc_spec.specs.Resolved as resolved
 use Rattle.arc_ir.specs.Acting.{Program, has_level, enters, step}
 use Rattle.arc_code.specs.Effects.{passes}
@@ -39,7 +40,7 @@ Meets p R wanted values objects _ _ = ⊥
 -- no class, or one with the same superclass, fields, dealloc and methods, which are stubs
 abbrev pub Same : Program → resolved.Program → Option Class → Option Class → Type 0
 Same p R None None = Unit {0}
-Same p R (Some c) (Some d) = (d.superclass ≡ c.superclass) × (d.fields ≡ c.fields) × (d.strong_fields ≡ c.strong_fields) × Meets p R gives.Number 0 0 c.dealloc d.dealloc × ((sign : Sign) (selector takes objects : ℕ) (wanted : Gives) → Meets p R wanted (passes sign takes) objects (found sign selector takes objects wanted c.methods) (found sign selector takes objects wanted d.methods))
+Same p R (Some c) (Some d) = (d.superclass ≡ c.superclass) × (d.fields ≡ c.fields) × Meets p R gives.Number 0 0 c.dealloc d.dealloc × ((sign : Sign) (selector takes objects : ℕ) (wanted : Gives) → Meets p R wanted (passes sign takes) objects (found sign selector takes objects wanted c.methods) (found sign selector takes objects wanted d.methods))
 Same p R _ _ = ⊥
 
 -- the classes of actions are those of the program, linked to their stubs
@@ -108,7 +109,7 @@ module _ (p : Program) (R : resolved.Program) where
       let all = has_front p place (class_orders R (entries_of R) c) (classes_orders R (entries_of R) others) has in
       let first = dealloc_orders R (entries_of R) c.dealloc in
       let next = methods_orders R (entries_of R) c.methods in
-      (refl, refl, refl, dealloc_meets place c.dealloc (has_front p place first next all), found_meets (place + length first) c.methods (has_back p place first next all))
+      (refl, refl, dealloc_meets place c.dealloc (has_front p place first next all), found_meets (place + length first) c.methods (has_back p place first next all))
   classes_same place (c ∷ others) has (suc i) =
       let xs = class_orders R (entries_of R) c in
       classes_same (place + length xs) others (has_back p place xs (classes_orders R (entries_of R) others) has) i
@@ -137,7 +138,7 @@ module _ (p : Program) (R : resolved.Program) where
 
   own_meets : (sign : Sign) (selector takes objects : ℕ) (wanted : Gives) (a b : Option Class) → Same p R a b → Meets p R wanted (passes sign takes) objects (found sign selector takes objects wanted (own_methods a)) (found sign selector takes objects wanted (own_methods b))
   own_meets sign selector takes objects wanted None None same = tt
-  own_meets sign selector takes objects wanted (Some c) (Some d) same = same.4 sign selector takes objects wanted
+  own_meets sign selector takes objects wanted (Some c) (Some d) same = same.3 sign selector takes objects wanted
   own_meets sign selector takes objects wanted _ _ same = absurd same
 
   first_found_meets : (sign : Sign) (selector takes objects : ℕ) (wanted : Gives) (cs ds : List Class) → ((i : ℕ) → Same p R (slice_get cs i) (slice_get ds i)) → (classes : List ℕ)
@@ -163,36 +164,31 @@ module _ (p : Program) (R : resolved.Program) where
   pub descent_same : Linked p R → (from : Option ℕ) (other : ℕ) → descends p.classes from other ≡ descends R.classes from other
   descent_same links from other = ap (λ above. list_any (λ class. nat_eq class other) (ancestry above from)) links.above
 
-  counts_same : (a b : Option Class) → Same p R a b → count_of b ≡ count_of a
+  counts_same : (a b : Option Class) → Same p R a b → field_counts b ≡ field_counts a
   counts_same None None same = refl
   counts_same (Some c) (Some d) same = same.1
   counts_same _ _ same = absurd same
 
-  pub fields_same : Linked p R → (class : ℕ) → count_of (slice_get p.classes class) ≡ count_of (slice_get R.classes class)
+  pub fields_same : Linked p R → (class : ℕ) → field_counts (slice_get p.classes class) ≡ field_counts (slice_get R.classes class)
   fields_same links class = counts_same (slice_get R.classes class) (slice_get p.classes class) (links.same class)
-
-  strong_same : (a b : Option Class) → Same p R a b → strong_count b ≡ strong_count a
-  strong_same None None same = refl
-  strong_same (Some c) (Some d) same = same.2
-  strong_same _ _ same = absurd same
 
   above_same : (a b : Option Class) → Same p R a b → above_class b ≡ above_class a
   above_same None None same = refl
   above_same (Some c) (Some d) same = same.0
   above_same _ _ same = absurd same
 
-  pub strong_fields_same : Linked p R → (class : ℕ) → strong_count (slice_get p.classes class) ≡ strong_count (slice_get R.classes class)
-  strong_fields_same links class = strong_same (slice_get R.classes class) (slice_get p.classes class) (links.same class)
+  strong_same : Linked p R → (class : ℕ) → strong_count (slice_get p.classes class) ≡ strong_count (slice_get R.classes class)
+  strong_same links class = ap (λ (c : SortCounts). c.objects) (fields_same links class)
 
   all_strong_same : Linked p R → (classes : List ℕ) → strong_counts p.classes classes ≡ strong_counts R.classes classes
   all_strong_same links [] = refl
-  all_strong_same links (class ∷ others) = ap (λ n. n ∷ strong_counts p.classes others) (strong_fields_same links class) ∙ ap (λ l. strong_count (slice_get R.classes class) ∷ l) (all_strong_same links others)
+  all_strong_same links (class ∷ others) = ap (λ n. n ∷ strong_counts p.classes others) (strong_same links class) ∙ ap (λ l. strong_count (slice_get R.classes class) ∷ l) (all_strong_same links others)
 
   -- the fields of an object are destroyed in the same order
   pub order_same : Linked p R → (class : ℕ) → field_order p.classes class ≡ field_order R.classes class
   order_same links class =
       let count = strong_count (slice_get R.classes class) in
-      ap (λ n. order_of_fields n (strong_counts p.classes (ancestry (superclasses p.classes) (above_class (slice_get p.classes class))))) (strong_fields_same links class)
+      ap (λ n. order_of_fields n (strong_counts p.classes (ancestry (superclasses p.classes) (above_class (slice_get p.classes class))))) (strong_same links class)
       ∙ ap (λ c. order_of_fields count (strong_counts p.classes (ancestry (superclasses p.classes) c))) (above_same (slice_get R.classes class) (slice_get p.classes class) (links.same class))
       ∙ ap (λ above. order_of_fields count (strong_counts p.classes (ancestry above (above_class (slice_get R.classes class))))) links.above
       ∙ ap (order_of_fields count) (all_strong_same links (ancestry (superclasses R.classes) (above_class (slice_get R.classes class))))

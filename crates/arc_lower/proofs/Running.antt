@@ -7,7 +7,7 @@ use Rattle.arc_ast.specs.declared.tree.Sign.TheVariants as signs
 use Rattle.arc_spec.specs.declared.event.Fault.TheVariants.{Unrecognized, FieldClass, Resurrected}
 use Rattle.arc_spec.specs.declared.class.Gives.{Gives}
 use Rattle.arc_spec.specs.declared.class.Gives.TheVariants as gives
-use Rattle.arc_spec.specs.Classes.{class_at, lookup, same_gives, new_selector, init_selector, is_root_init, descends, strong_count}
+use Rattle.arc_spec.specs.Classes.{class_at, lookup, same_gives, new_selector, init_selector, is_root_init, descends, field_counts}
 use Rattle.arc_spec.specs.Number.{converted, applied, combined, byte_or_end, is_zero}
 use Rattle.arc_spec.specs.Objects.{Object, object_at, with_object, with_fields, with_strong_fields, is_emptying, new_object}
 use Rattle.arc_spec.specs.Resolved as resolved
@@ -17,7 +17,8 @@ use Rattle.arc_spec.specs.Resolved.{Piece}
 use Rattle.arc_spec.specs.Meaning.{Deeper, held_at, holds, chosen, temporaries_dropped, released, and_number, field_stores, dispatched, finds, gives_object, runs_found, class_in, sent, sent_from, object_given, next_object, made, made_new, second_dropped, result_place, in_object, difference, formatted, byte_count, or_fault, assigned, all_dropped, variables_dropped}
 use Rattle.arc_spec.specs.World as world
 use Rattle.arc_spec.specs.World.{World, Outcome, Done, Faulted, Finished, finished, then_do, Given, nothing_given, prints, next_number, with_locals, with_objects, with_temporaries, local_at, name_at, named_at, with_strong_globals, takes, stores, padded}
-use Rattle.arc_spec.specs.Holding.{Frame, is_there, on_field, count_of, with_strong_field, on_place, named, raised, with_variables}
+use Rattle.arc_spec.specs.declared.sort_counts.SortCounts.{SortCounts}
+use Rattle.arc_spec.specs.Holding.{Frame, is_there, on_field, with_strong_field, on_place, named, raised, with_variables}
 use Rattle.arc_spec.specs.Stepping.{Next, Goes, Faults, Reached, follow, fed, on_found}
 use Rattle.arc_ir.specs.declared.action.Target.{Target}
 use Rattle.arc_ir.specs.declared.action.Target.TheVariants.{Skip, Back, At}
@@ -81,8 +82,7 @@ pub record Deep (p : Program) (frames : List Frame) (bound : ℕ) (R : resolved.
   pub same_found : (from : Option ℕ) (sign : Sign) (selector arguments objects : ℕ) (wanted : Gives) → is_some (lookup p.classes from sign selector arguments objects wanted) ≡ is_some (lookup D.classes from sign selector arguments objects wanted)
   pub same_classes : D.classes ≡ R.classes
   pub same_descent : (from : Option ℕ) (other : ℕ) → descends p.classes from other ≡ descends D.classes from other
-  pub same_fields : (class : ℕ) → count_of (slice_get p.classes class) ≡ count_of (slice_get D.classes class)
-  pub same_strong : (class : ℕ) → strong_count (slice_get p.classes class) ≡ strong_count (slice_get D.classes class)
+  pub same_fields : (class : ℕ) → field_counts (slice_get p.classes class) ≡ field_counts (slice_get D.classes class)
 
 -- an object that is put in its own place
 pub same_put : (objects : List Object) (k : ℕ) (o : Object) → slice_get objects k ≡ Some o → slice_set objects k o ≡ objects
@@ -194,11 +194,10 @@ module _ (p : Program) (frames : List Frame) (bound : ℕ) (R : resolved.Program
   making turn calm None pc v s w free g = inr (leads_same (moves p) _ _ refl)
   making turn calm (Some class) pc v s w free g =
       let r = next_object w in
-      let with_new : (fields strong : ℕ) → World = λ fields strong. with_objects w (w.objects ++ new_object class fields strong ∷ []) in
-      let w1 = with_new (count_of (slice_get D.classes class)) (strong_count (slice_get D.classes class)) in
+      let with_new : SortCounts → World = λ counts. with_objects w (w.objects ++ new_object class counts ∷ []) in
+      let w1 = with_new (field_counts (slice_get D.classes class)) in
       let good : Good calm w1 = (record { locals = g.0.locals; strong = g.0.strong; itself = g.0.itself; waits = g.0.waits }, g.1) in
-      subst (λ m. Goes_on turn calm (follow (Goes (state (pc + 1) (name r s) (takes r (with_new m (strong_count (slice_get p.classes class))))) []) w.input w.trace) (pc + 1) (Done (On (name r s)) (takes r w1))) (sym (deep.same_fields class))
-      (subst (λ m. Goes_on turn calm (follow (Goes (state (pc + 1) (name r s) (takes r (with_new (count_of (slice_get D.classes class)) m))) []) w.input w.trace) (pc + 1) (Done (On (name r s)) (takes r w1))) (sym (deep.same_strong class)) (holding turn calm r (pc + 1) s w1 free good))
+      subst (λ counts. Goes_on turn calm (follow (Goes (state (pc + 1) (name r s) (takes r (with_new counts))) []) w.input w.trace) (pc + 1) (Done (On (name r s)) (takes r w1))) (sym (deep.same_fields class)) (holding turn calm r (pc + 1) s w1 free good)
 
   by_descent : {A : Type 0} (turn : Turn) (calm : Bool) (b : Bool) (pc : ℕ) (way : A → Way) (w : World) (next : Next State) (go : Outcome A) → Goes_on turn calm (next_of next w) pc (left_by way go) → Goes_on turn calm (next_of (if b then next else Faults FieldClass) w) pc (left_by way (if b then go else Faulted FieldClass w))
   by_descent turn calm true pc way w next go h = h
@@ -499,7 +498,7 @@ module _ (p : Program) (frames : List Frame) (bound : ℕ) (R : resolved.Program
 
   -- an object that is new, which a temporary takes
   abbrev with_new : (class : ℕ) → World → World
-  with_new class w = takes (next_object w) (with_objects w (w.objects ++ new_object class (count_of (slice_get D.classes class)) (strong_count (slice_get D.classes class)) ∷ []))
+  with_new class w = takes (next_object w) (with_objects w (w.objects ++ new_object class (field_counts (slice_get D.classes class)) ∷ []))
 
   -- after it the object is given, and its temporary is the last one
   abbrev Made_at : (turn : Turn) (calm : Bool) → ℕ → Operands → ℕ → World → Reached State → Type 0
@@ -551,12 +550,11 @@ module _ (p : Program) (frames : List Frame) (bound : ℕ) (R : resolved.Program
   makes_new turn calm (Some class) pc v s w free g has =
       let r = next_object w in
       let end = Made_at turn calm (pc + 1 + 1 + 1) s in
-      let made_with : (fields strong : ℕ) → World = λ fields strong. takes r (with_objects w (w.objects ++ new_object class fields strong ∷ [])) in
+      let made_with : SortCounts → World = λ counts. takes r (with_objects w (w.objects ++ new_object class counts ∷ [])) in
       let from : World → Reached State = λ w1. follow (Goes (state (pc + 1) (name r s) w1) []) w.input w.trace in
       let meant = made_new D (Some class) w in
-      subst (λ m. Runs (moves p) bound (from (made_with m (strong_count (slice_get p.classes class)))) end meant) (sym (deep.same_fields class))
-      (subst (λ m. Runs (moves p) bound (from (made_with (count_of (slice_get D.classes class)) m)) end meant) (sym (deep.same_strong class))
-      (quiet_runs p frames bound (r ∷ s.names) (pc + 1) (s.numbers ++ vars w) (with_new class w) end meant (initializing turn calm class (pc + 1) s w free g has)))
+      subst (λ counts. Runs (moves p) bound (from (made_with counts)) end meant) (sym (deep.same_fields class))
+      (quiet_runs p frames bound (r ∷ s.names) (pc + 1) (s.numbers ++ vars w) (with_new class w) end meant (initializing turn calm class (pc + 1) s w free g has))
 
   making_runs : (turn : Turn) (calm : Bool) (pc : ℕ) (numbers : List ℤ) (rs : List ℕ) (w : World) → (calm ≡ true → false ≡ true) → Good calm w → HasAt p pc making_orders → Goes_on turn calm (standing pc (record { numbers = numbers; names = rs }) w) (pc + length making_orders) (block D bound 0 false Making (record { numbers = numbers; names = rs }) w)
   making_runs turn calm pc [] rs w free g has = lost turn calm _ (pc + length making_orders) w

@@ -661,7 +661,6 @@ linked_class P entries place c = record {
   methods = linked_methods P entries (place + length (dealloc_orders P entries c.dealloc)) c.methods;
   dealloc = linked_dealloc place c.dealloc;
   fields = c.fields;
-  strong_fields = c.strong_fields;
 }
 
 abbrev pub linked_classes : Program → (entries : List ℕ) → (place : ℕ) → List Class → List Class

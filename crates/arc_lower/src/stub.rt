@@ -178,7 +178,6 @@ fn append_class(
         methods,
         dealloc,
         fields: class.fields,
-        strong_fields: class.strong_fields,
     })
 }
 

@@ -1,7 +1,7 @@
 -- The fields of classes: the loops that read them.
 use Rattle.std.proofs.Common.{◌≡◌, Bool, true, false, cond, List, [], ◌∷◌, ◌++◌, map as list_map, append_assoc, append-nil, sym, ap, ◌∙◌}
 use Rattle.arc_lex.specs.Tokens.{Tok}
-use Rattle.arc_lex.specs.declared.token.Mark.TheVariants as m
+use Rattle.arc_lex.specs.declared.mark.Mark.TheVariants as m
 use Rattle.arc_form.specs.Kinds.{name, mark}
 use Rattle.arc_ast.specs.declared.tree.Qualifiers.{Qualifiers}
 use Rattle.arc_ast.specs.declared.tree.Visibility.{Visibility}

@@ -2,7 +2,7 @@
 use Rattle.std.proofs.Common.{◌≡◌, ℕ, List, [], ◌∷◌, ◌++◌, map as list_map, append_assoc, append-nil, cond, refl, sym, ap, ap₂, ◌∙◌}
 use Rattle.std.specs.List.{flat_map}
 use Rattle.arc_lex.specs.Tokens.{Tok}
-use Rattle.arc_lex.specs.declared.token.Mark.TheVariants as m
+use Rattle.arc_lex.specs.declared.mark.Mark.TheVariants as m
 use Rattle.arc_ast.specs.declared.tree.BinaryOperator.TheVariants.{Multiply}
 use Rattle.arc_ast.specs.Tree.{ExprTree, TypeTree, Cast, Paren, Object, Binary, Name, ParameterTree}
 use Rattle.arc_form.specs.Form.{Limits, ◌⨾◌, call, run, unlimited}

@@ -1,7 +1,7 @@
 -- What reads the rest of a function, its parameters, and heads of methods.
 use Rattle.std.proofs.Common.{◌≡◌, ℕ, List, [], ◌∷◌, ◌++◌, bytes_eq, Bool, true, false, cond, ◌&&◌, Ok, Err, refl, sym, ap, ap₂, ◌∙◌, if◌then◌else◌}
-use Rattle.arc_lex.specs.declared.token.Mark.TheVariants as m
-use Rattle.arc_lex.specs.declared.token.Word.TheVariants as w
+use Rattle.arc_lex.specs.declared.mark.Mark.TheVariants as m
+use Rattle.arc_lex.specs.declared.word.Word.TheVariants as w
 use Rattle.arc_ast.specs.declared.tree.Qualifiers.TheVariants.{Unqualified}
 use Rattle.arc_lex.specs.Tokens.{Tok, Sort, Name, Integer, Character, Text, Key, At, Sign, Unused}
 use Rattle.arc_ast.specs.Tree.{ParameterTree, ParametersTree, Listed, Int, HeadTree, ResultTree, FunctionTree}

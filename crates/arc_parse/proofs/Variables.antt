@@ -1,7 +1,7 @@
 -- The variables of a declaration: the loop that reads them.
 use Rattle.std.proofs.Common.{◌≡◌, Bool, List, [], ◌∷◌}
 use Rattle.arc_lex.specs.Tokens.{Tok}
-use Rattle.arc_lex.specs.declared.token.Mark.TheVariants as m
+use Rattle.arc_lex.specs.declared.mark.Mark.TheVariants as m
 use Rattle.arc_ast.specs.Tree.{VariableTree}
 use Rattle.arc_form.specs.Kinds.{mark}
 use Rattle.arc_form.specs.Reader.{◌>>=◌, ret, if_sees, take_one, from}

@@ -12,7 +12,8 @@ use crate::method::{method_heads, methods};
 use arc_ast::tree::{Implementation, Interface, Visibility};
 use arc_form::fail::Read;
 use arc_form::reader::Reader;
-use arc_lex::token::{AtWord, Mark};
+use arc_lex::mark::Mark;
+use arc_lex::word::AtWord;
 use std::alloc::Global;
 
 /// `@interface`, the class's name, its superclass's, the fields, the methods and `@end`

@@ -15,7 +15,8 @@ use arc_ast::tree::{Expr, Qualifiers, Stmt};
 use arc_form::fail::Read;
 use arc_form::made::boxed;
 use arc_form::reader::Reader;
-use arc_lex::token::{Mark, Word};
+use arc_lex::mark::Mark;
+use arc_lex::word::Word;
 use std::alloc::Global;
 
 /// What is in the parentheses of a `for`.

@@ -19,7 +19,8 @@ use arc_ast::tree::{Expr, Moment, TypeName};
 use arc_form::fail::Read;
 use arc_form::made;
 use arc_form::reader::Reader;
-use arc_lex::token::{Mark, Word};
+use arc_lex::mark::Mark;
+use arc_lex::word::Word;
 use std::alloc::Global;
 
 /// An expression.

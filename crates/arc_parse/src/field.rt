@@ -17,7 +17,9 @@ use arc_ast::tree::{Field, Qualifiers, TypeName, Visibility};
 use arc_form::fail::{Fail, Read};
 use arc_form::made::keep;
 use arc_form::reader::Reader;
-use arc_lex::token::{AtWord, Mark, TokenKind};
+use arc_lex::mark::Mark;
+use arc_lex::token::TokenKind;
+use arc_lex::word::AtWord;
 use std::alloc::Global;
 
 /// The fields in braces, if there are any; those before any word are visible so.

@@ -8,7 +8,8 @@ use crate::qualifier::begins_qualifier;
 use crate::sign::{begins_counting, begins_signed};
 use crate::type_name::begins_plain_type;
 use arc_form::reader::Reader;
-use arc_lex::token::{Mark, Word};
+use arc_lex::mark::Mark;
+use arc_lex::word::Word;
 
 /// Whether the first token is a literal, `nil`, `self`, `YES` or `NO`.
 #[tactic(auto, using(arc_form::proofs::Sets::sees_or))]

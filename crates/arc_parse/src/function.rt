@@ -14,7 +14,7 @@ use crate::stmt::items;
 use arc_ast::tree::{Function, Parameters, ResultType, Stmt};
 use arc_form::fail::Read;
 use arc_form::reader::Reader;
-use arc_lex::token::Mark;
+use arc_lex::mark::Mark;
 use std::alloc::Global;
 
 /// A declaration or a definition of a function, but for `static` and the type of its result, which is given.

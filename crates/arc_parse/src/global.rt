@@ -14,7 +14,9 @@ use arc_ast::tree::{Constant, Qualifiers, TypeName};
 use arc_form::fail::{Fail, Read};
 use arc_form::made::keep;
 use arc_form::reader::Reader;
-use arc_lex::token::{Mark, TokenKind, Word};
+use arc_lex::mark::Mark;
+use arc_lex::token::TokenKind;
+use arc_lex::word::Word;
 use std::alloc::Global;
 
 /// The variables of a type, one or more, and `;`, where all but the first have a `*` if the type is a class's.

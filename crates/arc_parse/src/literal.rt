@@ -12,7 +12,8 @@ use arc_ast::tree::{Expr, TypeName};
 use arc_form::fail::{Fail, Read};
 use arc_form::made;
 use arc_form::reader::Reader;
-use arc_lex::token::{TokenKind, Word};
+use arc_lex::token::TokenKind;
+use arc_lex::word::Word;
 use std::alloc::Global;
 
 /// 1 or 0 as a BOOL.

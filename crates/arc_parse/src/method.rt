@@ -2,7 +2,7 @@
 ghost use Rattle.std.specs.Prelude.{◌≡◌, ◌<◌, ◌≤◌, length, Ok, IfOk};
 ghost use Rattle.arc_lex.specs.Tokens.{toks};
 ghost use Rattle.arc_ast.specs.Tree.{type_tree, result_tree, parameter_tree, head_tree, head_trees, method_tree, method_trees};
-ghost use Rattle.arc_lex.specs.declared.token.Mark.TheVariants as m;
+ghost use Rattle.arc_lex.specs.declared.mark.Mark.TheVariants as m;
 ghost use Rattle.arc_form.specs.Kinds as kinds;
 ghost use Rattle.arc_form.specs.Reader.{Gives, sees};
 ghost use Rattle.arc_form.specs.Views.{all};
@@ -19,7 +19,8 @@ use arc_ast::tree::{Method, MethodHead, Parameter, Qualifiers, ResultType, Sign,
 use arc_form::fail::Read;
 use arc_form::made::keep;
 use arc_form::reader::Reader;
-use arc_lex::token::{Mark, Word};
+use arc_lex::mark::Mark;
+use arc_lex::word::Word;
 use std::alloc::Global;
 
 /// Whether a method can begin with the first token.

@@ -9,7 +9,7 @@ use crate::qualifier::qualifiers;
 use arc_ast::tree::Qualifiers;
 use arc_form::fail::Read;
 use arc_form::reader::Reader;
-use arc_lex::token::Mark;
+use arc_lex::mark::Mark;
 use std::alloc::Global;
 
 /// A name with its place, and the qualifiers before it.

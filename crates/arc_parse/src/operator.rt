@@ -10,7 +10,8 @@ ghost use Rattle.arc_ast.specs.declared.tree.BinaryOperator.TheVariants.{Add};
 use arc_ast::tree::BinaryOperator;
 use arc_form::fail::{Fail, Read};
 use arc_form::reader::Reader;
-use arc_lex::token::{Mark, Token, TokenKind};
+use arc_lex::mark::Mark;
+use arc_lex::token::{Token, TokenKind};
 
 /// The loosest level of an operator that doesn't assign.
 pub const LOOSEST: usize = 10;

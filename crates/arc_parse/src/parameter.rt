@@ -2,7 +2,7 @@
 ghost use Rattle.std.specs.Prelude.{◌≡◌, ◌<◌, ◌≤◌, length, IfOk};
 ghost use Rattle.arc_lex.specs.Tokens.{toks};
 ghost use Rattle.arc_ast.specs.Tree.{type_tree, parameter_tree, parameters_tree};
-ghost use Rattle.arc_lex.specs.declared.token.Word.TheVariants as w;
+ghost use Rattle.arc_lex.specs.declared.word.Word.TheVariants as w;
 ghost use Rattle.arc_form.specs.Kinds.{◌∪◌};
 ghost use Rattle.arc_form.specs.Kinds as kinds;
 ghost use Rattle.arc_form.specs.Reader.{Gives, sees};
@@ -18,7 +18,8 @@ use arc_ast::tree::{Parameter, Parameters, Qualifiers, TypeName};
 use arc_form::fail::Read;
 use arc_form::made::keep;
 use arc_form::reader::Reader;
-use arc_lex::token::{Mark, Word};
+use arc_lex::mark::Mark;
+use arc_lex::word::Word;
 use std::alloc::Global;
 
 /// What a function takes, which is `main` or not.

@@ -10,7 +10,7 @@ ghost use Rattle.arc_ast.specs.Types.{and_qualifier};
 use arc_ast::tree::{Qual, Qualifiers};
 use arc_form::fail::Read;
 use arc_form::reader::Reader;
-use arc_lex::token::Word;
+use arc_lex::word::Word;
 
 /// Whether the first token is a qualifier.
 pub fn begins_qualifier(reader: &Reader) -> bool

@@ -8,7 +8,8 @@ ghost use Rattle.arc_grammar.specs.Grammar as grammar;
 use arc_ast::tree::{BinaryOperator, UnaryOperator};
 use arc_form::fail::{Fail, Read};
 use arc_form::reader::Reader;
-use arc_lex::token::{Mark, TokenKind};
+use arc_lex::mark::Mark;
+use arc_lex::token::TokenKind;
 
 /// Whether the first token is an operator before an operand.
 #[tactic(auto, using(arc_form::proofs::Sets::sees_or))]

@@ -14,7 +14,8 @@ use arc_form::fail::{Fail, Read};
 use arc_form::reader::Reader;
 use arc_form::slice::after_first;
 use arc_grammar::limits::DEEPEST;
-use arc_lex::token::{Mark, Word};
+use arc_lex::mark::Mark;
+use arc_lex::word::Word;
 use std::alloc::Global;
 
 /// `;` alone

@@ -21,7 +21,8 @@ use arc_form::fail::{Fail, Read};
 use arc_form::made::keep;
 use arc_form::reader::Reader;
 use arc_grammar::limits::DEEPEST;
-use arc_lex::token::{Mark, Word};
+use arc_lex::mark::Mark;
+use arc_lex::word::Word;
 use std::alloc::Global;
 
 /// A statement that is nested so deep.

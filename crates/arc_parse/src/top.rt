@@ -16,7 +16,8 @@ use arc_ast::tree;
 use arc_ast::tree::{Function, Implementation, Interface, Qualifiers, ResultType};
 use arc_form::fail::Read;
 use arc_form::reader::Reader;
-use arc_lex::token::{AtWord, Mark, Word};
+use arc_lex::mark::Mark;
+use arc_lex::word::{AtWord, Word};
 use std::alloc::Global;
 
 /// What stands outside of all else. The names that `@class` declares aren't kept.

@@ -10,7 +10,8 @@ ghost use Rattle.arc_grammar.specs.Grammar as grammar;
 use arc_ast::tree::TypeName;
 use arc_form::fail::{Fail, Read};
 use arc_form::reader::Reader;
-use arc_lex::token::{TokenKind, Word};
+use arc_lex::token::TokenKind;
+use arc_lex::word::Word;
 use std::alloc::Global;
 
 /// Whether a type that names no class can begin with the first token.

@@ -12,7 +12,7 @@ use crate::type_name::{begins_plain_type, plain_type};
 use arc_ast::tree::TypeName;
 use arc_form::fail::Read;
 use arc_form::reader::Reader;
-use arc_lex::token::Mark;
+use arc_lex::mark::Mark;
 use std::alloc::Global;
 
 /// Whether the type of a value can begin with the first token.

@@ -16,7 +16,7 @@ use arc_ast::tree::{Expr, Qualifiers, Stmt, Variable};
 use arc_form::fail::Read;
 use arc_form::made::keep;
 use arc_form::reader::Reader;
-use arc_lex::token::Mark;
+use arc_lex::mark::Mark;
 use std::alloc::Global;
 
 /// Perhaps `=` and what a variable begins with.

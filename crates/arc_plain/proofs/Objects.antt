@@ -7,7 +7,9 @@ use Rattle.std.proofs.lemmas.Option.{slice_get-map, slice_get_read, slice_get_pa
 use Rattle.std.proofs.lemmas.Bool.{ltb-true, ltb-false}
 use Rattle.std.specs.Borrow.{Bor}
 use Rattle.arc_spec.specs.declared.event.Fault.TheVariants.{FieldClass, Resurrected}
-use Rattle.arc_spec.specs.Classes.{Class, count_of, descends, strong_count}
+use Rattle.arc_spec.specs.declared.sort_counts.SortCounts.{SortCounts}
+use Rattle.arc_spec.specs.Classes.{Class, descends, field_counts}
+use Rattle.arc_spec.specs.Sorts.{none_counted}
 use Rattle.arc_spec.specs.Objects as objects
 use Rattle.arc_spec.specs.Objects.{object_at, with_object, with_fields, with_strong_fields, is_emptying, new_object, names, field_places, nils, zeros}
 use Rattle.arc_spec.specs.World.{World, Outcome, Done, Faulted, takes, with_objects, name_at}
@@ -26,9 +28,11 @@ zeros_are zero = refl
 zeros_are (suc n) = ap (λ l. pos 0 ∷ l) (zeros_are n)
 
 -- an object as it is made
-pub new_reported : (class count strong_count : ℕ) (fields : List ℤ) (strong : List ℕ) → fields ≡ replicate count (pos 0) → strong ≡ replicate strong_count 0
-    → with_strong_fields (with_fields (new_object class 0 0) fields) strong ≡ new_object class count strong_count
-new_reported class count strong_count fields strong is names = ap (λ l. with_strong_fields (with_fields (new_object class 0 0) l) strong) (is ∙ zeros_are count) ∙ ap (with_strong_fields (with_fields (new_object class 0 0) (zeros count))) (names ∙ nils_are strong_count)
+pub new_reported : (class : ℕ) (counts : SortCounts) (fields : List ℤ) (strong : List ℕ) → fields ≡ replicate counts.numbers (pos 0) → strong ≡ replicate counts.objects 0
+    → with_strong_fields (with_fields (new_object class none_counted) fields) strong ≡ new_object class counts
+new_reported class counts fields strong is names =
+    let blank = new_object class none_counted in
+    ap (λ l. with_strong_fields (with_fields blank l) strong) (is ∙ zeros_are counts.numbers) ∙ ap (with_strong_fields (with_fields blank (zeros counts.numbers))) (names ∙ nils_are counts.objects)
 
 -- ---- places
 
@@ -172,16 +176,15 @@ set_reported D classes r class index own v given w all new same is holds gives t
 
 -- ---- objects that are made
 
-pub make_reported : (D : Deeper) (classes : List Class) (known : Option ℕ) (c count strong number : ℕ) (w : World) (old new : List Object) (o : Object) (result : Result ℕ Halt) (after : World)
-    → D.classes ≡ classes → known ≡ Some c → w.objects ≡ map object_of old → count ≡ count_of (slice_get classes c) → strong ≡ strong_count (slice_get classes c) → object_of o ≡ new_object c count strong
+pub make_reported : (D : Deeper) (classes : List Class) (known : Option ℕ) (c : ℕ) (counts : SortCounts) (number : ℕ) (w : World) (old new : List Object) (o : Object) (result : Result ℕ Halt) (after : World)
+    → D.classes ≡ classes → known ≡ Some c → w.objects ≡ map object_of old → counts ≡ field_counts (slice_get classes c) → object_of o ≡ new_object c counts
     → new ≡ old ++ o ∷ [] → number ≡ length new
     → Reports (λ n. n) result (Done number (takes number (with_objects w (map object_of new)))) after → Reports (λ n. n) result (made D known w) after
-make_reported D classes known c count strong number w old new o result after same is there counts strongs makes grown last reported =
-    let fields : count ≡ count_of (slice_get D.classes c) = counts ∙ ap (λ l. count_of (slice_get l c)) (sym same) in
-    let names : strong ≡ strong_count (slice_get D.classes c) = strongs ∙ ap (λ l. strong_count (slice_get l c)) (sym same) in
-    let objects : map object_of new ≡ w.objects ++ new_object c (count_of (slice_get D.classes c)) (strong_count (slice_get D.classes c)) ∷ [] =
+make_reported D classes known c counts number w old new o result after same is there these makes grown last reported =
+    let fields : counts ≡ field_counts (slice_get D.classes c) = these ∙ ap (λ l. field_counts (slice_get l c)) (sym same) in
+    let objects : map object_of new ≡ w.objects ++ new_object c (field_counts (slice_get D.classes c)) ∷ [] =
     ap (map object_of) grown ∙ map-append object_of old (o ∷ []) ∙ ap (λ l. l ++ object_of o ∷ []) (sym there)
-    ∙ ap (λ x. w.objects ++ x ∷ []) (makes ∙ ap (λ n. new_object c n strong) fields ∙ ap (new_object c (count_of (slice_get D.classes c))) names) in
+    ∙ ap (λ x. w.objects ++ x ∷ []) (makes ∙ ap (new_object c) fields) in
     let first : length w.objects ≡ length old = ap length there ∙ length-map old object_of in
     let one : number ≡ next_object w = omega (arith, last, ap length grown, length-append old (o ∷ []), first) in
     let meant : Done number (takes number (with_objects w (map object_of new))) ≡ made D known w =

@@ -1,6 +1,6 @@
 //! Objects. They go by their numbers, which count from 1 in the order of their making; 0 is nil.
 ghost use Rattle.std.specs.Prelude.{◌≡◌, ℕ, suc, map, IfOk, MatchOption, None, Some, OnOk, slice_get, slice_set};
-ghost use Rattle.arc_spec.specs.Classes.{classes_of, count_of, superclasses, ancestry_within};
+ghost use Rattle.arc_spec.specs.Classes.{classes_of, superclasses, ancestry_within};
 ghost use Rattle.arc_checked.specs.Checked.{program_of};
 ghost use Rattle.arc_spec.specs.Meaning.{Deeper, turned, made, field_read, field_set, object_field_read, dying, gone, class_in, dealloc_run, deallocs_run};
 ghost use Rattle.arc_spec.specs.Objects.{Emptying, object_at, is_live, is_emptying, new_object, in_phase, with_fields, with_strong_fields};
@@ -11,9 +11,9 @@ use crate::context::Context;
 use crate::halt::Halt;
 use crate::place::{is_named, name_at, replace, take};
 use crate::progress::Progress;
-use arc_spec::class::{Class, descends_from};
+use arc_spec::class::{Class, descends_from, field_counts};
 use arc_spec::event::{Event, Fault, NoMemory};
-use arc_spec::order::strong_count;
+use arc_spec::sort_counts::SortCounts;
 use std::alloc::Global;
 
 /// How far an object is on its way: its dealloc hasn't begun; its deallocs run; its fields that name objects are
@@ -91,37 +91,21 @@ pub fn make(
     let Some(class) = class else {
         return Err(Halt::Stopped(Fault::Unrecognized));
     };
-    let count = field_count(&context.program.classes, class);
-    let strong = strong_count(&context.program.classes, class);
-    let object = new_object(alloc, class, count, strong)?;
+    let counts = field_counts(&context.program.classes, class);
+    let object = new_object(alloc, class, counts)?;
     progress.objects.push(object)?;
     let number = progress.objects.len();
     take(progress, number)
 }
 
-/// How many fields the objects of a class have that hold numbers.
-fn field_count(classes: &[Class], class: usize) -> usize
-    ensures { result ≡ count_of (slice_get (classes_of classes.now) class) }
-{
-    match classes.get(class) {
-        Some(class) => class.fields,
-        None => 0,
-    }
-}
-
 /// An object of a class as it is made, with so many fields of each sort.
-fn new_object(
-    alloc: Global,
-    class: usize,
-    fields: usize,
-    strong_fields: usize,
-) -> Result<Object, NoMemory>
-    ensures { IfOk result (λ object. object_of object ≡ new_object class fields strong_fields) }
+fn new_object(alloc: Global, class: usize, counts: SortCounts) -> Result<Object, NoMemory>
+    ensures { IfOk result (λ object. object_of object ≡ new_object class counts) }
 {
     Ok(Object {
         class,
-        fields: vec![in alloc; 0; fields]?,
-        strong: vec![in alloc; 0; strong_fields]?,
+        fields: vec![in alloc; 0; counts.numbers]?,
+        strong: vec![in alloc; 0; counts.objects]?,
         phase: Phase::Live,
     })
 }

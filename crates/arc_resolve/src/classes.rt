@@ -16,7 +16,6 @@ pub fn copied(alloc: Global, given: &[Class]) -> Result<Vec<Class>, AllocError>
             methods: Vec::from_slice(alloc, &class.methods)?,
             dealloc: class.dealloc,
             fields: class.fields,
-            strong_fields: class.strong_fields,
         })?;
     }
     Ok(all)

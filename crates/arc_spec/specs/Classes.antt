@@ -1,5 +1,5 @@
 -- Classes, and the methods that messages find.
-use Rattle.std.specs.Prelude.{ℕ, zero, suc, ◌-◌, ℤ, pos, negsuc, Bool, true, false, ◌&&◌, nat_eq, nat_lt, List, [], ◌∷◌, ◌++◌, length, map, Option, Some, None, option_and_then, slice_get, if◌then◌else◌}
+use Rattle.std.specs.Prelude.{ℕ, zero, suc, ◌-◌, ℤ, pos, negsuc, Bool, ◌&&◌, nat_eq, nat_lt, List, [], ◌∷◌, ◌++◌, length, map, Option, Some, None, option_and_then, slice_get, if◌then◌else◌}
 use Rattle.std.specs.List.{list_any}
 use denote.Enum.Declared.{tag_of}
 use Rattle.std.specs.Option.{option_map_or, option_or}
@@ -12,18 +12,19 @@ use Rattle.arc_spec.specs.declared.class.Gives.TheVariants as gives
 use Rattle.arc_spec.specs.contracts.class.Gives as result
 use Rattle.arc_spec.specs.declared.class.Method.{Method}
 use Rattle.arc_spec.specs.declared.class.Class as declared
+use Rattle.arc_spec.specs.declared.sort_counts.SortCounts.{SortCounts}
+use Rattle.arc_spec.specs.Sorts.{none_counted}
 
--- A class: the number of its superclass, which the root has none of, its own methods (OPL, "Classes"), what its dealloc runs, how many fields its objects have that hold
--- numbers, and how many that name objects. Of each sort the inherited ones come first.
+-- A class: the number of its superclass, which the root has none of, its own methods (OPL, "Classes"), what its dealloc runs, and how many fields its objects have of each
+-- sort, of which the inherited ones come first.
 pub record Class : Type 0 where
   pub superclass : Option ℕ
   pub methods : List Method
   pub dealloc : Option ℕ
-  pub fields : ℕ
-  pub strong_fields : ℕ
+  pub fields : SortCounts
 
 abbrev pub class_of : declared.Class → Class
-class_of c = record { superclass = c.superclass; methods = c.methods.items; dealloc = c.dealloc; fields = c.fields; strong_fields = c.strong_fields }
+class_of c = record { superclass = c.superclass; methods = c.methods.items; dealloc = c.dealloc; fields = c.fields }
 
 abbrev pub classes_of : List declared.Class → List Class
 classes_of = map class_of
@@ -119,12 +120,16 @@ class_at (negsuc n) = None
 
 -- ---- fields
 
--- how many fields the objects of a class have that hold numbers, and how many that name objects
+-- how many fields the objects of a class have, of each sort
+abbrev pub field_counts : Option Class → SortCounts
+field_counts c = option_map_or (λ c. c.fields) c none_counted
+
+-- how many of them hold numbers, and how many name objects
 abbrev pub count_of : Option Class → ℕ
-count_of c = option_map_or (λ c. c.fields) c 0
+count_of c = (field_counts c).numbers
 
 abbrev pub strong_count : Option Class → ℕ
-strong_count c = option_map_or (λ c. c.strong_fields) c 0
+strong_count c = (field_counts c).objects
 
 -- so many numbers that follow one another, from the first one on
 abbrev pub numbers_from : (first count : ℕ) → List ℕ

@@ -3,7 +3,7 @@ use Rattle.std.specs.Prelude.{◌≡◌, ◌<◌, ℕ, zero, suc, ◌-◌, ℤ, 
 use Rattle.std.specs.List.{list_all}
 use Rattle.std.specs.Option.{option_map_or}
 use Rattle.arc_spec.specs.declared.event.Fault.TheVariants.{NilField, FieldClass, Resurrected}
-use Rattle.arc_spec.specs.Classes.{Class, descends, strong_count}
+use Rattle.arc_spec.specs.Classes.{Class, descends, field_counts}
 use Rattle.arc_spec.specs.Objects.{Object, Phase, Live, Dying, object_at, with_object, in_phase, is_live, is_emptying, new_object, field_places}
 pub use Rattle.arc_spec.specs.Objects.{is_there}
 pub use Rattle.arc_spec.specs.Classes.{count_of}
@@ -176,7 +176,7 @@ given_back r h = named r (record h { temporaries = r ∷ h.temporaries })
 -- an object is made, a further temporary takes it, and a further reference names it
 abbrev pub makes : List Class → (class : ℕ) → Held → Held
 makes classes class h = named (suc (length h.objects)) (taken_by (suc (length h.objects))
-    (record h { objects = h.objects ++ new_object class (count_of (slice_get classes class)) (strong_count (slice_get classes class)) ∷ [] }))
+    (record h { objects = h.objects ++ new_object class (field_counts (slice_get classes class)) ∷ [] }))
 
 -- a field of an object, whose own class this is
 abbrev pub on_field : {S : Type 0} → List Class → (class r : ℕ) → Held → (Object → Next S) → Next S

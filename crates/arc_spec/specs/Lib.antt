@@ -1,4 +1,5 @@
 pub mod Number
+pub mod Sorts
 pub mod Classes
 pub mod Families
 pub mod Objects

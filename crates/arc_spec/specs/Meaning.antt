@@ -14,7 +14,7 @@ use Rattle.arc_spec.specs.declared.event.Fault.TheVariants.{Arithmetic, Unrecogn
 use Rattle.arc_spec.specs.declared.limits.TheConstants.{MOST_LEVELS}
 use Rattle.arc_spec.specs.declared.class.Gives.{Gives}
 use Rattle.arc_spec.specs.declared.class.Gives.TheVariants as gives
-use Rattle.arc_spec.specs.Classes.{Class, superclasses, ancestry, own_dealloc, lookup, same_gives, new_selector, init_selector, is_root_init, descends, class_at, count_of, strong_count, field_order}
+use Rattle.arc_spec.specs.Classes.{Class, superclasses, ancestry, own_dealloc, lookup, same_gives, new_selector, init_selector, is_root_init, descends, class_at, field_counts, field_order}
 use Rattle.arc_spec.specs.Number.{converted, applied, combined, low_byte, is_zero}
 use Rattle.arc_spec.specs.Objects.{Object, Phase, Dying, Emptying, Gone, object_at, with_object, in_phase, is_live, is_emptying, new_object, names}
 use Rattle.arc_spec.specs.Resolved.{Piece, Bytes, Decimal, Character, Value, Number, ReadByte, Print, Applied, Combined, Choice, Converted, Location, Local, Global, Read, Assigned, Updated, Invoked, Sent, Receiver, ClassValue, ClassSuper, ObjectValue, ObjectSuper, Field, FieldAssigned, FieldUpdated, Differ, IsObject, Reference, Nil, Itself, Variable, Chosen, Stored, ObjectField, ObjectFieldStored, Made, New, ObjectInvoked, ObjectSent, Arguments, no_arguments, number_argument, object_argument, Command, Sequence, Evaluate, EvaluateReference, Begin, Return, Give, Choose, Repeat, Break, Continue, Commands, no_commands, and_command, Function, Program}
@@ -161,8 +161,8 @@ next_object w = suc (length w.objects)
 -- an object of a class is made, and a temporary takes it (OPL, "Allocating and Initializing Objects"); what is no class has no such method
 abbrev pub made : Deeper → Option ℕ → World → Outcome ℕ
 made D None w = Faulted Unrecognized w
-made D (Some c) w = let class = slice_get D.classes c in
-    Done (next_object w) (takes (next_object w) (record w { objects = w.objects ++ new_object c (count_of class) (strong_count class) ∷ [] }))
+made D (Some c) w =
+    Done (next_object w) (takes (next_object w) (record w { objects = w.objects ++ new_object c (field_counts (slice_get D.classes c)) ∷ [] }))
 
 -- the temporary before the last one is dropped
 abbrev pub second_dropped : Deeper → List ℕ → World → Outcome Finished

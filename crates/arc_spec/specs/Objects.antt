@@ -1,6 +1,7 @@
 -- Objects, and the places that hold them.
 use Rattle.std.specs.Prelude.{ℕ, zero, suc, ℤ, pos, List, [], flat_map, replicate, Bool, true, false, nat_eq, Option, Some, None, slice_get, slice_set, if◌then◌else◌}
 use Rattle.std.specs.List.{list_any}
+use Rattle.arc_spec.specs.declared.sort_counts.SortCounts.{SortCounts}
 
 -- how far an object is on its way (ARC, "Object liveness"): its dealloc hasn't begun; its deallocs run; its fields that name objects are destroyed; or it is gone
 pub data Phase : Type 0 where
@@ -65,8 +66,8 @@ abbrev pub nils : ℕ → List ℕ
 nils n = replicate n 0
 
 -- an object of a class as it is made, with so many fields of each sort: all of them are 0 or nil (OPL, "Allocating and Initializing Objects")
-abbrev pub new_object : (class fields strong_fields : ℕ) → Object
-new_object class fields strong_fields = record { class = class; fields = zeros fields; strong = nils strong_fields; phase = Live }
+abbrev pub new_object : (class : ℕ) → SortCounts → Object
+new_object class counts = record { class = class; fields = zeros counts.numbers; strong = nils counts.objects; phase = Live }
 
 -- what the fields of an object name that isn't gone; those of one that is gone are no places any more
 abbrev pub fields_of : Object → List ℕ

@@ -38,9 +38,9 @@ mutual
     Differ : Reference → Reference → Value
     IsObject : Reference → Value
 
-  -- An expression that gives an object or nil: `nil`, `self`, a variable, an assignment to one, a field, an assignment to one, `alloc` of a class, `new` of a class, a call
-  -- and a message. A variable goes by its number among those that name objects, of its function or of the program. `new` has the class from which its method is looked up,
-  -- where that isn't the class that gets it but one above, as for `super`.
+  -- An expression that gives an object or nil: `nil`, `self`, a variable, one of two by a test, an assignment to a variable, a field, an assignment to one, `alloc` of a
+  -- class, `new` of a class, a call and a message. A variable goes by its number among those that name objects, of its function or of the program. `new` has the class
+  -- from which its method is looked up, where that isn't the class that gets it but one above, as for `super`.
   pub data Reference : Type 0 where
     Nil : Reference
     Itself : Reference

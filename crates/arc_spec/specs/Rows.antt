@@ -3,12 +3,15 @@ use Rattle.std.specs.Prelude.{◌≡◌, ℕ, true, false, pos, negsuc, List, []
 use Rattle.arc_ast.specs.declared.tree.Sign.{Sign}
 use Rattle.arc_ast.specs.declared.tree.Sign.TheVariants as signs
 use Rattle.arc_ast.specs.declared.tree.Kind.TheVariants.{Int, Long}
+use Rattle.arc_ast.specs.declared.tree.Qual.{Qual}
+use Rattle.arc_ast.specs.declared.tree.Qual.TheVariants as quals
 use Rattle.arc_ast.specs.declared.tree.UnaryOperator.TheVariants.{Negate}
 use Rattle.arc_ast.specs.declared.tree.BinaryOperator.TheVariants.{Add, Multiply, Divide}
 use Rattle.arc_spec.specs.declared.event.Event.{Event}
 use Rattle.arc_spec.specs.declared.event.Event.TheVariants.{Byte, Dealloc}
 use Rattle.arc_spec.specs.declared.class.Gives.TheVariants as gives
 use Rattle.arc_spec.specs.Classes.{Class}
+use Rattle.arc_spec.specs.Sorts.{none_counted, counts}
 use Rattle.arc_spec.specs.declared.class.Method.{Method}
 use Rattle.arc_spec.specs.Resolved.{Value, Number, ReadByte, Print, Applied, Combined, Local, Global, Read, Sent, ClassValue, ClassSuper, ObjectValue, Field, FieldAssigned, Reference, Nil, Itself, Variable, Stored, ObjectField, ObjectFieldStored, Made, New, ObjectInvoked, ObjectSent, Program, no_arguments, number_argument, object_argument, Invoked, Command, Commands, Evaluate, EvaluateReference, Begin, Return, Give, Sequence, Function, no_commands, and_command, Bytes, Decimal, Character}
 use Rattle.arc_spec.specs.Correct.{Stop, meaning_seen}
@@ -62,9 +65,16 @@ least_long = and_command (Return (Some (Combined Divide Long (Number (negsuc 922
 abbrev pub method : Sign → (selector runs : ℕ) → Method
 method sign selector runs = record { sign = sign; selector = selector; takes = 0; objects = 0; gives = gives.Number; runs = runs }
 
+-- the sort of a field that holds a number, and of one that names an object
+abbrev pub a_number : Option Qual
+a_number = None
+
+abbrev pub an_object : Option Qual
+an_object = Some quals.Strong
+
 -- a class without fields and dealloc
 abbrev pub plain_class : Option ℕ → List Method → Class
-plain_class superclass methods = record { superclass = superclass; methods = methods; dealloc = None; fields = 0; strong_fields = 0 }
+plain_class superclass methods = record { superclass = superclass; methods = methods; dealloc = None; fields = none_counted }
 
 -- a method's body that returns this
 abbrev pub returns : Value → Function
@@ -121,7 +131,7 @@ with_class_a body = record {
   main = 0;
   globals = [];
   strong_globals = 0;
-  classes = plain_class None [] ∷ record { superclass = Some 0; methods = method signs.Instance 0 1 ∷ []; dealloc = Some 2; fields = 1; strong_fields = 0 } ∷ plain_class (Some 0) [] ∷ [];
+  classes = plain_class None [] ∷ record { superclass = Some 0; methods = method signs.Instance 0 1 ∷ []; dealloc = Some 2; fields = counts (a_number ∷ []) } ∷ plain_class (Some 0) [] ∷ [];
 }
 
 -- { A *a = [A alloc]; a->_v = 3; printf("%d", [a v]); [[A alloc] v]; printf("x"); a = nil; printf("y"); }
@@ -152,9 +162,9 @@ field_of_nil = and_command (Return (Some (Field Nil 1 0))) no_commands
 
 -- ---- strong places everywhere
 
--- a class with a dealloc, and with so many fields of each sort
-abbrev pub dying_class : (dealloc fields strong_fields : ℕ) → Class
-dying_class dealloc fields strong_fields = record { superclass = Some 0; methods = []; dealloc = Some dealloc; fields = fields; strong_fields = strong_fields }
+-- a class with a dealloc, and with fields of these sorts
+abbrev pub dying_class : (dealloc : ℕ) → (sorts : List (Option Qual)) → Class
+dying_class dealloc sorts = record { superclass = Some 0; methods = []; dealloc = Some dealloc; fields = counts sorts }
 
 -- a program with a variable that names objects, `g`, a main with this body and one such variable, functions, and the classes after the root
 abbrev pub with_global : Commands → List Function → List Class → Program
@@ -181,7 +191,7 @@ chain_of_two = with_global
     (and_command (EvaluateReference (ObjectFieldStored (Variable (Local 0)) 1 0 new_a))
     (and_command (Evaluate (FieldAssigned (ObjectField (Variable (Local 0)) 1 0) 1 0 (Number (pos 2))))
     (and_command (printed (codes "c")) no_commands))))
-    (prints_v ∷ []) (dying_class 1 1 1 ∷ [])
+    (prints_v ∷ []) (dying_class 1 (a_number ∷ an_object ∷ []) ∷ [])
 
 -- what it shows: the second object ends when the fields of the first one are destroyed, after its dealloc
 abbrev pub chain_events : List Event
@@ -196,7 +206,7 @@ replaced_global = with_global
     (and_command (printed (codes "n")) no_commands))))
     (prints_v
     ∷ record { slots = 0; names = 1; parameters = 1; gives = gives.Number; owns = false; body = and_command (EvaluateReference (Stored (Global 0) (Variable (Local 0)))) no_commands } ∷ [])
-    (dying_class 1 1 0 ∷ [])
+    (dying_class 1 (a_number ∷ []) ∷ [])
 
 -- what it shows: the variable holds the object after the call
 abbrev pub replaced_events : List Event
@@ -207,7 +217,7 @@ abbrev pub resurrection : Program
 resurrection = with_global
     (and_command (Begin 0 new_a) (and_command (EvaluateReference (Stored (Local 0) Nil)) (and_command (printed (codes "n")) no_commands)))
     (does (and_command (printed (codes "s")) (and_command (EvaluateReference (Stored (Global 0) Itself)) no_commands)) ∷ [])
-    (dying_class 1 0 0 ∷ [])
+    (dying_class 1 [] ∷ [])
 
 abbrev pub resurrection_events : List Event
 resurrection_events = Dealloc 1 1 ∷ map Byte (codes "s")
@@ -218,7 +228,7 @@ written_while_destroyed = with_global
     (and_command (Begin 0 new_a) (and_command (EvaluateReference (ObjectFieldStored (Variable (Local 0)) 1 0 (Made (class_value 2)))) no_commands))
     (does (and_command (EvaluateReference (Stored (Global 0) Itself)) no_commands)
     ∷ does (and_command (EvaluateReference (ObjectFieldStored (Variable (Global 0)) 1 0 Nil)) no_commands) ∷ [])
-    (dying_class 1 0 1 ∷ dying_class 2 0 0 ∷ [])
+    (dying_class 1 (an_object ∷ []) ∷ dying_class 2 [] ∷ [])
 
 abbrev pub written_events : List Event
 written_events = Dealloc 1 1 ∷ Dealloc 2 2 ∷ []
@@ -244,8 +254,7 @@ init_gives_nil = with_global
       superclass = Some 0;
       methods = record { sign = signs.Instance; selector = 2; takes = 0; objects = 0; gives = gives.Object; runs = 1 } ∷ [];
       dealloc = Some 2;
-      fields = 0;
-      strong_fields = 0;
+      fields = none_counted;
     } ∷ [])
 
 -- what it shows: what new made ends with it, before anything else is done
@@ -269,7 +278,7 @@ result_of_a_block = with_global
           (and_command (Evaluate (FieldAssigned (Variable (Local 1)) 1 0 (Number (pos 2))))
           (and_command (Give (Variable (Local 1))) no_commands)))) no_commands);
     } ∷ [])
-    (dying_class 1 1 0 ∷ [])
+    (dying_class 1 (a_number ∷ []) ∷ [])
 
 -- what it shows: the function's variables are dropped while the result is held, which ends with the caller's full-expression
 abbrev pub result_events : List Event

@@ -1,7 +1,8 @@
 //! Classes as running programs know them, and the methods that messages find.
-ghost use Rattle.std.specs.Prelude.{◌≡◌};
-ghost use Rattle.arc_spec.specs.Classes.{answers, classes_of, descends, found, gives_of, lookup};
+ghost use Rattle.std.specs.Prelude.{◌≡◌, slice_get};
+ghost use Rattle.arc_spec.specs.Classes.{answers, classes_of, descends, field_counts, found, gives_of, lookup};
 
+use crate::sort_counts::SortCounts;
 use arc_ast::tree::{Kind, Sign};
 
 /// What a function, a method or a message gives: a number, or an object or nil. What has no result gives the number 0.
@@ -35,15 +36,14 @@ pub struct Method {
 }
 
 /// A class: the number of its superclass, which the root has none of, its own methods, what its
-/// `dealloc` runs, where it has one, and how many fields its objects have that hold numbers and that name
-/// objects, inherited ones too, which come first.
+/// `dealloc` runs, where it has one, and how many fields its objects have of each sort, inherited ones too, which
+/// come first.
 #[derive(Drop)]
 pub struct Class {
     pub superclass: Option<usize>,
     pub methods: Vec<Method>,
     pub dealloc: Option<usize>,
-    pub fields: usize,
-    pub strong_fields: usize,
+    pub fields: SortCounts,
 }
 
 /// Whether the method answers a message of this sign with this selector, and so many numbers and objects
@@ -133,4 +133,14 @@ pub fn descends_from(classes: &[Class], from: Option<usize>, other: usize) -> bo
         next = class.superclass;
     }
     false
+}
+
+/// How many fields the objects of the class with this number have, of each sort.
+pub fn field_counts(classes: &[Class], class: usize) -> SortCounts
+    ensures { result ≡ field_counts (slice_get (classes_of classes.now) class) }
+{
+    match classes.get(class) {
+        Some(class) => class.fields,
+        None => SortCounts::none(),
+    }
 }

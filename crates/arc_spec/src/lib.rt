@@ -10,4 +10,5 @@ pub mod location;
 pub mod number;
 pub mod order;
 pub mod signature;
+pub mod sort_counts;
 pub mod statics;

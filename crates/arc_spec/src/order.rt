@@ -2,7 +2,7 @@
 ghost use Rattle.std.specs.Prelude.{◌≡◌, ◌-◌, ◌++◌, ◌∷◌, [], ℕ, suc, slice_get, IfOk, OnOk, MatchOption};
 ghost use Rattle.arc_spec.specs.Classes.{classes_of, strong_count, superclasses, ancestry_within, strong_counts, above_class, lesser, numbers_from, field_order};
 
-use crate::class::Class;
+use crate::class::{Class, field_counts};
 use crate::event::NoMemory;
 use std::alloc::Global;
 
@@ -30,13 +30,10 @@ pub fn field_order(alloc: Global, classes: &[Class], class: usize) -> Result<Vec
 }
 
 /// How many fields the objects of a class have that name objects.
-pub fn strong_count(classes: &[Class], class: usize) -> usize
+fn strong_count(classes: &[Class], class: usize) -> usize
     ensures { result ≡ strong_count (slice_get (classes_of classes.now) class) }
 {
-    match classes.get(class) {
-        Some(class) => class.strong_fields,
-        None => 0,
-    }
+    field_counts(classes, class).objects
 }
 
 /// The lesser of two numbers.
@@ -67,7 +64,7 @@ fn layer(classes: &[Class], class: Option<usize>) -> Option<(usize, Option<usize
     let Some(found) = classes.get(number) else {
         return None;
     };
-    Some((found.strong_fields, found.superclass))
+    Some((found.fields.objects, found.superclass))
 }
 
 /// Appends the numbers from the first one up to before the last one.

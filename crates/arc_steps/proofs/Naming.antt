@@ -33,11 +33,11 @@ module _ (index fields strong : ℕ) where
 
 pub slot_in : (found : Option Class) (index slot : ℕ) → name_index found index ≡ Some slot → (slot ≡ count_of found + index) × (index < strong_count found)
 slot_in None index slot e = absurd (cc)
-slot_in (Some c) index slot e = found_slot index c.fields c.strong_fields slot (nat_lt index c.strong_fields) (nat_lt (c.fields + index) (2 ^ 64)) refl refl e
+slot_in (Some c) index slot e = found_slot index c.fields.numbers c.fields.objects slot (nat_lt index c.fields.objects) (nat_lt (c.fields.numbers + index) (2 ^ 64)) refl refl e
 
 slot_past : (found : Option Class) (index : ℕ) → count_of found + strong_count found ≤ MOST_FIELDS → name_index found index ≡ None → strong_count found ≤ index
 slot_past None index few e = omega arith
-slot_past (Some c) index few e = no_slot index c.fields c.strong_fields (nat_lt index c.strong_fields) (nat_lt (c.fields + index) (2 ^ 64)) few refl refl e
+slot_past (Some c) index few e = no_slot index c.fields.numbers c.fields.objects (nat_lt index c.fields.objects) (nat_lt (c.fields.numbers + index) (2 ^ 64)) few refl refl e
 
 module _ (at : ℕ → ℕ) (classes : List Class) (blocks : Blocks) (block number count : ℕ) (o : Object) (stored : Stored (place at) classes blocks block number count o) (index : ℕ) where
   -- an object has a field there, and its word

@@ -4,9 +4,11 @@ use Rattle.std.specs.Prelude.{All, map, slice_get, if◌then◌else◌}
 use Rattle.std.proofs.lemmas.Bool.Decides.{nat_tests}
 use Rattle.std.proofs.lemmas.Grind.{common_steps}
 use Rattle.std.proofs.lemmas.List.Elements.{All-nil, All-cons, All-head, All-tail, All-append, All-weaker}
-use Rattle.arc_spec.specs.Classes.{Class, strong_count}
+use Rattle.arc_spec.specs.declared.sort_counts.SortCounts.{SortCounts}
+use Rattle.arc_spec.specs.Classes.{Class, field_counts}
+use Rattle.arc_spec.specs.Sorts.{total}
 use Rattle.arc_spec.specs.Objects.{Object, Phase, Live, Dying, Emptying, Gone, zeros, nils, new_object, fields_of, field_places}
-use Rattle.arc_spec.specs.Holding.{Held, Frame, Calling, Ending, Clearing, Counted, is_there, stacked, all_places, holders, count_of, raised, makes}
+use Rattle.arc_spec.specs.Holding.{Held, Frame, Calling, Ending, Clearing, Counted, is_there, stacked, all_places, holders, raised, makes}
 use Rattle.arc_heap.specs.Blocks.{Blocks}
 use Rattle.arc_heap.specs.Sizes.{class_of, size_of}
 use Rattle.arc_cells.specs.Cells.{Cell, words, IsCell, Becomes, fresh_cell}
@@ -119,7 +121,7 @@ unfolding size_of
 large_enough words h = grind (arith, nat_tests, common_steps)
 
 module _ (at : ℕ → ℕ) (classes : List Class) (m : Memory) (frames : List Frame) (h : Held) (t : Stands at classes m frames h) (n : ℕ) (made : n ≡ length h.objects) (class r : ℕ) (out : m.store r ≡ None) (blocks' : Blocks)
-    (change : Becomes m.store blocks' r (fresh_cell class (count_of (slice_get classes class) + strong_count (slice_get classes class)) (n + 1))) where
+    (change : Becomes m.store blocks' r (fresh_cell class (total (field_counts (slice_get classes class))) (n + 1))) where
   elsewhere : (j : ℕ) (c : Cell) → IsCell m.store (at j) c → at j ≢ r
   elsewhere j c e same = let no : None ≡ Some (words c) = sym out ∙ ap m.store (sym same) ∙ e in absurd (cc)
 
@@ -141,12 +143,14 @@ module _ (at : ℕ → ℕ) (classes : List Class) (m : Memory) (frames : List F
   older_kept Emptying j count o l known s = older_stored j count o l (known refl) s
   older_kept Gone j count o l known s = s
 
-  newest_stored : (fields strong count : ℕ) → fields ≡ count_of (slice_get classes class) → strong ≡ strong_count (slice_get classes class) → fields + strong ≤ MOST_FIELDS → count ≡ 1
-      → Stored (place (placed_at at n r)) classes blocks' (placed_at at n r n) (suc n) count (new_object class fields strong)
-  newest_stored fields strong count is named few one =
+  newest_stored : (counts : SortCounts) (count : ℕ) → counts ≡ field_counts (slice_get classes class) → total counts ≤ MOST_FIELDS → count ≡ 1
+      → Stored (place (placed_at at n r)) classes blocks' (placed_at at n r n) (suc n) count (new_object class counts)
+  newest_stored counts count is few one =
+      let fields = counts.numbers in
+      let strong = counts.objects in
       let large = large_enough (4 + (fields + strong)) (omega (arith, few)) in
       let rest = size_of (class_of (4 + (fields + strong))) - 4 in
-      let all_is : fields + strong ≡ count_of (slice_get classes class) + strong_count (slice_get classes class) = omega (arith, is, named) in
+      let all_is : fields + strong ≡ total (field_counts (slice_get classes class)) = ap total is in
       let number : n + 1 ≡ suc n = omega arith in
       record {
         fields = replicate rest 0;
@@ -154,7 +158,7 @@ module _ (at : ℕ → ℕ) (classes : List Class) (m : Memory) (frames : List F
             ∙ ap (λ k. Some (class ∷ 1 ∷ 0 ∷ k ∷ replicate rest 0)) number ∙ ap (λ k. Some (class ∷ k ∷ 0 ∷ suc n ∷ replicate rest 0)) (sym one);
         values = values_zeros fields rest (omega (arith, large));
         names = subst (λ k. Begin (map (place (placed_at at n r)) (nils strong)) (drop k (replicate rest 0))) (sym (length_zeros fields)) (names_nils (placed_at at n r) fields strong rest (omega (arith, large)));
-        all = (length_zeros fields ∙ is, length_nils strong ∙ named, omega (arith, few, length_zeros fields, length_nils strong));
+        all = (length_zeros fields ∙ ap (λ (c : SortCounts). c.numbers) is, length_nils strong ∙ ap (λ (c : SortCounts). c.objects) is, omega (arith, few, length_zeros fields, length_nils strong));
       }
 
 known_more : (n more : ℕ) → n ≤ more → (frame : Frame) → IsKnown n frame → IsKnown more frame
@@ -167,16 +171,15 @@ abbrev pub with_newest : Memory → Blocks → (word : ℕ) → Memory
 with_newest m blocks word = with_names (taking word (with_made m blocks (m.made + 1))) (word ∷ m.names)
 
 pub makes_stands : (at : ℕ → ℕ) (classes : List Class) (m : Memory) (frames : List Frame) (h : Held) → Stands at classes m frames h → (class r : ℕ) → m.store r ≡ None → (blocks' : Blocks)
-    → Becomes m.store blocks' r (fresh_cell class (count_of (slice_get classes class) + strong_count (slice_get classes class)) (m.made + 1)) → count_of (slice_get classes class) + strong_count (slice_get classes class) ≤ MOST_FIELDS → 0 < r → Counted h
+    → Becomes m.store blocks' r (fresh_cell class (total (field_counts (slice_get classes class))) (m.made + 1)) → total (field_counts (slice_get classes class)) ≤ MOST_FIELDS → 0 < r → Counted h
     → StandsFor classes (with_newest m blocks' r) frames (makes classes class h)
 makes_stands at classes m frames h t class r out blocks' change few above counted =
     let n = length h.objects in
-    let fields = count_of (slice_get classes class) in
-    let strong = strong_count (slice_get classes class) in
-    let object : Object = new_object class fields strong in
+    let counts = field_counts (slice_get classes class) in
+    let object : Object = new_object class counts in
     let objects' : List Object = h.objects ++ object ∷ [] in
     let at' = placed_at at n r in
-    let numbered : Becomes m.store blocks' r (fresh_cell class (fields + strong) (n + 1)) = subst (λ k. Becomes m.store blocks' r (fresh_cell class (fields + strong) (k + 1))) t.made change in
+    let numbered : Becomes m.store blocks' r (fresh_cell class (total counts) (n + 1)) = subst (λ k. Becomes m.store blocks' r (fresh_cell class (total counts) (k + 1))) t.made change in
     let longer : length objects' ≡ n + 1 = length-append h.objects (object ∷ []) in
     let none : h.counts (suc n) ≡ 0 = counted.counted n ∙ unheld n (all_places h) t.known_places in
     let one : (raised (suc n) h).counts (suc n) ≡ 1 = raised_there (suc n) h ∙ ap (λ k. k + 1) none in
@@ -190,7 +193,7 @@ makes_stands at classes m frames h t class r out blocks' change few above counte
           (older_kept at classes m frames h t n refl class r out blocks' numbered o.phase j (h.counts (suc j)) o p.0 (λ here. subst (λ l. All (λ q. q ≤ n) l) (ap (λ (b : Bool). if b then o.strong else []) here) (known_fields at classes m frames h t j o p.1)) (t.kept j o p.1))
       | inr p ↦ subst (λ j. Kept o.phase (place at') classes blocks' (at' j) (suc j) ((raised (suc n) h).counts (suc j)) o) (sym p.0)
           (subst (λ (o : Object). Kept o.phase (place at') classes blocks' (at' n) (suc n) ((raised (suc n) h).counts (suc n)) o) (sym p.1)
-          (newest_stored at classes m frames h t n refl class r out blocks' numbered fields strong ((raised (suc n) h).counts (suc n)) refl refl few one))
+          (newest_stored at classes m frames h t n refl class r out blocks' numbered counts ((raised (suc n) h).counts (suc n)) refl few one))
     ] in
     let places = words m.places (stacked h) (known_stacked n h t.known_places) t.places in
     let temporaries : m.temporaries + 1 ≡ suc (length h.temporaries) = (let few = t.temporaries in omega (arith, few)) in
@@ -203,7 +206,7 @@ makes_stands at classes m frames h t class r out blocks' change few above counte
     let globals = all_left (λ q. q ≤ n) h.strong_globals (field_places h.objects) others in
     let known_places = All-append P (suc n ∷ stacked h) (h.strong_globals ++ field_places objects') (known (stacked h) (known_stacked n h t.known_places))
     (All-append P h.strong_globals (field_places objects') (weaker h.strong_globals globals)
-    (all_fields_more P h.objects object (weaker (field_places h.objects) (all_right (λ q. q ≤ n) h.strong_globals (field_places h.objects) others)) (all_nils P strong (omega arith)))) in
+    (all_fields_more P h.objects object (weaker (field_places h.objects) (all_right (λ q. q ≤ n) h.strong_globals (field_places h.objects) others)) (all_nils P counts.objects (omega arith)))) in
     let known_names = known h.names t.known_names in
     let known_self : h.self ≤ length objects' = (let known = t.known_self in omega (arith, longer, known)) in
     let known_frames = All-weaker (IsKnown n) (IsKnown (length objects')) (known_more n (length objects') (omega (arith, longer))) frames t.known_frames in

@@ -1,7 +1,9 @@
 //! Sources and their answers, as worked out by hand.
 use arc_lex::fault::LexFault;
 use arc_lex::lex::lex;
-use arc_lex::token::{Mark, Token, TokenKind, Word};
+use arc_lex::mark::Mark;
+use arc_lex::token::{Token, TokenKind};
+use arc_lex::word::Word;
 use std::alloc::Global;
 use std::test::Fail;
 

@@ -3,9 +3,9 @@ use Rattle.std.proofs.Common.{◌≡◌, ℕ, suc, ◌+◌, List, ◌++◌, Bool
 use Rattle.std.specs.Io.KnownBytes.{Appends}
 use Rattle.arc_code.specs.declared.code.IoFault.{IoFault}
 use Rattle.arc_code.specs.declared.code.IoFault.TheVariants.{Read, Write}
-use Rattle.arc_code.specs.Counting.{AppendsPart}
+use Rattle.arc_code.specs.Counting.{AppendsLess, AppendsPart}
 use Rattle.arc_code.specs.Running.{Program}
-use Rattle.arc_code.specs.Written.{Written}
+use Rattle.arc_code.specs.Written.{Written, WrittenAndFlushed}
 use Rattle.arc_code.proofs.Parts.{then_written}
 use Rattle.arc_machine.specs.declared.stop.Stop.{Stop}
 use Rattle.arc_machine.specs.declared.stop.Stop.TheVariants as stop
@@ -43,7 +43,7 @@ module _ (source : List ℕ) (p : Program) (names : List (List ℕ)) (compiled :
       shown = run.shown;
       held = run.held;
       whole = subst (λ n. Appends o0 run.held (events_text n false run.earlier)) compiled.named run.whole.0;
-      part = subst (λ n. AppendsPart run.held o1 (events_text n (open_after false run.earlier) run.last)) compiled.named run.part.1;
+      part = subst (λ n. AppendsLess run.held o1 (events_text n (open_after false run.earlier) run.last)) compiled.named run.part.1;
     })
 
     -- a writer's failure is reported as its own
@@ -86,8 +86,8 @@ module _ (source : List ℕ) (p : Program) (names : List (List ℕ)) (compiled :
     ended Unread (Ok s) run end = absurd end
     ended Unread (Err (Io Write)) run end = absurd end
     ended Unread (Err (Io Read)) run end =
-        let same = subst (λ w. Written end.0 (end_text begun Unread) o1 o2 w w2 W) run.written.1 end.1 in
-        (source_runs Unread run, o1, events_so Unread run, (end.0, end_so Unread run (λ t. Written end.0 t o1 o2 w0 w2 W) same))
+        let same = subst (λ w. WrittenAndFlushed end.0 (end_text begun Unread) o1 o2 w w2 W) run.written.1 end.1 in
+        (source_runs Unread run, o1, events_so Unread run, (end.0, end_so Unread run (λ t. WrittenAndFlushed end.0 t o1 o2 w0 w2 W) same))
     ended Unread (Err (Refused x)) run end = absurd end
     ended Unread (Err Memory) run end = absurd end
 

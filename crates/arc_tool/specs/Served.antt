@@ -7,7 +7,7 @@ use Rattle.arc_code.specs.declared.code.IoFault.{IoFault}
 use Rattle.arc_code.specs.declared.counted.Counted.{Counted}
 use Rattle.arc_code.specs.Listing.{listing}
 use Rattle.arc_code.specs.Running.{Program}
-use Rattle.arc_code.specs.Written.{Written}
+use Rattle.arc_code.specs.Written.{WrittenAndFlushed}
 use Rattle.arc_file.specs.declared.file.FileFault.{FileFault}
 use Rattle.arc_file.specs.declared.file.FileFault.TheVariants as file_fault
 use Rattle.arc_machine.specs.declared.stop.Stop.{Stop}
@@ -29,9 +29,9 @@ use Rattle.arc_tool.specs.Traced.{AnsweredTrace}
 use Rattle.arc_tool.specs.Status as outcome
 use Rattle.arc_tool.specs.Status.{line_of}
 
--- This text was printed, or the writer failed and has some first bytes of it.
+-- This text was printed and flushed; or the writer failed, and has some first bytes of it, or all before the flush.
 abbrev pub Prints : {W : Type 0} → (contents : W → Option (List ℕ)) → (writer_failed : Type 0) → Result (Unit {0}) IoFault → List ℕ → (o0 o1 : Counted W) → Type 0
-Prints contents failed answer text o0 o1 = Written answer text (held_by contents o0) (held_by contents o1) (failures_of o0) (failures_of o1) failed
+Prints contents failed answer text o0 o1 = WrittenAndFlushed answer text (held_by contents o0) (held_by contents o1) (failures_of o0) (failures_of o1) failed
 
 -- This text is the answer, with the status 0, or the writer failed.
 abbrev pub Says : {W : Type 0} → (contents : W → Option (List ℕ)) → (writer_failed : Type 0) → List ℕ → Result ℕ Trouble → (o0 o1 : Counted W) → Type 0
@@ -61,7 +61,7 @@ ended_with (stop.Fault f) = Err (Fault f)
 ended_with stop.NoHeap = Err NoHeap
 ended_with stop.StepsUsed = Err StepsUsed
 
--- `check` says `ok` of a program, and `code` lists its code
+-- what each command does: `check` says `ok` of a program, `run` and `trace` run it (`RunsTo`), and `code` lists its code
 abbrev pub Obeyed : {R W : Type 0} → (remaining : R → Option (List ℕ)) → (contents : W → Option (List ℕ)) → (writer_failed : Type 0)
     → Command → List ℕ → (steps : ℕ) → Result ℕ Trouble → (i0 i1 : Counted R) → (o0 o1 : Counted W) → Type 0
 Obeyed remaining contents failed Check source steps answer i0 i1 o0 o1 = UnlessRefused source answer (o1 ≡ o0) (IsCompilable source × Says contents failed (codes "ok\n") answer o0 o1) × (i1 ≡ i0)

@@ -4,9 +4,9 @@ use Rattle.std.specs.Io.KnownBytes.{Appends}
 use Rattle.arc_spec.specs.declared.event.Event.{Event}
 use Rattle.arc_code.specs.declared.code.IoFault.{IoFault}
 use Rattle.arc_code.specs.declared.code.IoFault.TheVariants.{Read, Write}
-use Rattle.arc_code.specs.Counting.{AppendsPart}
+use Rattle.arc_code.specs.Counting.{AppendsLess, AppendsPart}
 use Rattle.arc_code.specs.Running.{seen}
-use Rattle.arc_code.specs.Written.{Written}
+use Rattle.arc_code.specs.Written.{WrittenAndFlushed}
 use Rattle.arc_machine.specs.declared.stop.Stop.{Stop}
 use Rattle.arc_turns.specs.Runs.{Leaves}
 use Rattle.arc_tool.specs.declared.lines.Left.{Left}
@@ -24,7 +24,7 @@ abbrev pub text_of : {source : List ℕ} {steps : ℕ} (left : Left) {in0 in1 : 
 text_of left run = trace_text (class_names run.compiled.program.tree) run.events left
 
 -- A run of the source's code, of at most so many steps, in which the writer failed within the lines of the last step's events: those of the steps before it
--- were written whole, and some first bytes of its own. No further step was made.
+-- were written whole, and of its own some first bytes and not all. No further step was made.
 pub record BrokenOff (source : List ℕ) (steps : ℕ) (in0 in1 out0 out1 : Option (List ℕ)) : Type 0 where
   pub before : ℕ
   pub fewer : before < steps
@@ -37,11 +37,11 @@ pub record BrokenOff (source : List ℕ) (steps : ℕ) (in0 in1 out0 out1 : Opti
   pub shown : (rest : List ℕ) → Leaves in1 rest → (seen run.code (run.follows.taken ++ rest) before).trace ≡ earlier
   pub held : Option (List ℕ)
   pub whole : Appends out0 held (events_text (class_names run.compiled.program.tree) false earlier)
-  pub part : AppendsPart held out1 (events_text (class_names run.compiled.program.tree) (open_after false earlier) last)
+  pub part : AppendsLess held out1 (events_text (class_names run.compiled.program.tree) (open_after false earlier) last)
 
--- a text was written, or where the writer failed some first bytes of it
+-- a text was written and flushed; or where the writer failed some first bytes of it, or all before the flush
 abbrev pub WritesUpTo : List ℕ → (out0 out1 : Option (List ℕ)) → (writes0 writes1 : ℕ) → (writer_failed : Type 0) → Type 0
-WritesUpTo text o0 o1 w0 w1 failed = (answer : Result (Unit {0}) IoFault) × Written answer text o0 o1 w0 w1 failed
+WritesUpTo text o0 o1 w0 w1 failed = (answer : Result (Unit {0}) IoFault) × WrittenAndFlushed answer text o0 o1 w0 w1 failed
 
 -- the text of a run's events, and that of how it was left, which comes after it
 abbrev pub events_of : {source : List ℕ} {steps : ℕ} (left : Left) {in0 in1 : Option (List ℕ)} → SourceRun source steps left in0 in1 → List ℕ
@@ -51,8 +51,8 @@ abbrev pub end_of : {source : List ℕ} {steps : ℕ} (left : Left) {in0 in1 : O
 end_of left run = end_text (open_after false run.events) left
 
 -- What each answer says. The writer failed within the lines of the last step's events; or after the last step of a run that had stopped, or had made all the
--- steps that were allowed: then the lines of its events were written whole, and the writer failed in the line that says how it was left. Where the reader
--- failed, they were written whole as well, and that line too, or some first bytes of it.
+-- steps that were allowed: then the lines of its events were written whole, and the writer failed in the line that says how it was left, or in the flush after
+-- it. Where the reader failed, they were written whole as well, and that line too, or some first bytes of it.
 abbrev pub AnsweredTrace : List ℕ → (steps : ℕ) → Result Stop ToolFault → (in0 in1 out0 out1 : Option (List ℕ)) → (writes0 writes1 : ℕ) → (writer_failed : Type 0) → Type 0
 AnsweredTrace source steps (Err (Refused r)) i0 i1 o0 o1 w0 w1 failed = IsRefusal source r × (Names (codes "Memory") r → ⊥)
 AnsweredTrace source steps (Err Memory) i0 i1 o0 o1 w0 w1 failed = Unit {0}

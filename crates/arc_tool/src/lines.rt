@@ -26,7 +26,7 @@ pub enum Left {
 /// Writes what the events add to the text: `out ` and two hexadecimal digits for each byte that is printed before
 /// the next dealloc, and `dealloc ` with the object's number and its class for each dealloc. Where a line of
 /// printed bytes is open, it is ended before a dealloc. The error is a failure of the writer; then some of the
-/// first bytes are written.
+/// first bytes are written, and not all.
 pub fn put_events<W: Output>(
     events: &[Event],
     classes: &[Vec<u8>],
@@ -169,7 +169,7 @@ fn name_at(classes: &[Vec<u8>], class: usize) -> &[u8]
 
 /// Ends the text with the line that says how the run was left: `end ` with the number with which it ended,
 /// `fault ` with the fault's number and name, `noheap`, `steps`, or `io ` with the number and the name of the
-/// reader's failure. The error is a failure of the writer; then some of the first bytes are written.
+/// reader's failure. The error is a failure of the writer; then some of the first bytes are written, and not all.
 pub fn put_end<W: Output>(left: Left, begun: bool, writer: &mut Counted<W>) -> Result<(), IoFault>
     requires { failures_of writer.old < 2 ^ 64 - 1 }
     ensures { Written result (end_text begun left)

@@ -94,7 +94,8 @@ pub fn status(trouble: &Trouble) -> u8
     }
 }
 
-/// Writes the trouble in one line. The error is a failure of the writer; then some of the first bytes are written.
+/// Writes the trouble in one line. The error is a failure of the writer; then some of the first bytes are written,
+/// and not all.
 pub fn print_trouble<E: Output>(trouble: &Trouble, errors: &mut Counted<E>) -> Result<(), IoFault>
     requires { failures_of errors.old < 2 ^ 64 - 1 }
     ensures { Written result (line_of trouble.now)

@@ -9,9 +9,9 @@ use Rattle.arc_class.specs.declared.table.Entry.{Entry}
 use Rattle.arc_class.specs.declared.table.FoundField.{FoundField}
 use Rattle.arc_class.specs.ClassRules.{field_place}
 use Rattle.arc_class.specs.Classes.{class_number, own_result}
-use Rattle.arc_class.specs.declared.sort_counts.SortCounts.{SortCounts}
+use Rattle.arc_spec.specs.declared.sort_counts.SortCounts.{SortCounts}
 use Rattle.arc_class.specs.Fields.{numbered, sorts_of_fields, written_sorts, fields_declared, if_before, earlier_superclasses, inherited_by, own_fields}
-use Rattle.arc_class.specs.Sorts.{none_counted, with_all, counts}
+use Rattle.arc_spec.specs.Sorts.{none_counted, with_all, counts}
 use Rattle.arc_class.specs.ByName.{Named}
 use Rattle.arc_class.specs.declared.table.MethodResult.{MethodResult}
 use Rattle.arc_class.specs.declared.table.Place.{Place}

@@ -3,15 +3,16 @@ use Rattle.std.specs.Prelude.{◌≡◌, ◌≤◌, ◌<◌, ◌++◌, length, �
 use Rattle.std.specs.Borrow.{Bor}
 use Rattle.std.specs.List.{starts_with, list_any}
 use Rattle.std.specs.Cmp.Lexicographic.{pointwise}
-use Rattle.arc_lex.specs.declared.token.Mark.{Mark}
-use Rattle.arc_lex.specs.declared.token.Word.{Word}
-use Rattle.arc_lex.specs.declared.token.AtWord.{AtWord}
+use Rattle.arc_lex.specs.declared.mark.Mark.{Mark}
+use Rattle.arc_lex.specs.declared.word.Word.{Word}
+use Rattle.arc_lex.specs.declared.word.AtWord.{AtWord}
 use Rattle.arc_lex.specs.declared.bytes.Class.TheVariants as c
 use Rattle.arc_lex.specs.declared.piece.Rule.{Rule}
 use Rattle.arc_lex.specs.declared.piece.Rule.TheVariants as rules
 use Rattle.arc_lex.specs.declared.piece.Piece as lex
 use Rattle.arc_lex.specs.declared.piece.Piece.TheVariants as pieces
-use Rattle.arc_lex.specs.declared.token.TheConstants.{MARKS, WORDS, AT_WORDS}
+use Rattle.arc_lex.specs.declared.mark.TheConstants.{MARKS}
+use Rattle.arc_lex.specs.declared.word.TheConstants.{WORDS, AT_WORDS}
 use Rattle.arc_lex.specs.Bytes.{has, run, is_blank}
 use Rattle.arc_lex.specs.Spellings.{mark_bytes, word_bytes, at_bytes, unused}
 use Rattle.arc_lex.specs.Texts.{Part, Plain, Escape, parts_bytes, parts_value, integer}

@@ -1,6 +1,6 @@
 -- What functions promise that read a rest of a declaration.
 use Rattle.std.specs.Prelude.{Bool, List}
-use Rattle.arc_lex.specs.declared.token.Mark.TheVariants as m
+use Rattle.arc_lex.specs.declared.mark.Mark.TheVariants as m
 use Rattle.arc_ast.specs.Tree.{VariableTree}
 use Rattle.arc_form.specs.Joining.{joining}
 use Rattle.arc_form.specs.Kinds.{mark}

@@ -1,6 +1,6 @@
 -- What functions promise that add fields to those of a class, and that skip names.
 use Rattle.std.specs.Prelude.{ℕ, Bool, List, [], ◌∷◌, ◌++◌}
-use Rattle.arc_lex.specs.declared.token.Mark.TheVariants as m
+use Rattle.arc_lex.specs.declared.mark.Mark.TheVariants as m
 use Rattle.arc_ast.specs.declared.tree.Visibility.{Visibility}
 use Rattle.arc_ast.specs.Tree.{FieldTree}
 use Rattle.arc_ast.specs.declared.tree.Qualifiers.{Qualifiers}

@@ -1,6 +1,6 @@
 -- What functions promise that read what parentheses hold, and what calls, messages and heads of methods give or take.
 use Rattle.std.specs.Prelude.{ℕ, List, [], ◌∷◌, ◌++◌}
-use Rattle.arc_lex.specs.declared.token.Mark.TheVariants as m
+use Rattle.arc_lex.specs.declared.mark.Mark.TheVariants as m
 use Rattle.arc_ast.specs.Tree.{ExprTree, ParameterTree, TypeTree, Cast, Paren}
 use Rattle.arc_form.specs.Form.{Limits, ◌⨾◌, call, run, unlimited}
 use Rattle.arc_form.specs.Joining.{joining}

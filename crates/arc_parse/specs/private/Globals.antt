@@ -1,6 +1,6 @@
 -- What functions promise that add variables of the whole program to those that were read.
 use Rattle.std.specs.Prelude.{Bool, List, [], ◌∷◌, ◌++◌}
-use Rattle.arc_lex.specs.declared.token.Mark.TheVariants as m
+use Rattle.arc_lex.specs.declared.mark.Mark.TheVariants as m
 use Rattle.arc_ast.specs.declared.tree.Qualifiers.TheVariants.{Unqualified}
 use Rattle.arc_ast.specs.Tree.{TypeTree, GlobalTree, Value}
 use Rattle.arc_form.specs.Kinds.{mark, name}

@@ -7,7 +7,7 @@ use Rattle.arc_form.specs.Joining.{joining}
 use Rattle.arc_form.specs.Reader.{Reader, ◌>>=◌, ret}
 use Rattle.arc_ast.specs.Tree.{Id}
 use Rattle.arc_ast.specs.declared.tree.Qualifiers.TheVariants.{Unqualified}
-use Rattle.arc_lex.specs.declared.token.Mark.TheVariants as m
+use Rattle.arc_lex.specs.declared.mark.Mark.TheVariants as m
 use Rattle.arc_grammar.specs.Grammar.{Part, QualifiedType, reads, enclosed, enclosed_type, after_comma, parameter, parameters}
 
 abbrev pub push : {A : Type 0} → List A → A → List A

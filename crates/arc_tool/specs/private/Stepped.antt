@@ -4,7 +4,7 @@ use Rattle.arc_spec.specs.declared.event.Event.{Event}
 use Rattle.arc_code.specs.declared.code.IoFault.{IoFault}
 use Rattle.arc_code.specs.declared.code.IoFault.TheVariants.{Read}
 use Rattle.arc_code.specs.Running.{Program, seen}
-use Rattle.arc_code.specs.Written.{Written}
+use Rattle.arc_code.specs.Written.{Written, WrittenAndFlushed}
 use Rattle.arc_machine.specs.declared.stop.Stop.{Stop}
 use Rattle.arc_turns.specs.Runs.{Leaves}
 use Rattle.arc_steps.specs.Views.{Seen}
@@ -35,8 +35,8 @@ pub record Followed (code : Program) (names : List (List ℕ)) (steps : ℕ) (le
   pub written : Written (Ok tt) (events_text names false events) out0 out1 writes0 writes1 ⊤
   pub reader : Reads left reads0 reads1 reader_failed
 
--- Such a run, in which the writer failed within the lines of the last step's events: those of the steps before it were written whole, and some first bytes of
--- its own. No further step was made.
+-- Such a run, in which the writer failed within the lines of the last step's events: those of the steps before it were written whole, and of its own some first
+-- bytes and not all. No further step was made.
 pub record Interrupted (code : Program) (names : List (List ℕ)) (steps : ℕ) (fault : IoFault) (in0 in1 out0 out1 : Option (List ℕ)) (writes0 writes1 : ℕ) (writer_failed : Type 0) : Type 0 where
   pub made : ℕ
   pub left : Left
@@ -51,10 +51,10 @@ pub record Interrupted (code : Program) (names : List (List ℕ)) (steps : ℕ) 
   pub whole : Written (Ok tt) (events_text names false earlier) out0 held writes0 writes ⊤
   pub part : Written (Err fault) (events_text names (open_after false earlier) last) held out1 writes writes1 writer_failed
 
--- The end of a text was written and passed on, and the answer is the run's; or the writer failed, and some first bytes of it were written. Where the reader
--- failed before, that is the answer, whatever the writer does.
+-- The end of a text was written and passed on, and the answer is the run's; or the writer failed, and some first bytes of it were written, or all before the
+-- flush. Where the reader failed before, that is the answer, whatever the writer does.
 abbrev pub EndsTrace : Left → (begun : Bool) → Result Stop ToolFault → (out0 out1 : Option (List ℕ)) → (writes0 writes1 : ℕ) → (writer_failed : Type 0) → Type 0
-EndsTrace (Stopped stop) begun (Ok answer) o0 o1 w0 w1 failed = (answer ≡ stop) × Written (Ok tt) (end_text begun (Stopped stop)) o0 o1 w0 w1 failed
-EndsTrace (Stopped stop) begun (Err (Io f)) o0 o1 w0 w1 failed = Written (Err f) (end_text begun (Stopped stop)) o0 o1 w0 w1 failed
+EndsTrace (Stopped stop) begun (Ok answer) o0 o1 w0 w1 failed = (answer ≡ stop) × WrittenAndFlushed (Ok tt) (end_text begun (Stopped stop)) o0 o1 w0 w1 failed
+EndsTrace (Stopped stop) begun (Err (Io f)) o0 o1 w0 w1 failed = WrittenAndFlushed (Err f) (end_text begun (Stopped stop)) o0 o1 w0 w1 failed
 EndsTrace Unread begun (Err (Io Read)) o0 o1 w0 w1 failed = WritesUpTo (end_text begun Unread) o0 o1 w0 w1 failed
 EndsTrace _ begun _ o0 o1 w0 w1 failed = ⊥

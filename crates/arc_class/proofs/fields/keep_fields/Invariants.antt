@@ -2,7 +2,7 @@ use Rattle.std.proofs.Common.{◌≡◌, ℕ, List, drop}
 use Rattle.arc_ast.specs.Tree.{InterfaceTree, field_trees}
 use Rattle.arc_class.specs.Classes.{class_number}
 use Rattle.arc_class.specs.Fields.{numbered, written_sorts}
-use Rattle.arc_class.specs.Sorts.{with_all}
+use Rattle.arc_spec.specs.Sorts.{with_all}
 use Rattle.arc_class.specs.Table.{at_name, class_number_in, number_of_class}
 use Rattle.arc_class.proofs.fields.keep_fields.Given as goal
 use Rattle.std.specs.Option.{option_or}

@@ -4,7 +4,7 @@ use Rattle.arc_ast.specs.Types.{type_kind}
 use Rattle.std.specs.Option.{option_or}
 use Rattle.arc_class.specs.Globals.{variable_after, variables}
 use Rattle.arc_class.specs.Kept.{one_at}
-use Rattle.arc_class.specs.Sorts.{held_by, with_one}
+use Rattle.arc_spec.specs.Sorts.{held_by, with_one}
 use Rattle.arc_class.specs.Table.{at_name}
 use Rattle.arc_class.proofs.Keeping.{kept_turn, or_one}
 use Rattle.arc_class.proofs.Lists.{drop_turn}

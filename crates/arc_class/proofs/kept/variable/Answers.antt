@@ -4,7 +4,7 @@ use Rattle.arc_ast.specs.Tree.{type_tree}
 use Rattle.arc_ast.specs.Types.{type_kind}
 use Rattle.arc_class.specs.declared.table.ClassId.{ClassId}
 use Rattle.arc_class.specs.declared.table.Variable.{Variable}
-use Rattle.arc_class.specs.Sorts.{held_by, next_of}
+use Rattle.arc_spec.specs.Sorts.{held_by, next_of}
 use Rattle.arc_class.proofs.Typed.{class_same}
 use Rattle.arc_class.proofs.kept.variable.Goals as goal
 

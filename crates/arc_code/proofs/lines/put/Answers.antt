@@ -6,4 +6,4 @@ pub returns-in-Err : goal.returns-in-Err
 returns-in-Err g c =
     let e = c.in-Err.ensures in
     let (between, took, fails) = e.failed in
-    (refl, front_part _ _ _ _ e.err, e.cause, inl (between, _, fails))
+    (refl, front_part _ _ _ _ e.within e.err, e.cause, inl (between, _, fails))

@@ -1,8 +1,14 @@
 use Rattle.std.proofs.lemmas.Result.{err_from_is_err_and}
+use Rattle.arc_code.proofs.Parts.{not_flushed}
 use Rattle.arc_tool.specs.declared.lines.Left.TheVariants.{Stopped, Unread}
 use Rattle.arc_tool.specs.Lines.{end_text}
 use Rattle.arc_tool.proofs.Flushing.{and_flushed, flush_failed}
 use Rattle.arc_tool.proofs.trace.end_trace.Goals as goal
+
+pub returns-in_err-put_end-in-Stopped-clause-ends : goal.returns-in_err-put_end-in-Stopped-clause-ends
+returns-in_err-put_end-in-Stopped-clause-ends g c =
+    let p = err_from_is_err_and c.from_residual.result c.from_residual.ensures.1 in
+    rw (c.in-Stopped.is, p.1, p.2) (not_flushed _ _ _ _ _ _ (end_text c.args.begun (Stopped c.in-Stopped.stop)) c.in_err-put_end-in-Stopped.ensures)
 
 pub returns-in_err-flush-in-Stopped-clause-ends : goal.returns-in_err-flush-in-Stopped-clause-ends
 returns-in_err-flush-in-Stopped-clause-ends g c =

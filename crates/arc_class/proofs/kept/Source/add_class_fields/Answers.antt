@@ -4,7 +4,7 @@ use Rattle.arc_ast.specs.Tree.{unit_tree, interface_tree, interface_trees}
 use Rattle.arc_class.specs.Classes.{class_number}
 use Rattle.arc_class.specs.private.Entries.{fields_tree, class_fields, class_fields_with, class_fields_from, counted_among}
 use Rattle.arc_class.specs.Fields.{inherited_by, sorts_of_fields}
-use Rattle.arc_class.specs.Sorts.{counts}
+use Rattle.arc_spec.specs.Sorts.{counts}
 use Rattle.arc_class.specs.Table.{class_number_in}
 use Rattle.arc_class.proofs.FieldLists.{inherited_so_far}
 use Rattle.arc_class.proofs.Lists.{drop_turn}

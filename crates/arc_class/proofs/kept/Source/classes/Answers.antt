@@ -4,7 +4,7 @@ use Rattle.arc_ast.specs.Tree.{unit_tree, interface_tree, interface_trees}
 use Rattle.arc_spec.specs.Classes.{class_of}
 use Rattle.arc_class.specs.private.Entries.{counted_among}
 use Rattle.arc_class.specs.Fields.{fields, sorts_of_fields}
-use Rattle.arc_class.specs.Sorts.{counts}
+use Rattle.arc_spec.specs.Sorts.{counts}
 use Rattle.arc_class.specs.Running as running
 use Rattle.arc_class.specs.Running.{class_with, classes_from}
 use Rattle.arc_class.proofs.FieldLists.{counts_kept}

@@ -4,7 +4,7 @@ use Rattle.arc_class.specs.Broken.{broken_if, first}
 use Rattle.arc_class.specs.declared.classes.TheConstants.{MOST_FIELDS}
 use Rattle.arc_class.specs.ClassRules.{broken_own_fields}
 use Rattle.arc_class.specs.Fields.{fields, sorts_of_fields}
-use Rattle.arc_class.specs.Sorts.{total}
+use Rattle.arc_spec.specs.Sorts.{total}
 use Rattle.arc_class.proofs.FieldLists.{counts_kept}
 use Rattle.arc_class.proofs.Sorts.{counts_total, sorts_length}
 use Rattle.arc_class.proofs.Firsts.{first_both}

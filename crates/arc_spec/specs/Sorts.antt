@@ -1,16 +1,28 @@
--- How many fields, variables or parameters there are that hold objects strongly (`objects`), and how many others (`numbers`). Each of the two is numbered from 0
--- (this project's own choice). The sort of what is declared is how it holds an object, if it names one.
+-- The sort of what is declared, which is how it holds an object, if it names one; and how many fields, variables or parameters there are that hold objects strongly
+-- (`objects`), and how many others (`numbers`). Each of the two is numbered from 0 (this project's own choice).
 use Rattle.std.specs.Prelude.{ℕ, suc, ◌+◌, List, map, fold, Option, Some, None}
 use Rattle.arc_ast.specs.declared.tree.Kind.{Kind}
 use Rattle.arc_ast.specs.declared.tree.Kind.TheVariants as k
 use Rattle.arc_ast.specs.declared.tree.Qual.{Qual}
 use Rattle.arc_ast.specs.declared.tree.Qual.TheVariants as quals
-use Rattle.arc_class.specs.declared.sort_counts.SortCounts.{SortCounts}
+use Rattle.arc_ast.specs.declared.tree.Qualifiers.{Qualifiers}
+use Rattle.arc_ast.specs.declared.tree.Qualifiers.TheVariants as qualifiers
+use Rattle.arc_spec.specs.declared.sort_counts.SortCounts.{SortCounts}
 
--- how what has a kind holds an object, where nothing is written of it: a number holds none, and an object is held strongly (ARC, "Ownership qualification")
+-- how these qualifiers say that an object is held: as the only one says, and else strongly (ARC, "Ownership qualification"); where several are written of one
+-- variable, the source is refused (rule 67, Qualifier)
+abbrev pub held_as : Qualifiers → Qual
+held_as (qualifiers.Qualified q) = q
+held_as _ = quals.Strong
+
+-- how what is declared with qualifiers and a type of this kind holds an object; a number holds none
+abbrev pub sort_of : Qualifiers → Kind → Option Qual
+sort_of written k.Object = Some (held_as written)
+sort_of written _ = None
+
+-- the same where nothing is written of it
 abbrev pub held_by : Kind → Option Qual
-held_by k.Object = Some quals.Strong
-held_by _ = None
+held_by = sort_of qualifiers.Unqualified
 
 abbrev pub none_counted : SortCounts
 none_counted = record { numbers = 0; objects = 0 }

@@ -1,6 +1,6 @@
 use Rattle.std.proofs.Common.{◌≡◌, drop, map}
 use Rattle.arc_lex.specs.private.Pieces.{first_front, itself, now}
-use Rattle.arc_lex.proofs.spelling.first_text.Given as goal
+use Rattle.arc_lex.proofs.word.first_text.Given as goal
 
 -- the first among all is the first among the rest
 abbrev pub invariant-loop-text : goal.invariant-loop-text
