@@ -2,6 +2,7 @@ pub mod Compiling
 pub mod Naming
 pub mod Lining
 pub mod Flushing
+pub mod Passing
 pub mod Following
 pub mod Showing
 pub mod Meant

@@ -1,5 +1,7 @@
 -- What the program answers where a stage before the end refuses, or a device fails.
 use Rattle.std.proofs.Common.{◌≡◌, ℕ, List, codes, Result, Ok, Err, refl, sym, subst, ⊎_elim}
+use Rattle.arc_code.specs.declared.code.IoFault.{IoFault}
+use Rattle.arc_code.specs.declared.code.IoFault.TheVariants.{Read, Write}
 use Rattle.arc_machine.specs.declared.stop.Stop.{Stop}
 use Rattle.arc_machine.specs.declared.stop.Stop.TheVariants as stop
 use Rattle.arc_tool.specs.declared.refusal.Refusal.{Refusal}
@@ -9,9 +11,9 @@ use Rattle.arc_tool.specs.declared.run.ToolFault.{ToolFault}
 use Rattle.arc_tool.specs.declared.run.ToolFault.TheVariants.{Refused, Memory, Io}
 use Rattle.arc_tool.specs.Refused.{IsRefusal}
 use Rattle.arc_tool.specs.Reports.{Becomes, Names}
-use Rattle.arc_tool.specs.Ran.{Untouched, Blames, blamed}
+use Rattle.arc_tool.specs.Ran.{Untouched, Blames, PassesOn, blamed}
 use Rattle.arc_tool.specs.Status.{trouble_of}
-use Rattle.arc_tool.specs.Served.{RunsTo, UnlessRefused, device_of, ended_with}
+use Rattle.arc_tool.specs.Served.{Flushed, RunsTo, UnlessRefused, device_of, ended_with}
 
 pub refused_so : (source : List ℕ) (r : Refusal) (t : Trouble) (kept done : Type 0) → IsRefusal source r → Becomes trouble.Memory trouble.Refused r t → kept → UnlessRefused source (Err t) kept done
 refused_so source r t kept done is becomes k = ⊎_elim
@@ -46,3 +48,31 @@ module _ (r0 r1 w0 w1 : ℕ) (R W : Type 0) where
   same_device (Refused r) h = h
   same_device Memory h = h
   same_device (Io f) h = h
+
+-- ---- what was written is passed on
+
+module _ (P F : Type 0) where
+  -- nothing was written
+  pub refused_flushed : (r : Refusal) (t : Trouble) → Becomes trouble.Memory trouble.Refused r t → Flushed (Err t) P F
+  refused_flushed r t becomes = ⊎_elim
+      (λ memory. subst (λ x. Flushed (Err x) P F) (sym memory.1) tt)
+      (λ other. subst (λ x. Flushed (Err x) P F) (sym other.1) tt)
+      becomes
+
+  -- standard output failed
+  pub output_failed : (f : IoFault) → f ≡ Write → Flushed (Err (trouble.Io f)) P F
+  output_failed Read is = absurd (let no = is in cc)
+  output_failed Write is = tt
+
+  -- a run that didn't stop, and one that did
+  pub same_flushed : (f : ToolFault) → PassesOn (Err f) P F → Flushed (Err (trouble_of f)) P F
+  same_flushed (Refused r) h = tt
+  same_flushed Memory h = tt
+  same_flushed (Io Read) h = h
+  same_flushed (Io Write) h = tt
+
+  pub ended_flushed : (s : Stop) → P → Flushed (ended_with s) P F
+  ended_flushed (stop.Ended n) passed = passed
+  ended_flushed (stop.Fault f) passed = passed
+  ended_flushed stop.NoHeap passed = passed
+  ended_flushed stop.StepsUsed passed = passed

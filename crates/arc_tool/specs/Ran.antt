@@ -49,6 +49,12 @@ Untouched (Ok stop) r0 r1 w0 w1 = Unit {0}
 Untouched (Err (Io f)) r0 r1 w0 w1 = Unit {0}
 Untouched (Err _) r0 r1 w0 w1 = (r1 ≡ r0) × (w1 ≡ w0)
 
+-- Where a run stopped, what was written is passed on; where the reader failed, it is as well, or the writer has failed, too.
+abbrev pub PassesOn : Result Stop ToolFault → (passed_on writer_failed : Type 0) → Type 0
+PassesOn (Ok stop) passed failed = passed
+PassesOn (Err (Io Read)) passed failed = passed ⊎ failed
+PassesOn (Err _) passed failed = Unit {0}
+
 -- the device that an answer blames, if it does
 abbrev pub blamed : Result Stop ToolFault → Option IoFault
 blamed (Err (Io fault)) = Some fault

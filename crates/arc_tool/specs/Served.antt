@@ -1,9 +1,10 @@
 -- What the whole program does with its words and the bytes of its file. The lines and statuses are this project's own choice.
-use Rattle.std.specs.Prelude.{◌≡◌, ℕ, ℤ, List, codes, Option, Some, None, Result, Ok, Err, string_bytes}
+use Rattle.std.specs.Prelude.{◌≡◌, ◌⊎◌, ℕ, ℤ, List, codes, Option, Some, None, Result, Ok, Err, OnOk, string_bytes}
 use denote.Bor.{Bor}
 use Rattle.arc_spec.specs.Number.{low_byte}
 use Rattle.arc_code.specs.Counting.{failures_of, left_in, held_by}
 use Rattle.arc_code.specs.declared.code.IoFault.{IoFault}
+use Rattle.arc_code.specs.declared.code.IoFault.TheVariants as io_fault
 use Rattle.arc_code.specs.declared.counted.Counted.{Counted}
 use Rattle.arc_code.specs.Listing.{listing}
 use Rattle.arc_code.specs.Running.{Program}
@@ -93,12 +94,24 @@ Attempted remaining contents failed (Ok words) (Err file_fault.Failed) answer i0
 Attempted remaining contents failed (Ok words) (Err file_fault.NoMemory) answer i0 i1 o0 o1 = Only Memory answer i0 i1 o0 o1
 Attempted remaining contents failed (Ok words) (Ok source) answer i0 i1 o0 o1 = Obeyed remaining contents failed words.command source.now words.steps answer i0 i1 o0 o1
 
+-- Where the command was done, what it wrote on standard output is passed on, whether its answer is a status, a fault of the program or the end of its room or
+-- its steps; where standard input failed, it is as well, or standard output has failed, too. Else nothing was written, or standard output failed.
+abbrev pub Flushed : Result ℕ Trouble → (passed_on writer_failed : Type 0) → Type 0
+Flushed (Ok s) passed failed = passed
+Flushed (Err (Fault f)) passed failed = passed
+Flushed (Err NoHeap) passed failed = passed
+Flushed (Err StepsUsed) passed failed = passed
+Flushed (Err (Io io_fault.Read)) passed failed = passed ⊎ failed
+Flushed (Err _) passed failed = Unit {0}
+
 -- the device that an answer blames, if it does
 abbrev pub device_of : Result ℕ Trouble → Option IoFault
 device_of (Err (Io fault)) = Some fault
 device_of _ = None
 
--- the status, and what is written on standard error: nothing, or trouble in one line, of which a failing device may take some first bytes alone
-abbrev pub Reported : {E : Type 0} → (contents : E → Option (List ℕ)) → (teller_failed : Type 0) → Result ℕ Trouble → (status : ℕ) → (e0 e1 : Counted E) → Type 0
-Reported contents failed (Ok s) status e0 e1 = (status ≡ s) × (e1 ≡ e0)
-Reported contents failed (Err t) status e0 e1 = (status ≡ (outcome.report t).0) × ((answer : Result (Unit {0}) IoFault) × Prints contents failed answer (line_of t) e0 e1)
+-- the status, and what is written on standard error: nothing, or trouble in one line, which is passed on, and of which a failing device may take some first
+-- bytes alone
+abbrev pub Reported : {E : Type 0} → (contents : E → Option (List ℕ)) → (passed_on teller_failed : Type 0) → Result ℕ Trouble → (status : ℕ) → (e0 e1 : Counted E) → Type 0
+Reported contents passed failed (Ok s) status e0 e1 = (status ≡ s) × (e1 ≡ e0)
+Reported contents passed failed (Err t) status e0 e1 =
+    (status ≡ (outcome.report t).0) × ((answer : Result (Unit {0}) IoFault) × Prints contents failed answer (line_of t) e0 e1 × OnOk answer passed)

@@ -1,13 +1,13 @@
 //! Compiles a source and runs it.
-ghost use Rattle.std.specs.Prelude.{◌≡◌, ◌-◌, ◌^◌, ◌<◌, Ok, OnOk};
+ghost use Rattle.std.specs.Prelude.{◌≡◌, ◌-◌, ◌^◌, ◌<◌, Ok};
 ghost use Rattle.arc_code.specs.Attempts.{HasFailedToRead, HasFailedToWrite, HasPassedOn};
 ghost use Rattle.arc_code.specs.Counting.{failures_of, inner_of, left_in, held_by};
 ghost use Rattle.arc_code.specs.Running.{IsSound, Program};
 ghost use Rattle.arc_turns.specs.Runs.{Lacks};
 ghost use Rattle.arc_steps.specs.Views.{fresh};
 ghost use Rattle.arc_machine.specs.declared.stop.Stop.TheVariants.{NoHeap};
-ghost use Rattle.arc_tool.specs.private.Printed.{RanCode, failed_device};
-ghost use Rattle.arc_tool.specs.Ran.{Answered, Blames, Untouched, blamed};
+ghost use Rattle.arc_tool.specs.private.Printed.{PassesPrinted, RanCode, failed_device};
+ghost use Rattle.arc_tool.specs.Ran.{Answered, Blames, PassesOn, Untouched, blamed};
 
 use crate::compile::compile;
 use crate::refusal::Refusal;
@@ -96,7 +96,8 @@ pub fn run_text<R: Input, W: Output>(
         (failures_of writer.old) (failures_of writer.new)
         (HasFailedToRead R.reads (inner_of reader.new))
         (HasFailedToWrite W.writes W.flushes (inner_of writer.new)) }
-    ensures passed_on { OnOk result (HasPassedOn W.flushes (inner_of writer.new)) }
+    ensures passed_on { PassesOn result (HasPassedOn W.flushes (inner_of writer.new))
+        (HasFailedToWrite W.writes W.flushes (inner_of writer.new)) }
 {
     let code = compile(alloc, source)?;
     let mut machine = Machine::new(alloc, code, PlainStore::new(alloc))?;
@@ -125,7 +126,8 @@ fn run_machine<S: Store + Drop, R: Input, W: Output>(
         (failures_of writer.old) (failures_of writer.new)
         (HasFailedToRead R.reads (inner_of reader.new))
         (HasFailedToWrite W.writes W.flushes (inner_of writer.new)) }
-    ensures passed_on { OnOk result (HasPassedOn W.flushes (inner_of writer.new)) }
+    ensures passed_on { PassesPrinted result (HasPassedOn W.flushes (inner_of writer.new))
+        (HasFailedToWrite W.writes W.flushes (inner_of writer.new)) }
 {
     match machine.run(steps, reader, writer) {
         Ok(stop) => {

@@ -1,6 +1,6 @@
 //! The whole program, but for reading its file.
-ghost use Rattle.std.specs.Prelude.{◌≡◌, ◌-◌, ◌^◌, ◌<◌, ℕ, Result, Err, codes};
-ghost use Rattle.arc_code.specs.Attempts.{HasFailedToRead, HasFailedToWrite};
+ghost use Rattle.std.specs.Prelude.{◌≡◌, ◌-◌, ◌^◌, ◌<◌, ℕ, Result, Err, OnOk, codes};
+ghost use Rattle.arc_code.specs.Attempts.{HasFailedToRead, HasFailedToWrite, HasPassedOn};
 ghost use Rattle.arc_code.specs.Counting.{failures_of, inner_of};
 ghost use Rattle.arc_code.specs.Listing.{listing};
 ghost use Rattle.arc_code.specs.Running.{Program};
@@ -8,7 +8,7 @@ ghost use Rattle.arc_tool.specs.Compiled.{Compiles};
 ghost use Rattle.arc_tool.specs.declared.report.Trouble.{Trouble};
 ghost use Rattle.arc_tool.specs.Ran.{Blames};
 ghost use Rattle.arc_tool.specs.Refused.{IsCompilable};
-ghost use Rattle.arc_tool.specs.Served.{Attempted, Obeyed, Prints, Reported, Says, UnlessRefused, device_of, source_or, ended_with};
+ghost use Rattle.arc_tool.specs.Served.{Attempted, Flushed, Obeyed, Prints, Reported, Says, UnlessRefused, device_of, source_or, ended_with};
 
 use crate::accept::accept;
 use crate::compile::compile;
@@ -43,7 +43,8 @@ pub fn serve<R: Input, W: Output, E: Output>(
         words file.entry answer input.old input.new output.old output.new
         × Blames (device_of answer) (failures_of input.old) (failures_of input.new) (failures_of output.old) (failures_of output.new)
         (HasFailedToRead R.reads (inner_of input.new)) (HasFailedToWrite W.writes W.flushes (inner_of output.new))
-        × Reported E.contents (HasFailedToWrite E.writes E.flushes (inner_of errors.new))
+        × Flushed answer (HasPassedOn W.flushes (inner_of output.new)) (HasFailedToWrite W.writes W.flushes (inner_of output.new))
+        × Reported E.contents (HasPassedOn E.flushes (inner_of errors.new)) (HasFailedToWrite E.writes E.flushes (inner_of errors.new))
         answer result errors.old errors.new }
 {
     match attempt(alloc, words, file, input, output) {
@@ -55,7 +56,7 @@ pub fn serve<R: Input, W: Output, E: Output>(
 /// Writes the trouble, and gives its status.
 fn report<E: Output>(trouble: &Trouble, errors: &mut Counted<E>) -> u8
     requires { failures_of errors.old < 2 ^ 64 - 1 }
-    ensures { Reported E.contents (HasFailedToWrite E.writes E.flushes (inner_of errors.new))
+    ensures { Reported E.contents (HasPassedOn E.flushes (inner_of errors.new)) (HasFailedToWrite E.writes E.flushes (inner_of errors.new))
         (Err trouble.now) result errors.old errors.new }
 {
     match print_trouble(trouble, errors) {
@@ -82,6 +83,8 @@ fn attempt<R: Input, W: Output>(
     ensures blamed { Blames (device_of result) (failures_of input.old) (failures_of input.new)
         (failures_of output.old) (failures_of output.new)
         (HasFailedToRead R.reads (inner_of input.new)) (HasFailedToWrite W.writes W.flushes (inner_of output.new)) }
+    ensures passed_on { Flushed result (HasPassedOn W.flushes (inner_of output.new))
+        (HasFailedToWrite W.writes W.flushes (inner_of output.new)) }
 {
     match words {
         Ok(words) => {
@@ -123,6 +126,8 @@ fn obey<R: Input, W: Output>(
     ensures blamed { Blames (device_of result) (failures_of input.old) (failures_of input.new)
         (failures_of output.old) (failures_of output.new)
         (HasFailedToRead R.reads (inner_of input.new)) (HasFailedToWrite W.writes W.flushes (inner_of output.new)) }
+    ensures passed_on { Flushed result (HasPassedOn W.flushes (inner_of output.new))
+        (HasFailedToWrite W.writes W.flushes (inner_of output.new)) }
 {
     match words.command {
         Command::Check => check_source(alloc, source, output),
@@ -150,6 +155,8 @@ fn check_source<W: Output>(
         result output.old output.new) }
     ensures blamed { Blames (device_of result) 0 0 (failures_of output.old) (failures_of output.new) ⊥
         (HasFailedToWrite W.writes W.flushes (inner_of output.new)) }
+    ensures passed_on { Flushed result (HasPassedOn W.flushes (inner_of output.new))
+        (HasFailedToWrite W.writes W.flushes (inner_of output.new)) }
 {
     accept(alloc, source)?;
     print(b"ok\n", output)?;
@@ -167,6 +174,8 @@ fn list_source<W: Output>(
         × Says W.contents (HasFailedToWrite W.writes W.flushes (inner_of output.new)) (listing code.instrs)
         result output.old output.new) }
     ensures blamed { Blames (device_of result) 0 0 (failures_of output.old) (failures_of output.new) ⊥
+        (HasFailedToWrite W.writes W.flushes (inner_of output.new)) }
+    ensures passed_on { Flushed result (HasPassedOn W.flushes (inner_of output.new))
         (HasFailedToWrite W.writes W.flushes (inner_of output.new)) }
 {
     let code = compile(alloc, source)?;
@@ -190,8 +199,9 @@ fn ended(stop: Stop) -> Result<u8, Trouble>
 /// Writes the text, and has it passed on.
 fn print<W: Output>(text: &[u8], output: &mut Counted<W>) -> Result<(), IoFault>
     requires { failures_of output.old < 2 ^ 64 - 1 }
-    ensures { Prints W.contents (HasFailedToWrite W.writes W.flushes (inner_of output.new))
+    ensures prints { Prints W.contents (HasFailedToWrite W.writes W.flushes (inner_of output.new))
         result text.now output.old output.new }
+    ensures passed_on { OnOk result (HasPassedOn W.flushes (inner_of output.new)) }
 {
     put(text, output)?;
     flush(output)

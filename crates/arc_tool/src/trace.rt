@@ -1,5 +1,5 @@
 //! Compiles a source and shows what its program does, in lines.
-ghost use Rattle.std.specs.Prelude.{◌≡◌, ◌≢◌, ◌-◌, ◌^◌, ◌<◌, map, IfOk, IfErr, OnOk, OnErr, Ok, Err};
+ghost use Rattle.std.specs.Prelude.{◌≡◌, ◌≢◌, ◌-◌, ◌^◌, ◌<◌, map, IfOk, IfErr, OnErr, Ok, Err};
 ghost use Rattle.arc_code.specs.Attempts.{HasFailedToRead, HasFailedToWrite, HasPassedOn};
 ghost use Rattle.arc_code.specs.Counting.{failures_of, inner_of, left_in, held_by};
 ghost use Rattle.arc_code.specs.Running.{IsSound, Program};
@@ -8,7 +8,7 @@ ghost use Rattle.arc_turns.specs.Runs.{Lacks};
 ghost use Rattle.arc_steps.specs.Views.{fresh};
 ghost use Rattle.arc_machine.specs.declared.stop.Stop.TheVariants.{NoHeap};
 ghost use Rattle.arc_tool.specs.Compiled.{bytes_of_name};
-ghost use Rattle.arc_tool.specs.Ran.{Blames, Untouched, blamed};
+ghost use Rattle.arc_tool.specs.Ran.{Blames, PassesOn, Untouched, blamed};
 ghost use Rattle.arc_tool.specs.declared.lines.Left.TheVariants.{Stopped};
 ghost use Rattle.arc_tool.specs.Lines.{events_text, open_after};
 ghost use Rattle.arc_tool.specs.private.Stepped.{EndsTrace, Followed, Interrupted, new_events};
@@ -54,7 +54,8 @@ pub fn trace_text<R: Input, W: Output>(
         (failures_of writer.old) (failures_of writer.new)
         (HasFailedToRead R.reads (inner_of reader.new))
         (HasFailedToWrite W.writes W.flushes (inner_of writer.new)) }
-    ensures passed_on { OnOk result (HasPassedOn W.flushes (inner_of writer.new)) }
+    ensures passed_on { PassesOn result (HasPassedOn W.flushes (inner_of writer.new))
+        (HasFailedToWrite W.writes W.flushes (inner_of writer.new)) }
 {
     let named = compile_named(alloc, source)?;
     let mut machine = Machine::new(alloc, named.code, PlainStore::new(alloc))?;
@@ -72,7 +73,8 @@ fn end_trace<W: Output>(left: Left, begun: bool, writer: &mut Counted<W>) -> Res
         (held_by W.contents writer.old) (held_by W.contents writer.new)
         (failures_of writer.old) (failures_of writer.new)
         (HasFailedToWrite W.writes W.flushes (inner_of writer.new)) }
-    ensures passed_on { OnOk result (HasPassedOn W.flushes (inner_of writer.new)) }
+    ensures passed_on { PassesOn result (HasPassedOn W.flushes (inner_of writer.new))
+        (HasFailedToWrite W.writes W.flushes (inner_of writer.new)) }
 {
     match left {
         Left::Stopped(stop) => {

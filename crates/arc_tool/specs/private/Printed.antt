@@ -41,6 +41,12 @@ RanCode code steps (Ok stop) i0 i1 o0 o1 = Printed code steps (Stopped stop) i0 
 RanCode code steps (Err Read) i0 i1 o0 o1 = Printed code steps Unread i0 i1 o0 o1
 RanCode code steps (Err Write) i0 i1 o0 o1 = PrintedPart code steps i0 i1 o0 o1 ⊎ ((stop : Stop) × Printed code steps (Stopped stop) i0 i1 o0 o1)
 
+-- where the run stopped, what was printed is passed on; where the reader failed, it is as well, or the writer has failed, too
+abbrev pub PassesPrinted : Result Stop IoFault → (passed_on writer_failed : Type 0) → Type 0
+PassesPrinted (Ok stop) passed failed = passed
+PassesPrinted (Err Read) passed failed = passed ⊎ failed
+PassesPrinted (Err Write) passed failed = Unit {0}
+
 -- the device that failed, if one did
 abbrev pub failed_device : Result Stop IoFault → Option IoFault
 failed_device (Ok stop) = None

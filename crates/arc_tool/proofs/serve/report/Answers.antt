@@ -1,4 +1,4 @@
-use Rattle.arc_code.specs.Attempts.{HasFailedToWrite}
+use Rattle.arc_code.specs.Attempts.{HasFailedToWrite, HasPassedOn}
 use Rattle.arc_code.specs.Counting.{failures_of, inner_of, held_by}
 use Rattle.arc_tool.specs.Status.{line_of}
 use Rattle.arc_tool.proofs.Flushing.{and_flushed}
@@ -8,6 +8,7 @@ pub returns-in-Ok : goal.returns-in-Ok
 returns-in-Ok g c =
     let held = held_by g.E.Output.contents in
     let failed = HasFailedToWrite g.E.Output.writes g.E.Output.flushes (inner_of c.flush.new.writer) in
+    let passed = HasPassedOn g.E.Output.flushes (inner_of c.flush.new.writer) in
     let all = and_flushed c.flush.result (line_of c.args.trouble.now) (held c.args.errors.now) (held c.print_trouble.new.errors) (held c.flush.new.writer)
-    (failures_of c.args.errors.now) (failures_of c.print_trouble.new.errors) (failures_of c.flush.new.writer) failed c.in-Ok.ensures c.flush.ensures.kept c.flush.ensures.fine c.flush.ensures.cause c.flush.ensures.failed in
+    (failures_of c.args.errors.now) (failures_of c.print_trouble.new.errors) (failures_of c.flush.new.writer) passed failed c.in-Ok.ensures c.flush.ensures.kept c.flush.ensures.fine c.flush.ensures.cause c.flush.ensures.failed c.flush.ensures.passed_on in
     (c.status.ensures, all)
