@@ -16,7 +16,7 @@ use Rattle.arc_checked.specs.declared.program.CheckedFunction.{CheckedFunction}
 use Rattle.arc_checked.specs.declared.program.Checked.{Checked}
 use Rattle.arc_spec.specs.Classes.{classes_of}
 use Rattle.arc_spec.specs.Resolved as resolved
-use Rattle.arc_spec.specs.Resolved.{Number, ReadByte, Print, Applied, Combined, Choice, Converted, Read, Assigned, Updated, Invoked, Sent, ClassValue, ClassSuper, ObjectValue, ObjectSuper, Field, FieldAssigned, FieldUpdated, Differ, IsObject, Nil, Itself, Variable, Chosen, Stored, ObjectField, ObjectFieldStored, Made, New, ObjectInvoked, ObjectSent, no_arguments, number_argument, object_argument, Sequence, Evaluate, EvaluateReference, Begin, Return, Give, Choose, Repeat, Break, Continue, no_commands, and_command, Bytes, Decimal, Character}
+use Rattle.arc_spec.specs.Resolved.{Number, ReadByte, Print, Applied, Combined, Choice, Converted, Read, Assigned, Updated, Invoked, Sent, ClassValue, ClassSuper, ObjectValue, ObjectSuper, Field, FieldAssigned, FieldUpdated, Differ, IsObject, Nil, Itself, Variable, Chosen, Stored, ObjectField, ObjectFieldStored, WeakField, WeakFieldStored, Made, New, ObjectInvoked, ObjectSent, no_arguments, number_argument, object_argument, Sequence, Evaluate, EvaluateReference, Begin, Return, Give, Choose, Repeat, Break, Continue, no_commands, and_command, Bytes, Decimal, Character}
 
 abbrev pub piece : Piece → resolved.Piece
 piece (p.Bytes bytes) = Bytes bytes.items
@@ -55,6 +55,8 @@ abbrev mutual
   reference (r.Stored' i q a) = Stored i (reference a)
   reference (r.ObjectField' q a class index) = ObjectField (reference a) class index
   reference (r.ObjectFieldStored' q a class index s b) = ObjectFieldStored (reference a) class index (reference b)
+  reference (r.WeakField' q a class index) = WeakField (reference a) class index
+  reference (r.WeakFieldStored' q a class index s b) = WeakFieldStored (reference a) class index (reference b)
   reference (r.Made' q a) = Made (value a)
   reference (r.New' from q a) = New from (value a)
   reference (r.ObjectInvoked' f shape arguments) = ObjectInvoked f (row_arguments arguments)

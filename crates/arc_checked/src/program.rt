@@ -72,6 +72,11 @@ pub enum Reference {
     ObjectField(Box<Reference>, usize, usize),
     /// The same, and what is assigned to the field.
     ObjectFieldStored(Box<Reference>, usize, usize, Box<Reference>),
+    /// A weak field: the object that has it, the class whose own field it is, and its number in the objects among the
+    /// weak fields.
+    WeakField(Box<Reference>, usize, usize),
+    /// The same, and what is assigned to the field.
+    WeakFieldStored(Box<Reference>, usize, usize, Box<Reference>),
     /// `alloc`: what gives the class's number.
     Made(Box<Value>),
     /// `new`: the class from which its method is looked up, where that isn't the class that gets it, and what gives

@@ -5,6 +5,7 @@ use Rattle.std.specs.Option.{option_map_or}
 use Rattle.std.specs.Str.{bytes_eq}
 use Rattle.arc_ast.specs.declared.tree.Kind.{Kind}
 use Rattle.arc_ast.specs.declared.tree.Kind.TheVariants as k
+use Rattle.arc_ast.specs.declared.tree.Qual.TheVariants as quals
 use Rattle.arc_ast.specs.declared.tree.Qualifiers.{Qualifiers}
 use Rattle.arc_ast.specs.declared.tree.Qualifiers.TheVariants as qualifiers
 use Rattle.arc_ast.specs.declared.tree.Sign.TheVariants as signs
@@ -110,11 +111,16 @@ rule_66 u (InInterface class) (Declared h) = at_if (is_wrong_init u class h) h.a
 rule_66 u (InMethod class own) (Defined h) = at_if (is_wrong_init u class h) h.at
 rule_66 u _ _ = None
 
--- whether these qualifiers can't stand of a variable of a kind: more than one, or one of what holds no object (ARC, "Ownership qualification", which allows some of these)
+-- whether these qualifiers can't stand of a field of a kind: more than one, or one of what holds no object (ARC, "Ownership qualification", which allows some of these)
+abbrev pub is_misqualified_field : Qualifiers → Kind → Bool
+is_misqualified_field qualifiers.Unqualified kind = false
+is_misqualified_field (qualifiers.Qualified q) kind = not (is_object kind)
+is_misqualified_field qualifiers.Several kind = true
+
+-- the same of a variable: `__weak` is of fields alone
 abbrev pub is_misqualified : Qualifiers → Kind → Bool
-is_misqualified qualifiers.Unqualified kind = false
-is_misqualified (qualifiers.Qualified q) kind = not (is_object kind)
-is_misqualified qualifiers.Several kind = true
+is_misqualified (qualifiers.Qualified quals.Weak) kind = true
+is_misqualified all kind = is_misqualified_field all kind
 
 -- the first of some parameters that has such qualifiers
 abbrev pub misqualified_among : List ParameterTree → Option ℕ
@@ -125,7 +131,7 @@ misqualified_among (p ∷ others) = if is_misqualified p.qualifiers (type_kind p
 abbrev pub rule_67 : Node → Option ℕ
 rule_67 (Variable before type v) = at_if (is_misqualified (both_qualifiers before v.qualifiers) (type_kind type)) v.at
 rule_67 (Global g) = at_if (is_misqualified g.qualifiers (type_kind g.type)) g.at
-rule_67 (Field f) = at_if (is_misqualified f.qualifiers (type_kind f.type)) f.at
+rule_67 (Field f) = at_if (is_misqualified_field f.qualifiers (type_kind f.type)) f.at
 rule_67 (Function f) = misqualified_among (named_parameters f.parameters)
 rule_67 n = option_and_then (λ h. misqualified_among h.parameters) (method_at n)
 

@@ -12,7 +12,7 @@ ghost use Rattle.arc_family.specs.Fault.{reported};
 ghost use Rattle.arc_family.specs.private.Asked.{is_plain, is_unasked};
 
 use arc_ast::tree::{
-    Expr, Kind, MethodHead, Parameter, Qualifiers, ResultType, Sign, TranslationUnit, TypeName,
+    Expr, Kind, MethodHead, Parameter, Qual, Qualifiers, ResultType, Sign, TranslationUnit, TypeName,
 };
 use arc_class::table::{ClassId, ClassTable};
 use arc_fault::own::OwnFault;
@@ -317,9 +317,9 @@ fn init_result(table: &ClassTable, enclosing: Enclosing, node: Node) -> Option<O
     }
 }
 
-/// Whether the qualifiers can't stand of what is of the kind.
-fn is_misqualified(qualifiers: Qualifiers, kind: Kind) -> bool
-    ensures { result ≡ rules.is_misqualified qualifiers kind }
+/// Whether the qualifiers can't stand of a field of the kind.
+fn is_misqualified_field(qualifiers: Qualifiers, kind: Kind) -> bool
+    ensures { result ≡ rules.is_misqualified_field qualifiers kind }
 {
     match qualifiers {
         Qualifiers::Unqualified => false,
@@ -328,7 +328,17 @@ fn is_misqualified(qualifiers: Qualifiers, kind: Kind) -> bool
     }
 }
 
-/// 67 Qualifier, of what has the qualifiers and the type.
+/// Whether the qualifiers can't stand of a variable of the kind.
+fn is_misqualified(qualifiers: Qualifiers, kind: Kind) -> bool
+    ensures { result ≡ rules.is_misqualified qualifiers kind }
+{
+    match qualifiers {
+        Qualifiers::Qualified(Qual::Weak) => true,
+        all => is_misqualified_field(all, kind),
+    }
+}
+
+/// 67 Qualifier, of a variable that has the qualifiers and the type.
 fn misqualified(qualifiers: Qualifiers, type_name: &TypeName, at: usize) -> Option<OwnFault>
     ensures { option_map reported result ≡ first (violates 67 (at_if (rules.is_misqualified qualifiers (type_kind (type_tree type_name.now))) at)) }
 {
@@ -359,7 +369,10 @@ fn qualifier(node: Node) -> Option<OwnFault>
             misqualified(all, type_name, variable.at)
         }
         Node::Global(global) => misqualified(global.qualifiers, &global.type_name, global.at),
-        Node::Field(field) => misqualified(field.qualifiers, &field.type_name, field.at),
+        Node::Field(field) => {
+            let broken = is_misqualified_field(field.qualifiers, field.type_name.kind());
+            fault_if(broken, OwnFault::Qualifier(field.at))
+        }
         Node::Function(function) => misqualified_among(named_parameters(&function.parameters)),
         Node::Declared(head) | Node::Defined(head) => misqualified_among(&head.parameters),
         _ => None,

@@ -206,15 +206,19 @@ begins_value_type = name ∪ begins_plain_type
 -- ---- ownership qualifiers (ARC, "Ownership qualification")
 
 abbrev pub begins_qualifier : Kinds
-begins_qualifier = word w.Strong
+begins_qualifier = word w.Strong ∪ word w.Weak
+
+abbrev pub qualifier_of : Sort → Qual
+qualifier_of (tokens.Key w.Weak) = quals.Weak
+qualifier_of _ = quals.Strong
 
 -- what begins qualifiers, if there are any, and a type
 abbrev pub begins_qualified_type : Kinds
 begins_qualified_type = begins_qualifier ∪ begins_value_type
 
--- `__strong`, the only one that is read
+-- `__strong` or `__weak`
 unfoldable pub qualifier : Part Qual
-qualifier = map (λ at. quals.Strong) (key w.Strong)
+qualifier = token begins_qualifier (λ t. qualifier_of t.sort)
 
 unfoldable pub more_qualifiers : Part (Qualifiers → Qualifiers)
 more_qualifiers = map (λ others all. fold and_qualifier all others) (many begins_qualifier qualifier)

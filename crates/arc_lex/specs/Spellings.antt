@@ -80,6 +80,7 @@ word_bytes w.Super = codes "super"
 word_bytes w.Void = codes "void"
 word_bytes w.While = codes "while"
 word_bytes w.Strong = codes "__strong"
+word_bytes w.Weak = codes "__weak"
 
 -- the bytes of a word after `@` that is used, with the `@` (OPL, "Compiler Directives")
 abbrev pub at_bytes : AtWord → List ℕ
@@ -96,5 +97,5 @@ at_bytes ats.Private = codes "@private"
 abbrev pub unused : List (List ℕ)
 unused = map codes (
     "auto" ∷ "case" ∷ "default" ∷ "double" ∷ "enum" ∷ "extern" ∷ "float" ∷ "goto" ∷ "inline" ∷ "register" ∷ "restrict" ∷ "short" ∷ "signed" ∷ "sizeof" ∷ "struct"
-    ∷ "switch" ∷ "typedef" ∷ "union" ∷ "unsigned" ∷ "volatile" ∷ "." ∷ "NULL" ∷ "__weak" ∷ "__autoreleasing" ∷ "__unsafe_unretained"
+    ∷ "switch" ∷ "typedef" ∷ "union" ∷ "unsigned" ∷ "volatile" ∷ "." ∷ "NULL" ∷ "__autoreleasing" ∷ "__unsafe_unretained"
     ∷ "@autoreleasepool" ∷ "@optional" ∷ "@property" ∷ "@protocol" ∷ "@required" ∷ "@selector" ∷ "@synthesize" ∷ [])

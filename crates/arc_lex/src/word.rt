@@ -30,6 +30,7 @@ pub enum Word {
     Void,
     While,
     Strong,
+    Weak,
 }
 
 /// A word after `@` that this project uses.
@@ -45,7 +46,7 @@ pub enum AtWord {
 }
 
 /// The reserved words.
-pub const WORDS: [Word; 24] = [
+pub const WORDS: [Word; 25] = [
     Word::Bool,
     Word::No,
     Word::NsInteger,
@@ -70,6 +71,7 @@ pub const WORDS: [Word; 24] = [
     Word::Void,
     Word::While,
     Word::Strong,
+    Word::Weak,
 ];
 
 /// The words after `@`, the longest first.
@@ -84,7 +86,7 @@ pub const AT_WORDS: [AtWord; 7] = [
 ];
 
 /// How the words and marks that this project doesn't use are written.
-const UNUSED: [&str; 32] = [
+const UNUSED: [&str; 31] = [
     "auto",
     "case",
     "default",
@@ -107,7 +109,6 @@ const UNUSED: [&str; 32] = [
     "volatile",
     ".",
     "NULL",
-    "__weak",
     "__autoreleasing",
     "__unsafe_unretained",
     "@autoreleasepool",
@@ -148,6 +149,7 @@ fn word_text(word: Word) -> &'static str
         Word::Void => "void",
         Word::While => "while",
         Word::Strong => "__strong",
+        Word::Weak => "__weak",
     }
 }
 
@@ -237,7 +239,7 @@ pub(crate) fn word_of(name: &[u8]) -> Option<Word>
         [b's', ..] => first_word(&[Word::SelfWord, Word::Static, Word::Super], name),
         [b'v', ..] => first_word(&[Word::Void], name),
         [b'w', ..] => first_word(&[Word::While], name),
-        [b'_', ..] => first_word(&[Word::Strong], name),
+        [b'_', ..] => first_word(&[Word::Strong, Word::Weak], name),
         _ => None,
     }
 }
@@ -279,7 +281,7 @@ pub(crate) fn is_unused(name: &[u8]) -> bool
         [b't', ..] => is_one(&["typedef"], name),
         [b'u', ..] => is_one(&["union", "unsigned"], name),
         [b'v', ..] => is_one(&["volatile"], name),
-        [b'_', ..] => is_one(&["__weak", "__autoreleasing", "__unsafe_unretained"], name),
+        [b'_', ..] => is_one(&["__autoreleasing", "__unsafe_unretained"], name),
         [b'@' | b'.', ..] => is_one(&UNUSED, name),
         _ => false,
     }

@@ -16,7 +16,7 @@ use arc_lex::word::Word;
 pub fn begins_qualifier(reader: &Reader) -> bool
     ensures { result ≡ sees grammar.begins_qualifier (toks reader.now.rest.now) }
 {
-    reader.sees_word(Word::Strong)
+    reader.sees_word(Word::Strong) || reader.sees_word(Word::Weak)
 }
 
 /// A qualifier.
@@ -25,6 +25,10 @@ fn qualifier(reader: &mut Reader) -> Read<Qual>
     ensures gives { Gives (λ x. x) result (toks reader.new.rest.now) (reads grammar.qualifier (toks reader.old.rest.now)) }
     ensures shorter { IfOk result (λ _. length reader.new.rest.now < length reader.old.rest.now) }
 {
+    if reader.sees_word(Word::Weak) {
+        reader.keyword(Word::Weak)?;
+        return Ok(Qual::Weak);
+    }
     reader.keyword(Word::Strong)?;
     Ok(Qual::Strong)
 }

@@ -19,6 +19,7 @@ use Rattle.arc_ast.specs.declared.tree.OperatorSort.TheVariants.{Equality, Logic
 use Rattle.arc_ast.specs.declared.tree.Kind.{Kind}
 use Rattle.arc_ast.specs.declared.tree.Kind.TheVariants as k
 use Rattle.arc_ast.specs.declared.tree.Qual.{Qual}
+use Rattle.arc_ast.specs.declared.tree.Qual.TheVariants as quals
 use Rattle.arc_ast.specs.declared.tree.Sign.{Sign}
 use Rattle.arc_ast.specs.declared.tree.Sign.TheVariants as signs
 use Rattle.arc_ast.specs.Tree as tree
@@ -26,7 +27,7 @@ use Rattle.arc_ast.specs.Tree.{TypeTree, GlobalTree, ExprTree, ExprTrees, Intege
 use Rattle.arc_spec.specs.Classes.{gives_of}
 use Rattle.arc_spec.specs.declared.location.Location.TheVariants.{Local}
 use Rattle.arc_spec.specs.Number as number
-use Rattle.arc_spec.specs.Resolved.{Value, Reference, Number, ReadByte, Print, Applied, Combined, Choice, Converted, Read, Assigned, Updated, Invoked, Sent, Field, FieldAssigned, FieldUpdated, Differ, IsObject, Nil, Itself, Variable, Chosen, Stored, ObjectField, ObjectFieldStored, Made, New, ObjectInvoked, ObjectSent, Receiver, ClassValue, ClassSuper, ObjectValue, ObjectSuper, Arguments, no_arguments, number_argument, object_argument, Command, Sequence, Evaluate, EvaluateReference, Begin, Return, Give, Choose, Repeat, Break, Continue, Commands, no_commands, and_command, Function, Program}
+use Rattle.arc_spec.specs.Resolved.{Value, Reference, Number, ReadByte, Print, Applied, Combined, Choice, Converted, Read, Assigned, Updated, Invoked, Sent, Field, FieldAssigned, FieldUpdated, Differ, IsObject, Nil, Itself, Variable, Chosen, Stored, ObjectField, ObjectFieldStored, WeakField, WeakFieldStored, Made, New, ObjectInvoked, ObjectSent, Receiver, ClassValue, ClassSuper, ObjectValue, ObjectSuper, Arguments, no_arguments, number_argument, object_argument, Command, Sequence, Evaluate, EvaluateReference, Begin, Return, Give, Choose, Repeat, Break, Continue, Commands, no_commands, and_command, Function, Program}
 use Rattle.arc_sites.specs.Sites.{named_parameters}
 use Rattle.arc_class.specs.Functions.{same_kind}
 use Rattle.arc_class.specs.Running.{classes}
@@ -151,6 +152,7 @@ read_field r f = read f.qual
   where
     read : (sort : Option Qual) → Resolution
     read None = Gives f.kind (Field r (number_of_class f.owner) f.index)
+    read (Some quals.Weak) = Refers (WeakField r (number_of_class f.owner) f.index)
     read (Some held) = Refers (ObjectField r (number_of_class f.owner) f.index)
 
 abbrev pub store_field : Reference → FoundField → Resolution → Resolution
@@ -158,6 +160,7 @@ store_field r f a = store f.qual
   where
     store : (sort : Option Qual) → Resolution
     store None = Gives f.kind (FieldAssigned r (number_of_class f.owner) f.index (converted f.kind a))
+    store (Some quals.Weak) = Refers (WeakFieldStored r (number_of_class f.owner) f.index (object_in a))
     store (Some held) = Refers (ObjectFieldStored r (number_of_class f.owner) f.index (object_in a))
 
 -- the same of a field that may be there

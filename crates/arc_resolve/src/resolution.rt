@@ -12,7 +12,7 @@ ghost use Rattle.arc_resolve.specs.Resolving as resolving;
 ghost use Rattle.arc_scope.specs.Views.{local_of};
 
 use arc_ast::tree::{
-    BinaryOperator, Expr, Kind, Moment, OperatorSort, Sign, UnaryOperator, operator_sort,
+    BinaryOperator, Expr, Kind, Moment, OperatorSort, Qual, Sign, UnaryOperator, operator_sort,
 };
 use arc_checked::program::{Argument, Receiver, Reference, Value};
 use arc_class::table::{ClassId, FoundField, Sel};
@@ -450,6 +450,7 @@ fn read_field(alloc: Global, object: Reference, field: FoundField) -> Result<Res
     let (owner, index) = (field.owner.0, field.index);
     Ok(match field.qual {
         None => Resolution::Gives(field.kind, Value::Field(object, owner, index)),
+        Some(Qual::Weak) => Resolution::Refers(Reference::WeakField(object, owner, index)),
         Some(_) => Resolution::Refers(Reference::ObjectField(object, owner, index)),
     })
 }
@@ -488,6 +489,10 @@ fn store_field(
             let value = converted_part(alloc, field.kind, of)?;
             let value = Value::FieldAssigned(object, owner, index, value);
             Ok(Resolution::Gives(field.kind, value))
+        }
+        Some(Qual::Weak) => {
+            let stored = object_part(alloc, of)?;
+            Ok(Resolution::Refers(Reference::WeakFieldStored(object, owner, index, stored)))
         }
         Some(_) => {
             let stored = object_part(alloc, of)?;

@@ -17,7 +17,7 @@ use Rattle.arc_spec.specs.declared.class.Gives.TheVariants as gives
 use Rattle.arc_spec.specs.Classes.{Class, superclasses, ancestry, own_dealloc, lookup, same_gives, new_selector, init_selector, is_root_init, descends, class_at, field_counts, field_order}
 use Rattle.arc_spec.specs.Number.{converted, applied, combined, low_byte, is_zero}
 use Rattle.arc_spec.specs.Objects.{Object, Phase, Dying, Emptying, Gone, object_at, with_object, in_phase, is_live, is_emptying, new_object, names}
-use Rattle.arc_spec.specs.Resolved.{Piece, Bytes, Decimal, Character, Value, Number, ReadByte, Print, Applied, Combined, Choice, Converted, Location, Local, Global, Read, Assigned, Updated, Invoked, Sent, Receiver, ClassValue, ClassSuper, ObjectValue, ObjectSuper, Field, FieldAssigned, FieldUpdated, Differ, IsObject, Reference, Nil, Itself, Variable, Chosen, Stored, ObjectField, ObjectFieldStored, Made, New, ObjectInvoked, ObjectSent, Arguments, no_arguments, number_argument, object_argument, Command, Sequence, Evaluate, EvaluateReference, Begin, Return, Give, Choose, Repeat, Break, Continue, Commands, no_commands, and_command, Function, Program}
+use Rattle.arc_spec.specs.Resolved.{Piece, Bytes, Decimal, Character, Value, Number, ReadByte, Print, Applied, Combined, Choice, Converted, Location, Local, Global, Read, Assigned, Updated, Invoked, Sent, Receiver, ClassValue, ClassSuper, ObjectValue, ObjectSuper, Field, FieldAssigned, FieldUpdated, Differ, IsObject, Reference, Nil, Itself, Variable, Chosen, Stored, ObjectField, ObjectFieldStored, WeakField, WeakFieldStored, Made, New, ObjectInvoked, ObjectSent, Arguments, no_arguments, number_argument, object_argument, Command, Sequence, Evaluate, EvaluateReference, Begin, Return, Give, Choose, Repeat, Break, Continue, Commands, no_commands, and_command, Function, Program}
 use Rattle.arc_spec.specs.World.{World, Outcome, Done, Faulted, Cut, then_do, Finished, finished, shows, prints, places, first_world, Given, nothing_given, Answer, entered, left, takes, named_at, stores, local_at, name_at, next_number, has_read}
 
 -- what a format writes of these values, of which each number takes the next (C99, section 7.19.6.1)
@@ -217,6 +217,21 @@ field_assigned D r index value w o = if is_emptying o.phase then Faulted Resurre
 abbrev pub object_field_set : Deeper → (r class index value : ℕ) → World → Outcome Finished
 object_field_set D r class index value w = in_object D class (object_at w.objects r) (field_assigned D r index value w) w
 
+-- what a weak field names that named this object: nil, once its dealloc has begun (ARC, "Ownership qualification")
+abbrev pub live_name : List Object → ℕ → ℕ
+live_name objects n = if is_live (object_at objects n) then n else 0
+
+-- a weak field is read, and a temporary takes what it names
+abbrev pub weak_field_read : Deeper → (r class index : ℕ) → World → Outcome ℕ
+weak_field_read D r class index w =
+    in_object D class (object_at w.objects r) (λ o. let n = live_name w.objects (name_at o.weak index) in Done n (takes n w)) w
+
+-- A weak field names another object, which it doesn't hold. Where the fields of its object are being destroyed this is a fault, as of other fields that name objects.
+abbrev pub weak_field_set : Deeper → (r class index value : ℕ) → World → Outcome Finished
+weak_field_set D r class index value w =
+    in_object D class (object_at w.objects r) (λ o. if is_emptying o.phase then Faulted Resurrected w
+    else Done finished (record w { objects = with_object w.objects r (record o { weak = slice_set o.weak index value }) })) w
+
 -- 1 where the two differ
 abbrev pub difference : ℕ → ℕ → ℤ
 difference a b = if nat_eq a b then pos 0 else pos 1
@@ -268,6 +283,10 @@ abbrev mutual
   referred D (ObjectFieldStored a class index b) w =
       then_do (referred D a w) (λ r w1. then_do (referred D b w1) (λ value w2.
       then_do (object_field_set D r class index value w2) (λ _ w3. Done value (takes value w3))))
+  referred D (WeakField a class index) w = then_do (referred D a w) (λ r w1. weak_field_read D r class index w1)
+  referred D (WeakFieldStored a class index b) w =
+      then_do (referred D a w) (λ r w1. then_do (referred D b w1) (λ value w2.
+      then_do (weak_field_set D r class index value w2) (λ _ w3. Done value (takes value w3))))
   referred D (Made a) w = then_do (evaluated D a w) (λ class w1. made D (class_at class) w1)
   referred D (New from a) w = then_do (evaluated D a w) (λ class w1. new_sent D from class w1)
   referred D (ObjectInvoked f arguments) w = then_do (all_evaluated D arguments w) (λ given w1. object_given (D.call gives.Object f 0 given w1))

@@ -10,11 +10,12 @@ pub data Phase : Type 0 where
   Emptying : Phase
   Gone : Phase
 
--- an object: its class, the numbers that its fields hold, what its fields name that name objects, and how far it is on its way
+-- an object: its class, the numbers that its fields hold, what its fields name that hold objects, what its weak fields name, and how far it is on its way
 pub record Object : Type 0 where
   pub class : ℕ
   pub fields : List ℤ
   pub strong : List ℕ
+  pub weak : List ℕ
   pub phase : Phase
 
 -- The object of a number: objects are counted from 1, in the order of their making, and no number is used twice; 0 stands for nil (this project's own choice).
@@ -67,7 +68,7 @@ nils n = replicate n 0
 
 -- an object of a class as it is made, with so many fields of each sort: all of them are 0 or nil (OPL, "Allocating and Initializing Objects")
 abbrev pub new_object : (class : ℕ) → SortCounts → Object
-new_object class counts = record { class = class; fields = zeros counts.numbers; strong = nils counts.objects; phase = Live }
+new_object class counts = record { class = class; fields = zeros counts.numbers; strong = nils counts.objects; weak = nils counts.weak; phase = Live }
 
 -- what the fields of an object name that isn't gone; those of one that is gone are no places any more
 abbrev pub fields_of : Object → List ℕ

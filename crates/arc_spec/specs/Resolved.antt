@@ -38,8 +38,8 @@ mutual
     Differ : Reference → Reference → Value
     IsObject : Reference → Value
 
-  -- An expression that gives an object or nil: `nil`, `self`, a variable, an assignment to one, a field, an assignment to one, `alloc` of a class, `new` of a class, a call
-  -- and a message. A variable goes by its number among those that name objects, of its function or of the program. `new` has the class from which its method is looked up,
+  -- An expression that gives an object or nil: `nil`, `self`, a variable, an assignment to one, a field, an assignment to one, the same of a weak field, which is numbered among
+  -- those of its sort, `alloc` of a class, `new` of a class, a call and a message. A variable goes by its number among those that name objects, of its function or of the program. `new` has the class from which its method is looked up,
   -- where that isn't the class that gets it but one above, as for `super`.
   pub data Reference : Type 0 where
     Nil : Reference
@@ -49,6 +49,8 @@ mutual
     Stored : Location → Reference → Reference
     ObjectField : Reference → (class index : ℕ) → Reference
     ObjectFieldStored : Reference → (class index : ℕ) → Reference → Reference
+    WeakField : Reference → (class index : ℕ) → Reference
+    WeakFieldStored : Reference → (class index : ℕ) → Reference → Reference
     Made : Value → Reference
     New : (from : Option ℕ) → Value → Reference
     ObjectInvoked : ℕ → Arguments → Reference

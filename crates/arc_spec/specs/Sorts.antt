@@ -1,5 +1,5 @@
 -- The sort of what is declared, which is how it holds an object, if it names one; and how many fields, variables or parameters there are that hold objects strongly
--- (`objects`), and how many others (`numbers`). Each of the two is numbered from 0 (this project's own choice).
+-- (`objects`), how many name them without holding them (`weak`), and how many others (`numbers`). Each of the three is numbered from 0 (this project's own choice).
 use Rattle.std.specs.Prelude.{ℕ, suc, ◌+◌, List, map, fold, Option, Some, None}
 use Rattle.arc_ast.specs.declared.tree.Kind.{Kind}
 use Rattle.arc_ast.specs.declared.tree.Kind.TheVariants as k
@@ -25,16 +25,18 @@ abbrev pub held_by : Kind → Option Qual
 held_by = sort_of qualifiers.Unqualified
 
 abbrev pub none_counted : SortCounts
-none_counted = record { numbers = 0; objects = 0 }
+none_counted = record { numbers = 0; objects = 0; weak = 0 }
 
 -- the number that the next one of a sort gets, after so many
 abbrev pub next_of : (sort : Option Qual) → SortCounts → ℕ
 next_of (Some quals.Strong) c = c.objects
+next_of (Some quals.Weak) c = c.weak
 next_of _ c = c.numbers
 
 -- one more of a sort
 abbrev pub with_one : (sort : Option Qual) → SortCounts → SortCounts
 with_one (Some quals.Strong) c = record c { objects = suc c.objects }
+with_one (Some quals.Weak) c = record c { weak = suc c.weak }
 with_one _ c = record c { numbers = suc c.numbers }
 
 -- more of these sorts
@@ -50,4 +52,4 @@ counts_of_kinds kinds = counts (map held_by kinds)
 
 -- how many there are together
 abbrev pub total : SortCounts → ℕ
-total c = c.numbers + c.objects
+total c = c.numbers + (c.objects + c.weak)

@@ -1,5 +1,5 @@
 //! The sort of what is declared, which is how it holds an object, if it names one; and how many fields, variables or
-//! parameters there are that hold objects strongly, and how many others.
+//! parameters there are that hold objects strongly, that name them without holding them, and how many others.
 ghost use Rattle.std.specs.Prelude.{◌≡◌, ◌<◌, ◌≤◌, ◌-◌, ◌^◌, nat_lt, MatchOption};
 ghost use Rattle.arc_spec.specs.Sorts as sorts;
 
@@ -32,11 +32,13 @@ pub fn held_by(kind: Kind) -> Option<Qual>
     sort_of(Qualifiers::Unqualified, kind)
 }
 
-/// How many there are that hold objects strongly (`objects`), and how many others. Each of the two is numbered from 0.
+/// How many there are that hold objects strongly (`objects`), that name them without holding them (`weak`), and how
+/// many others. Each of the three is numbered from 0.
 #[derive(Clone, Copy)]
 pub struct SortCounts {
     pub numbers: usize,
     pub objects: usize,
+    pub weak: usize,
 }
 
 impl SortCounts {
@@ -46,6 +48,7 @@ impl SortCounts {
         SortCounts {
             numbers: 0,
             objects: 0,
+            weak: 0,
         }
     }
 
@@ -55,7 +58,8 @@ impl SortCounts {
     {
         match sort {
             Some(Qual::Strong) => self.objects,
-            Some(Qual::Weak | Qual::Autoreleasing) | None => self.numbers,
+            Some(Qual::Weak) => self.weak,
+            Some(Qual::Autoreleasing) | None => self.numbers,
         }
     }
 
@@ -69,7 +73,11 @@ impl SortCounts {
                 objects: self.objects + 1,
                 ..self
             },
-            Some(Qual::Weak | Qual::Autoreleasing) | None => SortCounts {
+            Some(Qual::Weak) => SortCounts {
+                weak: self.weak + 1,
+                ..self
+            },
+            Some(Qual::Autoreleasing) | None => SortCounts {
                 numbers: self.numbers + 1,
                 ..self
             },
@@ -92,13 +100,17 @@ impl SortCounts {
         ensures few { result ≤ sorts.total self }
         ensures all { result < 2 ^ 64 - 1 → result ≡ sorts.total self }
     {
-        self.numbers.saturating_add(self.objects)
+        self.numbers.saturating_add(self.objects.saturating_add(self.weak))
     }
 
-    /// Whether there are more than `most`, numbers and objects together.
+    /// Whether there are more than `most`, of all sorts together.
     pub fn is_above(self, most: usize) -> bool
         ensures { result ≡ nat_lt most (sorts.total self) }
     {
-        self.numbers > most || self.objects > most - self.numbers
+        if self.numbers > most {
+            return true;
+        }
+        let others = most - self.numbers;
+        self.objects > others || self.weak > others - self.objects
     }
 }
