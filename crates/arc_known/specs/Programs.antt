@@ -219,6 +219,26 @@ turns_and_temporaries = codes "@interface A : NSObject @end\n"
 abbrev pub turns_and_temporaries_show : List Event
 turns_and_temporaries_show = printed (codes "1") ++ Dealloc 1 1 ∷ printed (codes "d2") ++ Dealloc 2 1 ∷ printed (codes "d") ++ Dealloc 4 1 ∷ printed (codes "d") ++ Dealloc 3 1 ∷ printed (codes "dx")
 
+-- A weak field names an object without holding it, and is nil as soon as the dealloc of that object has begun (ARC, "Ownership qualification"). The object 1 is held by b
+-- alone, 2 by the variable of the program, and 3 by a temporary.
+abbrev pub weak_fields : List ℕ
+weak_fields = codes "@interface A : NSObject { @public int v; __weak A *w; A *s; __weak id u; } @end\n"
+    ++ codes "A *g;\n"
+    ++ codes "@implementation A - (void)dealloc { printf(\"d%d\", g->u == nil); } @end\n"
+    ++ codes "int main(void) {\n"
+    ++ codes "    A *b = [A new]; b->v = 7;\n"
+    ++ codes "    g = [A new];\n"
+    ++ codes "    g->u = b; g->w = g;\n"
+    ++ codes "    printf(\"%d\", (g->u == b) + g->w->v);\n"
+    ++ codes "    b = nil;\n"
+    ++ codes "    printf(\"%d\", g->u == nil);\n"
+    ++ codes "    g->u = [A new];\n"
+    ++ codes "    printf(\"%d%d\", g->u == nil, g->w == g);\n"
+    ++ codes "}\n"
+
+abbrev pub weak_fields_show : List Event
+weak_fields_show = printed (codes "1") ++ Dealloc 1 1 ∷ printed (codes "d11") ++ Dealloc 3 1 ∷ printed (codes "d111")
+
 -- ---- methods of init and of new
 
 -- An init method takes what `super` gives it for `self` (ARC, "Semantics of init"). One that gives nil lets go of the object, which ends with the message's full-expression,

@@ -39,6 +39,7 @@ pub fn ends_of_objects()
     ensures ends { HasTrace program.ends [] 0 program.ends_show (Ends (pos 0)) }
     ensures early_return { HasTrace program.early_return [] 0 program.early_return_shows (Ends (pos 2)) }
     ensures kept_alive { HasTrace program.kept_alive [] 0 program.kept_alive_shows (Ends (pos 0)) }
+    ensures weak_fields { HasTrace program.weak_fields [] 0 program.weak_fields_show (Ends (pos 0)) }
     ensures turns_and_temporaries { HasTrace program.turns_and_temporaries [] 2 program.turns_and_temporaries_show (Ends (pos 0)) }
 {}
 

@@ -19,3 +19,7 @@ returns-clause-kept_alive c = known program.kept_alive [] 0 program.kept_alive_s
 pub returns-clause-turns_and_temporaries : goal.returns-clause-turns_and_temporaries
 unfolding reading
 returns-clause-turns_and_temporaries c = known program.turns_and_temporaries [] 2 program.turns_and_temporaries_show (Ends (pos 0)) refl refl
+
+pub returns-clause-weak_fields : goal.returns-clause-weak_fields
+unfolding reading
+returns-clause-weak_fields c = known program.weak_fields [] 0 program.weak_fields_show (Ends (pos 0)) refl refl
