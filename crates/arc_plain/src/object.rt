@@ -11,7 +11,7 @@ use crate::context::Context;
 use crate::halt::Halt;
 use crate::place::{is_named, name_at, replace, take};
 use crate::progress::Progress;
-use arc_spec::class::{Class, descends_from, field_counts};
+use arc_spec::class::{descends_from, field_counts};
 use arc_spec::event::{Event, Fault, NoMemory};
 use arc_spec::sort_counts::SortCounts;
 use std::alloc::Global;
