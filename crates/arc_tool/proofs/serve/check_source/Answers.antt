@@ -23,6 +23,3 @@ pub returns-in_err-print-clause-passed_on : goal.returns-in_err-print-clause-pas
 returns-in_err-print-clause-passed_on g c =
     let p = err_from_is_err_and c.from_residual-in_err-print.result c.from_residual-in_err-print.ensures.1 in
     rw (p.1, p.2) (output_failed _ _ c.in_err-print.field-0.0 c.in_err-print.ensures.prints.0)
-
-pub returns-clause-passed_on : goal.returns-clause-passed_on
-returns-clause-passed_on g c = c.in_ok-print.ensures.passed_on
