@@ -8,3 +8,4 @@ pub mod Rows
 pub mod Spans
 pub mod Standing
 pub mod Words
+pub mod Starts

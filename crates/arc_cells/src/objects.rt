@@ -398,6 +398,22 @@ impl<S: Store + Drop> Objects<S> {
         self.variables = waiter.variables;
     }
 
+    /// The same, where it is rare that the function has variables, which is asked first.
+    #[inline(always)]
+    pub fn leave_bare(&mut self, waiter: Waiter)
+        requires waits { 0 < length self.old.frames }
+        requires places { self.old.variables ≤ length self.old.places }
+        ensures { self.new ≡ resuming (undeclaring self.old) waiter }
+    {
+        let _ = self.frames.pop();
+        if self.variables > 0 {
+            self.places.forget(self.variables);
+        }
+        self.receiver = waiter.receiver;
+        self.temporaries = waiter.temporaries;
+        self.variables = waiter.variables;
+    }
+
     /// The running function is left with an object: its variables are gone but for the last one, its result. That is a
     /// temporary of what waited for it, which runs on, and the last reference names it.
     #[inline(always)]

@@ -8,6 +8,7 @@ pub mod machine;
 mod number_loop;
 mod passing;
 mod sequences;
+mod starting;
 pub mod stop;
 mod walk;
 mod whole_loop;
