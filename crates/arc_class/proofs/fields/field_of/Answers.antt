@@ -16,4 +16,4 @@ returns-in-Some-owner c =
     let name = c.args.name.now in
     c.own_field.ensures
     ∙ field_reported classes c.args.owners.now c.requires name c.in-Some.number (sym c.knows.ensures ∙ c.if-not-knows.false) (Some c.in-Some-owner.owner) (sym c.in-Some-owner.is ∙ c.owner.ensures)
-    ∙ ap (λ class. field_among classes class name) (sym c.in-Some.is)
+    ∙ ap (λ number. field_among classes number name) (sym c.in-Some.is)

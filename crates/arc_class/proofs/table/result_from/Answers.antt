@@ -44,4 +44,4 @@ returns-in-Some-own_result c =
     slice_get_read all (length all) number known refl (ltb-true _ _ (sym c.in-Some-get.ensures.lookup.0)) c.in-Some-get.ensures.lookup.1 in
     own_first (own_given_in names number (Some known) sign name) c.in-Some-own_result.given _ _ (sym c.own_result.ensures ∙ c.in-Some-own_result.is)
     (c.loop-passed.invariant ∙ ap (λ n. first_that_has own (ancestry_within (length all - passed) (map superclass_of_entry all) n)) c.in-Some.is
-    ∙ ap (first_that_has own) (in_row superclass_of_entry all passed number known c.loop-passed-test.true there) ∙ ap (λ o. option_or (own_given_in names number o sign name) further) there)
+    ∙ ap (first_that_has own) (in_row superclass_of_entry all passed number known c.loop-passed-test.true there) ∙ ap (λ entry. option_or (own_given_in names number entry sign name) further) there)
