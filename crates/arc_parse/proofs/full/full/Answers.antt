@@ -17,3 +17,9 @@ returns-else-taken-gt-MOST_TOKENS-clause-gives c = then_fits _ _ c.expr.new.read
 
 pub returns-else-taken-gt-MOST_TOKENS-clause-shorter : goal.returns-else-taken-gt-MOST_TOKENS-clause-shorter
 returns-else-taken-gt-MOST_TOKENS-clause-shorter c = grind (arith, common_steps)
+
+pub refuse-requires-clause-first : goal.refuse-requires-clause-first
+refuse-requires-clause-first c = c.front-ahead.ensures.first
+
+pub refuse-requires-in-Err-TooDeep-clause-first : goal.refuse-requires-in-Err-TooDeep-clause-first
+refuse-requires-in-Err-TooDeep-clause-first c = c.front-ahead.ensures.first
