@@ -1,7 +1,8 @@
 use Rattle.arc_form.proofs.Joining.{all_push}
 use Rattle.arc_parse.proofs.Given.{read_cast_or_product, read_last_part, read_sent, read_arguments, read_parenthesized, read_given}
+use Rattle.arc_parse.proofs.Fix.{read_binary, read_condition, read_expr, read_past}
 use Rattle.arc_parse.proofs.Fewer.{as_before}
-use Rattle.std.proofs.Common.{rules, Ok, arith}
+use Rattle.std.proofs.Common.{rules, Ok, arith, length, refl, ap}
 use Rattle.std.proofs.lemmas.Result.{err_from_is_err_and, IfOk-weaker}
 use Rattle.arc_lex.specs.Tokens.{toks}
 use Rattle.arc_ast.specs.Tree.{expr_tree}
@@ -187,6 +188,75 @@ prefixed-returns-in_err-at-clause-gives t c = grind (arith, read_unary)
 
 pub prefixed-returns-else-sees_mark-clause-gives : goal.prefixed-returns-else-sees_mark-clause-gives
 prefixed-returns-else-sees_mark-clause-gives t c = grind (arith, read_unary)
+
+pub sent-returns-in_err-expect-clause-gives : goal.sent-returns-in_err-expect-clause-gives
+sent-returns-in_err-expect-clause-gives t c = grind (arith, read_sent)
+
+pub sent-returns-clause-gives : goal.sent-returns-clause-gives
+sent-returns-clause-gives t c = grind (arith, read_sent)
+
+pub sent-returns-in_err-at-clause-gives : goal.sent-returns-in_err-at-clause-gives
+sent-returns-in_err-at-clause-gives t c = grind (arith, read_sent)
+
+pub prefixed-returns-in_err-operand-2-clause-gives : goal.prefixed-returns-in_err-operand-2-clause-gives
+prefixed-returns-in_err-operand-2-clause-gives t c = grind (arith, read_unary)
+
+pub parenthesized-returns-then-sees_name_and-clause-gives : goal.parenthesized-returns-then-sees_name_and-clause-gives
+parenthesized-returns-then-sees_name_and-clause-gives t c = grind (arith, read_parenthesized)
+
+pub parenthesized-returns-in_err-written-clause-gives : goal.parenthesized-returns-in_err-written-clause-gives
+parenthesized-returns-in_err-written-clause-gives t c = grind (arith, read_parenthesized)
+
+pub parenthesized-returns-in_err-at-clause-gives : goal.parenthesized-returns-in_err-at-clause-gives
+parenthesized-returns-in_err-at-clause-gives t c = grind (arith, read_parenthesized)
+
+pub parts-returns-in_err-expect-clause-gives : goal.parts-returns-in_err-expect-clause-gives
+parts-returns-in_err-expect-clause-gives t c = grind (arith, read_last_part, all_push)
+
+pub up_to-returns-in-None-clause-gives : goal.up_to-returns-in-None-clause-gives
+up_to-returns-in-None-clause-gives t c = grind (arith, read_past)
+
+pub binary-returns-clause-gives : goal.binary-returns-clause-gives
+binary-returns-clause-gives t c = grind (arith, read_binary)
+
+pub binary-returns-in_err-left-clause-gives : goal.binary-returns-in_err-left-clause-gives
+binary-returns-in_err-left-clause-gives t c = grind (arith, read_binary)
+
+pub expr-returns-clause-gives : goal.expr-returns-clause-gives
+expr-returns-clause-gives t c = grind (arith, read_expr)
+
+pub expr-returns-in_err-left-clause-gives : goal.expr-returns-in_err-left-clause-gives
+expr-returns-in_err-left-clause-gives t c = grind (arith, read_expr)
+
+pub condition-returns-clause-gives : goal.condition-returns-clause-gives
+condition-returns-clause-gives t c = grind (arith, read_condition)
+
+pub condition-returns-in_err-left-clause-gives : goal.condition-returns-in_err-left-clause-gives
+condition-returns-in_err-left-clause-gives t c = grind (arith, read_condition)
+
+pub cast_or_product-returns-in_err-name_at-clause-gives : goal.cast_or_product-returns-in_err-name_at-clause-gives
+cast_or_product-returns-in_err-name_at-clause-gives t c = grind (arith, read_cast_or_product)
+
+pub arguments-returns-in_err-next-clause-gives : goal.arguments-returns-in_err-next-clause-gives
+arguments-returns-in_err-next-clause-gives t c = grind (arith, read_arguments, all_push)
+
+pub message-returns-clause-shorter : goal.message-returns-clause-shorter
+message-returns-clause-shorter t c = as_before c.boxed-2.result _ (omega (arith, c.in_ok-at.ensures.shorter, ap length (c.in_default.ensures.kept refl), c.in_ok-object.ensures.shorter, c.in_ok-part-2.ensures.shorter))
+
+pub prefixed-returns-then-begins_counting-clause-shorter : goal.prefixed-returns-then-begins_counting-clause-shorter
+prefixed-returns-then-begins_counting-clause-shorter t c = as_before c.by_one.result _ (omega (arith, c.in_ok-operator.ensures.shorter, c.in_ok-operand-2.ensures.shorter))
+
+pub arguments-returns-clause-shorter : goal.arguments-returns-clause-shorter
+arguments-returns-clause-shorter t c = omega (arith, c.in_ok-next.ensures.shorter, ap length (c.in_default.ensures.kept refl), c.in_ok-expect.ensures.shorter)
+
+pub given-returns-clause-shorter : goal.given-returns-clause-shorter
+given-returns-clause-shorter t c = omega (arith, ap length (c.in_default.ensures.kept refl), c.in_ok-arguments.ensures.shorter)
+
+pub operation-returns-clause-shorter : goal.operation-returns-clause-shorter
+operation-returns-clause-shorter t c = as_before c.boxed-2.result _ (omega (arith, c.in_ok-sign-2.ensures.shorter, c.in_ok-right-2.ensures.shorter))
+
+pub continued-returns-clause-shorter : goal.continued-returns-clause-shorter
+continued-returns-clause-shorter t c = as_before c.boxed.result _ (omega (arith, c.in_ok-test.ensures.shorter, c.in-Some.ensures.shorter, c.in_ok-first.ensures.shorter, c.in_ok-expect.ensures.shorter, c.in_ok-second.ensures.shorter))
 
 pub given-returns-in-Some-clause-gives : goal.given-returns-in-Some-clause-gives
 given-returns-in-Some-clause-gives t c = grind (arith, read_given)

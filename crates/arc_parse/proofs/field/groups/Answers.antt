@@ -8,5 +8,8 @@ groups-preserved c = grind (arith, read_groups_on, groups_start)
 pub returns-in_err-visibility-clause-gives : goal.returns-in_err-visibility-clause-gives
 returns-in_err-visibility-clause-gives c = grind (arith, read_groups_on, groups_start)
 
+pub groups-init : goal.groups-init
+groups-init c = grind (arith, read_groups_on, groups_start)
+
 pub returns-clause-gives : goal.returns-clause-gives
 returns-clause-gives c = grind (arith, read_groups_on, groups_start)

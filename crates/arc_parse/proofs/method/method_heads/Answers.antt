@@ -13,6 +13,10 @@ pub heads-preserved : goal.heads-preserved
 unfolding grammar.method_heads
 heads-preserved c = grind (arith, next_heads, row_start, all_push, alls)
 
+pub returns-clause-gives : goal.returns-clause-gives
+unfolding grammar.method_heads
+returns-clause-gives c = grind (arith, next_heads, row_start, all_push, alls)
+
 pub returns-in_err-head-clause-gives : goal.returns-in_err-head-clause-gives
 unfolding grammar.method_heads
 returns-in_err-head-clause-gives c = grind (arith, next_heads, row_start, all_push, alls)

@@ -10,6 +10,10 @@ pub methods-preserved : goal.methods-preserved
 unfolding grammar.methods
 methods-preserved c = grind (arith, one_more, taking, row_start, all_push, alls)
 
+pub returns-clause-gives : goal.returns-clause-gives
+unfolding grammar.methods
+returns-clause-gives c = grind (arith, one_more, taking, row_start, all_push, alls)
+
 pub returns-in_err-method-clause-gives : goal.returns-in_err-method-clause-gives
 unfolding grammar.methods
 returns-in_err-method-clause-gives c = grind (arith, one_more, taking, row_start, all_push, alls)
