@@ -1,4 +1,6 @@
 use Rattle.std.proofs.Common.{◌≡◌, ◌+◌, ◌++◌, drop, refl, sym, ap, inl, inr, ◌∙◌}
+use Rattle.std.proofs.Common.{arith}
+use Rattle.std.proofs.lemmas.Grind.{common_steps}
 use Rattle.std.proofs.lemmas.Result.{on_ok_weaker}
 use Rattle.arc_ast.specs.Tree.{expr_tree, expr_trees}
 use Rattle.arc_sites.specs.Sites as sites
@@ -54,6 +56,9 @@ inside-returns-in-Call-clause-found g t c =
     ] in
     on_ok_weaker c.arguments-in-Call.result (λ e. e
     ∙ ap (found_from (g.V.Visitor.violations c.args.visitor.now) (g.V.Visitor.found c.args.visitor.now)) (sym all)) (rw c.deref-in-Call.ensures.value at c.arguments-in-Call.ensures.found)
+
+pub arguments-returns-clause-found : goal.arguments-returns-clause-found
+arguments-returns-clause-found g t c = grind (arith, common_steps)
 
 pub inside-returns-in_ok-expression-in-Send-clause-found : goal.inside-returns-in_ok-expression-in-Send-clause-found
 inside-returns-in_ok-expression-in-Send-clause-found g t c =

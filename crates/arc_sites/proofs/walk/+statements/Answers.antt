@@ -1,4 +1,6 @@
 use Rattle.std.proofs.Common.{◌≡◌, ◌+◌, ◌++◌, drop, option_map, refl, sym, ap, inl, inr, ◌∙◌}
+use Rattle.std.proofs.Common.{arith}
+use Rattle.std.proofs.lemmas.Grind.{common_steps}
 use Rattle.std.proofs.lemmas.Result.{on_ok_weaker}
 use Rattle.arc_ast.specs.Tree.{expr_tree, stmt_tree, stmt_trees}
 use Rattle.arc_sites.specs.Sites as sites
@@ -52,6 +54,9 @@ statements-loop-stmt-preserved g t c =
       turn (g.V.Visitor.violations c.args.visitor.now) _ (λ xs. all_sites m (stmt_trees xs)) (stmt_sites m (stmt_tree a)) (all_sites m (stmt_trees rest))
           c.args.all.now c.loop-stmt.stmt-index a _ _ _ refl c.loop-stmt.invariant.0 c.loop-stmt-test.true c.stmt-item.is c.in_ok-statement.ensures.found c.loop-stmt.invariant.1,
     )
+
+pub statements-returns-clause-found : goal.statements-returns-clause-found
+statements-returns-clause-found g t c = grind (arith, common_steps)
 
 pub within-returns-in-Block-clause-found : goal.within-returns-in-Block-clause-found
 within-returns-in-Block-clause-found g t c =
