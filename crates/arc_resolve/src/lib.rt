@@ -3,6 +3,7 @@
 
 mod classes;
 mod global;
+mod made;
 mod piece;
 mod program;
 mod resolution;

@@ -14,6 +14,7 @@ ghost use Rattle.arc_resolve.specs.Resolving.{resolved_variables, resolved_stmt,
 ghost use Rattle.arc_scope.specs.Scopes.{declare, leave, scope_after, scope_after_all, with_parameters, with_variables};
 ghost use Rattle.arc_scope.specs.Views.{known_in, seen};
 
+use crate::made::{boxed, keep};
 use crate::resolution::{Resolution, as_part, number_part};
 use crate::resolve::{expression, number_as, object};
 use arc_ast::tree::{
@@ -52,7 +53,7 @@ fn returned<'a>(
 fn put(alloc: Global, number: u16, value: Value) -> Result<Command, AllocError>
     ensures { IfOk result (λ new. checked.command new ≡ resolving.put number (checked.value value)) }
 {
-    let value = Box::new(alloc, value)?;
+    let value = boxed(alloc, value)?;
     Ok(Command::Evaluate(Value::Assigned(Location::Local(usize::from(number)), value)))
 }
 
@@ -211,7 +212,7 @@ fn test_or_one<'a>(
     ensures { IfOk result (λ new. checked.value new.value ≡ resolving.tested (seen table.now visible.now) (option_map expr_tree expr.now)) }
 {
     match expr {
-        None => Ok(Box::new(alloc, Value::Number(1))?),
+        None => boxed(alloc, Value::Number(1)),
         Some(expr) => test(alloc, table, visible, expr),
     }
 }
@@ -226,8 +227,8 @@ fn step_or_nothing<'a>(
     ensures { IfOk result (λ new. checked.command new.value ≡ resolving.stepped (seen table.now visible.now) (option_map expr_tree expr.now)) }
 {
     match expr {
-        None => Ok(Box::new(alloc, nothing(alloc))?),
-        Some(expr) => Ok(Box::new(alloc, evaluation(alloc, table, visible, expr)?)?),
+        None => boxed(alloc, nothing(alloc)),
+        Some(expr) => boxed(alloc, evaluation(alloc, table, visible, expr)?),
     }
 }
 
@@ -245,8 +246,9 @@ fn scoped<'a>(
 {
     let count = visible.bound.len();
     let new = command(alloc, table, visible, inner)?;
+    let new = boxed(alloc, new)?;
     visible.leave(count);
-    Ok(Box::new(alloc, new)?)
+    Ok(new)
 }
 
 /// A resolved block.
@@ -286,7 +288,7 @@ fn chosen_or_nothing<'a>(
 {
     let test = test(alloc, table, visible, condition)?;
     let then = scoped(alloc, table, visible, then)?;
-    let other = Box::new(alloc, nothing(alloc))?;
+    let other = boxed(alloc, nothing(alloc))?;
     Ok(Command::Choose(Box::into_inner(test), then, other))
 }
 
@@ -330,7 +332,7 @@ fn repeated<'a>(
 {
     let test = test(alloc, table, visible, condition)?;
     let body = scoped(alloc, table, visible, body)?;
-    let step = Box::new(alloc, nothing(alloc))?;
+    let step = boxed(alloc, nothing(alloc))?;
     Ok(Command::Repeat(moment, Box::into_inner(test), step, body))
 }
 
@@ -375,9 +377,9 @@ fn stepped<'a>(
     let count = visible.bound.len();
     let first = usize::from(visible.names);
     let mut all = Vec::new(alloc);
-    all.push(command(alloc, table, visible, beginning)?)?;
+    keep(&mut all, command(alloc, table, visible, beginning)?)?;
     let own = usize::from(visible.names).saturating_sub(first);
-    all.push(turns(alloc, table, visible, test, step, body)?)?;
+    keep(&mut all, turns(alloc, table, visible, test, step, body)?)?;
     visible.leave(count);
     Ok(Command::Sequence(first, own, all))
 }
@@ -431,7 +433,7 @@ fn commands<'a>(
 {
     let mut all = Vec::new(alloc);
     for statement in statements {
-        all.push(command(alloc, table, visible, statement)?)?;
+        keep(&mut all, command(alloc, table, visible, statement)?)?;
     }
     Ok(all)
 }
@@ -473,7 +475,7 @@ pub fn functions<'a>(
         if let Some(body) = &one.body {
             let named = named_parameters(&one.parameters);
             let visible = Visible::new(alloc, one.result.kind());
-            all.push(function(alloc, table, visible, named, body)?)?;
+            keep(&mut all, function(alloc, table, visible, named, body)?)?;
         }
     }
     Ok(all)
@@ -492,7 +494,10 @@ fn add_methods<'a>(
 {
     for one in methods {
         let visible = Visible::in_method(alloc, class, &one.head);
-        all.push(function(alloc, table, visible, &one.head.parameters, &one.body)?)?;
+        keep(
+            all,
+            function(alloc, table, visible, &one.head.parameters, &one.body)?,
+        )?;
     }
     Ok(())
 }

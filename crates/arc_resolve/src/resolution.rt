@@ -11,6 +11,7 @@ ghost use Rattle.arc_scope.specs.Kinds as kinds;
 ghost use Rattle.arc_resolve.specs.Resolving as resolving;
 ghost use Rattle.arc_scope.specs.Views.{local_of};
 
+use crate::made::boxed;
 use arc_ast::tree::{
     BinaryOperator, Expr, Kind, Moment, OperatorSort, Sign, UnaryOperator, operator_sort,
 };
@@ -55,8 +56,8 @@ pub fn as_part(alloc: Global, of: Resolution) -> Result<Part, AllocError>
     ensures { IfOk result (λ new. part_of new ≡ resolution of) }
 {
     match of {
-        Resolution::Gives(kind, value) => Ok(Part::Number(kind, Box::new(alloc, value)?)),
-        Resolution::Refers(object) => Ok(Part::Object(Box::new(alloc, object)?)),
+        Resolution::Gives(kind, value) => Ok(Part::Number(kind, boxed(alloc, value)?)),
+        Resolution::Refers(object) => Ok(Part::Object(boxed(alloc, object)?)),
     }
 }
 
@@ -77,7 +78,7 @@ pub fn number_part(alloc: Global, of: Part) -> Result<Box<Value>, AllocError>
 {
     match of {
         Part::Number(_, value) => Ok(value),
-        Part::Object(object) => Ok(Box::new(alloc, Value::IsObject(object))?),
+        Part::Object(object) => boxed(alloc, Value::IsObject(object)),
     }
 }
 
@@ -86,7 +87,7 @@ pub fn object_part(alloc: Global, of: Part) -> Result<Box<Reference>, AllocError
     ensures { IfOk result (λ new. checked.reference new.value ≡ resolving.object_in (part_of of)) }
 {
     match of {
-        Part::Number(_, _) => Ok(Box::new(alloc, Reference::Nil)?),
+        Part::Number(_, _) => boxed(alloc, Reference::Nil),
         Part::Object(object) => Ok(object),
     }
 }
@@ -120,7 +121,7 @@ fn number_in(alloc: Global, of: Resolution) -> Result<Value, AllocError>
     match of {
         Resolution::Gives(_, value) => Ok(value),
         Resolution::Refers(object) => {
-            let object = Box::new(alloc, object)?;
+            let object = boxed(alloc, object)?;
             Ok(Value::IsObject(object))
         }
     }
@@ -148,7 +149,7 @@ fn as_kind(alloc: Global, wanted: Kind, kind: Kind, value: Value) -> Result<Valu
         (Kind::Long, Kind::Bool | Kind::Int)
         | (Kind::Int, Kind::Bool | Kind::Long)
         | (Kind::Bool, Kind::Int | Kind::Long) => {
-            let value = Box::new(alloc, value)?;
+            let value = boxed(alloc, value)?;
             Ok(Value::Converted(wanted, value))
         }
         _ => Ok(value),
@@ -167,9 +168,7 @@ fn as_kind_part(
     match (wanted, kind) {
         (Kind::Long, Kind::Bool | Kind::Int)
         | (Kind::Int, Kind::Bool | Kind::Long)
-        | (Kind::Bool, Kind::Int | Kind::Long) => {
-            Ok(Box::new(alloc, Value::Converted(wanted, value))?)
-        }
+        | (Kind::Bool, Kind::Int | Kind::Long) => { boxed(alloc, Value::Converted(wanted, value)) }
         _ => Ok(value),
     }
 }
@@ -269,8 +268,8 @@ fn compared(alloc: Global, operator: BinaryOperator, differs: Value) -> Result<V
 {
     match operator {
         BinaryOperator::Equal => {
-            let differs = Box::new(alloc, differs)?;
-            let zero = Box::new(alloc, Value::Number(0))?;
+            let differs = boxed(alloc, differs)?;
+            let zero = boxed(alloc, Value::Number(0))?;
             Ok(Value::Combined(operator, Kind::Int, differs, zero))
         }
         _ => Ok(differs),
@@ -308,14 +307,14 @@ fn logic_value(
 ) -> Result<Value, AllocError>
     ensures { IfOk result (λ new. checked.value new ≡ resolving.logic operator (checked.value left.value) (checked.value right.value)) }
 {
-    let second = Box::new(alloc, Value::Converted(Kind::Bool, right))?;
+    let second = boxed(alloc, Value::Converted(Kind::Bool, right))?;
     match operator {
         BinaryOperator::Or => {
-            let one = Box::new(alloc, Value::Number(1))?;
+            let one = boxed(alloc, Value::Number(1))?;
             Ok(Value::Choice(left, one, second))
         }
         _ => {
-            let zero = Box::new(alloc, Value::Number(0))?;
+            let zero = boxed(alloc, Value::Number(0))?;
             Ok(Value::Choice(left, second, zero))
         }
     }
@@ -446,7 +445,7 @@ pub fn field(
 fn read_field(alloc: Global, object: Reference, field: FoundField) -> Result<Resolution, AllocError>
     ensures { IfOk result (λ new. resolution new ≡ resolving.read_field (checked.reference object) field) }
 {
-    let object = Box::new(alloc, object)?;
+    let object = boxed(alloc, object)?;
     let (owner, index) = (field.owner.0, field.index);
     Ok(match field.qual {
         None => Resolution::Gives(field.kind, Value::Field(object, owner, index)),
@@ -481,7 +480,7 @@ fn store_field(
 ) -> Result<Resolution, AllocError>
     ensures { IfOk result (λ new. resolution new ≡ resolving.store_field (checked.reference object) field (part_of of)) }
 {
-    let object = Box::new(alloc, object)?;
+    let object = boxed(alloc, object)?;
     let (owner, index) = (field.owner.0, field.index);
     match field.qual {
         None => {
@@ -639,7 +638,7 @@ pub fn sent_to(
 ) -> Result<Resolution, AllocError>
     ensures { IfOk result (λ new. resolution new ≡ resolving.sent_to kind (checked.receiver receiver) selector (checked.arguments all.items)) }
 {
-    let receiver = Box::new(alloc, receiver)?;
+    let receiver = boxed(alloc, receiver)?;
     if is_object(kind) {
         return Ok(Resolution::Refers(Reference::ObjectSent(receiver, selector, all)));
     }
@@ -664,7 +663,7 @@ fn class_receiver(alloc: Global, to: ClassReceiver) -> Result<Receiver, AllocErr
             drop(to.class);
             Ok(Receiver::ClassSuper(from))
         }
-        None => Ok(Receiver::ClassValue(Box::new(alloc, to.class)?)),
+        None => Ok(Receiver::ClassValue(boxed(alloc, to.class)?)),
     }
 }
 
@@ -680,11 +679,11 @@ pub fn to_class(
     ensures { IfOk result (λ new. resolution new ≡ resolving.to_class kind to.from (checked.value to.class) name.now (class_receiver_of to) selector (checked.arguments all.items)) }
 {
     if name == b"alloc".as_slice() {
-        let class = Box::new(alloc, to.class)?;
+        let class = boxed(alloc, to.class)?;
         return Ok(Resolution::Refers(Reference::Made(class)));
     }
     if name == b"new".as_slice() {
-        let class = Box::new(alloc, to.class)?;
+        let class = boxed(alloc, to.class)?;
         return Ok(Resolution::Refers(Reference::New(to.from, class)));
     }
     let receiver = class_receiver(alloc, to)?;
@@ -701,7 +700,7 @@ pub fn to_object(
 ) -> Result<Resolution, AllocError>
     ensures { IfOk result (λ new. resolution new ≡ resolving.sent_to kind (spec.ObjectValue (checked.reference object)) selector (checked.arguments all.items)) }
 {
-    let object = Box::new(alloc, object)?;
+    let object = boxed(alloc, object)?;
     sent_to(alloc, kind, Receiver::ObjectValue(object), selector, all)
 }
 
@@ -733,7 +732,7 @@ pub fn to_super(
             to_class(alloc, kind, to, name, selector, all)
         }
         Sign::Instance => {
-            let object = Box::new(alloc, itself(site.owns))?;
+            let object = boxed(alloc, itself(site.owns))?;
             let receiver = Receiver::ObjectSuper(object, site.from);
             sent_to(alloc, kind, receiver, selector, all)
         }

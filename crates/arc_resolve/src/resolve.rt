@@ -11,6 +11,7 @@ ghost use Rattle.arc_scope.specs.declared.scope.Visible.{Visible};
 ghost use Rattle.arc_scope.specs.Views.{kinds_wanted, seen};
 ghost use Rattle.arc_spec.specs.Resolved as spec;
 
+use crate::made::keep;
 use crate::piece::pieces;
 use crate::resolution::{
     ClassReceiver, Operand, Part, Resolution, SuperSite, Typed, as_part, binary, cast as cast_to,
@@ -580,7 +581,7 @@ fn resolved_arguments<'a>(
     let mut rest = wanted;
     for one in arguments {
         let kind = first_wanted(rest);
-        all.push(argument(alloc, table, visible, kind, one)?)?;
+        keep(&mut all, argument(alloc, table, visible, kind, one)?)?;
         rest = after_first(rest);
     }
     Ok(all)

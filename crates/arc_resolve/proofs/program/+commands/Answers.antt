@@ -103,8 +103,8 @@ stepped-returns-clause-command t c =
     let step = option_map expr_tree c.args.step.now in
     let count : c.saturating_sub-own.result ≡ (own.names - s.names) = c.saturating_sub-own.ensures ∙ ap (λ n. n - c.from-first.result) (c.from.ensures ∙ ap (λ q. q.names) c.in_ok-command.ensures.scope) ∙ ap (λ n. own.names - n) c.from-first.ensures in
     let loop : checked.command c.in_ok-turns.field-0 ≡ spec.Repeat Before (tested own test) (stepped own step) (resolved_stmt own b) = c.in_ok-turns.ensures.command ∙ ap (λ p. spec.Repeat Before (tested p test) (stepped p step) (resolved_stmt p b)) c.in_ok-command.ensures.scope in
-    loop_command s own c.from-first.result c.saturating_sub-own.result c.push-2.new.self c.in_ok-command.field-0 c.in_ok-turns.field-0 (resolved_stmt s a) (spec.Repeat Before (tested own test) (stepped own step) (resolved_stmt own b))
-    (c.in_ok-push-2.ensures.items ∙ ap (λ us. us ++ c.in_ok-turns.field-0 ∷ []) (c.in_ok-push.ensures.items ∙ ap (λ us. us ++ c.in_ok-command.field-0 ∷ []) c.new-all.ensures.items)) c.from-first.ensures count c.in_ok-command.ensures.command loop
+    loop_command s own c.from-first.result c.saturating_sub-own.result c.keep-2.new.all c.in_ok-command.field-0 c.in_ok-turns.field-0 (resolved_stmt s a) (spec.Repeat Before (tested own test) (stepped own step) (resolved_stmt own b))
+    (c.in_ok-keep-2.ensures.items ∙ ap (λ us. us ++ c.in_ok-turns.field-0 ∷ []) (c.in_ok-keep.ensures.items ∙ ap (λ us. us ++ c.in_ok-command.field-0 ∷ []) c.new-all.ensures.items)) c.from-first.ensures count c.in_ok-command.ensures.command loop
 
 pub stepped-returns-clause-scope : goal.stepped-returns-clause-scope
 stepped-returns-clause-scope t c =
@@ -133,7 +133,7 @@ commands-loop-statement-preserved t c =
     let s = seen table c.loop-statement.visible in
     let new = seen table c.command.new.visible in
     record {
-      commands = commands_turn s new xs i x c.loop-statement.all.items c.push.new.self.items c.in_ok-command.field-0 _ c.loop-statement-test.true c.statement-item.is c.in_ok-command.ensures.scope c.in_ok-command.ensures.command c.in_ok-push.ensures.items c.loop-statement.invariant.commands;
+      commands = commands_turn s new xs i x c.loop-statement.all.items c.keep.new.all.items c.in_ok-command.field-0 _ c.loop-statement-test.true c.statement-item.is c.in_ok-command.ensures.scope c.in_ok-command.ensures.command c.in_ok-keep.ensures.items c.loop-statement.invariant.commands;
       scope = after_turn s new _ xs i x c.loop-statement-test.true c.statement-item.is c.in_ok-command.ensures.scope c.loop-statement.invariant.scope;
       keeps = keeps_turn c.args.visible.now.bound.items c.loop-statement.visible.bound.items c.command.new.visible.bound.items c.loop-statement.invariant.keeps c.in_ok-command.ensures.keeps;
     }

@@ -6,7 +6,7 @@ use Rattle.arc_scope.specs.Scopes.{outermost}
 use Rattle.arc_scope.specs.Views.{known_in, seen}
 use Rattle.arc_resolve.proofs.Commands.{functions_turn, functions_pass, functions_end}
 use Rattle.arc_resolve.proofs.program.functions.Goals as goal
-use Rattle.arc_resolve.proofs.program.functions.Goals.{in-Some+in_ok-function+in_ok-push, in_default}
+use Rattle.arc_resolve.proofs.program.functions.Goals.{in-Some+in_ok-function+in_ok-keep, in_default}
 
 pub loop-one-preserved : goal.loop-one-preserved
 loop-one-preserved c =
@@ -16,8 +16,8 @@ loop-one-preserved c =
     let x = c.one-item.result in
     let whole = filter_map (resolved_function known) (function_trees xs) in
     elim c.match-one.branch [
-      | in-Some+in_ok-function+in_ok-push w ↦ functions_turn known xs i x w.named_parameters-named.result.now w.in-Some.body w.deref.result.now c.loop-one.all.items w.push.new.self c.match-one.all w.in_ok-function.field-0 (seen c.args.table.now w.new-visible.result) whole c.loop-one-test.true c.one-item.is w.in-Some.is w.deref.ensures.value
-          w.named_parameters-named.ensures (w.new-visible.ensures c.args.table.now ∙ ap (outermost known) w.kind.ensures) w.in_ok-function.ensures w.in_ok-push.ensures.items w.all-is c.loop-one.invariant
+      | in-Some+in_ok-function+in_ok-keep w ↦ functions_turn known xs i x w.named_parameters-named.result.now w.in-Some.body w.deref.result.now c.loop-one.all.items w.keep.new.all c.match-one.all w.in_ok-function.field-0 (seen c.args.table.now w.new-visible.result) whole c.loop-one-test.true c.one-item.is w.in-Some.is w.deref.ensures.value
+          w.named_parameters-named.ensures (w.new-visible.ensures c.args.table.now ∙ ap (outermost known) w.kind.ensures) w.in_ok-function.ensures w.in_ok-keep.ensures.items w.all-is c.loop-one.invariant
       | in_default w ↦ functions_pass known xs i x c.loop-one.all.items c.match-one.all.items whole c.loop-one-test.true c.one-item.is w.in_default.is (ap (λ v. v.items) w.all-is) c.loop-one.invariant
     ]
 

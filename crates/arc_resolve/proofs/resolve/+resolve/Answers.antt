@@ -186,8 +186,8 @@ print-returns-in_ok-resolved_arguments-in-None t c = print_value c.new.result c.
 pub resolved_arguments-loop-one-preserved : goal.resolved_arguments-loop-one-preserved
 resolved_arguments-loop-one-preserved t c =
     let s = seen c.args.table.now c.args.visible.now in
-    values_turn s (kinds_wanted c.loop-one.rest) (kinds_wanted c.after_first-rest.result) c.args.arguments.now c.loop-one.one-index c.one-item.result c.loop-one.all.items c.push.new.self.items c.in_ok-argument.field-0 c.first_wanted-kind.result
-    (resolved_all s (kinds_wanted c.args.wanted) (expr_trees c.args.arguments.now)) c.loop-one-test.true c.one-item.is c.loop-one.invariant c.in_ok-push.ensures.items
+    values_turn s (kinds_wanted c.loop-one.rest) (kinds_wanted c.after_first-rest.result) c.args.arguments.now c.loop-one.one-index c.one-item.result c.loop-one.all.items c.keep.new.all.items c.in_ok-argument.field-0 c.first_wanted-kind.result
+    (resolved_all s (kinds_wanted c.args.wanted) (expr_trees c.args.arguments.now)) c.loop-one-test.true c.one-item.is c.loop-one.invariant c.in_ok-keep.ensures.items
     c.in_ok-argument.ensures c.first_wanted-kind.ensures c.after_first-rest.ensures
 
 pub resolved_arguments-returns : goal.resolved_arguments-returns
