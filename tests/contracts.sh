@@ -59,7 +59,7 @@ check_crate() {
   while read -r call; do check_call "$1" "$call"; done < <(public_calls "$1")
 }
 
-# arc_tests has only tests.
+# arc_unit_tests and arc_tests have only tests.
 while IFS=': ' read -r crate _; do
   [[ -f crates/$crate/src/lib.rt && $crate != *_tests ]] && check_crate "$crate"
 done <crates.txt

@@ -1,16 +1,9 @@
-//! A source's table, and a fault. Rows of `arc_rows` show the sources that are refused.
+//! A source's table. Rows of `arc_rows` show the sources that are refused.
 use crate::source::tree;
 use arc_ast::tree::{Kind, Qual, Sign, TranslationUnit};
 use arc_class::table::{ClassId, ClassTable, Field, MethodId, Sel};
-use arc_fault::class::ClassFault;
 use arc_spec::event::NoMemory;
 use std::alloc::Global;
-
-#[test]
-fn reports(rt: HostRuntime) {
-    let fault = ClassFault::Duplicate(17);
-    assert!(rt; (fault.number(), fault.at()) == (21, 17) && fault.name() == "Duplicate");
-}
 
 /// `B` has a class method and its superclass `A` has one of its objects, both named `f`.
 const TWO_CLASSES: &[u8] =

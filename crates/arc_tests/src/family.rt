@@ -1,15 +1,8 @@
-//! Methods with their families, and a fault. `crate::lower` has a program that is kept; the program `arc_rows` has many more,
+//! Methods with their families. `crate::lower` has a program that is kept; the program `arc_rows` has many more,
 //! and those that are refused.
 use arc_ast::tree::Kind;
 use arc_family::family::family;
 use arc_family::signature::{Family, Signature};
-use arc_fault::own::OwnFault;
-
-#[test]
-fn reports(rt: HostRuntime) {
-    let fault = OwnFault::SelfConst(7);
-    assert!(rt; (fault.number(), fault.at()) == (47, 7) && fault.name() == "SelfConst");
-}
 
 /// The family of an instance method that returns an object.
 fn of_selector(selector: &str) -> Family {

@@ -1,27 +1,15 @@
-//! Tests of the public calls of the crates, one module for each crate: what a row of `arc_rows` can't show, and one call of each
-//! kind.
+//! Tests of the public calls of the crates from the parser up to arc_tool, one module for each crate: what a row of `arc_rows` can't
+//! show, and one call of each kind. Those of what needs no tree are in `arc_unit_tests`.
 #![tactic(auto)]
 
 #[cfg(test)]
-mod ast;
-#[cfg(test)]
-mod check;
-#[cfg(test)]
 mod class;
-#[cfg(test)]
-mod code;
 #[cfg(test)]
 mod devices;
 #[cfg(test)]
 mod emit;
 #[cfg(test)]
 mod family;
-#[cfg(test)]
-mod file;
-#[cfg(test)]
-mod heap;
-#[cfg(test)]
-mod lex;
 #[cfg(test)]
 mod lower;
 #[cfg(test)]
@@ -30,7 +18,5 @@ mod machine;
 mod parse;
 #[cfg(test)]
 mod source;
-#[cfg(test)]
-mod spec;
 #[cfg(test)]
 mod tool;

@@ -45,15 +45,3 @@ fn refuses(rt: HostRuntime) {
     let (first, second) = (ParseFault::Unexpected(21), ParseFault::Unexpected(26));
     assert!(rt; faults == (Some(first), Some(second)));
 }
-
-/// Whether this is the number, the name and the place of a fault.
-fn is_named(fault: ParseFault, number: u8, name: &str, at: usize) -> bool {
-    fault.number() == number && fault.name() == name && fault.at() == at
-}
-
-#[test]
-fn names_faults(rt: HostRuntime) {
-    let unexpected = is_named(ParseFault::Unexpected(9), 11, "Unexpected", 9);
-    let deep = is_named(ParseFault::TooDeep(8), 12, "TooDeep", 8);
-    assert!(rt; unexpected && deep && is_named(ParseFault::Memory, 13, "Memory", 0));
-}

@@ -1,58 +1,8 @@
 //! Sources and their answers, as worked out by hand.
 use arc_lex::fault::LexFault;
 use arc_lex::lex::lex;
-use arc_lex::mark::Mark;
 use arc_lex::token::{Token, TokenKind};
-use arc_lex::word::Word;
 use std::alloc::Global;
-use std::test::Fail;
-
-/// Where each token of the main function begins, and where it has ended.
-static PLACES: [(usize, usize); 15] = [
-    (0, 3),
-    (4, 8),
-    (8, 9),
-    (9, 13),
-    (13, 14),
-    (15, 16),
-    (17, 23),
-    (23, 24),
-    (24, 28),
-    (28, 29),
-    (29, 30),
-    (31, 37),
-    (38, 39),
-    (39, 40),
-    (41, 42),
-];
-
-/// Whether the tokens are at these places.
-fn are_at(tokens: &[Token], places: &[(usize, usize)]) -> bool {
-    for (token, (from, to)) in tokens.iter().zip(places) {
-        if token.span.from != *from || token.span.to != *to {
-            return false;
-        }
-    }
-    tokens.len() == places.len()
-}
-
-/// Whether the first, the sixth and the thirteenth token are those of the main function.
-fn are_of_main(tokens: &[Token]) -> bool {
-    let (Some(first), Some(sixth), Some(last)) = (tokens.get(0), tokens.get(5), tokens.get(12))
-    else {
-        return false;
-    };
-    matches!(first.kind, TokenKind::Word(Word::Int))
-        && matches!(sixth.kind, TokenKind::Mark(Mark::OpenBrace))
-        && matches!(last.kind, TokenKind::Integer(7, false))
-}
-
-#[test]
-fn cuts_a_main_function(rt: HostRuntime) -> Result<(), Fail> {
-    let tokens = lex(rt.alloc(), b"int main(void) { printf(\"42\"); return 7; }")?;
-    assert!(rt; are_at(&tokens, &PLACES) && are_of_main(&tokens));
-    Ok(())
-}
 
 /// Whether the lexer answers this, as its `Debug` writes it.
 fn answers(alloc: Global, source: &str, want: &str) -> bool {
@@ -64,6 +14,7 @@ fn answers(alloc: Global, source: &str, want: &str) -> bool {
 
 /// Small sources, one in a line, each with its answer after ` => `.
 const ANSWERS: &str = r#" => Ok([])
+int main(void) { printf("42"); return 7; } => Ok([Token { kind: Word(Int), span: Span { from: 0, to: 3 } }, Token { kind: Name([109, 97, 105, 110]), span: Span { from: 4, to: 8 } }, Token { kind: Mark(OpenParen), span: Span { from: 8, to: 9 } }, Token { kind: Word(Void), span: Span { from: 9, to: 13 } }, Token { kind: Mark(CloseParen), span: Span { from: 13, to: 14 } }, Token { kind: Mark(OpenBrace), span: Span { from: 15, to: 16 } }, Token { kind: Name([112, 114, 105, 110, 116, 102]), span: Span { from: 17, to: 23 } }, Token { kind: Mark(OpenParen), span: Span { from: 23, to: 24 } }, Token { kind: Text([52, 50]), span: Span { from: 24, to: 28 } }, Token { kind: Mark(CloseParen), span: Span { from: 28, to: 29 } }, Token { kind: Mark(Semicolon), span: Span { from: 29, to: 30 } }, Token { kind: Word(Return), span: Span { from: 31, to: 37 } }, Token { kind: Integer(7, false), span: Span { from: 38, to: 39 } }, Token { kind: Mark(Semicolon), span: Span { from: 39, to: 40 } }, Token { kind: Mark(CloseBrace), span: Span { from: 41, to: 42 } }])
 x => Ok([Token { kind: Name([120]), span: Span { from: 0, to: 1 } }])
 intx => Ok([Token { kind: Name([105, 110, 116, 120]), span: Span { from: 0, to: 4 } }])
  __weak => Ok([Token { kind: Unused, span: Span { from: 1, to: 7 } }])
@@ -97,16 +48,6 @@ a /* b => Err(OpenComment(2))
 "\q => Err(OpenLiteral(0))
 "\q" => Err(Literal(0))"#;
 
-/// Sources of two lines, each with its answer.
-static ANSWERS_OF_TWO_LINES: [(&str, &str); 3] = [
-    (
-        " #import\n0",
-        "Ok([Token { kind: Integer(0, false), span: Span { from: 9, to: 10 } }])",
-    ),
-    ("\"abc\n\"", "Err(OpenLiteral(0))"),
-    ("\"\\\n\"", "Err(OpenLiteral(0))"),
-];
-
 /// Whether the lexer answers a line's source as the line says.
 fn is_answered(alloc: Global, line: &str) -> bool {
     match line.split_once(" => ") {
@@ -125,58 +66,47 @@ fn first_other(alloc: Global, lines: &str) -> Option<&str> {
     None
 }
 
-/// Whether each of these sources has its answer.
-fn are_answered(alloc: Global, rows: &[(&str, &str)]) -> bool {
-    for (source, want) in rows {
-        if !answers(alloc, source, want) {
+/// Whether sources of two lines have their answers.
+fn answers_two_lines(alloc: Global) -> bool {
+    let after = "Ok([Token { kind: Integer(0, false), span: Span { from: 9, to: 10 } }])";
+    answers(alloc, " #import\n0", after)
+        && answers(alloc, "\"abc\n\"", "Err(OpenLiteral(0))")
+        && answers(alloc, "\"\\\n\"", "Err(OpenLiteral(0))")
+}
+
+#[test]
+fn answers_small_sources(rt: HostRuntime) {
+    let is_none = first_other(rt.alloc(), ANSWERS).is_none();
+    assert!(rt; is_none && answers_two_lines(rt.alloc()));
+}
+
+/// The 32 words and marks of the language that no program may use.
+const UNUSED: &str =
+    "NULL __autoreleasing __unsafe_unretained __weak auto case default double enum extern float goto inline \
+    register restrict short signed sizeof struct switch typedef union unsigned volatile @autoreleasepool @optional @property \
+    @protocol @required @selector @synthesize .";
+
+/// Whether each of the tokens is of no use.
+fn are_unused(tokens: &[Token]) -> bool {
+    for token in tokens {
+        if !matches!(token.kind, TokenKind::Unused) {
             return false;
         }
     }
     true
 }
 
-#[test]
-fn answers_small_sources(rt: HostRuntime) {
-    let other = first_other(rt.alloc(), ANSWERS);
-    assert_eq!(rt; other, None);
-    assert!(rt; are_answered(rt.alloc(), &ANSWERS_OF_TWO_LINES));
-}
-
-/// Words and marks of the language that no program may use.
-const UNUSED: &str =
-    "NULL __autoreleasing __unsafe_unretained __weak auto case default double enum extern float goto inline \
-    register restrict short signed sizeof struct switch typedef union unsigned volatile @autoreleasepool @optional @property \
-    @protocol @required @selector @synthesize .";
-
-/// Whether the text is one token of no use.
-fn is_unused(alloc: Global, text: &str) -> bool {
-    match lex(alloc, text.as_bytes()) {
-        Ok(tokens) => are_unused(&tokens, text.len()),
+/// Whether a source has so many tokens, each of no use.
+fn has_unused(alloc: Global, source: &str, count: usize) -> bool {
+    match lex(alloc, source.as_bytes()) {
+        Ok(tokens) => tokens.len() == count && are_unused(&tokens),
         Err(_) => false,
     }
 }
 
-/// Whether the tokens are one of no use, which ends here.
-fn are_unused(tokens: &[Token], end: usize) -> bool {
-    match tokens {
-        [token] => matches!(token.kind, TokenKind::Unused) && token.span.to == end,
-        _ => false,
-    }
-}
-
-/// The first of these words that is something else, if one is.
-fn first_used(alloc: Global, words: &str) -> Option<&str> {
-    for word in words.split_whitespace() {
-        if !is_unused(alloc, word) {
-            return Some(word);
-        }
-    }
-    None
-}
-
 #[test]
 fn answers_unused_words_and_marks(rt: HostRuntime) {
-    assert_eq!(rt; first_used(rt.alloc(), UNUSED), None);
+    assert!(rt; has_unused(rt.alloc(), UNUSED, 32));
 }
 
 /// What a source of this byte alone is.
@@ -216,7 +146,7 @@ fn first_other_byte(alloc: Global) -> Option<u8> {
 
 #[test]
 fn answers_each_byte(rt: HostRuntime) {
-    assert_eq!(rt; first_other_byte(rt.alloc()), None);
+    assert!(rt; first_other_byte(rt.alloc()).is_none());
 }
 
 /// How many tokens a source of so many spaces has.
@@ -236,11 +166,8 @@ fn refuses_a_long_source(rt: HostRuntime) {
 
 #[test]
 fn names_faults(rt: HostRuntime) {
-    let numbers = (
-        LexFault::BadByte(5).number(),
-        LexFault::OpenComment(5).number(),
-    );
+    let are_numbered = LexFault::BadByte(5).number() == 1 && LexFault::OpenComment(5).number() == 2;
     let is_named = LexFault::Directive(5).name() == "Directive";
-    let places = (LexFault::Literal(5).at(), LexFault::TooLong.at());
-    assert!(rt; numbers == (1, 2) && is_named && places == (5, 1048576));
+    let have_places = LexFault::Literal(5).at() == 5 && LexFault::TooLong.at() == 1048576;
+    assert!(rt; are_numbered && is_named && have_places);
 }

@@ -32,23 +32,30 @@ static RESULTS: [(BinaryOperator, Kind, i64, i64, Option<i64>); 6] = [
     (BinaryOperator::Divide, Kind::Long, 1, 0, None),
 ];
 
+/// Whether each of these rows has the operator's result.
+fn are_results(rows: &[(BinaryOperator, Kind, i64, i64, Option<i64>)]) -> bool {
+    for (operator, kind, left, right, result) in rows {
+        if combine(*operator, *kind, *left, *right) != *result {
+            return false;
+        }
+    }
+    true
+}
+
 #[test]
 fn numbers(rt: HostRuntime) {
-    let int = convert(Kind::Int, 4_294_967_295);
-    let truth = convert(Kind::Bool, 4_294_967_296);
-    let negated = apply(UnaryOperator::Negate, Kind::Int, -2_147_483_648);
-    assert_eq!(rt; (int, truth, negated), (-1, 1, -2_147_483_648));
-    for (operator, kind, left, right, result) in &RESULTS {
-        assert_eq!(rt; combine(*operator, *kind, *left, *right), *result);
-    }
+    let is_int = convert(Kind::Int, 4_294_967_295) == -1;
+    let is_truth = convert(Kind::Bool, 4_294_967_296) == 1;
+    let is_negated = apply(UnaryOperator::Negate, Kind::Int, -2_147_483_648) == -2_147_483_648;
+    assert!(rt; is_int && is_truth && is_negated && are_results(&RESULTS));
 }
 
 #[test]
 fn bytes(rt: HostRuntime) {
-    let parts = (low_half(4_294_967_301), low_byte(-1));
-    let count = add_count(4_294_967_295, 3);
-    let given = (byte_or_end(Some(65)), byte_or_end(None));
-    assert_eq!(rt; (parts, count, given), ((5, 255), 2, (65, -1)));
+    let are_parts = low_half(4_294_967_301) == 5 && low_byte(-1) == 255;
+    let is_count = add_count(4_294_967_295, 3) == 2;
+    let are_given = byte_or_end(Some(65)) == 65 && byte_or_end(None) == -1;
+    assert!(rt; are_parts && is_count && are_given);
 }
 
 /// What three variables of the whole program hold, of which there are two, after the first and the last were given numbers.
@@ -61,5 +68,5 @@ fn numbers_held(alloc: Global) -> Option<(i64, i64, i64)> {
 
 #[test]
 fn variables_of_the_whole_program(rt: HostRuntime) {
-    assert_eq!(rt; numbers_held(rt.alloc()), Some((8, -1, 0)));
+    assert!(rt; numbers_held(rt.alloc()) == Some((8, -1, 0)));
 }
