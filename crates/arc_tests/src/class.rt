@@ -1,6 +1,6 @@
 //! A source's table. Rows of `arc_rows` show the sources that are refused.
-use crate::source::tree;
-use arc_ast::tree::{Kind, Qual, Sign, TranslationUnit};
+use crate::source::{table, tree};
+use arc_ast::tree::{Kind, Qual, Sign};
 use arc_class::table::{ClassId, ClassTable, Field, MethodId, Sel};
 use arc_spec::event::NoMemory;
 use std::alloc::Global;
@@ -27,25 +27,24 @@ fn has_names(table: &ClassTable) -> bool {
         && table.method(ClassId(2), Sign::Instance, Sel(8)) == Some(MethodId(1))
 }
 
-/// The numbers of the names that are registered in the table of this tree, if it has them then.
-fn registered_in(alloc: Global, unit: &TranslationUnit) -> Option<(Sel, Sel, Sel)> {
-    let table = ClassTable::build(alloc, unit).ok()?;
-    let mut table = Box::new(alloc, table).ok()?;
-    registered_with(&mut table)
+/// Whether names get the next numbers in the table of `TWO_CLASSES`, and it has them then.
+fn registers_in(table: &mut ClassTable) -> bool {
+    match register_names(table) {
+        Ok(numbers) => numbers == (Sel(9), Sel(9), Sel(10)) && has_names(table),
+        Err(NoMemory) => false,
+    }
 }
 
-/// The same, with the tree's table.
-fn registered_with(table: &mut ClassTable) -> Option<(Sel, Sel, Sel)> {
-    let registered = register_names(table).ok()?;
-    has_names(table).then_some(registered)
+/// The same with that table, if there is one.
+fn registers_names(alloc: Global) -> Option<bool> {
+    let unit = tree(alloc, TWO_CLASSES)?;
+    let mut table = table(alloc, &unit)?;
+    Some(registers_in(&mut table))
 }
 
 #[test]
 fn registers(rt: HostRuntime) {
-    let alloc = rt.alloc();
-    let unit = tree(alloc, TWO_CLASSES).expect(&rt, "no tree");
-    let registered = registered_in(alloc, &unit);
-    assert_eq!(rt; registered, Some((Sel(9), Sel(9), Sel(10))));
+    assert!(rt; registers_names(rt.alloc()) == Some(true));
 }
 
 /// `A` has a number and an object, and `B` an object more, which its implementation declares.
@@ -69,16 +68,14 @@ fn has_fields(table: &ClassTable) -> bool {
         && is_field(own, b"p", Kind::Object, Some(Qual::Strong), class)
 }
 
-/// Whether the table of this tree has them; None where it is refused, or memory is.
-fn has_fields_in(alloc: Global, unit: &TranslationUnit) -> Option<bool> {
-    let table = ClassTable::build(alloc, unit).ok()?;
-    let table = Box::new(alloc, table).ok()?;
+/// The same of the table of `FIELDS`, if there is one.
+fn knows_all_fields(alloc: Global) -> Option<bool> {
+    let unit = tree(alloc, FIELDS)?;
+    let table = table(alloc, &unit)?;
     Some(has_fields(&table))
 }
 
 #[test]
 fn knows_fields(rt: HostRuntime) {
-    let alloc = rt.alloc();
-    let unit = tree(alloc, FIELDS).expect(&rt, "no tree");
-    assert_eq!(rt; has_fields_in(alloc, &unit), Some(true));
+    assert!(rt; knows_all_fields(rt.alloc()) == Some(true));
 }

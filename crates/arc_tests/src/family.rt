@@ -37,7 +37,7 @@ fn first_other<'a>(rows: &[(&'a str, Family)]) -> Option<&'a str> {
 
 #[test]
 fn finds_families(rt: HostRuntime) {
-    assert_eq!(rt; first_other(&FAMILIES), None);
+    assert!(rt; first_other(&FAMILIES).is_none());
 }
 
 /// Selectors of no family.
@@ -67,17 +67,19 @@ fn has_no_family(kind: Kind) -> bool {
     family("newCount", &signature) == Family::None && family("init", &signature) == Family::None
 }
 
-#[test]
-fn heeds_signatures(rt: HostRuntime) {
-    let class_method = Signature {
+/// Whether class methods have the families that they may have.
+fn are_of_classes() -> bool {
+    let signature = Signature {
         instance: false,
         result: Kind::Object,
     };
-    let families = (
-        family("alloc", &class_method),
-        family("initWith:", &class_method),
-    );
-    assert!(rt; families == (Family::Alloc, Family::None));
-    assert!(rt; has_no_family(Kind::Void) && has_no_family(Kind::Bool));
-    assert!(rt; has_no_family(Kind::Int) && has_no_family(Kind::Long));
+    family("alloc", &signature) == Family::Alloc && family("initWith:", &signature) == Family::None
+}
+
+#[test]
+fn heeds_signatures(rt: HostRuntime) {
+    let of_numbers = has_no_family(Kind::Bool)
+        && has_no_family(Kind::Int)
+        && has_no_family(Kind::Long);
+    assert!(rt; are_of_classes() && has_no_family(Kind::Void) && of_numbers);
 }

@@ -21,12 +21,17 @@ fn seen_of(unit: &TranslationUnit) -> Option<Seen> {
     Some((of_interface, (main.at, main.result.kind()), sums))
 }
 
+/// What is seen of the tree of a source, if it has one.
+fn seen_in(alloc: Global, source: &[u8]) -> Option<Seen> {
+    let unit = tree(alloc, source)?;
+    seen_of(&unit)
+}
+
 #[test]
 fn reads(rt: HostRuntime) {
-    let alloc = rt.alloc();
     let source = b"int main(void) { return 1 + 2; } @interface A : B @end";
-    let unit = tree(alloc, source).expect(&rt, "no tree");
-    assert_eq!(rt; seen_of(&unit), Some(((44, 48), (4, Kind::Int), true)));
+    let seen = seen_in(rt.alloc(), source);
+    assert!(rt; seen == Some(((44, 48), (4, Kind::Int), true)));
 }
 
 /// Why the tokens of a source become no tree.
@@ -38,10 +43,8 @@ fn fault_of(alloc: Global, source: &[u8]) -> Option<ParseFault> {
 #[test]
 fn refuses(rt: HostRuntime) {
     let alloc = rt.alloc();
-    let faults = (
-        fault_of(alloc, b"int main(void) { 1 + ; }"),
-        fault_of(alloc, b"int main(void) { return 1 . 2; }"),
-    );
-    let (first, second) = (ParseFault::Unexpected(21), ParseFault::Unexpected(26));
-    assert!(rt; faults == (Some(first), Some(second)));
+    let first = fault_of(alloc, b"int main(void) { 1 + ; }");
+    let second = fault_of(alloc, b"int main(void) { return 1 . 2; }");
+    let is_first = first == Some(ParseFault::Unexpected(21));
+    assert!(rt; is_first && second == Some(ParseFault::Unexpected(26)));
 }

@@ -80,44 +80,48 @@ fn step_to_the_end(
     Ok(Ok(Stop::StepsUsed))
 }
 
-/// A program: its source, its input, how it stops, what it prints, and what it shows.
-type Row<'a> = (&'a str, &'a str, Stop, &'a str, &'a str);
-
-/// How many steps the program makes one by one, if they stop it and show what the row says.
-fn single_steps(alloc: Global, row: &Row) -> Option<u64> {
-    let (source, input, stop, _, shown) = *row;
-    let mut machine = machine_of(alloc, source, PlainStore::new(alloc))?;
-    let mut all = String::new(alloc);
-    let last = step_to_the_end(alloc, &mut machine, input.as_bytes(), &mut all);
-    let steps = machine.steps_done();
-    drop(machine);
-    (last == Ok(Ok(stop)) && all.as_str() == shown).then_some(steps)
+/// A program, its input, how it stops, what it prints, and what it shows.
+#[derive(Clone, Copy)]
+struct Row<'a> {
+    source: &'a str,
+    input: &'a str,
+    stop: Stop,
+    printed: &'a str,
+    shown: &'a str,
 }
 
-/// How many steps the program makes at once, if they stop it and print what the row says.
-fn steps_at_once(alloc: Global, row: &Row) -> Option<u64> {
-    let (source, input, stop, printed, _) = *row;
+/// How many steps the program of this source makes one by one, if they stop it and show what the row says.
+fn single_steps(alloc: Global, source: &str, row: &Row) -> Option<u64> {
     let mut machine = machine_of(alloc, source, PlainStore::new(alloc))?;
-    let mut reader = Counted::new(input.as_bytes());
+    let mut all = String::new(alloc);
+    let last = step_to_the_end(alloc, &mut machine, row.input.as_bytes(), &mut all);
+    let steps = machine.steps_done();
+    drop(machine);
+    (last == Ok(Ok(row.stop)) && all.as_str() == row.shown).then_some(steps)
+}
+
+/// How many steps it makes at once, if they stop it and print what the row says.
+fn steps_at_once(alloc: Global, source: &str, row: &Row) -> Option<u64> {
+    let mut machine = machine_of(alloc, source, PlainStore::new(alloc))?;
+    let mut reader = Counted::new(row.input.as_bytes());
     let mut writer = Counted::new(Vec::new(alloc));
     let last = machine.run(100_000, &mut reader, &mut writer);
     let steps = machine.steps_done();
     drop(machine);
-    let is_printed = writer.get_ref().as_slice() == printed.as_bytes();
-    (last == Ok(stop) && is_printed).then_some(steps)
+    let is_printed = writer.get_ref().as_slice() == row.printed.as_bytes();
+    (last == Ok(row.stop) && is_printed).then_some(steps)
 }
 
-/// Whether the program does what the row says, in as many steps at once as one by one.
-fn does(alloc: Global, row: &Row) -> bool {
-    let steps = steps_at_once(alloc, row);
-    steps.is_some() && steps == single_steps(alloc, row)
+/// Whether it does what the row says, in as many steps at once as one by one.
+fn does(alloc: Global, source: &str, row: &Row) -> bool {
+    let steps = steps_at_once(alloc, source, row);
+    steps.is_some() && steps == single_steps(alloc, source, row)
 }
 
 /// Whether the program does what the row says, when its source stands after these classes.
 fn does_after(alloc: Global, classes: &str, row: &Row) -> bool {
-    let (rest, input, stop, printed, shown) = *row;
-    match format!(in alloc; "{classes}{rest}") {
-        Ok(source) => does(alloc, &(source.as_str(), input, stop, printed, shown)),
+    match format!(in alloc; "{classes}{}", row.source) {
+        Ok(source) => does(alloc, source.as_str(), row),
         Err(_) => false,
     }
 }
@@ -126,7 +130,7 @@ fn does_after(alloc: Global, classes: &str, row: &Row) -> bool {
 fn first_other<'a>(alloc: Global, classes: &str, rows: &[Row<'a>]) -> Option<&'a str> {
     for row in rows {
         if !does_after(alloc, classes, row) {
-            return Some(row.0);
+            return Some(row.source);
         }
     }
     None
@@ -134,92 +138,92 @@ fn first_other<'a>(alloc: Global, classes: &str, rows: &[Row<'a>]) -> Option<&'a
 
 /// Programs without classes.
 static WITHOUT_CLASSES: [Row; 4] = [
-    (
-        PRINTING,
-        "\x06rest",
-        Stop::Ended(2),
-        "abcdef1\n",
-        "abcdef1\n",
-    ),
-    (
-        PRINTING,
-        "",
-        Stop::Fault(Fault::Arithmetic),
-        "abcdef",
-        "abcdef",
-    ),
-    (
-        "int f(int a) { printf(\"x\"); return a - 1; } \
+    Row {
+        source: PRINTING,
+        input: "\x06rest",
+        stop: Stop::Ended(2),
+        printed: "abcdef1\n",
+        shown: "abcdef1\n",
+    },
+    Row {
+        source: PRINTING,
+        input: "",
+        stop: Stop::Fault(Fault::Arithmetic),
+        printed: "abcdef",
+        shown: "abcdef",
+    },
+    Row {
+        source: "int f(int a) { printf(\"x\"); return a - 1; } \
         int main(void) { int n = 3; while (n) n = f(n); return 42; }",
-        "",
-        Stop::Ended(42),
-        "xxx",
-        "xxx",
-    ),
-    (
-        "int f(void) { return f(); } int main(void) { return f(); }",
-        "",
-        Stop::Fault(Fault::Depth),
-        "",
-        "",
-    ),
+        input: "",
+        stop: Stop::Ended(42),
+        printed: "xxx",
+        shown: "xxx",
+    },
+    Row {
+        source: "int f(void) { return f(); } int main(void) { return f(); }",
+        input: "",
+        stop: Stop::Fault(Fault::Depth),
+        printed: "",
+        shown: "",
+    },
 ];
 
 #[test]
 fn numbers(rt: HostRuntime) {
-    assert_eq!(rt; first_other(rt.alloc(), "", &WITHOUT_CLASSES), None);
+    assert!(rt; first_other(rt.alloc(), "", &WITHOUT_CLASSES).is_none());
 }
 
 /// Programs, as they stand after the classes.
 static WITH_CLASSES: [Row; 6] = [
-    (
-        "int main(void) { return [A ten] + [B ten] + [B next:20]; }",
-        "",
-        Stop::Ended(46),
-        "",
-        "",
-    ),
-    (
-        "int main(void) { id x = [A new]; [x own]; }",
-        "",
-        Stop::Fault(Fault::Unrecognized),
-        "",
-        "",
-    ),
-    (
-        "int main(void) { A *a = nil; return a->v; }",
-        "",
-        Stop::Fault(Fault::NilField),
-        "",
-        "",
-    ),
-    (
-        "int main(void) { B *b = [A new]; b->w = 5; }",
-        "",
-        Stop::Fault(Fault::FieldClass),
-        "",
-        "",
-    ),
-    (
-        "int main(void) { A *a = [A new]; a->v = 5; A *b = a; a = nil; printf(\"h\"); \
+    Row {
+        source: "int main(void) { return [A ten] + [B ten] + [B next:20]; }",
+        input: "",
+        stop: Stop::Ended(46),
+        printed: "",
+        shown: "",
+    },
+    Row {
+        source: "int main(void) { id x = [A new]; [x own]; }",
+        input: "",
+        stop: Stop::Fault(Fault::Unrecognized),
+        printed: "",
+        shown: "",
+    },
+    Row {
+        source: "int main(void) { A *a = nil; return a->v; }",
+        input: "",
+        stop: Stop::Fault(Fault::NilField),
+        printed: "",
+        shown: "",
+    },
+    Row {
+        source: "int main(void) { B *b = [A new]; b->w = 5; }",
+        input: "",
+        stop: Stop::Fault(Fault::FieldClass),
+        printed: "",
+        shown: "",
+    },
+    Row {
+        source: "int main(void) { A *a = [A new]; a->v = 5; A *b = a; a = nil; printf(\"h\"); \
         int r = b->v; b = nil; printf(\"d\"); return r; }",
-        "",
-        Stop::Ended(5),
-        "hd",
-        "h(1 of 1)d",
-    ),
-    (
-        "int main(void) { [B new]; printf(\"e\"); return 7; }",
-        "",
-        Stop::Ended(7),
-        "e",
-        "(1 of 2)(2 of 1)e",
-    ),
+        input: "",
+        stop: Stop::Ended(5),
+        printed: "hd",
+        shown: "h(1 of 1)d",
+    },
+    Row {
+        source: "int main(void) { [B new]; printf(\"e\"); return 7; }",
+        input: "",
+        stop: Stop::Ended(7),
+        printed: "e",
+        shown: "(1 of 2)(2 of 1)e",
+    },
 ];
 
 #[test]
 fn objects(rt: HostRuntime) {
-    assert_eq!(rt; first_other(rt.alloc(), CLASSES, &WITH_CLASSES), None);
+    assert!(rt; first_other(rt.alloc(), CLASSES, &WITH_CLASSES).is_none());
 }
 
 /// Faults, each with its number and its name.

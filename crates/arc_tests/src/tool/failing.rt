@@ -1,4 +1,7 @@
 //! Runs and traces on devices that fail.
+ghost use Rattle.std.specs.Prelude.{◌≡◌};
+ghost use Rattle.arc_code.specs.Counting.{failures_of};
+
 use crate::devices::{Broken, Narrow, unflushed, with_room};
 use crate::machine::programs::machine_of;
 use arc_code::code::IoFault;
@@ -22,34 +25,35 @@ const LINES: &[u8] = b"out 610a\ndealloc 1 Leaf\ndealloc 2 Leaf\nout 62\nend -1\
 /// How a source ends on a reader that fails, and how often the reader and the writer have failed then.
 type End = (Result<Stop, ToolFault>, u64, u64);
 
-/// Whether a source that runs on a reader that fails ends so, after the writer took this.
-fn runs(alloc: Global, source: &[u8], writer: Narrow, end: End, taken: &[u8]) -> bool {
-    let mut reader = Counted::new(Broken);
-    let mut writer = Counted::new(writer);
-    let answer = run_text(
-        alloc,
-        source,
-        1_048_576,
-        1_000_000,
-        &mut reader,
-        &mut writer,
-    );
-    let is_taken = writer.get_ref().taken.as_slice() == taken;
-    is_taken && (answer, reader.failures(), writer.failures()) == end
+/// What is done with a source.
+#[derive(Clone, Copy)]
+enum Way {
+    Runs,
+    Traces,
 }
 
-/// The same of a source that is traced.
-fn traces(alloc: Global, source: &[u8], writer: Narrow, end: End, taken: &[u8]) -> bool {
+/// How a source that is run or traced so ends on these devices.
+fn answer_of(
+    alloc: Global,
+    source: &[u8],
+    way: Way,
+    reader: &mut Counted<Broken>,
+    writer: &mut Counted<Narrow>,
+) -> Result<Stop, ToolFault>
+    requires reads { failures_of reader.old ≡ 0 }
+    requires writes { failures_of writer.old ≡ 0 }
+{
+    match way {
+        Way::Runs => run_text(alloc, source, 1_048_576, 1_000_000, reader, writer),
+        Way::Traces => trace_text(alloc, source, 1_048_576, 1_000_000, reader, writer),
+    }
+}
+
+/// Whether a source that is run or traced on a reader that fails ends so, after the writer took this.
+fn ends(alloc: Global, source: &[u8], way: Way, writer: Narrow, end: End, taken: &[u8]) -> bool {
     let mut reader = Counted::new(Broken);
     let mut writer = Counted::new(writer);
-    let answer = trace_text(
-        alloc,
-        source,
-        1_048_576,
-        1_000_000,
-        &mut reader,
-        &mut writer,
-    );
+    let answer = answer_of(alloc, source, way, &mut reader, &mut writer);
     let is_taken = writer.get_ref().taken.as_slice() == taken;
     is_taken && (answer, reader.failures(), writer.failures()) == end
 }
@@ -57,73 +61,88 @@ fn traces(alloc: Global, source: &[u8], writer: Narrow, end: End, taken: &[u8]) 
 /// How a source ends whose writer fails, which is reported once.
 const UNWRITTEN: End = (Err(ToolFault::Io(IoFault::Write)), 0, 1);
 
-/// Whether a run on a writer that has no room for all of the text writes what there is room for.
-fn run_breaks(alloc: Global, text: &[u8]) -> bool {
+/// Whether a run or a trace on a writer that has no room for all of its text writes what there is room for.
+fn breaks(alloc: Global, way: Way, text: &[u8]) -> bool {
     for room in 0..text.len() {
-        if !runs(
-            alloc,
-            SOURCE,
-            with_room(alloc, room),
-            UNWRITTEN,
-            &text[..room],
-        ) {
+        let writer = with_room(alloc, room);
+        if !ends(alloc, SOURCE, way, writer, UNWRITTEN, &text[..room]) {
             return false;
         }
     }
     true
 }
 
-/// The same of a trace.
-fn trace_breaks(alloc: Global, lines: &[u8]) -> bool {
-    for room in 0..lines.len() {
-        if !traces(
-            alloc,
-            SOURCE,
-            with_room(alloc, room),
-            UNWRITTEN,
-            &lines[..room],
-        ) {
-            return false;
-        }
-    }
-    true
-}
+/// A source that reads after what it prints.
+const READING: &[u8] = b"int main(void) { printf(\"a\"); getchar(); printf(\"b\"); }";
 
 /// A writer that holds what it had room for of the text is reported as the fault, once; one with room for it all isn't.
 /// Nothing is read after it failed.
 #[test]
 fn a_writer_that_fails(rt: HostRuntime) {
     let alloc = rt.alloc();
-    let source = b"int main(void) { printf(\"a\"); getchar(); }";
-    assert!(rt; run_breaks(alloc, TEXT) && trace_breaks(alloc, LINES));
-    assert!(rt; traces(alloc, source, with_room(alloc, 0), UNWRITTEN, b""));
+    let unread = ends(
+        alloc,
+        READING,
+        Way::Traces,
+        with_room(alloc, 0),
+        UNWRITTEN,
+        b"",
+    );
+    assert!(rt; unread && breaks(alloc, Way::Runs, TEXT) && breaks(alloc, Way::Traces, LINES));
 }
 
 #[test]
 fn a_writer_with_room(rt: HostRuntime) {
     let alloc = rt.alloc();
     let end = (Ok(Stop::Ended(-1)), 0, 0);
-    let ran = runs(alloc, SOURCE, with_room(alloc, TEXT.len()), end, TEXT);
-    let traced = traces(alloc, SOURCE, with_room(alloc, LINES.len()), end, LINES);
+    let ran = ends(
+        alloc,
+        SOURCE,
+        Way::Runs,
+        with_room(alloc, TEXT.len()),
+        end,
+        TEXT,
+    );
+    let traced = ends(
+        alloc,
+        SOURCE,
+        Way::Traces,
+        with_room(alloc, LINES.len()),
+        end,
+        LINES,
+    );
     assert!(rt; ran && traced);
 }
 
 #[test]
 fn a_flush_that_fails(rt: HostRuntime) {
     let alloc = rt.alloc();
-    let ran = runs(alloc, SOURCE, unflushed(alloc), UNWRITTEN, TEXT);
-    let traced = traces(alloc, SOURCE, unflushed(alloc), UNWRITTEN, LINES);
+    let ran = ends(alloc, SOURCE, Way::Runs, unflushed(alloc), UNWRITTEN, TEXT);
+    let traced = ends(
+        alloc,
+        SOURCE,
+        Way::Traces,
+        unflushed(alloc),
+        UNWRITTEN,
+        LINES,
+    );
     assert!(rt; ran && traced);
 }
 
 #[test]
 fn a_reader_that_fails(rt: HostRuntime) {
     let alloc = rt.alloc();
-    let source = b"int main(void) { printf(\"a\"); getchar(); printf(\"b\"); }";
     let end = (Err(ToolFault::Io(IoFault::Read)), 1, 0);
-    let ran = runs(alloc, source, with_room(alloc, 100), end, b"a");
+    let ran = ends(alloc, READING, Way::Runs, with_room(alloc, 100), end, b"a");
     let lines = b"out 61\nio 91 Read\n";
-    let traced = traces(alloc, source, with_room(alloc, 100), end, lines);
+    let traced = ends(
+        alloc,
+        READING,
+        Way::Traces,
+        with_room(alloc, 100),
+        end,
+        lines,
+    );
     assert!(rt; ran && traced);
 }
 
@@ -154,5 +173,5 @@ fn goes_on(alloc: Global) -> Option<bool> {
 
 #[test]
 fn steps_that_go_on(rt: HostRuntime) {
-    assert_eq!(rt; goes_on(rt.alloc()), Some(true));
+    assert!(rt; goes_on(rt.alloc()) == Some(true));
 }

@@ -4,12 +4,25 @@ use arc_machine::stop::Stop;
 use arc_tool::run::{ToolFault, run_text};
 use std::alloc::{AllocError, Global};
 
-/// The number and the place of a source's refusal, as a run answers it.
-fn refused(alloc: Global, source: &[u8]) -> Option<(u8, usize)> {
+/// How a source that reads nothing ends, and how many bytes it prints.
+fn run_of(alloc: Global, source: &[u8]) -> (Result<Stop, ToolFault>, usize) {
     let mut reader = Counted::new(b"".as_slice());
     let mut writer = Counted::new(Vec::new(alloc));
-    match run_text(alloc, source, 1_048_576, 1, &mut reader, &mut writer) {
-        Err(ToolFault::Refused(refusal)) => Some((refusal.number, refusal.at)),
+    let stop = run_text(
+        alloc,
+        source,
+        1_048_576,
+        1_000_000_000,
+        &mut reader,
+        &mut writer,
+    );
+    (stop, writer.get_ref().len())
+}
+
+/// The number and the place of a source's refusal, as a run answers it.
+fn refused(alloc: Global, source: &[u8]) -> Option<(u8, usize)> {
+    match run_of(alloc, source) {
+        (Err(ToolFault::Refused(refusal)), 0) => Some((refusal.number, refusal.at)),
         _ => None,
     }
 }
@@ -46,7 +59,7 @@ fn first_accepted(alloc: Global) -> Option<u8> {
 /// No byte alone is a program.
 #[test]
 fn single_bytes(rt: HostRuntime) {
-    assert_eq!(rt; first_accepted(rt.alloc()), None);
+    assert!(rt; first_accepted(rt.alloc()).is_none());
 }
 
 /// What a source of so many spaces is refused for.
@@ -63,30 +76,18 @@ fn many_calls(alloc: Global) -> Result<Vec<u8>, AllocError> {
     Ok(calls)
 }
 
-/// How a source that reads nothing ends, and how many bytes it prints.
-fn run_of(alloc: Global, source: &[u8]) -> (Result<Stop, ToolFault>, usize) {
-    let mut reader = Counted::new(b"".as_slice());
-    let mut writer = Counted::new(Vec::new(alloc));
-    let stop = run_text(
-        alloc,
-        source,
-        1_048_576,
-        1_000_000_000,
-        &mut reader,
-        &mut writer,
-    );
-    (stop, writer.get_ref().len())
+/// Whether a source with 87,000 calls runs to its end.
+fn runs_many_calls(alloc: Global) -> bool {
+    match many_calls(alloc) {
+        Ok(calls) => run_of(alloc, &calls) == (Ok(Stop::Ended(0)), 87_000),
+        Err(_) => false,
+    }
 }
 
 #[test]
 fn long_sources(rt: HostRuntime) {
     let alloc = rt.alloc();
-    let (longest, longer) = (
-        refused_spaces(alloc, 1_048_576),
-        refused_spaces(alloc, 1_048_577),
-    );
-    assert_eq!(rt; (longest, longer), (Some((29, 0)), Some((6, 1_048_576))));
-    let calls = many_calls(alloc).expect(&rt, "no memory");
-    let run = run_of(alloc, &calls);
-    assert!(rt; run == (Ok(Stop::Ended(0)), 87_000));
+    let is_longest = refused_spaces(alloc, 1_048_576) == Some((29, 0));
+    let is_longer = refused_spaces(alloc, 1_048_577) == Some((6, 1_048_576));
+    assert!(rt; is_longest && is_longer && runs_many_calls(alloc));
 }

@@ -5,7 +5,6 @@ use arc_code::counted::Counted;
 use arc_tool::request::{Words, WordsFault};
 use arc_tool::serve::{FileFault, serve};
 use std::alloc::Global;
-use std::test::Fail;
 
 /// The status, what a writer with room for two bytes takes, and what one for errors takes that has so much room.
 type Shown<'a> = (u8, &'a [u8], &'a [u8]);
@@ -45,11 +44,19 @@ fn want_of_memory(rt: HostRuntime) {
     assert!(rt; is_said && shows(alloc, words, of_file, 100, want));
 }
 
+/// Whether this text is what a wish for help shows.
+fn shows_help(alloc: Global, text: &str) -> bool {
+    match String::from_str(alloc, text) {
+        Ok(help) => {
+            let want: Shown = (0, text.as_bytes(), b"");
+            let asked = Err(WordsFault::Help(help));
+            shows(alloc, asked, Err(FileFault::Failed), 100, want)
+        }
+        Err(_) => false,
+    }
+}
+
 #[test]
-fn help(rt: HostRuntime) -> Result<(), Fail> {
-    let alloc = rt.alloc();
-    let asked = Err(WordsFault::Help(String::from_str(alloc, "?\n")?));
-    let want: Shown = (0, b"?\n", b"");
-    assert!(rt; shows(alloc, asked, Err(FileFault::Failed), 100, want));
-    Ok(())
+fn help(rt: HostRuntime) {
+    assert!(rt; shows_help(rt.alloc(), "?\n"));
 }

@@ -68,7 +68,7 @@ fn first_other<'a>(alloc: Global, rows: &[(&[&str], Command, &'a str, u64)]) -> 
 
 #[test]
 fn commands(rt: HostRuntime) {
-    assert_eq!(rt; first_other(rt.alloc(), &COMMANDS), None);
+    assert!(rt; first_other(rt.alloc(), &COMMANDS).is_none());
 }
 
 /// Whether the words are none that can be used.
@@ -81,7 +81,7 @@ fn refused_words(rt: HostRuntime) {
     let alloc = rt.alloc();
     let (nothing, program) = (are_misused(alloc, &[]), are_misused(alloc, &["arcc"]));
     let steps = are_misused(alloc, &["arcc", "run", "a.m", "--steps", ""]);
-    assert_eq!(rt; (nothing, program, steps), (true, true, true));
+    assert!(rt; nothing && program && steps);
 }
 
 /// Whether this word asks for the help.
@@ -95,10 +95,5 @@ fn helps(alloc: Global, word: &str) -> bool {
 #[test]
 fn help(rt: HostRuntime) {
     let alloc = rt.alloc();
-    let helped = (
-        helps(alloc, "--help"),
-        helps(alloc, "-h"),
-        helps(alloc, "help"),
-    );
-    assert_eq!(rt; helped, (true, true, true));
+    assert!(rt; helps(alloc, "--help") && helps(alloc, "-h") && helps(alloc, "help"));
 }
