@@ -23,7 +23,7 @@ use Rattle.arc_steps.proofs.Ending.{dying_held, dying_stands}
 abbrev pub begins : Program → State → (back k : ℕ) → Object → Held → Next State
 begins p s back k o h = begins_end p s back (suc k) o.class (with_things (lowered (suc k) h) (slice_set h.objects k (in_phase Dying o))) (has_level s)
 
-module _ {S : Type 0} (out : S → Blocks) (p : Program) (old : Spot S) (s : State) (is : IsAt out p.classes old s) where
+module _ {S : Type 0} {foreign : Blocks} (out : S → Blocks) (p : Program) (old : Spot S) (s : State) (is : IsAt foreign out p.classes old s) where
   pub level_is : (b : Bool) → nat_lt (length old.parts.frames) MOST_LEVELS ≡ b → has_level s ≡ b
   level_is b e =
       let t = is.memory.1 in
@@ -32,22 +32,22 @@ module _ {S : Type 0} (out : S → Blocks) (p : Program) (old : Spot S) (s : Sta
 
   module _ (n : Next State) (back k : ℕ) (o : Object) (h : Held) (next : n ≡ begins p s back k o h) where
     -- one level more than there are
-    pub faults_went : (new : Spot S) (a : Answer) (event : Option Event) → nat_lt (length old.parts.frames) MOST_LEVELS ≡ false → a ≡ Faulted Depth → new ≡ old → Went out p.classes n a (shown event) old new
+    pub faults_went : (new : Spot S) (a : Answer) (event : Option Event) → nat_lt (length old.parts.frames) MOST_LEVELS ≡ false → a ≡ Faulted Depth → new ≡ old → Went foreign out p.classes n a (shown event) old new
     faults_went new a event level answer stays =
-        subst (λ a. Went out p.classes n a (shown event) old new) (sym answer)
+        subst (λ a. Went foreign out p.classes n a (shown event) old new) (sym answer)
         (next ∙ ap (begins_end p s back (suc k) o.class (with_things (lowered (suc k) h) (slice_set h.objects k (in_phase Dying o)))) (level_is false level), stays)
 
     -- the end begins
-    pub begun_went : (m : Parts S) → Stands is.memory.0 p.classes (memory_of out m) s.frames h → sizes m ≡ sizes old.parts → slice_get h.objects k ≡ Some o → o.phase ≡ Live → (w : ℕ) → w ≡ is.memory.0 k
+    pub begun_went : (m : Parts S) → Stands foreign is.memory.0 p.classes (memory_of out m) s.frames h → sizes m ≡ sizes old.parts → slice_get h.objects k ≡ Some o → o.phase ≡ Live → (w : ℕ) → w ≡ is.memory.0 k
         → (new : Spot S) (a : Answer) (event : Option Event) → nat_lt (length old.parts.frames) MOST_LEVELS ≡ true → a ≡ Going → new.at ≡ p.end_step → new.stack ≡ old.stack
-        → ((c : Cell) → IsCell (out m.store) w c → Begins out m new.parts w back (length p.classes) event c) → Went out p.classes n a (shown event) old new
+        → ((c : Cell) → IsCell (out m.store) w c → Begins out m new.parts w back (length p.classes) event c) → Went foreign out p.classes n a (shown event) old new
     begun_went m t same found live w word new a event level answer at stack begin =
         let stored = block_of is.memory.0 p.classes (memory_of out m) s.frames h t k o found (ap is_there live) in
         let cell = cell_of o (h.counts (suc k)) (suc k) stored.fields in
         let b = begin cell (subst (λ w. IsCell (out m.store) w cell) (sym word) stored.block) in
         let to : State = record { at = p.end_step; stack = s.stack; frames = Ending back (waiter_of h) (suc k) (Some o.class) (length p.classes) ∷ s.frames; held = dying_held h k o } in
         let dying = dying_stands is.memory.0 p.classes (memory_of out m) s.frames h t k o found live w word (memory_of out new.parts) (λ c is. (begin c is).block) back (Some o.class) (length p.classes) b.waits in
-        subst (λ a. Went out p.classes n a (shown event) old new) (sym answer) (
+        subst (λ a. Went foreign out p.classes n a (shown event) old new) (sym answer) (
           to,
           next ∙ ap (begins_end p s back (suc k) o.class (with_things (lowered (suc k) h) (slice_set h.objects k (in_phase Dying o)))) (level_is true level) ∙ ap (λ es. Goes to es) (sym (ap shown b.shown)),
           record { at = at; stack = stack ∙ is.stack; memory = (is.memory.0, dying) },

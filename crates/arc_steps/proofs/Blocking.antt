@@ -5,6 +5,7 @@ use Rattle.arc_spec.specs.Classes.{Class}
 use Rattle.arc_spec.specs.Objects.{Object, Phase, Live, Dying, Emptying, Gone, in_phase, is_live}
 use Rattle.arc_spec.specs.Holding.{Held, Frame, is_there, raised, lowered, on_object, lets_go, with_things}
 use Rattle.arc_spec.specs.Stepping.{Next, only_if}
+use Rattle.arc_heap.specs.Blocks.{Blocks}
 use Rattle.arc_cells.specs.Cells.{Cell, words, IsCell, Becomes, with_count}
 use Rattle.arc_cells.specs.Standing.{Memory, Stands, NamesBlock, Alters, IsLast, cell_of, phase_word, place, with_store}
 use Rattle.arc_steps.proofs.Standings.{block_of, raised_nil, raised_stands, lowered_nil, lowered_stands}
@@ -23,7 +24,7 @@ phase_cases Dying e = inr (inl refl)
 phase_cases Emptying e = inr (inr refl)
 phase_cases Gone e = absurd (cc)
 
-module _ (at : ℕ → ℕ) (classes : List Class) (m : Memory) (frames : List Frame) (h : Held) (t : Stands at classes m frames h) where
+module _ {foreign : Blocks} (at : ℕ → ℕ) (classes : List Class) (m : Memory) (frames : List Frame) (h : Held) (t : Stands foreign at classes m frames h) where
   pub block_phase : (k : ℕ) (o : Object) (there : slice_get h.objects k ≡ Some o) (here : is_there o.phase ≡ true) (c : Cell) → IsCell m.store (at k) c → c.phase ≡ phase_word o.phase
   block_phase k o there here c is =
       let stored = block_of at classes m frames h t k o there here in
@@ -64,27 +65,27 @@ module _ (at : ℕ → ℕ) (classes : List Class) (m : Memory) (frames : List F
 
   -- ---- one holder more, or less
 
-  pub raised_any : (r w : ℕ) (m' : Memory) → IsThere h.objects r → w ≡ place at r → Alters m m' w (λ c. with_count c (c.count + 1)) → Stands at classes m' frames (raised r h)
+  pub raised_any : (r w : ℕ) (m' : Memory) → IsThere h.objects r → w ≡ place at r → Alters m m' w (λ c. with_count c (c.count + 1)) → Stands foreign at classes m' frames (raised r h)
   raised_any zero w m' there e a =
       let same : m'.store ≡ m.store = a.nil e in
       let is : m ≡ m' = sym (a.others ∙ ap (with_store m) same) in
-      subst (λ m. Stands at classes m frames (raised 0 h)) is (raised_nil at classes m frames h t)
+      subst (λ m. Stands foreign at classes m frames (raised 0 h)) is (raised_nil at classes m frames h t)
   raised_any (suc k) w m' there e a =
       let above : 0 < w = subst (λ w. 0 < w) (sym e) (t.some k) in
       let change : (c : Cell) → IsCell m.store (at k) c → Becomes m.store m'.store (at k) (with_count c (c.count + 1)) =
       λ c is. subst (λ w. Becomes m.store m'.store w (with_count c (c.count + 1))) e (a.block above c (subst (λ w. IsCell m.store w c) (sym e) is)) in
-      subst (λ m. Stands at classes m frames (raised (suc k) h)) (sym a.others) (raised_stands at classes m frames h t k there.0 there.1 there.2 m'.store change)
+      subst (λ m. Stands foreign at classes m frames (raised (suc k) h)) (sym a.others) (raised_stands at classes m frames h t k there.0 there.1 there.2 m'.store change)
 
-  pub lowered_any : (r w : ℕ) (m' : Memory) → IsThere h.objects r → w ≡ place at r → Alters m m' w (λ c. with_count c (c.count - 1)) → Stands at classes m' frames (lowered r h)
+  pub lowered_any : (r w : ℕ) (m' : Memory) → IsThere h.objects r → w ≡ place at r → Alters m m' w (λ c. with_count c (c.count - 1)) → Stands foreign at classes m' frames (lowered r h)
   lowered_any zero w m' there e a =
       let same : m'.store ≡ m.store = a.nil e in
       let is : m ≡ m' = sym (a.others ∙ ap (with_store m) same) in
-      subst (λ m. Stands at classes m frames (lowered 0 h)) is (lowered_nil at classes m frames h t)
+      subst (λ m. Stands foreign at classes m frames (lowered 0 h)) is (lowered_nil at classes m frames h t)
   lowered_any (suc k) w m' there e a =
       let above : 0 < w = subst (λ w. 0 < w) (sym e) (t.some k) in
       let change : (c : Cell) → IsCell m.store (at k) c → Becomes m.store m'.store (at k) (with_count c (c.count - 1)) =
       λ c is. subst (λ w. Becomes m.store m'.store w (with_count c (c.count - 1))) e (a.block above c (subst (λ w. IsCell m.store w c) (sym e) is)) in
-      subst (λ m. Stands at classes m frames (lowered (suc k) h)) (sym a.others) (lowered_stands at classes m frames h t k there.0 there.1 there.2 m'.store change)
+      subst (λ m. Stands foreign at classes m frames (lowered (suc k) h)) (sym a.others) (lowered_stands at classes m frames h t k there.0 there.1 there.2 m'.store change)
 
 -- ---- what a state does where an object is let go of
 

@@ -12,9 +12,9 @@ use Rattle.arc_heap.specs.Blocks.{Blocks}
 use Rattle.arc_cells.specs.Cells.{words, IsCell, Becomes, with_word}
 use Rattle.arc_cells.specs.Fields.{name_index}
 use Rattle.arc_cells.specs.Standing.{Memory, Stands, Stored, Values, Begin, Alters, Ends, IsKnown, IsEmptying, cell_of, place, waiter_words, waiting, with_store, with_frames}
-use Rattle.arc_steps.proofs.Standings.{block_of, kept_of, changed_stands, known_fields}
+use Rattle.arc_steps.proofs.Standings.{block_of, kept_of, set_here, changed_stands, known_fields}
 use Rattle.arc_steps.proofs.Endings.{ends_else}
-use Rattle.arc_steps.proofs.Ending.{set_here, reframed_stands}
+use Rattle.arc_steps.proofs.Ending.{reframed_stands}
 use Rattle.arc_steps.proofs.Naming.{slot_in}
 
 -- ---- lists of which one element is another now
@@ -86,11 +86,11 @@ known_set n o index here known =
     subst (λ l. All P l) (sym is) (all_set P o.strong index 0 (omega arith) (subst (λ l. All P l) was known))
 
 -- the next field names nothing any more, and one field less is left
-module _ (at : ℕ → ℕ) (classes : List Class) (m : Memory) (h : Held) (w : Waiter) (back k index : ℕ) (fields : List ℕ) (others : List Frame) (t : Stands at classes m (Clearing back w (suc k) (index ∷ fields) ∷ others) h)
+module _ {foreign : Blocks} (at : ℕ → ℕ) (classes : List Class) (m : Memory) (h : Held) (w : Waiter) (back k index : ℕ) (fields : List ℕ) (others : List Frame) (t : Stands foreign at classes m (Clearing back w (suc k) (index ∷ fields) ∷ others) h)
     (o : Object) (found : slice_get h.objects k ≡ Some o) (emptying : o.phase ≡ Emptying) (slot : ℕ) (is_slot : name_index (slice_get classes o.class) index ≡ Some slot) where
   pub cleared_stands : (word : ℕ) → word ≡ at k → (mid : Memory) → Alters m mid word (λ c. with_word c slot 0) → (counts' : ℕ → ℕ) → ((j : ℕ) → counts' (suc j) ≡ h.counts (suc j))
       → (m' : Memory) → m' ≡ with_frames mid (slice_set mid.frames 0 (Clear back (waiter_words at w) word (length fields)))
-      → Stands at classes m' (Clearing back w (suc k) fields ∷ others) (record h { objects = slice_set h.objects k (unnamed o index); counts = counts' })
+      → Stands foreign at classes m' (Clearing back w (suc k) fields ∷ others) (record h { objects = slice_set h.objects k (unnamed o index); counts = counts' })
   cleared_stands word is mid alters counts' same_counts m' now =
       let n = length h.objects in
       let frame : Frame = Clearing back w (suc k) (index ∷ fields) in
@@ -114,7 +114,7 @@ module _ (at : ℕ → ℕ) (classes : List Class) (m : Memory) (h : Held) (w : 
       let kept = kept_of x.phase (place at) classes mid.store (at k) (suc k) (counts' (suc k)) x here
       (stored_set at classes m.store mid.store (at k) (suc k) (h.counts (suc k)) (counts' (suc k)) o stored index slot slot_is change (sym (same_counts k))) in
       let ends_now : Ends classes (slice_set h.objects k x) others = ends_else classes h.objects k x others unended ends in
-      let t2 = changed_stands at classes m1 (call ∷ others) h t1 k o x counts' found (cell, stored.block, refl) mid.store _ change (λ j other. same_counts j) kept ends_now
+      let t2 = changed_stands at classes m1 (call ∷ others) h t1 k o x counts' found here (cell, stored.block, refl) mid.store _ change (λ gone. absurd (cc)) (λ j other. same_counts j) kept ends_now
       (known_set n o index here (known_fields at classes m (frame ∷ others) h t k o found)) in
       let h2 : Held = record h { objects = slice_set h.objects k x; counts = counts' } in
       let same : length h.objects ≡ length h2.objects = sym (length-set h.objects k x) in
@@ -129,4 +129,4 @@ module _ (at : ℕ → ℕ) (classes : List Class) (m : Memory) (h : Held) (w : 
       let memory : m' ≡ with_frames (with_store m1 mid.store) (slice_set (slice_set m.frames 0 called) 0 clear) =
       now ∙ ap (λ (mm : Memory). with_frames mm (slice_set mm.frames 0 (Clear back (waiter_words at w) word (length fields)))) alters.others
       ∙ ap (λ f. with_frames (with_store m mid.store) (slice_set m.frames 0 f)) spelled ∙ ap (λ fs. with_frames (with_store m mid.store) fs) (sym (set_twice m.frames called clear)) in
-      subst (λ (mm : Memory). Stands at classes mm (clearing ∷ others) h2) (sym memory) t3
+      subst (λ (mm : Memory). Stands foreign at classes mm (clearing ∷ others) h2) (sym memory) t3

@@ -9,6 +9,7 @@ use Rattle.arc_spec.specs.Objects.{Object, Live, Dying, Emptying, Gone, object_a
 use Rattle.arc_spec.specs.Holding.{Held, Frame, Calling, Ending, Clearing, Waiter, is_there, lowered, waiter_of, entered, resumed, with_variables, with_things, turned_in}
 use Rattle.arc_spec.specs.Stepping.{Goes}
 use Rattle.arc_code.specs.Running.{Program, State, end_goes_on, ends_class, after_deallocs, runs_dealloc}
+use Rattle.arc_heap.specs.Blocks.{Blocks}
 use Rattle.arc_cells.specs.declared.waiting.Waiter.{Waiter as Words}
 use Rattle.arc_cells.specs.declared.waiting.Waiting.TheVariants.{End, Clear}
 use Rattle.arc_cells.specs.Cells.{Cell, words, IsCell, Sets, Becomes, with_count, with_phase}
@@ -16,13 +17,8 @@ use Rattle.arc_cells.specs.declared.waiting.Waiting.{Waiting}
 use Rattle.arc_cells.specs.Standing.{Memory, Stands, Stored, Ends, EndsOther, IsKnown, IsDying, IsEmptying, cell_of, place, waiter_words, waiting, waiting_places, with_store, with_frames, words_of, entering, undeclaring, resuming}
 use Rattle.arc_steps.specs.Releases.{class_up}
 use Rattle.arc_steps.proofs.Endings.{ends_else, live_unended}
-use Rattle.arc_steps.proofs.Standings.{block_of, known_fields, known_stacked, lowered_there, lowered_else, spelled_stands, changed_stands}
+use Rattle.arc_steps.proofs.Standings.{block_of, known_fields, known_stacked, lowered_there, lowered_else, set_here, spelled_stands, changed_stands}
 use Rattle.arc_steps.proofs.Framed.{waiter_is, entered_stands, undeclared_stands, resumed_stands}
-
-pub set_here : (all : List Object) (k : ℕ) (x a : Object) → slice_get all k ≡ Some a → slice_get (slice_set all k x) k ≡ Some x
-set_here [] k x a e = cc
-set_here (b ∷ all) zero x a e = refl
-set_here (b ∷ all) (suc k) x a e = set_here all k x a e
 
 -- an object that isn't gone names what it named
 pub there_fields : (h : Held) (k : ℕ) (o x : Object) → slice_get h.objects k ≡ Some o → is_there o.phase ≡ true → x.strong ≡ o.strong → is_there x.phase ≡ true → All (λ r. r ≤ length h.objects) (fields_of o) → All (λ r. r ≤ length h.objects) (fields_of x)
@@ -37,10 +33,10 @@ there_fields h k o x there here same stays known =
 abbrev pub dying_held : Held → ℕ → Object → Held
 dying_held h k o = entered (suc k) (with_things (lowered (suc k) h) (slice_set h.objects k (in_phase Dying o)))
 
-pub dying_stands : (at : ℕ → ℕ) (classes : List Class) (m : Memory) (frames : List Frame) (h : Held) → Stands at classes m frames h → (k : ℕ) (o : Object) → slice_get h.objects k ≡ Some o → o.phase ≡ Live → (w : ℕ) → w ≡ at k → (m' : Memory)
+pub dying_stands : {foreign : Blocks} (at : ℕ → ℕ) (classes : List Class) (m : Memory) (frames : List Frame) (h : Held) → Stands foreign at classes m frames h → (k : ℕ) (o : Object) → slice_get h.objects k ≡ Some o → o.phase ≡ Live → (w : ℕ) → w ≡ at k → (m' : Memory)
     → ((c : Cell) → IsCell m.store w c → Becomes m.store m'.store w (with_phase (with_count c (c.count - 1)) 1)) → (back : ℕ) (next : Option ℕ) (left : ℕ) → m' ≡ entering (with_store m m'.store) w (End back (words_of m) w next left)
-    → Stands at classes m' (Ending back (waiter_of h) (suc k) next left ∷ frames) (dying_held h k o)
-dying_stands at classes m frames h t k o there live w word m' block back next left waits =
+    → Stands foreign at classes m' (Ending back (waiter_of h) (suc k) next left ∷ frames) (dying_held h k o)
+dying_stands {foreign = foreign} at classes m frames h t k o there live w word m' block back next left waits =
     let stored = block_of at classes m frames h t k o there (ap is_there live) in
     let cell = cell_of o (h.counts (suc k)) (suc k) stored.fields in
     let change : Becomes m.store m'.store (at k) (with_phase (with_count cell (cell.count - 1)) 1) =
@@ -56,7 +52,7 @@ dying_stands at classes m frames h t k o there live w word m' block back next le
     } in
     let unended = live_unended classes h.objects k o frames there live t.ends in
     let h1 : Held = with_things (lowered (suc k) h) (slice_set h.objects k x) in
-    let u : Stands at classes (with_store m m'.store) frames h1 = changed_stands at classes m frames h t k o x counts' there (cell, stored.block, refl) m'.store _ change
+    let u : Stands foreign at classes (with_store m m'.store) frames h1 = changed_stands at classes m frames h t k o x counts' there (ap is_there live) (cell, stored.block, refl) m'.store _ change (λ gone. absurd (cc))
     (λ j other. lowered_else (suc k) (suc j) h (λ equal. other (omega arith))) now (ends_else classes h.objects k x frames unended t.ends)
     (there_fields h k o x there (ap is_there live) refl refl (known_fields at classes m frames h t k o there)) in
     let below = slice_get_within h.objects k o there in
@@ -64,7 +60,7 @@ dying_stands at classes m frames h t k o there live w word m' block back next le
     let within : suc k ≤ length h1.objects = omega arith in
     let frame = Ending back (waiter_of h) (suc k) next left in
     let wait : End back (words_of m) w next left ≡ waiting at frame = (let waiter = waiter_is at classes m frames h t in cc) in
-    subst (λ m. Stands at classes m (frame ∷ frames) (dying_held h k o)) (sym waits)
+    subst (λ m. Stands foreign at classes m (frame ∷ frames) (dying_held h k o)) (sym waits)
     (entered_stands at classes (with_store m m'.store) frames h1 u (suc k) w frame (End back (words_of m) w next left) word wait refl within
     (All-cons (IsKnown (length h1.objects)) frame frames (u.known_self, within) u.known_frames)
     (subst (λ found. IsDying found) (sym (set_here h.objects k x o there)) refl, unended, u.ends))
@@ -123,12 +119,12 @@ runs None s frames = refl
 runs (Some to) s frames = refl
 
 -- the places and words stay where the end of the same object waits for the same otherwise
-pub reframed_stands : (at : ℕ → ℕ) (classes : List Class) (m : Memory) (h : Held) (old new : Frame) (others : List Frame) → Stands at classes m (old ∷ others) h → waiting_places (new ∷ others) ≡ waiting_places (old ∷ others) → IsKnown (length h.objects) new
-    → Ends classes h.objects (new ∷ others) → (wait : Waiting) → wait ≡ waiting at new → (m' : Memory) → m' ≡ with_frames m (slice_set m.frames 0 wait) → Stands at classes m' (new ∷ others) h
-reframed_stands at classes m h old new others t places known ends wait is m' e =
+pub reframed_stands : {foreign : Blocks} (at : ℕ → ℕ) (classes : List Class) (m : Memory) (h : Held) (old new : Frame) (others : List Frame) → Stands foreign at classes m (old ∷ others) h → waiting_places (new ∷ others) ≡ waiting_places (old ∷ others) → IsKnown (length h.objects) new
+    → Ends classes h.objects (new ∷ others) → (wait : Waiting) → wait ≡ waiting at new → (m' : Memory) → m' ≡ with_frames m (slice_set m.frames 0 wait) → Stands foreign at classes m' (new ∷ others) h
+reframed_stands {foreign = foreign} at classes m h old new others t places known ends wait is m' e =
     let n = length h.objects in
     let words = slice_set m.frames 0 wait in
-    subst (λ m. Stands at classes m (new ∷ others) h) (sym e) (spelled_stands at classes m (with_frames m words) (old ∷ others) (new ∷ others) h h t (record {
+    subst (λ m. Stands foreign at classes m (new ∷ others) h) (sym e) (spelled_stands at classes m (with_frames m words) (old ∷ others) (new ∷ others) h h t (record {
       places = t.places;
       temporaries = t.temporaries;
       variables = t.variables;
@@ -143,8 +139,8 @@ reframed_stands at classes m h old new others t places known ends wait is m' e =
       ends = ends;
     }))
 
-pub goes_on_stands : (at : ℕ → ℕ) (classes : List Class) (m : Memory) (h : Held) (back : ℕ) (w : Waiter) (o : ℕ) (next : Option ℕ) (left : ℕ) (others : List Frame) → Stands at classes m (Ending back w o next left ∷ others) h
-    → (next' : Option ℕ) (left' : ℕ) (m' : Memory) → m' ≡ with_frames m (slice_set m.frames 0 (End back (waiter_words at w) (place at o) next' left')) → Stands at classes m' (Ending back w o next' left' ∷ others) h
+pub goes_on_stands : {foreign : Blocks} (at : ℕ → ℕ) (classes : List Class) (m : Memory) (h : Held) (back : ℕ) (w : Waiter) (o : ℕ) (next : Option ℕ) (left : ℕ) (others : List Frame) → Stands foreign at classes m (Ending back w o next left ∷ others) h
+    → (next' : Option ℕ) (left' : ℕ) (m' : Memory) → m' ≡ with_frames m (slice_set m.frames 0 (End back (waiter_words at w) (place at o) next' left')) → Stands foreign at classes m' (Ending back w o next' left' ∷ others) h
 goes_on_stands at classes m h back w o next left others t next' left' m' e =
     let n = length h.objects in
     let old : Frame = Ending back w o next left in
@@ -176,10 +172,10 @@ pub turned_is : (objects : List Object) (k : ℕ) (o : Object) → slice_get obj
 turned_is objects k o there = rw there refl
 
 -- the end of an object, which waits so, makes its last step
-module _ (at : ℕ → ℕ) (classes : List Class) (m : Memory) (h : Held) (frame : Frame) (w : Waiter) (k : ℕ) (others : List Frame) (t : Stands at classes m (frame ∷ others) h) (places : waiting_places (frame ∷ others) ≡ w.temporaries + w.variables + waiting_places others)
+module _ {foreign : Blocks} (at : ℕ → ℕ) (classes : List Class) (m : Memory) (h : Held) (frame : Frame) (w : Waiter) (k : ℕ) (others : List Frame) (t : Stands foreign at classes m (frame ∷ others) h) (places : waiting_places (frame ∷ others) ≡ w.temporaries + w.variables + waiting_places others)
     (known : w.self ≤ length h.objects) (unended : All (EndsOther (suc k)) others) (ends : Ends classes h.objects others) where
   pub gone_stands : h.temporaries ≡ [] → (o : Object) → slice_get h.objects k ≡ Some o → is_there o.phase ≡ true → h.counts (suc k) ≡ 0 → (word : ℕ) → word ≡ at k → (m' : Memory) → Sets m.store m'.store word None
-      → m' ≡ resuming (undeclaring (with_store m m'.store)) (waiter_words at w) → Stands at classes m' others (resumed w (with_things (with_variables h []) (turned_in Gone h.objects (suc k))))
+      → m' ≡ resuming (undeclaring (with_store m m'.store)) (waiter_words at w) → Stands foreign at classes m' others (resumed w (with_things (with_variables h []) (turned_in Gone h.objects (suc k))))
   gone_stands bare o there here none word is m' sets e =
       let n = length h.objects in
       let stored = block_of at classes m (frame ∷ others) h t k o there here in
@@ -187,7 +183,7 @@ module _ (at : ℕ → ℕ) (classes : List Class) (m : Memory) (h : Held) (fram
       let popped = undeclared_stands at classes m (frame ∷ others) h t bare in
       let left_h : Held = with_variables h [] in
       let resumes = resumed_stands at classes (undeclaring m) frame others left_h popped bare refl w places known (All-tail (IsKnown n) frame others t.known_frames) ends in
-      let freed = changed_stands at classes (resuming (undeclaring m) (waiter_words at w)) others (resumed w left_h) resumes k o (in_phase Gone o) h.counts there (cell, stored.block, refl) m'.store None
-      (subst (λ word. Sets m.store m'.store word None) is sets) (λ j other. refl) none (ends_else classes h.objects k (in_phase Gone o) others unended ends) (All-nil (λ r. r ≤ n)) in
-      subst (λ objects. Stands at classes m' others (resumed w (with_things left_h objects))) (sym (gone_is h.objects k o there))
-      (subst (λ m. Stands at classes m others (resumed w (with_things left_h (slice_set h.objects k (in_phase Gone o))))) (sym e) freed)
+      let freed = changed_stands at classes (resuming (undeclaring m) (waiter_words at w)) others (resumed w left_h) resumes k o (in_phase Gone o) h.counts there here (cell, stored.block, refl) m'.store None
+      (subst (λ word. Sets m.store m'.store word None) is sets) (λ gone. refl) (λ j other. refl) none (ends_else classes h.objects k (in_phase Gone o) others unended ends) (All-nil (λ r. r ≤ n)) in
+      subst (λ objects. Stands foreign at classes m' others (resumed w (with_things left_h objects))) (sym (gone_is h.objects k o there))
+      (subst (λ m. Stands foreign at classes m others (resumed w (with_things left_h (slice_set h.objects k (in_phase Gone o))))) (sym e) freed)

@@ -131,7 +131,7 @@ tests_same a b x y f g = elim (eqb_tells a b) [
   | inr p ↦ elim (eqb_tells y x) [ inl q ↦ absurd (p.1 (g (sym q.1))) | inr q ↦ p.0 ∙ sym q.0 ]
 ]
 
-module _ (at : ℕ → ℕ) (classes : List Class) (m : Memory) (frames : List Frame) (h : Held) (t : Stands at classes m frames h) where
+module _ {foreign : Blocks} (at : ℕ → ℕ) (classes : List Class) (m : Memory) (frames : List Frame) (h : Held) (t : Stands foreign at classes m frames h) where
   -- only nil has no block
   pub place_zero : (r : ℕ) → place at r ≡ 0 → r ≡ 0
   place_zero zero none = refl

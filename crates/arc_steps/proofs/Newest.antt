@@ -1,8 +1,9 @@
 -- A machine's memory goes on standing for objects where one is made.
-use Rattle.std.proofs.Common.{◌≡◌, ◌≢◌, ◌⊎◌, inl, inr, ℕ, zero, suc, ◌+◌, ◌-◌, ◌<◌, ◌≤◌, List, [], ◌∷◌, ◌++◌, length, replicate, drop, Some, None, Bool, true, false, nat_eq, length-append, refl, sym, ap, ◌∙◌, subst, arith}
+use Rattle.std.proofs.Common.{◌≡◌, ◌≢◌, ◌⊎◌, inl, inr, ℕ, zero, suc, ◌+◌, ◌-◌, ◌<◌, ◌≤◌, List, [], ◌∷◌, ◌++◌, length, replicate, drop, Option, Some, None, Bool, true, false, nat_eq, length-append, refl, sym, ap, ◌∙◌, subst, arith}
 use Rattle.std.specs.Prelude.{All, map, slice_get, if◌then◌else◌}
 use Rattle.std.proofs.lemmas.Bool.Decides.{nat_tests}
 use Rattle.std.proofs.lemmas.Grind.{common_steps}
+use Rattle.std.proofs.lemmas.Option.{slice_get_within}
 use Rattle.std.proofs.lemmas.List.Elements.{All-nil, All-cons, All-head, All-tail, All-append, All-weaker}
 use Rattle.arc_spec.specs.declared.sort_counts.SortCounts.{SortCounts}
 use Rattle.arc_spec.specs.Classes.{Class, field_counts}
@@ -11,10 +12,10 @@ use Rattle.arc_spec.specs.Objects.{Object, Phase, Live, Dying, Emptying, Gone, z
 use Rattle.arc_spec.specs.Holding.{Held, Frame, Calling, Ending, Clearing, Counted, is_there, stacked, all_places, holders, raised, makes}
 use Rattle.arc_heap.specs.Blocks.{Blocks}
 use Rattle.arc_heap.specs.Sizes.{class_of, size_of}
-use Rattle.arc_cells.specs.Cells.{Cell, words, IsCell, Becomes, fresh_cell}
-use Rattle.arc_cells.specs.Standing.{Memory, Values, Begin, Stored, Kept, Stands, StandsFor, IsKnown, cell_of, place, waiting, with_names, with_made, taking}
+use Rattle.arc_cells.specs.Cells.{Cell, words, IsCell, Sets, Becomes, fresh_cell}
+use Rattle.arc_cells.specs.Standing.{Memory, Values, Begin, Stored, Kept, HasBlock, Stands, StandsFor, IsKnown, cell_of, place, waiting, with_names, with_made, taking}
 use Rattle.arc_steps.proofs.Endings.{ends_more}
-use Rattle.arc_steps.proofs.Standings.{raised_there, raised_else, all_left, all_right, known_stacked, known_others, known_fields}
+use Rattle.arc_steps.proofs.Standings.{stored_of, raised_there, raised_else, all_left, all_right, known_stacked, known_others, known_fields}
 use Rattle.arc_cells.specs.declared.cell.TheConstants.{MOST_FIELDS}
 
 get_append : (xs : List Object) (x : Object) (j : ℕ) (y : Object) → slice_get (xs ++ x ∷ []) j ≡ Some y → ((j < length xs) × (slice_get xs j ≡ Some y)) ⊎ ((j ≡ length xs) × (y ≡ x))
@@ -22,6 +23,15 @@ get_append [] x zero y e = inr (refl, cc)
 get_append [] x (suc j) y e = absurd (cc)
 get_append (z ∷ xs) x zero y e = inl (omega arith, e)
 get_append (z ∷ xs) x (suc j) y e = elim (get_append xs x j y e) [ inl p ↦ inl (omega (arith, p.0), p.1) | inr p ↦ inr (ap suc p.0, p.1) ]
+
+get_more : (xs : List Object) (x : Object) (j : ℕ) (y : Object) → slice_get xs j ≡ Some y → slice_get (xs ++ x ∷ []) j ≡ Some y
+get_more [] x j y e = absurd (cc)
+get_more (z ∷ xs) x zero y e = e
+get_more (z ∷ xs) x (suc j) y e = get_more xs x j y e
+
+get_last : (xs : List Object) (x : Object) → slice_get (xs ++ x ∷ []) (length xs) ≡ Some x
+get_last [] x = refl
+get_last (z ∷ xs) x = get_last xs x
 
 -- no place names an object that wasn't made
 pub unheld : (n : ℕ) (places : List ℕ) → All (λ r. r ≤ n) places → holders (suc n) places ≡ 0
@@ -120,7 +130,7 @@ large_enough : (words : ℕ) → words ≤ 128 → words ≤ size_of (class_of w
 unfolding size_of
 large_enough words h = grind (arith, nat_tests, common_steps)
 
-module _ (at : ℕ → ℕ) (classes : List Class) (m : Memory) (frames : List Frame) (h : Held) (t : Stands at classes m frames h) (n : ℕ) (made : n ≡ length h.objects) (class r : ℕ) (out : m.store r ≡ None) (blocks' : Blocks)
+module _ {foreign : Blocks} (at : ℕ → ℕ) (classes : List Class) (m : Memory) (frames : List Frame) (h : Held) (t : Stands foreign at classes m frames h) (n : ℕ) (made : n ≡ length h.objects) (class r : ℕ) (out : m.store r ≡ None) (blocks' : Blocks)
     (change : Becomes m.store blocks' r (fresh_cell class (total (field_counts (slice_get classes class))) (n + 1))) where
   elsewhere : (j : ℕ) (c : Cell) → IsCell m.store (at j) c → at j ≢ r
   elsewhere j c e same = let no : None ≡ Some (words c) = sym out ∙ ap m.store (sym same) ∙ e in absurd (cc)
@@ -161,6 +171,35 @@ module _ (at : ℕ → ℕ) (classes : List Class) (m : Memory) (frames : List F
         all = (length_zeros fields ∙ ap (λ (c : SortCounts). c.numbers) is, length_nils strong ∙ ap (λ (c : SortCounts). c.objects) is, omega (arith, few, length_zeros fields, length_nils strong));
       }
 
+-- no blocks are out but those of the objects, with the new one's, and the foreign ones
+module _ {foreign : Blocks} (at : ℕ → ℕ) (classes : List Class) (m : Memory) (frames : List Frame) (h : Held) (t : Stands foreign at classes m frames h) (r : ℕ) (out : m.store r ≡ None) (blocks' : Blocks) (now : Option (List ℕ)) (change : Sets m.store blocks' r now)
+    (object : Object) (lives : is_there object.phase ≡ true) where
+  abbrev all : List Object
+  all = h.objects ++ object ∷ []
+
+  abbrev at' : ℕ → ℕ
+  at' = placed_at at (length h.objects) r
+
+  taken_else : (k : ℕ) → HasBlock h.objects k → at k ≢ r
+  taken_else k (o, there, here) same =
+      let stored = stored_of o.phase (place at) classes m.store (at k) (suc k) (h.counts (suc k)) o here (t.kept k o there) in
+      let no : None ≡ Some (words (cell_of o (h.counts (suc k)) (suc k) stored.fields)) = sym out ∙ ap m.store (sym same) ∙ stored.block in
+      absurd (cc)
+
+  older_there : (k : ℕ) (b : HasBlock h.objects k) → at' k ≡ at k
+  older_there k (o, there, here) = older at (length h.objects) r k (slice_get_within h.objects k o there)
+
+  others_more : (word : ℕ) → ((k : ℕ) → HasBlock all k → at' k ≢ word) → blocks' word ≡ foreign word
+  others_more word none =
+      change.others word (λ same. none (length h.objects) (object, get_last h.objects object, lives) (newest at (length h.objects) r ∙ sym same))
+      ∙ t.others word (λ k b is. none k (b.0, get_more h.objects object k b.0 b.1, b.2) (older_there k b ∙ is))
+
+  own_more : (k : ℕ) → HasBlock all k → foreign (at' k) ≡ None
+  own_more k b = elim (get_append h.objects object k b.0 b.1) [
+    | inl p ↦ ap foreign (older_there k (b.0, p.1, b.2)) ∙ t.own k (b.0, p.1, b.2)
+    | inr p ↦ ap foreign (ap at' p.0 ∙ newest at (length h.objects) r) ∙ sym (t.others r taken_else) ∙ out
+  ]
+
 known_more : (n more : ℕ) → n ≤ more → (frame : Frame) → IsKnown n frame → IsKnown more frame
 known_more n more l (Calling back w) h = omega (arith, l, h)
 known_more n more l (Ending back w o next left) h = (omega (arith, l, h.0), omega (arith, l, h.1))
@@ -170,9 +209,9 @@ known_more n more l (Clearing back w o fields) h = (omega (arith, l, h.0), omega
 abbrev pub with_newest : Memory → Blocks → (word : ℕ) → Memory
 with_newest m blocks word = with_names (taking word (with_made m blocks (m.made + 1))) (word ∷ m.names)
 
-pub makes_stands : (at : ℕ → ℕ) (classes : List Class) (m : Memory) (frames : List Frame) (h : Held) → Stands at classes m frames h → (class r : ℕ) → m.store r ≡ None → (blocks' : Blocks)
+pub makes_stands : {foreign : Blocks} (at : ℕ → ℕ) (classes : List Class) (m : Memory) (frames : List Frame) (h : Held) → Stands foreign at classes m frames h → (class r : ℕ) → m.store r ≡ None → (blocks' : Blocks)
     → Becomes m.store blocks' r (fresh_cell class (total (field_counts (slice_get classes class))) (m.made + 1)) → total (field_counts (slice_get classes class)) ≤ MOST_FIELDS → 0 < r → Counted h
-    → StandsFor classes (with_newest m blocks' r) frames (makes classes class h)
+    → StandsFor foreign classes (with_newest m blocks' r) frames (makes classes class h)
 makes_stands at classes m frames h t class r out blocks' change few above counted =
     let n = length h.objects in
     let counts = field_counts (slice_get classes class) in
@@ -195,6 +234,8 @@ makes_stands at classes m frames h t class r out blocks' change few above counte
           (subst (λ (o : Object). Kept o.phase (place at') classes blocks' (at' n) (suc n) ((raised (suc n) h).counts (suc n)) o) (sym p.1)
           (newest_stored at classes m frames h t n refl class r out blocks' numbered counts ((raised (suc n) h).counts (suc n)) refl few one))
     ] in
+    let others = others_more at classes m frames h t r out blocks' _ change object refl in
+    let own = own_more at classes m frames h t r out blocks' _ change object refl in
     let places = words m.places (stacked h) (known_stacked n h t.known_places) t.places in
     let temporaries : m.temporaries + 1 ≡ suc (length h.temporaries) = (let few = t.temporaries in omega (arith, few)) in
     let names = words m.names h.names t.known_names t.names in
@@ -202,14 +243,14 @@ makes_stands at classes m frames h t class r out blocks' change few above counte
     let waits = t.waits ∙ same_frames at n r frames t.known_frames in
     let P : ℕ → Type 0 = λ q. q ≤ length objects' in
     let weaker = λ (refs : List ℕ) (old : All (λ q. q ≤ n) refs). All-weaker (λ q. q ≤ n) P (λ q b. omega (arith, longer, b)) refs old in
-    let others = known_others n h t.known_places in
-    let globals = all_left (λ q. q ≤ n) h.strong_globals (field_places h.objects) others in
+    let known_rest = known_others n h t.known_places in
+    let globals = all_left (λ q. q ≤ n) h.strong_globals (field_places h.objects) known_rest in
     let known_places = All-append P (suc n ∷ stacked h) (h.strong_globals ++ field_places objects') (known (stacked h) (known_stacked n h t.known_places))
     (All-append P h.strong_globals (field_places objects') (weaker h.strong_globals globals)
-    (all_fields_more P h.objects object (weaker (field_places h.objects) (all_right (λ q. q ≤ n) h.strong_globals (field_places h.objects) others)) (all_nils P counts.objects (omega arith)))) in
+    (all_fields_more P h.objects object (weaker (field_places h.objects) (all_right (λ q. q ≤ n) h.strong_globals (field_places h.objects) known_rest)) (all_nils P counts.objects (omega arith)))) in
     let known_names = known h.names t.known_names in
     let known_self : h.self ≤ length objects' = (let known = t.known_self in omega (arith, longer, known)) in
     let known_frames = All-weaker (IsKnown n) (IsKnown (length objects')) (known_more n (length objects') (omega (arith, longer))) frames t.known_frames in
     let ends = ends_more classes h.objects (object ∷ []) frames t.ends in
     let strong_globals = t.strong_globals ∙ same_places at n r h.strong_globals globals in
-    (at', assumption (made, some, kept, places, temporaries, names, self, waits, known_places, known_names, known_self, known_frames, ends, strong_globals))
+    (at', assumption (made, some, kept, others, own, places, temporaries, names, self, waits, known_places, known_names, known_self, known_frames, ends, strong_globals))

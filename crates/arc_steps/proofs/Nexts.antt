@@ -79,7 +79,7 @@ module _ {S : Type 0} (out : S → Blocks) (p : Program) (old : Spot S) (back : 
       let t = r.is.memory.1 in
       let s = r.state in
       let e = cleared at s.frames back waiter object left (ap (λ fs. slice_get fs 0) (sym t.waits) ∙ frame) in
-      let there = subst (λ fs. Stands at p.classes (memory_of out old.parts) fs s.held) e.is t in
+      let there = subst (λ fs. Stands r.foreign at p.classes (memory_of out old.parts) fs s.held) e.is t in
       let (k, number, (o, found, emptying, nth, order)) = emptying_object p.classes e.fields s.held.objects e.number there.ends.0 in
       let word : object ≡ at k = e.object_is ∙ ap (place at) number in
       let block = block_here at p.classes (memory_of out old.parts) s.frames s.held t k o found (ap is_there emptying) in
@@ -123,7 +123,7 @@ module _ {S : Type 0} (out : S → Blocks) (p : Program) (old : Spot S) (back : 
         let s = r.state in
         let h = s.held in
         let e = cleared at s.frames back waiter object left (ap (λ fs. slice_get fs 0) (sym t.waits) ∙ frame) in
-        let there = subst (λ fs. Stands at p.classes (memory_of out old.parts) fs s.held) e.is t in
+        let there = subst (λ fs. Stands r.foreign at p.classes (memory_of out old.parts) fs s.held) e.is t in
         let (k, number, (o, found, emptying, nth, order)) = emptying_object p.classes e.fields h.objects e.number there.ends.0 in
         let here = ap is_there emptying in
         let word : object ≡ at k = e.object_is ∙ ap (place at) number in

@@ -1,5 +1,5 @@
 -- A machine's memory goes on standing for objects where one of them is changed.
-use Rattle.std.proofs.Common.{◌≡◌, ◌≢◌, ◌⊎◌, inl, inr, ℕ, zero, suc, ◌+◌, ◌-◌, ◌≤◌, ℤ, List, [], ◌∷◌, ◌++◌, length, Option, Some, true, refl, sym, ap, ◌∙◌, subst, arith}
+use Rattle.std.proofs.Common.{◌≡◌, ◌≢◌, ◌⊎◌, inl, inr, ℕ, zero, suc, ◌+◌, ◌-◌, ◌≤◌, ℤ, List, [], ◌∷◌, ◌++◌, length, Option, Some, None, Bool, true, false, refl, sym, ap, ◌∙◌, subst, arith}
 use Rattle.std.specs.Prelude.{All, map, slice_get, slice_set}
 use Rattle.std.proofs.lemmas.Bool.Decides.{nat_tests}
 use Rattle.std.proofs.lemmas.Grind.{common_steps}
@@ -11,7 +11,7 @@ use Rattle.arc_spec.specs.Holding.{Held, Frame, stacked, all_places, is_there, w
 use Rattle.arc_spec.specs.Statics.{Statics, with_numbers}
 use Rattle.arc_heap.specs.Blocks.{Blocks}
 use Rattle.arc_cells.specs.Cells.{Cell, words, IsCell, Sets, Becomes, with_count}
-use Rattle.arc_cells.specs.Standing.{Memory, Stored, Kept, Stands, Ends, IsKnown, cell_of, place, waiting, waiting_places, with_store, with_names}
+use Rattle.arc_cells.specs.Standing.{Memory, Stored, Kept, HasBlock, Stands, Ends, IsKnown, cell_of, place, waiting, waiting_places, with_store, with_names}
 
 same_or_other : (i j : ℕ) → (i ≡ j) ⊎ (i ≢ j)
 same_or_other i j = grind arith
@@ -36,7 +36,28 @@ only_same xs k x e j o f = elim (same_or_other j k) [
   | inr other ↦ inr (other, f)
 ]
 
+-- all others are there still
+abbrev pub Stay : (old new : List Object) → (k : ℕ) → Type 0
+Stay old new k = (j : ℕ) (o : Object) → j ≢ k → slice_get old j ≡ Some o → slice_get new j ≡ Some o
+
+pub stay_set : (xs : List Object) (k : ℕ) (x : Object) → Stay xs (slice_set xs k x) k
+stay_set [] k x j o other e = absurd (cc)
+stay_set (y ∷ xs) zero x zero o other e = absurd (other refl)
+stay_set (y ∷ xs) zero x (suc j) o other e = e
+stay_set (y ∷ xs) (suc k) x zero o other e = e
+stay_set (y ∷ xs) (suc k) x (suc j) o other e = stay_set xs k x j o (λ same. other (ap suc same)) e
+
+pub set_here : (xs : List Object) (k : ℕ) (x y : Object) → slice_get xs k ≡ Some y → slice_get (slice_set xs k x) k ≡ Some x
+set_here [] k x y e = cc
+set_here (z ∷ xs) zero x y e = refl
+set_here (z ∷ xs) (suc k) x y e = set_here xs k x y e
+
 -- ---- objects and their blocks
+
+-- no blocks are out but those of the objects and the foreign ones
+pub record Owned (foreign blocks : Blocks) (at : ℕ → ℕ) (objects : List Object) : Type 0 where
+  pub others : (word : ℕ) → ((k : ℕ) → HasBlock objects k → at k ≢ word) → blocks word ≡ foreign word
+  pub own : (k : ℕ) → HasBlock objects k → foreign (at k) ≡ None
 
 -- every object stands in its block
 abbrev pub KeptAll : List Class → Blocks → (at : ℕ → ℕ) → List Object → (counts : ℕ → ℕ) → Type 0
@@ -84,6 +105,36 @@ module _ (classes : List Class) (blocks blocks' : Blocks) (at : ℕ → ℕ) (k 
     | inl p ↦ subst (λ j. Kept o.phase (place at) classes blocks' (at j) (suc j) (counts' (suc j)) o) (sym p.0) (subst (λ o. Kept o.phase (place at) classes blocks' (at k) (suc k) (counts' (suc k)) o) (sym p.1) there)
     | inr p ↦ subst (λ count. Kept o.phase (place at) classes blocks' (at j) (suc j) count o) (sym (same j p.0)) (still o.phase j (counts (suc j)) o p.0 (all j o p.1))
   ]
+
+module _ {foreign blocks : Blocks} (blocks' : Blocks) (at : ℕ → ℕ) (k : ℕ) (now : Option (List ℕ)) (sets : Sets blocks blocks' (at k) now) (objects objects' : List Object) (o x : Object) (only : Only objects objects' k x)
+    (stay : Stay objects objects' k) (there : HasBlock objects k) (found : slice_get objects' k ≡ Some x) (freed : is_there x.phase ≡ false → now ≡ None) (owned : Owned foreign blocks at objects) where
+  own_set : (j : ℕ) → HasBlock objects' j → foreign (at j) ≡ None
+  own_set j h = elim (only j h.0 h.1) [
+    | inl p ↦ subst (λ j. foreign (at j) ≡ None) (sym p.0) (owned.own k there)
+    | inr p ↦ owned.own j (h.0, p.1, h.2)
+  ]
+
+  -- where another object has its block none is changed
+  others_else : (word : ℕ) → ((j : ℕ) → HasBlock objects' j → at j ≢ word) → at k ≢ word → blocks' word ≡ foreign word
+  others_else word none other = sets.others word (λ same. other (sym same)) ∙ owned.others word (λ j h. elim (same_or_other j k) [
+    | inl same ↦ (λ is. other (ap at (sym same) ∙ is))
+    | inr differs ↦ none j (h.0, stay j h.0 differs h.1, h.2)
+  ])
+
+  -- and where this one has its block it has it still, or none is
+  others_here : (word : ℕ) → ((j : ℕ) → HasBlock objects' j → at j ≢ word) → at k ≡ word → (b : Bool) → is_there x.phase ≡ b → blocks' word ≡ foreign word
+  others_here word none same true here = absurd (none k (x, found, here) same)
+  others_here word none same false gone = ap blocks' (sym same) ∙ sets.here ∙ freed gone ∙ sym (owned.own k there) ∙ ap foreign same
+
+  -- one block is changed, as one object is, or is given back with it
+  pub owned_set : Owned foreign blocks' at objects'
+  owned_set = record {
+    others = λ word none. elim (same_or_other (at k) word) [
+      | inl same ↦ others_here word none same _ refl
+      | inr other ↦ others_else word none other
+    ];
+    own = own_set;
+  }
 
 -- the block has this number
 abbrev pub IsNumbered : Blocks → (place number : ℕ) → Type 0
@@ -171,30 +222,33 @@ pub known_others : (n : ℕ) (h : Held) → All (λ r. r ≤ n) (all_places h) �
 known_others n h known = all_right (λ r. r ≤ n) (stacked h) (others_named h) known
 
 -- the same blocks and objects, with these places and references
-pub spelled_stands : (at : ℕ → ℕ) (classes : List Class) (m m' : Memory) (frames frames' : List Frame) (h h' : Held) → Stands at classes m frames h → Spelled at classes (functions_of m' m) frames' (functions_in h' h)
-    → Stands at classes (functions_of m' m) frames' (functions_in h' h)
+pub spelled_stands : {foreign : Blocks} (at : ℕ → ℕ) (classes : List Class) (m m' : Memory) (frames frames' : List Frame) (h h' : Held) → Stands foreign at classes m frames h → Spelled at classes (functions_of m' m) frames' (functions_in h' h)
+    → Stands foreign at classes (functions_of m' m) frames' (functions_in h' h)
 spelled_stands at classes m m' frames frames' h h' t is =
     let known_places = All-append (λ r. r ≤ length h.objects) (stacked h') (others_named h) is.known_places (known_others (length h.objects) h t.known_places) in
     assumption known_places
 
-module _ (at : ℕ → ℕ) (classes : List Class) (m : Memory) (frames : List Frame) (h : Held) (t : Stands at classes m frames h) where
+module _ {foreign : Blocks} (at : ℕ → ℕ) (classes : List Class) (m : Memory) (frames : List Frame) (h : Held) (t : Stands foreign at classes m frames h) where
+  abbrev pub owned : Owned foreign m.store at h.objects
+  owned = record { others = t.others; own = t.own }
+
   -- other blocks and counts, and other things that are kept from the start to the end
-  stored_stands : (blocks' : Blocks) (counts' : ℕ → ℕ) (statics statics' : Statics) → KeptAll classes blocks' at h.objects counts' → statics ≡ statics'
-      → Stands at classes (record m { store = blocks'; statics = statics }) frames (record h { counts = counts'; statics = statics' })
-  stored_stands blocks' counts' statics statics' kept is = assumption
+  stored_stands : (blocks' : Blocks) (counts' : ℕ → ℕ) (statics statics' : Statics) → KeptAll classes blocks' at h.objects counts' → Owned foreign blocks' at h.objects → statics ≡ statics'
+      → Stands foreign at classes (record m { store = blocks'; statics = statics }) frames (record h { counts = counts'; statics = statics' })
+  stored_stands blocks' counts' statics statics' kept own is = let others = own.others in let owns = own.own in assumption (others, owns)
 
   -- other numbers in the variables of the whole program
-  pub globals_stands : (words globals : List ℤ) → words ≡ globals → Stands at classes (record m { statics = with_numbers m.statics words }) frames (with_globals h globals)
-  globals_stands words globals is = stored_stands m.store h.counts (with_numbers m.statics words) (with_numbers h.statics globals) t.kept (ap (λ s. with_numbers s words) t.statics ∙ ap (with_numbers h.statics) is)
+  pub globals_stands : (words globals : List ℤ) → words ≡ globals → Stands foreign at classes (record m { statics = with_numbers m.statics words }) frames (with_globals h globals)
+  globals_stands words globals is = stored_stands m.store h.counts (with_numbers m.statics words) (with_numbers h.statics globals) t.kept owned (ap (λ s. with_numbers s words) t.statics ∙ ap (with_numbers h.statics) is)
 
   -- the count of nil says nothing
-  pub recounted_nil : (counts' : ℕ → ℕ) → ((j : ℕ) → counts' (suc j) ≡ h.counts (suc j)) → Stands at classes m frames (with_counts h counts')
-  recounted_nil counts' same = stored_stands m.store counts' m.statics h.statics (λ k o e. subst (λ count. Kept o.phase (place at) classes m.store (at k) (suc k) count o) (sym (same k)) (t.kept k o e)) t.statics
+  pub recounted_nil : (counts' : ℕ → ℕ) → ((j : ℕ) → counts' (suc j) ≡ h.counts (suc j)) → Stands foreign at classes m frames (with_counts h counts')
+  recounted_nil counts' same = stored_stands m.store counts' m.statics h.statics (λ k o e. subst (λ count. Kept o.phase (place at) classes m.store (at k) (suc k) count o) (sym (same k)) (t.kept k o e)) owned t.statics
 
-  pub raised_nil : Stands at classes m frames (raised 0 h)
+  pub raised_nil : Stands foreign at classes m frames (raised 0 h)
   raised_nil = recounted_nil (raised 0 h).counts (λ j. raised_else 0 (suc j) h (λ e. omega arith))
 
-  pub lowered_nil : Stands at classes m frames (lowered 0 h)
+  pub lowered_nil : Stands foreign at classes m frames (lowered 0 h)
   lowered_nil = recounted_nil (lowered 0 h).counts (λ j. lowered_else 0 (suc j) h (λ e. omega arith))
 
   module _ (k : ℕ) (o : Object) (there : slice_get h.objects k ≡ Some o) (is_here : is_there o.phase ≡ true) where
@@ -204,14 +258,15 @@ module _ (at : ℕ → ℕ) (classes : List Class) (m : Memory) (frames : List F
     -- so many places are counted to name an object
     recounted : (counts' : ℕ → ℕ) (blocks' : Blocks) → ((j : ℕ) → j ≢ k → counts' (suc j) ≡ h.counts (suc j))
         → Becomes m.store blocks' (at k) (with_count (cell_of o (h.counts (suc k)) (suc k) block_of.fields) (counts' (suc k)))
-        → Stands at classes (with_store m blocks') frames (with_counts h counts')
+        → Stands foreign at classes (with_store m blocks') frames (with_counts h counts')
     recounted counts' blocks' same change = stored_stands blocks' counts' m.statics h.statics
         (kept_set classes m.store blocks' at k (cell_of o (h.counts (suc k)) (suc k) block_of.fields) _ block_of.block refl change h.objects h.objects h.counts counts' o
         (only_same h.objects k o there) same t.kept
-        (kept_of o.phase (place at) classes blocks' (at k) (suc k) (counts' (suc k)) o is_here (stored_counted (place at) classes m.store blocks' (at k) (suc k) (h.counts (suc k)) (counts' (suc k)) o block_of change))) t.statics
+        (kept_of o.phase (place at) classes blocks' (at k) (suc k) (counts' (suc k)) o is_here (stored_counted (place at) classes m.store blocks' (at k) (suc k) (h.counts (suc k)) (counts' (suc k)) o block_of change)))
+        (owned_set blocks' at k _ change h.objects h.objects o o (only_same h.objects k o there) (λ j y other e. e) (o, there, is_here) there (λ gone. absurd (cc)) owned) t.statics
 
     pub raised_stands : (blocks' : Blocks) → ((c : Cell) → IsCell m.store (at k) c → Becomes m.store blocks' (at k) (with_count c (c.count + 1)))
-        → Stands at classes (with_store m blocks') frames (raised (suc k) h)
+        → Stands foreign at classes (with_store m blocks') frames (raised (suc k) h)
     raised_stands blocks' change =
         let cell = cell_of o (h.counts (suc k)) (suc k) block_of.fields in
         let count : h.counts (suc k) + 1 ≡ (raised (suc k) h).counts (suc k) = sym (raised_there (suc k) h) in
@@ -219,7 +274,7 @@ module _ (at : ℕ → ℕ) (classes : List Class) (m : Memory) (frames : List F
         (subst (λ n. Becomes m.store blocks' (at k) (with_count cell n)) count (change cell block_of.block))
 
     pub lowered_stands : (blocks' : Blocks) → ((c : Cell) → IsCell m.store (at k) c → Becomes m.store blocks' (at k) (with_count c (c.count - 1)))
-        → Stands at classes (with_store m blocks') frames (lowered (suc k) h)
+        → Stands foreign at classes (with_store m blocks') frames (lowered (suc k) h)
     lowered_stands blocks' change =
         let cell = cell_of o (h.counts (suc k)) (suc k) block_of.fields in
         let count : h.counts (suc k) - 1 ≡ (lowered (suc k) h).counts (suc k) = sym (lowered_there (suc k) h) in
@@ -229,7 +284,7 @@ module _ (at : ℕ → ℕ) (classes : List Class) (m : Memory) (frames : List F
   -- other places and references of the running function, and other words for them
   pub placed_stands : (ts vs ns words names : List ℕ) (a b : ℕ) → words ≡ map (place at) ((ts ++ vs) ++ h.places) → a ≡ length ts → b ≡ length vs → names ≡ map (place at) ns
       → All (λ r. r ≤ length h.objects) ((ts ++ vs) ++ h.places) → All (λ r. r ≤ length h.objects) ns
-      → Stands at classes (record m { places = words; temporaries = a; variables = b; names = names }) frames (record h { temporaries = ts; variables = vs; names = ns })
+      → Stands foreign at classes (record m { places = words; temporaries = a; variables = b; names = names }) frames (record h { temporaries = ts; variables = vs; names = ns })
   placed_stands ts vs ns words names a b is few fewer named known known_names =
       spelled_stands at classes m (record m { places = words; temporaries = a; variables = b; names = names }) frames frames h (record h { temporaries = ts; variables = vs; names = ns }) t (record {
         places = is;
@@ -247,11 +302,11 @@ module _ (at : ℕ → ℕ) (classes : List Class) (m : Memory) (frames : List F
       })
 
   -- other references
-  pub named_stands : (ns names : List ℕ) → names ≡ map (place at) ns → All (λ r. r ≤ length h.objects) ns → Stands at classes (with_names m names) frames (record h { names = ns })
+  pub named_stands : (ns names : List ℕ) → names ≡ map (place at) ns → All (λ r. r ≤ length h.objects) ns → Stands foreign at classes (with_names m names) frames (record h { names = ns })
   named_stands ns names is known = placed_stands h.temporaries h.variables ns m.places names m.temporaries m.variables t.places t.temporaries t.variables is (known_stacked (length h.objects) h t.known_places) known
 
   -- other words in the variables of the whole program that name objects
-  pub strong_globals_stands : (words names : List ℕ) → words ≡ map (place at) names → All (λ r. r ≤ length h.objects) names → Stands at classes (record m { strong_globals = words }) frames (with_strong_globals h names)
+  pub strong_globals_stands : (words names : List ℕ) → words ≡ map (place at) names → All (λ r. r ≤ length h.objects) names → Stands foreign at classes (record m { strong_globals = words }) frames (with_strong_globals h names)
   strong_globals_stands words names is known =
       let n = length h.objects in
       let rest = all_right (λ r. r ≤ n) h.strong_globals (field_places h.objects) (known_others n h t.known_places) in
@@ -259,15 +314,19 @@ module _ (at : ℕ → ℕ) (classes : List Class) (m : Memory) (frames : List F
       assumption (is, known_places)
 
   -- one object is another now, and counted otherwise
-  pub changed_stands : (k : ℕ) (o x : Object) (counts' : ℕ → ℕ) → slice_get h.objects k ≡ Some o → (number : IsNumbered m.store (at k) (suc k)) (blocks' : Blocks) (now : Option (List ℕ)) → Sets m.store blocks' (at k) now
+  pub changed_stands : (k : ℕ) (o x : Object) (counts' : ℕ → ℕ) → slice_get h.objects k ≡ Some o → is_there o.phase ≡ true → (number : IsNumbered m.store (at k) (suc k)) (blocks' : Blocks) (now : Option (List ℕ)) → Sets m.store blocks' (at k) now
+      → (is_there x.phase ≡ false → now ≡ None)
       → ((j : ℕ) → j ≢ k → counts' (suc j) ≡ h.counts (suc j)) → Kept x.phase (place at) classes blocks' (at k) (suc k) (counts' (suc k)) x → Ends classes (slice_set h.objects k x) frames → All (λ r. r ≤ length h.objects) (fields_of x)
-      → Stands at classes (with_store m blocks') frames (record h { objects = slice_set h.objects k x; counts = counts' })
-  changed_stands k o x counts' there number blocks' now sets else_same kept ends known =
+      → Stands foreign at classes (with_store m blocks') frames (record h { objects = slice_set h.objects k x; counts = counts' })
+  changed_stands k o x counts' there here number blocks' now sets freed else_same kept ends known =
       let n = length h.objects in
       let same : length h.objects ≡ length (slice_set h.objects k x) = sym (length-set h.objects k x) in
       let made = t.made ∙ same in
       let kept_all = kept_set classes m.store blocks' at k number.0 now number.1 number.2 sets h.objects (slice_set h.objects k x) h.counts counts' x
       (only_set h.objects k x) else_same t.kept kept in
+      let owned_now = owned_set blocks' at k now sets h.objects (slice_set h.objects k x) o x (only_set h.objects k x) (stay_set h.objects k x) (o, there, here) (set_here h.objects k x o there) freed owned in
+      let others = owned_now.others in
+      let own = owned_now.own in
       let known_places = subst (λ n. All (λ r. r ≤ n) (stacked h ++ (h.strong_globals ++ field_places (slice_set h.objects k x)))) same
       (All-append (λ r. r ≤ n) (stacked h) (h.strong_globals ++ field_places (slice_set h.objects k x)) (known_stacked n h t.known_places)
       (All-append (λ r. r ≤ n) h.strong_globals (field_places (slice_set h.objects k x)) (all_left (λ r. r ≤ n) h.strong_globals (field_places h.objects) (known_others n h t.known_places))
@@ -275,7 +334,7 @@ module _ (at : ℕ → ℕ) (classes : List Class) (m : Memory) (frames : List F
       let known_names = subst (λ n. All (λ r. r ≤ n) h.names) same t.known_names in
       let known_self = subst (λ n. h.self ≤ n) same t.known_self in
       let known_frames = subst (λ n. All (IsKnown n) frames) same t.known_frames in
-      assumption (made, kept_all, known_places, known_names, known_self, known_frames)
+      assumption (made, kept_all, others, own, known_places, known_names, known_self, known_frames)
 
   -- what the fields of an object name
   pub known_fields : (k : ℕ) (o : Object) → slice_get h.objects k ≡ Some o → All (λ r. r ≤ length h.objects) (fields_of o)

@@ -74,7 +74,7 @@ seen_of answer.NoHeap s i t = refl
 pub record Reaches {S : Type 0} (out : S → Blocks) (p : Program) (m : Seen S) (in0 in1 : Option (List ℕ)) (events : List Event) : Type 0 where
   pub store : S
   pub taken : List ℕ
-  pub moves : Moves out (fresh p store) m (start p) in0 in1 None None m.steps taken events
+  pub moves : Moves (out store) out (fresh p store) m (start p) in0 in1 None None m.steps taken events
 
 pub starts : {S : Type 0} → (out : S → Blocks) (p : Program) (store : S) (i : Option (List ℕ)) → IsSound p → Reaches out p (fresh p store) i i []
 starts out p store i sound = record {
@@ -102,7 +102,7 @@ module _ {S : Type 0} (out : S → Blocks) (p : Program) (old new : Seen S) (i0 
   abbrev ReachesOn : List Event → Type 0
   ReachesOn trace = (all : Reaches out p new i0 i2 (events ++ trace)) × ((rest : List ℕ) → Leaves i2 rest → (seen p (all.taken ++ rest) old.steps).trace ≡ events)
 
-  module _ (n : ℕ) (taken : List ℕ) (trace : List Event) (m : Moves out old new way.moves.state i1 i2 None None n taken trace) where
+  module _ (n : ℕ) (taken : List ℕ) (trace : List Event) (m : Moves (out way.store) out old new way.moves.state i1 i2 None None n taken trace) where
     shown_before : (rest : List ℕ) → Leaves i2 rest → (seen p ((way.taken ++ taken) ++ rest) old.steps).trace ≡ events
     shown_before rest l =
         let later = taken ++ rest in
@@ -113,7 +113,7 @@ module _ {S : Type 0} (out : S → Blocks) (p : Program) (old new : Seen S) (i0 
     reaches_on =
         let count : n + old.steps ≡ new.steps = omega (arith, m.steps) in
         let all = moves_on out (fresh p way.store) old new (start p) i0 i1 i2 None None None old.steps n way.taken taken events trace going way.moves m in
-        (record { store = way.store; taken = way.taken ++ taken; moves = subst (λ k. Moves out (fresh p way.store) new (start p) i0 i2 None None k (way.taken ++ taken) (events ++ trace)) count all }, shown_before)
+        (record { store = way.store; taken = way.taken ++ taken; moves = subst (λ k. Moves (out way.store) out (fresh p way.store) new (start p) i0 i2 None None k (way.taken ++ taken) (events ++ trace)) count all }, shown_before)
 
     -- the events of one step or none are those that the machine has of it
     trace_is : (k : ℕ) → n ≡ k → k ≤ 1 → trace ≡ new_events new old.steps
@@ -132,7 +132,7 @@ module _ {S : Type 0} (out : S → Blocks) (p : Program) (old new : Seen S) (i0 
   -- one step more or none
   pub goes_on : Runs out 1 old new i1 i2 None None → ReachesOn (new_events new old.steps) × (old.steps ≤ new.steps) × (new.steps ≤ old.steps + 1)
   goes_on runs =
-      let r = runs way.moves.state way.moves.stands (way.moves.sound going) in
+      let r = runs (out way.store) way.moves.state way.moves.stands (way.moves.sound going) in
       let all = reaches_on r.0 r.1 r.2 r.4 in
       (subst ReachesOn (trace_is r.0 r.1 r.2 r.4 r.0 refl r.3) all, omega (arith, r.4.steps), omega (arith, r.3, r.4.steps))
 
@@ -157,12 +157,12 @@ goes_on_so p run (answer.Broken Write) s i t is makes asks = tt
 goes_on_so p run answer.NoHeap s i t is makes asks = subst (MakesObject p) (sym is) (makes refl)
 
 -- the machine stands at the instruction of the state for which it stands
-pub makes_so : {S : Type 0} → (out : S → Blocks) (p : Program) (m : Seen S) (s : State) → m.program ≡ p → StandsAs out m s → slice_get m.program.instrs m.spot.at ≡ Some (Plain Alloc) → slice_get p.instrs s.at ≡ Some (Plain Alloc)
+pub makes_so : {S : Type 0} {foreign : Blocks} (out : S → Blocks) (p : Program) (m : Seen S) (s : State) → m.program ≡ p → StandsAs foreign out m s → slice_get m.program.instrs m.spot.at ≡ Some (Plain Alloc) → slice_get p.instrs s.at ≡ Some (Plain Alloc)
 makes_so out p m s program stands makes = ap (slice_get p.instrs) (sym stands.at) ∙ ap (λ (q : Program). slice_get q.instrs m.spot.at) (sym program) ∙ makes
 
 -- the moves of a machine that was made for the code are a run of it
-abbrev pub follows_moves : {S : Type 0} → (out : S → Blocks) (p : Program) (store : S) (m : Seen S) (i0 i1 o0 o1 : Option (List ℕ)) (made : ℕ) (taken : List ℕ) (events : List Event)
-    → Moves out (fresh p store) m (start p) i0 i1 o0 o1 made taken events → (m.answer ≡ answer.NoHeap → slice_get m.program.instrs m.spot.at ≡ Some (Plain Alloc)) → Follows p made (left_of m.answer) i0 i1 events
+abbrev pub follows_moves : {S : Type 0} {foreign : Blocks} (out : S → Blocks) (p : Program) (store : S) (m : Seen S) (i0 i1 o0 o1 : Option (List ℕ)) (made : ℕ) (taken : List ℕ) (events : List Event)
+    → Moves foreign out (fresh p store) m (start p) i0 i1 o0 o1 made taken events → (m.answer ≡ answer.NoHeap → slice_get m.program.instrs m.spot.at ≡ Some (Plain Alloc)) → Follows p made (left_of m.answer) i0 i1 events
 follows_moves out p store m i0 i1 o0 o1 made taken events moves makes = record {
   taken = taken;
   reads = moves.reads;

@@ -101,8 +101,8 @@ module _ {S : Type 0} (out : S → Blocks) (stock : S → Option Stock) (refuses
     (in0 in1 out0 out1 out2 : Option (List ℕ)) (first : old ≡ fresh p store) (moves : old.answer ≡ answer.Going → Runs out steps old new in0 in1 out0 out1)
     (used : new.answer ≡ answer.Going → (new.steps ≡ old.steps + steps) ⊎ (new.steps ≡ 2 ^ 64 - 1)) (held : old.answer ≡ answer.Going → is_stopped new.answer ≡ true → new.steps < old.steps + steps)
     (lacking : old.answer ≡ answer.Going → new.answer ≡ answer.NoHeap → Lacks out stock refuses new) (kept : Keeps out1 out2) where
-  runs : (made : ℕ) × (taken : List ℕ) × (trace : List Event) × (made ≤ steps) × Moves out (fresh p store) new (start p) in0 in1 out0 out1 made taken trace
-  runs = subst (λ (m : Seen S). m.answer ≡ answer.Going → Runs out steps m new in0 in1 out0 out1) first moves refl (start p) (fresh_stands out p store) sound
+  runs : (made : ℕ) × (taken : List ℕ) × (trace : List Event) × (made ≤ steps) × Moves (out store) out (fresh p store) new (start p) in0 in1 out0 out1 made taken trace
+  runs = subst (λ (m : Seen S). m.answer ≡ answer.Going → Runs out steps m new in0 in1 out0 out1) first moves refl (out store) (start p) (fresh_stands out p store) sound
 
   wrote : Writes (is_stopped new.answer) (step p runs.4.state) runs.2 new.events out0 out1
   wrote = subst (λ (q : Program). Writes (is_stopped new.answer) (step q runs.4.state) runs.2 new.events out0 out1) runs.4.program runs.4.writes

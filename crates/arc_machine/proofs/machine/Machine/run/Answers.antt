@@ -36,3 +36,9 @@ loop-turns-preserved g c =
 
 pub loop-turns-smaller : goal.loop-turns-smaller
 loop-turns-smaller g c = omega arith
+
+pub returns-clause-moves : goal.returns-clause-moves
+returns-clause-moves g c going foreign s is sound =
+    let h = c.loop-turns.invariant in
+    let (made, taken, trace, few, moves) = h.turned.runs foreign s is sound in
+    (made, taken, trace, omega (arith, few, h.few), moves)
