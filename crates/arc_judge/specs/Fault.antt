@@ -12,4 +12,4 @@ reported f = record { at = (report f).at; number = (report f).number }
 -- When each fault is answered: it reports the first of all broken rules; want of memory may come at any source.
 abbrev pub Refuses : List Broken → CheckFault → Type 0
 Refuses all f.Memory = Unit {0}
-Refuses all fault = first all ≡ Some (record { at = (report fault).at; number = (report fault).number })
+Refuses all fault = first all ≡ Some (reported fault)
