@@ -1,6 +1,6 @@
 //! Objects. They go by their numbers, which count from 1 in the order of their making; 0 is nil.
-ghost use Rattle.std.specs.Prelude.{◌≡◌, ℕ, suc, map, IfOk, MatchOption, None, Some, OnOk, slice_get, slice_set};
-ghost use Rattle.arc_spec.specs.Classes.{classes_of, superclasses, ancestry_within};
+ghost use Rattle.std.specs.Prelude.{◌≡◌, ℕ, suc, map, IfOk, MatchOption, None, Some, OnOk, slice_set};
+ghost use Rattle.arc_spec.specs.Classes.{superclasses, ancestry_within};
 ghost use Rattle.arc_checked.specs.Checked.{program_of};
 ghost use Rattle.arc_spec.specs.Meaning.{Deeper, turned, made, field_read, field_set, object_field_read, dying, gone, class_in, dealloc_run, deallocs_run};
 ghost use Rattle.arc_spec.specs.Objects.{Emptying, object_at, is_live, is_emptying, new_object, in_phase, with_fields, with_strong_fields};
