@@ -43,8 +43,10 @@ pub fn serve<R: Input, W: Output, E: Output>(
         words file.entry answer input.old input.new output.old output.new
         × Blames (device_of answer) (failures_of input.old) (failures_of input.new) (failures_of output.old) (failures_of output.new)
         (HasFailedToRead R.reads (inner_of input.new)) (HasFailedToWrite W.writes W.flushes (inner_of output.new))
-        × Flushed answer (HasPassedOn W.flushes (inner_of output.new)) (HasFailedToWrite W.writes W.flushes (inner_of output.new))
-        × Reported E.contents (HasPassedOn E.flushes (inner_of errors.new)) (HasFailedToWrite E.writes E.flushes (inner_of errors.new))
+        × Flushed answer (HasPassedOn W.flushes (inner_of output.new))
+        (HasFailedToWrite W.writes W.flushes (inner_of output.new))
+        × Reported E.contents (HasPassedOn E.flushes (inner_of errors.new))
+        (HasFailedToWrite E.writes E.flushes (inner_of errors.new))
         answer result errors.old errors.new }
 {
     match attempt(alloc, words, file, input, output) {
@@ -56,7 +58,8 @@ pub fn serve<R: Input, W: Output, E: Output>(
 /// Writes the trouble, and gives its status.
 fn report<E: Output>(trouble: &Trouble, errors: &mut Counted<E>) -> u8
     requires { failures_of errors.old < 2 ^ 64 - 1 }
-    ensures { Reported E.contents (HasPassedOn E.flushes (inner_of errors.new)) (HasFailedToWrite E.writes E.flushes (inner_of errors.new))
+    ensures { Reported E.contents (HasPassedOn E.flushes (inner_of errors.new))
+        (HasFailedToWrite E.writes E.flushes (inner_of errors.new))
         (Err trouble.now) result errors.old errors.new }
 {
     match print_trouble(trouble, errors) {
