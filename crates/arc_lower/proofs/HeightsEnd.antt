@@ -28,7 +28,7 @@ module _ (P : Program) (r s slots names exit : ℕ) where
 
   -- what stands after a choice stands between two statements
   pub chosen_same : (to : Target) → next_height P (JumpZero to) test ≡ base
-  chosen_same to = heights_same _ _ _ _ slots 0 0 names (omega arith) (omega arith) (omega arith) (omega arith)
+  chosen_same to = search (arith, heights_same)
 
   -- ---- the parts that tests may lead to
 
