@@ -7,10 +7,10 @@ use Rattle.arc_spec.specs.Classes.{Class, lookup}
 use Rattle.arc_spec.specs.Resolved.{Function}
 use Rattle.arc_spec.specs.Resolved as resolved
 use Rattle.arc_spec.specs.Meaning.{function_at}
-use Rattle.arc_code.specs.declared.instr.Instr.TheVariants.{Plain, PrintText, Jump, JumpZero, Call, Send, SendSuper, SendTo, SendToSuper, StoreStrong, StoreGlobal, StoreField, Empty, DropAll, Settle, Give, Return, EndStep}
+use Rattle.arc_code.specs.declared.instr.Instr.TheVariants.{Plain, Jump, JumpZero, Call, Send, SendSuper, SendTo, SendToSuper, Empty, DropAll, Settle, Give, Return, EndStep}
 use Rattle.arc_code.specs.declared.effect.Effect.{Effect}
 use Rattle.arc_code.specs.declared.effect.Height.{Height}
-use Rattle.arc_code.specs.Effects.{effect, operation_effect, on_numbers, as_number, as_object, giving, no_height, FitsBetween, FitsAt, SameResult, GivesAt, HeightsFit, passes}
+use Rattle.arc_code.specs.Effects.{as_number, as_object, giving, no_height, FitsBetween, FitsAt, SameResult, GivesAt, HeightsFit, passes}
 use Rattle.arc_ir.specs.Acting.{Action, Program, lands, entry, linked}
 use Rattle.arc_lower.specs.Order.{Order, order, orders}
 use Rattle.arc_lower.specs.Lowered.{number_of, slots_of, parameters_of, function_orders, entries_of, lowered, classes_linked}

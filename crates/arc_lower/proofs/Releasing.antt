@@ -10,7 +10,7 @@ use Rattle.arc_spec.specs.World as world
 use Rattle.arc_spec.specs.World.{World, Outcome, Done, finished, Finished, then_do, places, stacked, with_temporaries, with_strong, stores, name_at}
 use Rattle.arc_spec.specs.Meaning.{Deeper, released, field_stores, temporaries_dropped, second_dropped, all_dropped, assigned, variables_dropped}
 use Rattle.arc_spec.specs.Holding.{Held, Frame, holders, is_there, on_object, on_named, with_things, with_variables, with_strong_globals, with_strong_field, on_place, raised, lowered, lets_go}
-use Rattle.arc_spec.specs.Stepping.{Next, Goes, Reached, on_found, only_if, follow}
+use Rattle.arc_spec.specs.Stepping.{Next, Goes, Reached, only_if, follow}
 use Rattle.arc_code.specs.Instructions as instructions
 use Rattle.arc_ir.specs.Acting.{Program, State, keeps, has_level, begins_end, ends_after, releases}
 use Rattle.arc_code.specs.declared.instr.Instr.TheVariants.{DropAll, Settle, Empty}

@@ -1,5 +1,5 @@
 -- Steps do what blocks mean.
-use Rattle.std.proofs.Common.{◌≡◌, ℕ, zero, suc, ◌+◌, ◌-◌, ◌≤◌, ◌<◌, ℤ, pos, Bool, true, false, not, ◌&&◌, is_some, nat_eq, nat_lt, if◌then◌else◌, inr, List, [], ◌∷◌, ◌++◌, length, take, drop, Option, Some, None, slice_get, slice_set, refl, sym, ap, ◌∙◌, subst, arith, length-append}
+use Rattle.std.proofs.Common.{◌≡◌, ℕ, zero, suc, ◌+◌, ◌-◌, ◌≤◌, ℤ, pos, Bool, true, false, not, ◌&&◌, is_some, nat_eq, nat_lt, if◌then◌else◌, inr, List, [], ◌∷◌, ◌++◌, length, drop, Option, Some, None, slice_get, slice_set, refl, sym, ap, ◌∙◌, subst, arith, length-append}
 use Rattle.std.proofs.lemmas.Bool.{ltb-true, ltb-false, eqb-true, and_parts, false≢true}
 use Rattle.std.proofs.lemmas.List.{length-set, get_or_past, set_past, set-get_or}
 use Rattle.arc_ast.specs.declared.tree.Sign.{Sign}
@@ -9,8 +9,8 @@ use Rattle.arc_spec.specs.declared.event.Fault.TheVariants.{Unrecognized, FieldC
 use Rattle.arc_spec.specs.declared.class.Gives.{Gives}
 use Rattle.arc_spec.specs.declared.class.Gives.TheVariants as gives
 use Rattle.arc_spec.specs.Classes.{class_at, lookup, same_gives, new_selector, init_selector, is_root_init, descends, field_counts}
-use Rattle.arc_spec.specs.Number.{converted, applied, combined, byte_or_end, is_zero}
-use Rattle.arc_spec.specs.Objects.{Object, object_at, with_object, with_fields, with_strong_fields, is_emptying, new_object}
+use Rattle.arc_spec.specs.Number.{combined, byte_or_end, is_zero}
+use Rattle.arc_spec.specs.Objects.{Object, object_at, with_strong_fields, is_emptying, new_object}
 use Rattle.arc_spec.specs.Resolved as resolved
 use Rattle.arc_spec.specs.declared.location.Location.{Location}
 use Rattle.arc_spec.specs.declared.location.Location.TheVariants.{Local, Global}
@@ -18,9 +18,8 @@ use Rattle.arc_spec.specs.Resolved.{Piece}
 use Rattle.arc_spec.specs.Meaning.{Deeper, held_at, holds, chosen, temporaries_dropped, released, and_number, field_stores, dispatched, finds, gives_object, runs_found, class_in, sent, sent_from, object_given, next_object, made, made_new, second_dropped, result_place, in_object, difference, formatted, byte_count, or_fault, assigned, all_dropped, variables_dropped}
 use Rattle.arc_spec.specs.World as world
 use Rattle.arc_spec.specs.World.{World, Outcome, Done, Faulted, Finished, finished, then_do, Given, nothing_given, prints, next_number, with_locals, with_objects, with_temporaries, local_at, name_at, named_at, with_strong_globals, takes, stores, padded}
-use Rattle.arc_spec.specs.declared.sort_counts.SortCounts.{SortCounts}
-use Rattle.arc_spec.specs.Holding.{Frame, is_there, on_field, with_strong_field, on_place, named, raised, with_variables}
-use Rattle.arc_spec.specs.Stepping.{Next, Goes, Faults, Reached, follow, fed, on_found}
+use Rattle.arc_spec.specs.Holding.{Frame, is_there, on_field, with_strong_field, on_place, raised}
+use Rattle.arc_spec.specs.Stepping.{Next, Goes, Faults, Reached, follow, fed}
 use Rattle.arc_ir.specs.declared.action.Target.{Target}
 use Rattle.arc_ir.specs.declared.action.Target.TheVariants.{Skip, Back, At}
 use Rattle.arc_ir.specs.Acting.{Program, State, lands, onward, goes, keeps, answers, taken, sends, allocates, releases}
@@ -33,7 +32,7 @@ use Rattle.arc_code.specs.declared.instr.Instr.TheVariants.{Plain, Jump, JumpZer
 use Rattle.arc_code.specs.Effects.{passes}
 use Rattle.arc_lower.specs.Order.{Order}
 use Rattle.arc_lower.specs.declared.frame.Turn.{Turn}
-use Rattle.arc_lower.specs.Lowered.{Message, ToClass, ToSuperClass, ToObject, ToSuper, message_order, Block, Idle, One, Load, Store, Read, Assign, AssignField, Clear, Format, Calls, SendsMessage, Making, IfNew, Answer, Then, Fork, Loop, Quit, Advance, Full, Leave, making_orders, Entry, AtStep, AtTest, AtBody, enter_orders, enter_size, no_turn, Spot, Inside, Between, past, turn_at, body_spot, flat, print_orders, get_orders, set_orders, read_orders, store_orders, all_empty_orders, order_takes, forget_orders, passing_orders, number_of, slots_of, parameters_of, call_orders}
+use Rattle.arc_lower.specs.Lowered.{Message, ToClass, ToSuperClass, ToObject, ToSuper, message_order, Block, Idle, One, Load, Store, Read, Assign, AssignField, Clear, Format, Calls, SendsMessage, Making, IfNew, Answer, Then, Fork, Loop, Quit, Advance, Full, Leave, making_orders, Entry, AtStep, AtTest, AtBody, enter_orders, enter_size, no_turn, Spot, Inside, Between, past, turn_at, body_spot, flat, print_orders, get_orders, set_orders, read_orders, store_orders, order_takes, forget_orders, passing_orders, number_of, slots_of, parameters_of, call_orders}
 use Rattle.arc_lower.specs.Size.{has_new}
 use Rattle.std.specs.List.{list_any}
 use Rattle.std.proofs.lemmas.Option.{get_or_from_slice_get, slice_get-get_or}

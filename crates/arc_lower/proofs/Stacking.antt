@@ -12,17 +12,16 @@ use Rattle.arc_spec.specs.Meaning.{byte_count, formatted}
 use Rattle.arc_spec.specs.World.{World, prints, local_at, Given, padded}
 use Rattle.std.specs.Fmt.{signed_decimal}
 use Rattle.arc_spec.specs.Resolved.{Piece, Bytes, Decimal, Character}
-use Rattle.arc_spec.specs.Stepping.{follow, on_found}
 use Rattle.arc_spec.specs.Holding.{Frame}
-use Rattle.arc_ir.specs.Acting.{Program, goes}
+use Rattle.arc_ir.specs.Acting.{Program}
 use Rattle.arc_code.specs.declared.instr.Op.{Op}
-use Rattle.arc_code.specs.declared.instr.Op.TheVariants.{Num, Narrow, Pop, Get, Set, PrintNum, PrintByte, Forget, Nil}
+use Rattle.arc_code.specs.declared.instr.Op.TheVariants.{Narrow, Get, PrintNum, PrintByte}
 use Rattle.arc_code.specs.declared.instr.Instr.TheVariants.{Plain, PrintText}
 use Rattle.arc_lower.specs.Order.{Order}
-use Rattle.arc_lower.specs.Lowered.{conversion_orders, part_orders, text_orders, format_orders, pop_orders, keep_orders, print_orders, zero_orders, fit_orders, forget_orders, nil_orders, fit_object_orders}
+use Rattle.arc_lower.specs.Lowered.{conversion_orders, part_orders, format_orders, pop_orders, keep_orders, print_orders, zero_orders, fit_orders, forget_orders, nil_orders, fit_object_orders}
 use Rattle.arc_lower.proofs.Leading as leading
 use Rattle.arc_lower.proofs.Leading.{Leads, leads_same, running, Crosses, one_crosses, then_crosses, no_crosses, shows_nothing}
-use Rattle.arc_lower.proofs.Doing.{recount, moves, at, held_of, HasAt, has_front, has_back}
+use Rattle.arc_lower.proofs.Doing.{moves, HasAt}
 
 abbrev pub onto : {A : Type 0} → List A → List A → List A
 onto [] stack = stack
