@@ -41,7 +41,7 @@ use Rattle.arc_lower.proofs.Cases.{by_test}
 use Rattle.arc_lower.proofs.Doing.{fresh, recount, moves, at, counting, held_of, bare, does, HasAt, has_front, has_back}
 use Rattle.arc_lower.proofs.Stacking.{onto, Peels, peels_onto, drop_onto, without_below, get_onto, get_local, set_local, get_below, set_below, print_passes, forgets_shift, passing_leads}
 use Rattle.arc_lower.proofs.Releasing.{Kept, kept_same, Ends, Stays, after_place, after_object, after_named, global_runs, strong_field_runs, emptied, empties, empties_by, dropped_runs, settled_runs, no_variable, changes_runs}
-use Rattle.arc_lower.proofs.Shaping.{Operands, operands, push, name, Way, On, Out, Quits, Turns, Lost, left_by, on_way, and_then, only_on, after_turn, on_test, top_of, taken_of, on_given, pushes, answers_left, passes_by, operation, message_sent, block_turns, loop_entered, block}
+use Rattle.arc_lower.proofs.Shaping.{Operands, operands, push, name, Way, On, Out, Quits, Turns, Lost, left_by, on_way, and_then, only_on, after_turn, on_test, top_of, taken_of, on_given, pushes, answers_left, passes_by, operation, message_sent, block_turns, loop_entered, block, then_twice}
 use Rattle.arc_lower.proofs.Quiet.{takes_none, quiet_flat}
 use Rattle.std.specs.Prelude.{drop}
 
@@ -64,8 +64,7 @@ dispatched_answers D wanted (Some f) class given w = refl
 
 -- what follows an object that is given
 object_then : {B : Type 0} (o : Outcome world.Answer) (go : ℕ → World → Outcome B) → then_do o (λ a w. go a.object (takes a.object w)) ≡ then_do (object_given o) go
-object_then (Done a w) go = refl
-object_then _ go = refl
+object_then o go = then_twice o (λ a w. Done a.object (takes a.object w)) go
 
 -- nothing lies on others
 pub onto_none : {A : Type 0} (values rest : List A) → length values ≡ 0 → onto values rest ≡ rest
