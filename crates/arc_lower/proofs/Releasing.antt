@@ -271,6 +271,7 @@ module _ (p : Program) (frames : List Frame) (bound : ℕ) (rs : List ℕ) (D : 
       (λ done w3 to k. (k.0, kept_trans _ _ _ (record { frame = ap emptied_in m.1.frame; waiting = m.1.waiting }) k.1)))))
 
   pub empties_run : (names' first count : ℕ) (stack : List ℤ) (w : World) (pc : ℕ) → length w.frame.strong ≡ names'
-      → HasAt p pc (all_empty_orders names' first count)
-      → Runs (moves p) bound (running frames rs pc stack w) (stays stack (pc + length (all_empty_orders names' first count)) (emptied first count w)) (variables_dropped D first count w)
+      → let xs = all_empty_orders names' first count in
+      HasAt p pc xs
+      → Runs (moves p) bound (running frames rs pc stack w) (stays stack (pc + length xs) (emptied first count w)) (variables_dropped D first count w)
   empties_run names' first count stack w pc size has = (empties_by names' first count stack w pc size has).runs

@@ -382,7 +382,8 @@ module _ (p : Program) (frames : List Frame) (bound : ℕ) (R : resolved.Program
           (drop references (onto given.objects rs)))) (Done (gives_object 0) w)
       nil_runs names =
           let gives : List ℤ → Next State = λ rest. instructions.gives_at_once (bare p) (before names) wanted 0 rest rs in
-          rw (drop_onto given.objects rs, taken_peels values _ stack gives (peels_onto given.numbers stack)) (at_once_runs wanted 0 pc (onto given.numbers stack) names stack rs w)
+          rw (drop_onto given.objects rs, taken_peels values _ stack gives (peels_onto given.numbers stack))
+          (at_once_runs wanted 0 pc (onto given.numbers stack) names stack rs w)
 
       -- the root's own `init` gives the object
       root_runs : (object : ℕ) (names : List ℕ) (b : Bool) → is_root_init selector values references wanted ≡ b
