@@ -8,7 +8,7 @@ use Rattle.arc_spec.specs.Resolved.{Program}
 use Rattle.arc_code.specs.declared.instr.Op.TheVariants.{Num, Pop, Declare, Nil, Forget}
 use Rattle.arc_code.specs.declared.instr.Instr.TheVariants.{Plain, PrintText, Call, StoreStrong}
 use Rattle.arc_lower.specs.Order.{Order, order, orders}
-use Rattle.arc_lower.specs.Lowered.{part_orders, text_orders, pop_orders, zero_orders, empty_orders, all_empty_orders, forget_orders, nil_orders, declare_orders, take_orders, fit_orders, fit_object_orders, call_orders, number_of, slots_of, parameters_of}
+use Rattle.arc_lower.specs.Lowered.{text_orders, pop_orders, zero_orders, empty_orders, all_empty_orders, forget_orders, nil_orders, declare_orders, take_orders, fit_orders, fit_object_orders, call_orders, number_of, slots_of, parameters_of}
 use Rattle.std.proofs.lemmas.List.{take_all, length-map}
 use Rattle.arc_ir.specs.Acting.{Action}
 use Rattle.arc_code.specs.declared.effect.Height.{Height}
