@@ -1,5 +1,5 @@
 -- No run has more numbers, references or places than a table of heights that fits the program allows.
-use Rattle.std.proofs.Common.{◌≡◌, ℕ, zero, suc, ◌+◌, ◌-◌, ◌*◌, ◌≤◌, Bool, true, false, ◌&&◌, nat_eq, if◌then◌else◌, ℤ, List, [], ◌∷◌, ◌++◌, length, drop, Option, Some, None, refl, sym, ap, ◌∙◌, subst, arith, slice_get, length-append, length-take, length-drop}
+use Rattle.std.proofs.Common.{◌≡◌, ℕ, zero, suc, ◌+◌, ◌-◌, ◌*◌, ◌≤◌, Bool, true, false, ◌&&◌, nat_eq, if◌then◌else◌, ℤ, List, [], ◌∷◌, ◌++◌, length, drop, Option, Some, None, refl, ap, ◌∙◌, arith, slice_get, length-append, length-take, length-drop}
 use Rattle.std.proofs.lemmas.Bool.{ltb-true, eqb-true, and_parts}
 use Rattle.std.proofs.lemmas.List.{length-set}
 use Rattle.arc_ast.specs.declared.tree.Sign.TheVariants as signs
@@ -11,7 +11,7 @@ use Rattle.arc_spec.specs.Classes.{Class, class_at, lookup, same_gives, init_sel
 use Rattle.arc_spec.specs.Objects.{Object, object_at}
 use Rattle.arc_spec.specs.Number.{is_zero}
 use Rattle.arc_spec.specs.declared.limits.TheConstants.{MOST_LEVELS}
-use Rattle.arc_spec.specs.Stepping.{Next, Goes, Asks, Ends, Faults, Stuck, Safe, Sound, Reached, Running, Ended, Faulted, Wedged, fed, follow, further, after_steps}
+use Rattle.arc_spec.specs.Stepping.{Next, Goes, Asks, Faults, Safe, Sound, Reached, Running, fed, follow, further, after_steps}
 use Rattle.arc_spec.specs.Holding.{Held, Frame, Calling, Ending, Clearing, Waiter, Counted, stacked, with_temporaries, with_names, raised, lowered, resumed, with_strong_field, stores_field}
 use Rattle.arc_code.specs.declared.instr.Instr.{Instr}
 use Rattle.arc_code.specs.declared.instr.Instr.TheVariants.{Plain, PrintText, Jump, JumpZero, Call, Send, SendSuper, SendTo, SendToSuper, StoreStrong, StoreGlobal, StoreField, Empty, DropAll, Settle, Give, Return, EndStep}
@@ -52,13 +52,11 @@ module _ {J F T : Type 0} (p : Program J F T) (height : ℕ → Height) (result 
   -- for.
   abbrev numbers_of : Gives → Frame → ℕ
   numbers_of g (Calling back w) = (height back).numbers - as_number g
-  numbers_of g (Ending back w o next left) = (height back).numbers
-  numbers_of g (Clearing back w o fields) = (height back).numbers
+  numbers_of g x = (height (back_of x)).numbers
 
   abbrev names_of : Gives → Frame → ℕ
   names_of g (Calling back w) = (height back).names - as_object g
-  names_of g (Ending back w o next left) = (height back).names
-  names_of g (Clearing back w o fields) = (height back).names
+  names_of g x = (height (back_of x)).names
 
   abbrev places_of : Gives → Frame → ℕ
   places_of g (Calling back w) = w.temporaries + w.variables
@@ -99,62 +97,44 @@ module _ {J F T : Type 0} (p : Program J F T) (height : ℕ → Height) (result 
 
   -- where a function runs that gives this
   here : (s : State) (g : Gives) → result s.at ≡ g → Above (height s.at) g s.frames s.stack s.held → length s.frames ≤ MOST_LEVELS → AllWait g s.frames → Within s
-  here s g e above levels waits = record {
-    above = subst (λ k. Above (height s.at) k s.frames s.stack s.held) (sym e) above;
-    levels = levels;
-    waits = subst (λ k. AllWait k s.frames) (sym e) waits;
-  }
+  here s g e above levels waits = record { above = rw e above; levels = levels; waits = rw e waits }
 
   -- what a function that waited has when it runs again
   resumed_above : (h : Height) (g : Gives) (w : Waiter) (held : Held) (stack : List ℤ) (others : List Frame) → length stack ≤ h.numbers + waiting numbers_of g others → length held.names ≤ h.names + waiting names_of g others
       → length held.places ≤ w.temporaries + w.variables + waiting places_of g others → GoesOn 0 h w → Above h g others stack (resumed w held)
-  resumed_above h g w held stack others n r l goes = (
-    n,
-    r,
-    omega (arith, goes.0, length-take w.temporaries held.places),
-    omega (arith, goes.1, length-take w.variables (drop w.temporaries held.places)),
-    omega (arith, l, length-drop w.temporaries held.places, length-drop w.variables (drop w.temporaries held.places)),
-  )
+  resumed_above h g w held stack others n r l goes = search (arith, length-take {A = ℕ}, length-drop {A = ℕ})
 
   -- ---- one step
 
   module _ (s : State) (w : Within s) where
     -- the same at another place of the function
     above_at : (to : ℕ) → SameResult p result s.at to → Above (height s.at) (result to) s.frames s.stack s.held
-    above_at to same = subst (λ g. Above (height s.at) g s.frames s.stack s.held) (sym same) w.above
+    above_at to same = rw same w.above
 
     waits_at : (to : ℕ) → SameResult p result s.at to → AllWait (result to) s.frames
-    waits_at to same = subst (λ g. AllWait g s.frames) (sym same) w.waits
+    waits_at to same = rw same w.waits
 
     -- what follows an effect that fits
     follows_within : (e : Effect) → FitsBetween (height s.at) (height (s.at + 1)) e → SameResult p result s.at (s.at + 1) → (t : State) → Follows e s t → Within t
     follows_within e fit same t f =
-        let above : Above (height (s.at + 1)) (result s.at) s.frames t.stack t.held = (
-          omega (arith, w.above.0, f.numbers, fit.numbers),
-          omega (arith, w.above.1, f.names, fit.names),
-          omega (arith, w.above.2, f.temporaries, fit.temporaries),
-          omega (arith, w.above.3, f.variables, fit.variables),
-          omega (arith, w.above.4, ap length f.places),
-        ) in
-        here t (result s.at) (ap result f.at ∙ same)
-        (subst (λ h. Above h (result s.at) t.frames t.stack t.held) (sym (ap height f.at)) (subst (λ frames. Above (height (s.at + 1)) (result s.at) frames t.stack t.held) (sym f.frames) above))
-        (omega (arith, w.levels, ap length f.frames)) (subst (AllWait (result s.at)) (sym f.frames) w.waits)
+        here t (result s.at) (ap result f.at ∙ same) (let a = w.above in rw (f.at, f.frames, f.places) (search arith)) (rw f.frames w.levels)
+        (rw f.frames w.waits)
 
     -- at another instruction of the running function, with so many numbers
     moved_within : (to : ℕ) (stack : List ℤ) (numbers_taken numbers_given : ℕ) → FitsBetween (height s.at) (height to) (on_numbers numbers_taken numbers_given) → SameResult p result s.at to
         → length stack + numbers_taken ≡ length s.stack + numbers_given → Within (moved s to stack)
     moved_within to stack numbers_taken numbers_given fit same n =
         let a = above_at to same in
-        record { above = (omega (arith, a.0, fit.numbers, n), omega (arith, a.1, fit.names), omega (arith, a.2, fit.temporaries), omega (arith, a.3, fit.variables), a.4); levels = w.levels; waits = waits_at to same }
+        record { above = search arith; levels = w.levels; waits = waits_at to same }
 
     -- what is wanted is given without a call, where so many numbers and references are taken
     at_once_within : (g : Gives) (passed dropped : ℕ) → FitsCall p height s.at (giving g passed dropped) → SameResult p result s.at (s.at + 1) → (names others : List ℕ) (object : ℕ) (stack : List ℤ)
         → length stack + passed ≡ length s.stack → length others + dropped ≡ length s.held.names → After Within (gives_at_once p (record s { held = with_names s.held names }) g object stack others)
     at_once_within gives.Number passed dropped fit same names others object stack n r =
-        follows_within (giving gives.Number passed dropped) fit.0 same _ (record { numbers = omega (arith, n); names = omega (arith, r); temporaries = omega arith; variables = omega arith; places = refl; at = refl; frames = refl })
+        follows_within (giving gives.Number passed dropped) fit.0 same _ (search arith)
     at_once_within gives.Object passed dropped fit same names others object stack n r =
         named_after Within object (with_names s.held (object ∷ others)) _
-        (follows_within (giving gives.Object passed dropped) fit.0 same _ (record { numbers = omega (arith, n); names = omega (arith, r); temporaries = omega arith; variables = omega arith; places = refl; at = refl; frames = refl }))
+        (follows_within (giving gives.Object passed dropped) fit.0 same _ (search arith))
 
     -- a call of what begins with at least as many numbers and references as are passed, where so many further references are taken
     module _ (names : List ℕ) (g : Gives) (passed objects receiver dropped : ℕ) (fit : FitsCall p height s.at (giving g passed dropped)) (same : SameResult p result s.at (s.at + 1)) (d : dropped ≡ receiver + objects) (e : length names + receiver ≡ length s.held.names) where
@@ -166,9 +146,8 @@ module _ {J F T : Type 0} (p : Program J F T) (height : ℕ → Height) (result 
       enters_within to self true is begins =
           let a = above_at (s.at + 1) same in
           let more = ltb-true (length s.frames) MOST_LEVELS is in
-          here _ g begins.2
-          (omega (arith, a.0, begins.0, fit.0.numbers, fit.1.0), omega (arith, a.1, d, e, begins.1, fit.0.names, fit.1.1), omega arith, omega arith, omega (arith, a.4, all_length s.held))
-          (omega (arith, more)) (((omega (arith, a.2, fit.0.temporaries), omega (arith, a.3, fit.0.variables)), fit.1.0, fit.1.1), waits_at (s.at + 1) same)
+          let l = all_length s.held in
+          here _ g begins.2 (search arith) (omega arith) (((omega arith, omega arith), fit.1.0, fit.1.1), waits_at (s.at + 1) same)
 
       answers_within : (self : ℕ) (found : Option ℕ) → ((to : ℕ) → found ≡ Some to → Begins to) → After Within (answers (record s { held = with_names s.held names }) self found)
       answers_within self None begins = tt
@@ -197,11 +176,9 @@ module _ {J F T : Type 0} (p : Program J F T) (height : ℕ → Height) (result 
     -- the end of an object begins, after which the function goes on here
     begins_end_within : (back o class : ℕ) (h : Held) (b : Bool) → has_level s ≡ b → Above (height back) (result back) s.frames s.stack h → AllWait (result back) s.frames → After Within (begins_end p s back o class h b)
     begins_end_within back o class h false is a waits = tt
-    begins_end_within back o class h true is a waits = record {
-      above = (omega (arith, a.0), omega (arith, a.1), omega arith, omega arith, omega (arith, a.4, all_length h));
-      levels = let more = ltb-true (length s.frames) MOST_LEVELS is in omega (arith, more);
-      waits = ((omega (arith, a.2), a.3), waits);
-    }
+    begins_end_within back o class h true is a waits =
+        let l = all_length h in
+        record { above = search arith; levels = omega (arith, ltb-true (length s.frames) MOST_LEVELS is); waits = ((omega arith, a.3), waits) }
 
     module _ (same : SameResult p result s.at (s.at + 1)) where
       -- a place lets go of what it named
@@ -217,22 +194,18 @@ module _ {J F T : Type 0} (p : Program J F T) (height : ℕ → Height) (result 
 
       -- the temporary before the last one is dropped
       settles_within : (temporaries : List ℕ) → s.held.temporaries ≡ temporaries → FitsBetween (record (height s.at) { temporaries = (height s.at).temporaries - 1 }) (height (s.at + 1)) (on_numbers 0 0) → After Within (settles p s temporaries)
-      settles_within [] is fit = tt
-      settles_within (r ∷ []) is fit = tt
       settles_within (r ∷ before ∷ others) is fit =
           let a = above_at (s.at + 1) same in
-          releases_within before (with_temporaries s.held (r ∷ others))
-          (omega (arith, a.0, fit.numbers), omega (arith, a.1, fit.names), omega (arith, a.2, fit.temporaries, ap length is), omega (arith, a.3, fit.variables), a.4)
+          let l = ap length is in
+          releases_within before (with_temporaries s.held (r ∷ others)) (search arith)
+      settles_within _ is fit = tt
 
       -- the temporaries are dropped
       drops_within : (temporaries : List ℕ) (h : Held) → h.temporaries ≡ temporaries → Above (height s.at) (result s.at) s.frames s.stack h → FitsBetween (record (height s.at) { temporaries = 0 }) (height (s.at + 1)) (on_numbers 0 0) → After Within (drops_all p s temporaries h)
       drops_within [] h is above fit =
-          let a = subst (λ g. Above (height s.at) g s.frames s.stack h) (sym same) above in
-          record {
-            above = (omega (arith, a.0, fit.numbers), omega (arith, a.1, fit.names), omega (arith, ap length is), omega (arith, a.3, fit.variables), a.4);
-            levels = w.levels;
-            waits = waits_at (s.at + 1) same;
-          }
+          let a : Above (height s.at) (result (s.at + 1)) s.frames s.stack h = rw same above in
+          let none = ap length is in
+          record { above = search arith; levels = w.levels; waits = waits_at (s.at + 1) same }
       drops_within (r ∷ others) h is a fit =
           let fewer : Above (height s.at) (result s.at) s.frames s.stack (with_temporaries h others) = (a.0, a.1, omega (arith, ap length is, a.2), a.3, a.4) in
           lets_go_after Within r (with_temporaries h others) _ _ (drops_within others (lowered r (with_temporaries h others)) refl fewer fit) (λ o. begins_end_within s.at r o.class _ (has_level s) refl fewer w.waits)
@@ -252,17 +225,17 @@ module _ {J F T : Type 0} (p : Program J F T) (height : ℕ → Height) (result 
         (left_after Within s.held.temporaries s.held _ (λ _. record { above = resumed_above (height back) (result back) w s.held s.stack others (omega (arith, h.0.0)) (omega (arith, h.0.1)) (omega (arith, h.0.4)) h.2.0; levels = omega (arith, h.1); waits = h.2.1 })) tt
 
     runs_dealloc_within : (to : Option ℕ) (back : ℕ) (w : Waiter) (o : ℕ) (next : Option ℕ) (left : ℕ) (others : List Frame) → Stands (Ending back w o None 0 ∷ others) → After Within (runs_dealloc to s (Ending back w o next left ∷ others))
-    runs_dealloc_within None back w o next left others h = record { above = (omega (arith, h.0.0), omega (arith, h.0.1), omega (arith, h.0.2), omega (arith, h.0.3), h.0.4); levels = h.1; waits = h.2 }
-    runs_dealloc_within (Some to) back w o next left others h = record { above = (omega (arith, h.0.0), omega (arith, h.0.1), omega (arith, h.0.2), omega (arith, h.0.3), h.0.4); levels = h.1; waits = h.2 }
+    runs_dealloc_within None back w o next left others h = record { above = search arith; levels = h.1; waits = h.2 }
+    runs_dealloc_within (Some to) back w o next left others h = record { above = search arith; levels = h.1; waits = h.2 }
 
     -- at no more than nothing
     stands_within : (frames : List Frame) → Stands frames → Within (record s { frames = frames })
-    stands_within frames h = record { above = (omega (arith, h.0.0), omega (arith, h.0.1), omega (arith, h.0.2), omega (arith, h.0.3), h.0.4); levels = h.1; waits = h.2 }
+    stands_within frames h = record { above = search arith; levels = h.1; waits = h.2 }
 
     clears_all_within : (back : ℕ) (w : Waiter) (o : ℕ) (fields : List ℕ) (others : List Frame) → Stands (Ending back w o None 0 ∷ others) → After Within (clears p s back w o fields others)
     clears_all_within back w o [] others h = ends_object_within back w o others h
     clears_all_within back w o (index ∷ fields) others h =
-        record { above = (omega (arith, h.0.0), omega (arith, h.0.1), omega (arith, h.0.2), omega (arith, h.0.3), h.0.4); levels = h.1; waits = h.2 }
+        record { above = search arith; levels = h.1; waits = h.2 }
 
     after_deallocs_within : (back : ℕ) (w : Waiter) (o : ℕ) (others : List Frame) → Stands (Ending back w o None 0 ∷ others) → After Within (after_deallocs p s back w o others)
     after_deallocs_within back w o others h = object_after Within (object_at s.held.objects o) _ (λ ob. clears_all_within back w o (field_order p.classes ob.class) others h)
@@ -285,114 +258,101 @@ module _ {J F T : Type 0} (p : Program J F T) (height : ℕ → Height) (result 
     -- a call that waits for what this function gives
     module _ (back : ℕ) (w : Waiter) (others : List Frame) (within : Within s) (is : s.frames ≡ Calling back w ∷ others) (g : Gives) (given : result s.at ≡ g) where
       called_above : Above (height s.at) g (Calling back w ∷ others) s.stack s.held
-      called_above = subst (λ k. Above (height s.at) k (Calling back w ∷ others) s.stack s.held) given (subst (λ frames. Above (height s.at) (result s.at) frames s.stack s.held) is within.above)
+      called_above = rw (is, given) at within.above
 
       called_waits : AllWait g (Calling back w ∷ others)
-      called_waits = subst (λ k. AllWait k (Calling back w ∷ others)) given (subst (AllWait (result s.at)) is within.waits)
+      called_waits = rw (is, given) at within.waits
 
     leaves_within : (frames : List Frame) (v : ℤ) (rest : List ℤ) → Within s → s.frames ≡ frames → length s.stack ≡ suc (length rest) → s.held.temporaries ≡ [] → FitsBetween (record (height s.at) { variables = 0 }) no_height (on_numbers 1 0)
         → result s.at ≡ gives.Number → After Within (leaves p s frames v rest (record s.held { variables = [] }))
-    leaves_within [] v rest within is e none fit given = tt
     leaves_within (Calling back w ∷ others) v rest within is e none fit given =
         let a = called_above back w others within is gives.Number given in
         let waits = called_waits back w others within is gives.Number given in
         record { above = resumed_above (height back) (result back) w s.held s.stack others (omega (arith, a.0, fit.numbers, waits.0.1)) (omega (arith, a.1, fit.names)) a.4 waits.0.0; levels = omega (arith, within.levels, ap length is); waits = waits.1 }
-    leaves_within (Clearing back w o fields ∷ others) v rest within is e none fit given = tt
     leaves_within (Ending back w o next left ∷ others) v rest within is e none fit given =
-        let a = subst (λ frames. Above (height s.at) (result s.at) frames s.stack s.held) is within.above in
-        let waits = subst (AllWait (result s.at)) is within.waits in
-        let above : Above (height p.end_step) (result p.end_step) (Ending back w o next left ∷ others) rest (record s.held { variables = [] }) = (
-          omega (arith, a.0, fit.numbers, e),
-          omega (arith, a.1, fit.names),
-          omega (arith, ap length none),
-          omega arith,
-          a.4,
-        ) in
-        record {
-          above = subst (λ frames. Above (height p.end_step) (result p.end_step) frames rest (record s.held { variables = [] })) (sym is) above;
-          levels = within.levels;
-          waits = subst (AllWait (result p.end_step)) (sym is) waits;
-        }
+        let a : Above (height s.at) (result s.at) (Ending back w o next left ∷ others) s.stack s.held = rw is at within.above in
+        let waits : AllWait (result s.at) (Ending back w o next left ∷ others) = rw is at within.waits in
+        let l = ap length none in
+        record { above = rw is (search arith); levels = within.levels; waits = rw is waits }
+    leaves_within _ v rest within is e none fit given = tt
 
     hands_over_within : (frames : List Frame) (r : ℕ) (rest : List ℤ) → Within s → s.frames ≡ frames → length s.stack ≡ suc (length rest) → FitsBetween (record (height s.at) { variables = 0 }) no_height (on_numbers 1 0)
         → result s.at ≡ gives.Object → After Within (hands_over p s frames r rest (record s.held { variables = [] }))
-    hands_over_within [] r rest within is e fit given = tt
     hands_over_within (Calling back w ∷ others) r rest within is e fit given =
         let a = called_above back w others within is gives.Object given in
         let waits = called_waits back w others within is gives.Object given in
-        record {
-          above = (
-            omega (arith, a.0, fit.numbers, e),
-            omega (arith, a.1, fit.names, waits.0.2),
-            omega (arith, waits.0.0.0, length-take w.temporaries s.held.places),
-            omega (arith, waits.0.0.1, length-take w.variables (drop w.temporaries s.held.places)),
-            omega (arith, a.4, length-drop w.temporaries s.held.places, length-drop w.variables (drop w.temporaries s.held.places)),
-          );
-          levels = omega (arith, within.levels, ap length is);
-          waits = waits.1;
-        }
-    hands_over_within (Ending back w o next left ∷ others) r rest within is e fit given = tt
-    hands_over_within (Clearing back w o fields ∷ others) r rest within is e fit given = tt
+        record { above = search (arith, length-take {A = ℕ}, length-drop {A = ℕ}); levels = omega (arith, within.levels, ap length is); waits = waits.1 }
+    hands_over_within _ r rest within is e fit given = tt
 
   executes_within : (x : Option (Instr J F T)) (s : State) → slice_get p.instrs s.at ≡ x → Within s → After Within (executes p x s)
   executes_within None s is w = tt
-  executes_within (Some (Plain o)) s is w = after_map _ Within (follows_within s w (operation_effect o) (fits.at s.at (Plain o) is) (fits.results s.at (Plain o) is)) (operates p.classes o s) (operation_follows p.classes s o)
-  executes_within (Some (PrintText t)) s is w = found_after Within (p.text t) _ (λ bytes _. top_after Within s.stack _ (λ count rest e. moved_within s w (s.at + 1) _ 1 1 (fits.at s.at (PrintText t) is) (fits.results s.at (PrintText t) is) (omega (arith, e))))
-  executes_within (Some (Jump j)) s is w = moved_within s w (p.lands s.at j) s.stack 0 0 (fits.at s.at (Jump j) is) (fits.results s.at (Jump j) is) refl
+  executes_within (Some (Plain o)) s is w =
+      after_map _ Within (follows_within s w (operation_effect o) (fits.at s.at _ is) (fits.results s.at _ is)) (operates p.classes o s)
+      (operation_follows p.classes s o)
+  executes_within (Some (PrintText t)) s is w =
+      found_after Within (p.text t) _ (λ bytes _. top_after Within s.stack _
+      (λ count rest e. moved_within s w (s.at + 1) _ 1 1 (fits.at s.at _ is) (fits.results s.at _ is) (omega (arith, e))))
+  executes_within (Some (Jump j)) s is w = moved_within s w (p.lands s.at j) s.stack 0 0 (fits.at s.at _ is) (fits.results s.at _ is) refl
   executes_within (Some (JumpZero j)) s is w =
-      let fit = fits.at s.at (JumpZero j) is in
-      let same = fits.results s.at (JumpZero j) is in
+      let fit = fits.at s.at _ is in
+      let same = fits.results s.at _ is in
       top_after Within s.stack _ (λ v rest e. chosen_after Within (is_zero v) _ _ (moved_within s w (s.at + 1) rest 1 0 fit.0 same.0 (omega (arith, e))) (moved_within s w (p.lands s.at j) rest 1 0 fit.1 same.1 (omega (arith, e))))
   executes_within (Some (Call f wanted)) s is w =
-      let same = fits.results s.at (Call f wanted) is in
-      found_after Within (p.entry f) _ (λ to found. enters_within s w s.held.names wanted (height to).numbers (height to).names 0 (height to).names (fits.at s.at (Call f wanted) is to found) same.0 (omega arith) (omega arith) to 0 (has_level s) refl
+      let same = fits.results s.at _ is in
+      found_after Within (p.entry f) _ (λ to found. enters_within s w s.held.names wanted (height to).numbers (height to).names 0 (height to).names
+      (fits.at s.at _ is to found) same.0 (omega arith) (omega arith) to 0 (has_level s) refl
       (omega arith, omega arith, same.1 to found))
   executes_within (Some (Send selector takes objects wanted)) s is w =
-      found_after Within (slice_get s.stack takes) _ (λ self _. answers_within s w s.held.names wanted (suc takes) objects 0 objects (fits.at s.at (Send selector takes objects wanted) is) (fits.results s.at (Send selector takes objects wanted) is) (omega arith) (omega arith) 0
+      found_after Within (slice_get s.stack takes) _ (λ self _. answers_within s w s.held.names wanted (suc takes) objects 0 objects (fits.at s.at _ is)
+      (fits.results s.at _ is) (omega arith) (omega arith) 0
       (lookup p.classes (class_at self) signs.Class selector takes objects wanted) (λ to found. fits.methods (class_at self) signs.Class selector takes objects wanted to found))
   executes_within (Some (SendSuper from selector takes objects wanted)) s is w =
-      answers_within s w s.held.names wanted (suc takes) objects 0 objects (fits.at s.at (SendSuper from selector takes objects wanted) is) (fits.results s.at (SendSuper from selector takes objects wanted) is) (omega arith) (omega arith) 0
+      answers_within s w s.held.names wanted (suc takes) objects 0 objects (fits.at s.at _ is) (fits.results s.at _ is) (omega arith) (omega arith) 0
       (lookup p.classes (Some from) signs.Class selector takes objects wanted) (λ to found. fits.methods (Some from) signs.Class selector takes objects wanted to found)
   executes_within (Some (SendTo selector takes objects wanted)) s is w =
-      receiver_after Within objects s.held.names _ (λ r rest e l. sends_within s w wanted (λ o. o.class) r selector takes objects rest (fits.at s.at (SendTo selector takes objects wanted) is) (fits.results s.at (SendTo selector takes objects wanted) is) e l)
+      receiver_after Within objects s.held.names _ (λ r rest e l. sends_within s w wanted (λ o. o.class) r selector takes objects rest (fits.at s.at _ is)
+      (fits.results s.at _ is) e l)
   executes_within (Some (SendToSuper from selector takes objects wanted)) s is w =
-      receiver_after Within objects s.held.names _ (λ r rest e l. sends_within s w wanted (λ o. from) r selector takes objects rest (fits.at s.at (SendToSuper from selector takes objects wanted) is) (fits.results s.at (SendToSuper from selector takes objects wanted) is) e l)
+      receiver_after Within objects s.held.names _ (λ r rest e l. sends_within s w wanted (λ o. from) r selector takes objects rest (fits.at s.at _ is)
+      (fits.results s.at _ is) e l)
   executes_within (Some (StoreStrong i)) s is w =
-      let fit = fits.at s.at (StoreStrong i) is in
-      let same = fits.results s.at (StoreStrong i) is in
+      let fit = fits.at s.at _ is in
+      let same = fits.results s.at _ is in
       let a = above_at s w (s.at + 1) same in
       reference_after Within s.held.names _ (λ r rest e. found_after Within (slice_get s.held.variables i) _ (λ old _. named_after Within r s.held _ (releases_within s w same old _
-      (omega (arith, a.0, fit.numbers), omega (arith, a.1, fit.names), omega (arith, a.2, fit.temporaries), omega (arith, a.3, fit.variables, length-set s.held.variables i r), a.4))))
+      (let l = length-set s.held.variables i r in search arith))))
   executes_within (Some (StoreGlobal i)) s is w =
-      let fit = fits.at s.at (StoreGlobal i) is in
-      let same = fits.results s.at (StoreGlobal i) is in
+      let fit = fits.at s.at _ is in
+      let same = fits.results s.at _ is in
       let b = above_at s w (s.at + 1) same in
-      let a : Above (height (s.at + 1)) (result (s.at + 1)) s.frames s.stack s.held = (omega (arith, b.0, fit.numbers), omega (arith, b.1, fit.names), omega (arith, b.2, fit.temporaries), omega (arith, b.3, fit.variables), b.4) in
+      let a : Above (height (s.at + 1)) (result (s.at + 1)) s.frames s.stack s.held = search arith in
       reference_after Within s.held.names _ (λ r rest e. named_after Within r s.held _ (place_after Within (slice_get s.held.strong_globals i) _ _
       (record { above = a; levels = w.levels; waits = waits_at s w (s.at + 1) same }) (λ old _. releases_within s w same old _ a)))
   executes_within (Some (StoreField class index)) s is w =
-      let fit = fits.at s.at (StoreField class index) is in
-      let same = fits.results s.at (StoreField class index) is in
+      let fit = fits.at s.at _ is in
+      let same = fits.results s.at _ is in
       let a = above_at s w (s.at + 1) same in
       reference_after Within s.held.names _ (λ r rest e. reference_after Within rest _ (λ x below f. named_after Within r s.held _ (field_after Within p.classes class x s.held _ (λ o.
       stores_within s w same x o index r (with_names s.held (r ∷ below))
-      (omega (arith, a.0, fit.numbers), omega (arith, a.1, fit.names, e, f), omega (arith, a.2, fit.temporaries), omega (arith, a.3, fit.variables), a.4)))))
+      (search arith)))))
   executes_within (Some (Empty i)) s is w =
-      let fit = fits.at s.at (Empty i) is in
-      let same = fits.results s.at (Empty i) is in
+      let fit = fits.at s.at _ is in
+      let same = fits.results s.at _ is in
       let a = above_at s w (s.at + 1) same in
       found_after Within (slice_get s.held.variables i) _ (λ r _. releases_within s w same r _
-      (omega (arith, a.0, fit.numbers), omega (arith, a.1, fit.names), omega (arith, a.2, fit.temporaries), omega (arith, a.3, fit.variables, length-set s.held.variables i 0), a.4))
-  executes_within (Some DropAll) s is w = drops_within s w (fits.results s.at DropAll is) s.held.temporaries s.held refl w.above (fits.at s.at DropAll is)
-  executes_within (Some Settle) s is w = settles_within s w (fits.results s.at Settle is) s.held.temporaries refl (fits.at s.at Settle is)
+      (let l = length-set s.held.variables i 0 in search arith))
+  executes_within (Some DropAll) s is w = drops_within s w (fits.results s.at _ is) s.held.temporaries s.held refl w.above (fits.at s.at _ is)
+  executes_within (Some Settle) s is w = settles_within s w (fits.results s.at _ is) s.held.temporaries refl (fits.at s.at _ is)
   executes_within (Some Give) s is w =
-      top_after Within s.stack _ (λ v rest e. result_after Within s.held.temporaries s.held _ (λ none r. hands_over_within s s.frames r rest w refl e (fits.at s.at Give is) (fits.results s.at Give is)))
+      top_after Within s.stack _ (λ v rest e. result_after Within s.held.temporaries s.held _
+      (λ none r. hands_over_within s s.frames r rest w refl e (fits.at s.at _ is) (fits.results s.at _ is)))
   executes_within (Some Return) s is w =
-      top_after Within s.stack _ (λ v rest e. left_after Within s.held.temporaries s.held _ (λ none. leaves_within s s.frames v rest w refl e none (fits.at s.at Return is) (fits.results s.at Return is)))
+      top_after Within s.stack _ (λ v rest e. left_after Within s.held.temporaries s.held _
+      (λ none. leaves_within s s.frames v rest w refl e none (fits.at s.at _ is) (fits.results s.at _ is)))
   executes_within (Some EndStep) s is w =
-      let fit = fits.at s.at EndStep is in
+      let fit = fits.at s.at _ is in
       end_goes_on_within s s.frames
-      ((omega (arith, w.above.0, fit.numbers), omega (arith, w.above.1, fit.names), omega (arith, w.above.2, fit.temporaries), omega (arith, w.above.3, fit.variables), w.above.4), w.levels, w.waits)
+      (let a = w.above in search arith, w.levels, w.waits)
 
   pub step_within : (s : State) → Within s → After Within (step p s)
   step_within s w = executes_within (slice_get p.instrs s.at) s refl w
@@ -405,18 +365,15 @@ module _ {J F T : Type 0} (p : Program J F T) (height : ℕ → Height) (result 
 
   numbers_few : (g : Gives) (x : Frame) → Waits g x → numbers_of g x ≤ most_numbers
   numbers_few g (Calling back w) waits = omega (arith, fits.numbers_most back)
-  numbers_few g (Ending back w o next left) waits = fits.numbers_most back
-  numbers_few g (Clearing back w o fields) waits = fits.numbers_most back
+  numbers_few g x waits = fits.numbers_most (back_of x)
 
   names_few : (g : Gives) (x : Frame) → Waits g x → names_of g x ≤ most_names
   names_few g (Calling back w) waits = omega (arith, fits.names_most back)
-  names_few g (Ending back w o next left) waits = fits.names_most back
-  names_few g (Clearing back w o fields) waits = fits.names_most back
+  names_few g x waits = fits.names_most (back_of x)
 
   places_few : (g : Gives) (x : Frame) → Waits g x → places_of g x ≤ most_places
   places_few g (Calling back w) waits = omega (arith, waits.0.0, waits.0.1, fits.places_most back)
-  places_few g (Ending back w o next left) waits = omega (arith, waits.0, waits.1, fits.places_most back)
-  places_few g (Clearing back w o fields) waits = omega (arith, waits.0, waits.1, fits.places_most back)
+  places_few g x waits = omega (arith, waits.0, waits.1, fits.places_most (back_of x))
 
   -- all levels together have no more than the room
   module _ (s : State) (w : Within s) where
@@ -436,9 +393,7 @@ module _ {J F T : Type 0} (p : Program J F T) (height : ℕ → Height) (result 
 
   abbrev RunsWithin : Reached State → Type 0
   RunsWithin (Running s input trace) = Within s
-  RunsWithin (Ended n input trace) = Unit {0}
-  RunsWithin (Faulted f input trace) = Unit {0}
-  RunsWithin (Wedged input trace) = Unit {0}
+  RunsWithin _ = Unit {0}
 
   fed_within : (go : Option ℕ → State) (input : List ℕ) (trace : List Event) → ((answer : Option ℕ) → Within (go answer)) → RunsWithin (fed go input trace)
   fed_within go [] trace h = h None
@@ -447,15 +402,11 @@ module _ {J F T : Type 0} (p : Program J F T) (height : ℕ → Height) (result 
   follow_within : (next : Next State) (input : List ℕ) (trace : List Event) → After Within next → RunsWithin (follow next input trace)
   follow_within (Goes s events) input trace h = h
   follow_within (Asks go) input trace h = fed_within go input trace h
-  follow_within (Ends n) input trace h = tt
-  follow_within (Faults f) input trace h = tt
-  follow_within Stuck input trace h = tt
+  follow_within _ input trace h = tt
 
   further_within : (r : Reached State) → RunsWithin r → RunsWithin (further (step p) r)
   further_within (Running s input trace) h = follow_within (step p s) input trace (step_within s h)
-  further_within (Ended n input trace) h = tt
-  further_within (Faulted f input trace) h = tt
-  further_within (Wedged input trace) h = tt
+  further_within _ h = tt
 
   steps_within : (n : ℕ) (r : Reached State) → RunsWithin r → RunsWithin (after_steps (step p) n r)
   steps_within zero r h = h
@@ -463,9 +414,7 @@ module _ {J F T : Type 0} (p : Program J F T) (height : ℕ → Height) (result 
 
   within_room : (r : Reached State) → RunsWithin r → HasAtMost (room_for most_numbers) (room_for most_names) (room_for most_places) r
   within_room (Running s input trace) h = (numbers_fit s h, names_fit s h, places_fit s h)
-  within_room (Ended n input trace) h = tt
-  within_room (Faulted f input trace) h = tt
-  within_room (Wedged input trace) h = tt
+  within_room _ h = tt
 
   -- no run has more than the room
   pub never_more : NeverHasMore p (room_for most_numbers) (room_for most_names) (room_for most_places)

@@ -58,16 +58,13 @@ module _ (D : Deeper) (bound place : ℕ) where
   given_counted (object_argument a others) w = any_holds (Counted (object_argument a others)) (referred D a w) _ (λ r w1. more_objects a others r (all_evaluated D others w1) (given_counted others w1))
 
   with_number : (x : ℤ) (s : Operands) (o : Outcome Given) → left_by (all_above (push x s)) o ≡ left_by (all_above s) (then_do o (λ given w. Done (and_number x given) w))
-  with_number x s (Done given w) = refl
-  with_number x s _ = refl
+  with_number x s o = then_twice o (λ given w. Done (and_number x given) w) _
 
   with_object : (r : ℕ) (s : Operands) (o : Outcome Given) → left_by (all_above (name r s)) o ≡ left_by (all_above s) (then_do o (λ given w. Done (and_object r given) w))
-  with_object r s (Done given w) = refl
-  with_object r s _ = refl
+  with_object r s o = then_twice o (λ given w. Done (and_object r given) w) _
 
   held : (r : ℕ) (s : Operands) (o : Outcome Finished) → and_then (passes_by (name r s) o) (run (One Hold)) ≡ left_by (beside s) (then_do o (λ _ w. Done r (takes r w)))
-  held r s (Done done w) = refl
-  held r s _ = refl
+  held r s o = sym (then_twice o (λ _ w. Done (On (name r s)) w) _) ∙ then_twice o (λ _ w. Done r (takes r w)) _
 
   -- arguments, and what they are passed to
   passed : {B : Type 0} (all : Arguments) (later : Block) (end : B → Way) (s : Operands) (w : World) (go : Given → World → Outcome B) → run (arguments_block (length s.numbers) all) s w ≡ left_by (all_above s) (all_evaluated D all w) → ((given : Given) (w1 : World) → Counted all given → run later (pushed given s) w1 ≡ left_by end (go given w1))
@@ -81,12 +78,10 @@ module _ (D : Deeper) (bound place : ℕ) where
   -- ---- what calls and messages give
 
   number_left : (s : Operands) (o : Outcome Answer) → answers_left gives.Number s o ≡ left_by (above s) (number_given o)
-  number_left s (Done a w) = refl
-  number_left s _ = refl
+  number_left s o = then_twice o (λ a w. Done a.number w) _
 
   object_left : (s : Operands) (o : Outcome Answer) → answers_left gives.Object s o ≡ left_by (beside s) (object_given o)
-  object_left s (Done a w) = refl
-  object_left s _ = refl
+  object_left s o = then_twice o (λ a w. Done a.object (takes a.object w)) _
 
   module _ {B : Type 0} (wanted : Gives) (end : Operands → B → Way) (give : Outcome Answer → Outcome B) (leaves : (s : Operands) (o : Outcome Answer) → answers_left wanted s o ≡ left_by (end s) (give o)) where
     call_is : (f : ℕ) (all : Arguments) (s : Operands) (w : World) → run (arguments_block (length s.numbers) all) s w ≡ left_by (all_above s) (all_evaluated D all w)

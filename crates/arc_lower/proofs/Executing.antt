@@ -14,7 +14,7 @@ use Rattle.arc_spec.specs.Number.{is_zero}
 use Rattle.arc_spec.specs.declared.location.Location.TheVariants.{Local}
 use Rattle.arc_spec.specs.Resolved as resolved
 use Rattle.arc_code.specs.declared.instr.Op.TheVariants.{Forget}
-use Rattle.arc_lower.proofs.Shaping.{Operands, push, name, Way, On, Out, left_by, on_way, and_then, passes_by, after_turn, on_test, only_on, block_turns, block}
+use Rattle.arc_lower.proofs.Shaping.{Operands, push, name, Way, On, Out, left_by, on_way, and_then, passes_by, after_turn, on_test, only_on, block_turns, block, then_twice}
 use Rattle.arc_lower.proofs.Evaluating.{above, value_is, reference_is}
 
 -- how a part ends, without its value
@@ -43,11 +43,7 @@ module _ (D : Deeper) where
 
   -- the temporaries are dropped after either
   dropped : (o : Outcome ℤ) → then_do (then_do o (λ v w1. then_do (all_dropped D w1) (λ _ w2. Done v w2))) (λ _ w1. Done Normal w1) ≡ then_do (ended o) (λ _ w1. then_do (all_dropped D w1) (λ _ w2. Done Normal w2))
-  dropped (Done v w) = by (all_dropped D w)
-    where
-      by : (o : Outcome Finished) → then_do (then_do o (λ _ w2. Done v w2)) (λ _ w1. Done Normal w1) ≡ then_do o (λ _ w2. Done Normal w2)
-      by (Done done w1) = refl
-      by _ = refl
+  dropped (Done v w) = sym (then_twice (all_dropped D w) (λ _ w2. Done v w2) _)
   dropped _ = refl
 
   pub unused_is : (a : Value) (w : World) → then_do (whole D (unused a) w) (λ _ w1. Done Normal w1) ≡ then_do (whole D a w) (λ _ w1. Done Normal w1)
@@ -93,12 +89,10 @@ module _ (D : Deeper) (bound : ℕ) where
   full exit out end x (Cut w) k go rest e h d = ap (λ y. then_do (and_then y k) (only_on (λ s w. passes_by s (all_dropped D w)))) e
 
   drops_is : (v : ℤ) (s : Operands) (o : Outcome Finished) → passes_by (push v s) o ≡ left_by (above D bound 0 s) (then_do o (λ _ w. Done v w))
-  drops_is v s (Done done w) = refl
-  drops_is v s _ = refl
+  drops_is v s o = then_twice o (λ _ w. Done v w) _
 
   forgotten : (place r : ℕ) (s : Operands) (o : Outcome Finished) → and_then (passes_by (name r s) o) (inside place (One Forget)) ≡ passes_by s o
-  forgotten place r s (Done done w) = refl
-  forgotten place r s _ = refl
+  forgotten place r s o = sym (then_twice o (λ _ w. Done (On (name r s)) w) _)
 
   whole_is : (a : Value) (names : List ℕ) (w : World) → run (whole_block a) (calm names) w ≡ left_by (above D bound 0 (calm names)) (whole D a w)
   whole_is a names w =
@@ -137,8 +131,7 @@ module _ (D : Deeper) (bound : ℕ) where
     ends breaks continues (Returned v) w = Done (Out exit (push v s)) w
 
     normal_is : (breaks continues : Block) (o : Outcome Finished) → passes_by s o ≡ then_do (normally o) (ends breaks continues)
-    normal_is breaks continues (Done done w) = refl
-    normal_is breaks continues _ = refl
+    normal_is breaks continues o = then_twice o (λ _ w. Done Normal w) (ends breaks continues)
 
     cleared_stops : (first count : ℕ) (b : Block) → Stops b → Stops (Then (Clear first count) b)
     cleared_stops first count b stops w k = by (variables_dropped D first count w)
@@ -155,11 +148,7 @@ module _ (D : Deeper) (bound : ℕ) where
 
     -- a block that is left empties its variables
     scope_is : (first count : ℕ) (breaks continues : Block) → Stops breaks → Stops continues → (flow : Flow) (w : World) → and_then (ends (Then (Clear first count) breaks) (Then (Clear first count) continues) flow w) (run (Clear first count)) ≡ then_do (scope_left D first count flow w) (ends breaks continues)
-    scope_is first count breaks continues quits turns Normal w = by (variables_dropped D first count w)
-      where
-        by : (o : Outcome Finished) → passes_by s o ≡ then_do (then_do o (λ _ w1. Done Normal w1)) (ends breaks continues)
-        by (Done done w1) = refl
-        by _ = refl
+    scope_is first count breaks continues quits turns Normal w = normal_is breaks continues (variables_dropped D first count w)
     scope_is first count breaks continues quits turns Broken w =
         cleared_stops first count breaks quits w (run (Clear first count))
         ∙ cleared_then breaks continues breaks Broken (λ w1. refl) (variables_dropped D first count w)

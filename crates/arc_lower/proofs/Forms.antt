@@ -12,16 +12,15 @@ use Rattle.arc_spec.specs.declared.class.Gives.{Gives}
 use Rattle.arc_spec.specs.declared.class.Gives.TheVariants as gives
 use Rattle.arc_spec.specs.Classes.{new_selector}
 use Rattle.arc_code.specs.declared.instr.Op.{Op}
-use Rattle.arc_code.specs.declared.instr.Op.TheVariants as ops
-use Rattle.arc_code.specs.declared.instr.Op.TheVariants.{Num, Bin, Un, Narrow, Pop, Get, GetChar, Nil, ReadSelf, ReadField, Hold, Forget, Alloc, Finds, GetField, SetField, Differ, IsObject}
+use Rattle.arc_code.specs.declared.instr.Op.TheVariants.{Narrow, Forget}
 use Rattle.arc_code.specs.declared.effect.Height.{Height}
-use Rattle.arc_code.specs.Effects.{on_numbers, as_number, as_object, giving, operation_effect}
+use Rattle.arc_code.specs.Effects.{as_number, as_object, operation_effect}
 use Rattle.arc_lower.specs.Known.{is_within, combined_kind, known_kind}
 use Rattle.arc_lower.specs.declared.frame.Turn.{Turn}
 use Rattle.arc_lower.specs.declared.frame.Scope.{Scope}
 use Rattle.arc_lower.specs.Lowered.{forget_orders, print_orders, order_takes, Inside, Block, Idle, One, Clear, Calls, SendsMessage, Making, IfNew, Answer, ToClass, message_to, below_arguments, new_block, receiver_block, answer_block, Then, Fork, Quit, Advance, Full, Assign, flat, old_block, given_block, below_new, narrow_block, update_block, value_block, reference_block, arguments_block, whole_block, whole_reference_block, begin_block, nothing_given, loop_block, command_block, commands_block, Surroundings, within_scopes, leaving, breaking, continuing}
 use Rattle.arc_lower.specs.Size.{number_count, object_count, has_new, unused, does_nothing}
-use Rattle.arc_lower.specs.Heights.{height, between, after_effect, walk, last_walk}
+use Rattle.arc_lower.specs.Heights.{height, between, walk, last_walk}
 use Rattle.arc_lower.specs.Lowered.{whole_orders, whole_reference_orders}
 use Rattle.arc_lower.proofs.Typing.{heights_same, Reaches, types_then, forgets_type, print_types, get_types, set_types, call_types, store_types, read_types, all_empty_type, drop_types, tested, Forks, ByTest, BlockTypes}
 use Rattle.arc_lower.proofs.HeightsEnd.{within_ends, quiet_types}
@@ -54,11 +53,9 @@ module _ (P : Program) (r s slots names exit d : ℕ) (room : names ≤ d + s) w
   pub choice : {a b c n m : ℕ} {x y : Block} → Comes a b c x n m → ((t : ℕ) → Comes a b t y n m) → Comes (suc a) b c (Fork x y) n m
   choice {a = a} {b = b} {c = c} {n = n} {m = m} first others =
       let rest = others first.more in
-      let forks : Forks P (height (suc a) b c d) (height a b c d) first.more (height n m rest.more d) = record { some = omega arith; left = heights_same _ _ _ _ a b c d (omega arith) (omega arith) (omega arith) (omega arith); first = first.most; next = rest.most } in
+      let forks : Forks P (height (suc a) b c d) (height a b c d) first.more
+      (height n m rest.more d) = record { some = omega arith; left = search (arith, heights_same); first = first.most; next = rest.most } in
       record { more = rest.more; most = omega (arith, first.most, rest.most); types = (height a b c d, first.more, forks, tt, first.types, rest.types) }
-
-  object_left : (g : Gives) (n m a b c : ℕ) → after_effect (height (n + a) (m + suc b) c d) (giving g n (suc m)) ≡ height (as_number g + a) (as_object g + b) (c + as_object g) d
-  object_left g n m a b c = heights_same _ _ _ _ (as_number g + a) (as_object g + b) (c + as_object g) d (omega arith) (omega arith) (omega arith) (omega arith)
 
   -- an object that gets a message is a reference below its arguments
   abbrev with_object : Receiver → ℕ → ℕ
@@ -72,24 +69,18 @@ module _ (P : Program) (r s slots names exit d : ℕ) (room : names ≤ d + s) w
   receiver_lies _ depth a h = omega (arith, h)
 
   message_sent : (g : Gives) (receiver : Receiver) (selector n m a b c : ℕ) → Comes (n + below_arguments receiver a) (m + with_object receiver b) c (SendsMessage g (message_to receiver selector) n m) (as_number g + a) (as_object g + b)
-  message_sent g (ObjectValue v) selector n m a b c = record { more = c + as_object g; most = omega arith; types = ((omega arith, omega arith), object_left g n m a b c) }
-  message_sent g (ObjectSuper v from) selector n m a b c = record { more = c + as_object g; most = omega arith; types = ((omega arith, omega arith), object_left g n m a b c) }
-  message_sent g _ selector n m a b c = record {
-    more = c + as_object g;
-    most = omega arith;
-    types =
-        ((omega arith, omega arith), (heights_same _ _ _ _ (as_number g + a) (as_object g + b) (c + as_object g) d (omega arith) (omega arith) (omega arith) (omega arith)));
-  }
+  message_sent g (ClassValue v) selector n m a b c = record { more = c + as_object g; most = omega arith; types = search (arith, heights_same) }
+  message_sent g _ selector n m a b c = record { more = c + as_object g; most = omega arith; types = search (arith, heights_same) }
 
   called : (g : Gives) (f n m a b c : ℕ) → Comes (n + a) (m + b) c (Calls g f n m) (as_number g + a) (as_object g + b)
   called g f n m a b c = record { more = c + as_object g; most = omega arith; types = call_types P r s g b c d f n m a }
 
   -- the root's `new` does the same with the class on top as a message to it
   made_types : (a b c : ℕ) → Comes (suc a) b c Making a (suc b)
-  made_types a b c = record { more = c + 1; most = omega arith; types = (omega arith, heights_same _ _ _ _ a (suc b) (c + 1) d (omega arith) (omega arith) (omega arith) (omega arith)) }
+  made_types a b c = record { more = c + 1; most = omega arith; types = search (arith, heights_same) }
 
   reported_types : (a b c : ℕ) → Comes (suc a) b c (SendsMessage gives.Object (ToClass new_selector) 0 0) a (suc b)
-  reported_types a b c = record { more = c + 1; most = omega arith; types = ((omega arith, omega arith), heights_same _ _ _ _ a (suc b) (c + 1) d (omega arith) (omega arith) (omega arith) (omega arith)) }
+  reported_types a b c = record { more = c + 1; most = omega arith; types = search (arith, heights_same) }
 
   if_new : (class : ℕ) (x y : Block) (a b c n m : ℕ) → Comes a b c x n m → Comes a b c y n m → Comes a b c (IfNew class x y) n m
   if_new class x y a b c n m first other = either (has_new P class) refl
@@ -99,26 +90,27 @@ module _ (P : Program) (r s slots names exit d : ℕ) (room : names ≤ d + s) w
       either false e = record { more = other.more; most = other.most; types = subst (λ t. ByTest t (Within (height a b c d) x (height n m other.more d)) (Within (height a b c d) y (height n m other.more d))) (sym e) other.types }
 
   new_types : (from : Option ℕ) (e : Value) (a b c : ℕ) → Comes (suc a) b c (new_block from e) a (suc b)
-  new_types (Some from) e a b c = if_new from _ Making (suc a) b c a (suc b) (record { more = c + 1; most = omega arith; types = ((omega arith, omega arith), heights_same _ _ _ _ a (suc b) (c + 1) d (omega arith) (omega arith) (omega arith) (omega arith)) }) (made_types a b c)
+  new_types (Some from) e a b c =
+      if_new from _ Making (suc a) b c a (suc b) (record { more = c + 1; most = omega arith; types = search (arith, heights_same) }) (made_types a b c)
   new_types None (Number (pos n)) a b c = if_new n _ Making (suc a) b c a (suc b) (reported_types a b c) (made_types a b c)
-  new_types None _ a b c = next {n = suc (suc a)} {m = b} (op (Finds new_selector) (omega arith) (omega arith) (omega arith) refl) (λ t. choice (reported_types a b t) (λ q. made_types a b q))
+  new_types None _ a b c = next {n = suc (suc a)} {m = b} (search (arith, op)) (λ t. choice (reported_types a b t) (λ q. made_types a b q))
 
   ends_with : {a b c n m u v : ℕ} {x : Block} → n ≡ u → m ≡ v → Comes a b c x n m → Comes a b c x u v
   ends_with {a = a} {b = b} {c = c} {n = n} {m = m} {u = u} {v = v} {x = x} e f first = subst (λ k. Comes a b c x u k) f (subst (λ k. Comes a b c x k m) e first)
 
   old_types : (moment : Moment) (a b c : ℕ) → Comes (suc a) b c (old_block moment) (suc (below_new moment a)) b
-  old_types Before a b c = op (Get 0) (omega arith) (omega arith) (omega arith) refl
+  old_types Before a b c = search (arith, op)
   old_types After a b c = plain refl
 
   given_types : (moment : Moment) (a b c : ℕ) → Comes (suc (below_new moment a)) b c (given_block moment) (suc a) b
-  given_types Before a b c = op Pop (omega arith) (omega arith) (omega arith) refl
+  given_types Before a b c = search (arith, op)
   given_types After a b c = plain refl
 
   -- a conversion
   narrow_types : (known kind : Kind) (a b c : ℕ) → Comes (suc a) b c (narrow_block known kind) (suc a) b
   narrow_types known kind a b c = by_test (λ t. Comes (suc a) b c (if t then Idle else One (Narrow kind)) (suc a) b) (is_within known kind)
       (λ e. plain refl)
-      (λ e. op (Narrow kind) (omega arith) (omega arith) (omega arith) refl)
+      (λ e. search (arith, op))
 
   -- what follows the old number of an update
   update_types : (moment : Moment) (operator : BinaryOperator) (computed kept : Kind) (right store : Block) (a b c m : ℕ)
@@ -126,7 +118,7 @@ module _ (P : Program) (r s slots names exit d : ℕ) (room : names ≤ d + s) w
       → Comes (suc a) b c (update_block moment right operator computed kept store) (suc a) m
   update_types moment operator computed kept right store a b c m rights stores =
       let new = suc (below_new moment a) in
-      next (old_types moment a b c) (λ t. next (rights t) (λ t. next {n = new} {m = b} (op (Bin operator computed) (omega arith) (omega arith) (omega arith) refl)
+      next (old_types moment a b c) (λ t. next (rights t) (λ t. next {n = new} {m = b} (search (arith, op))
       (λ t. next {n = new} {m = b} (narrow_types (combined_kind operator computed) kept (below_new moment a) b t) (λ t. next (stores t) (λ t. given_types moment a m t)))))
 
   lies_below : (moment : Moment) (depth a : ℕ) → depth + slots ≤ a + r → below_new moment depth + slots ≤ below_new moment a + r
@@ -135,14 +127,15 @@ module _ (P : Program) (r s slots names exit d : ℕ) (room : names ≤ d + s) w
 
   mutual
     pub value_types : (e : Value) (depth a b c : ℕ) → depth + slots ≤ a + r → Comes a b c (value_block depth e) (suc a) b
-    value_types (Number n) depth a b c h = op (Num n) (omega arith) (omega arith) (omega arith) refl
-    value_types ReadByte depth a b c h = op GetChar (omega arith) (omega arith) (omega arith) refl
+    value_types (Number n) depth a b c h = search (arith, op)
+    value_types ReadByte depth a b c h = search (arith, op)
     value_types (Print pieces arguments) depth a b c h =
         let n = number_count arguments in
         let m = object_count arguments in
         next (arguments_type arguments depth a b c h) (λ t. plain (types_then P r s (height (n + a) (m + b) t d) (forget_orders m) (height (n + a) b t d) (print_orders pieces n) (height (suc a) b t d) (forgets_type P r s m (n + a) b t d) (print_types P r s b t d pieces n a)))
-    value_types (Applied operator kind v) depth a b c h = next (value_types v depth a b c h) (λ t. op (Un operator kind) (omega arith) (omega arith) (omega arith) refl)
-    value_types (Combined operator kind v u) depth a b c h = next (value_types v depth a b c h) (λ t. next (value_types u (suc depth) (suc a) b t (omega (arith, h))) (λ q. op (Bin operator kind) (omega arith) (omega arith) (omega arith) refl))
+    value_types (Applied operator kind v) depth a b c h = next (value_types v depth a b c h) (λ t. search (arith, op))
+    value_types (Combined operator kind v u) depth a b c h =
+        next (value_types v depth a b c h) (λ t. next (value_types u (suc depth) (suc a) b t (omega (arith, h))) (λ q. search (arith, op)))
     value_types (Choice v u w) depth a b c h = next (value_types v depth a b c h) (λ t. choice (value_types u depth a b t h) (λ q. value_types w depth a b q h))
     value_types (Converted kind v) depth a b c h = next (value_types v depth a b c h) (λ t. narrow_types (known_kind v) kind a b t)
     value_types (Read i) depth a b c h = plain (get_types P r s b c d slots depth i a h)
@@ -157,26 +150,31 @@ module _ (P : Program) (r s slots names exit d : ℕ) (room : names ≤ d + s) w
         let m = with_object receiver b in
         ends_with {n = as_number gives.Number + a} {m = as_object gives.Number + b} (omega arith) (omega arith)
         (next {n = n} {m = m} (receiver_types receiver depth a b c h) (λ t. next (arguments_type arguments (below_arguments receiver depth) n m t (receiver_lies receiver depth a h)) (λ q. message_sent gives.Number receiver selector (number_count arguments) (object_count arguments) a b q)))
-    value_types (Field v class index) depth a b c h = next (reference_types v depth a b c h) (λ t. op (GetField class index) (omega arith) (omega arith) (omega arith) refl)
-    value_types (FieldAssigned v class index u) depth a b c h = next (reference_types v depth a b c h) (λ t. next (value_types u depth a (suc b) t h) (λ q. op (SetField class index) (omega arith) (omega arith) (omega arith) refl))
+    value_types (Field v class index) depth a b c h = next (reference_types v depth a b c h) (λ t. search (arith, op))
+    value_types (FieldAssigned v class index u) depth a b c h =
+        next (reference_types v depth a b c h) (λ t. next (value_types u depth a (suc b) t h) (λ q. search (arith, op)))
     value_types (FieldUpdated moment v class index operator computed kept u) depth a b c h =
         let lies = lies_below moment depth a h in
-        next (reference_types v depth a b c h) (λ t. next {n = a} {m = suc (suc b)} (op ops.Again (omega arith) (omega arith) (omega arith) refl) (λ t. next {n = suc a} {m = suc b} (op (GetField class index) (omega arith) (omega arith) (omega arith) refl)
-        (λ t. update_types moment operator computed kept _ _ a (suc b) t b (λ q. value_types u (suc (below_new moment depth)) (suc (below_new moment a)) (suc b) q (omega (arith, lies))) (λ q. op (SetField class index) (omega arith) (omega arith) (omega arith) refl))))
-    value_types (resolved.Differ v u) depth a b c h = next (reference_types v depth a b c h) (λ t. next (reference_types u depth a (suc b) t h) (λ q. op Differ (omega arith) (omega arith) (omega arith) refl))
-    value_types (resolved.IsObject v) depth a b c h = next (reference_types v depth a b c h) (λ t. op IsObject (omega arith) (omega arith) (omega arith) refl)
+        next (reference_types v depth a b c h) (λ t. next {n = a} {m = suc (suc b)} (search (arith, op)) (λ t. next {n = suc a} {m = suc b} (search (arith, op))
+        (λ t. update_types moment operator computed kept _ _ a (suc b) t b
+        (λ q. value_types u (suc (below_new moment depth)) (suc (below_new moment a)) (suc b) q (omega (arith, lies))) (λ q. search (arith, op)))))
+    value_types (resolved.Differ v u) depth a b c h =
+        next (reference_types v depth a b c h) (λ t. next (reference_types u depth a (suc b) t h) (λ q. search (arith, op)))
+    value_types (resolved.IsObject v) depth a b c h = next (reference_types v depth a b c h) (λ t. search (arith, op))
 
     pub reference_types : (e : Reference) (depth a b c : ℕ) → depth + slots ≤ a + r → Comes a b c (reference_block depth e) a (suc b)
-    reference_types resolved.Nil depth a b c h = op Nil (omega arith) (omega arith) (omega arith) refl
-    reference_types Itself depth a b c h = op ReadSelf (omega arith) (omega arith) (omega arith) refl
+    reference_types resolved.Nil depth a b c h = search (arith, op)
+    reference_types Itself depth a b c h = search (arith, op)
     reference_types (Variable i) depth a b c h = record { more = c + 1; most = omega arith; types = read_types P r s names i a b c d room }
     reference_types (Chosen v u w) depth a b c h = next (value_types v depth a b c h) (λ t. choice (reference_types u depth a b t h) (λ q. reference_types w depth a b q h))
-    reference_types (Stored i v) depth a b c h = next (reference_types v depth a b c h) (λ t. next (plain (store_types P r s names a (suc b) t d room i (omega arith))) (λ q. op Hold (omega arith) (omega arith) (omega arith) refl))
-    reference_types (ObjectField v class index) depth a b c h = next (reference_types v depth a b c h) (λ t. op (ReadField class index) (omega arith) (omega arith) (omega arith) refl)
+    reference_types (Stored i v) depth a b c h =
+        next (reference_types v depth a b c h) (λ t. next (plain (store_types P r s names a (suc b) t d room i (omega arith))) (λ q. search (arith, op)))
+    reference_types (ObjectField v class index) depth a b c h = next (reference_types v depth a b c h) (λ t. search (arith, op))
     reference_types (ObjectFieldStored v class index u) depth a b c h =
-        next (reference_types v depth a b c h) (λ t. next (reference_types u depth a (suc b) t h) (λ q. next {n = a} {m = suc b} (plain (omega arith, heights_same _ _ _ _ a (suc b) q d (omega arith) (omega arith) (omega arith) (omega arith)))
-        (λ u1. op Hold (omega arith) (omega arith) (omega arith) refl)))
-    reference_types (Made v) depth a b c h = next (value_types v depth a b c h) (λ t. op Alloc (omega arith) (omega arith) (omega arith) refl)
+        next (reference_types v depth a b c h) (λ t. next (reference_types u depth a (suc b) t h) (λ q. next {n =
+        a} {m = suc b} (plain (search (arith, heights_same)))
+        (λ u1. search (arith, op))))
+    reference_types (Made v) depth a b c h = next (value_types v depth a b c h) (λ t. search (arith, op))
     reference_types (New from v) depth a b c h = next (value_types v depth a b c h) (λ t. new_types from v a b t)
     reference_types (ObjectInvoked f arguments) depth a b c h =
         ends_with {n = as_number gives.Object + a} {m = as_object gives.Object + b} (omega arith) (omega arith) (next (arguments_type arguments depth a b c h) (λ t. called gives.Object f (number_count arguments) (object_count arguments) a b t))
@@ -194,7 +192,7 @@ module _ (P : Program) (r s slots names exit d : ℕ) (room : names ≤ d + s) w
     receiver_types (ObjectSuper v from) depth a b c h = reference_types v depth a b c h
 
     pub arguments_type : (es : Arguments) (depth a b c : ℕ) → depth + slots ≤ a + r → Comes a b c (arguments_block depth es) (number_count es + a) (object_count es + b)
-    arguments_type no_arguments depth a b c h = plain (heights_same _ _ _ _ (0 + a) (0 + b) c d (omega arith) (omega arith) refl refl)
+    arguments_type no_arguments depth a b c h = plain (search (arith, heights_same))
     arguments_type (number_argument v others) depth a b c h =
         ends_with {n = number_count others + suc a} {m = object_count others + b} (omega arith) refl (next (value_types v depth a b c h) (λ t. arguments_type others (suc depth) (suc a) b t (omega (arith, h))))
     arguments_type (object_argument v others) depth a b c h =
@@ -212,20 +210,22 @@ module _ (P : Program) (r s slots names exit d : ℕ) (room : names ≤ d + s) w
         drop_types P r s (list_any order_takes (flat P slots names Inside x)) u t d (λ none. let le = quiet_types P r s slots names exit x (height a 0 0 d) (height n m t d) first.types none in omega (arith, le)),
       )
 
-  forget_types : (a t : ℕ) → Within (height a 1 t d) (One Forget) (height a 0 t d)
-  forget_types a t = (omega arith, heights_same _ _ _ _ a 0 t d (omega arith) (omega arith) (omega arith) (omega arith))
-
   pub whole_types : (looping statement : Bool) (e : Value) (a : ℕ) → slots ≤ a + r → BlockTypes P r s slots names exit looping statement (height a 0 0 d) (whole_block e) (height (suc a) 0 0 d)
   whole_types looping statement e a h = full looping statement a (suc a) 0 (suc a) (value_block 0 e) Idle (value_types e 0 a 0 0 (omega (arith, h))) (λ t. refl)
 
   pub whole_reference_types : (looping statement : Bool) (e : Reference) (a : ℕ) → slots ≤ a + r → BlockTypes P r s slots names exit looping statement (height a 0 0 d) (whole_reference_block e) (height a 0 0 d)
-  whole_reference_types looping statement e a h = full looping statement a a 1 a (reference_block 0 e) (One Forget) (reference_types e 0 a 0 0 (omega (arith, h))) (λ t. forget_types a t)
+  whole_reference_types looping statement e a h =
+      full looping statement a a 1 a (reference_block 0 e) (One Forget) (reference_types e 0 a 0 0 (omega (arith, h))) (λ t. search (arith, heights_same))
 
   pub begin_types : (looping statement : Bool) (i : ℕ) (e : Reference) (a : ℕ) → slots ≤ a + r → BlockTypes P r s slots names exit looping statement (height a 0 0 d) (begin_block i e) (height a 0 0 d)
-  begin_types looping statement i e a h = full looping statement a a 1 a (reference_block 0 e) (Then (Assign (Local i)) (One Forget)) (reference_types e 0 a 0 0 (omega (arith, h))) (λ t. (height a 1 t d, store_types P r s names a 1 t d room (Local i) (omega arith), forget_types a t))
+  begin_types looping statement i e a h =
+      full looping statement a a 1 a (reference_block 0 e) (Then (Assign (Local i)) (One Forget)) (reference_types e 0 a 0 0 (omega (arith, h)))
+      (λ t. (height a 1 t d, store_types P r s names a 1 t d room (Local i) (omega arith), search (arith, heights_same)))
 
   pub answer_types : (looping statement : Bool) (e : Reference) (a : ℕ) → slots ≤ a + r → BlockTypes P r s slots names exit looping statement (height a 0 0 d) (answer_block e) (height a 0 0 d)
-  answer_types looping statement e a h = full looping statement a a 1 a (reference_block 0 e) (Then Answer (One Forget)) (reference_types e 0 a 0 0 (omega (arith, h))) (λ t. (height a 1 t d, store_types P r s names a 1 t d room (Local (names - 1)) (omega arith), forget_types a t))
+  answer_types looping statement e a h =
+      full looping statement a a 1 a (reference_block 0 e) (Then Answer (One Forget)) (reference_types e 0 a 0 0 (omega (arith, h)))
+      (λ t. (height a 1 t d, store_types P r s names a 1 t d room (Local (names - 1)) (omega arith), search (arith, heights_same)))
 
 pub whole_ends : (P : Program) (base : Height) (pending : List Height) (slots names : ℕ) (e : Value) (a b : ℕ) → last_walk P base (walk (between a b) pending) (whole_orders P slots names e) ≡ walk (between (suc a) b) pending
 whole_ends P base pending slots names e a b = within_ends P slots names slots names 0 base (whole_block e) (between a b) (between (suc a) b) pending (whole_types P slots names slots names 0 b (omega arith) false false e a (omega arith))
@@ -249,11 +249,8 @@ module _ (P : Program) (slots names exit : ℕ) where
     test_types : (e : Value) → Statement base (whole_block e) test
     test_types e = whole_types P 0 0 slots names exit names (omega arith) looping true e slots (omega arith)
 
-    zero_types : Statement base (One (Num (pos 0))) test
-    zero_types = (omega arith, heights_same _ _ _ _ (suc slots) 0 0 names (omega arith) (omega arith) (omega arith) (omega arith))
-
     pub nothing_types : Statement base (nothing_given exit) base
-    nothing_types = (test, zero_types, (refl, refl, refl, refl))
+    nothing_types = (test, search (arith, heights_same), (refl, refl, refl, refl))
 
     pub clear_types : (first count : ℕ) → Statement base (Clear first count) base
     clear_types first count = all_empty_type P 0 0 names slots 0 0 names (omega arith) first count
@@ -264,21 +261,20 @@ module _ (P : Program) (slots names exit : ℕ) where
     loop_types After true step x body s t u = (refl, refl, refl, t, u, refl)
     loop_types After false step x body s t u = (refl, refl, s, t, u, refl)
 
-  less : after_effect test (on_numbers 1 0) ≡ base
-  less = heights_same _ _ _ _ slots 0 0 names (omega arith) (omega arith) (omega arith) (omega arith)
-
   mutual
     pub command_types : (looping : Bool) (breaks continues : Block) → Statement looping base breaks base → Statement looping base continues base → (c : Command) → Statement looping base (command_block exit breaks continues c) base
     command_types l b n t u (Sequence first count all) =
         let clear = clear_types l first count in
         (base, commands_type l (Then (Clear first count) b) (Then (Clear first count) n) (base, clear, t) (base, clear, u) all, clear)
-    command_types l b n t u (Evaluate a) = (test, test_types l (unused a), (omega arith, less))
+    command_types l b n t u (Evaluate a) = (test, test_types l (unused a), search (arith, heights_same))
     command_types l b n t u (EvaluateReference a) = whole_reference_types P 0 0 slots names exit names (omega arith) l true a slots (omega arith)
     command_types l b n t u (Begin i a) = begin_types P 0 0 slots names exit names (omega arith) l true i a slots (omega arith)
     command_types l b n t u (Give a) = (base, answer_types P 0 0 slots names exit names (omega arith) l true a slots (omega arith), nothing_types l)
     command_types l b n t u (resolved.Return None) = nothing_types l
     command_types l b n t u (resolved.Return (Some a)) = (test, test_types l a, (refl, refl, refl, refl))
-    command_types l b n t u (Choose v x y) = (test, test_types l v, (base, 0, record { some = omega arith; left = less; first = omega arith; next = omega arith }, refl, command_types l b n t u x, command_types l b n t u y))
+    command_types l b n t u (Choose v x y) =
+        let forks : Forks P test base 0 base = record { some = omega arith; left = search (arith, heights_same); first = omega arith; next = omega arith } in
+        (test, test_types l v, (base, 0, forks, refl, command_types l b n t u x, command_types l b n t u y))
     command_types l b n t u (Repeat moment v step body) = loop_types l moment (does_nothing step) (command_block exit b n step) (whole_block v) (command_block exit Quit Advance body) (command_types l b n t u step) (test_types l v) (command_types true Quit Advance (refl, refl, refl, refl) (refl, refl, refl, refl) body)
     command_types l b n t u Break = t
     command_types l b n t u Continue = u

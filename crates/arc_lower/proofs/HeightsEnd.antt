@@ -4,7 +4,7 @@ use Rattle.std.proofs.lemmas.Bool.{ltb-false, true≢false}
 use Rattle.std.specs.List.{list_any}
 use Rattle.arc_spec.specs.Resolved.{Program}
 use Rattle.arc_code.specs.declared.effect.Height.{Height}
-use Rattle.arc_code.specs.declared.instr.Instr.TheVariants.{Jump, JumpZero, DropAll, Settle, Give, Return}
+use Rattle.arc_code.specs.declared.instr.Instr.TheVariants.{Jump, JumpZero}
 use Rattle.arc_code.specs.Effects.{effect}
 use Rattle.arc_ir.specs.declared.action.Target.{Target}
 use Rattle.arc_ir.specs.declared.action.Target.TheVariants.{Skip, Back, At}
@@ -28,7 +28,7 @@ module _ (P : Program) (r s slots names exit : ℕ) where
 
   -- what stands after a choice stands between two statements
   pub chosen_same : (to : Target) → next_height P (JumpZero to) test ≡ base
-  chosen_same to = heights_same _ _ _ _ slots 0 0 names (omega arith) (omega arith) (omega arith) (omega arith)
+  chosen_same to = search (arith, heights_same)
 
   -- ---- the parts that tests may lead to
 
@@ -92,6 +92,14 @@ module _ (P : Program) (r s slots names exit : ℕ) where
     exactly : (e : Spot) (pending : List Height) (h : Height) (x : Block) (g : Height) → Ends e false pending h x g → last_walk P from (walk h pending) (flat P slots names e x) ≡ walk g pending
     exactly e pending h x g ends = ends.1 ∙ ap (walk g) (sym ends.2)
 
+    -- what goes on elsewhere goes on between statements
+    elsewhere : (pending : List Height) (g : Height) {w : Walk} → from ≡ base → AllBase pending
+        → w ≡ walk (with_temporaries (get_or pending 0 from) 0) (drop 1 pending)
+        → g ≡ base → (after : List Height) × (w ≡ walk g after) × Keeps true pending after
+    elsewhere pending g same all e is =
+        let on = ap (λ n. walk (with_temporaries n 0) (drop 1 pending)) (first_base from pending same all) ∙ ap (λ n. walk n (drop 1 pending)) (sym is) in
+        (drop 1 pending, e ∙ on, (same, all, rest_base pending all))
+
     pub block_ends : (e : Spot) (looping statement : Bool) (x : Block) (h g : Height) (pending : List Height) → Keeps statement pending pending → BlockTypes P r s slots names exit looping statement h x g → Ends e statement pending h x g
     block_ends e l statement Making h g pending keeps t = (pending, ap (λ n. walk n pending) t.1, keeps)
     block_ends e l statement (IfNew class x y) h g pending keeps t = either (has_new P class) (λ u. block_ends e l statement x h g pending keeps u) (λ u. block_ends e l statement y h g pending keeps u) t
@@ -145,21 +153,12 @@ module _ (P : Program) (r s slots names exit : ℕ) where
               ∙ ap (λ n. walk (with_temporaries n 0) (drop 1 two.0)) (first_base from two.0 keeps.0 two.2.2) ∙ ap (λ n. walk n (drop 1 two.0)) (sym t.5),
           (keeps.0, keeps.1, rest_base two.0 two.2.2),
         )
-    block_ends e l true Quit h g pending keeps t = (
-      drop 1 pending,
-      ap (λ n. last_walk P from (walk n pending) (flat P slots names e Quit)) t.2 ∙ ap (λ n. walk (with_temporaries n 0) (drop 1 pending)) (first_base from pending keeps.0 keeps.1) ∙ ap (λ n. walk n (drop 1 pending)) (sym t.3),
-      (keeps.0, keeps.1, rest_base pending keeps.1),
-    )
-    block_ends e l true Advance h g pending keeps t = (
-      drop 1 pending,
-      ap (λ n. last_walk P from (walk n pending) (flat P slots names e Advance)) t.2 ∙ ap (λ n. walk (with_temporaries n 0) (drop 1 pending)) (first_base from pending keeps.0 keeps.1) ∙ ap (λ n. walk n (drop 1 pending)) (sym t.3),
-      (keeps.0, keeps.1, rest_base pending keeps.1),
-    )
-    block_ends e l true (Leave to) h g pending keeps t = (
-      drop 1 pending,
-      ap (λ n. next_walk P from (Jump (At to)) (walk n pending)) t.2 ∙ ap (λ n. walk (with_temporaries n 0) (drop 1 pending)) (first_base from pending keeps.0 keeps.1) ∙ ap (λ n. walk n (drop 1 pending)) (sym t.3),
-      (keeps.0, keeps.1, rest_base pending keeps.1),
-    )
+    block_ends e l true Quit h g pending keeps t =
+        elsewhere pending g keeps.0 keeps.1 (ap (λ n. last_walk P from (walk n pending) (flat P slots names e Quit)) t.2) t.3
+    block_ends e l true Advance h g pending keeps t =
+        elsewhere pending g keeps.0 keeps.1 (ap (λ n. last_walk P from (walk n pending) (flat P slots names e Advance)) t.2) t.3
+    block_ends e l true (Leave to) h g pending keeps t =
+        elsewhere pending g keeps.0 keeps.1 (ap (λ n. next_walk P from (Jump (At to)) (walk n pending)) t.2) t.3
     block_ends e l false (Loop entry z x y) h g pending keeps t = absurd (true≢false (sym t.0))
     block_ends e l false Quit h g pending keeps t = absurd (true≢false (sym t.0))
     block_ends e l false Advance h g pending keeps t = absurd (true≢false (sym t.0))
@@ -184,10 +183,6 @@ module _ (P : Program) (r s slots names exit : ℕ) where
 
   quiet_next : (x : Order) (w : Walk) → order_takes x ≡ false → (next_walk P base x w).height.temporaries ≤ w.height.temporaries
   quiet_next (Jump to) w e = omega arith
-  quiet_next DropAll w e = omega arith
-  quiet_next Return w e = omega arith
-  quiet_next Give w e = omega arith
-  quiet_next Settle w e = omega arith
   quiet_next x w e = let none = ltb-false 0 (effect x).temporaries e in omega (arith, none)
 
   quiet_walk : (xs : List Order) (w : Walk) → list_any order_takes xs ≡ false → (last_walk P base w xs).height.temporaries ≤ w.height.temporaries

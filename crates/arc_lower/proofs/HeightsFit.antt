@@ -7,10 +7,10 @@ use Rattle.arc_spec.specs.Classes.{Class, lookup}
 use Rattle.arc_spec.specs.Resolved.{Function}
 use Rattle.arc_spec.specs.Resolved as resolved
 use Rattle.arc_spec.specs.Meaning.{function_at}
-use Rattle.arc_code.specs.declared.instr.Instr.TheVariants.{Plain, PrintText, Jump, JumpZero, Call, Send, SendSuper, SendTo, SendToSuper, StoreStrong, StoreGlobal, StoreField, Empty, DropAll, Settle, Give, Return, EndStep}
+use Rattle.arc_code.specs.declared.instr.Instr.TheVariants.{Plain, Jump, JumpZero, Call, Send, SendSuper, SendTo, SendToSuper, Empty, DropAll, Settle, Give, Return, EndStep}
 use Rattle.arc_code.specs.declared.effect.Effect.{Effect}
 use Rattle.arc_code.specs.declared.effect.Height.{Height}
-use Rattle.arc_code.specs.Effects.{effect, operation_effect, on_numbers, as_number, as_object, giving, no_height, FitsBetween, FitsAt, SameResult, GivesAt, HeightsFit, passes}
+use Rattle.arc_code.specs.Effects.{as_number, as_object, giving, no_height, FitsBetween, FitsAt, SameResult, GivesAt, HeightsFit, passes}
 use Rattle.arc_ir.specs.Acting.{Action, Program, lands, entry, linked}
 use Rattle.arc_lower.specs.Order.{Order, order, orders}
 use Rattle.arc_lower.specs.Lowered.{number_of, slots_of, parameters_of, function_orders, entries_of, lowered, classes_linked}
@@ -21,28 +21,19 @@ use Rattle.arc_lower.proofs.Typing.{IsCalled}
 use Rattle.arc_lower.proofs.Stepping.{some_same, Goes, Steps}
 use Rattle.arc_lower.proofs.Programs.{all, table, Entered, entered_at, methods_go, steps_at}
 
-abbrev order_effect : Order → Effect
-order_effect x = effect x
-
 -- ---- the greatest
 
 abbrev AtMost : Height → Height → Type 0
 AtMost a b = (a.numbers ≤ b.numbers) × (a.names ≤ b.names) × (a.temporaries ≤ b.temporaries) × (a.variables ≤ b.variables)
 
-at_most_then : (a b c : Height) → AtMost a b → AtMost b c → AtMost a c
-at_most_then a b c first next = (omega (arith, first.0, next.0), omega (arith, first.1, next.1), omega (arith, first.2, next.2), omega (arith, first.3, next.3))
-
-highest_left : (a b : Height) → AtMost a (highest a b)
-highest_left a b = (omega arith, omega arith, omega arith, omega arith)
-
 greatest_more : (hs : List Height) (most : Height) → AtMost most (greatest hs most)
-greatest_more [] most = (omega arith, omega arith, omega arith, omega arith)
-greatest_more (h ∷ hs) most = at_most_then most (highest most h) (greatest hs (highest most h)) (highest_left most h) (greatest_more hs (highest most h))
+greatest_more [] most = search arith
+greatest_more (h ∷ hs) most = let more = greatest_more hs (highest most h) in search arith
 
 none_greater : (hs : List Height) (most none : Height) (pc : ℕ) → AtMost none most → AtMost (get_or hs pc none) (greatest hs most)
 none_greater [] most none pc low = low
-none_greater (h ∷ hs) most none zero low = at_most_then h (highest most h) (greatest hs (highest most h)) ((omega arith, omega arith, omega arith, omega arith)) (greatest_more hs (highest most h))
-none_greater (h ∷ hs) most none (suc pc) low = none_greater hs (highest most h) none pc (at_most_then none most (highest most h) low (highest_left most h))
+none_greater (h ∷ hs) most none zero low = let more = greatest_more hs (highest most h) in search arith
+none_greater (h ∷ hs) most none (suc pc) low = none_greater hs (highest most h) none pc (search arith)
 
 -- ---- heights with what functions give
 
@@ -91,60 +82,40 @@ module _ (p : Program) (R : resolved.Program) where
 
   -- what an effect leaves is within the heights of a program where it is within these
   within : (given : Gives) (pc to : ℕ) (h g : Height) (e : Effect) → slice_get (table R) pc ≡ Some (h, given) → slice_get (table R) to ≡ Some (g, given) → FitsBetween h g e → FitsBetween (height_at R pc) (height_at R to) e
-  within given pc to h g e now next f = subst (λ x. FitsBetween x (height_at R to) e) (sym (there pc h given now)) (subst (λ y. FitsBetween h y e) (sym (there to g given next)) f)
-
-  fits : (h g : Height) (e : Effect) → h.numbers + e.numbers_given ≤ g.numbers + e.numbers_taken → h.names + e.names_given ≤ g.names + e.names_taken → h.temporaries + e.temporaries ≤ g.temporaries → h.variables + e.variables ≤ g.variables → FitsBetween h g e
-  fits h g e n m t v = record { numbers = n; names = m; temporaries = t; variables = v }
-
-  -- what an effect of its own leaves
-  own : (h : Height) (e : Effect) → FitsBetween h (height (h.numbers - e.numbers_taken + e.numbers_given) (h.names - e.names_taken + e.names_given) (h.temporaries + e.temporaries) (h.variables + e.variables)) e
-  own h e = fits h _ e (omega arith) (omega arith) (omega arith) (omega arith)
+  within given pc to h g e now next f = rw (there pc h given now, there to g given next) f
 
   -- a number or a reference is after what gives one
   given_there : (given wanted : Gives) (pc : ℕ) (g : Height) → slice_get (table R) pc ≡ Some (g, given) → as_number wanted ≤ g.numbers → as_object wanted ≤ g.names → (as_number wanted ≤ (height_at R pc).numbers) × (as_object wanted ≤ (height_at R pc).names)
-  given_there given wanted pc g next number object =
-      let numbers = ap (λ (x : Height). x.numbers) (there pc g given next) in
-      let names = ap (λ (x : Height). x.names) (there pc g given next) in
-      (omega (arith, numbers, number), omega (arith, names, object))
+  given_there given wanted pc g next number object = rw (there pc g given next) (number, object)
 
   module _ (calls : (wanted : Gives) (f : ℕ) → IsCalled R wanted f → Goes R (all R) (table R) wanted (entry p f) (height (slots_of R wanted f) (parameters_of R wanted f) 0 0)) (given : Gives) where
     message_fits : (wanted : Gives) (taken names pc : ℕ) (h : Height) → slice_get (table R) pc ≡ Some (h, given)
         → slice_get (table R) (pc + 1) ≡ Some (height (h.numbers - taken + as_number wanted) (h.names - names + as_object wanted) (h.temporaries + as_object wanted) (h.variables + 0), given)
         → FitsBetween (height_at R pc) (height_at R (pc + 1)) (giving wanted taken names) × ((as_number wanted ≤ (height_at R (pc + 1)).numbers) × (as_object wanted ≤ (height_at R (pc + 1)).names))
     message_fits wanted taken names pc h now next =
-        (within given pc (pc + 1) h _ (giving wanted taken names) now next (own h (giving wanted taken names)), given_there given wanted (pc + 1) _ next (omega arith) (omega arith))
+        (within given pc (pc + 1) h _ (giving wanted taken names) now next (search arith), given_there given wanted (pc + 1) _ next (omega arith) (omega arith))
 
     order_fits : (pc : ℕ) (h : Height) (x : Order) → slice_get (table R) pc ≡ Some (h, given) → Steps R (all R) (table R) given h pc x → FitsAt (bare p) (height_at R) pc x
-    order_fits pc h (Plain o) now s = within given pc (pc + 1) h _ (operation_effect o) now s.1.0.height (own h (operation_effect o))
-    order_fits pc h (PrintText t) now s = within given pc (pc + 1) h _ (order_effect (PrintText t)) now s.1.0.height (own h (order_effect (PrintText t)))
-    order_fits pc h (Jump to) now s = within given pc (lands pc to) h _ (order_effect (Jump to)) now s.2.0.height (fits h _ (order_effect (Jump to)) (omega arith) (omega arith) (omega (arith, s.1)) (omega arith))
-    order_fits pc h (JumpZero to) now s = (within given pc (pc + 1) h _ (order_effect (JumpZero to)) now s.1.0.height (own h (order_effect (JumpZero to))), within given pc (lands pc to) h _ (order_effect (JumpZero to)) now s.2.2.0.height (fits h _ (order_effect (JumpZero to)) (omega arith) (omega arith) (omega (arith, s.2.1)) (omega arith)))
+    order_fits pc h (Jump to) now s = within given pc (lands pc to) h _ _ now s.2.0.height (search arith)
+    order_fits pc h (JumpZero to) now s =
+        (within given pc (pc + 1) h _ _ now s.1.0.height (search arith), within given pc (lands pc to) h _ _ now s.2.2.0.height (search arith))
     order_fits pc h (Call f wanted) now s = λ to found.
-        let begun = there (entry p f) _ wanted (calls wanted f s.0.1).0.height in
+        let begun : height_at R (entry p f) ≡ height (slots_of R wanted f) (parameters_of R wanted f) 0 0 = there (entry p f) _ wanted
+        (calls wanted f s.0.1).0.height in
         let same = ap (height_at R) (sym (some_same (entry p f) to found)) ∙ begun in
-        let numbers = ap (λ (x : Height). x.numbers) same in
-        let names = ap (λ (x : Height). x.names) same in
-        let fit = message_fits wanted (slots_of R wanted f) (parameters_of R wanted f) pc h now s.1.0.height in
-        subst (λ n. FitsBetween (height_at R pc) (height_at R (pc + 1)) (giving wanted n (height_at R to).names) × ((as_number wanted ≤ (height_at R (pc + 1)).numbers) × (as_object wanted ≤ (height_at R (pc + 1)).names))) (sym numbers)
-        (subst (λ n. FitsBetween (height_at R pc) (height_at R (pc + 1)) (giving wanted (slots_of R wanted f) n) × ((as_number wanted ≤ (height_at R (pc + 1)).numbers) × (as_object wanted ≤ (height_at R (pc + 1)).names))) (sym names) fit)
+        rw same (message_fits wanted (slots_of R wanted f) (parameters_of R wanted f) pc h now s.1.0.height)
     order_fits pc h (Send selector takes objects wanted) now s = message_fits wanted (suc takes) objects pc h now s.1.0.height
     order_fits pc h (SendSuper from selector takes objects wanted) now s = message_fits wanted (suc takes) objects pc h now s.1.0.height
     order_fits pc h (SendTo selector takes objects wanted) now s = message_fits wanted takes (suc objects) pc h now s.1.0.height
     order_fits pc h (SendToSuper from selector takes objects wanted) now s = message_fits wanted takes (suc objects) pc h now s.1.0.height
-    order_fits pc h (StoreStrong i) now s = within given pc (pc + 1) h _ (order_effect (StoreStrong i)) now s.1.0.height (own h (order_effect (StoreStrong i)))
-    order_fits pc h (StoreGlobal i) now s = within given pc (pc + 1) h _ (order_effect (StoreGlobal i)) now s.1.0.height (own h (order_effect (StoreGlobal i)))
-    order_fits pc h (StoreField class index) now s = within given pc (pc + 1) h _ (order_effect (StoreField class index)) now s.1.0.height (own h (order_effect (StoreField class index)))
-    order_fits pc h (Empty i) now s = within given pc (pc + 1) h _ (order_effect (Empty i)) now s.1.height (own h (order_effect (Empty i)))
-    order_fits pc h DropAll now s =
-        let low : Height = height h.numbers h.names 0 h.variables in
-        subst (λ x. FitsBetween (record x { temporaries = 0 }) (height_at R (pc + 1)) (on_numbers 0 0)) (sym (there pc h given now)) (subst (λ y. FitsBetween low y (on_numbers 0 0)) (sym (there (pc + 1) low given s.1.0.height)) (fits low low (on_numbers 0 0) (omega arith) (omega arith) (omega arith) (omega arith)))
+    order_fits pc h (Empty i) now s = within given pc (pc + 1) h _ _ now s.1.height (search arith)
+    order_fits pc h DropAll now s = rw (there pc h given now, there (pc + 1) (height h.numbers h.names 0 h.variables) given s.1.0.height) (search arith)
     order_fits pc h Settle now s =
-        let low : Height = height h.numbers h.names (h.temporaries - 1) h.variables in
-        subst (λ x. FitsBetween (record x { temporaries = x.temporaries - 1 }) (height_at R (pc + 1)) (on_numbers 0 0)) (sym (there pc h given now)) (subst (λ y. FitsBetween low y (on_numbers 0 0)) (sym (there (pc + 1) low given s.0.height)) (fits low low (on_numbers 0 0) (omega arith) (omega arith) (omega arith) (omega arith)))
-    order_fits pc h EndStep now s =
-        subst (λ x. FitsBetween x no_height (on_numbers 0 0)) (sym (there pc h given now)) (fits h no_height (on_numbers 0 0) (omega (arith, s.0)) (omega (arith, s.1)) (omega (arith, s.2)) (omega (arith, s.3)))
-    order_fits pc h _ now s =
-        subst (λ x. FitsBetween (record x { variables = 0 }) no_height (on_numbers 1 0)) (sym (there pc h given now)) (fits (record h { variables = 0 }) no_height (on_numbers 1 0) (omega (arith, s.0)) (omega (arith, s.1)) (omega (arith, s.2)) (omega arith))
+        rw (there pc h given now, there (pc + 1) (height h.numbers h.names (h.temporaries - 1) h.variables) given s.0.height) (search arith)
+    order_fits pc h EndStep now s = rw (there pc h given now) (search arith)
+    order_fits pc h Give now s = rw (there pc h given now) (search arith)
+    order_fits pc h Return now s = rw (there pc h given now) (search arith)
+    order_fits pc h _ now s = within given pc (pc + 1) h _ _ now s.1.0.height (search arith)
 
     -- a run stays in its function
     module _ (pc : ℕ) (h : Height) (now : slice_get (table R) pc ≡ Some (h, given)) where
@@ -188,7 +159,7 @@ module _ (p : Program) (R : resolved.Program) where
         (subst (λ g. Goes R (all R) (table R) g there.at begun) (function_gives R wanted f) there.goes)
 
     few : (pc : ℕ) → AtMost (height_at R pc) (greatest_height R)
-    few pc = none_greater (lowered_heights R) no_height no_height pc (omega arith, omega arith, omega arith, omega arith)
+    few pc = none_greater (lowered_heights R) no_height no_height pc (search arith)
 
     pub heights_fit : p.classes ≡ classes_linked R → HeightsFit (linked p) (height_at R) (result_at R) (greatest_height R).numbers (greatest_height R).names (places_in (greatest_height R))
     heights_fit classes = record {

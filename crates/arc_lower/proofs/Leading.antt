@@ -2,13 +2,14 @@
 use Rattle.std.proofs.Common.{◌≡◌, ℕ, zero, suc, ◌+◌, ◌≤◌, List, refl, sym, ap, ◌∙◌, subst, arith, ◌⊎◌, inl, inr, ℤ, [], ◌∷◌, ◌++◌, length, length-append}
 use Rattle.arc_spec.specs.declared.event.Event.{Event}
 use Rattle.arc_spec.specs.World.{World, Outcome, Done, Faulted, Cut, then_do}
-use Rattle.arc_spec.specs.Stepping.{Next, Reached, Running, Wedged, follow, further, after_steps, Goes}
+use Rattle.arc_spec.specs.Stepping.{Next, Reached, Running, Wedged, follow, further, after_steps, Goes, Faults}
 use Rattle.arc_spec.specs.Stepping as stepping
 use Rattle.std.proofs.lemmas.List.{append-nil}
-use Rattle.arc_spec.specs.Holding.{Frame}
-use Rattle.arc_ir.specs.Acting.{Program, State}
+use Rattle.arc_spec.specs.Holding.{Held, Frame}
+use Rattle.arc_spec.specs.declared.event.Fault.{Fault}
+use Rattle.arc_ir.specs.Acting.{Program, State, step}
 use Rattle.arc_lower.specs.Order.{Order}
-use Rattle.arc_lower.proofs.Doing.{recount, moves, at, held_of, does, HasAt, has_front, has_back}
+use Rattle.arc_lower.proofs.Doing.{fresh, recount, moves, at, held_of, does, HasAt, has_front, has_back}
 
 module _ {S : Type 0} (step : S → Next S) where
   -- some steps lead from one place to another
@@ -16,15 +17,15 @@ module _ {S : Type 0} (step : S → Next S) where
     pub steps : ℕ
     pub there : after_steps step steps from ≡ to
 
-  pub steps_more : (m n : ℕ) (r : Reached S) → after_steps step (m + n) r ≡ after_steps step m (after_steps step n r)
-  steps_more zero n r = let e : zero + n ≡ n = omega arith in ap (λ k. after_steps step k r) e
-  steps_more (suc m) n r = let e : suc m + n ≡ suc (m + n) = omega arith in ap (λ k. after_steps step k r) e ∙ ap (further step) (steps_more m n r)
+  pub more_steps : (m n : ℕ) (r : Reached S) → after_steps step (m + n) r ≡ after_steps step m (after_steps step n r)
+  more_steps zero n r = let e : zero + n ≡ n = omega arith in ap (λ k. after_steps step k r) e
+  more_steps (suc m) n r = let e : suc m + n ≡ suc (m + n) = omega arith in ap (λ k. after_steps step k r) e ∙ ap (further step) (more_steps m n r)
 
   pub leads_same : (r r' : Reached S) → r ≡ r' → Leads r r'
   leads_same r r' e = record { steps = 0; there = e }
 
   pub leads_trans : (a b c : Reached S) → Leads a b → Leads b c → Leads a c
-  leads_trans a b c p q = record { steps = q.steps + p.steps; there = steps_more q.steps p.steps a ∙ ap (after_steps step q.steps) p.there ∙ q.there }
+  leads_trans a b c p q = record { steps = q.steps + p.steps; there = more_steps q.steps p.steps a ∙ ap (after_steps step q.steps) p.there ∙ q.there }
 
   abbrev pub leads_step : (s : S) (i : List ℕ) (t : List Event) (next : Next S) → step s ≡ next → Leads (Running s i t) (follow next i t)
   leads_step s i t next e = record { steps = 1; there = ap (λ n. follow n i t) e }
@@ -57,21 +58,16 @@ module _ {S : Type 0} (step : S → Next S) where
   comes_by : {A : Type 0} (least bound : ℕ) (r r' : Reached S) (end : A → World → Reached S → Type 0) (o : Outcome A) (p : Leads r r') → least ≤ p.steps + bound → Comes bound r' end o → Comes least r end o
   comes_by least bound r r' end (Done a w) p le q = (q.0, leads_trans r r' q.0 p q.1, q.2)
   comes_by least bound r r' end (Faulted f w) p le q = leads_trans r r' (stepping.Faulted f w.input w.trace) p q
-  comes_by least bound r r' end (Cut w) p le q = (q.0 + p.steps, q.1, omega (arith, le, q.2), steps_more q.0 p.steps r ∙ ap (after_steps step q.0) p.there ∙ q.3)
+  comes_by least bound r r' end (Cut w) p le q =
+      (q.0 + p.steps, q.1, omega (arith, le, q.2), more_steps q.0 p.steps r ∙ ap (after_steps step q.0) p.there ∙ q.3)
 
-  runs_by : {A : Type 0} (least bound : ℕ) (r r' : Reached S) (end : A → World → Reached S → Type 0) (o : Outcome A) (p : Leads r r') → least ≤ p.steps + bound → Runs bound r' end o → Runs least r end o
+  pub runs_by : {A : Type 0} (least bound : ℕ) (r r' : Reached S) (end : A → World → Reached S → Type 0) (o : Outcome A) (p : Leads r r')
+      → least ≤ p.steps + bound → Runs bound r' end o → Runs least r end o
   runs_by least bound r r' end o p le (inl q) = inl ((q.0, q.1, leads_trans r r' (Wedged q.0 q.1) p q.2))
   runs_by least bound r r' end o p le (inr q) = inr (comes_by least bound r r' end o p le q)
 
   pub leads_runs : {A : Type 0} (bound : ℕ) (r r' : Reached S) (end : A → World → Reached S → Type 0) (o : Outcome A) → Leads r r' → Runs bound r' end o → Runs bound r end o
   leads_runs bound r r' end o p = runs_by bound bound r r' end o p (omega arith)
-
-  -- after a step or more there is one more
-  pub later_runs : {A : Type 0} (bound : ℕ) (r r' : Reached S) (end : A → World → Reached S → Type 0) (o : Outcome A) → (p : Leads r r') → 1 ≤ p.steps → Runs bound r' end o → Runs (suc bound) r end o
-  later_runs bound r r' end o p one = runs_by (suc bound) bound r r' end o p (omega (arith, one))
-
-  pub fewer_runs : {A : Type 0} (fewer bound : ℕ) (r : Reached S) (end : A → World → Reached S → Type 0) (o : Outcome A) → fewer ≤ bound → Runs bound r end o → Runs fewer r end o
-  fewer_runs fewer bound r end o le = runs_by fewer bound r r end o (leads_same r r refl) (omega (arith, le))
 
   -- one part after another
   pub then_runs : {A B : Type 0} (bound : ℕ) (r : Reached S) (middle : A → World → Reached S → Type 0) (end : B → World → Reached S → Type 0) (o : Outcome A) (go : A → World → Outcome B) → Runs bound r middle o → ((a : A) (w : World) (to : Reached S) → middle a w to → Runs bound to end (go a w)) → Runs bound r end (then_do o go)
@@ -122,19 +118,104 @@ module _ (p : Program) (frames : List Frame) (bound : ℕ) (rs : List ℕ) where
   pub no_passes : (s : List ℤ) (w : World) (s' : List ℤ) (w' : World) → s ≡ s' → w ≡ w' → Passes [] s w s' w'
   no_passes s w s' w' es ew pc has = let e : pc ≡ pc + 0 = omega arith in leads_same (moves p) _ _ (ap (λ q. running frames rs q s w) e ∙ ap (λ x. running frames rs (pc + 0) x w) es ∙ ap (λ (x : World). running frames rs (pc + 0) s' x) ew)
 
-module _ (p : Program) (frames : List Frame) where
-  -- the same, where the references change and the stack doesn't
-  abbrev pub Shifts : List Order → (rs : List ℕ) → List ℤ → World → (rs' : List ℕ) → Type 0
-  Shifts xs rs stack w rs' = (pc : ℕ) → HasAt p pc xs → Leads (moves p) (running frames rs pc stack w) (running frames rs' (pc + length xs) stack w)
+-- ---- The same, where what is spoken of follows from where it stands.
 
-  pub then_shifts : (xs ys : List Order) (r0 r1 r2 : List ℕ) (stack : List ℤ) (w : World) → Shifts xs r0 stack w r1 → Shifts ys r1 stack w r2 → Shifts (xs ++ ys) r0 stack w r2
-  then_shifts xs ys r0 r1 r2 stack w first next pc has =
-      let e : pc + length xs + length ys ≡ pc + length (xs ++ ys) = omega (arith, length-append xs ys) in
-      leads_trans (moves p) (running frames r0 pc stack w) (running frames r1 (pc + length xs) stack w) (running frames r2 (pc + length (xs ++ ys)) stack w) (first pc (has_front p pc xs ys has))
-      (subst (λ q. Leads (moves p) (running frames r1 (pc + length xs) stack w) (running frames r2 q stack w)) e (next (pc + length xs) (has_back p pc xs ys has)))
+-- the action of this order stands at this place
+abbrev pub Acts : Program → ℕ → Order → Type 0
+Acts p pc x = (frames : List Frame) (stack : List ℤ) (held : Held) → step p (at frames pc stack held) ≡ does p x (at frames pc stack held)
 
-  pub one_shifts : (x : Order) (rs rs' : List ℕ) (stack : List ℤ) (w : World) → ((pc : ℕ) → Leads (moves p) (follow (recount (does p x (at frames pc stack (held_of rs w)))) w.input w.trace) (running frames rs' (pc + 1) stack w)) → Shifts (x ∷ []) rs stack w rs'
-  one_shifts x rs rs' stack w h pc has = leads_trans (moves p) (running frames rs pc stack w) (follow (recount (does p x (at frames pc stack (held_of rs w)))) w.input w.trace) (running frames rs' (pc + 1) stack w) (leads_step (moves p) (at frames pc stack (held_of rs w)) w.input w.trace (recount (does p x (at frames pc stack (held_of rs w)))) (ap recount (has.0 frames stack (held_of rs w)))) (h pc)
+-- from a place a run does what is meant
+pub record Follows {A : Type 0} (p : Program) (bound : ℕ) (from : Reached State) (end : A → World → Reached State → Type 0) (o : Outcome A) : Type 0 where
+  pub runs : Runs (moves p) bound from end o
 
-  pub no_shifts : (rs rs' : List ℕ) (stack : List ℤ) (w : World) → rs ≡ rs' → Shifts [] rs stack w rs'
-  no_shifts rs rs' stack w e pc has = let same : pc ≡ pc + 0 = omega arith in leads_same (moves p) _ _ (ap (λ q. running frames rs q stack w) same ∙ ap (λ l. running frames l (pc + 0) stack w) e)
+-- the same from where a step leads
+pub record After {A : Type 0} (p : Program) (bound : ℕ) (next : Next State) (i : List ℕ) (t : List Event) (end : A → World → Reached State → Type 0)
+    (o : Outcome A) : Type 0 where
+  pub follows : Follows p bound (follow (recount next) i t) end o
+  pub open follows use *
+
+module _ {p : Program} {bound : ℕ} {A : Type 0} {end : A → World → Reached State → Type 0} where
+  pub ends : {r : Reached State} {a : A} {w : World} → end a w r → Follows p bound r end (Done a w)
+  ends {r} h = record { runs = inr (r, leads_same (moves p) r r refl, h) }
+
+  pub leads : {r r' : Reached State} {o : Outcome A} → Leads (moves p) r r' → Follows p bound r' end o → Follows p bound r end o
+  leads {r} {r'} {o} l h = record { runs = leads_runs (moves p) bound r r' end o l h.runs }
+
+  pub on : {r r' : Reached State} {o : Outcome A} → r ≡ r' → Follows p bound r' end o → Follows p bound r end o
+  on e h = leads (leads_same (moves p) _ _ e) h
+
+  pub fewer : {more : ℕ} {r : Reached State} {o : Outcome A} → bound ≤ more → Follows p more r end o → Follows p bound r end o
+  fewer {more} {r} {o} le h = record { runs = runs_by (moves p) bound more r r end o (leads_same (moves p) r r refl) (omega (arith, le)) h.runs }
+
+  pub after : {next : Next State} {i : List ℕ} {t : List Event} {o : Outcome A} → Runs (moves p) bound (follow (recount next) i t) end o
+      → After p bound next i t end o
+  after h = record { follows = record { runs = h } }
+
+  pub faults : {f : Fault} {w : World} → After p bound (Faults f) w.input w.trace end (Faulted f w)
+  faults = after (inr (leads_same (moves p) _ _ refl))
+
+  pub quietly : {s : State} {i : List ℕ} {t : List Event} {o : Outcome A} → Follows p bound (Running (fresh s) i t) end o → After p bound (Goes s []) i t end o
+  quietly {s} {i} {t} h = record { follows = on (ap (Running (fresh s) i) (append-nil t)) h }
+
+  -- what an order does is one step
+  pub steps_more : {pc : ℕ} {frames : List Frame} {stack : List ℤ} {held : Held} {i : List ℕ} {t : List Event} {o : Outcome A} (x : Order) → Acts p pc x
+      → After p bound (does p x (at frames pc stack held)) i t end o → Follows p (suc bound) (Running (at frames pc stack held) i t) end o
+  steps_more {pc} {frames} {stack} {held} {i} {t} {o} x acts h = record {
+    runs = runs_by (moves p) (suc bound) bound _ _ end o (leads_step (moves p) _ i t _ (ap recount (acts frames stack held))) (omega arith) h.runs;
+  }
+
+  pub steps : {pc : ℕ} {frames : List Frame} {stack : List ℤ} {held : Held} {i : List ℕ} {t : List Event} {o : Outcome A} (x : Order) → Acts p pc x
+      → After p bound (does p x (at frames pc stack held)) i t end o → Follows p bound (Running (at frames pc stack held) i t) end o
+  steps x acts h = fewer (omega arith) (steps_more x acts h)
+
+  -- one part after another
+  pub next : {B : Type 0} {middle : B → World → Reached State → Type 0} {r : Reached State} {o : Outcome B} {go : B → World → Outcome A}
+      → Follows p bound r middle o → ((b : B) (w : World) (to : Reached State) → middle b w to → Follows p bound to end (go b w))
+      → Follows p bound r end (then_do o go)
+  next {middle} {r} {o} {go} h others = record { runs = then_runs (moves p) bound r middle end o go h.runs (λ b w to m. (others b w to m).runs) }
+
+  -- by what follows from each of its ends
+  pub further_on : {middle : A → World → Reached State → Type 0} {r : Reached State} {o : Outcome A} → Follows p bound r middle o
+      → ((a : A) (w : World) (to : Reached State) → middle a w to → Follows p bound to end (Done a w)) → Follows p bound r end o
+  further_on {middle} {r} {o = Done a w} h others = by h.runs
+    where
+      by : Runs (moves p) bound r middle (Done a w) → Follows p bound r end (Done a w)
+      by (inl wedged) = record { runs = inl wedged }
+      by (inr there) = leads there.1 (others a w there.0 there.2)
+  further_on h others = record { runs = h.runs }
+
+  pub better : {middle : A → World → Reached State → Type 0} {r : Reached State} {o : Outcome A} → Follows p bound r middle o
+      → ((a : A) (w : World) (to : Reached State) → middle a w to → end a w to) → Follows p bound r end o
+  better h f = further_on h (λ a w to m. ends (f a w to m))
+
+-- a step that shows nothing
+pub shows_nothing : {S : Type 0} {step : S → Next S} {s : S} {i : List ℕ} {t : List Event} → Leads step (follow (Goes s []) i t) (Running s i t)
+shows_nothing {step} {s} {i} {t} = leads_same step _ _ (ap (Running s i) (append-nil t))
+
+-- a run comes from the first of these orders to the place after them
+pub record Crosses (p : Program) (frames : List Frame) (xs : List Order) (rs : List ℕ) (stack : List ℤ) (w : World) (rs' : List ℕ) (stack' : List ℤ)
+    (w' : World) : Type 0 where
+  pub leads : (pc : ℕ) → HasAt p pc xs → Leads (moves p) (running frames rs pc stack w) (running frames rs' (pc + length xs) stack' w')
+
+module _ {p : Program} {frames : List Frame} {rs : List ℕ} {stack : List ℤ} {w : World} {rs' : List ℕ} {stack' : List ℤ} {w' : World} where
+  pub one_crosses : {x : Order}
+      → ((pc : ℕ) → Leads (moves p) (follow (recount (does p x (at frames pc stack (held_of rs w)))) w.input w.trace) (running frames rs' (pc + 1) stack' w'))
+      → Crosses p frames (x ∷ []) rs stack w rs' stack' w'
+  one_crosses {x} h = record {
+    leads = λ pc has.
+        let s = at frames pc stack (held_of rs w) in
+        leads_trans (moves p) _ _ _ (leads_step (moves p) s w.input w.trace _ (ap recount (has.0 frames stack (held_of rs w)))) (h pc);
+  }
+
+  pub then_crosses : {xs ys : List Order} {rs1 : List ℕ} {stack1 : List ℤ} {w1 : World} → Crosses p frames xs rs stack w rs1 stack1 w1
+      → Crosses p frames ys rs1 stack1 w1 rs' stack' w' → Crosses p frames (xs ++ ys) rs stack w rs' stack' w'
+  then_crosses {xs} {ys} a b = record {
+    leads = λ pc has.
+        let e : pc + length xs + length ys ≡ pc + length (xs ++ ys) = omega (arith, length-append xs ys) in
+        leads_trans (moves p) _ _ _ (a.leads pc (has_front p pc xs ys has)) (rw (← e) (b.leads (pc + length xs) (has_back p pc xs ys has)));
+  }
+
+pub no_crosses : {p : Program} {frames : List Frame} {rs : List ℕ} {stack : List ℤ} {w : World} → Crosses p frames [] rs stack w rs stack w
+no_crosses {p} {frames} {rs} {stack} {w} = record {
+  leads = λ pc has. leads_same (moves p) _ _ (let e : pc ≡ pc + 0 = omega arith in ap (λ q. running frames rs q stack w) e);
+}

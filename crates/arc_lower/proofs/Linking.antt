@@ -1,5 +1,5 @@
 -- A message finds the stub of the method that is meant, and a class the stub of its dealloc.
-use Rattle.std.proofs.Common.{◌≡◌, ℕ, zero, suc, ◌+◌, Bool, true, false, is_some, if◌then◌else◌, nat_eq, ◌&&◌, List, [], ◌∷◌, length, Option, Some, None, refl, sym, true≢false, ap, ◌∙◌, subst, slice_get, ℤ, nat_lt, ◌++◌, arith, slice_index_or}
+use Rattle.std.proofs.Common.{◌≡◌, ℕ, zero, suc, ◌+◌, Bool, true, false, is_some, if◌then◌else◌, nat_eq, List, [], ◌∷◌, length, Option, Some, None, refl, sym, true≢false, ap, ◌∙◌, subst, slice_get, ℤ, nat_lt, ◌++◌, arith, slice_index_or}
 use Rattle.std.specs.List.{list_any}
 use Rattle.std.proofs.lemmas.Bool.{eqb-true, and_parts}
 use Rattle.arc_ast.specs.declared.tree.Sign.{Sign}
@@ -7,7 +7,7 @@ use Rattle.arc_ast.specs.declared.tree.Sign.TheVariants as signs
 use Rattle.arc_spec.specs.declared.class.Method.{Method}
 use Rattle.arc_spec.specs.declared.class.Gives.{Gives}
 use Rattle.arc_spec.specs.declared.class.Gives.TheVariants as gives
-use Rattle.arc_spec.specs.Classes.{Class, superclasses, ancestry, first_that_has, own_methods, same_sign, same_gives, answers, found, lookup, descends, field_counts, strong_count, strong_counts, order_of_fields, above_class, field_order}
+use Rattle.arc_spec.specs.Classes.{Class, superclasses, ancestry, first_that_has, own_methods, same_sign, same_gives, answers, found, lookup, descends, field_counts, strong_count, strong_counts, above_class, field_order}
 use Rattle.arc_spec.specs.Meaning.{function_at, nothing_giving}
 use Rattle.arc_spec.specs.Holding.{Held, Frame}
 use Rattle.arc_spec.specs.declared.sort_counts.SortCounts.{SortCounts}
@@ -50,13 +50,13 @@ pub record Linked (p : Program) (R : resolved.Program) : Type 0 where
   pub count : length p.classes ≡ length R.classes
 
 sign_same : (a b : Sign) → same_sign a b ≡ true → a ≡ b
-sign_same signs.Class signs.Instance e = absurd (true≢false (sym e))
-sign_same signs.Instance signs.Class e = absurd (true≢false (sym e))
+sign_same signs.Class signs.Instance e = cc
+sign_same signs.Instance signs.Class e = cc
 sign_same _ _ e = refl
 
 pub gives_same : (a b : Gives) → same_gives a b ≡ true → a ≡ b
-gives_same gives.Number gives.Object e = absurd (true≢false (sym e))
-gives_same gives.Object gives.Number e = absurd (true≢false (sym e))
+gives_same gives.Number gives.Object e = cc
+gives_same gives.Object gives.Number e = cc
 gives_same _ _ e = refl
 
 -- what a method takes and gives that answers a message
@@ -67,13 +67,11 @@ pub record Answers (sign : Sign) (takes objects : ℕ) (wanted : Gives) (m : Met
 
 pub answers_as : (sign : Sign) (selector takes objects : ℕ) (wanted : Gives) (m : Method) → answers sign selector takes objects wanted m ≡ true → Answers sign takes objects wanted m
 answers_as sign selector takes objects wanted m e =
-    let last = same_gives m.gives wanted in
-    let parts = and_parts (same_sign m.sign sign) (nat_eq m.selector selector && (nat_eq m.takes takes && (nat_eq m.objects objects && last))) e in
-    let counts = and_parts (nat_eq m.takes takes) (nat_eq m.objects objects && last) (and_parts (nat_eq m.selector selector) (nat_eq m.takes takes && (nat_eq m.objects objects && last)) parts.1).1 in
-    let rest = and_parts (nat_eq m.objects objects) last counts.1 in
-    let count = eqb-true m.takes takes counts.0 in
+    let parts = and_parts (same_sign m.sign sign) _ e in
+    let counts = and_parts (nat_eq m.takes takes) _ (and_parts (nat_eq m.selector selector) _ parts.1).1 in
+    let rest = and_parts (nat_eq m.objects objects) _ counts.1 in
     record {
-      numbers = ap (λ s. passes s m.takes) (sign_same m.sign sign parts.0) ∙ ap (passes sign) count;
+      numbers = rw (sign_same m.sign sign parts.0, eqb-true m.takes takes counts.0);
       references = eqb-true m.objects objects rest.0;
       same = gives_same m.gives wanted rest.1;
     }
@@ -88,7 +86,7 @@ module _ (p : Program) (R : resolved.Program) where
   first_meets : (sign : Sign) (selector takes objects : ℕ) (wanted : Gives) (place : ℕ) (m : Method) (a b : Option ℕ) (t : Bool) → answers sign selector takes objects wanted m ≡ t → Stub p R m.gives (passes m.sign m.takes) m.objects m.runs place → Meets p R wanted (passes sign takes) objects a b → Meets p R wanted (passes sign takes) objects (if t then Some m.runs else a) (if t then Some place else b)
   first_meets sign selector takes objects wanted place m a b true e stub rest =
       let same = answers_as sign selector takes objects wanted m e in
-      subst (λ g. Stub p R g (passes sign takes) objects m.runs place) same.same (subst (λ n. Stub p R m.gives (passes sign takes) n m.runs place) same.references (subst (λ n. Stub p R m.gives n m.objects m.runs place) same.numbers stub))
+      rw (same.numbers, same.references, same.same) at stub
   first_meets sign selector takes objects wanted place m a b false e stub rest = rest
 
   found_meets : (place : ℕ) (ms : List Method) → HasAt p place (methods_orders R (entries_of R) ms) → (sign : Sign) (selector takes objects : ℕ) (wanted : Gives) → Meets p R wanted (passes sign takes) objects (found sign selector takes objects wanted ms) (found sign selector takes objects wanted (linked_methods R (entries_of R) place ms))
@@ -182,16 +180,13 @@ module _ (p : Program) (R : resolved.Program) where
 
   all_strong_same : Linked p R → (classes : List ℕ) → strong_counts p.classes classes ≡ strong_counts R.classes classes
   all_strong_same links [] = refl
-  all_strong_same links (class ∷ others) = ap (λ n. n ∷ strong_counts p.classes others) (strong_same links class) ∙ ap (λ l. strong_count (slice_get R.classes class) ∷ l) (all_strong_same links others)
+  all_strong_same links (class ∷ others) = rw (strong_same links class, all_strong_same links others)
 
   -- the fields of an object are destroyed in the same order
   pub order_same : Linked p R → (class : ℕ) → field_order p.classes class ≡ field_order R.classes class
   order_same links class =
-      let count = strong_count (slice_get R.classes class) in
-      ap (λ n. order_of_fields n (strong_counts p.classes (ancestry (superclasses p.classes) (above_class (slice_get p.classes class))))) (strong_same links class)
-      ∙ ap (λ c. order_of_fields count (strong_counts p.classes (ancestry (superclasses p.classes) c))) (above_same (slice_get R.classes class) (slice_get p.classes class) (links.same class))
-      ∙ ap (λ above. order_of_fields count (strong_counts p.classes (ancestry above (above_class (slice_get R.classes class))))) links.above
-      ∙ ap (order_of_fields count) (all_strong_same links (ancestry (superclasses R.classes) (above_class (slice_get R.classes class))))
+      let counts = all_strong_same links (ancestry (superclasses R.classes) (above_class (slice_get R.classes class))) in
+      rw (strong_same links class, links.above, above_same (slice_get R.classes class) (slice_get p.classes class) (links.same class), counts)
 
 -- ---- Each function stands at its entry.
 

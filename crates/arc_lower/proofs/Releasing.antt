@@ -10,14 +10,14 @@ use Rattle.arc_spec.specs.World as world
 use Rattle.arc_spec.specs.World.{World, Outcome, Done, finished, Finished, then_do, places, stacked, with_temporaries, with_strong, stores, name_at}
 use Rattle.arc_spec.specs.Meaning.{Deeper, released, field_stores, temporaries_dropped, second_dropped, all_dropped, assigned, variables_dropped}
 use Rattle.arc_spec.specs.Holding.{Held, Frame, holders, is_there, on_object, on_named, with_things, with_variables, with_strong_globals, with_strong_field, on_place, raised, lowered, lets_go}
-use Rattle.arc_spec.specs.Stepping.{Next, Reached, on_found, only_if, follow}
+use Rattle.arc_spec.specs.Stepping.{Next, Goes, Reached, only_if, follow}
 use Rattle.arc_code.specs.Instructions as instructions
 use Rattle.arc_ir.specs.Acting.{Program, State, keeps, has_level, begins_end, ends_after, releases}
 use Rattle.arc_code.specs.declared.instr.Instr.TheVariants.{DropAll, Settle, Empty}
 use Rattle.arc_lower.specs.Order.{Order}
 use Rattle.arc_lower.specs.Lowered.{empty_orders, all_empty_orders}
 use Rattle.arc_lower.proofs.CountsPlaces.{tally_same, holders_head, last_one, raised_count, lowered_count, variable_moves, global_moves, field_moves, second_moves}
-use Rattle.arc_lower.proofs.Leading.{Runs, stuck_runs, ends_here, then_at, better_runs, running, one_runs, quiet_runs}
+use Rattle.arc_lower.proofs.Leading.{Runs, stuck_runs, running, Follows, After, after, ends, on, quietly, steps, next, better}
 use Rattle.arc_lower.proofs.Cases.{by_test}
 use Rattle.arc_lower.proofs.Doing.{recount, moves, at, counting, held_of, bare, HasAt, has_front, has_back}
 
@@ -50,15 +50,6 @@ abbrev pub Ends : Program → List Frame → (bound : ℕ) → Deeper → Type 0
 Ends p frames bound D = (f : world.Frame) (waiting : List ℕ) (k : ℕ) (ob : Object) (c : ℕ → ℕ) (h0 : Held) (rs : List ℕ) (stack : List ℤ) (w : World) (pc back : ℕ) → world.frame_places f ++ waiting ≡ stacked w → object_at w.objects (suc k) ≡ Some ob
     → Runs (moves p) bound (follow (recount (begins_end p (at frames pc stack h0) back (suc k) ob.class (dying_in rs (laid w f waiting) k ob c) (has_level (at frames pc stack h0)))) w.input w.trace) (λ done w1 to. (to ≡ running frames rs back stack (laid w1 f waiting)) × Kept w w1) (D.end_of (suc k) w)
 
--- the same where they are laid out as in the world
-abbrev pub OwnEnds : Program → List Frame → (bound : ℕ) → Deeper → Type 0
-OwnEnds p frames bound D = (k : ℕ) (ob : Object) (c : ℕ → ℕ) (h0 : Held) (rs : List ℕ) (stack : List ℤ) (w : World) (pc back : ℕ) → object_at w.objects (suc k) ≡ Some ob → Runs (moves p) bound (follow (recount (begins_end p (at frames pc stack h0) back (suc k) ob.class (dying_in rs w k ob c) (has_level (at frames pc stack h0)))) w.input w.trace) (Stays frames rs stack back w) (D.end_of (suc k) w)
-
-own_ends : (p : Program) (frames : List Frame) (bound : ℕ) (D : Deeper) → Ends p frames bound D → OwnEnds p frames bound D
-own_ends p frames bound D ends k ob c h0 rs stack w pc back found =
-    better_runs (moves p) bound _ (λ done w1 to. (to ≡ running frames rs back stack (laid w1 w.frame w.waiting)) × Kept w w1) (Stays frames rs stack back w) (D.end_of (suc k) w) (ends w.frame w.waiting k ob c h0 rs stack w pc back refl found) (λ done w1 to m.
-    (m.0 ∙ ap (λ (f : world.Frame). running frames rs back stack (laid w1 f w.waiting)) (sym m.1.frame) ∙ ap (λ l. running frames rs back stack (laid w1 w1.frame l)) (sym m.1.waiting), m.1))
-
 -- ---- what a step needs
 
 module _ (p : Program) (bound : ℕ) {A : Type 0} (i : List ℕ) (t : List Event) (end : A → World → Reached State → Type 0) (o : Outcome A) where
@@ -86,6 +77,15 @@ module _ (p : Program) (bound : ℕ) {A : Type 0} (i : List ℕ) (t : List Event
   pub named_runs : (r : ℕ) (h : Held) (next : Next State) → Goes_on next → Goes_on (on_named r h next)
   named_runs zero h next go = go
   named_runs (suc k) h next go = object_runs (object_at h.objects (suc k)) (λ _. next) (λ ob e. go)
+
+-- the same, where it follows from where the step leads
+module _ {p : Program} {bound : ℕ} {A : Type 0} {i : List ℕ} {t : List Event} {end : A → World → Reached State → Type 0} {o : Outcome A} where
+  pub after_object : (found : Option Object) {go : Object → Next State}
+      → ((ob : Object) → found ≡ Some ob → is_there ob.phase ≡ true → After p bound (go ob) i t end o) → After p bound (on_object found go) i t end o
+  after_object found {go} h = after (there_runs p bound i t end o found go (λ ob e is. (h ob e is).runs))
+
+  pub after_named : (r : ℕ) (h : Held) {next : Next State} → After p bound next i t end o → After p bound (on_named r h next) i t end o
+  after_named r h {next} go = after (named_runs p bound i t end o r h next go.runs)
 
 past_end : (names : List ℕ) (i : ℕ) → slice_get names i ≡ None → length names ≤ i
 past_end [] i e = omega arith
@@ -123,6 +123,15 @@ module _ (p : Program) (bound : ℕ) (rs : List ℕ) (D : Deeper) (w : World) (f
       subst (λ q. Comes_to none (released D q after)) (sym (get_or_past places' i 0 le)) (subst (λ x. Comes_to none (Done finished x)) (sym (ap with (set_past places' i r le) ∙ is)) stay))
       (λ old found. subst (λ q. Comes_to (go old) (released D q after)) (sym (get_or_from_slice_get places' i old 0 found)) (release old found))
 
+module _ {p : Program} {bound : ℕ} (D : Deeper) {w : World} {A : Type 0} {end : A → World → Reached State → Type 0} where
+  pub after_place : (meant : Outcome Finished → Outcome A) (places' : List ℕ) (i r : ℕ) {none : Next State} {go : ℕ → Next State} (with : List ℕ → World)
+      → with places' ≡ w
+      → After p bound none w.input w.trace end (meant (Done finished w))
+      → ((old : ℕ) → slice_get places' i ≡ Some old → After p bound (go old) w.input w.trace end (meant (released D old (with (slice_set places' i r)))))
+      → After p bound (on_place (slice_get places' i) none go) w.input w.trace end (meant (released D (name_at places' i) (with (slice_set places' i r))))
+  after_place meant places' i r {none} {go} with is stay release =
+      after (place_takes p bound [] D w w.frame w.waiting end meant places' i r none go with is stay.runs (λ old found. (release old found).runs))
+
 -- variables that are emptied, from the first one on, the last one first
 abbrev pub empties : (first count : ℕ) → List ℕ → List ℕ
 empties first zero strong = strong
@@ -132,20 +141,35 @@ abbrev pub emptied : (first count : ℕ) → World → World
 emptied first count w = with_strong w (empties first count w.frame.strong)
 
 module _ (p : Program) (frames : List Frame) (bound : ℕ) (rs : List ℕ) (D : Deeper) (all_ends : Ends p frames bound D) where
-  ends : OwnEnds p frames bound D
-  ends = own_ends p frames bound D all_ends
-
   abbrev stays : List ℤ → ℕ → World → Finished → World → Reached State → Type 0
-  stays stack pc before done w to = Stays frames rs stack pc before done w to
+  stays stack pc before = Stays frames rs stack pc before
 
-  keeps_runs : (stack : List ℤ) (w : World) (pc : ℕ) → Runs (moves p) bound (running frames rs pc stack w) (stays stack pc w) (Done finished w)
-  keeps_runs stack w pc = ends_here (moves p) bound (running frames rs pc stack w) (stays stack pc w) finished w (refl, kept_same w)
+  -- from a place, and from where a step leads there, a run drops what is meant and keeps the rest
+  abbrev pub Drops : List ℤ → (pc to : ℕ) → (w before : World) → Outcome Finished → Type 0
+  Drops stack pc to w before o = Follows p bound (running frames rs pc stack w) (stays stack to before) o
+
+  abbrev Dropping : List ℤ → (to : ℕ) → Next State → (w before : World) → Outcome Finished → Type 0
+  Dropping stack to next w before o = After p bound next w.input w.trace (stays stack to before) o
+
+  -- the end of an object, where the places of the functions are laid out as in the world
+  own_ends : (k : ℕ) (ob : Object) (c : ℕ → ℕ) (h0 : Held) (stack : List ℤ) (w : World) (pc back : ℕ) → object_at w.objects (suc k) ≡ Some ob
+      → Dropping stack back (begins_end p (at frames pc stack h0) back (suc k) ob.class (dying_in rs w k ob c) (has_level (at frames pc stack h0))) w w
+      (D.end_of (suc k) w)
+  own_ends k ob c h0 stack w pc back found = record {
+    follows = better (record { runs = all_ends w.frame w.waiting k ob c h0 rs stack w pc back refl found })
+        (λ done w1 to m. (m.0 ∙ rw (← m.1.frame, ← m.1.waiting), m.1));
+  }
+
+  kept_at : (stack : List ℤ) (w : World) (pc : ℕ) → Dropping stack pc (Goes (at frames pc stack (held_of rs w)) []) w w (Done finished w)
+  kept_at stack w pc = quietly (ends (refl, kept_same w))
 
   -- a place names this no more
-  pub release_runs : (r : ℕ) (c : ℕ → ℕ) (h0 : Held) (stack : List ℤ) (w : World) (pc : ℕ) → ((k : ℕ) → c (suc k) ≡ holders (suc k) (r ∷ places w)) → Runs (moves p) bound (follow (recount (releases p (at frames pc stack h0) r (counting rs w c))) w.input w.trace) (stays stack (pc + 1) w) (released D r w)
+  release_runs : (r : ℕ) (c : ℕ → ℕ) (h0 : Held) (stack : List ℤ) (w : World) (pc : ℕ) → ((k : ℕ) → c (suc k) ≡ holders (suc k) (r ∷ places w))
+      → Dropping stack (pc + 1) (releases p (at frames pc stack h0) r (counting rs w c)) w w (released D r w)
   release_runs r c h0 stack w pc count =
-      lets_runs p bound rs D w w.frame w.waiting (stays stack (pc + 1) w) (λ o. o) r c (keeps (at frames pc stack h0) stack) (ends_after p (at frames pc stack h0)) count
-      (λ less _. quiet_runs p frames bound rs (pc + 1) stack w (stays stack (pc + 1) w) (Done finished w) (keeps_runs stack w (pc + 1))) (λ k ob less found. ends k ob less h0 rs stack w pc (pc + 1) found)
+      after (lets_runs p bound rs D w w.frame w.waiting (stays stack (pc + 1) w) (λ o. o) r c (keeps (at frames pc stack h0) stack)
+      (ends_after p (at frames pc stack h0)) count
+      (λ less _. (kept_at stack w (pc + 1)).runs) (λ k ob less found. (own_ends k ob less h0 stack w pc (pc + 1) found).runs))
 
   -- ---- temporaries
 
@@ -153,101 +177,101 @@ module _ (p : Program) (frames : List Frame) (bound : ℕ) (rs : List ℕ) (D : 
   abbrev drops : (h0 : Held) → List ℤ → (pc : ℕ) → List ℕ → Held → Next State
   drops h0 stack pc ts h = instructions.drops_all (bare p) (at frames pc stack h0) ts h
 
-  abbrev Drops : List ℕ → (stack : List ℤ) → (pc : ℕ) → Type 0
-  Drops ts stack pc = (c : ℕ → ℕ) (h0 : Held) (w : World) → ((k : ℕ) → c (suc k) ≡ holders (suc k) (places (with_temporaries w ts))) → Runs (moves p) bound (follow (recount (drops h0 stack pc ts (counting rs (with_temporaries w ts) c))) w.input w.trace) (stays stack (pc + 1) (with_temporaries w [])) (temporaries_dropped D ts (with_temporaries w ts))
+  abbrev All_dropped : List ℕ → (stack : List ℤ) → (pc : ℕ) → Type 0
+  All_dropped ts stack pc = (c : ℕ → ℕ) (h0 : Held) (w : World) → ((k : ℕ) → c (suc k) ≡ holders (suc k) (places (with_temporaries w ts)))
+      → Dropping stack (pc + 1) (drops h0 stack pc ts (counting rs (with_temporaries w ts) c)) w (with_temporaries w [])
+      (temporaries_dropped D ts (with_temporaries w ts))
 
   -- the instruction is met with these temporaries
-  met_again : (ts : List ℕ) (stack : List ℤ) (pc : ℕ) (w : World) → HasAt p pc (DropAll ∷ []) → Drops ts stack pc → w.frame.temporaries ≡ ts → Runs (moves p) bound (running frames rs pc stack w) (stays stack (pc + 1) (with_temporaries w [])) (temporaries_dropped D ts w)
-  met_again ts stack pc w has next e =
-      let w0 = with_temporaries w ts in
-      let same : w0 ≡ w = ap (with_temporaries w) (sym e) in
-      subst (λ (x : World). Runs (moves p) bound (running frames rs pc stack x) (stays stack (pc + 1) (with_temporaries w [])) (temporaries_dropped D ts x)) same
-      (one_runs p frames bound rs DropAll pc stack w0 (stays stack (pc + 1) (with_temporaries w [])) (temporaries_dropped D ts w0) has (next (λ k. holders k (places w0)) (held_of rs w0) w (λ k. refl)))
+  met_again : (ts : List ℕ) (stack : List ℤ) (pc : ℕ) (w : World) → HasAt p pc (DropAll ∷ []) → All_dropped ts stack pc → w.frame.temporaries ≡ ts
+      → Drops stack pc (pc + 1) w (with_temporaries w []) (temporaries_dropped D ts w)
+  met_again ts stack pc w has all e =
+      subst (λ l. All_dropped l stack pc → Drops stack pc (pc + 1) w (with_temporaries w []) (temporaries_dropped D l w)) e
+      (λ all. steps DropAll has.0 (all (λ k. holders k (places w)) (held_of rs w) w (λ k. refl))) all
 
-  drops_run : (ts : List ℕ) (stack : List ℤ) (pc : ℕ) → HasAt p pc (DropAll ∷ []) → Drops ts stack pc
-  drops_run [] stack pc has c h0 w count = quiet_runs p frames bound rs (pc + 1) stack (with_temporaries w []) (stays stack (pc + 1) (with_temporaries w [])) (Done finished (with_temporaries w [])) (keeps_runs stack (with_temporaries w []) (pc + 1))
+  drops_run : (ts : List ℕ) (stack : List ℤ) (pc : ℕ) → HasAt p pc (DropAll ∷ []) → All_dropped ts stack pc
+  drops_run [] stack pc has c h0 w count = quietly (ends (refl, kept_same (with_temporaries w [])))
   drops_run (r ∷ others) stack pc has c h0 w count =
       let w1 = with_temporaries w others in
-      let none = with_temporaries w [] in
+      let end = stays stack (pc + 1) (with_temporaries w []) in
       let s = at frames pc stack h0 in
-      lets_runs p bound rs D w1 w1.frame w1.waiting (stays stack (pc + 1) none) (λ o. then_do o (λ _ w2. temporaries_dropped D others w2)) r c (drops h0 stack pc others) (λ o class h. begins_end p s pc o class h (has_level s)) count
-      (λ less left. drops_run others stack pc has less h0 w left) (λ k ob less found.
-      then_at (moves p) bound (follow (recount (begins_end p s pc (suc k) ob.class (dying_in rs w1 k ob less) (has_level s))) w.input w.trace) (λ (done : Finished) w2. Kept w1 w2) (λ done w2. running frames rs pc stack w2) (stays stack (pc + 1) none) (D.end_of (suc k) w1) (λ _ w2. temporaries_dropped D others w2) (ends k ob less h0 rs stack w1 pc pc found) (λ done w2 k2.
-      better_runs (moves p) bound (running frames rs pc stack w2) (stays stack (pc + 1) (with_temporaries w2 [])) (stays stack (pc + 1) none) (temporaries_dropped D others w2) (met_again others stack pc w2 has (drops_run others stack pc has) (ap (λ (f : world.Frame). f.temporaries) k2.frame)) (λ done w3 to m. (
-        m.0,
-        record {
-          frame = m.1.frame ∙ ap (λ (f : world.Frame). (with_temporaries (record w2 { frame = f }) []).frame) k2.frame;
-          waiting = m.1.waiting ∙ k2.waiting;
-        },
-      ))))
+      let emptied = λ (f : world.Frame). (with_temporaries (record w { frame = f }) []).frame in
+      after (lets_runs p bound rs D w1 w1.frame w1.waiting end (λ o. then_do o (λ _ w2. temporaries_dropped D others w2)) r c (drops h0 stack pc others)
+      (λ o class h. begins_end p s pc o class h (has_level s)) count
+      (λ less left. (drops_run others stack pc has less h0 w left).runs)
+      (λ k ob less found. (next {end = end} (own_ends k ob less h0 stack w1 pc pc found).follows
+      (λ done w2 to m. on m.0 (better (met_again others stack pc w2 has (drops_run others stack pc has) (ap (λ (f : world.Frame). f.temporaries) m.1.frame))
+      (λ done w3 to n. (n.0, kept_trans _ _ _ (record { frame = ap emptied m.1.frame; waiting = m.1.waiting }) n.1))))).runs))
 
   -- all temporaries
   pub dropped_runs : (stack : List ℤ) (w : World) (pc : ℕ) → HasAt p pc (DropAll ∷ []) → Runs (moves p) bound (running frames rs pc stack w) (stays stack (pc + 1) (with_temporaries w [])) (all_dropped D w)
-  dropped_runs stack w pc has = met_again w.frame.temporaries stack pc w has (drops_run w.frame.temporaries stack pc has) refl
+  dropped_runs stack w pc has = (met_again w.frame.temporaries stack pc w has (drops_run w.frame.temporaries stack pc has) refl).runs
 
   -- the temporary before the last one
-  pub settled_runs : (x r : ℕ) (ts : List ℕ) (stack : List ℤ) (w : World) (pc : ℕ) → w.frame.temporaries ≡ x ∷ r ∷ ts → HasAt p pc (Settle ∷ []) → Runs (moves p) bound (running frames rs pc stack w) (stays stack (pc + 1) (with_temporaries w (x ∷ ts))) (second_dropped D w.frame.temporaries w)
+  pub settled_runs : (x r : ℕ) (ts : List ℕ) (stack : List ℤ) (w : World) (pc : ℕ) → w.frame.temporaries ≡ x ∷ r ∷ ts → HasAt p pc (Settle ∷ [])
+      → Drops stack pc (pc + 1) w (with_temporaries w (x ∷ ts)) (second_dropped D w.frame.temporaries w)
   settled_runs x r ts stack w pc these has =
       let w1 = with_temporaries w (x ∷ ts) in
       let s = at frames pc stack (held_of rs w) in
-      let end = stays stack (pc + 1) w1 in
-      one_runs p frames bound rs Settle pc stack w end (second_dropped D w.frame.temporaries w) has
-      (subst (λ l. Runs (moves p) bound (follow (recount (instructions.settles (bare p) s l)) w.input w.trace) end (second_dropped D l w)) (sym these)
+      steps Settle has.0 (subst (λ l. Dropping stack (pc + 1) (instructions.settles (bare p) s l) w w1 (second_dropped D l w)) (sym these)
       (release_runs r (held_of rs w).counts (held_of rs w) stack w1 pc (λ k. sym (second_moves (suc k) (held_of rs w) x r ts these))))
 
   -- ---- variables
 
   -- a variable that there isn't
-  pub no_variable : (i r : ℕ) (stack : List ℤ) (w : World) (pc : ℕ) → length w.frame.strong ≤ i → Runs (moves p) bound (running frames rs pc stack w) (stays stack (pc + 0) (stores (Local i) r w)) (assigned D (Local i) r w)
+  pub no_variable : (i r : ℕ) (stack : List ℤ) (w : World) (pc : ℕ) → length w.frame.strong ≤ i
+      → Drops stack pc (pc + 0) w (stores (Local i) r w) (assigned D (Local i) r w)
   no_variable i r stack w pc le =
-      let e : pc ≡ pc + 0 = omega arith in
-      let same : slice_set w.frame.strong i r ≡ w.frame.strong = set_past w.frame.strong i r le in
-      let none : name_at w.frame.strong i ≡ 0 = get_or_past w.frame.strong i 0 le in
-      let o : assigned D (Local i) r w ≡ Done finished w = ap (λ q. released D q (stores (Local i) r w)) none ∙ ap (λ l. Done finished (with_strong w l)) same in
-      subst (λ (o : Outcome Finished). Runs (moves p) bound (running frames rs pc stack w) (stays stack (pc + 0) (stores (Local i) r w)) o) (sym o)
-      (ends_here (moves p) bound (running frames rs pc stack w) (stays stack (pc + 0) (stores (Local i) r w)) finished w (ap (λ q. running frames rs q stack w) e, record { frame = ap (λ l. (with_strong w l).frame) (sym same); waiting = refl }))
+      let e : pc + 0 ≡ pc = omega arith in
+      rw (e, set_past w.frame.strong i r le, get_or_past w.frame.strong i 0 le) (ends (refl, kept_same w))
 
   -- a variable takes this
-  pub changes_runs : (i r old : ℕ) (stack : List ℤ) (w : World) (pc : ℕ) → slice_get w.frame.strong i ≡ Some old → Runs (moves p) bound (follow (recount (releases p (at frames pc stack (held_of rs w)) old (raised r (with_variables (held_of rs w) (slice_set w.frame.strong i r))))) w.input w.trace) (stays stack (pc + 1) (stores (Local i) r w)) (released D old (stores (Local i) r w))
+  pub changes_runs : (i r old : ℕ) (stack : List ℤ) (w : World) (pc : ℕ) → slice_get w.frame.strong i ≡ Some old
+      → Dropping stack (pc + 1) (releases p (at frames pc stack (held_of rs w)) old
+      (raised r (with_variables (held_of rs w) (slice_set w.frame.strong i r)))) w (stores (Local i) r w) (released D old (stores (Local i) r w))
   changes_runs i r old stack w pc found = release_runs old (raised r (held_of rs w)).counts (held_of rs w) stack (stores (Local i) r w) pc (λ k. raised_count r (held_of rs w) (suc k) ∙ sym (variable_moves (suc k) (held_of rs w) i old r found))
 
   -- a variable of the whole program takes this
-  pub global_runs : (i r old : ℕ) (stack : List ℤ) (w : World) (pc : ℕ) → slice_get w.strong_globals i ≡ Some old → Runs (moves p) bound (follow (recount (releases p (at frames pc stack (held_of rs w)) old (raised r (with_strong_globals (held_of rs w) (slice_set w.strong_globals i r))))) w.input w.trace) (stays stack (pc + 1) (stores (Global i) r w)) (released D old (stores (Global i) r w))
+  pub global_runs : (i r old : ℕ) (stack : List ℤ) (w : World) (pc : ℕ) → slice_get w.strong_globals i ≡ Some old
+      → Dropping stack (pc + 1) (releases p (at frames pc stack (held_of rs w)) old
+      (raised r (with_strong_globals (held_of rs w) (slice_set w.strong_globals i r)))) w (stores (Global i) r w) (released D old (stores (Global i) r w))
   global_runs i r old stack w pc found = release_runs old (raised r (held_of rs w)).counts (held_of rs w) stack (stores (Global i) r w) pc (λ k. raised_count r (held_of rs w) (suc k) ∙ sym (global_moves (suc k) (held_of rs w) i old r found))
 
   -- a field of an object that is there takes this
   pub strong_field_runs : (j : ℕ) (ob : Object) (index r old : ℕ) (h0 : Held) (stack : List ℤ) (w : World) (pc : ℕ) → object_at w.objects (suc j) ≡ Some ob → is_there ob.phase ≡ true → slice_get ob.strong index ≡ Some old
-      → Runs (moves p) bound (follow (recount (releases p (at frames pc stack h0) old (raised r (with_strong_field (held_of rs w) (suc j) ob index r)))) w.input w.trace) (stays stack (pc + 1) (field_stores (suc j) ob index r w)) (released D old (field_stores (suc j) ob index r w))
-  strong_field_runs j ob index r old h0 stack w pc found there named =
-      release_runs old (raised r (held_of rs w)).counts h0 stack (field_stores (suc j) ob index r w) pc (λ k. raised_count r (held_of rs w) (suc k) ∙ sym (field_moves (suc k) (held_of rs w) j ob index old r found there named))
+      → Dropping stack (pc + 1) (releases p (at frames pc stack h0) old (raised r (with_strong_field (held_of rs w) (suc j) ob index r))) w
+      (field_stores (suc j) ob index r w) (released D old (field_stores (suc j) ob index r w))
+  strong_field_runs j ob index r old h0 stack w pc found is named =
+      release_runs old (raised r (held_of rs w)).counts h0 stack (field_stores (suc j) ob index r w) pc
+      (λ k. raised_count r (held_of rs w) (suc k) ∙ sym (field_moves (suc k) (held_of rs w) j ob index old r found is named))
 
-  empty_runs : (count i : ℕ) (stack : List ℤ) (w : World) (pc : ℕ) → length w.frame.strong ≡ count → HasAt p pc (empty_orders count i) → Runs (moves p) bound (running frames rs pc stack w) (stays stack (pc + length (empty_orders count i)) (stores (Local i) 0 w)) (assigned D (Local i) 0 w)
+  empty_runs : (count i : ℕ) (stack : List ℤ) (w : World) (pc : ℕ) → length w.frame.strong ≡ count → HasAt p pc (empty_orders count i)
+      → Drops stack pc (pc + length (empty_orders count i)) w (stores (Local i) 0 w) (assigned D (Local i) 0 w)
   empty_runs count i stack w pc size =
-      let h = held_of rs w in
-      let empties1 : Bool → List Order = λ b. if b then Empty i ∷ [] else [] in
-      let Does : List Order → Type 0 = λ xs. HasAt p pc xs → Runs (moves p) bound (running frames rs pc stack w) (stays stack (pc + length xs) (stores (Local i) 0 w)) (assigned D (Local i) 0 w) in
-      subst (λ m. Does (empty_orders m i)) size (by_test (λ b. Does (empties1 b)) (nat_lt i (length w.frame.strong)) (λ e has.
-      let found = slice_get-get_or w.frame.strong i 0 (ltb-true i (length w.frame.strong) e) in
-      one_runs p frames bound rs (Empty i) pc stack w (stays stack (pc + 1) (stores (Local i) 0 w)) (assigned D (Local i) 0 w) has
-      (subst (λ f. Runs (moves p) bound (follow (recount (on_found f (λ q. releases p (at frames pc stack h) q (raised 0 (with_variables h (slice_set w.frame.strong i 0)))))) w.input w.trace) (stays stack (pc + 1) (stores (Local i) 0 w)) (assigned D (Local i) 0 w)) (sym found) (changes_runs i 0 (name_at w.frame.strong i) stack w pc found)))
+      let Does : List Order → Type 0 = λ xs. HasAt p pc xs → Drops stack pc (pc + length xs) w (stores (Local i) 0 w) (assigned D (Local i) 0 w) in
+      subst (λ m. Does (empty_orders m i)) size (by_test (λ b. Does (if b then Empty i ∷ [] else [])) (nat_lt i (length w.frame.strong))
+      (λ e has. let found = slice_get-get_or w.frame.strong i 0 (ltb-true i (length w.frame.strong) e) in steps (Empty i) has.0
+      (rw found (changes_runs i 0 (name_at w.frame.strong i) stack w pc found)))
       (λ e has. no_variable i 0 stack w pc (ltb-false i (length w.frame.strong) e)))
 
   -- variables from the first one on, the last one first
-  pub empties_run : (names' first count : ℕ) (stack : List ℤ) (w : World) (pc : ℕ) → length w.frame.strong ≡ names' → HasAt p pc (all_empty_orders names' first count) → Runs (moves p) bound (running frames rs pc stack w) (stays stack (pc + length (all_empty_orders names' first count)) (emptied first count w)) (variables_dropped D first count w)
-  empties_run names' first zero stack w pc size has = let e : pc ≡ pc + 0 = omega arith in ends_here (moves p) bound (running frames rs pc stack w) (stays stack (pc + 0) w) finished w (ap (λ q. running frames rs q stack w) e, kept_same w)
-  empties_run names' first (suc n) stack w pc size has =
+  pub empties_by : (names' first count : ℕ) (stack : List ℤ) (w : World) (pc : ℕ) → length w.frame.strong ≡ names'
+      → HasAt p pc (all_empty_orders names' first count)
+      → Drops stack pc (pc + length (all_empty_orders names' first count)) w (emptied first count w) (variables_dropped D first count w)
+  empties_by names' first zero stack w pc size has = let e : pc + 0 ≡ pc = omega arith in rw e (ends (refl, kept_same w))
+  empties_by names' first (suc n) stack w pc size has =
       let i = first + n in
       let xs = empty_orders names' i in
       let ys = all_empty_orders names' first n in
-      let q = pc + length xs in
-      let e : q + length ys ≡ pc + length (xs ++ ys) = omega (arith, length-append xs ys) in
-      let end = emptied first (suc n) w in
-      then_at (moves p) bound (running frames rs pc stack w) (λ (done : Finished) w2. Kept (stores (Local i) 0 w) w2) (λ done w2. running frames rs q stack w2) (stays stack (pc + length (xs ++ ys)) end) (assigned D (Local i) 0 w) (λ _ w2. variables_dropped D first n w2) (empty_runs names' i stack w pc size (has_front p pc xs ys has)) (λ done w2 k.
-      let size2 = ap (λ (f : world.Frame). length f.strong) k.frame ∙ length-set w.frame.strong i 0 ∙ size in
-      better_runs (moves p) bound (running frames rs q stack w2) (stays stack (q + length ys) (emptied first n w2)) (stays stack (pc + length (xs ++ ys)) end) (variables_dropped D first n w2) (empties_run names' first n stack w2 q size2 (has_back p pc xs ys has)) (λ done w3 to m. (
-        m.0 ∙ ap (λ n. running frames rs n stack w3) e,
-        record {
-          frame = m.1.frame ∙ ap (λ (f : world.Frame). (emptied first n (record w2 { frame = f })).frame) k.frame;
-          waiting = m.1.waiting ∙ k.waiting;
-        },
-      )))
+      let e : pc + length (xs ++ ys) ≡ pc + length xs + length ys = omega (arith, length-append xs ys) in
+      let emptied_in = λ (f : world.Frame). (emptied first n (record w { frame = f })).frame in
+      rw e (next (empty_runs names' i stack w pc size (has_front p pc xs ys has)) (λ done w2 to m. on m.0
+      (better (empties_by names' first n stack w2 (pc + length xs) (ap (λ (f : world.Frame). length f.strong) m.1.frame ∙ length-set w.frame.strong i 0 ∙ size)
+      (has_back p pc xs ys has))
+      (λ done w3 to k. (k.0, kept_trans _ _ _ (record { frame = ap emptied_in m.1.frame; waiting = m.1.waiting }) k.1)))))
+
+  pub empties_run : (names' first count : ℕ) (stack : List ℤ) (w : World) (pc : ℕ) → length w.frame.strong ≡ names'
+      → let xs = all_empty_orders names' first count in
+      HasAt p pc xs
+      → Runs (moves p) bound (running frames rs pc stack w) (stays stack (pc + length xs) (emptied first count w)) (variables_dropped D first count w)
+  empties_run names' first count stack w pc size has = (empties_by names' first count stack w pc size has).runs

@@ -8,7 +8,7 @@ use Rattle.arc_spec.specs.Resolved.{Program}
 use Rattle.arc_code.specs.declared.instr.Op.TheVariants.{Num, Pop, Declare, Nil, Forget}
 use Rattle.arc_code.specs.declared.instr.Instr.TheVariants.{Plain, PrintText, Call, StoreStrong}
 use Rattle.arc_lower.specs.Order.{Order, order, orders}
-use Rattle.arc_lower.specs.Lowered.{part_orders, text_orders, pop_orders, zero_orders, empty_orders, all_empty_orders, forget_orders, nil_orders, declare_orders, take_orders, fit_orders, fit_object_orders, call_orders, number_of, slots_of, parameters_of}
+use Rattle.arc_lower.specs.Lowered.{text_orders, pop_orders, zero_orders, empty_orders, all_empty_orders, forget_orders, nil_orders, declare_orders, take_orders, fit_orders, fit_object_orders, call_orders, number_of, slots_of, parameters_of}
 use Rattle.std.proofs.lemmas.List.{take_all, length-map}
 use Rattle.arc_ir.specs.Acting.{Action}
 use Rattle.arc_code.specs.declared.effect.Height.{Height}
@@ -18,15 +18,15 @@ use Rattle.arc_lower.specs.Heights.{highest, greatest, raised}
 pub text_more : (bytes : List ℕ) → MOST_TEXT < length bytes → text_orders bytes ≡ PrintText (take MOST_TEXT bytes) ∷ text_orders (drop MOST_TEXT bytes)
 text_more bytes long =
     let e : (length bytes - 1) / MOST_TEXT ≡ suc ((length (drop MOST_TEXT bytes) - 1) / MOST_TEXT) = omega (arith, length-drop MOST_TEXT bytes) in
-    ap (λ n. part_orders n bytes) e
+    rw e
 
 -- n times one order, and once more
 row_more : (row : ℕ → List Order) (a : Order) → row 0 ≡ [] → ((n : ℕ) → row (suc n) ≡ a ∷ row n)
     → (n : ℕ) → row (n + 1) ≡ row n ++ a ∷ []
-row_more row a none more zero = more 0 ∙ ap (λ l. a ∷ l) none ∙ ap (λ l. l ++ a ∷ []) (sym none)
+row_more row a none more zero = rw (more 0, none)
 row_more row a none more (suc n) =
     let one : suc n + 1 ≡ suc (n + 1) = omega arith in
-    ap row one ∙ more (n + 1) ∙ ap (λ l. a ∷ l) (row_more row a none more n) ∙ ap (λ l. l ++ a ∷ []) (sym (more n))
+    rw (one, more (n + 1), more n) (ap (λ l. a ∷ l) (row_more row a none more n))
 
 pub nils_more : (n : ℕ) → nil_orders (n + 1) ≡ nil_orders n ++ Plain Nil ∷ []
 nils_more = row_more nil_orders (Plain Nil) refl (λ n. refl)
@@ -45,18 +45,16 @@ zeros_more = row_more zero_orders (Plain (Num (pos 0))) refl (λ n. refl)
 
 pub takes_more : (first count passed : ℕ) → passed < count → take_orders first (count - passed) ≡ StoreStrong (first + (count - 1 - passed)) ∷ Plain Forget ∷ take_orders first (count - (passed + 1))
 takes_more first count passed lt =
-    let left = count - (passed + 1) in
-    let e : count - passed ≡ suc left = omega (arith, lt) in
-    let f : left ≡ count - 1 - passed = omega arith in
-    ap (take_orders first) e ∙ ap (λ n. StoreStrong (first + n) ∷ Plain Forget ∷ take_orders first left) f
+    let e : count - passed ≡ suc (count - (passed + 1)) = omega (arith, lt) in
+    let f : count - 1 - passed ≡ count - (passed + 1) = omega arith in
+    rw (e, f)
 
 -- one variable less is to be emptied
 pub emptied_more : (names first count passed : ℕ) → passed < count → all_empty_orders names first (count - passed) ≡ empty_orders names (first + (count - 1 - passed)) ++ all_empty_orders names first (count - (passed + 1))
 emptied_more names first count passed lt =
-    let left = count - (passed + 1) in
-    let e : count - passed ≡ suc left = omega (arith, lt) in
-    let f : left ≡ count - 1 - passed = omega arith in
-    ap (all_empty_orders names first) e ∙ ap (λ n. empty_orders names (first + n) ++ all_empty_orders names first left) f
+    let e : count - passed ≡ suc (count - (passed + 1)) = omega (arith, lt) in
+    let f : count - 1 - passed ≡ count - (passed + 1) = omega arith in
+    rw (e, f)
 
 row_length : (row : ℕ → List Order) (a : Order) → row 0 ≡ [] → ((n : ℕ) → row (suc n) ≡ a ∷ row n) → (n : ℕ) → length (row n) ≡ n
 row_length row a none more zero = ap length none

@@ -23,6 +23,9 @@ pub record Operands : Type 0 where
   pub numbers : List ℤ
   pub names : List ℕ
 
+abbrev pub operands : List ℤ → (names : List ℕ) → Operands
+operands numbers names = record { numbers = numbers; names = names }
+
 abbrev pub push : ℤ → Operands → Operands
 push v s = record { numbers = v ∷ s.numbers; names = s.names }
 

@@ -1,21 +1,20 @@
 -- A step shows the same and leads to the same, whatever is counted for nil, where each count is the number of places.
-use Rattle.std.proofs.Common.{◌≡◌, ℕ, zero, suc, ◌+◌, ◌-◌, Bool, true, false, ◌&&◌, nat_eq, if◌then◌else◌, ℤ, List, [], ◌∷◌, ◌++◌, take, drop, Option, Some, None, slice_get, slice_set, refl, ap, ◌∙◌, ◌≤◌, sym, subst}
+use Rattle.std.proofs.Common.{◌≡◌, ℕ, zero, suc, ◌+◌, ◌-◌, Bool, true, false, ◌&&◌, nat_eq, if◌then◌else◌, ℤ, List, [], ◌∷◌, drop, Option, Some, None, slice_get, slice_set, refl, ap, ◌∙◌, ◌≤◌, sym, subst}
 use Rattle.arc_ast.specs.declared.tree.Sign.TheVariants as signs
 use Rattle.arc_spec.specs.declared.event.Fault.TheVariants.{Resurrected}
 use Rattle.arc_spec.specs.declared.class.Gives.{Gives}
 use Rattle.arc_spec.specs.declared.class.Gives.TheVariants as gives
-use Rattle.arc_spec.specs.Classes.{Class, class_at, lookup, is_root_init, descends, field_order}
-use Rattle.arc_spec.specs.Number.{is_zero}
+use Rattle.arc_spec.specs.Classes.{Class, lookup, is_root_init, descends, field_order}
 use Rattle.arc_spec.specs.Meaning.{chosen}
 use Rattle.arc_spec.specs.Objects.{Gone, Object, Dying, object_at, with_object, in_phase, is_live, is_emptying}
-use Rattle.arc_spec.specs.Stepping.{Next, Goes, Faults, on_top, on_two, on_found, only_if, Asks, Ends, Reached, Running, Ended, Faulted, Wedged, Along, fed, follow, further, after_steps}
+use Rattle.arc_spec.specs.Stepping.{Next, Goes, Faults, on_top, on_two, on_found, only_if, Asks, Reached, Running, Wedged, Along, fed, follow, further, after_steps}
 use Rattle.arc_spec.specs.Holding.{Held, Frame, Calling, Ending, Clearing, Waiter, with_strong_globals, with_strong_field, on_place, Counted, holders, all_places, is_there, all_nil, with_things, with_temporaries, with_variables, on_object, on_named, declares, lets_go, on_left, on_last, on_result, on_field, with_names, resumed, turned_in}
-use Rattle.arc_ir.specs.Acting.{Action, linked, Program, State, entry, or_fault, keeps, has_level, enters, answers, taken, sends, begins_end, releases, drops_all, ends_object, runs_dealloc, clears, after_deallocs, clears_next, ends_class, end_goes_on, leaves, allocates, executes, IsSound, start, step, seen}
+use Rattle.arc_ir.specs.Acting.{Action, linked, Program, State, or_fault, keeps, has_level, enters, answers, taken, sends, begins_end, releases, drops_all, ends_object, runs_dealloc, clears, after_deallocs, clears_next, ends_class, end_goes_on, leaves, allocates, executes, IsSound, start, step, seen}
 use Rattle.arc_code.specs.Instructions as instructions
 use Rattle.arc_code.specs.declared.instr.Op.{Op}
 use Rattle.arc_code.specs.declared.instr.Op.TheVariants.{Num}
 use Rattle.arc_code.specs.Instructions.{operates}
-use Rattle.arc_code.specs.declared.instr.Instr.TheVariants.{Plain, PrintText, JumpZero, Call, Send, SendSuper, SendTo, SendToSuper, StoreStrong, StoreGlobal, StoreField, Empty, DropAll, Settle, Give, Return, EndStep}
+use Rattle.arc_code.specs.declared.instr.Instr.TheVariants.{Plain, StoreGlobal, StoreField, DropAll, EndStep}
 use Rattle.arc_lower.proofs.Standing.{ending, AllDying, no_nil}
 use Rattle.arc_lower.proofs.Doing.{fresh, recount, at, moves}
 use Rattle.arc_spec.specs.Resolved as resolved
@@ -247,28 +246,21 @@ module _ (p : Program) (s : State) (right : Counted s.held) where
   operation_agrees (Num n) = refl
   operation_agrees _ = search agrees depth 8
 
+  -- what actions are made of
+  ruleset all_agree =
+      (agrees, chosen_agrees, enters_agree, answers_agree, sends_agree, stored_agrees, result_agrees, left_agrees, hands_agree, leaves_agree, settles_agree)
+
+  -- an action that is made of these needs no line
   pub acts_agree : (action : Option Action) → AllDying s.held.objects (ending s.frames) → Agree (executes p action s) (executes p action t)
   acts_agree (Some (Plain o)) dying = operation_agrees o
-  acts_agree (Some (PrintText bytes)) dying = top_agrees s.stack _ _ (λ count rest. refl)
-  acts_agree (Some (JumpZero to)) dying = top_agrees s.stack _ _ (λ v rest. chosen_agrees (is_zero v) _ _ _ _ refl refl)
-  acts_agree (Some (Call f wanted)) dying = enters_agree s places (entry p f) 0 (has_level s)
-  acts_agree (Some (Send selector takes objects wanted)) dying = found_agrees (slice_get s.stack takes) _ _ (λ self _. answers_agree s places 0 (lookup p.classes (class_at self) signs.Class selector takes objects wanted))
-  acts_agree (Some (SendSuper from selector takes objects wanted)) dying = answers_agree s places 0 (lookup p.classes (Some from) signs.Class selector takes objects wanted)
-  acts_agree (Some (SendTo selector takes objects wanted)) dying = found_agrees (slice_get s.held.names objects) _ _ (λ r _. sends_agree wanted (λ o. o.class) r selector takes objects (take objects s.held.names ++ drop (suc objects) s.held.names))
-  acts_agree (Some (SendToSuper from selector takes objects wanted)) dying = found_agrees (slice_get s.held.names objects) _ _ (λ r _. sends_agree wanted (λ o. from) r selector takes objects (take objects s.held.names ++ drop (suc objects) s.held.names))
-  acts_agree (Some (StoreStrong i)) dying = reference_agrees s.held.names _ _ (λ r rest. found_agrees (slice_get s.held.variables i) _ _ (λ old _. named_agrees r s.held places _ _ (stored_agrees i r old)))
   acts_agree (Some (StoreGlobal i)) dying = reference_agrees s.held.names _ _ (λ r rest. named_agrees r s.held places _ _ (place_agrees (slice_get s.held.strong_globals i) _ _ _ _ refl (λ old.
       releases_agree old (with_strong_globals s.held (slice_set s.held.strong_globals i r)) _ _ (more_same r s.held.counts places right.counted))))
   acts_agree (Some (StoreField class index)) dying = reference_agrees s.held.names _ _ (λ r rest. reference_agrees rest _ _ (λ x below. named_agrees r s.held places _ _ (field_agrees class x _ _ (λ o.
       if_agrees (is_emptying o.phase) _ _ _ _ refl (place_agrees (slice_get o.strong index) _ _ _ _ refl (λ old.
       releases_agree old (with_strong_field (with_names s.held (r ∷ below)) x o index r) _ _ (more_same r s.held.counts places right.counted)))))))
-  acts_agree (Some (Empty i)) dying = found_agrees (slice_get s.held.variables i) _ _ (λ old _. stored_agrees i 0 old)
   acts_agree (Some DropAll) dying = drops_agree s.held.temporaries s.held s.held.counts places right.counted
-  acts_agree (Some Settle) dying = settles_agree s.held.temporaries
-  acts_agree (Some Give) dying = top_agrees s.stack _ _ (λ v rest. result_agrees s.held.temporaries s.held places _ _ (λ r. hands_agree s.frames r rest (with_variables s.held []) places))
-  acts_agree (Some Return) dying = top_agrees s.stack _ _ (λ v rest. left_agrees s.held.temporaries s.held places _ _ (leaves_agree s.frames v rest (with_variables s.held []) places))
   acts_agree (Some EndStep) dying = end_goes_on_agrees s.frames dying
-  acts_agree _ dying = refl
+  acts_agree _ dying = search all_agree depth 8
 
 -- ---- No run of a program has more numbers, references and places than the heights of its actions say; with room for these it is sound.
 
@@ -286,9 +278,7 @@ module _ (p : Program) (R : resolved.Program) (is : orders p.actions ≡ lowered
 
 abbrev pub freshened : Reached State → Reached State
 freshened (Running s i t) = Running (fresh s) i t
-freshened (Ended n i t) = Ended n i t
-freshened (Faulted f i t) = Faulted f i t
-freshened (Wedged i t) = Wedged i t
+freshened r = r
 
 fed_fresh : (k : Option ℕ → State) (i : List ℕ) (t : List Event) → fed (λ answer. fresh (k answer)) i t ≡ freshened (fed k i t)
 fed_fresh k [] t = refl
@@ -316,14 +306,11 @@ module _ (p : Program) (R : resolved.Program) (is : orders p.actions ≡ lowered
 
   follow_kept : (next : Next State) (i : List ℕ) (t : List Event) → Along (Good p R) next → Kept (follow next i t)
   follow_kept (Asks k) i t kept = fed_kept k i t kept
-  follow_kept (Ends n) i t kept = tt
-  follow_kept (Faults f) i t kept = tt
   follow_kept _ i t kept = kept
 
   further_kept : (r : Reached State) → Kept r → Kept (further (step p) r)
   further_kept (Running s i t) k = follow_kept (step p s) i t (step_leads p R is entries classes end s k)
-  further_kept (Wedged i t) k = k
-  further_kept _ k = tt
+  further_kept _ k = k
 
   steps_kept : (n : ℕ) (r : Reached State) → Kept r → Kept (after_steps (step p) n r)
   steps_kept zero r k = k

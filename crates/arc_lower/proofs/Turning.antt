@@ -28,22 +28,16 @@ pub patch_fork : (old o1 o2 o3 o4 o5 test one two : List Order) (branch skip oth
 patch_fork old o1 o2 o3 o4 o5 test one two branch skip other first second end e1 b1 e2 e3 b3 e4 b4 e5 b5 s0 s1 =
     let l2 = ap length e2 ∙ length-append o1 (JumpZero (Skip 0) ∷ []) in
     let l3 = ap length e3 ∙ length-append o2 one in
-    let l4 = ap length e4 ∙ length-append o3 (Jump (Skip 0) ∷ []) in
     let l5 = ap length e5 ∙ length-append o4 two in
     let over : first ≡ suc (length one) = omega (arith, s0, b1, b3, l2, l3) in
     let past : second ≡ length two = omega (arith, s1, b4, b5, l5) in
     let rest : List Order = Jump (Skip 0) ∷ two in
     let pre : List Order = o1 ++ JumpZero (Skip first) ∷ one in
-    let f3 : o5 ≡ o3 ++ rest = e5 ∙ ap (λ l. l ++ two) e4 ∙ append_assoc o3 (Jump (Skip 0) ∷ []) two in
-    let f4 : o5 ≡ o1 ++ JumpZero (Skip 0) ∷ (one ++ rest) = f3 ∙ ap (λ l. l ++ rest) (e3 ∙ ap (λ l. l ++ one) e2) ∙ append_assoc (o1 ++ JumpZero (Skip 0) ∷ []) one rest ∙ append_assoc o1 (JumpZero (Skip 0) ∷ []) (one ++ rest) in
+    let f4 : o5 ≡ o1 ++ JumpZero (Skip 0) ∷ (one ++ rest) = rw (e5, e4, e3, e2) (simp append_assoc) in
     let place : skip ≡ length pre = omega (arith, b3, l3, l2, length-append o1 (JumpZero (Skip first) ∷ one)) in
     let once : slice_set o5 branch (JumpZero (Skip first)) ≡ pre ++ rest = patched o1 o5 (one ++ rest) branch (JumpZero (Skip 0)) (JumpZero (Skip first)) f4 b1 ∙ sym (append_assoc o1 (JumpZero (Skip first) ∷ one) rest) in
     patched pre (slice_set o5 branch (JumpZero (Skip first))) two skip (Jump (Skip 0)) (Jump (Skip second)) once place
-    ∙ append_assoc o1 (JumpZero (Skip first) ∷ one) (Jump (Skip second) ∷ two)
-    ∙ ap (λ n. o1 ++ JumpZero (Skip n) ∷ (one ++ Jump (Skip second) ∷ two)) over
-    ∙ ap (λ n. o1 ++ JumpZero (Skip (suc (length one))) ∷ (one ++ Jump (Skip n) ∷ two)) past
-    ∙ ap (λ l. l ++ JumpZero (Skip (suc (length one))) ∷ (one ++ Jump (Skip (length two)) ∷ two)) e1
-    ∙ append_assoc old test (JumpZero (Skip (suc (length one))) ∷ (one ++ Jump (Skip (length two)) ∷ two))
+    ∙ rw (over, past, e1) (simp append_assoc)
 
 -- ---- Where statements stand, and the actions of what leaves them.
 
@@ -98,12 +92,9 @@ turn_written o1 o2 zs ts xs begin out e2 eo eb =
     let over : again - out ≡ suc (length xs) = omega (arith, size, more, eo) in
     let home : again - begin ≡ suc (length zs + length ts + length xs) = omega (arith, size, more, eb) in
     let place : out ≡ length (o1 ++ ts) = omega (arith, eo, length-append o1 ts) in
-    let whole : o2 ++ rest ≡ (o1 ++ ts) ++ open_jump ∷ rest =
-    ap (λ l. l ++ rest) e2 ∙ append_assoc o1 (ts ++ open_jump ∷ []) rest ∙ ap (λ l. o1 ++ l) (append_assoc ts (open_jump ∷ []) rest) ∙ sym (append_assoc o1 ts (open_jump ∷ rest)) in
+    let whole : o2 ++ rest ≡ (o1 ++ ts) ++ open_jump ∷ rest = rw e2 (simp append_assoc) in
     patched (o1 ++ ts) (o2 ++ rest) rest out open_jump (JumpZero (Skip (again - out))) whole place
-    ∙ ap (λ n. (o1 ++ ts) ++ JumpZero (Skip n) ∷ rest) over
-    ∙ ap (λ n. (o1 ++ ts) ++ JumpZero (Skip (suc (length xs))) ∷ (xs ++ Jump (Back n) ∷ [])) home
-    ∙ append_assoc o1 ts (JumpZero (Skip (suc (length xs))) ∷ (xs ++ Jump (Back (suc (length zs + length ts + length xs))) ∷ []))
+    ∙ rw (over, home) (append_assoc o1 ts _)
 
 module _ (P : Program) (slots names : ℕ) where
   abbrev at : ℕ → Option Turn → Block → List Order
@@ -114,7 +105,7 @@ module _ (P : Program) (slots names : ℕ) where
   in_turn here begin out b = flat P slots names (Between here (record { begin = begin; out = out })) b
 
   turn_same : (b : Block) (h1 h2 b1 b2 o1 o2 : ℕ) → h1 ≡ h2 → b1 ≡ b2 → o1 ≡ o2 → in_turn h1 b1 o1 b ≡ in_turn h2 b2 o2 b
-  turn_same b h1 h2 b1 b2 o1 o2 eh eb eo = ap (λ n. in_turn n b1 o1 b) eh ∙ ap (λ n. in_turn h2 n o1 b) eb ∙ ap (λ n. in_turn h2 b2 n b) eo
+  turn_same b h1 h2 b1 b2 o1 o2 eh eb eo = rw (eh, eb, eo)
 
   loop_flat : (entry : Entry) (here : ℕ) (turn : Option Turn) (step : Block) (test : Value) (body : Block)
       → let begin = here + enter_size entry in
@@ -122,14 +113,7 @@ module _ (P : Program) (slots names : ℕ) where
       let ts = whole_orders P slots names test in
       let out = begin + length zs + length ts in
       at here turn (Loop entry step (whole_block test) body) ≡ enter_orders entry (length zs) (length ts) ++ turn_orders zs ts (in_turn (out + 1) begin out body)
-  loop_flat entry here turn step test body =
-      let begin = here + enter_size entry in
-      let zs = at begin turn step in
-      let ts = whole_orders P slots names test in
-      ap (λ e.
-      let steps = flat P slots names e step in
-      enter_orders entry (length steps) (length ts) ++ turn_orders steps ts (flat P slots names (body_spot (length steps) (length ts) e) body)) (past_spot (enter_size entry) here turn)
-      ∙ ap (λ e. enter_orders entry (length zs) (length ts) ++ turn_orders zs ts (flat P slots names e body)) (body_at (length zs) (length ts) begin turn)
+  loop_flat entry here turn step test body = simp (past_spot, body_at)
 
   choice_flat : (here : ℕ) (turn : Option Turn) (test : Value) (a b : Block)
       → let ts = whole_orders P slots names test in
@@ -137,13 +121,7 @@ module _ (P : Program) (slots names : ℕ) where
       let xs = at one turn a in
       let ys = at (one + length xs + 1) turn b in
       at here turn (Then (whole_block test) (Fork a b)) ≡ ts ++ (JumpZero (Skip (suc (length xs))) ∷ (xs ++ Jump (Skip (length ys)) ∷ ys))
-  choice_flat here turn test a b =
-      let ts = whole_orders P slots names test in
-      let one = here + length ts + 1 in
-      let xs = at one turn a in
-      let last = λ (xs ys : List Order). ts ++ (JumpZero (Skip (suc (length xs))) ∷ (xs ++ Jump (Skip (length ys)) ∷ ys)) in
-      ap (λ e. let first = flat P slots names e a in last first (flat P slots names (past 1 (past (length first) e)) b)) (ap (past 1) (past_spot (length ts) here turn) ∙ past_spot 1 (here + length ts) turn)
-      ∙ ap (λ e. last xs (flat P slots names e b)) (ap (past 1) (past_spot (length xs) one turn) ∙ past_spot 1 (one + length xs) turn)
+  choice_flat here turn test a b = simp past_spot
 
 module _ (P : Program) (b : Body) (scopes : List Scope) where
   abbrev around : Surroundings
@@ -166,13 +144,7 @@ module _ (P : Program) (b : Body) (scopes : List Scope) where
       let ys = of_command (length o4) second in
       old ++ (tests test ++ (JumpZero (Skip (suc (length xs))) ∷ (xs ++ Jump (Skip (length ys)) ∷ ys))) ≡ old ++ of_command (length old) (Choose test first second)
   choice_written old o2 o4 test first second e2 e4 =
-      let ts = tests test in
-      let one = length old + length ts + 1 in
-      let xs = of_command one first in
-      let last = λ (xs ys : List Order). old ++ (ts ++ (JumpZero (Skip (suc (length xs))) ∷ (xs ++ Jump (Skip (length ys)) ∷ ys))) in
-      let two : length o4 ≡ one + length xs + 1 = e4 ∙ ap (λ n. n + length (of_command n first) + 1) e2 in
-      ap (λ n. last (of_command n first) (of_command (length o4) second)) e2 ∙ ap (λ n. last xs (of_command n second)) two
-      ∙ ap (λ l. old ++ l) (sym (choice_flat P b.slots b.names (length old) b.turn test (step_of first) (step_of second)))
+      rw (e4, e2) (ap (λ l. old ++ l) (sym (choice_flat P b.slots b.names (length old) b.turn test (step_of first) (step_of second))))
 
   module _ (old o1 o2 : List Order) (begin out : ℕ) (test : Value) (body : Command) (e2 : o2 ≡ o1 ++ (tests test ++ JumpZero (Skip 0) ∷ [])) (eo : out ≡ length o1 + length (tests test)) where
     abbrev written : List Order
@@ -201,10 +173,8 @@ module _ (P : Program) (b : Body) (scopes : List Scope) where
     bare_by e1 eb =
         let bare = e1 ∙ append-nil old in
         let none : length old ≡ length old + 0 = omega arith in
-        let rest = turn_orders [] (tests test) (in_turn P b.slots b.names (length old + 0 + 0 + length (tests test) + 1) (length old + 0) (length old + 0 + 0 + length (tests test)) (body_of body)) in
         after_step [] (length old + 0) (eb ∙ none) (let same = ap length bare in omega (arith, same))
-        ∙ ap (λ l. l ++ rest) bare
-        ∙ ap (λ l. old ++ l) (sym (loop_flat P b.slots b.names AtStep (length old) b.turn Idle test (body_of body)))
+        ∙ rw (bare, loop_flat P b.slots b.names AtStep (length old) b.turn Idle test (body_of body))
 
     -- what is written of a loop that has this step, before its first jump is
     stepped_by : (step : Block)
@@ -220,8 +190,7 @@ module _ (P : Program) (b : Body) (scopes : List Scope) where
         let xs = in_turn P b.slots b.names (out' + 1) (here + 1) out' (body_of body) in
         let rest = tests test ++ (JumpZero (Skip (suc (length xs))) ∷ (xs ++ Jump (Back (suc (length zs + length (tests test) + length xs))) ∷ [])) in
         after_step zs (here + 1) eb (let same = ap length e1 ∙ length-append old (enter ∷ zs) in omega (arith, same))
-        ∙ ap (λ l. l ++ rest) e1
-        ∙ append_assoc old (enter ∷ zs) rest
+        ∙ rw e1 (append_assoc old (enter ∷ zs) rest)
 
     tested_by : (step : Block)
         → let zs = at P b.slots b.names (length old + 1) b.turn step in
@@ -243,8 +212,7 @@ module _ (P : Program) (b : Body) (scopes : List Scope) where
         let one = ap length e1 ∙ length-append old (first ∷ zs) in
         let far : out - enter ≡ length zs + length (tests test) + 1 = omega (arith, eo, ee, one) in
         patched old written rest enter first (Jump (Skip (out - enter))) (stepped_by step e1 eb) ee
-        ∙ ap (λ n. old ++ Jump (Skip n) ∷ rest) far
-        ∙ ap (λ l. old ++ l) (sym (loop_flat P b.slots b.names AtBody here b.turn step test (body_of body)))
+        ∙ rw (far, loop_flat P b.slots b.names AtBody here b.turn step test (body_of body))
 
     repeat_by : (moment : Moment) (step : Command) (n : Bool) (enter : ℕ) → enter ≡ length old
         → let zs = if n then [] else of_command (length old + 1) step in
@@ -276,13 +244,10 @@ module _ (P : Program) (b : Body) (scopes : List Scope) where
       let whole : o2 ≡ old ++ open_jump ∷ zs = later ∙ ap (λ l. l ++ zs) e1 ∙ append_assoc old (open_jump ∷ []) zs in
       let far : end - begin ≡ length zs = omega (arith, en, eb, size) in
       patched old o2 zs enter open_jump (Jump (Skip (end - begin))) whole ee
-      ∙ ap (λ n. old ++ Jump (Skip n) ∷ zs) far
-      ∙ ap (λ n. old ++ (if n then [] else Jump (Skip (length zs)) ∷ zs)) (sym none)
+      ∙ rw (far, none)
 
 -- what a loop is of its parts
 pub is_repeat : (c : CheckedCommand) (moment : Moment) (test : CheckedValue) (a b : Box CheckedCommand Global) (step body : CheckedCommand)
     → c ≡ CheckedRepeat moment test a b → step ≡ a.value → body ≡ b.value → command c ≡ Repeat moment (value test) (command step) (command body)
 is_repeat c moment test a b step body is ea eb =
-    ap command is
-    ∙ ap (λ s. Repeat moment (value test) (command s) (command b.value)) (sym ea)
-    ∙ ap (λ s. Repeat moment (value test) (command step) (command s)) (sym eb)
+    rw (is, ea, eb)
