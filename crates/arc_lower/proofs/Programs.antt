@@ -25,7 +25,8 @@ use Rattle.arc_lower.proofs.Linking.{numbered, function_gives, answers_as}
 use Rattle.arc_lower.proofs.Typing.{heights_same, slots_same, parameters_same, number_there, Types, types_then, types_same, types_last, tested, keep_types, passing_types, declare_types, take_types, own_types, BlockTypes}
 use Rattle.arc_lower.proofs.HeightsEnd.{last_append, Keeps, block_ends}
 use Rattle.arc_lower.proofs.Forms.{nothing_types, commands_type}
-use Rattle.arc_lower.proofs.Stepping.{some_same, HasPart, part_front, part_back, has_whole, Takes, Clears, Stands, Goes, Free, free_at, Steps, StepsAt, AllStep, step_then, IsLeave, leaves_keep, opens_goes, none_goes, Row, row_of, row_front, row_back, typed_steps, AllTake, takes_stand, takes_step, block_steps}
+use Rattle.arc_lower.proofs.Doing.{each_front, each_back, each_at}
+use Rattle.arc_lower.proofs.Stepping.{some_same, HasPart, has_whole, Leaves, Empties, role, role_of, role_at, Clears, Stands, Goes, Free, calm_free, Steps, StepsAt, AllStep, step_then, opens_goes, none_goes, Row, row_of, row_front, row_back, typed_steps, AllTake, takes_stand, takes_step, block_steps}
 use Rattle.std.specs.Option.{option_or}
 
 heights_length : (R : resolved.Program) (base : Height) (w : Walk) (xs : List Order) → length (walk_heights R base w xs) ≡ length xs
@@ -40,18 +41,13 @@ in_append : (given : Gives) (a b : List Height) → in_function given (a ++ b) �
 in_append given [] b = refl
 in_append given (h ∷ a) b = ap (λ l. (h, given) ∷ l) (in_append given a b)
 
-leaving_is : (given : Gives) → IsLeave (leaving_order given)
-leaving_is gives.Number = tt
-leaving_is gives.Object = tt
+leaving_is : (given : Gives) → role (leaving_order given) ≡ Leaves
+leaving_is gives.Number = refl
+leaving_is gives.Object = refl
 
 places_by : (given : Gives) (n : ℕ) → (if same_gives given gives.Object then suc n else n) ≡ n + as_object given
 places_by gives.Number n = omega arith
 places_by gives.Object n = omega arith
-
--- an order that isn't the last step of an object's end
-abbrev NoEnd : Order → Type 0
-NoEnd EndStep = ⊥
-NoEnd _ = Unit {0}
 
 module _ (R : resolved.Program) where
   abbrev pub all : List Order
@@ -66,8 +62,8 @@ module _ (R : resolved.Program) where
 
   both_split : (pc : ℕ) (a b : List (Height × Gives)) (xs ys : List Order) → length a ≡ length xs → Both pc (a ++ b) (xs ++ ys) → Both pc a xs × Both (pc + length xs) b ys
   both_split pc a b xs ys e f = (
-    (part_front table pc a b f.0, part_front all pc xs ys f.1, e),
-    (subst (λ n. HasPart table (pc + n) b) e (part_back table pc a b f.0), part_back all pc xs ys f.1, omega (arith, e, f.2, length-append a b, length-append xs ys)),
+    (each_front _ pc a b f.0, each_front _ pc xs ys f.1, e),
+    (subst (λ n. HasPart table (pc + n) b) e (each_back _ pc a b f.0), each_back _ pc xs ys f.1, omega (arith, e, f.2, length-append a b, length-append xs ys)),
   )
 
   abbrev Goes_to : Gives → ℕ → Height → Type 0
@@ -143,11 +139,11 @@ module _ (R : resolved.Program) where
 
     pops_take : (n : ℕ) → AllTake R all table given base (pop_orders n)
     pops_take zero = tt
-    pops_take (suc n) = (tt, pops_take n)
+    pops_take (suc n) = (refl, pops_take n)
 
     keep_takes : (n : ℕ) → AllTake R all table given base (keep_orders n)
     keep_takes zero = tt
-    keep_takes (suc n) = (tt, pops_take n)
+    keep_takes (suc n) = (refl, pops_take n)
 
     keep_typed : Types R 0 0 leaving keep (height 1 0 0 names)
     keep_typed = subst (λ h. Types R 0 0 h keep (height 1 0 0 names)) (heights_same (suc (slots + 0)) 0 0 names (suc slots) 0 0 names (omega arith) refl refl refl) (keep_types R 0 0 0 0 names slots 0)
@@ -156,26 +152,24 @@ module _ (R : resolved.Program) where
     abbrev Emptying : ℕ → ℕ → Type 0
     Emptying n pc = Step_all pc (emptied n) × Stands R all table given pc leaving × ((k : ℕ) → Clears R all table k pc → k ≡ n) × Free R all table pc
 
-    same_place : (i j : ℕ) (x y : Order) → x ≡ Empty i → y ≡ Empty j → x ≡ y → i ≡ j
-    same_place i j x y e f same = cc
-
     emptying : (n pc : ℕ) → n ≤ names → Rows pc leaving (emptied n ++ (keep ++ last_order ∷ [])) → Emptying n pc
     emptying zero pc le f = let there = takes_stand R all table given base pc (walk leaving []) keep last_order (leaving_is given) (keep_takes slots) f in (tt, there.0, there.1, there.2)
     emptying (suc n) pc le f = by (nat_lt (0 + n) names) refl (λ rest. emptying n (pc + 1) (omega (arith, le)) rest) f
       where
-        only : slice_get all pc ≡ Some (Empty (0 + n)) → (k : ℕ) → Clears R all table k pc → k ≡ suc n
-        only is zero (zero, y) = absurd (leaves_keep y.0 (0 + n) y.2 (some_same {A = Order} y.0 (Empty (0 + n)) (sym y.1 ∙ is)))
-        only is zero (suc m, y) = absurd (subst Takes (sym (some_same {A = Order} (Empty (0 + n)) y.0 (sym is ∙ y.1)) ∙ refl) y.2)
-        only is (suc j) c = let i = same_place j (0 + n) (Empty j) (Empty (0 + n)) refl refl (some_same {A = Order} (Empty j) (Empty (0 + n)) (sym c.0 ∙ is)) in omega (arith, i)
+        only : role_at R all table pc ≡ Empties (0 + n) → (k : ℕ) → Clears R all table k pc → k ≡ suc n
+        only at zero (zero, y) = cc
+        only at zero (suc m, y) = cc
+        only at (suc j) c = let same : j ≡ 0 + n = cc in omega (arith, same)
 
         by : (b : Bool) → nat_lt (0 + n) names ≡ b → (Rows (pc + 1) leaving (emptied n ++ (keep ++ last_order ∷ [])) → Emptying n (pc + 1)) → Rows pc leaving (((if b then Empty (0 + n) ∷ [] else []) ++ emptied n) ++ (keep ++ last_order ∷ [])) → Step_all pc ((if b then Empty (0 + n) ∷ [] else []) ++ emptied n) × Stands R all table given pc leaving × ((k : ℕ) → Clears R all table k pc → k ≡ suc n) × Free R all table pc
         by false e others f = let ge = ltb-false (0 + n) names e in absurd (omega (arith, le, ge))
         by true e others f =
+            let at : role_at R all table pc ≡ Empties (0 + n) = ap role_of f.1 in
             let rest = others (subst (λ h. Rows (pc + 1) h (emptied n ++ (keep ++ last_order ∷ []))) (empty_stays (0 + n)) f.2) in (
               (((leaving, given), f.0, (omega (arith, le), subst (Stands R all table given (pc + 1)) (sym (empty_stays (0 + n))) rest.1, λ k c. let is = rest.2 k c in inl (omega (arith, is)), rest.3)), rest.0),
-              record { height = f.0; order = Empty (0 + n); is = f.1; no_end = λ same. subst NoEnd same tt },
-              only f.1,
-              free_at R all table pc (Empty (0 + n)) f.1 (λ settles. settles) (λ message. absurd message),
+              record { height = f.0; order = Empty (0 + n); is = f.1; no_end = λ end. cc },
+              only at,
+              calm_free R all table pc (Empties (0 + n)) tt at,
             )
 
     module _ (leave_row : Rows place leaving leave) (body_row : Rows entered begun body) where
@@ -195,7 +189,7 @@ module _ (R : resolved.Program) where
       last = subst (λ w. Row R all table given base (start + length statements) w end) ends.1 (row_back R all table given base start (walk base []) statements end rows)
 
       statements_go : Goes_to given start base × Step_all start statements
-      statements_go = block_steps R all table given slots names place exit_goes here no_turn false true (commands_block place none none cs) base base start [] (λ s. refl) (λ s. absurd (false≢true s)) (refl, tt, tt) statements_type (row_front R all table given base start (walk base []) statements end rows) (opens_goes R all table given (start + length statements) base (Plain (Num (pos 0))) tt last.0 last.1)
+      statements_go = block_steps R all table given slots names place exit_goes here no_turn false true (commands_block place none none cs) base base start [] (λ s. refl) (λ s. absurd (false≢true s)) (refl, tt, tt) statements_type (row_front R all table given base start (walk base []) statements end rows) (opens_goes R all table given (start + length statements) base (Plain (Num (pos 0))) refl last.0 last.1)
 
       opening_goes : Goes_to given entered begun × Step_all entered opening
       opening_goes = typed_steps R all table given base entered begun [] opening base opening_typed (row_front R all table given base entered (walk begun []) opening (statements ++ end) body_row) statements_go.0
@@ -218,7 +212,7 @@ module _ (R : resolved.Program) where
       function_steps =
           let up : next_height R (Plain (Num (pos 0))) base ≡ leaving = heights_same _ _ _ _ (suc slots) 0 0 names (omega arith) (omega arith) (omega arith) (omega arith) in
           let q = start + length statements in
-          let jump = opens_goes R all table given (q + 1) _ (Jump (At place)) tt last.2.0 last.2.1 in (
+          let jump = opens_goes R all table given (q + 1) _ (Jump (At place)) refl last.2.0 last.2.1 in (
             opening_goes.0,
             step_then R all table place leave body leave_steps (step_then R all table entered opening (statements ++ end) opening_goes.1 (step_then R all table start statements end statements_go.1
                 (((base, given), last.0, (omega arith, (jump.0, λ k c. inr (jump.1 k c)), inl jump.2)), (((leaving, given), last.2.0 ∙ ap (λ h. Some (h, given)) up, (0, omega arith, exit_goes)), tt)))),
@@ -369,7 +363,7 @@ module _ (R : resolved.Program) where
     stub_last = subst (λ w. Row R all table wanted zeroed (place + length fit) w (Jump (At to) ∷ [])) (types_last R 0 0 zeroed begin [] fit ready (fit_typed wanted values objects f)) (row_back R all table wanted zeroed place (walk begin []) fit (Jump (At to) ∷ []) stub_row)
 
     stub_starts : Goes_to wanted place begin × Step_all place fit
-    stub_starts = typed_steps R all table wanted zeroed place begin [] fit ready (fit_typed wanted values objects f) (row_front R all table wanted zeroed place (walk begin []) fit (Jump (At to) ∷ []) stub_row) (opens_goes R all table wanted (place + length fit) ready (Jump (At to)) tt stub_last.0 stub_last.1)
+    stub_starts = typed_steps R all table wanted zeroed place begin [] fit ready (fit_typed wanted values objects f) (row_front R all table wanted zeroed place (walk begin []) fit (Jump (At to) ∷ []) stub_row) (opens_goes R all table wanted (place + length fit) ready (Jump (At to)) refl stub_last.0 stub_last.1)
 
     stub_steps : Goes_to wanted to ready → Step_all place (stub wanted values objects f)
     stub_steps goes = step_then R all table place fit (Jump (At to) ∷ []) stub_starts.1 (((ready, wanted), stub_last.0, (0, omega arith, goes)), tt)
@@ -563,7 +557,7 @@ module _ (R : resolved.Program) where
   call_row = subst (λ w. Row R all table gives.Number zeroed (0 + length zeros) w call) (types_last R 0 0 zeroed zeroed [] zeros main_ready zeros_typed) (row_back R all table gives.Number zeroed 0 (walk zeroed []) zeros call start_row)
 
   zeros_start : Goes_to gives.Number 0 zeroed × Step_all 0 zeros
-  zeros_start = typed_steps R all table gives.Number zeroed 0 zeroed [] zeros main_ready zeros_typed (row_front R all table gives.Number zeroed 0 (walk zeroed []) zeros call start_row) (opens_goes R all table gives.Number (0 + length zeros) main_ready main_call tt call_row.0 call_row.1)
+  zeros_start = typed_steps R all table gives.Number zeroed 0 zeroed [] zeros main_ready zeros_typed (row_front R all table gives.Number zeroed 0 (walk zeroed []) zeros call start_row) (opens_goes R all table gives.Number (0 + length zeros) main_ready main_call refl call_row.0 call_row.1)
 
   pub start_goes : Goes_to gives.Number 0 zeroed
   start_goes = zeros_start.0
@@ -584,8 +578,8 @@ module _ (R : resolved.Program) where
       let other = parameters_same R gives.Number R.main in
       let called : next_height R main_call main_ready ≡ height 1 0 0 0 = heights_same _ _ _ _ 1 0 0 0 (omega (arith, same)) (omega (arith, other)) (omega arith) (omega arith) in
       let one = rest.0 ∙ ap (λ h. Some (h, gives.Number)) called in
-      let home : Stands R all table gives.Number (q + 1) (height 1 0 0 0) = record { height = one; order = Return; is = rest.1; no_end = λ same. subst IsLeave same tt } in
-      let free = free_at R all table (q + 1) Return rest.1 (λ settles. settles) (λ message. absurd message) in
+      let home : Stands R all table gives.Number (q + 1) (height 1 0 0 0) = record { height = one; order = Return; is = rest.1; no_end = λ end. cc } in
+      let free = calm_free R all table (q + 1) Leaves tt (ap role_of rest.1) in
       subst (Step_all 0) (sym start_is) (step_then R all table 0 zeros call zeros_start.1 (
         ((main_ready, gives.Number), call_row.0, ((omega (arith, same), number_there R gives.Number R.main, omega (arith, other)), subst (Goes_to gives.Number (q + 1)) (sym called) (none_goes R all table gives.Number (q + 1) (height 1 0 0 0) home refl free))),
         (((height 1 0 0 0, gives.Number), one, (refl, refl, refl, refl)), (((zeroed, gives.Number), rest.2.0, (refl, refl, refl, refl)), tt)),
@@ -597,12 +591,5 @@ module _ (R : resolved.Program) where
       (step_then R all table 0 (start_orders R) function_list start_steps (subst (λ n. Step_all n function_list) (sym (none_more (length (start_orders R)))) (functions_step (all_functions R) (length (start_orders R)) has_functions)))
       (subst (λ n. Step_all n (classes_orders R (entries_of R) R.classes)) (sym (none_more (length (running_orders R)))) (classes_step target R.classes (length (running_orders R)) has_stubs))
 
-  step_at : (xs : List Order) (pc i : ℕ) (x : Order) → Step_all pc xs → slice_get xs i ≡ Some x → StepsAt R all table (pc + i) x
-  step_at [] pc i x steps e = cc
-  step_at (y ∷ xs) pc zero x steps e =
-      subst (λ q. StepsAt R all table q x) (omega arith) (subst (StepsAt R all table pc) (some_same y x e) steps.0)
-  step_at (y ∷ xs) pc (suc i) x steps e =
-      subst (λ q. StepsAt R all table q x) (omega arith) (step_at xs (pc + 1) i x steps.1 e)
-
   pub steps_at : (pc : ℕ) (x : Order) → slice_get (lowered R) pc ≡ Some x → StepsAt R all table pc x
-  steps_at pc x e = subst (λ q. StepsAt R all table q x) (none_more pc) (step_at (lowered R) 0 pc x program_steps e)
+  steps_at pc x e = subst (λ q. StepsAt R all table q x) (none_more pc) (each_at _ 0 pc (lowered R) x program_steps e)

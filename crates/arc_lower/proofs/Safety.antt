@@ -18,7 +18,7 @@ use Rattle.arc_spec.specs.Objects.{Object, Dying, Emptying, Gone, object_at, wit
 use Rattle.arc_spec.specs.Resolved as resolved
 use Rattle.arc_spec.specs.Holding.{Held, nothing_held, Frame, Calling, Ending, Clearing, Waiter, Counted, holders, is_there, stacked, with_strong_globals, with_strong_field, on_place, turned_in, with_temporaries, with_variables, with_names, with_things, with_globals, lowered, raised, named, taken_by, on_named, on_field, declares, lets_go, resumed, all_nil, on_left, on_last, on_result, given_back, with_field}
 use Rattle.arc_spec.specs.Stepping.{Next, Goes, Asks, Faults, Stuck, Along, Safe, Sound, on_top, on_found, only_if}
-use Rattle.arc_ir.specs.Acting.{Action, Program, State, lands, start, step, entry, keeps, goes, or_fault, has_level, enters, answers, taken, sends, allocates, operates, begins_end, releases, runs_dealloc, clears, after_deallocs, clears_next, ends_class, end_goes_on, leaves, executes}
+use Rattle.arc_ir.specs.Acting.{Program, State, lands, start, step, entry, keeps, goes, or_fault, has_level, enters, answers, taken, sends, allocates, operates, begins_end, releases, runs_dealloc, clears, after_deallocs, clears_next, ends_class, end_goes_on, leaves}
 use Rattle.arc_code.specs.declared.effect.Height.{Height}
 use Rattle.arc_code.specs.declared.instr.Op.{Op}
 use Rattle.arc_code.specs.declared.instr.Op.TheVariants as ops
@@ -34,11 +34,11 @@ use Rattle.arc_lower.specs.Heights.{height, next_height}
 use Rattle.arc_lower.proofs.Cases.{by_test}
 use Rattle.arc_lower.proofs.CountsPlaces.{IsThere, AllThere, place_there, name_there, object_goes, named_goes, set_here, set_same, set_other, holders_head, holders_nil, holders_append, all_holders, live_there, there_fields}
 use Rattle.arc_lower.proofs.CountsKept.{Sane, Drops, nothing_sane, sane_moved, sane_names, sane_globals, sane_start, sane_entered, sane_take, sane_declare, fits_at, sane_counted, variables_there, waiting_there, stacked_there, globals_there, fields_there, sane_store, sane_store_global, sane_store_field, sane_drop, sane_settle, drops_there, sane_nil, sane_last, sane_other, sane_make, sane_field, sane_empty, sane_gone}
-use Rattle.arc_lower.proofs.Doing.{at, resumed_as, bare, does, acts_does}
+use Rattle.arc_lower.proofs.Doing.{at, resumed_as, bare, does, executes_at}
 use Rattle.arc_lower.proofs.Standing.{no_nil, ending, AllDying, IsDying, NilBut, Alive, nil_alive, ends_there, ending_alive, IsHeld, last_held, held_there, held_within, made_dying, changed_dying, IsApart, live_apart, apart_dying, stored_far, fields_far, one_nil, no_field, nil_named, all_in_order}
 use Rattle.arc_lower.proofs.Typing.{Reaches, enough, IsCalled}
 use Rattle.arc_lower.proofs.Stacking.{after_one}
-use Rattle.arc_lower.proofs.Stepping.{some_same, seam, Clears, opens_clears, Stands, Quiet, Free, free_at, Onward, Steps}
+use Rattle.arc_lower.proofs.Stepping.{some_same, Stays, Ends, role, role_of, Clears, inside_clears, Stands, Quiet, Free, calm_free, Onward, Steps}
 use Rattle.arc_lower.proofs.Stepping as stepping
 use Rattle.arc_lower.proofs.Programs.{all, table, methods_go, dealloc_goes, start_goes, end_is, steps_at}
 use Rattle.arc_lower.proofs.HeightsFit.{entry_goes}
@@ -166,10 +166,9 @@ along_map P Q f (Asks go) p = λ answer. f (go answer) (p answer)
 along_map P Q f Stuck p = p
 along_map P Q f _ p = tt
 
-executes_at : (p : Program) (xs : List Action) (pc : ℕ) (x : Order) (s : State) → slice_get (orders xs) pc ≡ Some x → executes p (slice_get xs pc) s ≡ does p x s
-executes_at p [] pc x s e = cc
-executes_at p (y ∷ xs) zero x s e = acts_does p y s ∙ ap (λ z. does p z s) (some_same (order y) x e)
-executes_at p (y ∷ xs) (suc pc) x s e = executes_at p xs pc x s e
+seam : {A : Type 0} (before later : List A) (x : A) → slice_get (before ++ x ∷ later) (length before) ≡ Some x
+seam [] later x = refl
+seam (b ∷ before) later x = seam before later x
 
 -- ---- the places of a function that waits
 
@@ -633,7 +632,7 @@ module _ (p : Program) (R : resolved.Program) where
       ready_after _ own1 temporaries1 made (inr (same, quiet)) = cc
 
       shut_before : (x : Op) → slice_get (all R) pc ≡ Some (Plain x) → (k : ℕ) → Clear k pc → Shut mine k held.variables → Shut mine k (declared x held.variables)
-      shut_before Declare is k before shut = absurd (opens_clears R (all R) (table R) pc (Plain Declare) tt is k before)
+      shut_before Declare is k before shut = absurd (inside_clears R (all R) (table R) pc Stays tt (ap role_of is) k before)
       shut_before _ is k before shut = shut
 
       operation_leads : (x : Op) → slice_get (all R) pc ≡ Some (Plain x) → (nil : (k : ℕ) → Clear k pc → Shut mine k held.variables) → Reaches x h → Onward R (all R) (table R) mine pc (pc + 1) (next_height R (Plain x) h) → Is_free (pc + 1) ⊎ ((x ≡ Alloc) × Quiet R (all R) (table R) (pc + 1)) → Leads (operates p.classes x s)
@@ -778,7 +777,7 @@ module _ (p : Program) (R : resolved.Program) where
       init_ready wanted selector takes objects is ready (inl f) given rest r e some = always_ready wanted rest f
       init_ready wanted selector takes objects is ready (inr q) given rest r e some =
           subst (λ g. Ready_after g rest) (sym q.2) (⊎_elim
-          (λ (f : Is_free pc). absurd (f.1 (SendTo selector takes objects wanted) is tt Settle q.3 tt))
+          (λ (f : Is_free pc). absurd (f.1 (ap role_of is) (ap role_of q.3)))
           (λ more. ⊎_elim
           (λ made.
           let m = made.1 in
@@ -806,7 +805,7 @@ module _ (p : Program) (R : resolved.Program) where
           (releases_lead old pc stack held held2 own1 refl o.places o.itself kept dying1 (sane_store_field held1 j ob index old r found is_there_now named there sane1)
           (back (pc + 1) x g.0 (length stack) own1 held1 (goes_nil (pc + 1) x g.1 held.variables (omega (arith, many, d))) (inl g.2) a b (omega (arith, few, c)) (omega (arith, many, d)) kept)))
 
-      order_leads : (x : Order) → slice_get (all R) pc ≡ Some x → Stands R (all R) (table R) mine pc h → (x ≡ EndStep → ⊥) → (nil : (k : ℕ) → Clear k pc → Shut mine k held.variables) → Ready pc own held.temporaries waiting → Steps R (all R) (table R) mine h pc x → Leads (does p x s)
+      order_leads : (x : Order) → slice_get (all R) pc ≡ Some x → Stands R (all R) (table R) mine pc h → (role x ≡ Ends → ⊥) → (nil : (k : ℕ) → Clear k pc → Shut mine k held.variables) → Ready pc own held.temporaries waiting → Steps R (all R) (table R) mine h pc x → Leads (does p x s)
       order_leads (Plain x) is stands no_end nil ready st = operation_leads x is nil st.0 st.1 st.2
       order_leads (PrintText bytes) is stands no_end nil ready st = top_leads Good stack _ (omega (arith, count, st.0)) (λ c rest e. go_on (pc + 1) _ st.1 (counted c bytes ∷ rest) held own (omega (arith, count, st.0, e)) (omega (arith, size)) (omega (arith, few)) (omega (arith, many)) o)
       order_leads (Jump to) is stands no_end nil ready st = go_on (lands pc to) _ st.2 stack held own count size (omega (arith, few, st.1)) many o
@@ -856,14 +855,14 @@ module _ (p : Program) (R : resolved.Program) where
           (subst (λ l. Resumes mine (pc + 1) self frames (length stack) below l deeper held.temporaries held1.variables waiting) (sym o.is) (back (pc + 1) (next_height R (Empty i) h) st.1 (length stack) own held1 (λ k c. ⊎_elim (λ same. nil_from k (subst (λ j. Clear j (pc + 1)) same c) same) (λ le. shut_end mine held1.variables k (omega (arith, many, long, le))) (st.2 k c)) (inl st.3) (omega (arith, count)) (omega (arith, size)) (omega (arith, few)) (omega (arith, many, long)) o.keeps)))
         where
           nil_from : (k : ℕ) → Clear i (pc + 1) → k ≡ i → Shut mine k (slice_set held.variables i 0)
-          nil_from k c same = subst (λ j. Shut mine j (slice_set held.variables i 0)) (sym same) (shut_set mine i held.variables (nil (suc i) (is, c)))
+          nil_from k c same = subst (λ j. Shut mine j (slice_set held.variables i 0)) (sym same) (shut_set mine i held.variables (nil (suc i) (ap role_of is, c)))
       order_leads DropAll is stands no_end nil ready st =
           let none = none_of own (omega (arith, size, st.0)) in
-          let free = free_at R (all R) (table R) pc DropAll is (λ e. e) (λ e. absurd e) in
+          let free = calm_free R (all R) (table R) pc Stays tt (ap role_of is) in
           drops_lead held.temporaries pc h stack held held refl stands free st.1 nil count (omega (arith, st.0)) few many (subst (λ l. Owns l held) none o)
       order_leads Settle is stands no_end nil ready st = ⊎_elim
-          (λ (f : Is_free pc). absurd (f.0 Settle is tt))
-          (λ more. ⊎_elim (λ made. absurd (made.0 Settle is tt)) (λ over. settles_lead over.1 st) more)
+          (λ (f : Is_free pc). absurd (f.0 (ap role_of is)))
+          (λ more. ⊎_elim (λ made. absurd (made.0 (ap role_of is))) (λ over. settles_lead over.1 st) more)
           ready
         where
           settles_lead : Initialized own held.temporaries waiting → Goes_to mine (pc + 1) (next_height R Settle h) → Leads (does p Settle s)
@@ -880,14 +879,14 @@ module _ (p : Program) (R : resolved.Program) where
               (subst (λ l. Resumes mine (pc + 1) self frames (length stack) below l deeper held1.temporaries held.variables waiting) (sym is1) (back (pc + 1) x g.0 (length stack) own1 held1 (goes_nil (pc + 1) x g.1 held.variables (omega (arith, many))) (inl g.2) (omega (arith, count)) (omega (arith, size, names_size)) (omega (arith, few, places_size)) (omega (arith, many)) keeps1)))
       order_leads Give is stands no_end nil ready st =
           let none = none_of held.temporaries (omega (arith, few, st.2)) in
-          let clears : Clear 0 pc = (0, (Give, is, tt)) in
+          let clears : Clear 0 pc = (0, ap role_of is) in
           let shut = subst (λ g. Shut g 0 held.variables) st.3 (nil 0 clears) in
           let last = last_there held.variables (omega (arith, many, st.4)) shut in
           top_leads Good stack _ (omega (arith, count, st.0)) (λ v rest e. last_leads last.0 held.temporaries held _ none last.1
           (hands_lead frames below deeper pc last.0 stack rest held (subst (λ g. Waits g frames below deeper held.places) st.3 (subst (Waits mine frames below deeper) (sym o.places) waits)) (omega (arith, count, st.0, e)) (o.is ∙ ap (λ l. l ++ deeper) (none_of own (omega (arith, size, st.1)))) none last.1 o.dying o.sane))
       order_leads Return is stands no_end nil ready st =
           let none = none_of held.temporaries (omega (arith, few, st.2)) in
-          let clears : Clear 0 pc = (0, (Return, is, tt)) in
+          let clears : Clear 0 pc = (0, ap role_of is) in
           let shut = subst (λ g. Shut g 0 held.variables) st.3 (nil 0 clears) in
           let empty : NilBut [] held.variables = λ i k named. shut i k (omega arith) (omega (arith, slice_get_within held.variables i (suc k) named)) named in
           top_leads Good stack _ (omega (arith, count, st.0)) (λ v rest e. left_leads held.temporaries held _ none empty
