@@ -1,13 +1,13 @@
 -- Each order of a lowered program has what it needs, with the heights before it.
-use Rattle.std.proofs.Common.{◌≡◌, inl, inr, ℕ, zero, suc, ◌+◌, ◌-◌, ◌≤◌, pos, Bool, true, false, if◌then◌else◌, nat_lt, List, [], ◌∷◌, ◌++◌, length, Option, Some, None, refl, sym, ap, ◌∙◌, subst, arith, length-append, append_assoc, slice_get, slice_index_or}
-use Rattle.std.proofs.lemmas.Bool.{ltb-false, false≢true}
+use Rattle.std.proofs.Common.{◌≡◌, inl, inr, ℕ, zero, suc, ◌+◌, ◌-◌, ◌≤◌, pos, Bool, true, false, if◌then◌else◌, List, [], ◌∷◌, ◌++◌, length, Option, Some, None, refl, sym, ap, ◌∙◌, subst, arith, length-append, append_assoc, add-zero, slice_get, slice_index_or}
+use Rattle.std.proofs.lemmas.Bool.{lt-ltb, false≢true}
 use Rattle.std.proofs.lemmas.Option.{get_or_from_slice_get}
 use Rattle.std.proofs.lemmas.Bool.Decides.{nat_tests}
 use Rattle.arc_ast.specs.declared.tree.Sign.{Sign}
 use Rattle.arc_spec.specs.declared.class.Gives.{Gives}
 use Rattle.arc_spec.specs.declared.class.Gives.TheVariants as gives
 use Rattle.arc_spec.specs.declared.class.Method.{Method}
-use Rattle.arc_spec.specs.Classes.{Class, answers, found, own_methods, first_that_has, superclasses, ancestry, lookup, lesser, same_gives}
+use Rattle.arc_spec.specs.Classes.{Class, answers, found, own_methods, first_that_has, superclasses, ancestry, lookup, same_gives}
 use Rattle.arc_spec.specs.Resolved.{Function, Commands}
 use Rattle.arc_spec.specs.Resolved as resolved
 use Rattle.arc_spec.specs.Meaning.{function_at, function_places}
@@ -20,22 +20,15 @@ use Rattle.arc_lower.specs.Order.{Order}
 use Rattle.arc_lower.specs.Lowered.{all_functions, number_of, slots_of, parameters_of, call_orders, passing_orders, opening_orders, take_orders, own_orders, leaving_order, leave_orders, body_orders, declare_orders, pop_orders, keep_orders, all_empty_orders, no_turn, Spot, Between, Block, nothing_given, commands_block, flat, function_orders, functions_orders, entries_from, start_orders, end_step_of, entry_of, entries_of, stub_orders, methods_orders, dealloc_orders, class_orders, classes_orders, linked_methods, linked_dealloc, linked_classes, running_orders, lowered, classes_linked}
 use Rattle.arc_lower.specs.Size.{object_parameters, owned_by}
 use Rattle.arc_lower.specs.Heights.{height, between, next_height, walk, Walk, next_walk, last_walk, walk_heights, heights, start_heights, function_heights, stub_heights, dealloc_heights, in_function, functions_marks, methods_marks, class_marks, classes_marks, lowered_marks}
+use Rattle.arc_lower.proofs.Cases.{by_test}
 use Rattle.arc_lower.proofs.Rows.{call_length}
 use Rattle.arc_lower.proofs.Linking.{numbered, function_gives, answers_as}
-use Rattle.arc_lower.proofs.Typing.{heights_same, slots_same, parameters_same, number_there, Types, types_then, types_same, types_last, tested, keep_types, passing_types, declare_types, take_types, own_types, BlockTypes}
-use Rattle.arc_lower.proofs.HeightsEnd.{last_append, Keeps, block_ends}
+use Rattle.arc_lower.proofs.Typing.{heights_same, slots_same, parameters_same, number_there, Types, types_then, types_last, tested, keep_types, passing_types, declare_types, take_types, own_types, BlockTypes}
+use Rattle.arc_lower.proofs.HeightsEnd.{Keeps, block_ends}
 use Rattle.arc_lower.proofs.Forms.{nothing_types, commands_type}
 use Rattle.arc_lower.proofs.Doing.{each_front, each_back, each_at}
 use Rattle.arc_lower.proofs.Stepping.{some_same, HasPart, has_whole, Leaves, Empties, role, role_of, role_at, Clears, Stands, Goes, Free, calm_free, Steps, StepsAt, AllStep, step_then, opens_goes, none_goes, Row, row_of, row_front, row_back, typed_steps, AllTake, takes_stand, takes_step, block_steps}
 use Rattle.std.specs.Option.{option_or}
-
-heights_length : (R : resolved.Program) (base : Height) (w : Walk) (xs : List Order) → length (walk_heights R base w xs) ≡ length xs
-heights_length R base w [] = refl
-heights_length R base w (x ∷ xs) = ap suc (heights_length R base (next_walk R base x w) xs)
-
-in_length : (given : Gives) (hs : List Height) → length (in_function given hs) ≡ length hs
-in_length given [] = refl
-in_length given (h ∷ hs) = ap suc (in_length given hs)
 
 in_append : (given : Gives) (a b : List Height) → in_function given (a ++ b) ≡ in_function given a ++ in_function given b
 in_append given [] b = refl
@@ -129,13 +122,13 @@ module _ (R : resolved.Program) where
     empty_stays : (i : ℕ) → next_height R (Empty i) leaving ≡ leaving
     empty_stays i = heights_same _ _ _ _ (suc slots) 0 0 names (omega arith) (omega arith) (omega arith) (omega arith)
 
-    empty_ends : (b : Bool) (i : ℕ) → last_walk R base (walk leaving []) (if b then Empty i ∷ [] else []) ≡ walk leaving []
-    empty_ends true i = ap (λ h. walk h []) (empty_stays i)
-    empty_ends false i = refl
+    emptied_is : (n : ℕ) → suc n ≤ names → emptied (suc n) ≡ Empty (0 + n) ∷ emptied n
+    emptied_is n le = ap (λ b. (if b then Empty (0 + n) ∷ [] else []) ++ emptied n) (lt-ltb (0 + n) names (omega (arith, le)))
 
-    emptied_ends : (n : ℕ) → last_walk R base (walk leaving []) (emptied n) ≡ walk leaving []
-    emptied_ends zero = refl
-    emptied_ends (suc n) = last_append R base (walk leaving []) (if nat_lt (0 + n) names then Empty (0 + n) ∷ [] else []) (emptied n) ∙ ap (λ w. last_walk R base w (emptied n)) (empty_ends (nat_lt (0 + n) names) (0 + n)) ∙ emptied_ends n
+    emptied_ends : (n : ℕ) → n ≤ names → last_walk R base (walk leaving []) (emptied n) ≡ walk leaving []
+    emptied_ends zero le = refl
+    emptied_ends (suc n) le =
+        ap (last_walk R base (walk leaving [])) (emptied_is n le) ∙ ap (λ h. last_walk R base (walk h []) (emptied n)) (empty_stays (0 + n)) ∙ emptied_ends n (omega (arith, le))
 
     pops_take : (n : ℕ) → AllTake R all table given base (pop_orders n)
     pops_take zero = tt
@@ -146,7 +139,7 @@ module _ (R : resolved.Program) where
     keep_takes (suc n) = (refl, pops_take n)
 
     keep_typed : Types R 0 0 leaving keep (height 1 0 0 names)
-    keep_typed = subst (λ h. Types R 0 0 h keep (height 1 0 0 names)) (heights_same (suc (slots + 0)) 0 0 names (suc slots) 0 0 names (omega arith) refl refl refl) (keep_types R 0 0 0 0 names slots 0)
+    keep_typed = simp add-zero at (keep_types R 0 0 0 0 names slots 0)
 
     -- before so many variables are emptied the others are nil
     abbrev Emptying : ℕ → ℕ → Type 0
@@ -154,23 +147,22 @@ module _ (R : resolved.Program) where
 
     emptying : (n pc : ℕ) → n ≤ names → Rows pc leaving (emptied n ++ (keep ++ last_order ∷ [])) → Emptying n pc
     emptying zero pc le f = let there = takes_stand R all table given base pc (walk leaving []) keep last_order (leaving_is given) (keep_takes slots) f in (tt, there.0, there.1, there.2)
-    emptying (suc n) pc le f = by (nat_lt (0 + n) names) refl (λ rest. emptying n (pc + 1) (omega (arith, le)) rest) f
+    emptying (suc n) pc le f =
+        let is = emptied_is n le in
+        let row = subst (λ xs. Rows pc leaving (xs ++ (keep ++ last_order ∷ []))) is f in
+        let at : role_at R all table pc ≡ Empties (0 + n) = ap role_of row.1 in
+        let there = emptying n (pc + 1) (omega (arith, le)) (subst (λ h. Rows (pc + 1) h (emptied n ++ (keep ++ last_order ∷ []))) (empty_stays (0 + n)) row.2) in
+        let next = subst (Stands R all table given (pc + 1)) (sym (empty_stays (0 + n))) there.1 in (
+          subst (Step_all pc) (sym is) (((leaving, given), row.0, (omega (arith, le), next, λ k c. let same = there.2 k c in inl (omega (arith, same)), there.3)), there.0),
+          record { height = row.0; order = Empty (0 + n); is = row.1; no_end = λ end. cc },
+          only at,
+          calm_free R all table pc (Empties (0 + n)) tt at,
+        )
       where
         only : role_at R all table pc ≡ Empties (0 + n) → (k : ℕ) → Clears R all table k pc → k ≡ suc n
         only at zero (zero, y) = cc
         only at zero (suc m, y) = cc
         only at (suc j) c = let same : j ≡ 0 + n = cc in omega (arith, same)
-
-        by : (b : Bool) → nat_lt (0 + n) names ≡ b → (Rows (pc + 1) leaving (emptied n ++ (keep ++ last_order ∷ [])) → Emptying n (pc + 1)) → Rows pc leaving (((if b then Empty (0 + n) ∷ [] else []) ++ emptied n) ++ (keep ++ last_order ∷ [])) → Step_all pc ((if b then Empty (0 + n) ∷ [] else []) ++ emptied n) × Stands R all table given pc leaving × ((k : ℕ) → Clears R all table k pc → k ≡ suc n) × Free R all table pc
-        by false e others f = let ge = ltb-false (0 + n) names e in absurd (omega (arith, le, ge))
-        by true e others f =
-            let at : role_at R all table pc ≡ Empties (0 + n) = ap role_of f.1 in
-            let rest = others (subst (λ h. Rows (pc + 1) h (emptied n ++ (keep ++ last_order ∷ []))) (empty_stays (0 + n)) f.2) in (
-              (((leaving, given), f.0, (omega (arith, le), subst (Stands R all table given (pc + 1)) (sym (empty_stays (0 + n))) rest.1, λ k c. let is = rest.2 k c in inl (omega (arith, is)), rest.3)), rest.0),
-              record { height = f.0; order = Empty (0 + n); is = f.1; no_end = λ end. cc },
-              only at,
-              calm_free R all table pc (Empties (0 + n)) tt at,
-            )
 
     module _ (leave_row : Rows place leaving leave) (body_row : Rows entered begun body) where
       exit : Emptying kept place
@@ -202,7 +194,7 @@ module _ (R : resolved.Program) where
       leave_steps : Step_all place leave
       leave_steps =
           let q = place + length (emptied kept) in
-          let later = subst (λ w. Row R all table given base q w (keep ++ last_order ∷ [])) (emptied_ends kept) (row_back R all table given base place (walk leaving []) (emptied kept) (keep ++ last_order ∷ []) leave_row) in
+          let later = subst (λ w. Row R all table given base q w (keep ++ last_order ∷ [])) (emptied_ends kept (omega (arith, places))) (row_back R all table given base place (walk leaving []) (emptied kept) (keep ++ last_order ∷ []) leave_row) in
           let one = subst (λ w. Row R all table given base (q + length keep) w (last_order ∷ [])) (types_last R 0 0 base leaving [] keep (height 1 0 0 names) keep_typed) (row_back R all table given base q (walk leaving []) keep (last_order ∷ []) later) in
           step_then R all table place (emptied kept) (keep ++ last_order ∷ []) exit.0
           (step_then R all table q keep (last_order ∷ []) (takes_step R all table given base q leaving [] keep (height 1 0 0 names) last_order (leaving_is given) (keep_takes slots) keep_typed later) (((height 1 0 0 names, given), one.0, last_step (q + length keep) given refl), tt))
@@ -224,26 +216,28 @@ module _ (R : resolved.Program) where
   row given base h pc xs f = row_of R all table given base pc (walk h []) xs f.0 f.1
 
   -- as many marks as orders
-  marks_length : (given : Gives) (base : Height) (w : Walk) (xs : List Order) → length (in_function given (walk_heights R base w xs)) ≡ length xs
-  marks_length given base w xs = in_length given (walk_heights R base w xs) ∙ heights_length R base w xs
+  marks_length : (given : Gives) (low : Height) (w : Walk) (xs : List Order) → length (in_function given (walk_heights R low w xs)) ≡ length xs
+  marks_length given low w [] = refl
+  marks_length given low w (x ∷ xs) = ap suc (marks_length given low (next_walk R low x w) xs)
 
-  abbrev g_first_height : Function → Height
-  g_first_height g = between (suc g.slots) (function_places g)
+  abbrev left_marks : Function → List (Height × Gives)
+  left_marks g = in_function g.gives (heights R (between g.slots (function_places g)) (between (suc g.slots) (function_places g)) (leave_orders g))
+
+  abbrev entry_marks : (place : ℕ) → Function → List (Height × Gives)
+  entry_marks place g =
+      in_function g.gives (heights R (between g.slots (function_places g)) (height g.slots (object_parameters g) 0 0) (body_orders R place (entry_of place g) g))
+
+  -- a function's marks, those where it is left, and those from its entry on
+  marks_split : (place : ℕ) (g : Function) → in_function g.gives (function_heights R place g) ≡ left_marks g ++ entry_marks place g
+  marks_split place g = in_append g.gives _ _
 
   function_length : (place : ℕ) (g : Function) → length (in_function g.gives (function_heights R place g)) ≡ length (function_orders R place g)
-  function_length place g = omega (arith, in_length g.gives (function_heights R place g), length-append {A = Height}, length-append {A = Order}, heights_length)
+  function_length place g = omega (arith, ap length (marks_split place g), length-append {A = Height × Gives}, length-append {A = Order}, marks_length)
 
   pub record Entered (entries : List ℕ) (n : ℕ) (f : Function) : Type 0 where
     pub at : ℕ
     pub is : slice_get entries n ≡ Some at
     pub goes : Goes R all table f.gives at (height f.slots (object_parameters f) 0 0)
-
-  objects_few : (a b : ℕ) → lesser a b ≤ b
-  objects_few a b = grind (arith, nat_tests)
-
-  own_typed : (b : Bool) (slots places : ℕ) → Types R 0 0 (height slots 0 0 places) (if b then own_orders places else []) (height slots 0 0 places)
-  own_typed true slots places = own_types R 0 0 places slots places (omega arith)
-  own_typed false slots places = refl
 
   -- a function begins with its places, and takes what it is given
   opening_types : (g : Function) → Types R 0 0 (height g.slots (object_parameters g) 0 0) (opening_orders g) (between g.slots (function_places g))
@@ -255,46 +249,26 @@ module _ (R : resolved.Program) where
       let base = between slots places in
       let all_declared = height slots objects 0 places in
       let own = if g.owns then own_orders places else [] in
+      let few : objects ≤ places - owned_by g = grind (arith, nat_tests) in
       types_then R 0 0 begun (declare_orders places) all_declared (take_orders (owned_by g) objects ++ own) base
-      (types_same R 0 0 begun (declare_orders places) (height slots objects 0 (places + 0)) all_declared (heights_same _ _ _ _ slots objects 0 places refl refl refl (omega arith)) (declare_types R 0 0 places slots objects 0))
+      (simp add-zero at (declare_types R 0 0 places slots objects 0))
       (types_then R 0 0 all_declared (take_orders (owned_by g) objects) base own base
-      (subst (λ n. Types R 0 0 (height slots n 0 places) (take_orders (owned_by g) objects) base) (omega arith) (take_types R 0 0 (owned_by g) objects slots 0 0 places (omega (arith, objects_few g.parameters (places - owned_by g)))))
-      (own_typed g.owns slots places))
+      (simp add-zero at (take_types R 0 0 (owned_by g) objects slots 0 0 places (omega (arith, few))))
+      (by_test (λ b. Types R 0 0 base (if b then own_orders places else []) base) g.owns (λ e. own_types R 0 0 places slots places (omega arith)) (λ e. refl)))
 
-  -- the rows of one function
-  module _ (place : ℕ) (g : Function) (here : Both place (in_function g.gives (function_heights R place g)) (function_orders R place g)) where
-    abbrev g_leave : List Order
-    g_leave = leave_orders g
-
-    abbrev g_body : List Order
-    g_body = body_orders R place (entry_of place g) g
-
-    abbrev g_base : Height
-    g_base = between g.slots (function_places g)
-
-    abbrev g_first : Height
-    g_first = g_first_height g
-
-    abbrev g_entered : Height
-    g_entered = height g.slots (object_parameters g) 0 0
-
-    abbrev g_marks : Height → List Order → List (Height × Gives)
-    g_marks h xs = in_function g.gives (heights R g_base h xs)
-
-    both : Both place (g_marks g_first g_leave ++ g_marks g_entered g_body) (g_leave ++ g_body)
-    both = subst (λ l. Both place l (g_leave ++ g_body)) (in_append g.gives (heights R g_base g_first g_leave) (heights R g_base g_entered g_body)) here
-
-    leave_length : length (g_marks g_first g_leave) ≡ length g_leave
-    leave_length = marks_length g.gives g_base (walk g_first []) g_leave
-
-    g_leave_row : Row R all table g.gives g_base place (walk g_first []) g_leave
-    g_leave_row = row g.gives g_base g_first place g_leave (both_split place (g_marks g_first g_leave) (g_marks g_entered g_body) g_leave g_body leave_length both).0
-
-    g_body_row : Row R all table g.gives g_base (entry_of place g) (walk g_entered []) g_body
-    g_body_row = row g.gives g_base g_entered (entry_of place g) g_body (both_split place (g_marks g_first g_leave) (g_marks g_entered g_body) g_leave g_body leave_length both).1
-
-    g_steps : Goes_to g.gives (entry_of place g) g_entered × Step_all place (function_orders R place g)
-    g_steps = function_steps place g.slots (function_places g) g.names (object_parameters g) g.gives (opening_orders g) (opening_types g) (places_by g.gives g.names) g.body g_leave_row g_body_row
+  -- a run may enter a function, and each of its orders has what it needs
+  g_steps : (place : ℕ) (g : Function) → Both place (in_function g.gives (function_heights R place g)) (function_orders R place g)
+      → Goes_to g.gives (entry_of place g) (height g.slots (object_parameters g) 0 0) × Step_all place (function_orders R place g)
+  g_steps place g here =
+      let base = between g.slots (function_places g) in
+      let first = between (suc g.slots) (function_places g) in
+      let entered = height g.slots (object_parameters g) 0 0 in
+      let leave = leave_orders g in
+      let body = body_orders R place (entry_of place g) g in
+      let whole = subst (λ l. Both place l (leave ++ body)) (marks_split place g) here in
+      let parts = both_split place (left_marks g) (entry_marks place g) leave body (marks_length g.gives base (walk first []) leave) whole in
+      function_steps place g.slots (function_places g) g.names (object_parameters g) g.gives (opening_orders g) (opening_types g) (places_by g.gives g.names) g.body
+      (row g.gives base first place leave parts.0) (row g.gives base entered (entry_of place g) body parts.1)
 
   functions_begin : (fs : List Function) (place n : ℕ) (f : Function) → Both place (functions_marks R place fs) (functions_orders R place fs) → slice_get fs n ≡ Some f → Entered (entries_from R place fs) n f
   functions_begin [] place n f has e = cc
@@ -336,12 +310,7 @@ module _ (R : resolved.Program) where
   stub_length wanted values objects f = marks_length wanted zeroed (walk (height values objects 0 0) []) (stub wanted values objects f)
 
   fit_typed : (wanted : Gives) (values objects f : ℕ) → Types R 0 0 (height values objects 0 0) (passing_orders R wanted f values objects) (height (slots_of R wanted f) (parameters_of R wanted f) 0 0)
-  fit_typed wanted values objects f =
-      let slots = slots_of R wanted f in
-      let parameters = parameters_of R wanted f in
-      subst (λ h. Types R 0 0 h (passing_orders R wanted f values objects) (height slots parameters 0 0)) (heights_same (values + 0) (objects + 0) 0 0 values objects 0 0 (omega arith) (omega arith) refl refl)
-      (types_same R 0 0 (height (values + 0) (objects + 0) 0 0) (passing_orders R wanted f values objects) (height (slots + 0) (parameters + 0) 0 0) (height slots parameters 0 0)
-      (heights_same (slots + 0) (parameters + 0) 0 0 slots parameters 0 0 (omega arith) (omega arith) refl refl) (passing_types R 0 0 wanted f values objects 0 0 0 0))
+  fit_typed wanted values objects f = simp add-zero at (passing_types R 0 0 wanted f values objects 0 0 0 0)
 
   module _ (wanted : Gives) (values objects f place : ℕ) (has : Both place (stub_marks wanted values objects f) (stub wanted values objects f)) where
     abbrev fit : List Order
