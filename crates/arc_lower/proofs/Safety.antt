@@ -16,7 +16,7 @@ use Rattle.arc_spec.specs.Meaning.{chosen}
 use Rattle.arc_spec.specs.Number.{combined, counted, is_zero}
 use Rattle.arc_spec.specs.Objects.{Object, Dying, Emptying, Gone, object_at, with_object, with_fields, with_strong_fields, in_phase, is_live, is_emptying, fields_of}
 use Rattle.arc_spec.specs.Resolved as resolved
-use Rattle.arc_spec.specs.Holding.{Held, nothing_held, Frame, Calling, Ending, Clearing, Waiter, Counted, holders, is_there, stacked, with_strong_globals, with_strong_field, on_place, turned_in, with_temporaries, with_variables, with_names, with_things, with_globals, lowered, raised, named, taken_by, on_named, on_field, declares, lets_go, resumed, all_nil, on_left, on_last, on_result, given_back, with_field}
+use Rattle.arc_spec.specs.Holding.{Held, Frame, Calling, Ending, Clearing, Waiter, Counted, holders, is_there, stacked, with_strong_globals, with_strong_field, on_place, turned_in, with_temporaries, with_variables, with_names, with_things, lowered, raised, named, taken_by, on_named, on_field, declares, lets_go, resumed, all_nil, on_left, on_last, on_result, given_back, with_field}
 use Rattle.arc_spec.specs.Stepping.{Next, Goes, Asks, Faults, Stuck, Along, Safe, Sound, on_top, on_found, only_if}
 use Rattle.arc_ir.specs.Acting.{Program, State, lands, start, step, entry, keeps, goes, or_fault, has_level, enters, answers, taken, sends, allocates, operates, begins_end, releases, runs_dealloc, clears, after_deallocs, clears_next, ends_class, end_goes_on, leaves}
 use Rattle.arc_code.specs.declared.effect.Height.{Height}
@@ -33,7 +33,7 @@ use Rattle.arc_lower.specs.Lowered.{slots_of, parameters_of, entries_of, end_ste
 use Rattle.arc_lower.specs.Heights.{height, next_height}
 use Rattle.arc_lower.proofs.Cases.{by_test}
 use Rattle.arc_lower.proofs.CountsPlaces.{IsThere, AllThere, place_there, name_there, object_goes, named_goes, set_here, set_same, set_other, holders_head, holders_nil, holders_append, all_holders, live_there, there_fields}
-use Rattle.arc_lower.proofs.CountsKept.{Sane, Drops, nothing_sane, sane_moved, sane_names, sane_globals, sane_start, sane_entered, sane_take, sane_declare, fits_at, sane_counted, variables_there, waiting_there, stacked_there, globals_there, fields_there, sane_store, sane_store_global, sane_store_field, sane_drop, sane_settle, drops_there, sane_nil, sane_last, sane_other, sane_make, sane_field, sane_empty, sane_gone}
+use Rattle.arc_lower.proofs.CountsKept.{Sane, Drops, gains, sane_moved, sane_start, sane_declare, fits_at, sane_counted, variables_there, waiting_there, stacked_there, globals_there, fields_there, sane_store, sane_store_global, sane_store_field, sane_drop, sane_settle, drops_there, sane_nil, sane_last, sane_other, sane_make, sane_field, sane_empty, sane_gone}
 use Rattle.arc_lower.proofs.Doing.{at, resumed_as, bare, does, executes_at}
 use Rattle.arc_lower.proofs.Standing.{no_nil, ending, AllDying, IsDying, NilBut, Alive, nil_alive, ends_there, ending_alive, IsHeld, last_held, held_there, held_within, made_dying, changed_dying, IsApart, live_apart, apart_dying, stored_far, fields_far, one_nil, no_field, nil_named, all_in_order}
 use Rattle.arc_lower.proofs.Typing.{Reaches, enough, IsCalled}
@@ -189,7 +189,7 @@ resumes_again w h s = resumed_as w h s.temporaries s.variables s.waiting s.is s.
 
 -- the function that is left has no temporary, and its variables are nil
 again_sane : {classes : List Class} (w : Waiter) (h : Held) (s : Splits w h.places) → h.temporaries ≡ [] → NilBut [] h.variables → Sane classes h → Sane classes (again w s h)
-again_sane w h s none nil sane = sane_moved h (again w s h) refl refl (λ k.
+again_sane w h s none nil sane = sane_moved (λ k.
     let h1 = again w s h in
     omega (arith, ap (holders (suc k)) s.is, holders_append (suc k) (s.temporaries ++ s.variables) s.waiting, holders_append (suc k) s.temporaries s.variables, all_holders (suc k) h1, all_holders (suc k) h, nil_named h.variables nil k, ap (holders (suc k)) none)) sane
 
@@ -197,11 +197,11 @@ again_sane w h s none nil sane = sane_moved h (again w s h) refl refl (λ k.
 given_sane : {classes : List Class} (w : Waiter) (h : Held) (s : Splits w h.places) (r : ℕ) → h.temporaries ≡ [] → LastIs r h.variables → Sane classes h → Sane classes (given_back r (again w s (with_variables h [])))
 given_sane w h s r none last sane =
     let h1 = given_back r (again w s (with_variables h [])) in
-    sane_moved h h1 refl refl (λ k.
+    sane_moved (λ k.
     omega (arith, ap (holders (suc k)) s.is, holders_append (suc k) (s.temporaries ++ s.variables) s.waiting, holders_append (suc k) s.temporaries s.variables, all_holders (suc k) h1, all_holders (suc k) h, last_holders k r h.variables last, holders_head (suc k) r s.temporaries, holders_head (suc k) r [], ap (holders (suc k)) none)) sane
 
 left_sane : {classes : List Class} (h : Held) → h.temporaries ≡ [] → NilBut [] h.variables → Sane classes h → Sane classes (with_variables h [])
-left_sane h none nil sane = sane_moved h (with_variables h []) refl refl (λ k. omega (arith, all_holders (suc k) (with_variables h []), all_holders (suc k) h, nil_named h.variables nil k)) sane
+left_sane h none nil sane = sane_moved (λ k. omega (arith, all_holders (suc k) (with_variables h []), all_holders (suc k) h, nil_named h.variables nil k)) sane
 
 module _ (p : Program) (R : resolved.Program) where
   -- in a function that gives this
@@ -408,7 +408,7 @@ module _ (p : Program) (R : resolved.Program) where
       let still : AllDying objects (ending frames) = apart_dying held.objects k (in_phase Dying ob) (ending frames) apart dying in (
         inr (record { at_end = refl; is_ending = tt; none = refl; empty = refl; alive = ending_alive frames to (waits_as held) (suc k) (Some ob.class) (length p.classes) (stacked held); waits = waits apart }),
         (begun, still),
-        sane_entered h1 (suc k) (sane_last held k ob found (live_there ob live) drops),
+        sane_last held k ob found (live_there ob live) drops,
       )
 
   -- ---- one step of a function
@@ -491,7 +491,7 @@ module _ (p : Program) (R : resolved.Program) where
             waits = (mine, below, deeper, splits, home1, subst (Waits mine frames below deeper) (sym there) waits);
           }),
           dying,
-          sane_entered held self1 sane,
+          sane,
         )
 
     answers_lead : (found : Option ℕ) (wanted : Gives) (self1 passed pc : ℕ) (given rest : List ℕ) (stack : List ℤ) (held : Held) → ((to : ℕ) → found ≡ Some to → Goes_to wanted to (height passed (length given) 0 0)) → passed ≤ length stack → held.names ≡ given ++ rest → AllHeld given (held.temporaries ++ waiting) → Alive frames (stacked held) self1 → held.self ≡ self → held.places ≡ waiting → AllDying held.objects (ending frames) → Sane p.classes held → Home wanted pc (length stack - passed) rest held
@@ -555,11 +555,11 @@ module _ (p : Program) (R : resolved.Program) where
 
       -- there are these
       refers : (x : Op) (stack1 : List ℤ) (names1 own1 : List ℕ) → names1 ≡ own1 ++ deeper → AllHeld own1 (held.temporaries ++ waiting) → declared x held.variables ≡ held.variables → IsMade x own1 held.temporaries → Kept x (at frames (pc + 1) stack1 (with_names held names1))
-      refers x stack1 names1 own1 is keeps same made = record { own1 = own1; owns = record { is = is; places = o.places; itself = o.itself; keeps = keeps; dying = o.dying; sane = sane_names held names1 o.sane }; variables = sym same; made = made }
+      refers x stack1 names1 own1 is keeps same made = record { own1 = own1; owns = record { is = is; places = o.places; itself = o.itself; keeps = keeps; dying = o.dying; sane = o.sane }; variables = sym same; made = made }
 
       -- and a temporary takes this
       takes : (x : Op) (r : ℕ) (names1 own1 : List ℕ) → names1 ≡ own1 ++ deeper → IsThere held.objects r → AllHeld own1 (r ∷ (held.temporaries ++ waiting)) → declared x held.variables ≡ held.variables → IsMade x own1 (r ∷ held.temporaries) → Kept x (at frames (pc + 1) stack (taken_by r (with_names held names1)))
-      takes x r names1 own1 is there keeps same made = record { own1 = own1; owns = record { is = is; places = o.places; itself = o.itself; keeps = keeps; dying = o.dying; sane = sane_take (with_names held names1) r there (sane_names held names1 o.sane) }; variables = sym same; made = made }
+      takes x r names1 own1 is there keeps same made = record { own1 = own1; owns = record { is = is; places = o.places; itself = o.itself; keeps = keeps; dying = o.dying; sane = gains r there o.sane }; variables = sym same; made = made }
 
       -- which is the last reference, above these
       reads : (x : Op) (r : ℕ) (names1 own1 : List ℕ) → names1 ≡ own1 ++ deeper → IsThere held.objects r → AllHeld own1 (held.temporaries ++ waiting) → declared x held.variables ≡ held.variables → IsMade x (r ∷ own1) (r ∷ held.temporaries)
@@ -592,7 +592,7 @@ module _ (p : Program) (R : resolved.Program) where
       operation_keeps (ops.GetGlobal i) needs = stays _ _ refl tt
       operation_keeps (ops.SetGlobal i) needs = top_leads _ stack _ (omega (arith, count, needs)) (λ v rest _. record {
         own1 = own;
-        owns = record { is = o.is; places = o.places; itself = o.itself; keeps = o.keeps; dying = o.dying; sane = sane_globals held (slice_set held.statics.numbers i v) o.sane };
+        owns = record { is = o.is; places = o.places; itself = o.itself; keeps = o.keeps; dying = o.dying; sane = o.sane };
         variables = refl;
         made = tt;
       })
@@ -621,7 +621,7 @@ module _ (p : Program) (R : resolved.Program) where
           let fields = slice_set ob.fields index v in
           let set : Sane p.classes (with_field held r ob index v) = subst (λ q. Sane p.classes (with_things held (with_object held.objects q (with_fields ob fields)))) (sym same) (sane_field held j ob fields found o.sane) in
           let dying = subst (λ q. AllDying (with_object held.objects q (with_fields ob fields)) (ending frames)) (sym same) (changed_dying held.objects j (with_fields ob fields) (ending frames) (fields_far held.objects j ob fields found) o.dying) in
-          record { own1 = rest; owns = record { is = refl; places = o.places; itself = o.itself; keeps = kept; dying = dying; sane = sane_names (with_field held r ob index v) (rest ++ deeper) set }; variables = refl; made = tt })))
+          record { own1 = rest; owns = record { is = refl; places = o.places; itself = o.itself; keeps = kept; dying = dying; sane = set }; variables = refl; made = tt })))
       operation_keeps Differ needs = last_leads_on _ _ (omega (arith, needs)) (λ r rest e now kept. reference_leads _ rest deeper (held.temporaries ++ waiting) (rest ++ deeper) _ refl (omega (arith, needs, e, size)) kept (λ q others _ also below1.
           named_leads _ r held _ (is_held r now) (named_leads _ q held _ (is_held q also) (refers _ _ _ others refl below1 refl tt))))
       operation_keeps IsObject needs = last_leads_on _ _ (omega (arith, needs)) (λ r rest _ now kept. named_leads _ r held _ (is_held r now) (refers _ _ _ rest refl kept refl tt))
@@ -686,13 +686,13 @@ module _ (p : Program) (R : resolved.Program) where
       at_once_leads gives.Number object stack0 stack1 names0 rest home1 there kept =
           let more : length stack1 + 1 ≡ length (pos 0 ∷ stack1) = omega arith in
           run_on (pc + 1) (pos 0 ∷ stack1) (with_names held (rest ++ deeper)) rest
-          (record { is = refl; places = o.places; itself = o.itself; keeps = kept; dying = o.dying; sane = sane_names held (rest ++ deeper) o.sane })
+          (record { is = refl; places = o.places; itself = o.itself; keeps = kept; dying = o.dying; sane = o.sane })
           (subst (λ n. Resumes mine (pc + 1) self frames n below (rest ++ deeper) deeper held.temporaries held.variables waiting) more home1)
       at_once_leads gives.Object object stack0 stack1 names0 rest home1 there kept =
           let names1 = object ∷ (rest ++ deeper) in
           named_leads Good object (with_names held names1) _ there
           (run_on (pc + 1) stack1 (taken_by object (with_names held names1)) (object ∷ rest)
-          (record { is = refl; places = o.places; itself = o.itself; keeps = (last_held object (held.temporaries ++ waiting), all_more object rest (held.temporaries ++ waiting) kept); dying = o.dying; sane = sane_take (with_names held names1) object there (sane_names held names1 o.sane) })
+          (record { is = refl; places = o.places; itself = o.itself; keeps = (last_held object (held.temporaries ++ waiting), all_more object rest (held.temporaries ++ waiting) kept); dying = o.dying; sane = gains object there o.sane })
           (home1 object))
 
       -- the root's own `init` takes no argument
@@ -717,7 +717,7 @@ module _ (p : Program) (R : resolved.Program) where
           root_leads wanted selector takes objects object given rest (is_root_init selector takes objects wanted) refl some home1 (is_held object kept) kept_rest
       object_answers_lead (Some to) wanted selector takes objects object given rest begins le some kept_first kept kept_rest home1 =
           let held1 = with_names held (given ++ (rest ++ deeper)) in
-          enters_lead (has_level (at frames pc stack held1)) wanted to object takes pc given (rest ++ deeper) stack held1 (begins to refl) le refl kept_first (held_alive object kept) o.itself o.places o.dying (sane_names held (given ++ (rest ++ deeper)) o.sane) home1
+          enters_lead (has_level (at frames pc stack held1)) wanted to object takes pc given (rest ++ deeper) stack held1 (begins to refl) le refl kept_first (held_alive object kept) o.itself o.places o.dying o.sane home1
 
       -- a message to the object of the reference below its arguments
       message_sent : (wanted : Gives) (from : Object → ℕ) (r : ℕ) (given rest : List ℕ) (selector takes objects : ℕ) (x : Height) → own ≡ given ++ r ∷ rest → length given ≡ objects → takes ≤ h.numbers → After_call x → Ready_after wanted rest → x.numbers ≡ h.numbers - takes + as_number wanted → x.names + suc objects ≡ h.names + as_object wanted → x.temporaries ≡ h.temporaries + as_object wanted → x.variables ≡ h.variables
@@ -794,15 +794,14 @@ module _ (p : Program) (R : resolved.Program) where
       stored true j ob same found is_there_now index r there own1 kept x g a b c d e = tt
       stored false j ob {q} same found is_there_now index r there own1 kept x g a b c d e =
           let held1 = with_names held (own1 ++ deeper) in
-          let sane1 = sane_names held (own1 ++ deeper) o.sane in
           place_leads (slice_get ob.strong index) _ _
-          (λ none. go_on (pc + 1) x g stack held1 own1 a b (omega (arith, few, c)) (omega (arith, many, d)) (record { is = refl; places = o.places; itself = o.itself; keeps = kept; dying = o.dying; sane = sane1 }))
+          (λ none. go_on (pc + 1) x g stack held1 own1 a b (omega (arith, few, c)) (omega (arith, many, d)) (record { is = refl; places = o.places; itself = o.itself; keeps = kept; dying = o.dying; sane = o.sane }))
           (λ old named.
           let strong = slice_set ob.strong index r in
           let held2 = raised r (with_strong_field held1 (suc j) ob index r) in
           let dying1 = changed_dying held.objects j (with_strong_fields ob strong) (ending frames) (stored_far held.objects j ob strong found e) o.dying in
           subst (λ k. Leads (releases p s old (raised r (with_strong_field held1 k ob index r)))) (sym same)
-          (releases_lead old pc stack held held2 own1 refl o.places o.itself kept dying1 (sane_store_field held1 j ob index old r found is_there_now named there sane1)
+          (releases_lead old pc stack held held2 own1 refl o.places o.itself kept dying1 (sane_store_field held1 j ob index old r found is_there_now named there o.sane)
           (back (pc + 1) x g.0 (length stack) own1 held1 (goes_nil (pc + 1) x g.1 held.variables (omega (arith, many, d))) (inl g.2) a b (omega (arith, few, c)) (omega (arith, many, d)) kept)))
 
       order_leads : (x : Order) → slice_get (all R) pc ≡ Some x → Stands R (all R) (table R) mine pc h → (role x ≡ Ends → ⊥) → (nil : (k : ℕ) → Clear k pc → Shut mine k held.variables) → Ready pc own held.temporaries waiting → Steps R (all R) (table R) mine h pc x → Leads (does p x s)
@@ -949,7 +948,7 @@ module _ (p : Program) (R : resolved.Program) where
     after_lead back w (suc k) others frames dies dying alive later =
         let ob = dies.0 in
         subst Leads (sym (object_goes (object_at held.objects (suc k)) ob (λ x. clears p (at frames p.end_step stack held) back w (suc k) (field_order p.classes x.class) others) dies.1 (ap is_there dies.2)))
-        (clears_lead back w (suc k) others frames (field_order p.classes ob.class) ob dies.1 dies.2 (all_in_order p.classes ob ((fits_at held k ob dies.1 sane).sized)) dying alive later)
+        (clears_lead back w (suc k) others frames (field_order p.classes ob.class) ob dies.1 dies.2 (all_in_order p.classes ob ((fits_at k ob dies.1 sane).sized)) dying alive later)
 
     -- the next field lets go of what it names
     next_lead : (back : ℕ) (w : Waiter) (o index : ℕ) (fields : List ℕ) (others : List Frame) → IsDying held.objects o (Some (index ∷ fields)) → AllDying held.objects (ending others) → Alive (Clearing back w o (index ∷ fields) ∷ others) held.places held.self → Later back w o others
@@ -1042,7 +1041,7 @@ module _ (p : Program) (R : resolved.Program) where
     safe (suc n) s good = along_map Good (Safe (step p) (λ t. Counted t.held) n) (safe n) (step p s) (step_leads s good)
 
     pub start_good : Good (start p)
-    start_good = (inl (record { mine = gives.Number; below = 0; deeper = []; resumes = record { high = height 0 0 0 0; stands = (start_goes R).0; count = refl; own = []; is = refl; size = refl; few = omega arith; many = refl; held = tt; nil = λ k c. shut_end gives.Number [] k (omega arith); ready = inl (start_goes R).2; alive = nil_alive [] []; running = tt }; waits = tt }), tt, sane_start (with_globals nothing_held p.globals) p.strong_globals refl (sane_globals nothing_held p.globals nothing_sane))
+    start_good = (inl (record { mine = gives.Number; below = 0; deeper = []; resumes = record { high = height 0 0 0 0; stands = (start_goes R).0; count = refl; own = []; is = refl; size = refl; few = omega arith; many = refl; held = tt; nil = λ k c. shut_end gives.Number [] k (omega arith); ready = inl (start_goes R).2; alive = nil_alive [] []; running = tt }; waits = tt }), tt, sane_start p.strong_globals)
 
     -- the actions of a lowered program are never stuck, and their counts are right
     pub lowered_never_stuck : Sound (step p) (λ s. Counted s.held) (start p)
