@@ -265,36 +265,29 @@ module _ (p : Program) (R : resolved.Program) where
   Numbers gives.Number A = A
   Numbers gives.Object A = ⊥
 
+  -- A function or the end of an object goes on, above what waits for a function that gives a number or an object.
+  abbrev pub GoesOn : (Below : Gives → ℕ → (names places : List ℕ) → Type 0) → (at self : ℕ) → List Frame → (numbers : ℕ) → (names temporaries variables places : List ℕ) → Type 0
+  GoesOn Below at self frames numbers names temporaries variables places =
+      ((mine : Gives) × (below : ℕ) × (deeper : List ℕ) × Resumes mine at self frames numbers below names deeper temporaries variables places × Below mine below deeper places)
+      ⊎ (EndsAgain at self frames temporaries variables places × Below gives.Number numbers names places)
+
+  -- the same of what waits for the end of an object
+  abbrev pub Interrupted : (Below : Gives → ℕ → (names places : List ℕ) → Type 0) → (back : ℕ) → Waiter → (o : ℕ) → List Frame → ℕ → (names places : List ℕ) → Type 0
+  Interrupted Below back w o others n names places =
+      IsApart o (ending others) × (s : Splits w places) × GoesOn Below back w.self others n names s.temporaries s.variables s.waiting
+
   -- so many numbers, and these references and places, wait for a function that gives this; what a call gives isn't there yet
   abbrev pub Waits : Gives → List Frame → ℕ → (names places : List ℕ) → Type 0
   Waits given [] n names places = Numbers given (Unit {0})
   Waits given (Calling back w ∷ others) n names places =
       (mine : Gives) × (below : ℕ) × (deeper : List ℕ) × (s : Splits w places) × Comes_back given mine back w.self others n below names deeper s.temporaries s.variables s.waiting × Waits mine others below deeper s.waiting
-  Waits given (Ending back w o next left ∷ others) n names places = Numbers given (IsApart o (ending others) × (s : Splits w places)
-      × (((mine : Gives) × (below : ℕ) × (deeper : List ℕ) × Resumes mine back w.self others n below names deeper s.temporaries s.variables s.waiting × Waits mine others below deeper s.waiting)
-      ⊎ (EndsAgain back w.self others s.temporaries s.variables s.waiting × Waits gives.Number others n names s.waiting)))
-  Waits given (Clearing back w o fields ∷ others) n names places = Numbers given (IsApart o (ending others) × (s : Splits w places)
-      × (((mine : Gives) × (below : ℕ) × (deeper : List ℕ) × Resumes mine back w.self others n below names deeper s.temporaries s.variables s.waiting × Waits mine others below deeper s.waiting)
-      ⊎ (EndsAgain back w.self others s.temporaries s.variables s.waiting × Waits gives.Number others n names s.waiting)))
-
-  pub record InFunction (s : State) : Type 0 where
-    mine : Gives
-    below : ℕ
-    deeper : List ℕ
-    resumes : Resumes mine s.at s.held.self s.frames (length s.stack) below s.held.names deeper s.held.temporaries s.held.variables s.held.places
-    waits : Waits mine s.frames below deeper s.held.places
-
-  -- where the end of an object goes on
-  pub record InEnd (s : State) : Type 0 where
-    at_end : s.at ≡ p.end_step
-    is_ending : IsEnding s.frames
-    none : s.held.temporaries ≡ []
-    empty : s.held.variables ≡ []
-    alive : Alive s.frames s.held.places s.held.self
-    waits : Waits gives.Number s.frames (length s.stack) s.held.names s.held.places
+  Waits given (Ending back w o next left ∷ others) n names places = Numbers given (Interrupted (λ g. Waits g others) back w o others n names places)
+  Waits given (Clearing back w o fields ∷ others) n names places = Numbers given (Interrupted (λ g. Waits g others) back w o others n names places)
 
   abbrev pub Good : State → Type 0
-  Good s = (InFunction s ⊎ InEnd s) × AllDying s.held.objects (ending s.frames) × Sane p.classes s.held
+  Good s =
+      GoesOn (λ g. Waits g s.frames) s.at s.held.self s.frames (length s.stack) s.held.names s.held.temporaries s.held.variables s.held.places
+      × AllDying s.held.objects (ending s.frames) × Sane p.classes s.held
 
   abbrev Leads : Next State → Type 0
   Leads = Along Good
@@ -369,10 +362,10 @@ module _ (p : Program) (R : resolved.Program) where
       let more : below + 1 ≡ length stack = omega (arith, size, e) in
       let resumes = subst (λ l. Resumes mine back w.self others (length stack) waits.1 l waits.2 s.temporaries s.variables s.waiting) (sym f) (subst (λ n. Resumes mine back w.self others n waits.1 deeper waits.2 s.temporaries s.variables s.waiting) more waits.4) in
       subst (λ h1. Good (at others back stack h1)) (sym (resumes_again w h s))
-      (inl (record { mine = mine; below = waits.1; deeper = waits.2; resumes = resumes; waits = waits.5 }), dying, again_sane w h s none no_names (left_sane held none nil sane))
+      (inl (mine, waits.1, waits.2, resumes, waits.5), dying, again_sane w h s none no_names (left_sane held none nil sane))
   leaves_lead (Ending back w o next left ∷ others) below deeper pc v stack rest held waits alive size e f none nil dying sane running =
       let frames = Ending back w o next left ∷ others in
-      (inr (record { at_end = refl; is_ending = tt; none = none; empty = refl; alive = alive; waits = subst (λ l. Waits gives.Number frames (length rest) l held.places) (sym f) (subst (λ n. Waits gives.Number frames n deeper held.places) e waits) }), dying, left_sane held none nil sane)
+      (inr (record { at_end = refl; is_ending = tt; none = none; empty = refl; alive = alive }, subst (λ l. Waits gives.Number frames (length rest) l held.places) (sym f) (subst (λ n. Waits gives.Number frames n deeper held.places) e waits)), dying, left_sane held none nil sane)
   leaves_lead (Clearing back w o fields ∷ others) below deeper pc v stack rest held waits alive size e f none nil dying sane running = absurd running
 
   -- one that gives an object, which was called
@@ -384,7 +377,7 @@ module _ (p : Program) (R : resolved.Program) where
       let s = waits.3 in
       let resumes = subst (λ l. Resumes mine back w.self others (length rest) waits.1 (r ∷ l) waits.2 (r ∷ s.temporaries) s.variables s.waiting) (sym f) (subst (λ n. Resumes mine back w.self others n waits.1 (r ∷ deeper) waits.2 (r ∷ s.temporaries) s.variables s.waiting) e (waits.4 r)) in
       subst (λ h1. Good (at others back rest (given_back r h1))) (sym (resumes_again w h s))
-      (inl (record { mine = mine; below = waits.1; deeper = waits.2; resumes = resumes; waits = waits.5 }), dying, given_sane w held s r none last sane)
+      (inl (mine, waits.1, waits.2, resumes, waits.5), dying, given_sane w held s r none last sane)
   hands_lead _ below deeper pc r stack rest held waits e f none last dying sane = absurd waits
 
   -- ---- ends that begin
@@ -406,7 +399,7 @@ module _ (p : Program) (R : resolved.Program) where
       let begun : IsDying objects (suc k) None = (in_phase Dying ob, set_here held.objects k (in_phase Dying ob) ob found, refl) in
       let apart = live_apart held.objects k ob (ending frames) found live dying in
       let still : AllDying objects (ending frames) = apart_dying held.objects k (in_phase Dying ob) (ending frames) apart dying in (
-        inr (record { at_end = refl; is_ending = tt; none = refl; empty = refl; alive = ending_alive frames to (waits_as held) (suc k) (Some ob.class) (length p.classes) (stacked held); waits = waits apart }),
+        inr (record { at_end = refl; is_ending = tt; none = refl; empty = refl; alive = ending_alive frames to (waits_as held) (suc k) (Some ob.class) (length p.classes) (stacked held) }, waits apart),
         (begun, still),
         sane_last held k ob found (live_there ob live) drops,
       )
@@ -427,27 +420,21 @@ module _ (p : Program) (R : resolved.Program) where
     abbrev Back : ℕ → ℕ → List ℕ → Held → Type 0
     Back to numbers names held = Resumes mine to self frames numbers below names deeper held.temporaries held.variables waiting
 
-    back : (to : ℕ) (h : Height) → Stands R (all R) (table R) mine to h → (numbers : ℕ) (own : List ℕ) (held : Held) → ((k : ℕ) → Clear k to → Shut mine k held.variables) → Ready to own held.temporaries waiting → numbers ≡ h.numbers + below → length own ≡ h.names → length held.temporaries ≤ h.temporaries → length held.variables ≡ h.variables → AllHeld own (held.temporaries ++ waiting) → Back to numbers (own ++ deeper) held
-    back to h stands numbers own held nil ready count size few many keeps = record { high = h; stands = stands; count = count; own = own; is = refl; size = size; few = few; many = many; held = keeps; nil = nil; ready = ready; alive = alive; running = running }
+    back : (to : ℕ) (h : Height) → Stands R (all R) (table R) mine to h → (numbers : ℕ) (names own : List ℕ) (held : Held) → names ≡ own ++ deeper → ((k : ℕ) → Clear k to → Shut mine k held.variables) → Ready to own held.temporaries waiting → numbers ≡ h.numbers + below → length own ≡ h.names → length held.temporaries ≤ h.temporaries → length held.variables ≡ h.variables → AllHeld own (held.temporaries ++ waiting) → Back to numbers names held
+    back to h stands numbers names own held is nil ready count size few many keeps = record { high = h; stands = stands; count = count; own = own; is = is; size = size; few = few; many = many; held = keeps; nil = nil; ready = ready; alive = alive; running = running }
 
     goes_nil : (to : ℕ) (h : Height) → ((k : ℕ) → Clear k to → h.variables ≤ k + as_object mine) → (variables : List ℕ) → length variables ≡ h.variables → (k : ℕ) → Clear k to → Shut mine k variables
     goes_nil to h g variables many k c = let le = g k c in shut_end mine variables k (omega (arith, many, le))
 
-    run_on : (to : ℕ) (stack : List ℤ) (held : Held) (own : List ℕ) → Owns own held → Back to (length stack) (own ++ deeper) held → Good (at frames to stack held)
-    run_on to stack held own o b = (
-      inl (record {
-        mine = mine;
-        below = below;
-        deeper = deeper;
-        resumes = subst (λ l. Resumes mine to held.self frames (length stack) below held.names deeper held.temporaries held.variables l) (sym o.places) (subst (λ l. Resumes mine to held.self frames (length stack) below l deeper held.temporaries held.variables waiting) (sym o.is) (subst (λ x. Resumes mine to x frames (length stack) below (own ++ deeper) deeper held.temporaries held.variables waiting) (sym o.itself) b));
-        waits = subst (Waits mine frames below deeper) (sym o.places) waits;
-      }),
-      o.dying,
-      o.sane,
-    )
+    run_on : (to : ℕ) (stack : List ℤ) (held : Held) (own : List ℕ) → Owns own held → Back to (length stack) held.names held → Good (at frames to stack held)
+    run_on to stack held own o b = (inl (mine, below, deeper, home, subst (Waits mine frames below deeper) (sym o.places) waits), o.dying, o.sane)
+      where
+        home : Resumes mine to held.self frames (length stack) below held.names deeper held.temporaries held.variables held.places
+        home = subst (λ l. Resumes mine to held.self frames (length stack) below held.names deeper held.temporaries held.variables l) (sym o.places)
+            (subst (λ x. Resumes mine to x frames (length stack) below held.names deeper held.temporaries held.variables waiting) (sym o.itself) b)
 
     go_on : (to : ℕ) (h : Height) → Goes_to mine to h → (stack : List ℤ) (held : Held) (own : List ℕ) → length stack ≡ h.numbers + below → length own ≡ h.names → length held.temporaries ≤ h.temporaries → length held.variables ≡ h.variables → Owns own held → Good (at frames to stack held)
-    go_on to h g stack held own count size few many o = run_on to stack held own o (back to h g.0 (length stack) own held (goes_nil to h g.1 held.variables many) (inl g.2) count size few many o.keeps)
+    go_on to h g stack held own count size few many o = run_on to stack held own o (back to h g.0 (length stack) held.names own held o.is (goes_nil to h g.1 held.variables many) (inl g.2) count size few many o.keeps)
 
     -- what is held is there
     own_there : (own : List ℕ) (held : Held) → Owns own held → (r : ℕ) → IsHeld r (held.temporaries ++ waiting) → IsThere held.objects r
@@ -466,7 +453,7 @@ module _ (p : Program) (R : resolved.Program) where
     -- a place that named this names another, or nil
     releases_lead : (r pc : ℕ) (stack : List ℤ) (before held : Held) (own : List ℕ) → held.names ≡ own ++ deeper → held.places ≡ waiting → held.self ≡ self → AllHeld own (held.temporaries ++ waiting) → AllDying held.objects (ending frames) → Drops p.classes r held → Back (pc + 1) (length stack) held.names held → Leads (releases p (at frames pc stack before) r held)
     releases_lead r pc stack before held own is places same keeps dying drops home = lets_go_leads r held _ _ drops
-        (λ sane. run_on (pc + 1) stack (lowered r held) own (record { is = is; places = places; itself = same; keeps = keeps; dying = dying; sane = sane }) (subst (λ l. Resumes mine (pc + 1) self frames (length stack) below l deeper held.temporaries held.variables waiting) is home))
+        (λ sane. run_on (pc + 1) stack (lowered r held) own (record { is = is; places = places; itself = same; keeps = keeps; dying = dying; sane = sane }) home)
         (λ k ob e found live. begins_leads (has_level (at frames pc stack before)) k (pc + 1) pc ob stack before held same places found live dying (subst (λ q. Drops p.classes q held) e drops) home)
 
     -- where the running function goes on after a call that takes so many numbers and the references before these
@@ -483,13 +470,13 @@ module _ (p : Program) (R : resolved.Program) where
         let splits : Splits w (stacked held) = splits_as held in
         let home1 = subst (λ l. Comes_back wanted mine (pc + 1) held.self frames n below rest deeper held.temporaries held.variables l) (sym there) (subst (λ x. Comes_back wanted mine (pc + 1) x frames n below rest deeper held.temporaries held.variables waiting) (sym same) home) in
         let held_there = subst (λ l. AllHeld given ((held.temporaries ++ held.variables) ++ l)) (sym there) (all_within held.temporaries held.variables waiting given keeps) in (
-          inl (record {
-            mine = wanted;
-            below = n;
-            deeper = rest;
-            resumes = record { high = height passed (length given) 0 0; stands = g.0; count = omega (arith, le); own = given; is = is; size = refl; few = omega arith; many = refl; held = held_there; nil = λ k c. shut_end wanted [] k (omega arith); ready = inl g.2; alive = living; running = tt };
-            waits = (mine, below, deeper, splits, home1, subst (Waits mine frames below deeper) (sym there) waits);
-          }),
+          inl (
+            wanted,
+            n,
+            rest,
+            record { high = height passed (length given) 0 0; stands = g.0; count = omega (arith, le); own = given; is = is; size = refl; few = omega arith; many = refl; held = held_there; nil = λ k c. shut_end wanted [] k (omega arith); ready = inl g.2; alive = living; running = tt },
+            (mine, below, deeper, splits, home1, subst (Waits mine frames below deeper) (sym there) waits),
+          ),
           dying,
           sane,
         )
@@ -508,7 +495,7 @@ module _ (p : Program) (R : resolved.Program) where
         lets_go_leads r held1 _ _ (sane_drop held r others is o.sane)
         (λ sane. drops_lead others pc h stack before (lowered r held1) refl stands free g nil count size (omega (arith, few)) many (record { is = o.is; places = o.places; itself = o.itself; keeps = tt; dying = o.dying; sane = sane }))
         (λ k ob e found live. begins_leads (has_level (at frames pc stack before)) k pc pc ob stack before held1 o.itself o.places found live o.dying (subst (λ q. Drops p.classes q held1) e (sane_drop held r others is o.sane))
-        (subst (λ l. Resumes mine pc self frames (length stack) below l deeper others held.variables waiting) (sym o.is) (back pc h stands (length stack) [] held1 nil (inl free) count size (omega (arith, few)) many tt)))
+        (back pc h stands (length stack) held.names [] held1 o.is nil (inl free) count size (omega (arith, few)) many tt))
 
     -- ---- one order
 
@@ -644,7 +631,7 @@ module _ (p : Program) (R : resolved.Program) where
           let longer = length-append own deeper in
           subst (λ fs. Good (at fs t.at t.stack t.held)) (sym f.frames) (subst (λ n. Good (at frames n t.stack t.held)) (sym f.at)
           (run_on (pc + 1) t.stack t.held kept.own1 kept.owns
-          (back (pc + 1) (next_height R (Plain x) h) g.0 (length t.stack) kept.own1 t.held
+          (back (pc + 1) (next_height R (Plain x) h) g.0 (length t.stack) t.held.names kept.own1 t.held kept.owns.is
           (λ k c. ⊎_elim (λ before. subst (Shut mine k) (sym kept.variables) (shut_before x is k before (nil k before))) (λ le. shut_end mine t.held.variables k (omega (arith, f.variables, many, le))) (g.1 k c))
           (ready_after x kept.own1 t.held.temporaries kept.made free) (omega (arith, count, none, f.numbers)) (omega (arith, size, none, f.names, names_now, names_then, long, longer)) (omega (arith, few, f.temporaries)) (omega (arith, many, f.variables)) kept.owns.keeps))))
           (operates p.classes x s) (operation_keeps x needs) (operation_follows p.classes s x)
@@ -664,7 +651,7 @@ module _ (p : Program) (R : resolved.Program) where
 
       -- where a call comes back, with these references
       home : (wanted : Gives) (x : Height) (n : ℕ) (rest : List ℕ) → After_call x → Ready_after wanted rest → AllHeld rest (held.temporaries ++ waiting) → n + as_number wanted ≡ x.numbers + below → length rest + as_object wanted ≡ x.names → x.temporaries ≡ h.temporaries + as_object wanted → x.variables ≡ h.variables → Home wanted pc n (rest ++ deeper) held
-      home gives.Number x n rest g ready keeps count1 size1 b c = back (pc + 1) x g.0 (n + 1) rest held (goes_nil (pc + 1) x g.1 held.variables (omega (arith, many, c))) ready count1 (omega (arith, size1)) (omega (arith, few, b)) (omega (arith, many, c)) keeps
+      home gives.Number x n rest g ready keeps count1 size1 b c = back (pc + 1) x g.0 (n + 1) (rest ++ deeper) rest held refl (goes_nil (pc + 1) x g.1 held.variables (omega (arith, many, c))) ready count1 (omega (arith, size1)) (omega (arith, few, b)) (omega (arith, many, c)) keeps
       home gives.Object x n rest g ready keeps count1 size1 b c = λ r. record {
         high = x;
         stands = g.0;
@@ -802,7 +789,7 @@ module _ (p : Program) (R : resolved.Program) where
           let dying1 = changed_dying held.objects j (with_strong_fields ob strong) (ending frames) (stored_far held.objects j ob strong found e) o.dying in
           subst (λ k. Leads (releases p s old (raised r (with_strong_field held1 k ob index r)))) (sym same)
           (releases_lead old pc stack held held2 own1 refl o.places o.itself kept dying1 (sane_store_field held1 j ob index old r found is_there_now named there o.sane)
-          (back (pc + 1) x g.0 (length stack) own1 held1 (goes_nil (pc + 1) x g.1 held.variables (omega (arith, many, d))) (inl g.2) a b (omega (arith, few, c)) (omega (arith, many, d)) kept)))
+          (back (pc + 1) x g.0 (length stack) (own1 ++ deeper) own1 held1 refl (goes_nil (pc + 1) x g.1 held.variables (omega (arith, many, d))) (inl g.2) a b (omega (arith, few, c)) (omega (arith, many, d)) kept)))
 
       order_leads : (x : Order) → slice_get (all R) pc ≡ Some x → Stands R (all R) (table R) mine pc h → (role x ≡ Ends → ⊥) → (nil : (k : ℕ) → Clear k pc → Shut mine k held.variables) → Ready pc own held.temporaries waiting → Steps R (all R) (table R) mine h pc x → Leads (does p x s)
       order_leads (Plain x) is stands no_end nil ready st = operation_leads x is nil st.0 st.1 st.2
@@ -833,7 +820,7 @@ module _ (p : Program) (R : resolved.Program) where
           let long = length-set held.variables i r in
           let every : length held1.variables ≡ (next_height R (StoreStrong i) h).variables = omega (arith, many, long) in
           releases_lead old pc stack held held1 own o.is o.places o.itself o.keeps o.dying (sane_store held i old r found (is_held r now) o.sane)
-          (subst (λ l. Resumes mine (pc + 1) self frames (length stack) below l deeper held.temporaries held1.variables waiting) (sym o.is) (back (pc + 1) (next_height R (StoreStrong i) h) st.1.0 (length stack) own held1 (goes_nil (pc + 1) (next_height R (StoreStrong i) h) st.1.1 held1.variables every) (inl st.1.2) (omega (arith, count)) (omega (arith, size, st.0.0)) (omega (arith, few)) every o.keeps)))))
+          (back (pc + 1) (next_height R (StoreStrong i) h) st.1.0 (length stack) held.names own held1 o.is (goes_nil (pc + 1) (next_height R (StoreStrong i) h) st.1.1 held1.variables every) (inl st.1.2) (omega (arith, count)) (omega (arith, size, st.0.0)) (omega (arith, few)) every o.keeps))))
       order_leads (StoreGlobal i) is stands no_end nil ready st =
           let x = next_height R (StoreGlobal i) h in
           last_leads_on Good _ st.0 (λ r rest _ now _. named_leads Good r held _ (is_held r now) (place_leads (slice_get held.strong_globals i) _ _
@@ -841,7 +828,7 @@ module _ (p : Program) (R : resolved.Program) where
           (λ old found.
           let held1 = raised r (with_strong_globals held (slice_set held.strong_globals i r)) in
           releases_lead old pc stack held held1 own o.is o.places o.itself o.keeps o.dying (sane_store_global held i old r found (is_held r now) o.sane)
-          (subst (λ l. Resumes mine (pc + 1) self frames (length stack) below l deeper held.temporaries held.variables waiting) (sym o.is) (back (pc + 1) x st.1.0 (length stack) own held (goes_nil (pc + 1) x st.1.1 held.variables (omega (arith, many))) (inl st.1.2) (omega (arith, count)) (omega (arith, size, st.0)) (omega (arith, few)) (omega (arith, many)) o.keeps)))))
+          (back (pc + 1) x st.1.0 (length stack) held.names own held o.is (goes_nil (pc + 1) x st.1.1 held.variables (omega (arith, many))) (inl st.1.2) (omega (arith, count)) (omega (arith, size, st.0)) (omega (arith, few)) (omega (arith, many)) o.keeps))))
       order_leads (StoreField class index) is stands no_end nil ready st =
           let x = next_height R (StoreField class index) h in
           last_leads_on Good _ (omega (arith, st.0)) (λ r rest e now kept. reference_leads Good rest deeper (held.temporaries ++ waiting) (rest ++ deeper) _ refl (omega (arith, st.0, size, e)) kept (λ q others f also below1.
@@ -851,7 +838,7 @@ module _ (p : Program) (R : resolved.Program) where
           let held1 = raised 0 (with_variables held (slice_set held.variables i 0)) in
           let long = length-set held.variables i 0 in
           releases_lead r pc stack held held1 own o.is o.places o.itself o.keeps o.dying (sane_store held i r 0 found tt o.sane)
-          (subst (λ l. Resumes mine (pc + 1) self frames (length stack) below l deeper held.temporaries held1.variables waiting) (sym o.is) (back (pc + 1) (next_height R (Empty i) h) st.1 (length stack) own held1 (λ k c. ⊎_elim (λ same. nil_from k (subst (λ j. Clear j (pc + 1)) same c) same) (λ le. shut_end mine held1.variables k (omega (arith, many, long, le))) (st.2 k c)) (inl st.3) (omega (arith, count)) (omega (arith, size)) (omega (arith, few)) (omega (arith, many, long)) o.keeps)))
+          (back (pc + 1) (next_height R (Empty i) h) st.1 (length stack) held.names own held1 o.is (λ k c. ⊎_elim (λ same. nil_from k (subst (λ j. Clear j (pc + 1)) same c) same) (λ le. shut_end mine held1.variables k (omega (arith, many, long, le))) (st.2 k c)) (inl st.3) (omega (arith, count)) (omega (arith, size)) (omega (arith, few)) (omega (arith, many, long)) o.keeps))
         where
           nil_from : (k : ℕ) → Clear i (pc + 1) → k ≡ i → Shut mine k (slice_set held.variables i 0)
           nil_from k c same = subst (λ j. Shut mine j (slice_set held.variables i 0)) (sym same) (shut_set mine i held.variables (nil (suc i) (ap role_of is, c)))
@@ -875,7 +862,7 @@ module _ (p : Program) (R : resolved.Program) where
               let places_size = ap length m.places_are in
               subst (λ l. Leads (instructions.settles (bare p) s l)) (sym m.places_are)
               (releases_lead m.made pc stack held held1 own1 is1 o.places o.itself keeps1 o.dying (sane_settle held m.given m.made m.others m.places_are o.sane)
-              (subst (λ l. Resumes mine (pc + 1) self frames (length stack) below l deeper held1.temporaries held.variables waiting) (sym is1) (back (pc + 1) x g.0 (length stack) own1 held1 (goes_nil (pc + 1) x g.1 held.variables (omega (arith, many))) (inl g.2) (omega (arith, count)) (omega (arith, size, names_size)) (omega (arith, few, places_size)) (omega (arith, many)) keeps1)))
+              (back (pc + 1) x g.0 (length stack) held.names own1 held1 is1 (goes_nil (pc + 1) x g.1 held.variables (omega (arith, many))) (inl g.2) (omega (arith, count)) (omega (arith, size, names_size)) (omega (arith, few, places_size)) (omega (arith, many)) keeps1))
       order_leads Give is stands no_end nil ready st =
           let none = none_of held.temporaries (omega (arith, few, st.2)) in
           let clears : Clear 0 pc = (0, ap role_of is) in
@@ -900,9 +887,7 @@ module _ (p : Program) (R : resolved.Program) where
 
     -- what waits for the end of this object
     abbrev Later : (back : ℕ) → Waiter → ℕ → List Frame → Type 0
-    Later back w o others = IsApart o (ending others) × (s : Splits w held.places)
-        × (((mine : Gives) × (below : ℕ) × (deeper : List ℕ) × Resumes mine back w.self others (length stack) below held.names deeper s.temporaries s.variables s.waiting × Waits mine others below deeper s.waiting)
-        ⊎ (EndsAgain back w.self others s.temporaries s.variables s.waiting × Waits gives.Number others (length stack) held.names s.waiting))
+    Later back w o others = Interrupted (λ g. Waits g others) back w o others (length stack) held.names held.places
 
     -- an object is gone, whose fields name nothing
     ends_lead : (b : Bool) (back : ℕ) (w : Waiter) (o : ℕ) (others frames : List Frame) (ob : Object) → object_at held.objects o ≡ Some ob → ((k : ℕ) → holders (suc k) (fields_of ob) ≡ 0) → AllDying held.objects (ending others) → nat_eq (held.counts o) 0 ≡ b → Later back w o others
@@ -920,11 +905,7 @@ module _ (p : Program) (R : resolved.Program) where
         let sane1 = again_sane w h split none no_names (left_sane h1 none no_variables (sane_gone held k ob found none_named e sane)) in
         left_leads held.temporaries held _ none no_variables
         (subst (λ l. Good (at others back stack (resumed w (with_things (with_variables held []) l)))) (sym gone_is)
-        (subst (λ q. Good (at others back stack q)) (sym (resumes_again w h split))
-        (⊎_elim
-        (λ f. (inl (record { mine = f.0; below = f.1; deeper = f.2; resumes = f.3; waits = f.4 }), still, sane1))
-        (λ f. (inr (record { at_end = f.0.at_end; is_ending = f.0.is_ending; none = f.0.none; empty = f.0.empty; alive = f.0.alive; waits = f.1 }), still, sane1))
-        later.2)))
+        (subst (λ q. Good (at others back stack q)) (sym (resumes_again w h split)) (later.2, still, sane1)))
 
     -- the deallocs of an object are done: its fields are destroyed, and then it is gone
     clears_lead : (back : ℕ) (w : Waiter) (o : ℕ) (others frames : List Frame) (order : List ℕ) (ob : Object) → object_at held.objects o ≡ Some ob → ob.phase ≡ Dying → NilBut order ob.strong → AllDying held.objects (ending others) → Alive (Ending back w o None 0 ∷ others) held.places held.self → Later back w o others
@@ -938,7 +919,7 @@ module _ (p : Program) (R : resolved.Program) where
         let turned_is : turned_in Emptying held.objects (suc k) ≡ objects = rw found refl in
         let still : AllDying objects (ending others) = apart_dying held.objects k x (ending others) later.0 dying in
         subst (λ l. Good (at (Clearing back w (suc k) (index ∷ order) ∷ others) p.end_step stack (with_things held l))) (sym turned_is) (
-          inr (record { at_end = refl; is_ending = tt; none = none; empty = empty; alive = alive; waits = later }),
+          inr (record { at_end = refl; is_ending = tt; none = none; empty = empty; alive = alive }, later),
           ((x, set_here held.objects k x ob found, (refl, but)), still),
           sane_empty held k ob found (ap is_there phase) sane,
         )
@@ -964,14 +945,14 @@ module _ (p : Program) (R : resolved.Program) where
         let go : Object → Next State = λ x. on_place (slice_get x.strong index) (stays held) (λ old. lets_go old (raised 0 (with_strong_field held (suc k) x index 0)) stays ends) in
         subst Leads (sym (object_goes (object_at held.objects (suc k)) ob go dies.1 there_now))
         (place_leads (slice_get ob.strong index) _ _
-        (λ absent. (inr (record { at_end = refl; is_ending = tt; none = none; empty = empty; alive = alive; waits = later }), ((ob, dies.1, (dies.2.0, no_field index fields ob.strong absent dies.2.1)), dying), sane))
+        (λ absent. (inr (record { at_end = refl; is_ending = tt; none = none; empty = empty; alive = alive }, later), ((ob, dies.1, (dies.2.0, no_field index fields ob.strong absent dies.2.1)), dying), sane))
         (λ old named.
         let x = with_strong_fields ob (slice_set ob.strong index 0) in
         let objects = slice_set held.objects k x in
         let held1 = raised 0 (with_strong_field held (suc k) ob index 0) in
         let still : AllDying objects (ending frames) = ((x, set_here held.objects k x ob dies.1, (dies.2.0, one_nil index fields ob.strong dies.2.1)), apart_dying held.objects k x (ending others) later.0 dying) in
         lets_go_leads old held1 stays ends (sane_store_field held k ob index old 0 dies.1 there_now named tt sane)
-        (λ sane1. (inr (record { at_end = refl; is_ending = tt; none = none; empty = empty; alive = alive; waits = later }), still, sane1))
+        (λ sane1. (inr (record { at_end = refl; is_ending = tt; none = none; empty = empty; alive = alive }, later), still, sane1))
         (λ j other e found live.
         begins_lead frames (has_level s) j p.end_step p.end_step other stack held held1 found live still (subst (λ q. Drops p.classes q held1) e (sane_store_field held k ob index old 0 dies.1 there_now named tt sane))
         (λ apart. (apart, splits_as held1, inr (record { at_end = refl; is_ending = tt; none = none; empty = empty; alive = alive }, later))))))
@@ -981,18 +962,18 @@ module _ (p : Program) (R : resolved.Program) where
       here = at frames p.end_step stack held
 
       dealloc_leads : (d : Option ℕ) (next : Option ℕ) (left : ℕ) → ((to : ℕ) → d ≡ Some to → Goes_to gives.Number to (height 0 0 0 0)) → Leads (runs_dealloc d here (Ending back w o next left ∷ others))
-      dealloc_leads None next left goes = (inr (record { at_end = refl; is_ending = tt; none = none; empty = empty; alive = alive next left; waits = later }), dying next left, sane)
+      dealloc_leads None next left goes = (inr (record { at_end = refl; is_ending = tt; none = none; empty = empty; alive = alive next left }, later), dying next left, sane)
       dealloc_leads (Some to) next left goes =
           let g = goes to refl in
           let few = ap length none in
           let many = ap length empty in (
-            inl (record {
-              mine = gives.Number;
-              below = length stack;
-              deeper = held.names;
-              resumes = record { high = height 0 0 0 0; stands = g.0; count = omega arith; own = []; is = refl; size = refl; few = omega (arith, few); many = many; held = tt; nil = λ k c. shut_end gives.Number held.variables k (omega (arith, many)); ready = inl g.2; alive = alive next left; running = tt };
-              waits = later;
-            }),
+            inl (
+              gives.Number,
+              length stack,
+              held.names,
+              record { high = height 0 0 0 0; stands = g.0; count = omega arith; own = []; is = refl; size = refl; few = omega (arith, few); many = many; held = tt; nil = λ k c. shut_end gives.Number held.variables k (omega (arith, many)); ready = inl g.2; alive = alive next left; running = tt },
+              later,
+            ),
             dying next left,
             sane,
           )
@@ -1017,31 +998,37 @@ module _ (p : Program) (R : resolved.Program) where
     step_does : (s : State) (x : Order) → slice_get (lowered_orders R) s.at ≡ Some x → step p s ≡ does p x s
     step_does s x e = executes_at p p.actions s.at x s (ap (λ l. slice_get l s.at) is ∙ e)
 
-    function_leads : (s : State) → InFunction s → AllDying s.held.objects (ending s.frames) → Sane p.classes s.held → Leads (step p s)
-    function_leads s f dying sane =
-        let r = f.resumes in
+    function_leads : (s : State) (mine : Gives) (below : ℕ) (deeper : List ℕ) → Resumes mine s.at s.held.self s.frames (length s.stack) below s.held.names deeper s.held.temporaries s.held.variables s.held.places
+        → Waits mine s.frames below deeper s.held.places → AllDying s.held.objects (ending s.frames) → Sane p.classes s.held → Leads (step p s)
+    function_leads s mine below deeper r waits dying sane =
         let x = r.stands.order in
         let st = steps_at R s.at x r.stands.is in
-        let mark : Height × Gives = (r.high, f.mine) in
+        let mark : Height × Gives = (r.high, mine) in
         let same : st.0 ≡ mark = some_same st.0 mark (sym st.1 ∙ r.stands.height) in
         let steps = subst (λ (m : Height × Gives). Steps R (all R) (table R) m.1 m.0 s.at x) same st.2 in
         subst Leads (sym (step_does s x r.stands.is))
-        (order_leads f.mine s.frames f.below f.deeper s.held.places s.held.self r.alive f.waits r.running classes (λ wanted g called. entry_goes p R is entries wanted g called) s.at r.high s.stack s.held r.own r.count r.size r.few r.many (record { is = r.is; places = refl; itself = refl; keeps = r.held; dying = dying; sane = sane }) x r.stands.is r.stands r.stands.no_end r.nil r.ready steps)
+        (order_leads mine s.frames below deeper s.held.places s.held.self r.alive waits r.running classes (λ wanted g called. entry_goes p R is entries wanted g called) s.at r.high s.stack s.held r.own r.count r.size r.few r.many
+        (record { is = r.is; places = refl; itself = refl; keeps = r.held; dying = dying; sane = sane }) x r.stands.is r.stands r.stands.no_end r.nil r.ready steps)
 
-    end_leads : (s : State) → InEnd s → AllDying s.held.objects (ending s.frames) → Sane p.classes s.held → Leads (step p s)
-    end_leads s f dying sane =
+    end_leads : (s : State) → EndsAgain s.at s.held.self s.frames s.held.temporaries s.held.variables s.held.places → Waits gives.Number s.frames (length s.stack) s.held.names s.held.places
+        → AllDying s.held.objects (ending s.frames) → Sane p.classes s.held → Leads (step p s)
+    end_leads s f waits dying sane =
         let e : slice_get (lowered_orders R) s.at ≡ Some EndStep = ap (slice_get (lowered_orders R)) (f.at_end ∙ end) ∙ end_is R in
-        subst Leads (sym (step_does s EndStep e)) (subst (λ pc. Leads (end_goes_on p (at s.frames pc s.stack s.held) s.frames)) (sym f.at_end) (goes_on_leads classes s.stack s.held f.none f.empty sane s.frames f.is_ending f.alive f.waits dying))
+        subst Leads (sym (step_does s EndStep e)) (subst (λ pc. Leads (end_goes_on p (at s.frames pc s.stack s.held) s.frames)) (sym f.at_end) (goes_on_leads classes s.stack s.held f.none f.empty sane s.frames f.is_ending f.alive waits dying))
 
     pub step_leads : (s : State) → Good s → Leads (step p s)
-    step_leads s good = ⊎_elim (λ f. function_leads s f good.1 good.2) (λ f. end_leads s f good.1 good.2) good.0
+    step_leads s good = ⊎_elim (λ f. function_leads s f.0 f.1 f.2 f.3 f.4 good.1 good.2) (λ f. end_leads s f.0 f.1 good.1 good.2) good.0
 
     safe : (n : ℕ) (s : State) → Good s → Safe (step p) (λ t. Counted t.held) n s
     safe zero s good = sane_counted s.held good.2
     safe (suc n) s good = along_map Good (Safe (step p) (λ t. Counted t.held) n) (safe n) (step p s) (step_leads s good)
 
     pub start_good : Good (start p)
-    start_good = (inl (record { mine = gives.Number; below = 0; deeper = []; resumes = record { high = height 0 0 0 0; stands = (start_goes R).0; count = refl; own = []; is = refl; size = refl; few = omega arith; many = refl; held = tt; nil = λ k c. shut_end gives.Number [] k (omega arith); ready = inl (start_goes R).2; alive = nil_alive [] []; running = tt }; waits = tt }), tt, sane_start p.strong_globals)
+    start_good = (
+      inl (gives.Number, 0, [], record { high = height 0 0 0 0; stands = (start_goes R).0; count = refl; own = []; is = refl; size = refl; few = omega arith; many = refl; held = tt; nil = λ k c. shut_end gives.Number [] k (omega arith); ready = inl (start_goes R).2; alive = nil_alive [] []; running = tt }, tt),
+      tt,
+      sane_start p.strong_globals,
+    )
 
     -- the actions of a lowered program are never stuck, and their counts are right
     pub lowered_never_stuck : Sound (step p) (λ s. Counted s.held) (start p)
