@@ -1,9 +1,9 @@
 -- No action lacks what it takes, whatever is read, and the counts are right: what runs and what waits have as many
 -- numbers, references and places as the heights of a program say.
-use Rattle.std.proofs.Common.{◌≡◌, ◌⊎◌, inl, inr, ℕ, zero, suc, ◌+◌, ◌-◌, ◌<◌, ◌≤◌, ℤ, pos, Bool, true, false, ◌&&◌, nat_eq, if◌then◌else◌, List, [], ◌∷◌, ◌++◌, length, drop, Option, Some, None, ⊎_elim, refl, sym, ap, ◌∙◌, subst, arith, append_assoc, length-append, slice_get, slice_set}
+use Rattle.std.proofs.Common.{◌≡◌, ◌⊎◌, inl, inr, ℕ, zero, suc, ◌+◌, ◌-◌, ◌<◌, ◌≤◌, ℤ, pos, Bool, true, false, ◌&&◌, nat_eq, if◌then◌else◌, List, [], ◌∷◌, ◌++◌, length, take, drop, Option, Some, None, ⊎_elim, refl, sym, ap, ◌∙◌, subst, arith, append_assoc, length-append, length-drop, slice_get, slice_set}
 use Rattle.std.proofs.Math.Seq.{take-append_seam, drop-append_seam}
 use Rattle.std.proofs.lemmas.Bool.{and_parts, eqb-true, cases_eq}
-use Rattle.std.proofs.lemmas.List.{length-set}
+use Rattle.std.proofs.lemmas.List.{length-set, nil_from_length, take-append-drop, length-take-le}
 use Rattle.std.proofs.lemmas.Option.{slice_get_within}
 use Rattle.arc_ast.specs.declared.tree.Sign.{Sign}
 use Rattle.arc_ast.specs.declared.tree.Sign.TheVariants as signs
@@ -110,28 +110,9 @@ all_within : (temporaries strong waiting own : List ℕ) → AllHeld own (tempor
 all_within temporaries strong waiting [] h = tt
 all_within temporaries strong waiting (r ∷ own) h = (held_within temporaries strong waiting r h.0, all_within temporaries strong waiting own h.1)
 
-held_first : (first rest temporaries : List ℕ) → AllHeld (first ++ rest) temporaries → AllHeld first temporaries
-held_first [] rest temporaries h = tt
-held_first (r ∷ first) rest temporaries h = (h.0, held_first first rest temporaries h.1)
-
-held_rest : (first rest temporaries : List ℕ) → AllHeld (first ++ rest) temporaries → AllHeld rest temporaries
-held_rest [] rest temporaries h = h
-held_rest (r ∷ first) rest temporaries h = held_rest first rest temporaries h.1
-
--- so many references, and those below
-record Parted (n : ℕ) (own : List ℕ) : Type 0 where
-  first : List ℕ
-  rest : List ℕ
-  is : own ≡ first ++ rest
-  many : length first ≡ n
-  left : length own ≡ n + length rest
-
-parted : (n : ℕ) (own : List ℕ) → n ≤ length own → Parted n own
-parted zero own le = record { first = []; rest = own; is = refl; many = refl; left = omega arith }
-parted (suc n) [] le = absurd (omega (arith, le))
-parted (suc n) (r ∷ own) le =
-    let deep = parted n own (omega (arith, le)) in
-    record { first = r ∷ deep.first; rest = deep.rest; is = ap (λ l. r ∷ l) deep.is; many = ap suc deep.many; left = omega (arith, deep.left) }
+held_split : (first rest temporaries : List ℕ) → AllHeld (first ++ rest) temporaries → AllHeld first temporaries × AllHeld rest temporaries
+held_split [] rest temporaries h = (tt, h)
+held_split (r ∷ first) rest temporaries h = let deep = held_split first rest temporaries h.1 in ((h.0, deep.0), deep.1)
 
 -- an object was made, which the last reference names and the last temporary holds; the others hold the other references
 record Made (own temporaries waiting : List ℕ) : Type 0 where
@@ -155,10 +136,6 @@ record Initialized (own temporaries waiting : List ℕ) : Type 0 where
 first_of : (own : List ℕ) → 1 ≤ length own → (r : ℕ) × (rest : List ℕ) × (own ≡ r ∷ rest)
 first_of [] some = absurd (omega (arith, some))
 first_of (r ∷ rest) some = (r, rest, refl)
-
-none_of : (own : List ℕ) → length own ≤ 0 → own ≡ []
-none_of [] none = refl
-none_of (r ∷ own) none = absurd (omega (arith, none))
 
 along_map : {S : Type 0} (P Q : S → Type 0) → ((s : S) → P s → Q s) → (next : Next S) → Along P next → Along Q next
 along_map P Q f (Goes s events) p = f s p
@@ -586,7 +563,7 @@ module _ (p : Program) (R : resolved.Program) where
       operation_keeps PrintNum needs = top_leads _ stack _ (omega (arith, count, needs)) (λ v rest e. top_leads _ rest _ (omega (arith, count, needs, e)) (λ c others _. stays _ _ refl tt))
       operation_keeps PrintByte needs = top_leads _ stack _ (omega (arith, count, needs)) (λ v rest e. top_leads _ rest _ (omega (arith, count, needs, e)) (λ c others _. stays _ _ refl tt))
       operation_keeps GetChar needs = λ answer. stays _ _ refl tt
-      operation_keeps Declare needs = subst (λ l. Along (Kept Declare) (declares l held (keeps s stack))) (sym (none_of held.temporaries (omega (arith, few, needs)))) (record {
+      operation_keeps Declare needs = subst (λ l. Along (Kept Declare) (declares l held (keeps s stack))) (sym (nil_from_length held.temporaries (omega (arith, few, needs)))) (record {
         own1 = own;
         owns = record { is = o.is; places = o.places; itself = o.itself; keeps = o.keeps; dying = o.dying; sane = sane_declare held o.sane };
         variables = refl;
@@ -691,7 +668,7 @@ module _ (p : Program) (R : resolved.Program) where
           let parts = and_parts (nat_eq takes 0) few1 (and_parts (nat_eq selector init_selector) (nat_eq takes 0 && few1) e).1 in
           let no_numbers = eqb-true takes 0 parts.0 in
           let no_objects = eqb-true objects 0 (and_parts (nat_eq objects 0) (same_gives wanted gives.Object) parts.1).0 in
-          let none : given ≡ [] = none_of given (omega (arith, some, no_objects)) in
+          let none : given ≡ [] = nil_from_length given (omega (arith, some, no_objects)) in
           let same : given ++ (rest ++ deeper) ≡ rest ++ deeper = ap (λ l. l ++ (rest ++ deeper)) none in
           let all_left : length stack - takes ≡ length stack = omega (arith, no_numbers) in
           subst (λ l. Leads (instructions.gives_at_once (bare p) (at frames pc stack (with_names held (given ++ (rest ++ deeper)))) wanted object stack l)) (sym same)
@@ -706,56 +683,69 @@ module _ (p : Program) (R : resolved.Program) where
           let held1 = with_names held (given ++ (rest ++ deeper)) in
           enters_lead (has_level (at frames pc stack held1)) wanted to object takes pc given (rest ++ deeper) stack held1 (begins to refl) le refl kept_first (held_alive object kept) o.itself o.places o.dying o.sane home1
 
+      -- the last so many of its references, which are passed, and those below
+      record Passed (n : ℕ) : Type 0 where
+        first : List ℕ
+        rest : List ℕ
+        is : own ≡ first ++ rest
+        taken : length first ≡ n
+        left : length own ≡ n + length rest
+        names_are : held.names ≡ first ++ (rest ++ deeper)
+        held_first : AllHeld first (held.temporaries ++ waiting)
+        held_rest : AllHeld rest (held.temporaries ++ waiting)
+
+      passed : (n : ℕ) → n ≤ h.names → Passed n
+      passed n le =
+          let first = take n own in
+          let rest = drop n own in
+          let is : own ≡ first ++ rest = sym (take-append-drop n own) in
+          let kept = held_split first rest (held.temporaries ++ waiting) (subst (λ l. AllHeld l (held.temporaries ++ waiting)) is o.keeps) in
+          record {
+            first = first; rest = rest; is = is; taken = length-take-le n own (omega (arith, le, size)); left = omega (arith, le, size, length-drop n own);
+            names_are = o.is ∙ ap (λ l. l ++ deeper) is ∙ append_assoc first rest deeper; held_first = kept.0; held_rest = kept.1;
+          }
+
       -- a message to the object of the reference below its arguments
-      message_sent : (wanted : Gives) (from : Object → ℕ) (r : ℕ) (given rest : List ℕ) (selector takes objects : ℕ) (x : Height) → own ≡ given ++ r ∷ rest → length given ≡ objects → takes ≤ h.numbers → After_call x → Ready_after wanted rest → x.numbers ≡ h.numbers - takes + as_number wanted → x.names + suc objects ≡ h.names + as_object wanted → x.temporaries ≡ h.temporaries + as_object wanted → x.variables ≡ h.variables
+      message_sent : (wanted : Gives) (from : Object → ℕ) (r : ℕ) (given rest : List ℕ) (selector takes objects : ℕ) (x : Height) → length own ≡ objects + suc (length rest) → length given ≡ objects
+          → AllHeld given (held.temporaries ++ waiting) → IsHeld r (held.temporaries ++ waiting) → AllHeld rest (held.temporaries ++ waiting) → takes ≤ h.numbers → After_call x → Ready_after wanted rest
+          → x.numbers ≡ h.numbers - takes + as_number wanted → x.names + suc objects ≡ h.names + as_object wanted → x.temporaries ≡ h.temporaries + as_object wanted → x.variables ≡ h.variables
           → Leads (sends p s wanted from r selector takes objects (given ++ (rest ++ deeper)))
-      message_sent wanted from zero given rest selector takes objects x e some le g ready a b c d =
-          let shorter = ap length e in
-          let both = length-append given (zero ∷ rest) in
-          let kept = held_rest given (zero ∷ rest) (held.temporaries ++ waiting) (subst (λ l. AllHeld l (held.temporaries ++ waiting)) e o.keeps) in
+      message_sent wanted from zero given rest selector takes objects x e some kept_first kept kept_rest le g ready a b c d =
           let names_is : drop objects (given ++ (rest ++ deeper)) ≡ rest ++ deeper = ap (λ n. drop n (given ++ (rest ++ deeper))) (sym some) ∙ drop-append_seam given (rest ++ deeper) in
           taken_leads takes stack _ (omega (arith, count, le)) (λ numbers m.
           subst (λ l. Leads (instructions.gives_at_once (bare p) s wanted 0 numbers l)) (sym names_is)
-          (at_once_leads wanted 0 stack numbers held.names rest (home wanted x (length numbers) rest g ready kept.1 (omega (arith, count, le, m, a)) (omega (arith, size, shorter, both, some, b)) c d) tt kept.1))
-      message_sent wanted from (suc j) given rest selector takes objects x e some le g ready a b c d =
-          let shorter = ap length e in
-          let both = length-append given (suc j ∷ rest) in
-          let all_kept = subst (λ l. AllHeld l (held.temporaries ++ waiting)) e o.keeps in
-          let kept = held_rest given (suc j ∷ rest) (held.temporaries ++ waiting) all_kept in
-          let there = is_held (suc j) kept.0 in
+          (at_once_leads wanted 0 stack numbers held.names rest (home wanted x (length numbers) rest g ready kept_rest (omega (arith, count, le, m, a)) (omega (arith, size, e, b)) c d) tt kept_rest))
+      message_sent wanted from (suc j) given rest selector takes objects x e some kept_first kept kept_rest le g ready a b c d =
+          let there = is_held (suc j) kept in
           let found : Object → Option ℕ = λ ob. lookup p.classes (Some (from ob)) signs.Instance selector takes objects wanted in
           let st = at frames pc stack (with_names held (given ++ (rest ++ deeper))) in
           subst Leads (sym (object_goes (object_at held.objects (suc j)) there.0 (λ ob. instructions.answers_object (bare p) st wanted (suc j) selector takes objects (found ob)) there.1 there.2))
           (object_answers_lead (found there.0) wanted selector takes objects (suc j) given rest
           (λ to f. subst (λ n. Goes_to wanted to (height takes n 0 0)) (sym some) (finds (Some (from there.0)) signs.Instance selector takes objects wanted to f))
-          (omega (arith, count, le)) some (held_first given (suc j ∷ rest) (held.temporaries ++ waiting) all_kept) kept.0 kept.1
-          (home wanted x (length stack - takes) rest g ready kept.1 (omega (arith, count, le, a)) (omega (arith, size, shorter, both, some, b)) c d))
+          (omega (arith, count, le)) some kept_first kept kept_rest
+          (home wanted x (length stack - takes) rest g ready kept_rest (omega (arith, count, le, a)) (omega (arith, size, e, b)) c d))
 
       -- a message to an object, with what gets it below its arguments
       message_leads : (wanted : Gives) (from : Object → ℕ) (selector takes objects : ℕ) (x : Height) → (takes ≤ h.numbers) × (suc objects ≤ h.names) → After_call x → ((given rest : List ℕ) (r : ℕ) → own ≡ given ++ r ∷ rest → length given ≡ objects → Ready_after wanted rest) → x.numbers ≡ h.numbers - takes + as_number wanted → x.names ≡ h.names - suc objects + as_object wanted → x.temporaries ≡ h.temporaries + as_object wanted → x.variables ≡ h.variables
           → Leads (instructions.on_receiver objects held.names (λ r rest. sends p s wanted from r selector takes objects rest))
       message_leads wanted from selector takes objects x needs g ready a b c d =
-          let part = parted objects own (omega (arith, needs.1, size)) in
+          let part = passed objects (omega (arith, needs.1)) in
           let f = first_of part.rest (omega (arith, needs.1, size, part.left)) in
-          let is : own ≡ part.first ++ f.0 ∷ f.1 = part.is ∙ ap (λ l. part.first ++ l) f.2 in
-          let names_is : held.names ≡ part.first ++ f.0 ∷ (f.1 ++ deeper) = o.is ∙ ap (λ l. l ++ deeper) is ∙ append_assoc part.first (f.0 ∷ f.1) deeper in
+          let below = subst (λ l. AllHeld l (held.temporaries ++ waiting)) f.2 part.held_rest in
+          let names_is : held.names ≡ part.first ++ f.0 ∷ (f.1 ++ deeper) = part.names_are ∙ ap (λ l. part.first ++ (l ++ deeper)) f.2 in
           subst (λ l. Leads (instructions.on_receiver objects l (λ r rest. sends p s wanted from r selector takes objects rest))) (sym names_is)
-          (subst Leads (sym (receiver_goes objects part.first (f.1 ++ deeper) f.0 (λ r rest. sends p s wanted from r selector takes objects rest) part.many))
-          (message_sent wanted from f.0 part.first f.1 selector takes objects x is part.many needs.0 g (ready part.first f.1 f.0 is part.many) a (omega (arith, b, needs.1)) c d))
-
-      -- a call that takes no reference below what it passes
-      own_home : (wanted : Gives) (x : Height) (n : ℕ) (given rest : List ℕ) → own ≡ given ++ rest → Goes_to mine (pc + 1) x → n + as_number wanted ≡ x.numbers + below → length rest + as_object wanted ≡ x.names → x.temporaries ≡ h.temporaries + as_object wanted → x.variables ≡ h.variables → Home wanted pc n (rest ++ deeper) held
-      own_home wanted x n given rest is g a b c d = home wanted x n rest (g.0, g.1) (always_ready wanted rest g.2) (held_rest given rest (held.temporaries ++ waiting) (subst (λ l. AllHeld l (held.temporaries ++ waiting)) is o.keeps)) a b c d
+          (subst Leads (sym (receiver_goes objects part.first (f.1 ++ deeper) f.0 (λ r rest. sends p s wanted from r selector takes objects rest) part.taken))
+          (message_sent wanted from f.0 part.first f.1 selector takes objects x (part.left ∙ ap (λ l. objects + length l) f.2) part.taken part.held_first below.0 below.1 needs.0 g
+          (ready part.first f.1 f.0 (part.is ∙ ap (λ l. part.first ++ l) f.2) part.taken) a (omega (arith, b, needs.1)) c d))
 
       class_reported : (wanted : Gives) (from : Option ℕ) (selector takes objects : ℕ) (x : Height) → (suc takes ≤ h.numbers) × (objects ≤ h.names) → Goes_to mine (pc + 1) x → x.numbers ≡ h.numbers - suc takes + as_number wanted → x.names ≡ h.names - objects + as_object wanted → x.temporaries ≡ h.temporaries + as_object wanted → x.variables ≡ h.variables
           → Leads (answers s 0 (lookup p.classes from signs.Class selector takes objects wanted))
       class_reported wanted from selector takes objects x needs g a b c d =
-          let part = parted objects own (omega (arith, needs.1, size)) in
-          let names_is : held.names ≡ part.first ++ (part.rest ++ deeper) = o.is ∙ ap (λ l. l ++ deeper) part.is ∙ append_assoc part.first part.rest deeper in
+          let part = passed objects (omega (arith, needs.1)) in
           answers_lead (lookup p.classes from signs.Class selector takes objects wanted) wanted 0 (suc takes) pc part.first (part.rest ++ deeper) stack held
-          (λ to f. subst (λ n. Goes_to wanted to (height (suc takes) n 0 0)) (sym part.many) (finds from signs.Class selector takes objects wanted to f))
-          (omega (arith, count, needs.0)) names_is (held_first part.first part.rest (held.temporaries ++ waiting) (subst (λ l. AllHeld l (held.temporaries ++ waiting)) part.is o.keeps)) (nil_alive frames (stacked held)) o.itself o.places o.dying o.sane
-          (own_home wanted x (length stack - suc takes) part.first part.rest part.is g (omega (arith, count, needs.0, a)) (omega (arith, size, part.left, needs.1, b)) c d)
+          (λ to f. subst (λ n. Goes_to wanted to (height (suc takes) n 0 0)) (sym part.taken) (finds from signs.Class selector takes objects wanted to f))
+          (omega (arith, count, needs.0)) part.names_are part.held_first (nil_alive frames (stacked held)) o.itself o.places o.dying o.sane
+          (home wanted x (length stack - suc takes) part.rest (g.0, g.1) (always_ready wanted part.rest g.2) part.held_rest (omega (arith, count, needs.0, a)) (omega (arith, size, part.left, needs.1, b)) c d)
 
       -- after a message to a made object what `init` gives is there, and elsewhere nothing matters
       init_ready : (wanted : Gives) (selector takes objects : ℕ) → slice_get (all R) pc ≡ Some (SendTo selector takes objects wanted) → Ready pc own held.temporaries waiting
@@ -768,7 +758,7 @@ module _ (p : Program) (R : resolved.Program) where
           (λ more. ⊎_elim
           (λ made.
           let m = made.1 in
-          let none : given ≡ [] = none_of given (omega (arith, some, q.1)) in
+          let none : given ≡ [] = nil_from_length given (omega (arith, some, q.1)) in
           let names_same : r ∷ rest ≡ m.made ∷ m.rest = ap (λ l. l ++ r ∷ rest) (sym none) ∙ sym e ∙ m.names_are in
           let rest_same : m.rest ≡ rest = cc in
           λ r1. inr (inr (q.3, record { given = r1; made = m.made; rest = rest; others = m.others; names_are = refl; places_are = ap (λ l. r1 ∷ l) m.places_are; kept = subst (λ l. AllHeld l (m.others ++ waiting)) rest_same m.kept })))
@@ -802,12 +792,11 @@ module _ (p : Program) (R : resolved.Program) where
       order_leads (Call f wanted) is stands no_end nil ready st =
           let n = parameters_of R wanted f in
           let x = next_height R (Call f wanted) h in
-          let part = parted n own (omega (arith, st.0.2, size)) in
-          let names_is : held.names ≡ part.first ++ (part.rest ++ deeper) = o.is ∙ ap (λ l. l ++ deeper) part.is ∙ append_assoc part.first part.rest deeper in
+          let part = passed n st.0.2 in
           enters_lead (has_level s) wanted (entry p f) 0 (slots_of R wanted f) pc part.first (part.rest ++ deeper) stack held
-          (subst (λ m. Goes_to wanted (entry p f) (height (slots_of R wanted f) m 0 0)) (sym part.many) (calls wanted f st.0.1))
-          (omega (arith, count, st.0.0)) names_is (held_first part.first part.rest (held.temporaries ++ waiting) (subst (λ l. AllHeld l (held.temporaries ++ waiting)) part.is o.keeps)) (nil_alive frames (stacked held)) o.itself o.places o.dying o.sane
-          (own_home wanted x (length stack - slots_of R wanted f) part.first part.rest part.is st.1 (omega (arith, count, st.0.0)) (omega (arith, size, part.left)) (omega arith) (omega arith))
+          (subst (λ m. Goes_to wanted (entry p f) (height (slots_of R wanted f) m 0 0)) (sym part.taken) (calls wanted f st.0.1))
+          (omega (arith, count, st.0.0)) part.names_are part.held_first (nil_alive frames (stacked held)) o.itself o.places o.dying o.sane
+          (home wanted x (length stack - slots_of R wanted f) part.rest (st.1.0, st.1.1) (always_ready wanted part.rest st.1.2) part.held_rest (omega (arith, count, st.0.0)) (omega (arith, size, part.left)) (omega arith) (omega arith))
       order_leads (Send selector takes objects wanted) is stands no_end nil ready st = found_leads Good stack takes _ (omega (arith, count, st.0.0)) (λ class _. class_reported wanted (class_at class) selector takes objects (next_height R (Send selector takes objects wanted) h) st.0 st.1 (omega arith) (omega arith) (omega arith) (omega arith))
       order_leads (SendSuper from selector takes objects wanted) is stands no_end nil ready st = class_reported wanted (Some from) selector takes objects (next_height R (SendSuper from selector takes objects wanted) h) st.0 st.1 (omega arith) (omega arith) (omega arith) (omega arith)
       order_leads (SendTo selector takes objects wanted) is stands no_end nil ready st =
@@ -843,7 +832,7 @@ module _ (p : Program) (R : resolved.Program) where
           nil_from : (k : ℕ) → Clear i (pc + 1) → k ≡ i → Shut mine k (slice_set held.variables i 0)
           nil_from k c same = subst (λ j. Shut mine j (slice_set held.variables i 0)) (sym same) (shut_set mine i held.variables (nil (suc i) (ap role_of is, c)))
       order_leads DropAll is stands no_end nil ready st =
-          let none = none_of own (omega (arith, size, st.0)) in
+          let none = nil_from_length own (omega (arith, size, st.0)) in
           let free = calm_free R (all R) (table R) pc Stays tt (ap role_of is) in
           drops_lead held.temporaries pc h stack held held refl stands free st.1 nil count (omega (arith, st.0)) few many (subst (λ l. Owns l held) none o)
       order_leads Settle is stands no_end nil ready st = ⊎_elim
@@ -864,19 +853,19 @@ module _ (p : Program) (R : resolved.Program) where
               (releases_lead m.made pc stack held held1 own1 is1 o.places o.itself keeps1 o.dying (sane_settle held m.given m.made m.others m.places_are o.sane)
               (back (pc + 1) x g.0 (length stack) held.names own1 held1 is1 (goes_nil (pc + 1) x g.1 held.variables (omega (arith, many))) (inl g.2) (omega (arith, count)) (omega (arith, size, names_size)) (omega (arith, few, places_size)) (omega (arith, many)) keeps1))
       order_leads Give is stands no_end nil ready st =
-          let none = none_of held.temporaries (omega (arith, few, st.2)) in
+          let none = nil_from_length held.temporaries (omega (arith, few, st.2)) in
           let clears : Clear 0 pc = (0, ap role_of is) in
           let shut = subst (λ g. Shut g 0 held.variables) st.3 (nil 0 clears) in
           let last = last_there held.variables (omega (arith, many, st.4)) shut in
           top_leads Good stack _ (omega (arith, count, st.0)) (λ v rest e. last_leads last.0 held.temporaries held _ none last.1
-          (hands_lead frames below deeper pc last.0 stack rest held (subst (λ g. Waits g frames below deeper held.places) st.3 (subst (Waits mine frames below deeper) (sym o.places) waits)) (omega (arith, count, st.0, e)) (o.is ∙ ap (λ l. l ++ deeper) (none_of own (omega (arith, size, st.1)))) none last.1 o.dying o.sane))
+          (hands_lead frames below deeper pc last.0 stack rest held (subst (λ g. Waits g frames below deeper held.places) st.3 (subst (Waits mine frames below deeper) (sym o.places) waits)) (omega (arith, count, st.0, e)) (o.is ∙ ap (λ l. l ++ deeper) (nil_from_length own (omega (arith, size, st.1)))) none last.1 o.dying o.sane))
       order_leads Return is stands no_end nil ready st =
-          let none = none_of held.temporaries (omega (arith, few, st.2)) in
+          let none = nil_from_length held.temporaries (omega (arith, few, st.2)) in
           let clears : Clear 0 pc = (0, ap role_of is) in
           let shut = subst (λ g. Shut g 0 held.variables) st.3 (nil 0 clears) in
           let empty : NilBut [] held.variables = λ i k named. shut i k (omega arith) (omega (arith, slice_get_within held.variables i (suc k) named)) named in
           top_leads Good stack _ (omega (arith, count, st.0)) (λ v rest e. left_leads held.temporaries held _ none empty
-          (leaves_lead frames below deeper pc v stack rest held (subst (λ g. Waits g frames below deeper held.places) st.3 (subst (Waits mine frames below deeper) (sym o.places) waits)) (subst (λ l. Alive frames l held.self) (sym o.places) (subst (Alive frames waiting) (sym o.itself) alive)) e (omega (arith, count, st.0, e)) (o.is ∙ ap (λ l. l ++ deeper) (none_of own (omega (arith, size, st.1)))) none empty o.dying o.sane running))
+          (leaves_lead frames below deeper pc v stack rest held (subst (λ g. Waits g frames below deeper held.places) st.3 (subst (Waits mine frames below deeper) (sym o.places) waits)) (subst (λ l. Alive frames l held.self) (sym o.places) (subst (Alive frames waiting) (sym o.itself) alive)) e (omega (arith, count, st.0, e)) (o.is ∙ ap (λ l. l ++ deeper) (nil_from_length own (omega (arith, size, st.1)))) none empty o.dying o.sane running))
       order_leads EndStep is stands no_end nil ready st = absurd (no_end refl)
 
   -- ---- the end of an object
