@@ -701,8 +701,14 @@ module _ (p : Program) (R : resolved.Program) where
           let is : own ≡ first ++ rest = sym (take-append-drop n own) in
           let kept = held_split first rest (held.temporaries ++ waiting) (subst (λ l. AllHeld l (held.temporaries ++ waiting)) is o.keeps) in
           record {
-            first = first; rest = rest; is = is; taken = length-take-le n own (omega (arith, le, size)); left = omega (arith, le, size, length-drop n own);
-            names_are = o.is ∙ ap (λ l. l ++ deeper) is ∙ append_assoc first rest deeper; held_first = kept.0; held_rest = kept.1;
+            first = first;
+            rest = rest;
+            is = is;
+            taken = length-take-le n own (omega (arith, le, size));
+            left = omega (arith, le, size, length-drop n own);
+            names_are = o.is ∙ ap (λ l. l ++ deeper) is ∙ append_assoc first rest deeper;
+            held_first = kept.0;
+            held_rest = kept.1;
           }
 
       -- a message to the object of the reference below its arguments
