@@ -1,7 +1,8 @@
 -- A run calls functions and methods, and ends objects, to the most levels.
 use Rattle.std.proofs.Common.{◌≡◌, ℕ, zero, suc, ◌+◌, ℤ, pos, Bool, true, false, not, nat_eq, nat_lt, if◌then◌else◌, List, [], ◌∷◌, ◌++◌, length, Option, Some, None, slice_get, slice_set, slice_index_or, refl, sym, ap, ◌∙◌, subst, arith, inr}
 use Rattle.std.proofs.lemmas.Bool.{lt-ltb, le-ltb}
-use Rattle.std.proofs.lemmas.List.{append-nil, length-map, set-set}
+use Rattle.std.proofs.Math.Seq.{take-append_seam, drop-append_seam}
+use Rattle.std.proofs.lemmas.List.{append-nil, append_assoc, length-map, set-set}
 use Rattle.arc_spec.specs.declared.event.Fault.TheVariants.{Resurrected}
 use Rattle.arc_spec.specs.declared.class.Gives.{Gives}
 use Rattle.arc_spec.specs.declared.class.Gives.TheVariants as gives
@@ -66,34 +67,11 @@ ended_now rs o before now = ended_by rs o now (stacked before)
 
 -- ---- an object that is changed
 
--- an object that is put in its own place
-put_same : (objects : List Object) (o : ℕ) (ob : Object) → object_at objects o ≡ Some ob → with_object objects o ob ≡ objects
-put_same objects zero ob found = refl
-put_same objects (suc k) ob found = same_put objects k ob found
-
-put_twice : (objects : List Object) (o : ℕ) (x y : Object) → with_object (with_object objects o x) o y ≡ with_object objects o y
-put_twice objects zero x y = refl
-put_twice objects (suc k) x y = set-set objects k x y
-
-put_found : (objects : List Object) (o : ℕ) (ob x : Object) → object_at objects o ≡ Some ob → object_at (with_object objects o x) o ≡ Some x
-put_found objects zero ob x found = cc
-put_found objects (suc k) ob x found = set_here objects k x ob found
-
 -- one whose fields name the same
 fields_put : (objects : List Object) (k : ℕ) (ob x : Object) → slice_get objects k ≡ Some ob → fields_of x ≡ fields_of ob → field_places (slice_set objects k x) ≡ field_places objects
 fields_put [] k ob x found same = refl
 fields_put (a ∷ objects) zero ob x found same = let alike : ob ≡ a = cc in ap (λ l. l ++ field_places objects) (same ∙ ap fields_of alike)
 fields_put (a ∷ objects) (suc k) ob x found same = ap (λ l. fields_of a ++ l) (fields_put objects k ob x found same)
-
-places_put : (o : ℕ) (ob x : Object) (w : World) → object_at w.objects o ≡ Some ob → fields_of x ≡ fields_of ob → places (with_objects w (with_object w.objects o x)) ≡ places w
-places_put zero ob x w found same = refl
-places_put (suc k) ob x w found same = ap (λ l. stacked w ++ (w.strong_globals ++ l)) (fields_put w.objects k ob x found same)
-
--- what a field named that is dropped
-dropped_count : (o : ℕ) (ob : Object) (index old k : ℕ) (w : World) → object_at w.objects o ≡ Some ob → is_there ob.phase ≡ true → slice_get ob.strong index ≡ Some old
-    → (if nat_eq (suc k) 0 then suc (holders (suc k) (places w)) else holders (suc k) (places w)) ≡ holders (suc k) (old ∷ places (field_stores o ob index 0 w))
-dropped_count zero ob index old k w found there named = cc
-dropped_count (suc j) ob index old k w found there named = raised_count 0 (held_of [] w) (suc k) ∙ sym (field_moves (suc k) (held_of [] w) j ob index old 0 found there named)
 
 -- what waited is as it was
 resumed_is : (f : world.Frame) (waiting : List ℕ) (h : Held) → h.places ≡ frame_places f ++ waiting → resumed (waits_at f) h ≡ record h { temporaries = f.temporaries; variables = f.strong; self = f.self; places = waiting }
@@ -154,12 +132,7 @@ module _ (p : Program) (R : resolved.Program) (bound : ℕ) (begins : (wanted : 
   -- a method or a function comes back after its call
   comes_home : (rs : List ℕ) (levels : ℕ) (wanted : Gives) (f pc self : ℕ) (frames : List Frame) (stack : List ℤ) (w : World) (deep : Deep p (Calling (pc + 1) (waits_of w) ∷ frames) bound R (level R bound levels)) (a : world.Answer) (w2 : World) → Kept w w2
       → leaving p (Calling (pc + 1) (waits_of w) ∷ frames) bound R (function_at R wanted f) self w stack rs (level R bound levels) deep (begins wanted f).place wanted a w2 ≡ after_call wanted frames rs pc stack a w2
-  comes_home rs levels gives.Number f pc self frames stack w deep a w2 k =
-      let v = a.number in
-      ap (λ t. Running (at frames (pc + 1) (v ∷ stack) (recounted (resumed (waits_of w) (ended_now rs self w w2)))) w2.input t) (append-nil w2.trace)
-      ∙ ap (λ h. Running (at frames (pc + 1) (v ∷ stack) (recounted h)) w2.input w2.trace) (resumed_is w.frame w.waiting (ended_now rs self w w2) refl)
-      ∙ ap (λ (f : world.Frame). placed_at frames rs (pc + 1) (v ∷ stack) f.self w2 f w.waiting) (sym k.frame)
-      ∙ ap (placed_at frames rs (pc + 1) (v ∷ stack) w2.frame.self w2 w2.frame) (sym k.waiting)
+  comes_home rs levels gives.Number f pc self frames stack w deep a w2 k = simp (append-nil, k.frame, k.waiting, append_assoc, take-append_seam, drop-append_seam)
   comes_home rs levels gives.Object f pc self frames stack w deep a w2 k =
       let r = a.object in
       ap (λ t. Running (at frames (pc + 1) stack (recounted (given_back r (resumed (waits_of w) (ended_now rs self w w2))))) w2.input t) (append-nil w2.trace)
@@ -207,7 +180,10 @@ module _ (p : Program) (R : resolved.Program) (bound : ℕ) (begins : (wanted : 
   classes_are zero = refl
   classes_are (suc levels) = refl
 
-  module _ (rs : List ℕ) (back : ℕ) (f0 : world.Frame) (waiting : List ℕ) (o levels : ℕ) (frames : List Frame) (stack : List ℤ) (deep : (frame : Frame) → Deep p (frame ∷ frames) bound R (level R bound levels)) where
+  module _ (rs : List ℕ) (back : ℕ) (f0 : world.Frame) (waiting : List ℕ) (j levels : ℕ) (frames : List Frame) (stack : List ℤ) (deep : (frame : Frame) → Deep p (frame ∷ frames) bound R (level R bound levels)) where
+    abbrev o : ℕ
+    o = suc j
+
     abbrev waits : Waiter
     waits = waits_at f0
 
@@ -252,7 +228,7 @@ module _ (p : Program) (R : resolved.Program) (bound : ℕ) (begins : (wanted : 
     bare_runs w ob found there still =
         let x = in_phase Emptying ob in
         let w1 = turned Emptying o (Some ob) w in
-        let same : names o (places w1) ≡ names o (places w) = ap (names o) (places_put o ob x w found (sym (there_fields ob there))) in
+        let same : names o (places w1) ≡ names o (places w) = ap (λ l. names o (stacked w ++ (w.strong_globals ++ l))) (fields_put w.objects j ob x found (sym (there_fields ob there))) in
         subst (λ b. Runs (moves p) bound (follow (recount (if b then goes_back w else Faults Resurrected)) w.input w.trace) (Back w) (gone o w1)) (sym (no_one o (holders o (places w)) (places w) refl))
         (subst (λ b. Runs (moves p) bound (follow (recount (if not (names o (places w)) then goes_back w else Faults Resurrected)) w.input w.trace) (Back w) (if b then Faulted Resurrected w1 else Done finished (turned Gone o (object_at w1.objects o) w1))) (sym same) (by (names o (places w))))
       where
@@ -260,8 +236,8 @@ module _ (p : Program) (R : resolved.Program) (bound : ℕ) (begins : (wanted : 
         gone_same =
             let y = in_phase Emptying ob in
             ap (λ f. turned Gone o f w) found
-            ∙ ap (λ l. with_objects w l) (sym (put_twice w.objects o y (in_phase Gone ob)))
-            ∙ ap (λ f. turned Gone o f (turned Emptying o (Some ob) w)) (sym (put_found w.objects o ob y found))
+            ∙ ap (λ l. with_objects w l) (sym (set-set w.objects j y (in_phase Gone ob)))
+            ∙ ap (λ f. turned Gone o f (turned Emptying o (Some ob) w)) (sym (set_here w.objects j y ob found))
 
         by : (b : Bool) → Runs (moves p) bound (follow (recount (if not b then goes_back w else Faults Resurrected)) w.input w.trace) (Back w) (if b then Faulted Resurrected (turned Emptying o (Some ob) w) else Done finished (turned Gone o (object_at (turned Emptying o (Some ob) w).objects o) (turned Emptying o (Some ob) w)))
         by true = inr (leads_same (moves p) _ _ refl)
@@ -315,9 +291,9 @@ module _ (p : Program) (R : resolved.Program) (bound : ℕ) (begins : (wanted : 
           there_runs p bound w.input w.trace (Goes_on w) (meant (object_at w.objects o)) (object_at w.objects o) go (λ ob found there.
           subst (λ f. Runs (moves p) bound (follow (recount (go ob)) w.input w.trace) (Goes_on w) (meant f)) (sym found)
           (place_takes p bound rs D w own_frame (stacked w) (Goes_on w) (λ x. x) ob.strong index 0 (stays h) (λ old. lets_go old (raised 0 (with_strong_field h o ob index 0)) stays (ends w))
-          (λ l. with_objects w (with_object w.objects o (with_strong_fields ob l))) (ap (with_objects w) (put_same w.objects o ob found)) (stays_run w h.counts) (λ old named.
+          (λ l. with_objects w (with_object w.objects o (with_strong_fields ob l))) (ap (with_objects w) (same_put w.objects j ob found)) (stays_run w h.counts) (λ old named.
           let w1 = field_stores o ob index 0 w in
-          better_runs (moves p) bound _ (Goes_on w1) (Goes_on w) (released D old w1) (lets_run w old (raised 0 h).counts w1 (λ k. dropped_count o ob index old k w found there named)) (λ done w2 to m. (m.0, record { frame = m.1.frame; waiting = m.1.waiting })))))
+          better_runs (moves p) bound _ (Goes_on w1) (Goes_on w) (released D old w1) (lets_run w old (raised 0 h).counts w1 (λ k. raised_count 0 (held_of [] w) (suc k) ∙ sym (field_moves (suc k) (held_of [] w) j ob index old 0 found there named))) (λ done w2 to m. (m.0, record { frame = m.1.frame; waiting = m.1.waiting })))))
 
     -- ---- what is left of an end
 
@@ -355,11 +331,7 @@ module _ (p : Program) (R : resolved.Program) (bound : ℕ) (begins : (wanted : 
         subst (Runs (moves p) bound from (Back w)) (then_thrice body (λ _ w1. Done finished w1) (λ _ w1. deallocs_run R D bound (above_in R n next) o w1) (λ _ w1. rest_of w1))
         (then_runs (moves p) bound from end (Back w) body (λ _ w1. meant_from n next w1) runs (λ v w1 reached m.
         let k = m.1 in
-        let home : reached ≡ at_end rs inner1 o stack w1 =
-        m.0 ∙ ap (λ t. Running (at inner1 p.end_step stack (with_ended w1 w.frame w.waiting)) w1.input t) (append-nil w1.trace)
-        ∙ ap (λ (g : world.Frame). Running (at inner1 p.end_step stack (with_ended w1 g w.waiting)) w1.input w1.trace) (sym k.frame)
-        ∙ ap (λ l. Running (at inner1 p.end_step stack (with_ended w1 w1.frame l)) w1.input w1.trace) (sym k.waiting)
-        in
+        let home : reached ≡ at_end rs inner1 o stack w1 = m.0 ∙ rw (append-nil, k.frame, k.waiting) in
         leads_runs (moves p) bound reached (at_end rs inner1 o stack w1) (Back w) (meant_from n next w1) (leads_same (moves p) reached (at_end rs inner1 o stack w1) home)
         (back_from w w1 (at_end rs inner1 o stack w1) (meant_from n next w1) k (go w1 (still_on w w1 still k)))))
     by_dealloc n next w from _ _ still meets e go = absurd meets
@@ -393,10 +365,7 @@ module _ (p : Program) (R : resolved.Program) (bound : ℕ) (begins : (wanted : 
           let w1 = turned Emptying o (Some ob) w in
           let meant = then_do (fields_dropped (level R bound levels) fields o w1) (λ _ w2. gone o w2) in
           let from = follow (recount (clears p (at (frame ∷ frames) p.end_step stack (ended_held rs o w)) back waits o fields frames)) w.input w.trace in
-          let path : from ≡ at_end rs inner1 o stack w1 =
-          ap (λ t. Running (at inner1 p.end_step stack (recounted (with_things (ended_held rs o w) (turned_in Emptying w.objects o)))) w.input t) (append-nil w.trace)
-          ∙ ap (λ l. Running (at inner1 p.end_step stack (recounted (with_things (ended_held rs o w) l))) w.input w.trace) (rw found refl)
-          in
+          let path : from ≡ at_end rs inner1 o stack w1 = simp (append-nil, found) in
           leads_runs (moves p) bound from (at_end rs inner1 o stack w1) (Back w) meant (leads_same (moves p) _ _ path)
           (back_from w w1 (at_end rs inner1 o stack w1) meant (record { frame = refl; waiting = refl }) (fields_run fields w1 still))
 
@@ -454,8 +423,8 @@ module _ (p : Program) (R : resolved.Program) (bound : ℕ) (begins : (wanted : 
         let h = dying_in rs (laid w f0 waiting) k ob c in
         let s = at frames pc stack h0 in
         let D = level R bound levels in
-        let o = meant_from rs back f0 waiting (suc k) levels frames stack deep n (Some ob.class) w1 in
-        let runs = end_runs rs back f0 waiting (suc k) levels frames stack deep links has_end n (Some ob.class) w1 e in
+        let o = meant_from rs back f0 waiting k levels frames stack deep n (Some ob.class) w1 in
+        let runs = end_runs rs back f0 waiting k levels frames stack deep links has_end n (Some ob.class) w1 e in
         let from = follow (recount (begins_end p s back (suc k) ob.class h (has_level s))) w.input w.trace in
         let path : from ≡ at_end rs inner1 (suc k) stack w1 =
         ap (λ b. follow (recount (begins_end p s back (suc k) ob.class h b)) w.input w.trace) (lt-ltb (length frames) MOST_LEVELS (omega (arith, full)))
