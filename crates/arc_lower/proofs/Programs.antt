@@ -23,7 +23,7 @@ use Rattle.arc_lower.specs.Heights.{height, between, next_height, walk, Walk, ne
 use Rattle.arc_lower.proofs.Cases.{by_test}
 use Rattle.arc_lower.proofs.Rows.{call_length}
 use Rattle.arc_lower.proofs.Linking.{numbered, function_gives, answers_as}
-use Rattle.arc_lower.proofs.Typing.{heights_same, slots_same, parameters_same, number_there, Types, types_then, types_last, tested, keep_types, passing_types, declare_types, take_types, own_types, BlockTypes}
+use Rattle.arc_lower.proofs.Typing.{alike_same, slots_same, parameters_same, number_there, Types, types_then, types_last, tested, keep_types, passing_types, declare_types, take_types, own_types, BlockTypes}
 use Rattle.arc_lower.proofs.HeightsEnd.{Keeps, block_ends}
 use Rattle.arc_lower.proofs.Forms.{nothing_types, commands_type}
 use Rattle.arc_lower.proofs.Doing.{each_front, each_back, each_at}
@@ -120,7 +120,7 @@ module _ (R : resolved.Program) where
     statements_type = commands_type R slots names place false none none (nothing_types R slots names place false) (nothing_types R slots names place false) cs
 
     empty_stays : (i : ℕ) → next_height R (Empty i) leaving ≡ leaving
-    empty_stays i = heights_same _ _ _ _ (suc slots) 0 0 names (omega arith) (omega arith) (omega arith) (omega arith)
+    empty_stays i = alike_same _ _ (omega arith)
 
     emptied_is : (n : ℕ) → suc n ≤ names → emptied (suc n) ≡ Empty (0 + n) ∷ emptied n
     emptied_is n le = ap (λ b. (if b then Empty (0 + n) ∷ [] else []) ++ emptied n) (lt-ltb (0 + n) names (omega (arith, le)))
@@ -202,7 +202,7 @@ module _ (R : resolved.Program) where
       -- a run may enter it, and each of its orders has what it needs
       pub function_steps : Goes_to given entered begun × Step_all place (leave ++ body)
       function_steps =
-          let up : next_height R (Plain (Num (pos 0))) base ≡ leaving = heights_same _ _ _ _ (suc slots) 0 0 names (omega arith) (omega arith) (omega arith) (omega arith) in
+          let up : next_height R (Plain (Num (pos 0))) base ≡ leaving = alike_same _ _ (omega arith) in
           let q = start + length statements in
           let jump = opens_goes R all table given (q + 1) _ (Jump (At place)) refl last.2.0 last.2.1 in (
             opening_goes.0,
@@ -545,7 +545,7 @@ module _ (R : resolved.Program) where
       let rest = call_row.2 in
       let same = slots_same R gives.Number R.main in
       let other = parameters_same R gives.Number R.main in
-      let called : next_height R main_call main_ready ≡ height 1 0 0 0 = heights_same _ _ _ _ 1 0 0 0 (omega (arith, same)) (omega (arith, other)) (omega arith) (omega arith) in
+      let called : next_height R main_call main_ready ≡ height 1 0 0 0 = alike_same _ _ (omega (arith, same, other)) in
       let one = rest.0 ∙ ap (λ h. Some (h, gives.Number)) called in
       let home : Stands R all table gives.Number (q + 1) (height 1 0 0 0) = record { height = one; order = Return; is = rest.1; no_end = λ end. cc } in
       let free = calm_free R all table (q + 1) Leaves tt (ap role_of rest.1) in

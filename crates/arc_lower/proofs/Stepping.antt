@@ -17,7 +17,7 @@ use Rattle.arc_lower.specs.Size.{has_new}
 use Rattle.arc_lower.specs.declared.frame.Turn.{Turn}
 use Rattle.arc_lower.specs.Heights.{between, next_height, Walk, walk, next_walk, walk_heights, last_walk, in_function}
 use Rattle.arc_lower.proofs.Doing.{Each, each_then, each_from}
-use Rattle.arc_lower.proofs.Typing.{heights_same, tested, over_none, Reaches, Needs, Types, next_same, with_temporaries, ByTest, BlockTypes}
+use Rattle.arc_lower.proofs.Typing.{alike_same, tested, over_none, Reaches, Needs, Types, next_same, with_temporaries, ByTest, BlockTypes}
 use Rattle.arc_lower.proofs.HeightsEnd.{chosen_same, AllBase, entered, enter_keeps, enter_ends, Keeps, keeps_on, keeps_test, keeps_rest, part_same, block_ends}
 
 pub some_same : {A : Type 0} (a b : A) → Some a ≡ Some b → a ≡ b
@@ -446,7 +446,7 @@ module _ (R : resolved.Program) (all : List Order) (table : List (Height × Give
             (subst (Goes given pc) (sym t.1) whole.0, whole.1)
         block_steps e turn l true Quit h g pc pending here ways keeps t f end =
             let goes = subst (λ n. Goes given n test) (sym (ap (λ e. (turn_at e).out) (here refl))) (ways t.1).0 in
-            let up : next_height R (Plain (Num (pos 0))) base ≡ test = heights_same _ _ _ _ (suc slots) 0 0 names (omega arith) (omega arith) (omega arith) (omega arith) in
+            let up : next_height R (Plain (Num (pos 0))) base ≡ test = alike_same _ _ (omega arith) in
             let next = opens_goes (pc + 1) _ (Jump (At (turn_at e).out)) refl f.2.0 f.2.1 in
             (opens_goes pc h (Plain (Num (pos 0))) refl f.0 f.1, (((h, given), f.0, (omega arith, (next.0, λ k c. inr (next.1 k c)), inl next.2)), (((next_height R (Plain (Num (pos 0))) h, given), f.2.0, subst (λ n. Leads given (turn_at e).out n) (sym (ap (next_height R (Plain (Num (pos 0)))) t.2 ∙ up)) (0, omega arith, goes)), tt)))
         block_steps e turn l true Advance h g pc pending here ways keeps t f end =
