@@ -5,7 +5,7 @@ use Rattle.std.proofs.lemmas.List.{length-set}
 use Rattle.arc_spec.specs.Classes.{Class, field_counts, strong_count}
 use Rattle.arc_spec.specs.Objects.{Object, Live, Dying, Emptying, Gone, nils, object_at, with_object, in_phase, with_fields, with_strong_fields, is_live, is_there, new_object, fields_of, field_places}
 use Rattle.arc_spec.specs.Holding.{Held, nothing_held, Counted, holders, all_places, with_temporaries, with_variables, with_things, with_strong_globals, raised, lowered, makes, stacked}
-use Rattle.arc_lower.proofs.CountsPlaces.{tally, one_more_if, tally_nil, tally_same, tally_other, holders_head, holders_nil, holders_append, all_holders, raised_count, lowered_count, there_fields, fields_set, fields_made, nils_holders, same_fields, variable_moves, global_moves, field_moves, last_moves, second_moves, IsThere, AllThere, set_here, set_other, get_new, get_other}
+use Rattle.arc_lower.proofs.CountsPlaces.{tally, one_more_if, tally_nil, tally_same, tally_other, holders_head, holders_nil, holders_append, all_holders, raised_count, lowered_count, there_fields, fields_set, fields_made, nils_holders, same_fields, variable_moves, global_moves, field_moves, last_moves, second_moves, IsThere, AllThere, set_here, set_other, seam, get_other}
 
 -- ---- objects and their counts
 
@@ -192,7 +192,7 @@ module _ {classes : List Class} where
       record {
         counted = λ k. omega (arith, raised_count (suc r) h (suc k), holders_head (suc k) (suc r) (all_places h1), all_holders (suc k) h, all_holders (suc k) h1, all_holders (suc k) made, holders_head (suc k) (suc r) h.temporaries, fields_made (suc k) h.objects x, nils_holders k n, c.counted k);
         right = λ k. ⊎_elim
-            (λ same. subst (λ i. Right classes (made.counts (suc i)) (slice_get made.objects i)) (sym same) (subst (Right classes (made.counts (suc r))) (sym (get_new h.objects x)) new))
+            (λ same. subst (λ i. Right classes (made.counts (suc i)) (slice_get made.objects i)) (sym same) (subst (Right classes (made.counts (suc r))) (sym (seam h.objects [] x)) new))
             (λ ne. subst (Right classes (made.counts (suc k))) (sym (get_other h.objects k x ne)) (subst (λ m. Right classes m (slice_get h.objects k)) (omega (arith, raised_count (suc r) h (suc k), tally_other (suc k) (suc r) (λ e. ne (omega (arith, e))))) (c.right k)))
             (cases_eq k r);
       }

@@ -191,14 +191,9 @@ set_here [] k x a e = cc
 set_here (b ∷ all) zero x a e = refl
 set_here (b ∷ all) (suc k) x a e = set_here all k x a e
 
-pub get_first : {A : Type 0} (all : List A) (k : ℕ) (x a : A) → slice_get all k ≡ Some a → slice_get (all ++ x ∷ []) k ≡ Some a
-get_first [] k x a e = cc
-get_first (b ∷ all) zero x a e = e
-get_first (b ∷ all) (suc k) x a e = get_first all k x a e
-
-pub get_new : {A : Type 0} (all : List A) (x : A) → slice_get (all ++ x ∷ []) (length all) ≡ Some x
-get_new [] x = refl
-get_new (b ∷ all) x = get_new all x
+pub seam : {A : Type 0} (before later : List A) (x : A) → slice_get (before ++ x ∷ later) (length before) ≡ Some x
+seam [] later x = refl
+seam (b ∷ before) later x = seam before later x
 
 pub get_other : {A : Type 0} (all : List A) (k : ℕ) (x : A) → (k ≡ length all → ⊥) → slice_get (all ++ x ∷ []) k ≡ slice_get all k
 get_other [] zero x ne = absurd (ne refl)

@@ -43,9 +43,6 @@ nils_split (suc a) b (suc n) le e = ap (λ l. 0 ∷ l) (nils_split a b n (omega 
 fewest : (a b : ℕ) → (lesser a b ≤ a) × (lesser a b ≤ b) × (lesser a b < b → a ≡ lesser a b)
 fewest a b = (grind (arith, nat_tests), grind (arith, nat_tests), grind (arith, nat_tests))
 
-few_of : (a b : ℕ) → lesser a b ≤ b
-few_of a b = (fewest a b).1
-
 nil_there : (n : ℕ) (tail : List ℕ) → slice_get (nils (suc n) ++ tail) n ≡ Some 0
 nil_there zero tail = refl
 nil_there (suc n) tail = nil_there n tail
@@ -337,7 +334,7 @@ module _ (p : Program) (frames : List Frame) (bound : ℕ) (R : resolved.Program
   opening_runs false count few arguments stack entry end o few_is has go =
       let e : count - 0 ≡ count = omega arith in
       let is : few ≡ lesser F.parameters count = few_is ∙ ap (lesser F.parameters) e in
-      let le : few ≤ count = omega (arith, is, few_of F.parameters count) in
+      let le : few ≤ count = omega (arith, is, (fewest F.parameters count).1) in
       let declares = declare_orders count in
       let takes1 = take_orders 0 few in
       let q = entry + length declares + length takes1 in
@@ -349,13 +346,13 @@ module _ (p : Program) (frames : List Frame) (bound : ℕ) (R : resolved.Program
   opening_runs true zero few arguments stack entry end o few_is has go =
       let e : 0 - 1 ≡ 0 = omega arith in
       let is : few ≡ lesser F.parameters 0 = few_is ∙ ap (lesser F.parameters) e in
-      let none : 0 ≡ few = omega (arith, is, few_of F.parameters 0) in
+      let none : 0 ≡ few = omega (arith, is, (fewest F.parameters 0).1) in
       subst (λ n. Runs (moves p) bound (running frames rs (entry + length (opens true zero n)) stack (begun_with arguments [])) end o → Runs (moves p) bound (running frames (onto (padded 0 n arguments.objects) rs) entry stack (begun_with arguments [])) end o) none
       (λ go1. subst (λ q. Runs (moves p) bound (running frames rs q stack (begun_with arguments [])) end o) (omega arith) go1) go
   opening_runs true (suc m) few arguments stack entry end o few_is has go =
       let e : suc m - 1 ≡ m = omega arith in
       let is : few ≡ lesser F.parameters m = few_is ∙ ap (lesser F.parameters) e in
-      let le : few ≤ m = omega (arith, is, few_of F.parameters m) in
+      let le : few ≤ m = omega (arith, is, (fewest F.parameters m).1) in
       let declares = declare_orders (suc m) in
       let takes1 = take_orders 1 few in
       let owned = own_orders (suc m) in

@@ -16,7 +16,7 @@ use Rattle.arc_spec.specs.Meaning.{chosen}
 use Rattle.arc_spec.specs.Number.{combined, counted, is_zero}
 use Rattle.arc_spec.specs.Objects.{Object, Dying, Emptying, Gone, object_at, with_object, with_fields, with_strong_fields, in_phase, is_live, is_emptying, fields_of}
 use Rattle.arc_spec.specs.Resolved as resolved
-use Rattle.arc_spec.specs.Holding.{Held, Frame, Calling, Ending, Clearing, Waiter, Counted, holders, is_there, stacked, with_strong_globals, with_strong_field, on_place, turned_in, with_temporaries, with_variables, with_names, with_things, lowered, raised, named, taken_by, on_named, on_field, declares, lets_go, resumed, all_nil, on_left, on_last, on_result, given_back, with_field}
+use Rattle.arc_spec.specs.Holding.{Held, Frame, Calling, Ending, Clearing, Waiter, waiter_of, Counted, holders, is_there, stacked, with_strong_globals, with_strong_field, on_place, turned_in, with_temporaries, with_variables, with_names, with_things, lowered, raised, named, taken_by, on_named, on_field, declares, lets_go, resumed, all_nil, on_left, on_last, on_result, given_back, with_field}
 use Rattle.arc_spec.specs.Stepping.{Next, Goes, Asks, Faults, Stuck, Along, Safe, Sound, on_top, on_found, only_if}
 use Rattle.arc_ir.specs.Acting.{Program, State, lands, start, step, entry, keeps, goes, or_fault, has_level, enters, answers, taken, sends, allocates, operates, begins_end, releases, runs_dealloc, clears, after_deallocs, clears_next, ends_class, end_goes_on, leaves}
 use Rattle.arc_code.specs.declared.effect.Height.{Height}
@@ -32,7 +32,7 @@ use Rattle.arc_lower.specs.Order.{Order, order, orders}
 use Rattle.arc_lower.specs.Lowered.{slots_of, parameters_of, entries_of, end_step_of, lowered as lowered_orders, classes_linked}
 use Rattle.arc_lower.specs.Heights.{height, next_height}
 use Rattle.arc_lower.proofs.Cases.{by_test}
-use Rattle.arc_lower.proofs.CountsPlaces.{IsThere, AllThere, place_there, name_there, object_goes, named_goes, set_here, set_same, set_other, holders_head, holders_nil, holders_append, all_holders, live_there, there_fields}
+use Rattle.arc_lower.proofs.CountsPlaces.{seam, IsThere, AllThere, place_there, name_there, object_goes, named_goes, set_here, set_same, set_other, holders_head, holders_nil, holders_append, all_holders, live_there, there_fields}
 use Rattle.arc_lower.proofs.CountsKept.{Sane, Drops, gains, sane_moved, sane_start, sane_declare, fits_at, sane_counted, variables_there, waiting_there, stacked_there, globals_there, fields_there, sane_store, sane_store_global, sane_store_field, sane_drop, sane_settle, drops_there, sane_nil, sane_last, sane_other, sane_make, sane_field, sane_empty, sane_gone}
 use Rattle.arc_lower.proofs.Doing.{at, resumed_as, bare, does, executes_at}
 use Rattle.arc_lower.proofs.Standing.{no_nil, ending, AllDying, IsDying, NilBut, Alive, nil_alive, ends_there, ending_alive, IsHeld, last_held, held_there, held_within, made_dying, changed_dying, IsApart, live_apart, apart_dying, stored_far, fields_far, one_nil, no_field, nil_named, all_in_order}
@@ -142,10 +142,6 @@ along_map P Q f (Goes s events) p = f s p
 along_map P Q f (Asks go) p = λ answer. f (go answer) (p answer)
 along_map P Q f Stuck p = p
 along_map P Q f _ p = tt
-
-seam : {A : Type 0} (before later : List A) (x : A) → slice_get (before ++ x ∷ later) (length before) ≡ Some x
-seam [] later x = refl
-seam (b ∷ before) later x = seam before later x
 
 -- ---- the places of a function that waits
 
@@ -359,15 +355,12 @@ module _ (p : Program) (R : resolved.Program) where
 
   -- ---- ends that begin
 
-  abbrev waits_as : Held → Waiter
-  waits_as held = record { self = held.self; temporaries = length held.temporaries; variables = length held.variables }
-
-  abbrev splits_as : (held : Held) → Splits (waits_as held) (stacked held)
+  abbrev splits_as : (held : Held) → Splits (waiter_of held) (stacked held)
   splits_as held = record { temporaries = held.temporaries; variables = held.variables; waiting = held.places; is = refl; first = refl; next = refl }
 
   -- what was dropped ends, and what runs waits
   begins_lead : (frames : List Frame) (b : Bool) (k to pc : ℕ) (ob : Object) (stack : List ℤ) (before held : Held) → object_at held.objects (suc k) ≡ Some ob → is_live (Some ob) ≡ true → AllDying held.objects (ending frames) → Drops p.classes (suc k) held
-      → (IsApart (suc k) (ending frames) → Waits gives.Number (Ending to (waits_as held) (suc k) (Some ob.class) (length p.classes) ∷ frames) (length stack) held.names (stacked held))
+      → (IsApart (suc k) (ending frames) → Waits gives.Number (Ending to (waiter_of held) (suc k) (Some ob.class) (length p.classes) ∷ frames) (length stack) held.names (stacked held))
       → Leads (begins_end p (at frames pc stack before) to (suc k) ob.class (with_things (lowered (suc k) held) (with_object held.objects (suc k) (in_phase Dying ob))) b)
   begins_lead frames false k to pc ob stack before held found live dying drops waits = tt
   begins_lead frames true k to pc ob stack before held found live dying drops waits =
@@ -376,7 +369,7 @@ module _ (p : Program) (R : resolved.Program) where
       let begun : IsDying objects (suc k) None = (in_phase Dying ob, set_here held.objects k (in_phase Dying ob) ob found, refl) in
       let apart = live_apart held.objects k ob (ending frames) found live dying in
       let still : AllDying objects (ending frames) = apart_dying held.objects k (in_phase Dying ob) (ending frames) apart dying in (
-        inr (record { at_end = refl; is_ending = tt; none = refl; empty = refl; alive = ending_alive frames to (waits_as held) (suc k) (Some ob.class) (length p.classes) (stacked held) }, waits apart),
+        inr (record { at_end = refl; is_ending = tt; none = refl; empty = refl; alive = ending_alive frames to (waiter_of held) (suc k) (Some ob.class) (length p.classes) (stacked held) }, waits apart),
         (begun, still),
         sane_last held k ob found (live_there ob live) drops,
       )
@@ -413,16 +406,11 @@ module _ (p : Program) (R : resolved.Program) where
     go_on : (to : ℕ) (h : Height) → Goes_to mine to h → (stack : List ℤ) (held : Held) (own : List ℕ) → length stack ≡ h.numbers + below → length own ≡ h.names → length held.temporaries ≤ h.temporaries → length held.variables ≡ h.variables → Owns own held → Good (at frames to stack held)
     go_on to h g stack held own count size few many o = run_on to stack held own o (back to h g.0 (length stack) held.names own held o.is (goes_nil to h g.1 held.variables many) (inl g.2) count size few many o.keeps)
 
-    -- what is held is there
-    own_there : (own : List ℕ) (held : Held) → Owns own held → (r : ℕ) → IsHeld r (held.temporaries ++ waiting) → IsThere held.objects r
-    own_there own held o r h = held_there held.objects held.temporaries held.variables waiting r h
-        (subst (λ l. AllThere held.objects ((held.temporaries ++ held.variables) ++ l)) o.places (stacked_there held o.sane))
-
     -- ---- what begins the end of an object, or calls
 
     begins_leads : (b : Bool) (k to pc : ℕ) (ob : Object) (stack : List ℤ) (before held : Held) → held.self ≡ self → held.places ≡ waiting → object_at held.objects (suc k) ≡ Some ob → is_live (Some ob) ≡ true → AllDying held.objects (ending frames) → Drops p.classes (suc k) held → Back to (length stack) held.names held → Leads (begins_end p (at frames pc stack before) to (suc k) ob.class (with_things (lowered (suc k) held) (with_object held.objects (suc k) (in_phase Dying ob))) b)
     begins_leads b k to pc ob stack before held same there found live dying drops home =
-        let w : Waiter = waits_as held in
+        let w : Waiter = waiter_of held in
         let splits : Splits w (stacked held) = splits_as held in
         let home1 = subst (λ l. Resumes mine to held.self frames (length stack) below held.names deeper held.temporaries held.variables l) (sym there) (subst (λ x. Resumes mine to x frames (length stack) below held.names deeper held.temporaries held.variables waiting) (sym same) home) in
         begins_lead frames b k to pc ob stack before held found live dying drops (λ apart. (apart, splits, inl (mine, below, deeper, home1, subst (Waits mine frames below deeper) (sym there) waits)))
@@ -442,7 +430,7 @@ module _ (p : Program) (R : resolved.Program) where
         → Leads (enters (at frames pc stack held) to self1 b)
     enters_lead false wanted to self1 passed pc given rest stack held g le is keeps living same there dying sane home = tt
     enters_lead true wanted to self1 passed pc given rest stack held g le is keeps living same there dying sane home =
-        let w : Waiter = waits_as held in
+        let w : Waiter = waiter_of held in
         let n = length stack - passed in
         let splits : Splits w (stacked held) = splits_as held in
         let home1 = subst (λ l. Comes_back wanted mine (pc + 1) held.self frames n below rest deeper held.temporaries held.variables l) (sym there) (subst (λ x. Comes_back wanted mine (pc + 1) x frames n below rest deeper held.temporaries held.variables waiting) (sym same) home) in
@@ -487,7 +475,8 @@ module _ (p : Program) (R : resolved.Program) where
       self_there = subst (IsThere held.objects) (sym o.itself) (alive held.objects (subst (AllThere held.objects) o.places (waiting_there held o.sane)) (ends_there held.objects frames o.dying))
 
       is_held : (r : ℕ) → IsHeld r (held.temporaries ++ waiting) → IsThere held.objects r
-      is_held r e = own_there own held o r e
+      is_held r h = held_there held.objects held.temporaries held.variables waiting r h
+          (subst (λ l. AllThere held.objects ((held.temporaries ++ held.variables) ++ l)) o.places (stacked_there held o.sane))
 
       held_alive : (r : ℕ) → IsHeld r (held.temporaries ++ waiting) → Alive frames (stacked held) r
       held_alive r e objects there ends = held_there objects held.temporaries held.variables waiting r e (subst (λ l. AllThere objects ((held.temporaries ++ held.variables) ++ l)) o.places there)

@@ -91,6 +91,7 @@ module _ (p : Program) (R : resolved.Program) (is : orders p.actions ≡ lowered
 
   program_runs : (input : List ℕ) (bound : ℕ) → Runs (moves p) bound (running [] [] 0 [] (first_world R.globals R.strong_globals input)) Ends_with (mean R input bound)
   program_runs input bound =
+      let none : 0 + MOST_LEVELS ≡ MOST_LEVELS = omega arith in
       let w = first_world R.globals R.strong_globals input in
       let fits = passing_orders R gives.Number R.main 0 0 in
       let call = Call (number_of R gives.Number R.main) gives.Number ∷ [] in
@@ -114,9 +115,6 @@ module _ (p : Program) (R : resolved.Program) (is : orders p.actions ≡ lowered
       let from = running [] [] (q + 1) (v ∷ []) w1 in
       leads_runs (moves p) bound to from Ends_with (Done (converted k.Int v) w1) (leads_same (moves p) to from m.0)
       (inr (Ended (converted k.Int v) w1.input w1.trace, leads_step (moves p) (at [] (q + 1) (v ∷ []) (held_of [] w1)) w1.input w1.trace (Ends (converted k.Int v)) (ap recount (last.0 [] (v ∷ []) (held_of [] w1)) ∙ main_ends v w1 m.1.frame), refl)))
-    where
-      none : 0 + MOST_LEVELS ≡ MOST_LEVELS
-      none = omega arith
 
   -- no step lacks what it needs
   program_comes : (input : List ℕ) (bound : ℕ) → Runs (moves p) bound (running [] [] 0 [] (first_world p.globals p.strong_globals input)) Ends_with (mean R input bound) → Comes (moves p) bound (running [] [] 0 [] (first_world p.globals p.strong_globals input)) Ends_with (mean R input bound)
