@@ -873,107 +873,106 @@ module _ (p : Program) (R : resolved.Program) where
     abbrev Later : (back : ℕ) → Waiter → ℕ → List Frame → Type 0
     Later back w o others = Interrupted (λ g. Waits g others) back w o others (length stack) held.names held.places
 
-    -- an object is gone, whose fields name nothing
-    ends_lead : (b : Bool) (back : ℕ) (w : Waiter) (o : ℕ) (others frames : List Frame) (ob : Object) → object_at held.objects o ≡ Some ob → ((k : ℕ) → holders (suc k) (fields_of ob) ≡ 0) → AllDying held.objects (ending others) → nat_eq (held.counts o) 0 ≡ b → Later back w o others
-        → Leads (if b then on_left held.temporaries held (λ h. Goes (record { at = back; stack = stack; frames = others; held = resumed w (with_things h (turned_in Gone h.objects o)) }) []) else Faults Resurrected)
-    ends_lead false back w o others frames ob found none_named dying e later = tt
-    ends_lead true back w zero others frames ob found none_named dying e later = cc
-    ends_lead true back w (suc k) others frames ob found none_named dying e later =
-        let x = in_phase Gone ob in
-        let objects = slice_set held.objects k x in
-        let gone_is : turned_in Gone held.objects (suc k) ≡ objects = rw found refl in
-        let still : AllDying objects (ending others) = apart_dying held.objects k x (ending others) later.0 dying in
-        let h1 = with_things held objects in
-        let h = with_variables h1 [] in
-        let split = later.1 in
-        let sane1 = again_sane w h split none no_names (left_sane h1 none no_variables (sane_gone held k ob found none_named e sane)) in
-        left_leads held.temporaries held _ none no_variables
-        (subst (λ l. Good (at others back stack (resumed w (with_things (with_variables held []) l)))) (sym gone_is)
-        (subst (λ q. Good (at others back stack q)) (sym (resumes_again w h split)) (later.2, still, sane1)))
+    -- it goes on
+    ends_again : (frames : List Frame) → IsEnding frames → Alive frames held.places held.self → EndsAgain p.end_step held.self frames held.temporaries held.variables held.places
+    ends_again frames is alive = record { at_end = refl; is_ending = is; none = none; empty = empty; alive = alive }
 
-    -- the deallocs of an object are done: its fields are destroyed, and then it is gone
-    clears_lead : (back : ℕ) (w : Waiter) (o : ℕ) (others frames : List Frame) (order : List ℕ) (ob : Object) → object_at held.objects o ≡ Some ob → ob.phase ≡ Dying → NilBut order ob.strong → AllDying held.objects (ending others) → Alive (Ending back w o None 0 ∷ others) held.places held.self → Later back w o others
-        → Leads (clears p (at frames p.end_step stack held) back w o order others)
-    clears_lead back w o others frames [] ob found phase but dying alive later =
-        ends_lead (nat_eq (held.counts o) 0) back w o others frames ob found (λ k. ap (holders (suc k)) (there_fields ob (ap is_there phase)) ∙ nil_named ob.strong but k) dying refl later
-    clears_lead back w zero others frames (index ∷ order) ob found phase but dying alive later = cc
-    clears_lead back w (suc k) others frames (index ∷ order) ob found phase but dying alive later =
-        let x = in_phase Emptying ob in
-        let objects = slice_set held.objects k x in
-        let turned_is : turned_in Emptying held.objects (suc k) ≡ objects = rw found refl in
-        let still : AllDying objects (ending others) = apart_dying held.objects k x (ending others) later.0 dying in
-        subst (λ l. Good (at (Clearing back w (suc k) (index ∷ order) ∷ others) p.end_step stack (with_things held l))) (sym turned_is) (
-          inr (record { at_end = refl; is_ending = tt; none = none; empty = empty; alive = alive }, later),
-          ((x, set_here held.objects k x ob found, (refl, but)), still),
-          sane_empty held k ob found (ap is_there phase) sane,
-        )
+    module _ (back : ℕ) (w : Waiter) (k : ℕ) (others : List Frame) (alive : Alive (Ending back w (suc k) None 0 ∷ others) held.places held.self) (dying : AllDying held.objects (ending others)) (later : Later back w (suc k) others) where
+      -- what else ends is as far as before once the object is changed
+      still : (x : Object) → AllDying (slice_set held.objects k x) (ending others)
+      still x = apart_dying held.objects k x (ending others) later.0 dying
 
-    after_lead : (back : ℕ) (w : Waiter) (o : ℕ) (others frames : List Frame) → IsDying held.objects o None → AllDying held.objects (ending others) → Alive (Ending back w o None 0 ∷ others) held.places held.self → Later back w o others → Leads (after_deallocs p (at frames p.end_step stack held) back w o others)
-    after_lead back w zero others frames dies dying alive later = absurd (no_nil held.objects None dies)
-    after_lead back w (suc k) others frames dies dying alive later =
-        let ob = dies.0 in
-        subst Leads (sym (object_goes (object_at held.objects (suc k)) ob (λ x. clears p (at frames p.end_step stack held) back w (suc k) (field_order p.classes x.class) others) dies.1 (ap is_there dies.2)))
-        (clears_lead back w (suc k) others frames (field_order p.classes ob.class) ob dies.1 dies.2 (all_in_order p.classes ob ((fits_at k ob dies.1 sane).sized)) dying alive later)
+      -- an object is gone, whose fields name nothing
+      ends_lead : (b : Bool) (ob : Object) → object_at held.objects (suc k) ≡ Some ob → ((i : ℕ) → holders (suc i) (fields_of ob) ≡ 0) → nat_eq (held.counts (suc k)) 0 ≡ b
+          → Leads (if b then on_left held.temporaries held (λ h. Goes (record { at = back; stack = stack; frames = others; held = resumed w (with_things h (turned_in Gone h.objects (suc k))) }) []) else Faults Resurrected)
+      ends_lead false ob found none_named e = tt
+      ends_lead true ob found none_named e =
+          let x = in_phase Gone ob in
+          let objects = slice_set held.objects k x in
+          let gone_is : turned_in Gone held.objects (suc k) ≡ objects = rw found refl in
+          let h1 = with_things held objects in
+          let h = with_variables h1 [] in
+          let split = later.1 in
+          let sane1 = again_sane w h split none no_names (left_sane h1 none no_variables (sane_gone held k ob found none_named e sane)) in
+          left_leads held.temporaries held _ none no_variables
+          (subst (λ l. Good (at others back stack (resumed w (with_things (with_variables held []) l)))) (sym gone_is)
+          (subst (λ q. Good (at others back stack q)) (sym (resumes_again w h split)) (later.2, still x, sane1)))
 
-    -- the next field lets go of what it names
-    next_lead : (back : ℕ) (w : Waiter) (o index : ℕ) (fields : List ℕ) (others : List Frame) → IsDying held.objects o (Some (index ∷ fields)) → AllDying held.objects (ending others) → Alive (Clearing back w o (index ∷ fields) ∷ others) held.places held.self → Later back w o others
-        → Leads (clears_next p (at (Clearing back w o fields ∷ others) p.end_step stack held) o index)
-    next_lead back w zero index fields others dies dying alive later = absurd (no_nil held.objects (Some (index ∷ fields)) dies)
-    next_lead back w (suc k) index fields others dies dying alive later =
-        let ob = dies.0 in
-        let frames : List Frame = Clearing back w (suc k) fields ∷ others in
-        let s = at frames p.end_step stack held in
-        let there_now = ap is_there dies.2.0 in
-        let stays : Held → Next State = λ h. Goes (at frames p.end_step stack h) [] in
-        let ends : ℕ → ℕ → Held → Next State = λ other class h. begins_end p s p.end_step other class h (has_level s) in
-        let go : Object → Next State = λ x. on_place (slice_get x.strong index) (stays held) (λ old. lets_go old (raised 0 (with_strong_field held (suc k) x index 0)) stays ends) in
-        subst Leads (sym (object_goes (object_at held.objects (suc k)) ob go dies.1 there_now))
-        (place_leads (slice_get ob.strong index) _ _
-        (λ absent. (inr (record { at_end = refl; is_ending = tt; none = none; empty = empty; alive = alive }, later), ((ob, dies.1, (dies.2.0, no_field index fields ob.strong absent dies.2.1)), dying), sane))
-        (λ old named.
-        let x = with_strong_fields ob (slice_set ob.strong index 0) in
-        let objects = slice_set held.objects k x in
-        let held1 = raised 0 (with_strong_field held (suc k) ob index 0) in
-        let still : AllDying objects (ending frames) = ((x, set_here held.objects k x ob dies.1, (dies.2.0, one_nil index fields ob.strong dies.2.1)), apart_dying held.objects k x (ending others) later.0 dying) in
-        lets_go_leads old held1 stays ends (sane_store_field held k ob index old 0 dies.1 there_now named tt sane)
-        (λ sane1. (inr (record { at_end = refl; is_ending = tt; none = none; empty = empty; alive = alive }, later), still, sane1))
-        (λ j other e found live.
-        begins_lead frames (has_level s) j p.end_step p.end_step other stack held held1 found live still (subst (λ q. Drops p.classes q held1) e (sane_store_field held k ob index old 0 dies.1 there_now named tt sane))
-        (λ apart. (apart, splits_as held1, inr (record { at_end = refl; is_ending = tt; none = none; empty = empty; alive = alive }, later))))))
+      -- the deallocs of an object are done: its fields are destroyed, and then it is gone
+      clears_lead : (frames : List Frame) (order : List ℕ) (ob : Object) → object_at held.objects (suc k) ≡ Some ob → ob.phase ≡ Dying → NilBut order ob.strong
+          → Leads (clears p (at frames p.end_step stack held) back w (suc k) order others)
+      clears_lead frames [] ob found phase but =
+          ends_lead (nat_eq (held.counts (suc k)) 0) ob found (λ i. ap (holders (suc i)) (there_fields ob (ap is_there phase)) ∙ nil_named ob.strong but i) refl
+      clears_lead frames (index ∷ order) ob found phase but =
+          let x = in_phase Emptying ob in
+          let turned_is : turned_in Emptying held.objects (suc k) ≡ slice_set held.objects k x = rw found refl in
+          subst (λ l. Good (at (Clearing back w (suc k) (index ∷ order) ∷ others) p.end_step stack (with_things held l))) (sym turned_is)
+          (inr (ends_again _ tt alive, later), ((x, set_here held.objects k x ob found, (refl, but)), still x), sane_empty held k ob found (ap is_there phase) sane)
 
-    module _ (back : ℕ) (w : Waiter) (o : ℕ) (others : List Frame) (alive : (next : Option ℕ) (left : ℕ) → Alive (Ending back w o next left ∷ others) held.places held.self) (later : Later back w o others) (dying : (next : Option ℕ) (left : ℕ) → AllDying held.objects (ending (Ending back w o next left ∷ others))) (frames : List Frame) where
-      abbrev here : State
-      here = at frames p.end_step stack held
+      after_lead : (frames : List Frame) → IsDying held.objects (suc k) None → Leads (after_deallocs p (at frames p.end_step stack held) back w (suc k) others)
+      after_lead frames dies =
+          let ob = dies.0 in
+          subst Leads (sym (object_goes (slice_get held.objects k) ob (λ x. clears p (at frames p.end_step stack held) back w (suc k) (field_order p.classes x.class) others) dies.1 (ap is_there dies.2)))
+          (clears_lead frames (field_order p.classes ob.class) ob dies.1 dies.2 (all_in_order p.classes ob ((fits_at k ob dies.1 sane).sized)))
 
-      dealloc_leads : (d : Option ℕ) (next : Option ℕ) (left : ℕ) → ((to : ℕ) → d ≡ Some to → Goes_to gives.Number to (height 0 0 0 0)) → Leads (runs_dealloc d here (Ending back w o next left ∷ others))
-      dealloc_leads None next left goes = (inr (record { at_end = refl; is_ending = tt; none = none; empty = empty; alive = alive next left }, later), dying next left, sane)
-      dealloc_leads (Some to) next left goes =
-          let g = goes to refl in
-          let few = ap length none in
-          let many = ap length empty in (
-            inl (
-              gives.Number,
-              length stack,
-              held.names,
-              record { high = height 0 0 0 0; stands = g.0; count = omega arith; own = []; is = refl; size = refl; few = omega (arith, few); many = many; held = tt; nil = λ k c. shut_end gives.Number held.variables k (omega (arith, many)); ready = inl g.2; alive = alive next left; running = tt },
-              later,
-            ),
-            dying next left,
-            sane,
-          )
+      -- the next field lets go of what it names
+      next_lead : (index : ℕ) (fields : List ℕ) → IsDying held.objects (suc k) (Some (index ∷ fields)) → Leads (clears_next p (at (Clearing back w (suc k) fields ∷ others) p.end_step stack held) (suc k) index)
+      next_lead index fields dies =
+          let ob = dies.0 in
+          let frames : List Frame = Clearing back w (suc k) fields ∷ others in
+          let s = at frames p.end_step stack held in
+          let there_now = ap is_there dies.2.0 in
+          let stays : Held → Next State = λ h. Goes (at frames p.end_step stack h) [] in
+          let ends : ℕ → ℕ → Held → Next State = λ other class h. begins_end p s p.end_step other class h (has_level s) in
+          let go : Object → Next State = λ x. on_place (slice_get x.strong index) (stays held) (λ old. lets_go old (raised 0 (with_strong_field held (suc k) x index 0)) stays ends) in
+          subst Leads (sym (object_goes (slice_get held.objects k) ob go dies.1 there_now))
+          (place_leads (slice_get ob.strong index) _ _
+          (λ absent. (inr (ends_again _ tt alive, later), ((ob, dies.1, (dies.2.0, no_field index fields ob.strong absent dies.2.1)), dying), sane))
+          (λ old named.
+          let x = with_strong_fields ob (slice_set ob.strong index 0) in
+          let held1 = raised 0 (with_strong_field held (suc k) ob index 0) in
+          let drops = sane_store_field held k ob index old 0 dies.1 there_now named tt sane in
+          let dying1 : AllDying held1.objects (ending frames) = ((x, set_here held.objects k x ob dies.1, (dies.2.0, one_nil index fields ob.strong dies.2.1)), still x) in
+          lets_go_leads old held1 stays ends drops
+          (λ sane1. (inr (ends_again _ tt alive, later), dying1, sane1))
+          (λ j other e found live.
+          begins_lead frames (has_level s) j p.end_step p.end_step other stack held held1 found live dying1 (subst (λ q. Drops p.classes q held1) e drops)
+          (λ apart. (apart, splits_as held1, inr (ends_again _ tt alive, later))))))
 
-      class_leads : (i : ℕ) (c : Option Class) (left : ℕ) → slice_get p.classes i ≡ c → Leads (ends_class p here back w o c left others)
-      class_leads i None left e = after_lead back w o others frames (dying None left).0 (dying None left).1 (alive None 0) later
-      class_leads i (Some d) left e = dealloc_leads d.dealloc d.superclass left (λ to f. dealloc_goes R i d to (ap (λ cs. slice_get cs i) (sym classes) ∙ e) f)
+      -- its next dealloc, of which what ends is as far as before
+      module _ (dies : IsDying held.objects (suc k) None) (frames : List Frame) where
+        dealloc_leads : (d : Option ℕ) (next : Option ℕ) (left : ℕ) → ((to : ℕ) → d ≡ Some to → Goes_to gives.Number to (height 0 0 0 0)) → Leads (runs_dealloc d (at frames p.end_step stack held) (Ending back w (suc k) next left ∷ others))
+        dealloc_leads None next left goes = (inr (ends_again _ tt alive, later), (dies, dying), sane)
+        dealloc_leads (Some to) next left goes =
+            let g = goes to refl in
+            let few = ap length none in
+            let many = ap length empty in (
+              inl (
+                gives.Number,
+                length stack,
+                held.names,
+                record { high = height 0 0 0 0; stands = g.0; count = omega arith; own = []; is = refl; size = refl; few = omega (arith, few); many = many; held = tt; nil = λ i c. shut_end gives.Number held.variables i (omega (arith, many)); ready = inl g.2; alive = alive; running = tt },
+                later,
+              ),
+              (dies, dying),
+              sane,
+            )
+
+        class_leads : (i : ℕ) (c : Option Class) (left : ℕ) → slice_get p.classes i ≡ c → Leads (ends_class p (at frames p.end_step stack held) back w (suc k) c left others)
+        class_leads i None left e = after_lead frames dies
+        class_leads i (Some d) left e = dealloc_leads d.dealloc d.superclass left (λ to f. dealloc_goes R i d to (ap (λ cs. slice_get cs i) (sym classes) ∙ e) f)
 
     goes_on_leads : (frames : List Frame) → IsEnding frames → Alive frames held.places held.self → Waits gives.Number frames (length stack) held.names held.places → AllDying held.objects (ending frames) → Leads (end_goes_on p (at frames p.end_step stack held) frames)
-    goes_on_leads (Ending back w o None left ∷ others) is alive waits dying = after_lead back w o others (Ending back w o None left ∷ others) dying.0 dying.1 alive waits
-    goes_on_leads (Ending back w o (Some c) zero ∷ others) is alive waits dying = after_lead back w o others (Ending back w o (Some c) zero ∷ others) dying.0 dying.1 alive waits
-    goes_on_leads (Ending back w o (Some c) (suc left) ∷ others) is alive waits dying = class_leads back w o others (λ n l. alive) waits (λ n l. dying) (Ending back w o (Some c) (suc left) ∷ others) c (slice_get p.classes c) left refl
-    goes_on_leads (Clearing back w o [] ∷ others) is alive waits dying =
+    goes_on_leads (Ending back w zero next left ∷ others) is alive waits dying = absurd (no_nil held.objects None dying.0)
+    goes_on_leads (Clearing back w zero fields ∷ others) is alive waits dying = absurd (no_nil held.objects (Some fields) dying.0)
+    goes_on_leads (Ending back w (suc k) None left ∷ others) is alive waits dying = after_lead back w k others alive dying.1 waits (Ending back w (suc k) None left ∷ others) dying.0
+    goes_on_leads (Ending back w (suc k) (Some c) zero ∷ others) is alive waits dying = after_lead back w k others alive dying.1 waits (Ending back w (suc k) (Some c) zero ∷ others) dying.0
+    goes_on_leads (Ending back w (suc k) (Some c) (suc left) ∷ others) is alive waits dying = class_leads back w k others alive dying.1 waits dying.0 _ c (slice_get p.classes c) left refl
+    goes_on_leads (Clearing back w (suc k) [] ∷ others) is alive waits dying =
         let ob = dying.0.0 in
-        ends_lead (nat_eq (held.counts o) 0) back w o others (Clearing back w o [] ∷ others) ob dying.0.1 (λ k. ap (holders (suc k)) (there_fields ob (ap is_there dying.0.2.0)) ∙ nil_named ob.strong dying.0.2.1 k) dying.1 refl waits
-    goes_on_leads (Clearing back w o (index ∷ fields) ∷ others) is alive waits dying = next_lead back w o index fields others dying.0 dying.1 alive waits
+        let named : (i : ℕ) → holders (suc i) (fields_of ob) ≡ 0 = λ i. ap (holders (suc i)) (there_fields ob (ap is_there dying.0.2.0)) ∙ nil_named ob.strong dying.0.2.1 i in
+        ends_lead back w k others alive dying.1 waits (nat_eq (held.counts (suc k)) 0) ob dying.0.1 named refl
+    goes_on_leads (Clearing back w (suc k) (index ∷ fields) ∷ others) is alive waits dying = next_lead back w k others alive dying.1 waits index fields dying.0
     goes_on_leads _ is alive waits dying = absurd is
 
   -- ---- the program
