@@ -162,25 +162,21 @@ module _ (p : Program) (frames : List Frame) (bound : ℕ) (R : resolved.Program
     result_runs [] h n go size next = last_runs h.variables n (λ r. go r (with_variables h [])) size (next refl)
     result_runs (r ∷ others) h n go size next = stuck_runs (moves p) bound w.input w.trace end o
 
+  left_there : (wanted : Gives) (v : ℤ) (w : World) (pc : ℕ) → Fine false w → w.frame.temporaries ≡ []
+      → Goes_to w (Left wanted) (Done (answer_with F v w) (left before w)) (leaves_with wanted (at frames pc (v ∷ below) (held_of rs w)) frames (answer_with F v w) (with_variables (held_of rs w) []))
+  left_there wanted v w pc g none =
+      let a = answer_with F v w in
+      ends_here (moves p) bound _ (Left wanted) a (left before w) (ap (λ n. follow n w.input w.trace) (bared_leaves wanted a w pc g none), record { frame = refl; waiting = refl })
+
   -- the last action of a function
   last_step_runs : (wanted : Gives) (v : ℤ) (w : World) (pc : ℕ) → Fine false w → length w.frame.strong ≡ (if same_gives wanted gives.Object then suc F.names else F.names) → HasAt p pc (leaving_order wanted ∷ [])
       → Runs (moves p) bound (running frames rs pc (v ∷ below) w) (Left wanted) (Done (answer_with F v w) (left before w))
   last_step_runs gives.Number v w pc g size has =
-      let h = held_of rs w in
-      let s = at frames pc (v ∷ below) h in
-      let a = answer_with F v w in
-      let o = Done a (left before w) in
-      one_runs p frames bound rs Return pc (v ∷ below) w (Left gives.Number) o has
-      (left_runs w (Left gives.Number) o w.frame.temporaries h (acting.leaves p s frames v below) (λ none.
-      ends_here (moves p) bound _ (Left gives.Number) a (left before w) (ap (λ n. follow n w.input w.trace) (bared_leaves gives.Number a w pc g none), record { frame = refl; waiting = refl })))
+      one_runs p frames bound rs Return pc (v ∷ below) w (Left gives.Number) (Done (answer_with F v w) (left before w)) has
+      (left_runs w (Left gives.Number) (Done (answer_with F v w) (left before w)) w.frame.temporaries (held_of rs w) _ (left_there gives.Number v w pc g))
   last_step_runs gives.Object v w pc g size has =
-      let h = held_of rs w in
-      let s = at frames pc (v ∷ below) h in
-      let a = answer_with F v w in
-      let o = Done a (left before w) in
-      one_runs p frames bound rs instrs.Give pc (v ∷ below) w (Left gives.Object) o has
-      (result_runs w (Left gives.Object) o w.frame.temporaries h F.names (λ r. instructions.hands_over (bare p) s frames r below) size (λ none.
-      ends_here (moves p) bound _ (Left gives.Object) a (left before w) (ap (λ n. follow n w.input w.trace) (bared_leaves gives.Object a w pc g none), record { frame = refl; waiting = refl })))
+      one_runs p frames bound rs instrs.Give pc (v ∷ below) w (Left gives.Object) (Done (answer_with F v w) (left before w)) has
+      (result_runs w (Left gives.Object) (Done (answer_with F v w) (left before w)) w.frame.temporaries (held_of rs w) F.names _ size (left_there gives.Object v w pc g))
 
   -- the variables are emptied, and the result is put in their place
   leave_runs : (v : ℤ) (w : World) → Fine false w → HasAt p exit (leave_orders F) → Runs (moves p) bound (running frames rs exit (v ∷ vars w) w) (Left F.gives) (then_do (variables_dropped D 0 F.names w) (λ _ w2. Done (answer_with F v w2) (left before w2)))

@@ -1,5 +1,5 @@
 -- Each order of a lowered program has what it needs, with the heights before it.
-use Rattle.std.proofs.Common.{◌≡◌, inl, inr, ℕ, zero, suc, ◌+◌, ◌-◌, ◌≤◌, pos, Bool, true, false, if◌then◌else◌, List, [], ◌∷◌, ◌++◌, length, Option, Some, None, refl, sym, ap, ◌∙◌, subst, arith, length-append, append_assoc, add-zero, slice_get, slice_index_or}
+use Rattle.std.proofs.Common.{◌≡◌, inl, inr, ℕ, zero, suc, ◌+◌, ◌-◌, ◌≤◌, pos, Bool, true, false, if◌then◌else◌, List, [], ◌∷◌, ◌++◌, length, Option, Some, None, refl, sym, ap, ◌∙◌, subst, arith, length-append, append_assoc, zero-add, add-zero, slice_get, slice_index_or}
 use Rattle.std.proofs.lemmas.Bool.{lt-ltb, false≢true}
 use Rattle.std.proofs.lemmas.Option.{get_or_from_slice_get}
 use Rattle.std.proofs.lemmas.Bool.Decides.{nat_tests}
@@ -17,7 +17,7 @@ use Rattle.arc_code.specs.declared.instr.Instr.TheVariants.{Plain, Jump, Call, R
 use Rattle.arc_code.specs.Effects.{passes, as_object}
 use Rattle.arc_ir.specs.declared.action.Target.TheVariants.{At}
 use Rattle.arc_lower.specs.Order.{Order}
-use Rattle.arc_lower.specs.Lowered.{all_functions, number_of, slots_of, parameters_of, call_orders, passing_orders, opening_orders, take_orders, own_orders, leaving_order, leave_orders, body_orders, declare_orders, pop_orders, keep_orders, all_empty_orders, no_turn, Spot, Between, Block, nothing_given, commands_block, flat, function_orders, functions_orders, entries_from, start_orders, end_step_of, entry_of, entries_of, stub_orders, methods_orders, dealloc_orders, class_orders, classes_orders, linked_methods, linked_dealloc, linked_classes, running_orders, lowered, classes_linked}
+use Rattle.arc_lower.specs.Lowered.{all_functions, number_of, slots_of, parameters_of, call_orders, passing_orders, opening_orders, take_orders, own_orders, leaving_order, leave_orders, body_orders, declare_orders, pop_orders, keep_orders, all_empty_orders, no_turn, Between, Block, nothing_given, commands_block, flat, function_orders, functions_orders, entries_from, start_orders, end_step_of, entry_of, entries_of, stub_orders, methods_orders, dealloc_orders, class_orders, classes_orders, linked_methods, linked_dealloc, linked_classes, running_orders, lowered, classes_linked}
 use Rattle.arc_lower.specs.Size.{object_parameters, owned_by}
 use Rattle.arc_lower.specs.Heights.{height, between, next_height, walk, Walk, next_walk, last_walk, walk_heights, heights, start_heights, function_heights, stub_heights, dealloc_heights, in_function, functions_marks, methods_marks, class_marks, classes_marks, lowered_marks}
 use Rattle.arc_lower.proofs.Cases.{by_test}
@@ -97,15 +97,12 @@ module _ (R : resolved.Program) where
     abbrev start : ℕ
     start = entered + length opening
 
-    -- what leaves it without a value
-    abbrev none : Block
-    none = nothing_given place
-
-    abbrev here : Spot
-    here = Between start no_turn
+    -- what it does, where nothing leaves it without a value
+    abbrev done : Block
+    done = commands_block place (nothing_given place) (nothing_given place) cs
 
     abbrev statements : List Order
-    statements = flat R slots names here (commands_block place none none cs)
+    statements = flat R slots names (Between start no_turn) done
 
     abbrev end : List Order
     end = Plain (Num (pos 0)) ∷ Jump (At place) ∷ []
@@ -116,8 +113,8 @@ module _ (R : resolved.Program) where
     abbrev Rows : ℕ → Height → List Order → Type 0
     Rows pc h = Row R all table given base pc (walk h [])
 
-    statements_type : BlockTypes R 0 0 slots names place false true base (commands_block place none none cs) base
-    statements_type = commands_type R slots names place false none none (nothing_types R slots names place false) (nothing_types R slots names place false) cs
+    statements_type : BlockTypes R 0 0 slots names place false true base done base
+    statements_type = commands_type R slots names place false (nothing_given place) (nothing_given place) (nothing_types R slots names place false) (nothing_types R slots names place false) cs
 
     empty_stays : (i : ℕ) → next_height R (Empty i) leaving ≡ leaving
     empty_stays i = alike_same _ _ (omega arith)
@@ -175,13 +172,13 @@ module _ (R : resolved.Program) where
       rows = subst (λ w. Row R all table given base start w (statements ++ end)) (types_last R 0 0 base begun [] opening base opening_typed) (row_back R all table given base entered (walk begun []) opening (statements ++ end) body_row)
 
       ends : (after : List Height) × (last_walk R base (walk base []) statements ≡ walk base after) × Keeps R 0 0 slots names place base true [] after
-      ends = block_ends R 0 0 slots names place base here false true (commands_block place none none cs) base base [] (refl, tt, tt) statements_type
+      ends = block_ends R 0 0 slots names place base (Between start no_turn) false true done base base [] (refl, tt, tt) statements_type
 
       last : Row R all table given base (start + length statements) (walk base ends.0) end
       last = subst (λ w. Row R all table given base (start + length statements) w end) ends.1 (row_back R all table given base start (walk base []) statements end rows)
 
       statements_go : Goes_to given start base × Step_all start statements
-      statements_go = block_steps R all table given slots names place exit_goes here no_turn false true (commands_block place none none cs) base base start [] (λ s. refl) (λ s. absurd (false≢true s)) (refl, tt, tt) statements_type (row_front R all table given base start (walk base []) statements end rows) (opens_goes R all table given (start + length statements) base (Plain (Num (pos 0))) refl last.0 last.1)
+      statements_go = block_steps R all table given slots names place exit_goes (Between start no_turn) no_turn false true done base base start [] (λ s. refl) (λ s. absurd (false≢true s)) (refl, tt, tt) statements_type (row_front R all table given base start (walk base []) statements end rows) (opens_goes R all table given (start + length statements) base (Plain (Num (pos 0))) refl last.0 last.1)
 
       opening_goes : Goes_to given entered begun × Step_all entered opening
       opening_goes = typed_steps R all table given base entered begun [] opening base opening_typed (row_front R all table given base entered (walk begun []) opening (statements ++ end) body_row) statements_go.0
@@ -469,17 +466,14 @@ module _ (R : resolved.Program) where
   has_running : Both 0 (first ++ functions) (running_orders R)
   has_running = (both_split 0 (first ++ functions) (classes_marks R (entries_of R) R.classes) (running_orders R) (classes_orders R (entries_of R) R.classes) running_length has_all).0
 
-  none_more : (n : ℕ) → 0 + n ≡ n
-  none_more n = omega arith
-
   has_start : Both 0 first (start_orders R)
   has_start = (both_split 0 first functions (start_orders R) function_list start_length has_running).0
 
   has_functions : Both (length (start_orders R)) functions function_list
-  has_functions = subst (λ n. Both n functions function_list) (none_more (length (start_orders R))) (both_split 0 first functions (start_orders R) function_list start_length has_running).1
+  has_functions = subst (λ n. Both n functions function_list) (zero-add (length (start_orders R))) (both_split 0 first functions (start_orders R) function_list start_length has_running).1
 
   has_stubs : Classes (length (running_orders R)) R.classes
-  has_stubs = subst (λ n. Classes n R.classes) (none_more (length (running_orders R))) (both_split 0 (first ++ functions) (classes_marks R (entries_of R) R.classes) (running_orders R) (classes_orders R (entries_of R) R.classes) running_length has_all).1
+  has_stubs = subst (λ n. Classes n R.classes) (zero-add (length (running_orders R))) (both_split 0 (first ++ functions) (classes_marks R (entries_of R) R.classes) (running_orders R) (classes_orders R (entries_of R) R.classes) running_length has_all).1
 
   -- a function is entered with its variables
   pub entered_at : (wanted : Gives) (f : ℕ) → Entered (entries_of R) (number_of R wanted f) (function_at R wanted f)
@@ -512,9 +506,6 @@ module _ (R : resolved.Program) where
   abbrev call : List Order
   call = main_call ∷ (Return ∷ (EndStep ∷ []))
 
-  zeros_typed : Types R 0 0 zeroed zeros main_ready
-  zeros_typed = fit_typed gives.Number 0 0 R.main
-
   -- the call comes before the end
   start_is : start_orders R ≡ zeros ++ call
   start_is = append_assoc zeros (main_call ∷ []) (Return ∷ (EndStep ∷ []))
@@ -523,10 +514,10 @@ module _ (R : resolved.Program) where
   start_row = subst (Row R all table gives.Number zeroed 0 (walk zeroed [])) start_is (row gives.Number zeroed zeroed 0 (start_orders R) has_start)
 
   call_row : Row R all table gives.Number zeroed (0 + length zeros) (walk main_ready []) call
-  call_row = subst (λ w. Row R all table gives.Number zeroed (0 + length zeros) w call) (types_last R 0 0 zeroed zeroed [] zeros main_ready zeros_typed) (row_back R all table gives.Number zeroed 0 (walk zeroed []) zeros call start_row)
+  call_row = subst (λ w. Row R all table gives.Number zeroed (0 + length zeros) w call) (types_last R 0 0 zeroed zeroed [] zeros main_ready (fit_typed gives.Number 0 0 R.main)) (row_back R all table gives.Number zeroed 0 (walk zeroed []) zeros call start_row)
 
   zeros_start : Goes_to gives.Number 0 zeroed × Step_all 0 zeros
-  zeros_start = typed_steps R all table gives.Number zeroed 0 zeroed [] zeros main_ready zeros_typed (row_front R all table gives.Number zeroed 0 (walk zeroed []) zeros call start_row) (opens_goes R all table gives.Number (0 + length zeros) main_ready main_call refl call_row.0 call_row.1)
+  zeros_start = typed_steps R all table gives.Number zeroed 0 zeroed [] zeros main_ready (fit_typed gives.Number 0 0 R.main) (row_front R all table gives.Number zeroed 0 (walk zeroed []) zeros call start_row) (opens_goes R all table gives.Number (0 + length zeros) main_ready main_call refl call_row.0 call_row.1)
 
   pub start_goes : Goes_to gives.Number 0 zeroed
   start_goes = zeros_start.0
@@ -557,8 +548,8 @@ module _ (R : resolved.Program) where
   program_steps : Step_all 0 (lowered R)
   program_steps =
       step_then R all table 0 (running_orders R) (classes_orders R (entries_of R) R.classes)
-      (step_then R all table 0 (start_orders R) function_list start_steps (subst (λ n. Step_all n function_list) (sym (none_more (length (start_orders R)))) (functions_step (all_functions R) (length (start_orders R)) has_functions)))
-      (subst (λ n. Step_all n (classes_orders R (entries_of R) R.classes)) (sym (none_more (length (running_orders R)))) (classes_step target R.classes (length (running_orders R)) has_stubs))
+      (step_then R all table 0 (start_orders R) function_list start_steps (subst (λ n. Step_all n function_list) (sym (zero-add (length (start_orders R)))) (functions_step (all_functions R) (length (start_orders R)) has_functions)))
+      (subst (λ n. Step_all n (classes_orders R (entries_of R) R.classes)) (sym (zero-add (length (running_orders R)))) (classes_step target R.classes (length (running_orders R)) has_stubs))
 
   pub steps_at : (pc : ℕ) (x : Order) → slice_get (lowered R) pc ≡ Some x → StepsAt R all table pc x
-  steps_at pc x e = subst (λ q. StepsAt R all table q x) (none_more pc) (each_at _ 0 pc (lowered R) x program_steps e)
+  steps_at pc x e = subst (λ q. StepsAt R all table q x) (zero-add pc) (each_at _ 0 pc (lowered R) x program_steps e)

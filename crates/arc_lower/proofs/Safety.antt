@@ -14,7 +14,7 @@ use Rattle.arc_spec.specs.World.{name_at}
 use Rattle.arc_spec.specs.declared.event.Fault.TheVariants.{FieldClass, Resurrected, Unrecognized}
 use Rattle.arc_spec.specs.Meaning.{chosen}
 use Rattle.arc_spec.specs.Number.{combined, counted, is_zero}
-use Rattle.arc_spec.specs.Objects.{Object, Dying, Emptying, Gone, object_at, with_object, with_fields, with_strong_fields, in_phase, is_live, is_emptying, fields_of}
+use Rattle.arc_spec.specs.Objects.{Object, Dying, Emptying, Gone, nils, object_at, with_object, with_fields, with_strong_fields, in_phase, is_live, is_emptying, fields_of}
 use Rattle.arc_spec.specs.Resolved as resolved
 use Rattle.arc_spec.specs.Holding.{Held, Frame, Calling, Ending, Clearing, Waiter, waiter_of, Counted, holders, is_there, stacked, with_strong_globals, with_strong_field, on_place, turned_in, with_temporaries, with_variables, with_names, with_things, lowered, raised, named, taken_by, on_named, on_field, declares, lets_go, resumed, all_nil, on_left, on_last, on_result, given_back, with_field}
 use Rattle.arc_spec.specs.Stepping.{Next, Goes, Asks, Faults, Stuck, Along, Safe, Sound, on_top, on_found, only_if}
@@ -32,7 +32,7 @@ use Rattle.arc_lower.specs.Order.{Order, order, orders}
 use Rattle.arc_lower.specs.Lowered.{slots_of, parameters_of, entries_of, end_step_of, lowered as lowered_orders, classes_linked}
 use Rattle.arc_lower.specs.Heights.{height, next_height}
 use Rattle.arc_lower.proofs.Cases.{by_test}
-use Rattle.arc_lower.proofs.CountsPlaces.{seam, IsThere, AllThere, place_there, name_there, object_goes, named_goes, set_here, set_same, set_other, holders_head, holders_nil, holders_append, all_holders, live_there, there_fields}
+use Rattle.arc_lower.proofs.CountsPlaces.{seam, IsThere, AllThere, place_there, name_there, object_goes, named_goes, set_here, set_same, set_other, holders_head, nils_holders, holders_append, all_holders, live_there, there_fields}
 use Rattle.arc_lower.proofs.CountsKept.{Sane, Drops, gains, sane_moved, sane_start, sane_declare, fits_at, sane_counted, variables_there, waiting_there, stacked_there, globals_there, fields_there, sane_store, sane_store_global, sane_store_field, sane_drop, sane_settle, drops_there, sane_nil, sane_last, sane_other, sane_make, sane_field, sane_empty, sane_gone}
 use Rattle.arc_lower.proofs.Doing.{at, resumed_as, bare, does, executes_at}
 use Rattle.arc_lower.proofs.Standing.{no_nil, ending, AllDying, IsDying, NilBut, Alive, nil_alive, ends_there, ending_alive, IsHeld, last_held, held_there, held_within, made_dying, changed_dying, IsApart, live_apart, apart_dying, stored_far, fields_far, one_nil, no_field, nil_named, all_in_order}
@@ -61,31 +61,19 @@ shut_set mine n variables h i k above lt named = ⊎_elim
 no_names : NilBut [] []
 no_names i k e = cc
 
--- all but the last one are nil, and that names this
-abbrev LastIs : ℕ → List ℕ → Type 0
-LastIs r [] = ⊥
-LastIs r (q ∷ []) = q ≡ r
-LastIs r (q ∷ next ∷ rest) = (q ≡ 0) × LastIs r (next ∷ rest)
-
-last_there : (variables : List ℕ) → 1 ≤ length variables → Shut gives.Object 0 variables → (r : ℕ) × LastIs r variables
+-- all but the last one are nil, which names an object
+last_there : (variables : List ℕ) → 1 ≤ length variables → Shut gives.Object 0 variables → (n : ℕ) × (r : ℕ) × (variables ≡ nils n ++ r ∷ [])
 last_there [] some h = absurd (omega (arith, some))
-last_there (r ∷ []) some h = (r, refl)
+last_there (r ∷ []) some h = (0, r, refl)
 last_there (suc k ∷ q ∷ rest) some h = absurd (h 0 k (omega arith) (omega arith) refl)
 last_there (zero ∷ q ∷ rest) some h =
     let deep = last_there (q ∷ rest) (omega arith) (λ i k above lt. h (suc i) k (omega arith) (omega (arith, lt))) in
-    (deep.0, (refl, deep.1))
+    (suc deep.0, deep.1, ap (λ l. 0 ∷ l) deep.2)
 
-last_goes : {S : Type 0} (r : ℕ) (variables : List ℕ) (go : ℕ → Next S) → LastIs r variables → on_last variables go ≡ go r
-last_goes r [] go h = absurd h
-last_goes r (q ∷ []) go h = ap go h
-last_goes r (zero ∷ q ∷ rest) go h = last_goes r (q ∷ rest) go h.1
-last_goes r (suc k ∷ q ∷ rest) go h = absurd (omega (arith, h.0))
-
-last_holders : (k r : ℕ) (variables : List ℕ) → LastIs r variables → holders (suc k) variables ≡ holders (suc k) (r ∷ [])
-last_holders k r [] h = absurd h
-last_holders k r (q ∷ []) h = ap (λ x. holders (suc k) (x ∷ [])) h
-last_holders k r (zero ∷ q ∷ rest) h = omega (arith, holders_nil k (q ∷ rest), last_holders k r (q ∷ rest) h.1)
-last_holders k r (suc j ∷ q ∷ rest) h = absurd (omega (arith, h.0))
+last_goes : {S : Type 0} (n r : ℕ) (go : ℕ → Next S) → on_last (nils n ++ r ∷ []) go ≡ go r
+last_goes zero r go = refl
+last_goes (suc zero) r go = refl
+last_goes (suc (suc n)) r go = last_goes (suc n) r go
 
 nil_seen : (variables : List ℕ) → NilBut [] variables → all_nil variables ≡ true
 nil_seen [] nil = refl
@@ -167,11 +155,11 @@ again_sane w h s none nil sane = sane_moved (λ k.
     omega (arith, ap (holders (suc k)) s.is, holders_append (suc k) (s.temporaries ++ s.variables) s.waiting, holders_append (suc k) s.temporaries s.variables, all_holders (suc k) h1, all_holders (suc k) h, nil_named h.variables nil k, ap (holders (suc k)) none)) sane
 
 -- the function that is left has no temporary, and of its variables the last one alone names something: that is a temporary of the one that runs again
-given_sane : {classes : List Class} (w : Waiter) (h : Held) (s : Splits w h.places) (r : ℕ) → h.temporaries ≡ [] → LastIs r h.variables → Sane classes h → Sane classes (given_back r (again w s (with_variables h [])))
-given_sane w h s r none last sane =
+given_sane : {classes : List Class} (w : Waiter) (h : Held) (s : Splits w h.places) (n r : ℕ) → h.temporaries ≡ [] → h.variables ≡ nils n ++ r ∷ [] → Sane classes h → Sane classes (given_back r (again w s (with_variables h [])))
+given_sane w h s n r none last sane =
     let h1 = given_back r (again w s (with_variables h [])) in
     sane_moved (λ k.
-    omega (arith, ap (holders (suc k)) s.is, holders_append (suc k) (s.temporaries ++ s.variables) s.waiting, holders_append (suc k) s.temporaries s.variables, all_holders (suc k) h1, all_holders (suc k) h, last_holders k r h.variables last, holders_head (suc k) r s.temporaries, holders_head (suc k) r [], ap (holders (suc k)) none)) sane
+    omega (arith, ap (holders (suc k)) s.is, holders_append (suc k) (s.temporaries ++ s.variables) s.waiting, holders_append (suc k) s.temporaries s.variables, all_holders (suc k) h1, all_holders (suc k) h, ap (holders (suc k)) last, holders_append (suc k) (nils n) (r ∷ []), nils_holders k n, holders_head (suc k) r s.temporaries, holders_head (suc k) r [], ap (holders (suc k)) none)) sane
 
 left_sane : {classes : List Class} (h : Held) → h.temporaries ≡ [] → NilBut [] h.variables → Sane classes h → Sane classes (with_variables h [])
 left_sane h none nil sane = sane_moved (λ k. omega (arith, all_holders (suc k) (with_variables h []), all_holders (suc k) h, nil_named h.variables nil k)) sane
@@ -320,9 +308,9 @@ module _ (p : Program) (R : resolved.Program) where
       (λ t. e k ob refl there.1 (and_parts (is_live (Some ob)) (nat_eq (held.counts (suc k)) 1) t).0)
       (λ t. h (sane_other held k ob there.1 t drops)))
 
-  last_leads : (r : ℕ) (temporaries : List ℕ) (held : Held) (go : ℕ → Held → Next State) → temporaries ≡ [] → LastIs r held.variables → Leads (go r (with_variables held [])) → Leads (on_result temporaries held go)
-  last_leads r [] held go none last h = subst Leads (sym (last_goes r held.variables (λ q. go q (with_variables held [])) last)) h
-  last_leads r (q ∷ others) held go none last h = cc
+  last_leads : (n r : ℕ) (temporaries : List ℕ) (held : Held) (go : ℕ → Held → Next State) → temporaries ≡ [] → held.variables ≡ nils n ++ r ∷ [] → Leads (go r (with_variables held [])) → Leads (on_result temporaries held go)
+  last_leads n r [] held go none last h = subst Leads (sym (ap (λ l. on_last l (λ q. go q (with_variables held []))) last ∙ last_goes n r (λ q. go q (with_variables held [])))) h
+  last_leads n r (q ∷ others) held go none last h = cc
 
   -- a function is left that gives a number
   leaves_lead : (frames : List Frame) (below : ℕ) (deeper : List ℕ) (pc : ℕ) (v : ℤ) (stack rest : List ℤ) (held : Held) → Waits gives.Number frames below deeper held.places → Alive frames held.places held.self → length stack ≡ suc (length rest) → below ≡ length rest → held.names ≡ deeper → held.temporaries ≡ [] → NilBut [] held.variables → AllDying held.objects (ending frames) → Sane p.classes held → Runs frames
@@ -342,16 +330,16 @@ module _ (p : Program) (R : resolved.Program) where
   leaves_lead (Clearing back w o fields ∷ others) below deeper pc v stack rest held waits alive size e f none nil dying sane running = absurd running
 
   -- one that gives an object, which was called
-  hands_lead : (frames : List Frame) (below : ℕ) (deeper : List ℕ) (pc r : ℕ) (stack rest : List ℤ) (held : Held) → Waits gives.Object frames below deeper held.places → below ≡ length rest → held.names ≡ deeper → held.temporaries ≡ [] → LastIs r held.variables → AllDying held.objects (ending frames) → Sane p.classes held
+  hands_lead : (frames : List Frame) (below : ℕ) (deeper : List ℕ) (pc n r : ℕ) (stack rest : List ℤ) (held : Held) → Waits gives.Object frames below deeper held.places → below ≡ length rest → held.names ≡ deeper → held.temporaries ≡ [] → held.variables ≡ nils n ++ r ∷ [] → AllDying held.objects (ending frames) → Sane p.classes held
       → Leads (instructions.hands_over (bare p) (at frames pc stack held) frames r rest (with_variables held []))
-  hands_lead (Calling back w ∷ others) below deeper pc r stack rest held waits e f none last dying sane =
+  hands_lead (Calling back w ∷ others) below deeper pc n r stack rest held waits e f none last dying sane =
       let h = with_variables held [] in
       let mine = waits.0 in
       let s = waits.3 in
       let resumes = subst (λ l. Resumes mine back w.self others (length rest) waits.1 (r ∷ l) waits.2 (r ∷ s.temporaries) s.variables s.waiting) (sym f) (subst (λ n. Resumes mine back w.self others n waits.1 (r ∷ deeper) waits.2 (r ∷ s.temporaries) s.variables s.waiting) e (waits.4 r)) in
       subst (λ h1. Good (at others back rest (given_back r h1))) (sym (resumes_again w h s))
-      (inl (mine, waits.1, waits.2, resumes, waits.5), dying, given_sane w held s r none last sane)
-  hands_lead _ below deeper pc r stack rest held waits e f none last dying sane = absurd waits
+      (inl (mine, waits.1, waits.2, resumes, waits.5), dying, given_sane w held s n r none last sane)
+  hands_lead _ below deeper pc n r stack rest held waits e f none last dying sane = absurd waits
 
   -- ---- ends that begin
 
@@ -852,8 +840,8 @@ module _ (p : Program) (R : resolved.Program) where
           let clears : Clear 0 pc = (0, ap role_of is) in
           let shut = subst (λ g. Shut g 0 held.variables) st.3 (nil 0 clears) in
           let last = last_there held.variables (omega (arith, many, st.4)) shut in
-          top_leads Good stack _ (omega (arith, count, st.0)) (λ v rest e. last_leads last.0 held.temporaries held _ none last.1
-          (hands_lead frames below deeper pc last.0 stack rest held (subst (λ g. Waits g frames below deeper held.places) st.3 (subst (Waits mine frames below deeper) (sym o.places) waits)) (omega (arith, count, st.0, e)) (o.is ∙ ap (λ l. l ++ deeper) (nil_from_length own (omega (arith, size, st.1)))) none last.1 o.dying o.sane))
+          top_leads Good stack _ (omega (arith, count, st.0)) (λ v rest e. last_leads last.0 last.1 held.temporaries held _ none last.2
+          (hands_lead frames below deeper pc last.0 last.1 stack rest held (subst (λ g. Waits g frames below deeper held.places) st.3 (subst (Waits mine frames below deeper) (sym o.places) waits)) (omega (arith, count, st.0, e)) (o.is ∙ ap (λ l. l ++ deeper) (nil_from_length own (omega (arith, size, st.1)))) none last.2 o.dying o.sane))
       order_leads Return is stands no_end nil ready st =
           let none = nil_from_length held.temporaries (omega (arith, few, st.2)) in
           let clears : Clear 0 pc = (0, ap role_of is) in
