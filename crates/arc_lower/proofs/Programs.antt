@@ -27,7 +27,7 @@ use Rattle.arc_lower.proofs.Typing.{alike_same, slots_same, parameters_same, num
 use Rattle.arc_lower.proofs.HeightsEnd.{Keeps, block_ends}
 use Rattle.arc_lower.proofs.Forms.{nothing_types, commands_type}
 use Rattle.arc_lower.proofs.Doing.{each_front, each_back, each_at}
-use Rattle.arc_lower.proofs.Stepping.{some_same, HasPart, has_whole, Leaves, Empties, role, role_of, role_at, Clears, Stands, Goes, Free, calm_free, Steps, StepsAt, AllStep, step_then, opens_goes, none_goes, Row, row_of, row_front, row_back, typed_steps, AllTake, takes_stand, takes_step, block_steps}
+use Rattle.arc_lower.proofs.Stepping.{some_same, HasPart, has_whole, Leaves, Empties, role, role_of, role_at, Clears, Stands, Goes, Free, calm_free, Steps, StepsAt, AllStep, step_then, opens_goes, Stays, none_goes, Row, row_of, row_front, row_back, typed_steps, AllTake, takes_stand, takes_step, block_steps}
 use Rattle.std.specs.Option.{option_or}
 
 in_append : (given : Gives) (a b : List Height) → in_function given (a ++ b) ≡ in_function given a ++ in_function given b
@@ -306,33 +306,35 @@ module _ (R : resolved.Program) where
   stub_length : (wanted : Gives) (values objects f : ℕ) → length (stub_marks wanted values objects f) ≡ length (stub wanted values objects f)
   stub_length wanted values objects f = marks_length wanted zeroed (walk (height values objects 0 0) []) (stub wanted values objects f)
 
-  fit_typed : (wanted : Gives) (values objects f : ℕ) → Types R 0 0 (height values objects 0 0) (passing_orders R wanted f values objects) (height (slots_of R wanted f) (parameters_of R wanted f) 0 0)
+  -- the height at which a function is called
+  abbrev called : (wanted : Gives) → (f : ℕ) → Height
+  called wanted f = height (slots_of R wanted f) (parameters_of R wanted f) 0 0
+
+  fit_typed : (wanted : Gives) (values objects f : ℕ) → Types R 0 0 (height values objects 0 0) (passing_orders R wanted f values objects) (called wanted f)
   fit_typed wanted values objects f = simp add-zero at (passing_types R 0 0 wanted f values objects 0 0 0 0)
 
-  module _ (wanted : Gives) (values objects f place : ℕ) (has : Both place (stub_marks wanted values objects f) (stub wanted values objects f)) where
-    abbrev fit : List Order
-    fit = passing_orders R wanted f values objects
+  -- what comes to that height goes on with an order that stays there
+  passing_goes : (wanted : Gives) (values objects f place : ℕ) (x : Order) (later : List Order) → role x ≡ Stays
+      → Row R all table wanted zeroed place (walk (height values objects 0 0) []) (passing_orders R wanted f values objects ++ x ∷ later)
+      → (Goes_to wanted place (height values objects 0 0) × Step_all place (passing_orders R wanted f values objects))
+      × Row R all table wanted zeroed (place + length (passing_orders R wanted f values objects)) (walk (called wanted f) []) (x ∷ later)
+  passing_goes wanted values objects f place x later stays rows =
+      let xs = passing_orders R wanted f values objects in
+      let h = height values objects 0 0 in
+      let typed = fit_typed wanted values objects f in
+      let next = row_back R all table wanted zeroed place (walk h []) xs (x ∷ later) rows in
+      let last = subst (λ w. Row R all table wanted zeroed (place + length xs) w (x ∷ later)) (types_last R 0 0 zeroed h [] xs (called wanted f) typed) next in
+      let goes = opens_goes R all table wanted (place + length xs) (called wanted f) x stays last.0 last.1 in
+      (typed_steps R all table wanted zeroed place h [] xs (called wanted f) typed (row_front R all table wanted zeroed place (walk h []) xs (x ∷ later) rows) goes, last)
 
-    abbrev begin : Height
-    begin = height values objects 0 0
-
-    abbrev ready : Height
-    ready = height (slots_of R wanted f) (parameters_of R wanted f) 0 0
-
-    abbrev to : ℕ
-    to = slice_index_or (entries_of R) (number_of R wanted f) 0
-
-    stub_row : Row R all table wanted zeroed place (walk begin []) (stub wanted values objects f)
-    stub_row = row wanted zeroed begin place (stub wanted values objects f) has
-
-    stub_last : Row R all table wanted zeroed (place + length fit) (walk ready []) (Jump (At to) ∷ [])
-    stub_last = subst (λ w. Row R all table wanted zeroed (place + length fit) w (Jump (At to) ∷ [])) (types_last R 0 0 zeroed begin [] fit ready (fit_typed wanted values objects f)) (row_back R all table wanted zeroed place (walk begin []) fit (Jump (At to) ∷ []) stub_row)
-
-    stub_starts : Goes_to wanted place begin × Step_all place fit
-    stub_starts = typed_steps R all table wanted zeroed place begin [] fit ready (fit_typed wanted values objects f) (row_front R all table wanted zeroed place (walk begin []) fit (Jump (At to) ∷ []) stub_row) (opens_goes R all table wanted (place + length fit) ready (Jump (At to)) refl stub_last.0 stub_last.1)
-
-    stub_steps : Goes_to wanted to ready → Step_all place (stub wanted values objects f)
-    stub_steps goes = step_then R all table place fit (Jump (At to) ∷ []) stub_starts.1 (((ready, wanted), stub_last.0, (0, omega arith, goes)), tt)
+  stub_goes : (wanted : Gives) (values objects f place : ℕ) → Both place (stub_marks wanted values objects f) (stub wanted values objects f)
+      → Goes_to wanted place (height values objects 0 0)
+      × (Goes_to wanted (slice_index_or (entries_of R) (number_of R wanted f) 0) (called wanted f) → Step_all place (stub wanted values objects f))
+  stub_goes wanted values objects f place has =
+      let xs = passing_orders R wanted f values objects in
+      let jump = Jump (At (slice_index_or (entries_of R) (number_of R wanted f) 0)) in
+      let begun = passing_goes wanted values objects f place jump [] refl (row wanted zeroed (height values objects 0 0) place (stub wanted values objects f) has) in
+      (begun.0.0, λ goes. step_then R all table place xs (jump ∷ []) begun.0.1 (((called wanted f, wanted), begun.1.0, (0, omega arith, goes)), tt))
 
   abbrev method_marks : Method → List (Height × Gives)
   method_marks m = stub_marks m.gives (passes m.sign m.takes) m.objects m.runs
@@ -374,15 +376,15 @@ module _ (R : resolved.Program) where
       → Both place (dealloc_marks c.dealloc) (dealloc_orders R (entries_of R) c.dealloc) × Methods (place + length (dealloc_orders R (entries_of R) c.dealloc)) c.methods
   class_split place c has = both_split place (dealloc_marks c.dealloc) (methods_marks R (entries_of R) c.methods) _ _ (dealloc_length c.dealloc) has
 
-  module _ (target : (wanted : Gives) (f : ℕ) → Goes_to wanted (slice_index_or (entries_of R) (number_of R wanted f) 0) (height (slots_of R wanted f) (parameters_of R wanted f) 0 0)) where
+  module _ (target : (wanted : Gives) (f : ℕ) → Goes_to wanted (slice_index_or (entries_of R) (number_of R wanted f) 0) (called wanted f)) where
     methods_step : (ms : List Method) (place : ℕ) → Methods place ms → Step_all place (methods_orders R (entries_of R) ms)
     methods_step [] place has = tt
     methods_step (m ∷ others) place has =
-        step_then R all table place (method_stub m) (methods_orders R (entries_of R) others) (stub_steps m.gives (passes m.sign m.takes) m.objects m.runs place (methods_split place m others has).0 (target m.gives m.runs)) (methods_step others (place + length (method_stub m)) (methods_split place m others has).1)
+        step_then R all table place (method_stub m) (methods_orders R (entries_of R) others) ((stub_goes m.gives (passes m.sign m.takes) m.objects m.runs place (methods_split place m others has).0).1 (target m.gives m.runs)) (methods_step others (place + length (method_stub m)) (methods_split place m others has).1)
 
     dealloc_steps : (d : Option ℕ) (place : ℕ) → Both place (dealloc_marks d) (dealloc_orders R (entries_of R) d) → Step_all place (dealloc_orders R (entries_of R) d)
     dealloc_steps None place has = tt
-    dealloc_steps (Some f) place has = stub_steps gives.Number 0 0 f place has (target gives.Number f)
+    dealloc_steps (Some f) place has = (stub_goes gives.Number 0 0 f place has).1 (target gives.Number f)
 
     classes_step : (cs : List Class) (place : ℕ) → Classes place cs → Step_all place (classes_orders R (entries_of R) cs)
     classes_step [] place has = tt
@@ -399,7 +401,7 @@ module _ (R : resolved.Program) where
   found_goes [] place has sign selector takes objects wanted to e = cc
   found_goes (m ∷ others) place has sign selector takes objects wanted to e =
       by (found_goes others (place + length (method_stub m)) (methods_split place m others has).1 sign selector takes objects wanted to)
-      (stub_starts m.gives (passes m.sign m.takes) m.objects m.runs place (methods_split place m others has).0).0 (answers sign selector takes objects wanted m) refl e
+      (stub_goes m.gives (passes m.sign m.takes) m.objects m.runs place (methods_split place m others has).0).0 (answers sign selector takes objects wanted m) refl e
     where
       by : (found sign selector takes objects wanted (linked_methods R (entries_of R) (place + length (method_stub m)) others) ≡ Some to → Goes_to wanted to (height (passes sign takes) objects 0 0)) → Goes_to m.gives place (height (passes m.sign m.takes) m.objects 0 0) → (t : Bool) → answers sign selector takes objects wanted m ≡ t
           → (if t then Some place else found sign selector takes objects wanted (linked_methods R (entries_of R) (place + length (method_stub m)) others)) ≡ Some to → Goes_to wanted to (height (passes sign takes) objects 0 0)
@@ -417,7 +419,7 @@ module _ (R : resolved.Program) where
 
   stub_found : (d : Option ℕ) (place to : ℕ) → Both place (dealloc_marks d) (dealloc_orders R (entries_of R) d) → linked_dealloc place d ≡ Some to → Goes_to gives.Number to zeroed
   stub_found None place to has e = cc
-  stub_found (Some f) place to has e = subst (λ n. Goes_to gives.Number n zeroed) (some_same place to e) (stub_starts gives.Number 0 0 f place has).0
+  stub_found (Some f) place to has e = subst (λ n. Goes_to gives.Number n zeroed) (some_same place to e) (stub_goes gives.Number 0 0 f place has).0
 
   class_finds : (cs : List Class) (place i : ℕ) (d : Class) → Classes place cs → slice_get (linked_classes R (entries_of R) place cs) i ≡ Some d → Finds d
   class_finds [] place i d has e = cc
@@ -479,12 +481,12 @@ module _ (R : resolved.Program) where
   pub entered_at : (wanted : Gives) (f : ℕ) → Entered (entries_of R) (number_of R wanted f) (function_at R wanted f)
   entered_at wanted f = functions_begin (all_functions R) (length (start_orders R)) (number_of R wanted f) (function_at R wanted f) has_functions (numbered R wanted f)
 
-  target : (wanted : Gives) (f : ℕ) → Goes_to wanted (slice_index_or (entries_of R) (number_of R wanted f) 0) (height (slots_of R wanted f) (parameters_of R wanted f) 0 0)
+  target : (wanted : Gives) (f : ℕ) → Goes_to wanted (slice_index_or (entries_of R) (number_of R wanted f) 0) (called wanted f)
   target wanted f =
       let e = entered_at wanted f in
-      subst (λ n. Goes_to wanted n (height (slots_of R wanted f) (parameters_of R wanted f) 0 0))
+      subst (λ n. Goes_to wanted n (called wanted f))
       (sym (get_or_from_slice_get (entries_of R) (number_of R wanted f) e.at 0 e.is))
-      (subst (λ g. Goes_to g e.at (height (slots_of R wanted f) (parameters_of R wanted f) 0 0)) (function_gives R wanted f) e.goes)
+      (subst (λ g. Goes_to g e.at (called wanted f)) (function_gives R wanted f) e.goes)
 
   pub methods_go : (from : Option ℕ) (sign : Sign) (selector takes objects : ℕ) (wanted : Gives) (to : ℕ) → lookup (classes_linked R) from sign selector takes objects wanted ≡ Some to → Goes_to wanted to (height (passes sign takes) objects 0 0)
   methods_go from sign selector takes objects wanted to e =
@@ -497,9 +499,6 @@ module _ (R : resolved.Program) where
   abbrev zeros : List Order
   zeros = passing_orders R gives.Number R.main 0 0
 
-  abbrev main_ready : Height
-  main_ready = height (slots_of R gives.Number R.main) (parameters_of R gives.Number R.main) 0 0
-
   abbrev main_call : Order
   main_call = Call (number_of R gives.Number R.main) gives.Number
 
@@ -510,17 +509,12 @@ module _ (R : resolved.Program) where
   start_is : start_orders R ≡ zeros ++ call
   start_is = append_assoc zeros (main_call ∷ []) (Return ∷ (EndStep ∷ []))
 
-  start_row : Row R all table gives.Number zeroed 0 (walk zeroed []) (zeros ++ call)
-  start_row = subst (Row R all table gives.Number zeroed 0 (walk zeroed [])) start_is (row gives.Number zeroed zeroed 0 (start_orders R) has_start)
-
-  call_row : Row R all table gives.Number zeroed (0 + length zeros) (walk main_ready []) call
-  call_row = subst (λ w. Row R all table gives.Number zeroed (0 + length zeros) w call) (types_last R 0 0 zeroed zeroed [] zeros main_ready (fit_typed gives.Number 0 0 R.main)) (row_back R all table gives.Number zeroed 0 (walk zeroed []) zeros call start_row)
-
-  zeros_start : Goes_to gives.Number 0 zeroed × Step_all 0 zeros
-  zeros_start = typed_steps R all table gives.Number zeroed 0 zeroed [] zeros main_ready (fit_typed gives.Number 0 0 R.main) (row_front R all table gives.Number zeroed 0 (walk zeroed []) zeros call start_row) (opens_goes R all table gives.Number (0 + length zeros) main_ready main_call refl call_row.0 call_row.1)
+  main_goes : (Goes_to gives.Number 0 zeroed × Step_all 0 zeros) × Row R all table gives.Number zeroed (0 + length zeros) (walk (called gives.Number R.main) []) call
+  main_goes = passing_goes gives.Number 0 0 R.main 0 main_call (Return ∷ (EndStep ∷ [])) refl
+      (subst (Row R all table gives.Number zeroed 0 (walk zeroed [])) start_is (row gives.Number zeroed zeroed 0 (start_orders R) has_start))
 
   pub start_goes : Goes_to gives.Number 0 zeroed
-  start_goes = zeros_start.0
+  start_goes = main_goes.0.0
 
   -- the order at which the ends of objects go on
   pub end_is : slice_get all (end_step_of R) ≡ Some EndStep
@@ -528,20 +522,20 @@ module _ (R : resolved.Program) where
       let size = ap length start_is in
       let both = length-append zeros call in
       let whole = length-append (call_orders R gives.Number R.main 0 0) (Return ∷ (EndStep ∷ [])) in
-      subst (λ n. slice_get all n ≡ Some EndStep) (omega (arith, call_length R gives.Number R.main, size, both, whole)) call_row.2.2.1
+      subst (λ n. slice_get all n ≡ Some EndStep) (omega (arith, call_length R gives.Number R.main, size, both, whole)) main_goes.1.2.2.1
 
   start_steps : Step_all 0 (start_orders R)
   start_steps =
       let q = 0 + length zeros in
-      let rest = call_row.2 in
+      let rest = main_goes.1.2 in
       let same = slots_same R gives.Number R.main in
       let other = parameters_same R gives.Number R.main in
-      let called : next_height R main_call main_ready ≡ height 1 0 0 0 = alike_same _ _ (omega (arith, same, other)) in
-      let one = rest.0 ∙ ap (λ h. Some (h, gives.Number)) called in
+      let after : next_height R main_call (called gives.Number R.main) ≡ height 1 0 0 0 = alike_same _ _ (omega (arith, same, other)) in
+      let one = rest.0 ∙ ap (λ h. Some (h, gives.Number)) after in
       let home : Stands R all table gives.Number (q + 1) (height 1 0 0 0) = record { height = one; order = Return; is = rest.1; no_end = λ end. cc } in
       let free = calm_free R all table (q + 1) Leaves tt (ap role_of rest.1) in
-      subst (Step_all 0) (sym start_is) (step_then R all table 0 zeros call zeros_start.1 (
-        ((main_ready, gives.Number), call_row.0, ((omega (arith, same), number_there R gives.Number R.main, omega (arith, other)), subst (Goes_to gives.Number (q + 1)) (sym called) (none_goes R all table gives.Number (q + 1) (height 1 0 0 0) home refl free))),
+      subst (Step_all 0) (sym start_is) (step_then R all table 0 zeros call main_goes.0.1 (
+        ((called gives.Number R.main, gives.Number), main_goes.1.0, ((omega (arith, same), number_there R gives.Number R.main, omega (arith, other)), subst (Goes_to gives.Number (q + 1)) (sym after) (none_goes R all table gives.Number (q + 1) (height 1 0 0 0) home refl free))),
         (((height 1 0 0 0, gives.Number), one, (refl, refl, refl, refl)), (((zeroed, gives.Number), rest.2.0, (refl, refl, refl, refl)), tt)),
       ))
 
