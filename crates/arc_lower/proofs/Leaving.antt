@@ -1,6 +1,6 @@
 -- A run does what a function does, and leaves it.
 use Rattle.std.proofs.Common.{◌≡◌, ℕ, zero, suc, ◌+◌, ◌-◌, ◌≤◌, ◌<◌, ℤ, pos, Bool, true, false, not, ◌&&◌, ◌||◌, inl, inr, if◌then◌else◌, List, [], ◌∷◌, ◌++◌, length, take, Some, None, slice_get, slice_set, refl, sym, ap, ◌∙◌, subst, arith, length-append}
-use Rattle.std.proofs.lemmas.Bool.{eq-eqb, true≢false}
+use Rattle.std.proofs.lemmas.Bool.{eq-eqb, and_from, true≢false}
 use Rattle.std.proofs.lemmas.List.{append-nil}
 use Rattle.std.proofs.Math.Seq.{take-nil}
 use Rattle.std.proofs.lemmas.Bool.Decides.{nat_tests}
@@ -32,7 +32,7 @@ use Rattle.arc_lower.proofs.Stacking.{onto, front_of, padded_length, get_below, 
 use Rattle.arc_lower.proofs.Releasing.{Kept, Stays, only_runs, named_runs, emptied, empties_run, dropped_runs}
 use Rattle.arc_lower.proofs.Shaping.{push, Way, Out, left_by}
 use Rattle.arc_lower.proofs.Executing.{calm, body_is}
-use Rattle.arc_lower.proofs.Quiet.{takes_none, both_true}
+use Rattle.arc_lower.proofs.Quiet.{takes_none}
 use Rattle.arc_lower.proofs.Running.{Deep, Good, Leaves, emptied_good, kept_good, block_runs}
 
 nils_split : (a b n : ℕ) → a ≤ n → b ≡ n - a → nils n ≡ nils a ++ nils b
@@ -58,13 +58,13 @@ onto_back (x ∷ xs) ys rest = onto_back xs (x ∷ ys) rest
 -- no statement has a temporary after it
 loop_quiet : (R : resolved.Program) (moment : Moment) (without_step : Bool) (step body : Block) (test : Value) → takes_none R step ≡ true → takes_none R body ≡ true → takes_none R (loop_block moment without_step step (whole_block test) body) ≡ true
 loop_quiet R moment true step body test e f = f
-loop_quiet R moment false step body test e f = both_true (takes_none R step) (takes_none R body) e f
+loop_quiet R moment false step body test e f = and_from (takes_none R step) (takes_none R body) e f
 
 mutual
   command_quiet : (R : resolved.Program) (exit : ℕ) (breaks continues : Block) → takes_none R breaks ≡ true → takes_none R continues ≡ true → (c : Command) → takes_none R (command_block exit breaks continues c) ≡ true
-  command_quiet R exit b n e f (Sequence first count all) = both_true (takes_none R (commands_block exit (Then (Clear first count) b) (Then (Clear first count) n) all)) true (commands_quiet R exit (Then (Clear first count) b) (Then (Clear first count) n) e f all) refl
+  command_quiet R exit b n e f (Sequence first count all) = and_from (takes_none R (commands_block exit (Then (Clear first count) b) (Then (Clear first count) n) all)) true (commands_quiet R exit (Then (Clear first count) b) (Then (Clear first count) n) e f all) refl
   command_quiet R exit b n e f (resolved.Return None) = refl
-  command_quiet R exit b n e f (Choose test x y) = both_true (takes_none R (command_block exit b n x)) (takes_none R (command_block exit b n y)) (command_quiet R exit b n e f x) (command_quiet R exit b n e f y)
+  command_quiet R exit b n e f (Choose test x y) = and_from (takes_none R (command_block exit b n x)) (takes_none R (command_block exit b n y)) (command_quiet R exit b n e f x) (command_quiet R exit b n e f y)
   command_quiet R exit b n e f (Repeat moment test step body) = loop_quiet R moment (does_nothing step) (command_block exit b n step) (command_block exit Quit Advance body) test (command_quiet R exit b n e f step) (command_quiet R exit Quit Advance refl refl body)
   command_quiet R exit b n e f Break = e
   command_quiet R exit b n e f Continue = f
@@ -72,7 +72,7 @@ mutual
 
   commands_quiet : (R : resolved.Program) (exit : ℕ) (breaks continues : Block) → takes_none R breaks ≡ true → takes_none R continues ≡ true → (all : Commands) → takes_none R (commands_block exit breaks continues all) ≡ true
   commands_quiet R exit b n e f no_commands = refl
-  commands_quiet R exit b n e f (and_command c others) = both_true (takes_none R (command_block exit b n c)) (takes_none R (commands_block exit b n others)) (command_quiet R exit b n e f c) (commands_quiet R exit b n e f others)
+  commands_quiet R exit b n e f (and_command c others) = and_from (takes_none R (command_block exit b n c)) (takes_none R (commands_block exit b n others)) (command_quiet R exit b n e f c) (commands_quiet R exit b n e f others)
 
 -- what a run does of what is left in some way
 ways_back : {S A : Type 0} (step : S → Next S) (bound : ℕ) (r : Reached S) (way : A → Way) (end : Way → World → Reached S → Type 0) (o : Outcome A) → Runs step bound r end (left_by way o) → Runs step bound r (λ a w to. end (way a) w to) o
@@ -381,7 +381,7 @@ module _ (p : Program) (frames : List Frame) (bound : ℕ) (R : resolved.Program
       let good : Fine true w0 = (record { locals = size; strong = strong; itself = refl; waits = refl }, λ x. refl) in
       let end = Leaves p frames bound R F.slots count self (stacked before) below D deep no_turn true (place + length xs) in
       let o = then_do (all_executed D bound F.body w0) (λ flow w1. Done (given flow) w1) in
-      let quiet_body = both_true (takes_none R (commands_block exit none_given none_given F.body)) true (commands_quiet R exit none_given none_given refl refl F.body) refl in
+      let quiet_body = and_from (takes_none R (commands_block exit none_given none_given F.body)) true (commands_quiet R exit none_given none_given refl refl F.body) refl in
       let runs = subst (Runs (moves p) bound (running frames rs place stack w0) end) (body_is D bound exit rs F.body w0) (block_runs p frames bound R F.slots count self (stacked before) below D deep 0 spot no_turn true true (λ x. x) (λ x. absurd (true≢false x)) b (λ x. quiet_body) place refl s w0 good (has_back p entry opening xs has)) in
       let ready : Runs (moves p) bound (running frames rs place stack w0) (Left F.gives) meant =
       subst (Runs (moves p) bound (running frames rs place stack w0) (Left F.gives)) (given_later D F before (all_executed D bound F.body w0))

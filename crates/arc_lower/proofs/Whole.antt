@@ -1,5 +1,5 @@
 -- When steps that show what is meant behave as it is meant.
-use Rattle.std.proofs.Common.{◌≡◌, ℕ, ◌≤◌, ◌<◌, List, Option, Some, None, refl, sym, ap, ◌∙◌, subst, arith, ⊎_elim, ◌+◌, ℤ, pos, [], ◌∷◌, ◌++◌, length, length-append, inl, inr}
+use Rattle.std.proofs.Common.{◌≡◌, ℕ, ◌≤◌, ◌<◌, List, Option, Some, None, refl, sym, ap, ◌∙◌, subst, arith, ⊎_elim, ◌+◌, ℤ, pos, [], ◌∷◌, ◌++◌, length, length-append, le_of_eq, inl, inr}
 use Rattle.std.proofs.lemmas.Bool.{cases_lt}
 use Rattle.arc_spec.specs.Correct.{IsPrefix, Stop, Sight, Behaves, Steady, meaning_seen, run_seen}
 use Rattle.arc_spec.proofs.Steadiness.{prefix_refl, steady}
@@ -121,9 +121,6 @@ module _ (p : Program) (R : resolved.Program) (is : orders p.actions ≡ lowered
   program_comes input bound (inl wedged) = absurd (never_wedged p R is entries classes end_at input wedged.0 wedged.1 wedged.2.steps wedged.2.there)
   program_comes input bound (inr comes) = comes
 
-at_most_same : {a b : ℕ} → b ≡ a → a ≤ b
-at_most_same e = omega (arith, e)
-
 -- the actions that a program becomes perform it
 pub performs : (p : Program) (R : resolved.Program) → IsLowered R p → Performs R p
 performs p R is =
@@ -134,5 +131,5 @@ performs p R is =
           (subst (λ globals. Runs (moves p) bound (running [] [] 0 [] (first_world globals p.strong_globals input)) Ends_with (mean R input bound)) (sym is.globals)
           (subst (λ n. Runs (moves p) bound (running [] [] 0 [] (first_world R.globals n input)) Ends_with (mean R input bound)) (sym is.strong_globals) (program_runs p R is.actions is.entries is.classes is.end_step input bound)))));
       steady = calm;
-      sound = room_suffices p R is.actions is.entries is.classes is.end_step (at_most_same is.room) (at_most_same is.names) (at_most_same is.places);
+      sound = room_suffices p R is.actions is.entries is.classes is.end_step (le_of_eq (sym is.room)) (le_of_eq (sym is.names)) (le_of_eq (sym is.places));
     }
