@@ -4,7 +4,7 @@ use Rattle.std.proofs.lemmas.Bool.{eqb-true, cases_eq, eq-eqb, and_from, false�
 use Rattle.std.proofs.lemmas.List.{length-set}
 use Rattle.arc_spec.specs.Classes.{Class, field_counts, strong_count}
 use Rattle.arc_spec.specs.Objects.{Object, Live, Dying, Emptying, Gone, nils, object_at, with_object, in_phase, with_fields, with_strong_fields, is_live, is_there, new_object, fields_of, field_places}
-use Rattle.arc_spec.specs.Holding.{Held, nothing_held, Counted, holders, all_places, with_temporaries, with_variables, with_things, with_strong_globals, raised, lowered, makes, stacked}
+use Rattle.arc_spec.specs.Holding.{Held, nothing_held, Counted, holders, all_places, with_temporaries, with_variables, with_things, with_strong_globals, raised, lowered, makes}
 use Rattle.arc_lower.proofs.CountsPlaces.{tally, one_more_if, tally_nil, tally_same, tally_other, holders_head, holders_nil, holders_append, all_holders, raised_count, lowered_count, there_fields, fields_set, fields_made, nils_holders, same_fields, variable_moves, global_moves, field_moves, last_moves, second_moves, IsThere, AllThere, set_here, set_other, seam, get_other}
 
 -- ---- objects and their counts
@@ -77,21 +77,9 @@ module _ {classes : List Class} where
 
   -- ---- what places name
 
-  named_there : (h : Held) (places : List ℕ) → ((k : ℕ) → 0 < holders (suc k) places → 0 < holders (suc k) (all_places h)) → Sane classes h → AllThere h.objects places
+  -- what these places name is there, such as variables, or the places of those that wait
+  pub named_there : (h : Held) (places : List ℕ) → ((k : ℕ) → 0 < holders (suc k) places → 0 < holders (suc k) (all_places h)) → Sane classes h → AllThere h.objects places
   named_there h places few c k some = right_there classes (h.counts (suc k)) (slice_get h.objects k) (c.right k) (omega (arith, few k some, c.counted k))
-
-  -- what variables name is there, and what the places of those that wait, those of all functions, and the variables of the whole program do
-  pub variables_there : (h : Held) → Sane classes h → AllThere h.objects h.variables
-  variables_there h = named_there h h.variables (λ k some. omega (arith, all_holders (suc k) h, some))
-
-  pub waiting_there : (h : Held) → Sane classes h → AllThere h.objects h.places
-  waiting_there h = named_there h h.places (λ k some. omega (arith, all_holders (suc k) h, some))
-
-  pub stacked_there : (h : Held) → Sane classes h → AllThere h.objects (stacked h)
-  stacked_there h = named_there h (stacked h) (λ k some. omega (arith, holders_append (suc k) (stacked h) (h.strong_globals ++ field_places h.objects), some))
-
-  pub globals_there : (h : Held) → Sane classes h → AllThere h.objects h.strong_globals
-  globals_there h = named_there h h.strong_globals (λ k some. omega (arith, all_holders (suc k) h, some))
 
   -- what the fields of an object name is there
   pub fields_there : (h : Held) (j : ℕ) (o : Object) → object_at h.objects (suc j) ≡ Some o → is_there o.phase ≡ true → Sane classes h → AllThere h.objects o.strong

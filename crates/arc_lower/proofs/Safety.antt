@@ -33,7 +33,7 @@ use Rattle.arc_lower.specs.Lowered.{slots_of, parameters_of, entries_of, end_ste
 use Rattle.arc_lower.specs.Heights.{height, next_height}
 use Rattle.arc_lower.proofs.Cases.{by_test}
 use Rattle.arc_lower.proofs.CountsPlaces.{seam, IsThere, AllThere, place_there, name_there, object_goes, named_goes, set_here, set_same, set_other, holders_head, nils_holders, holders_append, all_holders, live_there, there_fields}
-use Rattle.arc_lower.proofs.CountsKept.{Sane, Drops, gains, sane_moved, sane_start, sane_declare, fits_at, sane_counted, variables_there, waiting_there, stacked_there, globals_there, fields_there, sane_store, sane_store_global, sane_store_field, sane_drop, sane_settle, drops_there, sane_nil, sane_last, sane_other, sane_make, sane_field, sane_empty, sane_gone}
+use Rattle.arc_lower.proofs.CountsKept.{Sane, Drops, gains, sane_moved, sane_start, sane_declare, fits_at, sane_counted, named_there, fields_there, sane_store, sane_store_global, sane_store_field, sane_drop, sane_settle, drops_there, sane_nil, sane_last, sane_other, sane_make, sane_field, sane_empty, sane_gone}
 use Rattle.arc_lower.proofs.Doing.{at, resumed_as, bare, does, executes_at}
 use Rattle.arc_lower.proofs.Standing.{no_nil, ending, AllDying, IsDying, NilBut, Alive, nil_alive, ends_there, ending_alive, IsHeld, last_held, held_there, held_within, made_dying, changed_dying, IsApart, live_apart, apart_dying, stored_far, fields_far, one_nil, no_field, nil_named, all_in_order}
 use Rattle.arc_lower.proofs.Typing.{Reaches, enough, IsCalled}
@@ -460,11 +460,12 @@ module _ (p : Program) (R : resolved.Program) where
       finds from sign selector takes objects wanted to e = methods_go R from sign selector takes objects wanted to (subst (λ cs. lookup cs from sign selector takes objects wanted ≡ Some to) classes e)
 
       self_there : IsThere held.objects held.self
-      self_there = subst (IsThere held.objects) (sym o.itself) (alive held.objects (subst (AllThere held.objects) o.places (waiting_there held o.sane)) (ends_there held.objects frames o.dying))
+      self_there = subst (IsThere held.objects) (sym o.itself) 
+          (alive held.objects (subst (AllThere held.objects) o.places (named_there held held.places (λ k some. omega (arith, all_holders (suc k) held, some)) o.sane)) (ends_there held.objects frames o.dying))
 
       is_held : (r : ℕ) → IsHeld r (held.temporaries ++ waiting) → IsThere held.objects r
       is_held r h = held_there held.objects held.temporaries held.variables waiting r h
-          (subst (λ l. AllThere held.objects ((held.temporaries ++ held.variables) ++ l)) o.places (stacked_there held o.sane))
+          (subst (λ l. AllThere held.objects ((held.temporaries ++ held.variables) ++ l)) o.places (named_there held (stacked held) (λ k some. omega (arith, all_holders (suc k) held, holders_append, some)) o.sane))
 
       held_alive : (r : ℕ) → IsHeld r (held.temporaries ++ waiting) → Alive frames (stacked held) r
       held_alive r e objects there ends = held_there objects held.temporaries held.variables waiting r e (subst (λ l. AllThere objects ((held.temporaries ++ held.variables) ++ l)) o.places there)
@@ -548,8 +549,10 @@ module _ (p : Program) (R : resolved.Program) where
       })
       operation_keeps Nil needs = refers _ _ _ (0 ∷ own) (ap (λ l. 0 ∷ l) o.is) (tt, o.keeps) refl tt
       operation_keeps ReadSelf needs = reads _ held.self held.names own o.is self_there o.keeps refl tt
-      operation_keeps (ReadRef i) needs = found_leads _ held.variables i _ (omega (arith, many, needs)) (λ r found. reads _ r held.names own o.is (place_there held.objects i r held.variables found (variables_there held o.sane)) o.keeps refl tt)
-      operation_keeps (ReadGlobal i) needs = reads _ (name_at held.strong_globals i) held.names own o.is (name_there held.objects held.strong_globals i (globals_there held o.sane)) o.keeps refl tt
+      operation_keeps (ReadRef i) needs = found_leads _ held.variables i _ (omega (arith, many, needs)) (λ r found.
+          reads _ r held.names own o.is (place_there held.objects i r held.variables found (named_there held held.variables (λ k some. omega (arith, all_holders (suc k) held, some)) o.sane)) o.keeps refl tt)
+      operation_keeps (ReadGlobal i) needs = reads _ (name_at held.strong_globals i) held.names own o.is
+          (name_there held.objects held.strong_globals i (named_there held held.strong_globals (λ k some. omega (arith, all_holders (suc k) held, some)) o.sane)) o.keeps refl tt
       operation_keeps (ReadField class index) needs = last_leads_on _ _ (omega (arith, needs)) (λ r rest _ now kept. field_leads _ class r held _ (is_held r now) (λ j ob _ found there.
           reads _ (name_at ob.strong index) (rest ++ deeper) rest refl (name_there held.objects ob.strong index (fields_there held j ob found there o.sane)) kept refl tt))
       operation_keeps Hold needs = last_leads_on _ _ (omega (arith, needs)) (λ r rest _ now kept. named_leads _ r held _ (is_held r now) (takes _ r held.names own o.is (is_held r now) (all_more r own (held.temporaries ++ waiting) o.keeps) refl tt))
