@@ -112,7 +112,8 @@ module _ (p : Program) (R : resolved.Program) (bound : ℕ) (begins : (wanted : 
   -- a method or a function comes back after its call
   comes_home : (rs : List ℕ) (levels : ℕ) (wanted : Gives) (f pc self : ℕ) (frames : List Frame) (stack : List ℤ) (w : World) (deep : Deep p (Calling (pc + 1) (waits_of w) ∷ frames) bound R (level R bound levels)) (a : world.Answer) (w2 : World) → Kept w w2
       → leaving p (Calling (pc + 1) (waits_of w) ∷ frames) bound R (function_at R wanted f) self w stack rs (level R bound levels) deep (begins wanted f).place wanted a w2 ≡ after_call wanted frames rs pc stack a w2
-  comes_home rs levels gives.Number f pc self frames stack w deep a w2 k = simp (append-nil, k.frame, k.waiting, append_assoc, take-append_seam, drop-append_seam)
+  comes_home rs levels gives.Number f pc self frames stack w deep a w2 k =
+      simp (append-nil, k.frame, k.waiting, append_assoc, take-append_seam, drop-append_seam)
   comes_home rs levels gives.Object f pc self frames stack w deep a w2 k =
       let all = append_assoc w.frame.temporaries w.frame.strong w.waiting in
       rw (append-nil w2.trace, k.frame, k.waiting, all, take-append_seam, drop-append_seam, take-append_seam, drop-append_seam, all)
@@ -205,7 +206,8 @@ module _ (p : Program) (R : resolved.Program) (bound : ℕ) (begins : (wanted : 
     bare_runs w ob found there still =
         let x = in_phase Emptying ob in
         let w1 = turned Emptying o (Some ob) w in
-        let same : names o (places w1) ≡ names o (places w) = ap (λ l. names o (stacked w ++ (w.strong_globals ++ l))) (fields_put w.objects j ob x found (sym (there_fields ob there))) in
+        let same : names o (places w1) ≡ names o (places w) = ap (λ l. names o (stacked w ++ (w.strong_globals ++ l)))
+        (fields_put w.objects j ob x found (sym (there_fields ob there))) in
         subst (λ b. Runs (moves p) bound (follow (recount (if b then goes_back w else Faults Resurrected)) w.input w.trace) (Back w) (gone o w1)) (sym (no_one o (holders o (places w)) (places w) refl))
         (subst (λ b. Runs (moves p) bound (follow (recount (if not (names o (places w)) then goes_back w else Faults Resurrected)) w.input w.trace) (Back w) (if b then Faulted Resurrected w1 else Done finished (turned Gone o (object_at w1.objects o) w1))) (sym same) (by (names o (places w))))
       where
@@ -267,7 +269,10 @@ module _ (p : Program) (R : resolved.Program) (bound : ℕ) (begins : (wanted : 
           (place_takes p bound rs D w own_frame (stacked w) (Goes_on w) (λ x. x) ob.strong index 0 (stays h) (λ old. lets_go old (raised 0 (with_strong_field h o ob index 0)) stays (ends w))
           (λ l. with_objects w (with_object w.objects o (with_strong_fields ob l))) (ap (with_objects w) (same_put w.objects j ob found)) (stays_run w h.counts) (λ old named.
           let w1 = field_stores o ob index 0 w in
-          better_runs (moves p) bound _ (Goes_on w1) (Goes_on w) (released D old w1) (lets_run w old (raised 0 h).counts w1 (λ k. raised_count 0 (held_of [] w) (suc k) ∙ sym (field_moves (suc k) (held_of [] w) j ob index old 0 found there named))) (λ done w2 to m. (m.0, record { frame = m.1.frame; waiting = m.1.waiting })))))
+          better_runs (moves p) bound _ (Goes_on w1) (Goes_on w) (released D old w1)
+          (lets_run w old (raised 0 h).counts w1
+          (λ k. raised_count 0 (held_of [] w) (suc k) ∙ sym (field_moves (suc k) (held_of [] w) j ob index old 0 found there named)))
+          (λ done w2 to m. (m.0, record { frame = m.1.frame; waiting = m.1.waiting })))))
 
     -- ---- what is left of an end
 

@@ -69,7 +69,8 @@ right_less classes m n (Some o) less live right = record { there = λ some. righ
 
 module _ {classes : List Class} where
   -- what is found fits its count
-  pub fits_at : {places : List ℕ} {counts : ℕ → ℕ} {objects : List Object} (k : ℕ) (o : Object) → slice_get objects k ≡ Some o → Keeps classes places counts objects → Fits classes (counts (suc k)) o
+  pub fits_at : {places : List ℕ} {counts : ℕ → ℕ} {objects : List Object} (k : ℕ) (o : Object) → slice_get objects k ≡ Some o
+      → Keeps classes places counts objects → Fits classes (counts (suc k)) o
   fits_at {counts = counts} k o found c = subst (Right classes (counts (suc k))) found (c.right k)
 
   pub sane_counted : (h : Held) → Sane classes h → Counted h
@@ -125,7 +126,8 @@ module _ {classes : List Class} where
   sane_store h i old r found there c = sane_moved (λ k. variable_moves (suc k) h i old r found ∙ sym (holders_head (suc k) r (all_places h))) (gains r there c)
 
   pub sane_store_global : (h : Held) (i old r : ℕ) → slice_get h.strong_globals i ≡ Some old → IsThere h.objects r → Sane classes h → Drops classes old (raised r (with_strong_globals h (slice_set h.strong_globals i r)))
-  sane_store_global h i old r found there c = sane_moved (λ k. global_moves (suc k) h i old r found ∙ sym (holders_head (suc k) r (all_places h))) (gains r there c)
+  sane_store_global h i old r found there c =
+      sane_moved (λ k. global_moves (suc k) h i old r found ∙ sym (holders_head (suc k) r (all_places h))) (gains r there c)
 
   pub sane_drop : (h : Held) (r : ℕ) (others : List ℕ) → h.temporaries ≡ r ∷ others → Sane classes h → Drops classes r (with_temporaries h others)
   sane_drop h r others e = sane_moved (λ k. last_moves (suc k) h r others e)
@@ -135,8 +137,10 @@ module _ {classes : List Class} where
 
   -- ---- an object that changes
 
-  changes : {places places1 : List ℕ} {counts : ℕ → ℕ} {objects : List Object} (j : ℕ) (o x : Object) → slice_get objects j ≡ Some o → ((k : ℕ) → holders (suc k) places1 ≡ holders (suc k) places)
-      → (Fits classes (counts (suc j)) o → Fits classes (counts (suc j)) x) → Keeps classes places counts objects → Keeps classes places1 counts (slice_set objects j x)
+  changes : {places places1 : List ℕ} {counts : ℕ → ℕ} {objects : List Object} (j : ℕ) (o x : Object) → slice_get objects j ≡ Some o
+      → ((k : ℕ) → holders (suc k) places1 ≡ holders (suc k) places)
+      → (Fits classes (counts (suc j)) o → Fits classes (counts (suc j)) x) → Keeps classes places counts objects
+      → Keeps classes places1 counts (slice_set objects j x)
   changes {counts = counts} {objects = objects} j o x found same fits c = record {
     counted = λ k. c.counted k ∙ sym (same k);
     right = λ k. ⊎_elim

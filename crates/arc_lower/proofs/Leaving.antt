@@ -256,13 +256,15 @@ module _ (p : Program) (frames : List Frame) (bound : ℕ) (R : resolved.Program
       let begun = running frames (onto objects rs) middle stack (begun_with given_to (head ++ (nils few ++ nils more))) in
       let rest = has_back p entry declares (takes1 ++ later) has in
       let all : count + 0 ≡ count = omega arith in
-      let back : onto f.front (nils more) ≡ objects ++ nils more = ap (λ l. onto l (nils more)) (sym (append-nil f.front) ∙ sym (f.is [])) ∙ onto_back objects [] (nils more) in
+      let back : onto f.front (nils more) ≡ objects ++ nils more = ap (λ l. onto l (nils more)) (sym (append-nil f.front) ∙ sym (f.is []))
+      ∙ onto_back objects [] (nils more) in
       let declared = declares_pass count 0 given_to (onto objects rs) stack entry (has_front p entry declares (takes1 ++ later) has) in
       leads_runs (moves p) bound start begun end o
       (subst (λ l. leading.Leads (moves p) start (running frames (onto objects rs) middle stack (begun_with given_to l))) (ap nils all ∙ parts) declared)
       (subst (λ l. Runs (moves p) bound (running frames l middle stack (begun_with given_to (head ++ (nils few ++ nils more)))) end o) (sym (f.is rs))
       (takes_run head few f.front (nils more) given_to stack middle end o (f.size ∙ padded_length 0 few given_to.objects) (has_front p middle takes1 later rest)
-      (subst (λ l. Runs (moves p) bound (running frames rs (middle + length takes1) stack (begun_with given_to (head ++ l))) end o) (sym back) (go (has_back p middle takes1 later rest)))))
+      (subst (λ l. Runs (moves p) bound (running frames rs (middle + length takes1) stack (begun_with given_to (head ++ l))) end o) (sym back)
+      (go (has_back p middle takes1 later rest)))))
 
   -- the first variable takes `self`, and holds it where the temporary is dropped
   owns_run : {A : Type 0} (tail : List ℕ) (given_to : Given) (stack : List ℤ) (pc : ℕ) (end : A → World → Reached State → Type 0) (o : Outcome A) → HasAt p pc (Plain ReadSelf ∷ StoreStrong 0 ∷ Plain Forget ∷ DropAll ∷ [])

@@ -125,7 +125,8 @@ module _ (R : resolved.Program) where
     emptied_ends : (n : ℕ) → n ≤ names → last_walk R base (walk leaving []) (emptied n) ≡ walk leaving []
     emptied_ends zero le = refl
     emptied_ends (suc n) le =
-        ap (last_walk R base (walk leaving [])) (emptied_is n le) ∙ ap (λ h. last_walk R base (walk h []) (emptied n)) (empty_stays (0 + n)) ∙ emptied_ends n (omega (arith, le))
+        ap (last_walk R base (walk leaving [])) (emptied_is n le) ∙ ap (λ h. last_walk R base (walk h []) (emptied n)) (empty_stays (0 + n)) ∙ emptied_ends n
+        (omega (arith, le))
 
     pops_take : (n : ℕ) → AllTake R all table given base (pop_orders n)
     pops_take zero = tt
@@ -148,7 +149,8 @@ module _ (R : resolved.Program) where
         let is = emptied_is n le in
         let row = subst (λ xs. Rows pc leaving (xs ++ (keep ++ last_order ∷ []))) is f in
         let at : role_at R all table pc ≡ Empties (0 + n) = ap role_of row.1 in
-        let there = emptying n (pc + 1) (omega (arith, le)) (subst (λ h. Rows (pc + 1) h (emptied n ++ (keep ++ last_order ∷ []))) (empty_stays (0 + n)) row.2) in
+        let there = emptying n (pc + 1) (omega (arith, le))
+        (subst (λ h. Rows (pc + 1) h (emptied n ++ (keep ++ last_order ∷ []))) (empty_stays (0 + n)) row.2) in
         let next = subst (Stands R all table given (pc + 1)) (sym (empty_stays (0 + n))) there.1 in (
           subst (Step_all pc) (sym is) (((leaving, given), row.0, (omega (arith, le), next, λ k c. let same = there.2 k c in inl (omega (arith, same)), there.3)), there.0),
           record { height = row.0; order = Empty (0 + n); is = row.1; no_end = λ end. cc },
@@ -333,7 +335,8 @@ module _ (R : resolved.Program) where
   stub_goes wanted values objects f place has =
       let xs = passing_orders R wanted f values objects in
       let jump = Jump (At (slice_index_or (entries_of R) (number_of R wanted f) 0)) in
-      let begun = passing_goes wanted values objects f place jump [] refl (row wanted zeroed (height values objects 0 0) place (stub wanted values objects f) has) in
+      let begun = passing_goes wanted values objects f place jump [] refl
+      (row wanted zeroed (height values objects 0 0) place (stub wanted values objects f) has) in
       (begun.0.0, λ goes. step_then R all table place xs (jump ∷ []) begun.0.1 (((called wanted f, wanted), begun.1.0, (0, omega arith, goes)), tt))
 
   abbrev method_marks : Method → List (Height × Gives)

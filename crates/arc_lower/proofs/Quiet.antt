@@ -47,7 +47,8 @@ module _ (P : Program) (slots names : ℕ) where
   quiet_flat (One o) e = ap not (or_first (nat_lt 0 (operation_effect o).temporaries) false e)
   quiet_flat (Read (Global i)) e = sym e
   quiet_flat (Read (Local i)) e =
-      by_test (λ t. none (if t then Plain (ReadRef i) ∷ [] else Plain Nil ∷ Plain Hold ∷ []) → false ≡ true) (nat_lt i names) (λ _ e1. sym e1) (λ _ e1. sym e1) e
+      by_test (λ t. none (if t then Plain (ReadRef i) ∷ [] else Plain Nil ∷ Plain Hold ∷ []) → false ≡ true) (nat_lt i names) (λ _ e1. sym e1)
+      (λ _ e1. sym e1) e
   quiet_flat (Calls gives.Number f n m) e = refl
   quiet_flat (Calls gives.Object f n m) e = sym (none_parts (passing_orders P gives.Object f n m) (Call (number_of P gives.Object f) gives.Object ∷ []) e).1
   quiet_flat (SendsMessage gives.Number message n m) e = refl

@@ -155,7 +155,8 @@ again_sane w h s none nil sane = sane_moved (λ k.
     omega (arith, ap (holders (suc k)) s.is, holders_append (suc k) (s.temporaries ++ s.variables) s.waiting, holders_append (suc k) s.temporaries s.variables, all_holders (suc k) h1, all_holders (suc k) h, nil_named h.variables nil k, ap (holders (suc k)) none)) sane
 
 -- the function that is left has no temporary, and of its variables the last one alone names something: that is a temporary of the one that runs again
-given_sane : {classes : List Class} (w : Waiter) (h : Held) (s : Splits w h.places) (n r : ℕ) → h.temporaries ≡ [] → h.variables ≡ nils n ++ r ∷ [] → Sane classes h → Sane classes (given_back r (again w s (with_variables h [])))
+given_sane : {classes : List Class} (w : Waiter) (h : Held) (s : Splits w h.places) (n r : ℕ) → h.temporaries ≡ [] → h.variables ≡ nils n ++ r ∷ []
+    → Sane classes h → Sane classes (given_back r (again w s (with_variables h [])))
 given_sane w h s n r none last sane =
     let h1 = given_back r (again w s (with_variables h [])) in
     sane_moved (λ k.
@@ -227,13 +228,15 @@ module _ (p : Program) (R : resolved.Program) where
   Numbers gives.Object A = ⊥
 
   -- A function or the end of an object goes on, above what waits for a function that gives a number or an object.
-  abbrev pub GoesOn : (Below : Gives → ℕ → (names places : List ℕ) → Type 0) → (at self : ℕ) → List Frame → (numbers : ℕ) → (names temporaries variables places : List ℕ) → Type 0
+  abbrev pub GoesOn : (Below : Gives → ℕ → (names places : List ℕ) → Type 0) → (at self : ℕ) → List Frame → (numbers : ℕ)
+      → (names temporaries variables places : List ℕ) → Type 0
   GoesOn Below at self frames numbers names temporaries variables places =
       ((mine : Gives) × (below : ℕ) × (deeper : List ℕ) × Resumes mine at self frames numbers below names deeper temporaries variables places × Below mine below deeper places)
       ⊎ (EndsAgain at self frames temporaries variables places × Below gives.Number numbers names places)
 
   -- the same of what waits for the end of an object
-  abbrev pub Interrupted : (Below : Gives → ℕ → (names places : List ℕ) → Type 0) → (back : ℕ) → Waiter → (o : ℕ) → List Frame → ℕ → (names places : List ℕ) → Type 0
+  abbrev pub Interrupted : (Below : Gives → ℕ → (names places : List ℕ) → Type 0) → (back : ℕ) → Waiter → (o : ℕ) → List Frame → ℕ → (names places : List ℕ)
+      → Type 0
   Interrupted Below back w o others n names places =
       IsApart o (ending others) × (s : Splits w places) × GoesOn Below back w.self others n names s.temporaries s.variables s.waiting
 
@@ -308,8 +311,10 @@ module _ (p : Program) (R : resolved.Program) where
       (λ t. e k ob refl there.1 (and_parts (is_live (Some ob)) (nat_eq (held.counts (suc k)) 1) t).0)
       (λ t. h (sane_other held k ob there.1 t drops)))
 
-  last_leads : (n r : ℕ) (temporaries : List ℕ) (held : Held) (go : ℕ → Held → Next State) → temporaries ≡ [] → held.variables ≡ nils n ++ r ∷ [] → Leads (go r (with_variables held [])) → Leads (on_result temporaries held go)
-  last_leads n r [] held go none last h = subst Leads (sym (ap (λ l. on_last l (λ q. go q (with_variables held []))) last ∙ last_goes n r (λ q. go q (with_variables held [])))) h
+  last_leads : (n r : ℕ) (temporaries : List ℕ) (held : Held) (go : ℕ → Held → Next State) → temporaries ≡ [] → held.variables ≡ nils n ++ r ∷ []
+      → Leads (go r (with_variables held [])) → Leads (on_result temporaries held go)
+  last_leads n r [] held go none last h =
+      subst Leads (sym (ap (λ l. on_last l (λ q. go q (with_variables held []))) last ∙ last_goes n r (λ q. go q (with_variables held [])))) h
   last_leads n r (q ∷ others) held go none last h = cc
 
   -- a function is left that gives a number
@@ -460,7 +465,7 @@ module _ (p : Program) (R : resolved.Program) where
       finds from sign selector takes objects wanted to e = methods_go R from sign selector takes objects wanted to (subst (λ cs. lookup cs from sign selector takes objects wanted ≡ Some to) classes e)
 
       self_there : IsThere held.objects held.self
-      self_there = subst (IsThere held.objects) (sym o.itself) 
+      self_there = subst (IsThere held.objects) (sym o.itself)
           (alive held.objects (subst (AllThere held.objects) o.places (named_there held held.places (λ k some. omega (arith, all_holders (suc k) held, some)) o.sane)) (ends_there held.objects frames o.dying))
 
       is_held : (r : ℕ) → IsHeld r (held.temporaries ++ waiting) → IsThere held.objects r
@@ -550,7 +555,9 @@ module _ (p : Program) (R : resolved.Program) where
       operation_keeps Nil needs = refers _ _ _ (0 ∷ own) (ap (λ l. 0 ∷ l) o.is) (tt, o.keeps) refl tt
       operation_keeps ReadSelf needs = reads _ held.self held.names own o.is self_there o.keeps refl tt
       operation_keeps (ReadRef i) needs = found_leads _ held.variables i _ (omega (arith, many, needs)) (λ r found.
-          reads _ r held.names own o.is (place_there held.objects i r held.variables found (named_there held held.variables (λ k some. omega (arith, all_holders (suc k) held, some)) o.sane)) o.keeps refl tt)
+          reads _ r held.names own o.is
+          (place_there held.objects i r held.variables found
+          (named_there held held.variables (λ k some. omega (arith, all_holders (suc k) held, some)) o.sane)) o.keeps refl tt)
       operation_keeps (ReadGlobal i) needs = reads _ (name_at held.strong_globals i) held.names own o.is
           (name_there held.objects held.strong_globals i (named_there held held.strong_globals (λ k some. omega (arith, all_holders (suc k) held, some)) o.sane)) o.keeps refl tt
       operation_keeps (ReadField class index) needs = last_leads_on _ _ (omega (arith, needs)) (λ r rest _ now kept. field_leads _ class r held _ (is_held r now) (λ j ob _ found there.
@@ -693,8 +700,10 @@ module _ (p : Program) (R : resolved.Program) where
 
       -- a message to the object of the reference below its arguments
       message_sent : (wanted : Gives) (from : Object → ℕ) (r : ℕ) (given rest : List ℕ) (selector takes objects : ℕ) (x : Height) → length own ≡ objects + suc (length rest) → length given ≡ objects
-          → AllHeld given (held.temporaries ++ waiting) → IsHeld r (held.temporaries ++ waiting) → AllHeld rest (held.temporaries ++ waiting) → takes ≤ h.numbers → After_call x → Ready_after wanted rest
-          → x.numbers ≡ h.numbers - takes + as_number wanted → x.names + suc objects ≡ h.names + as_object wanted → x.temporaries ≡ h.temporaries + as_object wanted → x.variables ≡ h.variables
+          → AllHeld given (held.temporaries ++ waiting) → IsHeld r (held.temporaries ++ waiting) → AllHeld rest (held.temporaries ++ waiting)
+          → takes ≤ h.numbers → After_call x → Ready_after wanted rest
+          → x.numbers ≡ h.numbers - takes + as_number wanted → x.names + suc objects ≡ h.names + as_object wanted
+          → x.temporaries ≡ h.temporaries + as_object wanted → x.variables ≡ h.variables
           → Leads (sends p s wanted from r selector takes objects (given ++ (rest ++ deeper)))
       message_sent wanted from zero given rest selector takes objects x e some kept_first kept kept_rest le g ready a b c d =
           let names_is : drop objects (given ++ (rest ++ deeper)) ≡ rest ++ deeper = ap (λ n. drop n (given ++ (rest ++ deeper))) (sym some) ∙ drop-append_seam given (rest ++ deeper) in
@@ -721,7 +730,8 @@ module _ (p : Program) (R : resolved.Program) where
           let names_is : held.names ≡ part.first ++ f.0 ∷ (f.1 ++ deeper) = part.names_are ∙ ap (λ l. part.first ++ (l ++ deeper)) f.2 in
           subst (λ l. Leads (instructions.on_receiver objects l (λ r rest. sends p s wanted from r selector takes objects rest))) (sym names_is)
           (subst Leads (sym (receiver_goes objects part.first (f.1 ++ deeper) f.0 (λ r rest. sends p s wanted from r selector takes objects rest) part.taken))
-          (message_sent wanted from f.0 part.first f.1 selector takes objects x (part.left ∙ ap (λ l. objects + length l) f.2) part.taken part.held_first below.0 below.1 needs.0 g
+          (message_sent wanted from f.0 part.first f.1 selector takes objects x
+          (part.left ∙ ap (λ l. objects + length l) f.2) part.taken part.held_first below.0 below.1 needs.0 g
           (ready part.first f.1 f.0 (part.is ∙ ap (λ l. part.first ++ l) f.2) part.taken) a (omega (arith, b, needs.1)) c d))
 
       class_reported : (wanted : Gives) (from : Option ℕ) (selector takes objects : ℕ) (x : Height) → (suc takes ≤ h.numbers) × (objects ≤ h.names) → Goes_to mine (pc + 1) x → x.numbers ≡ h.numbers - suc takes + as_number wanted → x.names ≡ h.names - objects + as_object wanted → x.temporaries ≡ h.temporaries + as_object wanted → x.variables ≡ h.variables
@@ -731,7 +741,8 @@ module _ (p : Program) (R : resolved.Program) where
           answers_lead (lookup p.classes from signs.Class selector takes objects wanted) wanted 0 (suc takes) pc part.first (part.rest ++ deeper) stack held
           (λ to f. subst (λ n. Goes_to wanted to (height (suc takes) n 0 0)) (sym part.taken) (finds from signs.Class selector takes objects wanted to f))
           (omega (arith, count, needs.0)) part.names_are part.held_first (nil_alive frames (stacked held)) o.itself o.places o.dying o.sane
-          (home wanted x (length stack - suc takes) part.rest (g.0, g.1) (always_ready wanted part.rest g.2) part.held_rest (omega (arith, count, needs.0, a)) (omega (arith, size, part.left, needs.1, b)) c d)
+          (home wanted x (length stack - suc takes) part.rest (g.0, g.1) (always_ready wanted part.rest g.2) part.held_rest (omega (arith, count, needs.0, a))
+          (omega (arith, size, part.left, needs.1, b)) c d)
 
       -- after a message to a made object what `init` gives is there, and elsewhere nothing matters
       init_ready : (wanted : Gives) (selector takes objects : ℕ) → slice_get (all R) pc ≡ Some (SendTo selector takes objects wanted) → Ready pc own held.temporaries waiting
@@ -782,7 +793,8 @@ module _ (p : Program) (R : resolved.Program) where
           enters_lead (has_level s) wanted (entry p f) 0 (slots_of R wanted f) pc part.first (part.rest ++ deeper) stack held
           (subst (λ m. Goes_to wanted (entry p f) (height (slots_of R wanted f) m 0 0)) (sym part.taken) (calls wanted f st.0.1))
           (omega (arith, count, st.0.0)) part.names_are part.held_first (nil_alive frames (stacked held)) o.itself o.places o.dying o.sane
-          (home wanted x (length stack - slots_of R wanted f) part.rest (st.1.0, st.1.1) (always_ready wanted part.rest st.1.2) part.held_rest (omega (arith, count, st.0.0)) (omega (arith, size, part.left)) (omega arith) (omega arith))
+          (home wanted x (length stack - slots_of R wanted f) part.rest (st.1.0, st.1.1) (always_ready wanted part.rest st.1.2) part.held_rest
+          (omega (arith, count, st.0.0)) (omega (arith, size, part.left)) (omega arith) (omega arith))
       order_leads (Send selector takes objects wanted) is stands no_end nil ready st = found_leads Good stack takes _ (omega (arith, count, st.0.0)) (λ class _. class_reported wanted (class_at class) selector takes objects (next_height R (Send selector takes objects wanted) h) st.0 st.1 (omega arith) (omega arith) (omega arith) (omega arith))
       order_leads (SendSuper from selector takes objects wanted) is stands no_end nil ready st = class_reported wanted (Some from) selector takes objects (next_height R (SendSuper from selector takes objects wanted) h) st.0 st.1 (omega arith) (omega arith) (omega arith) (omega arith)
       order_leads (SendTo selector takes objects wanted) is stands no_end nil ready st =
@@ -865,7 +877,8 @@ module _ (p : Program) (R : resolved.Program) where
     Later back w o others = Interrupted (λ g. Waits g others) back w o others (length stack) held.names held.places
 
     -- it goes on
-    ends_again : (frames : List Frame) → IsEnding frames → Alive frames held.places held.self → EndsAgain p.end_step held.self frames held.temporaries held.variables held.places
+    ends_again : (frames : List Frame) → IsEnding frames → Alive frames held.places held.self
+        → EndsAgain p.end_step held.self frames held.temporaries held.variables held.places
     ends_again frames is alive = record { at_end = refl; is_ending = is; none = none; empty = empty; alive = alive }
 
     module _ (back : ℕ) (w : Waiter) (k : ℕ) (others : List Frame) (alive : Alive (Ending back w (suc k) None 0 ∷ others) held.places held.self) (dying : AllDying held.objects (ending others)) (later : Later back w (suc k) others) where
@@ -874,7 +887,8 @@ module _ (p : Program) (R : resolved.Program) where
       still x = apart_dying held.objects k x (ending others) later.0 dying
 
       -- an object is gone, whose fields name nothing
-      ends_lead : (b : Bool) (ob : Object) → object_at held.objects (suc k) ≡ Some ob → ((i : ℕ) → holders (suc i) (fields_of ob) ≡ 0) → nat_eq (held.counts (suc k)) 0 ≡ b
+      ends_lead : (b : Bool) (ob : Object) → object_at held.objects (suc k) ≡ Some ob → ((i : ℕ) → holders (suc i) (fields_of ob) ≡ 0)
+          → nat_eq (held.counts (suc k)) 0 ≡ b
           → Leads (if b then on_left held.temporaries held (λ h. Goes (record { at = back; stack = stack; frames = others; held = resumed w (with_things h (turned_in Gone h.objects (suc k))) }) []) else Faults Resurrected)
       ends_lead false ob found none_named e = tt
       ends_lead true ob found none_named e =
@@ -907,7 +921,8 @@ module _ (p : Program) (R : resolved.Program) where
           (clears_lead frames (field_order p.classes ob.class) ob dies.1 dies.2 (all_in_order p.classes ob ((fits_at k ob dies.1 sane).sized)))
 
       -- the next field lets go of what it names
-      next_lead : (index : ℕ) (fields : List ℕ) → IsDying held.objects (suc k) (Some (index ∷ fields)) → Leads (clears_next p (at (Clearing back w (suc k) fields ∷ others) p.end_step stack held) (suc k) index)
+      next_lead : (index : ℕ) (fields : List ℕ) → IsDying held.objects (suc k) (Some (index ∷ fields))
+          → Leads (clears_next p (at (Clearing back w (suc k) fields ∷ others) p.end_step stack held) (suc k) index)
       next_lead index fields dies =
           let ob = dies.0 in
           let frames : List Frame = Clearing back w (suc k) fields ∷ others in
@@ -932,7 +947,8 @@ module _ (p : Program) (R : resolved.Program) where
 
       -- its next dealloc, of which what ends is as far as before
       module _ (dies : IsDying held.objects (suc k) None) (frames : List Frame) where
-        dealloc_leads : (d : Option ℕ) (next : Option ℕ) (left : ℕ) → ((to : ℕ) → d ≡ Some to → Goes_to gives.Number to (height 0 0 0 0)) → Leads (runs_dealloc d (at frames p.end_step stack held) (Ending back w (suc k) next left ∷ others))
+        dealloc_leads : (d : Option ℕ) (next : Option ℕ) (left : ℕ) → ((to : ℕ) → d ≡ Some to → Goes_to gives.Number to (height 0 0 0 0))
+            → Leads (runs_dealloc d (at frames p.end_step stack held) (Ending back w (suc k) next left ∷ others))
         dealloc_leads None next left goes = (inr (ends_again _ tt alive, later), (dies, dying), sane)
         dealloc_leads (Some to) next left goes =
             let g = goes to refl in
@@ -949,7 +965,8 @@ module _ (p : Program) (R : resolved.Program) where
               sane,
             )
 
-        class_leads : (i : ℕ) (c : Option Class) (left : ℕ) → slice_get p.classes i ≡ c → Leads (ends_class p (at frames p.end_step stack held) back w (suc k) c left others)
+        class_leads : (i : ℕ) (c : Option Class) (left : ℕ) → slice_get p.classes i ≡ c
+            → Leads (ends_class p (at frames p.end_step stack held) back w (suc k) c left others)
         class_leads i None left e = after_lead frames dies
         class_leads i (Some d) left e = dealloc_leads d.dealloc d.superclass left (λ to f. dealloc_goes R i d to (ap (λ cs. slice_get cs i) (sym classes) ∙ e) f)
 
@@ -972,7 +989,8 @@ module _ (p : Program) (R : resolved.Program) where
     step_does : (s : State) (x : Order) → slice_get (lowered_orders R) s.at ≡ Some x → step p s ≡ does p x s
     step_does s x e = executes_at p p.actions s.at x s (ap (λ l. slice_get l s.at) is ∙ e)
 
-    function_leads : (s : State) (mine : Gives) (below : ℕ) (deeper : List ℕ) → Resumes mine s.at s.held.self s.frames (length s.stack) below s.held.names deeper s.held.temporaries s.held.variables s.held.places
+    function_leads : (s : State) (mine : Gives) (below : ℕ) (deeper : List ℕ)
+        → Resumes mine s.at s.held.self s.frames (length s.stack) below s.held.names deeper s.held.temporaries s.held.variables s.held.places
         → Waits mine s.frames below deeper s.held.places → AllDying s.held.objects (ending s.frames) → Sane p.classes s.held → Leads (step p s)
     function_leads s mine below deeper r waits dying sane =
         let x = r.stands.order in
@@ -984,7 +1002,8 @@ module _ (p : Program) (R : resolved.Program) where
         (order_leads mine s.frames below deeper s.held.places s.held.self r.alive waits r.running classes (λ wanted g called. entry_goes p R is entries wanted g called) s.at r.high s.stack s.held r.own r.count r.size r.few r.many
         (record { is = r.is; places = refl; itself = refl; keeps = r.held; dying = dying; sane = sane }) x r.stands.is r.stands r.stands.no_end r.nil r.ready steps)
 
-    end_leads : (s : State) → EndsAgain s.at s.held.self s.frames s.held.temporaries s.held.variables s.held.places → Waits gives.Number s.frames (length s.stack) s.held.names s.held.places
+    end_leads : (s : State) → EndsAgain s.at s.held.self s.frames s.held.temporaries s.held.variables s.held.places
+        → Waits gives.Number s.frames (length s.stack) s.held.names s.held.places
         → AllDying s.held.objects (ending s.frames) → Sane p.classes s.held → Leads (step p s)
     end_leads s f waits dying sane =
         let e : slice_get (lowered_orders R) s.at ≡ Some EndStep = ap (slice_get (lowered_orders R)) (f.at_end ∙ end) ∙ end_is R in

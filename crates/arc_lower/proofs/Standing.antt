@@ -124,7 +124,8 @@ far_not_live None ob far live = false≢true (sym (ap (λ phase. is_live (Some (
 far_not_live (Some fields) ob far live = false≢true (sym (ap (λ phase. is_live (Some (in_phase phase ob))) far.0) ∙ live)
 
 -- an object that is found is as far as the end that is running
-as_far : (objects : List Object) (k : ℕ) (ob : Object) → object_at objects (suc k) ≡ Some ob → (fields : Option (List ℕ)) → IsDying objects (suc k) fields → IsAsFar fields ob
+as_far : (objects : List Object) (k : ℕ) (ob : Object) → object_at objects (suc k) ≡ Some ob → (fields : Option (List ℕ)) → IsDying objects (suc k) fields
+    → IsAsFar fields ob
 as_far objects k ob found fields d = let same : d.0 ≡ ob = cc in subst (IsAsFar fields) same d.2
 
 -- what isn't ending yet is none of those that are

@@ -228,7 +228,8 @@ module _ (R : resolved.Program) (all : List Order) (table : List (Height × Give
       variables_same _ w before = absurd before
 
       -- an order that keeps its place in a function, before one to which a run may go
-      goes_before : (pc : ℕ) (w : Walk) (x : Order) → Ordinary (role x) → slice_get table pc ≡ Some (w.height, given) → slice_get all pc ≡ Some x → Goes given (pc + 1) (next_walk R base x w).height → Goes given pc w.height
+      goes_before : (pc : ℕ) (w : Walk) (x : Order) → Ordinary (role x) → slice_get table pc ≡ Some (w.height, given) → slice_get all pc ≡ Some x
+          → Goes given (pc + 1) (next_walk R base x w).height → Goes given pc w.height
       goes_before pc w x o height is later =
           (record { height = height; order = x; is = is; no_end = λ end. subst Ordinary end o }, none, (λ s. subst Ordinary (sym at ∙ s) o, λ m. later.2.0))
         where
@@ -262,7 +263,8 @@ module _ (R : resolved.Program) (all : List Order) (table : List (Height × Give
       abbrev pub Emptied : ℕ → Height → Type 0
       Emptied pc h = Stands given pc h × ((k : ℕ) → Clears k pc → k ≡ 0) × Free pc
 
-      last_stands : (pc : ℕ) (h : Height) (x : Order) (r : Role) → IsLast r → role x ≡ r → slice_get table pc ≡ Some (h, given) → slice_get all pc ≡ Some x → Emptied pc h
+      last_stands : (pc : ℕ) (h : Height) (x : Order) (r : Role) → IsLast r → role x ≡ r → slice_get table pc ≡ Some (h, given) → slice_get all pc ≡ Some x
+          → Emptied pc h
       last_stands pc h x r last e height is =
           let at : role_at pc ≡ r = ap role_of is ∙ e in
           (record { height = height; order = x; is = is; no_end = λ end. subst IsLast (sym e ∙ end) last }, only at, (λ s. subst IsLast (sym at ∙ s) last, λ m. absurd (subst IsLast (sym at ∙ m) last)))

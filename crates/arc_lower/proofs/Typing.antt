@@ -182,7 +182,8 @@ module _ (P : Program) (r s : ℕ) where
     fit_types values slots a =
         let rest = values + a - (values - slots) in
         counts_then (values + a) (pop_orders (values - slots)) rest (zero_orders (slots - values)) (slots + a)
-        (types_at _ _ _ _ _ (pops_type (values - slots) rest) (omega arith) (omega arith)) (types_at _ _ _ _ _ (zeros_type (slots - values) rest) (omega arith) (omega arith))
+        (types_at _ _ _ _ _ (pops_type (values - slots) rest) (omega arith) (omega arith))
+        (types_at _ _ _ _ _ (zeros_type (slots - values) rest) (omega arith) (omega arith))
 
     -- ---- formats, above the count of bytes
 
@@ -240,10 +241,12 @@ module _ (P : Program) (r s : ℕ) where
   nils_type zero a b c d = alike_same _ _ (omega arith)
   nils_type (suc n) a b c d = (omega arith, types_at _ _ _ _ _ (nils_type n a (suc b) c d) (omega arith) (omega arith))
 
-  fit_objects_type : (objects parameters a b c d : ℕ) → Types (height a (objects + b) c d) (fit_object_orders objects parameters) (height a (parameters + b) c d)
+  fit_objects_type : (objects parameters a b c d : ℕ)
+      → Types (height a (objects + b) c d) (fit_object_orders objects parameters) (height a (parameters + b) c d)
   fit_objects_type objects parameters a b c d =
       let rest = objects + b - (objects - parameters) in
-      types_then (height a (objects + b) c d) (forget_orders (objects - parameters)) (height a rest c d) (nil_orders (parameters - objects)) (height a (parameters + b) c d)
+      types_then (height a (objects + b) c d) (forget_orders (objects - parameters)) (height a rest c d) (nil_orders (parameters - objects))
+      (height a (parameters + b) c d)
       (types_at _ _ _ _ _ (forgets_type (objects - parameters) a rest c d) (omega arith) (omega arith))
       (types_at _ _ _ _ _ (nils_type (parameters - objects) a rest c d) (omega arith) (omega arith))
 
