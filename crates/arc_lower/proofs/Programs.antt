@@ -429,7 +429,7 @@ module _ (R : resolved.Program) where
   class_finds (c ∷ others) place zero d has e =
       let here = (classes_split place c others has).0 in
       let q = place + length (dealloc_orders R (entries_of R) c.dealloc) in
-      subst Finds (some_same _ d e) (record { methods = λ sign selector takes objects wanted to e. found_goes c.methods q (class_split place c here).1 sign selector takes objects wanted to e; dealloc = λ to e. stub_found c.dealloc place to (class_split place c here).0 e })
+      subst Finds (some_same _ d e) (record { methods = found_goes c.methods q (class_split place c here).1; dealloc = λ to. stub_found c.dealloc place to (class_split place c here).0 })
   class_finds (c ∷ others) place (suc i) d has e = class_finds others (place + length (class_orders R (entries_of R) c)) i d (classes_split place c others has).1 e
 
   own_goes : (o : Option Class) → ((d : Class) → o ≡ Some d → Finds d) → (sign : Sign) (selector takes objects : ℕ) (wanted : Gives) (to : ℕ) → found sign selector takes objects wanted (own_methods o) ≡ Some to → Goes_to wanted to (height (passes sign takes) objects 0 0)

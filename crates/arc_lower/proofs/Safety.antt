@@ -58,9 +58,6 @@ shut_set mine n variables h i k above lt named = ⊎_elim
     (λ ne. h i k (omega (arith, above, ne)) (omega (arith, lt, length-set variables n 0)) (sym (set_other variables n i 0 ne) ∙ named))
     (cases_eq i n)
 
-no_names : NilBut [] []
-no_names i k e = cc
-
 -- all but the last one are nil, which names an object
 last_there : (variables : List ℕ) → 1 ≤ length variables → Shut gives.Object 0 variables → (n : ℕ) × (r : ℕ) × (variables ≡ nils n ++ r ∷ [])
 last_there [] some h = absurd (omega (arith, some))
@@ -318,33 +315,30 @@ module _ (p : Program) (R : resolved.Program) where
   last_leads n r (q ∷ others) held go none last h = cc
 
   -- a function is left that gives a number
-  leaves_lead : (frames : List Frame) (below : ℕ) (deeper : List ℕ) (pc : ℕ) (v : ℤ) (stack rest : List ℤ) (held : Held) → Waits gives.Number frames below deeper held.places → Alive frames held.places held.self → length stack ≡ suc (length rest) → below ≡ length rest → held.names ≡ deeper → held.temporaries ≡ [] → NilBut [] held.variables → AllDying held.objects (ending frames) → Sane p.classes held → Runs frames
+  leaves_lead : (frames : List Frame) (pc : ℕ) (v : ℤ) (stack rest : List ℤ) (held : Held) → Waits gives.Number frames (length rest) held.names held.places
+      → Alive frames held.places held.self → length stack ≡ suc (length rest) → held.temporaries ≡ [] → NilBut [] held.variables
+      → AllDying held.objects (ending frames) → Sane p.classes held → Runs frames
       → Leads (leaves p (at frames pc stack held) frames v rest (with_variables held []))
-  leaves_lead [] below deeper pc v stack rest held waits alive size e f none nil dying sane running = tt
-  leaves_lead (Calling back w ∷ others) below deeper pc v stack rest held waits alive size e f none nil dying sane running =
-      let h = with_variables held [] in
-      let mine = waits.0 in
+  leaves_lead [] pc v stack rest held waits alive size none nil dying sane running = tt
+  leaves_lead (Calling back w ∷ others) pc v stack rest held waits alive size none nil dying sane running =
       let s = waits.3 in
-      let more : below + 1 ≡ length stack = omega (arith, size, e) in
-      let resumes = subst (λ l. Resumes mine back w.self others (length stack) waits.1 l waits.2 s.temporaries s.variables s.waiting) (sym f) (subst (λ n. Resumes mine back w.self others n waits.1 deeper waits.2 s.temporaries s.variables s.waiting) more waits.4) in
-      subst (λ h1. Good (at others back stack h1)) (sym (resumes_again w h s))
-      (inl (mine, waits.1, waits.2, resumes, waits.5), dying, again_sane w h s none no_names (left_sane held none nil sane))
-  leaves_lead (Ending back w o next left ∷ others) below deeper pc v stack rest held waits alive size e f none nil dying sane running =
-      let frames = Ending back w o next left ∷ others in
-      (inr (record { at_end = refl; is_ending = tt; none = none; empty = refl; alive = alive }, subst (λ l. Waits gives.Number frames (length rest) l held.places) (sym f) (subst (λ n. Waits gives.Number frames n deeper held.places) e waits)), dying, left_sane held none nil sane)
-  leaves_lead (Clearing back w o fields ∷ others) below deeper pc v stack rest held waits alive size e f none nil dying sane running = absurd running
+      let more : length rest + 1 ≡ length stack = omega (arith, size) in
+      let resumes = subst (λ n. Resumes waits.0 back w.self others n waits.1 held.names waits.2 s.temporaries s.variables s.waiting) more waits.4 in
+      subst (λ h1. Good (at others back stack h1)) (sym (resumes_again w (with_variables held []) s))
+      (inl (waits.0, waits.1, waits.2, resumes, waits.5), dying, again_sane w held s none nil sane)
+  leaves_lead (Ending back w o next left ∷ others) pc v stack rest held waits alive size none nil dying sane running =
+      (inr (record { at_end = refl; is_ending = tt; none = none; empty = refl; alive = alive }, waits), dying, left_sane held none nil sane)
+  leaves_lead (Clearing back w o fields ∷ others) pc v stack rest held waits alive size none nil dying sane running = absurd running
 
   -- one that gives an object, which was called
-  hands_lead : (frames : List Frame) (below : ℕ) (deeper : List ℕ) (pc n r : ℕ) (stack rest : List ℤ) (held : Held) → Waits gives.Object frames below deeper held.places → below ≡ length rest → held.names ≡ deeper → held.temporaries ≡ [] → held.variables ≡ nils n ++ r ∷ [] → AllDying held.objects (ending frames) → Sane p.classes held
+  hands_lead : (frames : List Frame) (pc n r : ℕ) (stack rest : List ℤ) (held : Held) → Waits gives.Object frames (length rest) held.names held.places
+      → held.temporaries ≡ [] → held.variables ≡ nils n ++ r ∷ [] → AllDying held.objects (ending frames) → Sane p.classes held
       → Leads (instructions.hands_over (bare p) (at frames pc stack held) frames r rest (with_variables held []))
-  hands_lead (Calling back w ∷ others) below deeper pc n r stack rest held waits e f none last dying sane =
-      let h = with_variables held [] in
-      let mine = waits.0 in
+  hands_lead (Calling back w ∷ others) pc n r stack rest held waits none last dying sane =
       let s = waits.3 in
-      let resumes = subst (λ l. Resumes mine back w.self others (length rest) waits.1 (r ∷ l) waits.2 (r ∷ s.temporaries) s.variables s.waiting) (sym f) (subst (λ n. Resumes mine back w.self others n waits.1 (r ∷ deeper) waits.2 (r ∷ s.temporaries) s.variables s.waiting) e (waits.4 r)) in
-      subst (λ h1. Good (at others back rest (given_back r h1))) (sym (resumes_again w h s))
-      (inl (mine, waits.1, waits.2, resumes, waits.5), dying, given_sane w held s n r none last sane)
-  hands_lead _ below deeper pc n r stack rest held waits e f none last dying sane = absurd waits
+      subst (λ h1. Good (at others back rest (given_back r h1))) (sym (resumes_again w (with_variables held []) s))
+      (inl (waits.0, waits.1, waits.2, waits.4 r, waits.5), dying, given_sane w held s n r none last sane)
+  hands_lead _ pc n r stack rest held waits none last dying sane = absurd waits
 
   -- ---- ends that begin
 
@@ -778,6 +772,13 @@ module _ (p : Program) (R : resolved.Program) where
           (releases_lead old pc stack held held2 own1 refl o.places o.itself kept dying1 (sane_store_field held1 j ob index old r found is_there_now named there o.sane)
           (back (pc + 1) x g.0 (length stack) (own1 ++ deeper) own1 held1 refl (goes_nil (pc + 1) x g.1 held.variables (omega (arith, many, d))) (inl g.2) a b (omega (arith, few, c)) (omega (arith, many, d)) kept)))
 
+      -- what waits, once there is nothing left of the running function
+      left_waits : (g : Gives) → mine ≡ g → (rest : List ℤ) → below ≡ length rest → h.names ≡ 0 → Waits g frames (length rest) held.names held.places
+      left_waits g same rest e no_names =
+          let none = nil_from_length own (omega (arith, size, no_names)) in
+          subst (λ n. Waits g frames n held.names held.places) e (subst (λ l. Waits g frames below l held.places) (sym (o.is ∙ ap (λ l. l ++ deeper) none))
+          (subst (λ m. Waits m frames below deeper held.places) same (subst (Waits mine frames below deeper) (sym o.places) waits)))
+
       order_leads : (x : Order) → slice_get (all R) pc ≡ Some x → Stands R (all R) (table R) mine pc h → (role x ≡ Ends → ⊥) → (nil : (k : ℕ) → Clear k pc → Shut mine k held.variables) → Ready pc own held.temporaries waiting → Steps R (all R) (table R) mine h pc x → Leads (does p x s)
       order_leads (Plain x) is stands no_end nil ready st = operation_leads x is nil st.0 st.1 st.2
       order_leads (PrintText bytes) is stands no_end nil ready st = top_leads Good stack _ (omega (arith, count, st.0)) (λ c rest e. go_on (pc + 1) _ st.1 (counted c bytes ∷ rest) held own (omega (arith, count, st.0, e)) (omega (arith, size)) (omega (arith, few)) (omega (arith, many)) o)
@@ -856,21 +857,22 @@ module _ (p : Program) (R : resolved.Program) where
           let shut = subst (λ g. Shut g 0 held.variables) st.3 (nil 0 clears) in
           let last = last_there held.variables (omega (arith, many, st.4)) shut in
           top_leads Good stack _ (omega (arith, count, st.0)) (λ v rest e. last_leads last.0 last.1 held.temporaries held _ none last.2
-          (hands_lead frames below deeper pc last.0 last.1 stack rest held (subst (λ g. Waits g frames below deeper held.places) st.3 (subst (Waits mine frames below deeper) (sym o.places) waits)) (omega (arith, count, st.0, e)) (o.is ∙ ap (λ l. l ++ deeper) (nil_from_length own (omega (arith, size, st.1)))) none last.2 o.dying o.sane))
+          (hands_lead frames pc last.0 last.1 stack rest held (left_waits gives.Object st.3 rest (omega (arith, count, st.0, e)) st.1) none last.2 o.dying o.sane))
       order_leads Return is stands no_end nil ready st =
           let none = nil_from_length held.temporaries (omega (arith, few, st.2)) in
           let clears : Clear 0 pc = (0, ap role_of is) in
           let shut = subst (λ g. Shut g 0 held.variables) st.3 (nil 0 clears) in
           let empty : NilBut [] held.variables = λ i k named. shut i k (omega arith) (omega (arith, slice_get_within held.variables i (suc k) named)) named in
           top_leads Good stack _ (omega (arith, count, st.0)) (λ v rest e. left_leads held.temporaries held _ none empty
-          (leaves_lead frames below deeper pc v stack rest held (subst (λ g. Waits g frames below deeper held.places) st.3 (subst (Waits mine frames below deeper) (sym o.places) waits)) (subst (λ l. Alive frames l held.self) (sym o.places) (subst (Alive frames waiting) (sym o.itself) alive)) e (omega (arith, count, st.0, e)) (o.is ∙ ap (λ l. l ++ deeper) (nil_from_length own (omega (arith, size, st.1)))) none empty o.dying o.sane running))
+          (leaves_lead frames pc v stack rest held (left_waits gives.Number st.3 rest (omega (arith, count, st.0, e)) st.1)
+          (subst (λ l. Alive frames l held.self) (sym o.places) (subst (Alive frames waiting) (sym o.itself) alive)) e none empty o.dying o.sane running))
       order_leads EndStep is stands no_end nil ready st = absurd (no_end refl)
 
   -- ---- the end of an object
 
   module _ (classes : p.classes ≡ classes_linked R) (stack : List ℤ) (held : Held) (none : held.temporaries ≡ []) (empty : held.variables ≡ []) (sane : Sane p.classes held) where
     no_variables : NilBut [] held.variables
-    no_variables = subst (NilBut []) (sym empty) no_names
+    no_variables = subst (NilBut []) (sym empty) (λ i k e. cc)
 
     -- what waits for the end of this object
     abbrev Later : (back : ℕ) → Waiter → ℕ → List Frame → Type 0
@@ -896,12 +898,11 @@ module _ (p : Program) (R : resolved.Program) where
           let objects = slice_set held.objects k x in
           let gone_is : turned_in Gone held.objects (suc k) ≡ objects = rw found refl in
           let h1 = with_things held objects in
-          let h = with_variables h1 [] in
           let split = later.1 in
-          let sane1 = again_sane w h split none no_names (left_sane h1 none no_variables (sane_gone held k ob found none_named e sane)) in
+          let sane1 = again_sane w h1 split none no_variables (sane_gone held k ob found none_named e sane) in
           left_leads held.temporaries held _ none no_variables
           (subst (λ l. Good (at others back stack (resumed w (with_things (with_variables held []) l)))) (sym gone_is)
-          (subst (λ q. Good (at others back stack q)) (sym (resumes_again w h split)) (later.2, still x, sane1)))
+          (subst (λ q. Good (at others back stack q)) (sym (resumes_again w (with_variables h1 []) split)) (later.2, still x, sane1)))
 
       -- the deallocs of an object are done: its fields are destroyed, and then it is gone
       clears_lead : (frames : List Frame) (order : List ℕ) (ob : Object) → object_at held.objects (suc k) ≡ Some ob → ob.phase ≡ Dying → NilBut order ob.strong
