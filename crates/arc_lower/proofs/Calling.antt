@@ -1,7 +1,8 @@
 -- A run calls functions and methods, and ends objects, to the most levels.
 use Rattle.std.proofs.Common.{◌≡◌, ℕ, zero, suc, ◌+◌, ℤ, pos, Bool, true, false, not, nat_eq, nat_lt, if◌then◌else◌, List, [], ◌∷◌, ◌++◌, length, Option, Some, None, slice_get, slice_set, slice_index_or, refl, sym, ap, ◌∙◌, subst, arith, inr}
 use Rattle.std.proofs.lemmas.Bool.{lt-ltb, le-ltb}
-use Rattle.std.proofs.lemmas.List.{append-nil, length-map, set-set}
+use Rattle.std.proofs.Math.Seq.{take-append_seam, drop-append_seam}
+use Rattle.std.proofs.lemmas.List.{append-nil, append_assoc, length-map, set-set}
 use Rattle.arc_spec.specs.declared.event.Fault.TheVariants.{Resurrected}
 use Rattle.arc_spec.specs.declared.class.Gives.{Gives}
 use Rattle.arc_spec.specs.declared.class.Gives.TheVariants as gives
@@ -11,7 +12,7 @@ use Rattle.arc_spec.specs.Resolved as resolved
 use Rattle.arc_spec.specs.Meaning.{function_at, called, released, field_stores, field_dropped, fields_dropped, emptied, class_in, dealloc_run, deallocs_run, turned, gone, dying, level}
 use Rattle.arc_spec.specs.World as world
 use Rattle.arc_spec.specs.World.{World, Outcome, Done, Faulted, Finished, finished, then_do, Given, nothing_given, places, stacked, frame_places, with_objects, entered, padded}
-use Rattle.arc_spec.specs.Holding.{Held, Frame, Calling, Ending, Clearing, Waiter, holders, with_things, with_strong_field, on_place, lets_go, raised, resumed, turned_in, given_back}
+use Rattle.arc_spec.specs.Holding.{Held, Frame, Calling, Ending, Clearing, Waiter, holders, with_things, with_strong_field, on_place, lets_go, raised, resumed, turned_in}
 use Rattle.arc_spec.specs.Stepping.{Next, Goes, Faults, Reached, Running, follow}
 use Rattle.arc_spec.proofs.Deallocs.{dealloc_and_above, deallocs_from}
 use Rattle.arc_ir.specs.Acting.{Program, State, has_level, enters, answers, begins_end, clears, after_deallocs, clears_next, runs_dealloc, ends_class}
@@ -45,14 +46,6 @@ waits_at f = record { self = f.self; temporaries = length f.temporaries; variabl
 abbrev waits_of : World → Waiter
 waits_of w = waits_at w.frame
 
--- what is held by these places and those that wait
-abbrev held_by : (rs : List ℕ) (self : ℕ) → World → world.Frame → List ℕ → Held
-held_by rs self w f waiting = record (counting rs w (λ k. holders k ((frame_places f ++ waiting) ++ (w.strong_globals ++ field_places w.objects)))) { temporaries = f.temporaries; variables = f.strong; self = self; places = waiting }
-
--- a state by its own places and those that wait
-abbrev placed_at : List Frame → (rs : List ℕ) → (pc : ℕ) → List ℤ → (self : ℕ) → World → world.Frame → List ℕ → Reached State
-placed_at frames rs pc stack self w f waiting = Running (at frames pc stack (held_by rs self w f waiting)) w.input w.trace
-
 -- what is held in the end of an object, between two deallocs
 abbrev ended_by : (rs : List ℕ) → (o : ℕ) → World → (all : List ℕ) → Held
 ended_by rs o w all = record (counting rs w (λ k. holders k (all ++ (w.strong_globals ++ field_places w.objects)))) { temporaries = []; variables = []; self = o; places = all }
@@ -60,44 +53,13 @@ ended_by rs o w all = record (counting rs w (λ k. holders k (all ++ (w.strong_g
 abbrev ended_held : (rs : List ℕ) → (o : ℕ) → World → Held
 ended_held rs o w = ended_by rs o w (stacked w)
 
--- the same with the objects and the variables of the whole program as they are now
-abbrev ended_now : (rs : List ℕ) → (o : ℕ) → (before now : World) → Held
-ended_now rs o before now = ended_by rs o now (stacked before)
-
 -- ---- an object that is changed
-
--- an object that is put in its own place
-put_same : (objects : List Object) (o : ℕ) (ob : Object) → object_at objects o ≡ Some ob → with_object objects o ob ≡ objects
-put_same objects zero ob found = refl
-put_same objects (suc k) ob found = same_put objects k ob found
-
-put_twice : (objects : List Object) (o : ℕ) (x y : Object) → with_object (with_object objects o x) o y ≡ with_object objects o y
-put_twice objects zero x y = refl
-put_twice objects (suc k) x y = set-set objects k x y
-
-put_found : (objects : List Object) (o : ℕ) (ob x : Object) → object_at objects o ≡ Some ob → object_at (with_object objects o x) o ≡ Some x
-put_found objects zero ob x found = cc
-put_found objects (suc k) ob x found = set_here objects k x ob found
 
 -- one whose fields name the same
 fields_put : (objects : List Object) (k : ℕ) (ob x : Object) → slice_get objects k ≡ Some ob → fields_of x ≡ fields_of ob → field_places (slice_set objects k x) ≡ field_places objects
 fields_put [] k ob x found same = refl
 fields_put (a ∷ objects) zero ob x found same = let alike : ob ≡ a = cc in ap (λ l. l ++ field_places objects) (same ∙ ap fields_of alike)
 fields_put (a ∷ objects) (suc k) ob x found same = ap (λ l. fields_of a ++ l) (fields_put objects k ob x found same)
-
-places_put : (o : ℕ) (ob x : Object) (w : World) → object_at w.objects o ≡ Some ob → fields_of x ≡ fields_of ob → places (with_objects w (with_object w.objects o x)) ≡ places w
-places_put zero ob x w found same = refl
-places_put (suc k) ob x w found same = ap (λ l. stacked w ++ (w.strong_globals ++ l)) (fields_put w.objects k ob x found same)
-
--- what a field named that is dropped
-dropped_count : (o : ℕ) (ob : Object) (index old k : ℕ) (w : World) → object_at w.objects o ≡ Some ob → is_there ob.phase ≡ true → slice_get ob.strong index ≡ Some old
-    → (if nat_eq (suc k) 0 then suc (holders (suc k) (places w)) else holders (suc k) (places w)) ≡ holders (suc k) (old ∷ places (field_stores o ob index 0 w))
-dropped_count zero ob index old k w found there named = cc
-dropped_count (suc j) ob index old k w found there named = raised_count 0 (held_of [] w) (suc k) ∙ sym (field_moves (suc k) (held_of [] w) j ob index old 0 found there named)
-
--- what waited is as it was
-resumed_is : (f : world.Frame) (waiting : List ℕ) (h : Held) → h.places ≡ frame_places f ++ waiting → resumed (waits_at f) h ≡ record h { temporaries = f.temporaries; variables = f.strong; self = f.self; places = waiting }
-resumed_is f waiting h e = resumed_as (waits_at f) h f.temporaries f.strong waiting e refl refl
 
 -- an object is gone, where there is such an object
 turned_is : (objects : List Object) (o : ℕ) (found : Option Object) (w : World) → object_at objects o ≡ found → w.objects ≡ objects → turned Gone o found w ≡ record w { objects = turned_in Gone objects o }
@@ -147,25 +109,14 @@ module _ (p : Program) (R : resolved.Program) (bound : ℕ) (begins : (wanted : 
       subst (λ g. Runs (moves p) bound (begun_at rs wanted f self frames given stack w) (Left p frames bound R F self w stack rs D deep place g) (called D bound F self given w)) (function_gives R wanted f)
       (function_runs p frames bound R F self w stack rs D deep place (entry wanted f) given (padded_length (pos 0) F.slots given.numbers) (has_front p place leave body (begins wanted f).code) (has_back p place leave body (begins wanted f).code))
 
-  -- after a call its object is the last temporary
-  abbrev given_at : List Frame → (rs : List ℕ) → (pc : ℕ) → List ℤ → (object : ℕ) → World → world.Frame → List ℕ → Reached State
-  given_at frames rs pc stack object w f waiting = placed_at frames (object ∷ rs) pc stack f.self w (record { self = f.self; locals = f.locals; strong = f.strong; temporaries = object ∷ f.temporaries }) waiting
-
   -- a method or a function comes back after its call
   comes_home : (rs : List ℕ) (levels : ℕ) (wanted : Gives) (f pc self : ℕ) (frames : List Frame) (stack : List ℤ) (w : World) (deep : Deep p (Calling (pc + 1) (waits_of w) ∷ frames) bound R (level R bound levels)) (a : world.Answer) (w2 : World) → Kept w w2
       → leaving p (Calling (pc + 1) (waits_of w) ∷ frames) bound R (function_at R wanted f) self w stack rs (level R bound levels) deep (begins wanted f).place wanted a w2 ≡ after_call wanted frames rs pc stack a w2
   comes_home rs levels gives.Number f pc self frames stack w deep a w2 k =
-      let v = a.number in
-      ap (λ t. Running (at frames (pc + 1) (v ∷ stack) (recounted (resumed (waits_of w) (ended_now rs self w w2)))) w2.input t) (append-nil w2.trace)
-      ∙ ap (λ h. Running (at frames (pc + 1) (v ∷ stack) (recounted h)) w2.input w2.trace) (resumed_is w.frame w.waiting (ended_now rs self w w2) refl)
-      ∙ ap (λ (f : world.Frame). placed_at frames rs (pc + 1) (v ∷ stack) f.self w2 f w.waiting) (sym k.frame)
-      ∙ ap (placed_at frames rs (pc + 1) (v ∷ stack) w2.frame.self w2 w2.frame) (sym k.waiting)
+      simp (append-nil, k.frame, k.waiting, append_assoc, take-append_seam, drop-append_seam)
   comes_home rs levels gives.Object f pc self frames stack w deep a w2 k =
-      let r = a.object in
-      ap (λ t. Running (at frames (pc + 1) stack (recounted (given_back r (resumed (waits_of w) (ended_now rs self w w2))))) w2.input t) (append-nil w2.trace)
-      ∙ ap (λ h. Running (at frames (pc + 1) stack (recounted (given_back r h))) w2.input w2.trace) (resumed_is w.frame w.waiting (ended_now rs self w w2) refl)
-      ∙ ap (λ (f : world.Frame). given_at frames rs (pc + 1) stack r w2 f w.waiting) (sym k.frame)
-      ∙ ap (given_at frames rs (pc + 1) stack r w2 w2.frame) (sym k.waiting)
+      let all = append_assoc w.frame.temporaries w.frame.strong w.waiting in
+      rw (append-nil w2.trace, k.frame, k.waiting, all, take-append_seam, drop-append_seam, take-append_seam, drop-append_seam, all)
 
   method_runs : (rs : List ℕ) (levels : ℕ) (wanted : Gives) (f pc self : ℕ) (frames : List Frame) (given : Given) (stack : List ℤ) (w : World) → Deep p (Calling (pc + 1) (waits_of w) ∷ frames) bound R (level R bound levels) → Runs (moves p) bound (begun_at rs wanted f self (Calling (pc + 1) (waits_of w) ∷ frames) given stack w) (Returns wanted frames rs pc stack w) ((level R bound (suc levels)).call wanted f self given w)
   method_runs rs levels wanted f pc self frames given stack w deep =
@@ -207,7 +158,10 @@ module _ (p : Program) (R : resolved.Program) (bound : ℕ) (begins : (wanted : 
   classes_are zero = refl
   classes_are (suc levels) = refl
 
-  module _ (rs : List ℕ) (back : ℕ) (f0 : world.Frame) (waiting : List ℕ) (o levels : ℕ) (frames : List Frame) (stack : List ℤ) (deep : (frame : Frame) → Deep p (frame ∷ frames) bound R (level R bound levels)) where
+  module _ (rs : List ℕ) (back : ℕ) (f0 : world.Frame) (waiting : List ℕ) (j levels : ℕ) (frames : List Frame) (stack : List ℤ) (deep : (frame : Frame) → Deep p (frame ∷ frames) bound R (level R bound levels)) where
+    abbrev o : ℕ
+    o = suc j
+
     abbrev waits : Waiter
     waits = waits_at f0
 
@@ -216,7 +170,7 @@ module _ (p : Program) (R : resolved.Program) (bound : ℕ) (begins : (wanted : 
     Still w = frame_places f0 ++ waiting ≡ stacked w
 
     still_on : (w w1 : World) → Still w → Kept w w1 → Still w1
-    still_on w w1 still k = still ∙ ap (λ (f : world.Frame). frame_places f ++ w.waiting) (sym k.frame) ∙ ap (λ l. frame_places w1.frame ++ l) (sym k.waiting)
+    still_on w w1 still k = still ∙ rw (k.frame, k.waiting)
 
     abbrev Back : World → Finished → World → Reached State → Type 0
     Back w done w1 to = (to ≡ running frames rs back stack (laid w1 f0 waiting)) × Kept w w1
@@ -235,7 +189,7 @@ module _ (p : Program) (R : resolved.Program) (bound : ℕ) (begins : (wanted : 
         let from = recount (goes_back w) in
         let path : follow from w.input w.trace ≡ running frames rs back stack (laid w2 f0 waiting) =
         ap (λ t. Running (at frames back stack (recounted (resumed waits (with_things (ended_held rs o w) w2.objects)))) w.input t) (append-nil w.trace)
-        ∙ ap (λ h. Running (at frames back stack (recounted h)) w.input w.trace) (resumed_is f0 waiting (with_things (ended_held rs o w) w2.objects) (sym still))
+        ∙ ap (λ h. Running (at frames back stack (recounted h)) w.input w.trace) (resumed_as waits (with_things (ended_held rs o w) w2.objects) f0.temporaries f0.strong waiting (sym still) refl refl)
         in
         subst (λ (x : World). Runs (moves p) bound (follow from w.input w.trace) (Back w) (Done finished x)) (sym (turned_is w.objects o (object_at w.objects o) w refl refl))
         (ends_here (moves p) bound (follow from w.input w.trace) (Back w) finished w2 (path, record { frame = refl; waiting = refl }))
@@ -252,7 +206,8 @@ module _ (p : Program) (R : resolved.Program) (bound : ℕ) (begins : (wanted : 
     bare_runs w ob found there still =
         let x = in_phase Emptying ob in
         let w1 = turned Emptying o (Some ob) w in
-        let same : names o (places w1) ≡ names o (places w) = ap (names o) (places_put o ob x w found (sym (there_fields ob there))) in
+        let same : names o (places w1) ≡ names o (places w) = ap (λ l. names o (stacked w ++ (w.strong_globals ++ l)))
+        (fields_put w.objects j ob x found (sym (there_fields ob there))) in
         subst (λ b. Runs (moves p) bound (follow (recount (if b then goes_back w else Faults Resurrected)) w.input w.trace) (Back w) (gone o w1)) (sym (no_one o (holders o (places w)) (places w) refl))
         (subst (λ b. Runs (moves p) bound (follow (recount (if not (names o (places w)) then goes_back w else Faults Resurrected)) w.input w.trace) (Back w) (if b then Faulted Resurrected w1 else Done finished (turned Gone o (object_at w1.objects o) w1))) (sym same) (by (names o (places w))))
       where
@@ -260,8 +215,8 @@ module _ (p : Program) (R : resolved.Program) (bound : ℕ) (begins : (wanted : 
         gone_same =
             let y = in_phase Emptying ob in
             ap (λ f. turned Gone o f w) found
-            ∙ ap (λ l. with_objects w l) (sym (put_twice w.objects o y (in_phase Gone ob)))
-            ∙ ap (λ f. turned Gone o f (turned Emptying o (Some ob) w)) (sym (put_found w.objects o ob y found))
+            ∙ ap (λ l. with_objects w l) (sym (set-set w.objects j y (in_phase Gone ob)))
+            ∙ ap (λ f. turned Gone o f (turned Emptying o (Some ob) w)) (sym (set_here w.objects j y ob found))
 
         by : (b : Bool) → Runs (moves p) bound (follow (recount (if not b then goes_back w else Faults Resurrected)) w.input w.trace) (Back w) (if b then Faulted Resurrected (turned Emptying o (Some ob) w) else Done finished (turned Gone o (object_at (turned Emptying o (Some ob) w).objects o) (turned Emptying o (Some ob) w)))
         by true = inr (leads_same (moves p) _ _ refl)
@@ -300,10 +255,7 @@ module _ (p : Program) (R : resolved.Program) (bound : ℕ) (begins : (wanted : 
           lets_runs p bound rs (level R bound levels) w own_frame (stacked w) (Goes_on w) (λ o. o) old c stays (ends before) count (λ less _. stays_run w less) (λ k ob less found.
           better_runs (moves p) bound _ (λ done w1 to. (to ≡ running inner rs p.end_step stack (laid w1 own_frame (stacked w))) × Kept w w1) (Goes_on w) ((level R bound levels).end_of (suc k) w)
           ((deep (Clearing back waits o fields)).ends own_frame (stacked w) k ob less (ended_held rs o before) rs stack w p.end_step p.end_step refl found)
-          (λ done w1 to m. (
-            m.0 ∙ ap (λ (f : world.Frame). running inner rs p.end_step stack (laid w1 own_frame (frame_places f ++ w.waiting))) (sym m.1.frame) ∙ ap (λ l. running inner rs p.end_step stack (laid w1 own_frame (frame_places w1.frame ++ l))) (sym m.1.waiting),
-            m.1,
-          )))
+          (λ done w1 to m. (m.0 ∙ rw (m.1.frame, m.1.waiting), m.1)))
 
       -- the next field
       field_run : (index : ℕ) (w : World) → Runs (moves p) bound (follow (recount (clears_next p (at inner p.end_step stack (ended_held rs o w)) o index)) w.input w.trace) (Goes_on w) (field_dropped (level R bound levels) o index (object_at w.objects o) w)
@@ -315,9 +267,12 @@ module _ (p : Program) (R : resolved.Program) (bound : ℕ) (begins : (wanted : 
           there_runs p bound w.input w.trace (Goes_on w) (meant (object_at w.objects o)) (object_at w.objects o) go (λ ob found there.
           subst (λ f. Runs (moves p) bound (follow (recount (go ob)) w.input w.trace) (Goes_on w) (meant f)) (sym found)
           (place_takes p bound rs D w own_frame (stacked w) (Goes_on w) (λ x. x) ob.strong index 0 (stays h) (λ old. lets_go old (raised 0 (with_strong_field h o ob index 0)) stays (ends w))
-          (λ l. with_objects w (with_object w.objects o (with_strong_fields ob l))) (ap (with_objects w) (put_same w.objects o ob found)) (stays_run w h.counts) (λ old named.
+          (λ l. with_objects w (with_object w.objects o (with_strong_fields ob l))) (ap (with_objects w) (same_put w.objects j ob found)) (stays_run w h.counts) (λ old named.
           let w1 = field_stores o ob index 0 w in
-          better_runs (moves p) bound _ (Goes_on w1) (Goes_on w) (released D old w1) (lets_run w old (raised 0 h).counts w1 (λ k. dropped_count o ob index old k w found there named)) (λ done w2 to m. (m.0, record { frame = m.1.frame; waiting = m.1.waiting })))))
+          better_runs (moves p) bound _ (Goes_on w1) (Goes_on w) (released D old w1)
+          (lets_run w old (raised 0 h).counts w1
+          (λ k. raised_count 0 (held_of [] w) (suc k) ∙ sym (field_moves (suc k) (held_of [] w) j ob index old 0 found there named)))
+          (λ done w2 to m. (m.0, record { frame = m.1.frame; waiting = m.1.waiting })))))
 
     -- ---- what is left of an end
 
@@ -331,10 +286,6 @@ module _ (p : Program) (R : resolved.Program) (bound : ℕ) (begins : (wanted : 
 
     abbrev EndRuns : (n : ℕ) → (next : Option ℕ) → World → Type 0
     EndRuns n next w = Runs (moves p) bound (at_end rs (Ending back waits o next n ∷ frames) o stack w) (Back w) (meant_from n next w)
-
-    -- between two deallocs, by the places of the function that waits
-    abbrev with_ended : World → world.Frame → List ℕ → Held
-    with_ended w1 f1 waiting1 = ended_by rs o w1 (frame_places f1 ++ waiting1)
 
     -- the dealloc of one class, and then what is above it
     by_dealloc : (n : ℕ) (next : Option ℕ) (w : World) (from : Reached State) (meant stands : Option ℕ) → Still w → Meets p R gives.Number 0 0 meant stands → Leads (moves p) from (follow (recount (runs_dealloc stands (at [] p.end_step stack (ended_held rs o w)) (Ending back waits o next n ∷ frames))) w.input w.trace) → ((w1 : World) → Still w1 → EndRuns n next w1) → Runs (moves p) bound from (Back w) (then_do (then_do (dealloc_run R (level R bound levels) bound meant o w) (λ _ w1. deallocs_run R (level R bound levels) bound (above_in R n next) o w1)) (λ _ w1. rest_of w1))
@@ -355,11 +306,7 @@ module _ (p : Program) (R : resolved.Program) (bound : ℕ) (begins : (wanted : 
         subst (Runs (moves p) bound from (Back w)) (then_thrice body (λ _ w1. Done finished w1) (λ _ w1. deallocs_run R D bound (above_in R n next) o w1) (λ _ w1. rest_of w1))
         (then_runs (moves p) bound from end (Back w) body (λ _ w1. meant_from n next w1) runs (λ v w1 reached m.
         let k = m.1 in
-        let home : reached ≡ at_end rs inner1 o stack w1 =
-        m.0 ∙ ap (λ t. Running (at inner1 p.end_step stack (with_ended w1 w.frame w.waiting)) w1.input t) (append-nil w1.trace)
-        ∙ ap (λ (g : world.Frame). Running (at inner1 p.end_step stack (with_ended w1 g w.waiting)) w1.input w1.trace) (sym k.frame)
-        ∙ ap (λ l. Running (at inner1 p.end_step stack (with_ended w1 w1.frame l)) w1.input w1.trace) (sym k.waiting)
-        in
+        let home : reached ≡ at_end rs inner1 o stack w1 = m.0 ∙ rw (append-nil, k.frame, k.waiting) in
         leads_runs (moves p) bound reached (at_end rs inner1 o stack w1) (Back w) (meant_from n next w1) (leads_same (moves p) reached (at_end rs inner1 o stack w1) home)
         (back_from w w1 (at_end rs inner1 o stack w1) (meant_from n next w1) k (go w1 (still_on w w1 still k)))))
     by_dealloc n next w from _ _ still meets e go = absurd meets
@@ -393,10 +340,7 @@ module _ (p : Program) (R : resolved.Program) (bound : ℕ) (begins : (wanted : 
           let w1 = turned Emptying o (Some ob) w in
           let meant = then_do (fields_dropped (level R bound levels) fields o w1) (λ _ w2. gone o w2) in
           let from = follow (recount (clears p (at (frame ∷ frames) p.end_step stack (ended_held rs o w)) back waits o fields frames)) w.input w.trace in
-          let path : from ≡ at_end rs inner1 o stack w1 =
-          ap (λ t. Running (at inner1 p.end_step stack (recounted (with_things (ended_held rs o w) (turned_in Emptying w.objects o)))) w.input t) (append-nil w.trace)
-          ∙ ap (λ l. Running (at inner1 p.end_step stack (recounted (with_things (ended_held rs o w) l))) w.input w.trace) (rw found refl)
-          in
+          let path : from ≡ at_end rs inner1 o stack w1 = simp (append-nil, found) in
           leads_runs (moves p) bound from (at_end rs inner1 o stack w1) (Back w) meant (leads_same (moves p) _ _ path)
           (back_from w w1 (at_end rs inner1 o stack w1) meant (record { frame = refl; waiting = refl }) (fields_run fields w1 still))
 
@@ -454,8 +398,8 @@ module _ (p : Program) (R : resolved.Program) (bound : ℕ) (begins : (wanted : 
         let h = dying_in rs (laid w f0 waiting) k ob c in
         let s = at frames pc stack h0 in
         let D = level R bound levels in
-        let o = meant_from rs back f0 waiting (suc k) levels frames stack deep n (Some ob.class) w1 in
-        let runs = end_runs rs back f0 waiting (suc k) levels frames stack deep links has_end n (Some ob.class) w1 e in
+        let o = meant_from rs back f0 waiting k levels frames stack deep n (Some ob.class) w1 in
+        let runs = end_runs rs back f0 waiting k levels frames stack deep links has_end n (Some ob.class) w1 e in
         let from = follow (recount (begins_end p s back (suc k) ob.class h (has_level s))) w.input w.trace in
         let path : from ≡ at_end rs inner1 (suc k) stack w1 =
         ap (λ b. follow (recount (begins_end p s back (suc k) ob.class h b)) w.input w.trace) (lt-ltb (length frames) MOST_LEVELS (omega (arith, full)))

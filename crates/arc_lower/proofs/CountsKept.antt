@@ -1,11 +1,11 @@
 -- Wherever objects and places change, the counts are right, what a place names is there, and each object has the fields of its class.
-use Rattle.std.proofs.Common.{◌≡◌, ℕ, zero, suc, ◌+◌, ◌<◌, ◌≤◌, true, false, ◌&&◌, nat_eq, ℤ, List, [], ◌∷◌, ◌++◌, length, Option, Some, None, slice_get, slice_set, refl, sym, ap, ◌∙◌, subst, ⊎_elim, arith}
+use Rattle.std.proofs.Common.{◌≡◌, ℕ, zero, suc, ◌+◌, ◌<◌, ◌≤◌, true, false, ◌&&◌, nat_eq, if◌then◌else◌, ℤ, List, [], ◌∷◌, ◌++◌, length, Option, Some, None, slice_get, slice_set, refl, sym, ap, ◌∙◌, subst, ⊎_elim, arith}
 use Rattle.std.proofs.lemmas.Bool.{eqb-true, cases_eq, eq-eqb, and_from, false≢true}
 use Rattle.std.proofs.lemmas.List.{length-set}
 use Rattle.arc_spec.specs.Classes.{Class, field_counts, strong_count}
 use Rattle.arc_spec.specs.Objects.{Object, Live, Dying, Emptying, Gone, nils, object_at, with_object, in_phase, with_fields, with_strong_fields, is_live, is_there, new_object, fields_of, field_places}
-use Rattle.arc_spec.specs.Holding.{Held, nothing_held, Counted, holders, all_places, with_temporaries, with_variables, with_names, with_things, with_globals, with_strong_globals, raised, lowered, taken_by, makes, entered, stacked}
-use Rattle.arc_lower.proofs.CountsPlaces.{tally, tally_nil, tally_same, tally_other, holders_head, holders_nil, holders_append, all_holders, raised_count, lowered_count, there_fields, fields_set, fields_made, nils_holders, same_fields, variable_moves, global_moves, field_moves, last_moves, second_moves, IsThere, AllThere, set_here, set_other, get_new, get_other}
+use Rattle.arc_spec.specs.Holding.{Held, nothing_held, Counted, holders, all_places, with_temporaries, with_variables, with_things, with_strong_globals, raised, lowered, makes}
+use Rattle.arc_lower.proofs.CountsPlaces.{tally, one_more_if, tally_nil, tally_same, tally_other, holders_head, holders_nil, holders_append, all_holders, raised_count, lowered_count, there_fields, fields_set, fields_made, nils_holders, same_fields, variable_moves, global_moves, field_moves, last_moves, second_moves, IsThere, AllThere, set_here, set_other, seam, get_other}
 
 -- ---- objects and their counts
 
@@ -25,18 +25,18 @@ abbrev ThereAt : Option Object → Type 0
 ThereAt None = ⊥
 ThereAt (Some o) = is_there o.phase ≡ true
 
--- each count is that of the places, and of these further ones
-pub record Keeps (classes : List Class) (also : List ℕ) (h : Held) : Type 0 where
-  pub counted : (k : ℕ) → h.counts (suc k) ≡ holders (suc k) (also ++ all_places h)
-  pub right : (k : ℕ) → Right classes (h.counts (suc k)) (slice_get h.objects k)
+-- each count is the number of these places that name the object
+pub record Keeps (classes : List Class) (places : List ℕ) (counts : ℕ → ℕ) (objects : List Object) : Type 0 where
+  pub counted : (k : ℕ) → counts (suc k) ≡ holders (suc k) places
+  pub right : (k : ℕ) → Right classes (counts (suc k)) (slice_get objects k)
 
--- the counts are right, what a place names is there, and each object has its fields
+-- The counts are right, what a place names is there, and each object has its fields. References and numbers don't matter.
 abbrev pub Sane : List Class → Held → Type 0
-Sane classes h = Keeps classes [] h
+Sane classes h = Keeps classes (all_places h) h.counts h.objects
 
 -- the same but for a place that named this, and is dropped
 abbrev pub Drops : List Class → ℕ → Held → Type 0
-Drops classes r h = Keeps classes (r ∷ []) h
+Drops classes r h = Keeps classes (r ∷ all_places h) h.counts h.objects
 
 nils_length : (n : ℕ) → length (nils n) ≡ n
 nils_length zero = refl
@@ -69,29 +69,18 @@ right_less classes m n (Some o) less live right = record { there = λ some. righ
 
 module _ {classes : List Class} where
   -- what is found fits its count
-  pub fits_at : {also : List ℕ} (h : Held) (k : ℕ) (o : Object) → slice_get h.objects k ≡ Some o → Keeps classes also h → Fits classes (h.counts (suc k)) o
-  fits_at h k o found c = subst (Right classes (h.counts (suc k))) found (c.right k)
+  pub fits_at : {places : List ℕ} {counts : ℕ → ℕ} {objects : List Object} (k : ℕ) (o : Object) → slice_get objects k ≡ Some o
+      → Keeps classes places counts objects → Fits classes (counts (suc k)) o
+  fits_at {counts = counts} k o found c = subst (Right classes (counts (suc k))) found (c.right k)
 
   pub sane_counted : (h : Held) → Sane classes h → Counted h
-  sane_counted h c = record { counted = c.counted; held = λ k o found. (fits_at h k o found c).held }
+  sane_counted h c = record { counted = c.counted; held = λ k o found. (fits_at k o found c).held }
 
   -- ---- what places name
 
-  named_there : (h : Held) (places : List ℕ) → ((k : ℕ) → 0 < holders (suc k) places → 0 < holders (suc k) (all_places h)) → Sane classes h → AllThere h.objects places
+  -- what these places name is there, such as variables, or the places of those that wait
+  pub named_there : (h : Held) (places : List ℕ) → ((k : ℕ) → 0 < holders (suc k) places → 0 < holders (suc k) (all_places h)) → Sane classes h → AllThere h.objects places
   named_there h places few c k some = right_there classes (h.counts (suc k)) (slice_get h.objects k) (c.right k) (omega (arith, few k some, c.counted k))
-
-  -- what variables name is there, and what the places of those that wait, those of all functions, and the variables of the whole program do
-  pub variables_there : (h : Held) → Sane classes h → AllThere h.objects h.variables
-  variables_there h = named_there h h.variables (λ k some. omega (arith, all_holders (suc k) h, some))
-
-  pub waiting_there : (h : Held) → Sane classes h → AllThere h.objects h.places
-  waiting_there h = named_there h h.places (λ k some. omega (arith, all_holders (suc k) h, some))
-
-  pub stacked_there : (h : Held) → Sane classes h → AllThere h.objects (stacked h)
-  stacked_there h = named_there h (stacked h) (λ k some. omega (arith, holders_append (suc k) (stacked h) (h.strong_globals ++ field_places h.objects), some))
-
-  pub globals_there : (h : Held) → Sane classes h → AllThere h.objects h.strong_globals
-  globals_there h = named_there h h.strong_globals (λ k some. omega (arith, all_holders (suc k) h, some))
 
   -- what the fields of an object name is there
   pub fields_there : (h : Held) (j : ℕ) (o : Object) → object_at h.objects (suc j) ≡ Some o → is_there o.phase ≡ true → Sane classes h → AllThere h.objects o.strong
@@ -107,65 +96,56 @@ module _ {classes : List Class} where
   -- ---- places, where no object changes
 
   -- a place more names this
-  gains : {also also1 : List ℕ} (h h1 : Held) (r : ℕ) → h1.objects ≡ h.objects → IsThere h.objects r → ((k : ℕ) → h1.counts (suc k) ≡ tally (suc k) r + h.counts (suc k))
-      → ((k : ℕ) → holders (suc k) (also1 ++ all_places h1) ≡ tally (suc k) r + holders (suc k) (also ++ all_places h)) → Keeps classes also h → Keeps classes also1 h1
-  gains h h1 r objects there counts places c = record {
-    counted = λ k. omega (arith, counts k, places k, c.counted k);
-    right = λ k. subst (λ l. Right classes (h1.counts (suc k)) (slice_get l k)) (sym objects) (subst (λ n. Right classes n (slice_get h.objects k)) (sym (counts k)) (right_more classes (tally (suc k) r) (h.counts (suc k)) (slice_get h.objects k) (tally_there h.objects k r there) (c.right k)));
+  pub gains : {places : List ℕ} {counts : ℕ → ℕ} {objects : List Object} (r : ℕ) → IsThere objects r → Keeps classes places counts objects
+      → Keeps classes (r ∷ places) (λ k. if nat_eq k r then suc (counts k) else counts k) objects
+  gains {places} {counts} {objects} r there c = record {
+    counted = λ k. omega (arith, more k, holders_head (suc k) r places, c.counted k);
+    right = λ k. subst (λ n. Right classes n (slice_get objects k)) (sym (more k))
+        (right_more classes (tally (suc k) r) (counts (suc k)) (slice_get objects k) (tally_there objects k r there) (c.right k));
   }
+    where
+      more : (k : ℕ) → (if nat_eq (suc k) r then suc (counts (suc k)) else counts (suc k)) ≡ tally (suc k) r + counts (suc k)
+      more k = one_more_if (nat_eq (suc k) r) (counts (suc k))
 
   -- the same places, of another function
-  pub sane_moved : {also also1 : List ℕ} (h h1 : Held) → h1.objects ≡ h.objects → h1.counts ≡ h.counts → ((k : ℕ) → holders (suc k) (also1 ++ all_places h1) ≡ holders (suc k) (also ++ all_places h)) → Keeps classes also h → Keeps classes also1 h1
-  sane_moved h h1 objects counts same = gains h h1 0 objects tt (λ k. omega (arith, tally_nil k, ap (λ (f : ℕ → ℕ). f (suc k)) counts)) (λ k. omega (arith, tally_nil k, same k))
-
-  pub nothing_sane : Sane classes nothing_held
-  nothing_sane = record { counted = λ k. refl; right = λ k. refl }
-
-  pub sane_names : (h : Held) (names : List ℕ) → Sane classes h → Sane classes (with_names h names)
-  sane_names h names = sane_moved h (with_names h names) refl refl (λ k. refl)
-
-  pub sane_globals : (h : Held) (globals : List ℤ) → Sane classes h → Sane classes (with_globals h globals)
-  sane_globals h globals = sane_moved h (with_globals h globals) refl refl (λ k. refl)
+  pub sane_moved : {places places1 : List ℕ} {counts : ℕ → ℕ} {objects : List Object} → ((k : ℕ) → holders (suc k) places1 ≡ holders (suc k) places)
+      → Keeps classes places counts objects → Keeps classes places1 counts objects
+  sane_moved same c = record { counted = λ k. c.counted k ∙ sym (same k); right = c.right }
 
   -- at first all variables of the whole program are nil
-  pub sane_start : (h : Held) (n : ℕ) → h.strong_globals ≡ [] → Sane classes h → Sane classes (with_strong_globals h (nils n))
-  sane_start h n none = sane_moved h (with_strong_globals h (nils n)) refl refl
-      (λ k. omega (arith, all_holders (suc k) h, all_holders (suc k) (with_strong_globals h (nils n)), nils_holders k n, ap (holders (suc k)) none))
-
-  pub sane_entered : (h : Held) (self : ℕ) → Sane classes h → Sane classes (entered self h)
-  sane_entered h self = sane_moved h (entered self h) refl refl (λ k. refl)
-
-  pub sane_take : (h : Held) (r : ℕ) → IsThere h.objects r → Sane classes h → Sane classes (taken_by r h)
-  sane_take h r there = gains h (taken_by r h) r refl there (λ k. raised_count r h (suc k)) (λ k. holders_head (suc k) r (all_places h))
+  pub sane_start : (n : ℕ) → Sane classes (with_strong_globals nothing_held (nils n))
+  sane_start n = record { counted = λ k. omega (arith, holders_append (suc k) (nils n) [], nils_holders k n); right = λ k. refl }
 
   -- a further variable is nil
   pub sane_declare : (h : Held) → Sane classes h → Sane classes (raised 0 (with_variables h (0 ∷ h.variables)))
-  sane_declare h =
-      let h1 = with_variables h (0 ∷ h.variables) in
-      gains h (raised 0 h1) 0 refl tt (λ k. raised_count 0 h (suc k)) (λ k. omega (arith, tally_nil k, all_holders (suc k) h1, all_holders (suc k) h, holders_nil k h.variables))
+  sane_declare h c = sane_moved (λ k.
+      omega (arith, holders_nil k (all_places h), all_holders (suc k) (with_variables h (0 ∷ h.variables)), all_holders (suc k) h, holders_nil k h.variables)) (gains 0 tt c)
 
   -- a place names another object, and what it named is dropped
   pub sane_store : (h : Held) (i old r : ℕ) → slice_get h.variables i ≡ Some old → IsThere h.objects r → Sane classes h → Drops classes old (raised r (with_variables h (slice_set h.variables i r)))
-  sane_store h i old r found there = gains h (raised r (with_variables h (slice_set h.variables i r))) r refl there (λ k. raised_count r h (suc k)) (λ k. variable_moves (suc k) h i old r found)
+  sane_store h i old r found there c = sane_moved (λ k. variable_moves (suc k) h i old r found ∙ sym (holders_head (suc k) r (all_places h))) (gains r there c)
 
   pub sane_store_global : (h : Held) (i old r : ℕ) → slice_get h.strong_globals i ≡ Some old → IsThere h.objects r → Sane classes h → Drops classes old (raised r (with_strong_globals h (slice_set h.strong_globals i r)))
-  sane_store_global h i old r found there = gains h (raised r (with_strong_globals h (slice_set h.strong_globals i r))) r refl there (λ k. raised_count r h (suc k)) (λ k. global_moves (suc k) h i old r found)
+  sane_store_global h i old r found there c =
+      sane_moved (λ k. global_moves (suc k) h i old r found ∙ sym (holders_head (suc k) r (all_places h))) (gains r there c)
 
   pub sane_drop : (h : Held) (r : ℕ) (others : List ℕ) → h.temporaries ≡ r ∷ others → Sane classes h → Drops classes r (with_temporaries h others)
-  sane_drop h r others e = sane_moved h (with_temporaries h others) refl refl (λ k. last_moves (suc k) h r others e)
+  sane_drop h r others e = sane_moved (λ k. last_moves (suc k) h r others e)
 
   pub sane_settle : (h : Held) (x r : ℕ) (others : List ℕ) → h.temporaries ≡ x ∷ r ∷ others → Sane classes h → Drops classes r (with_temporaries h (x ∷ others))
-  sane_settle h x r others e = sane_moved h (with_temporaries h (x ∷ others)) refl refl (λ k. second_moves (suc k) h x r others e)
+  sane_settle h x r others e = sane_moved (λ k. second_moves (suc k) h x r others e)
 
   -- ---- an object that changes
 
-  changes : {also also1 : List ℕ} (h : Held) (j : ℕ) (o x : Object) → slice_get h.objects j ≡ Some o → ((k : ℕ) → holders (suc k) (also1 ++ all_places (with_things h (slice_set h.objects j x))) ≡ holders (suc k) (also ++ all_places h))
-      → (Fits classes (h.counts (suc j)) o → Fits classes (h.counts (suc j)) x) → Keeps classes also h → Keeps classes also1 (with_things h (slice_set h.objects j x))
-  changes h j o x found same fits c = record {
+  changes : {places places1 : List ℕ} {counts : ℕ → ℕ} {objects : List Object} (j : ℕ) (o x : Object) → slice_get objects j ≡ Some o
+      → ((k : ℕ) → holders (suc k) places1 ≡ holders (suc k) places)
+      → (Fits classes (counts (suc j)) o → Fits classes (counts (suc j)) x) → Keeps classes places counts objects
+      → Keeps classes places1 counts (slice_set objects j x)
+  changes {counts = counts} {objects = objects} j o x found same fits c = record {
     counted = λ k. c.counted k ∙ sym (same k);
     right = λ k. ⊎_elim
-        (λ e. subst (λ i. Right classes (h.counts (suc i)) (slice_get (slice_set h.objects j x) i)) (sym e) (subst (Right classes (h.counts (suc j))) (sym (set_here h.objects j x o found)) (fits (fits_at h j o found c))))
-        (λ ne. subst (Right classes (h.counts (suc k))) (sym (set_other h.objects j k x ne)) (c.right k))
+        (λ e. subst (λ i. Right classes (counts (suc i)) (slice_get (slice_set objects j x) i)) (sym e) (subst (Right classes (counts (suc j))) (sym (set_here objects j x o found)) (fits (fits_at j o found c))))
+        (λ ne. subst (Right classes (counts (suc k))) (sym (set_other objects j k x ne)) (c.right k))
         (cases_eq k j);
   }
 
@@ -173,24 +153,23 @@ module _ {classes : List Class} where
   pub sane_store_field : (h : Held) (j : ℕ) (o : Object) (index old r : ℕ) → object_at h.objects (suc j) ≡ Some o → is_there o.phase ≡ true → slice_get o.strong index ≡ Some old → IsThere h.objects r → Sane classes h
       → Drops classes old (raised r (with_things h (with_object h.objects (suc j) (with_strong_fields o (slice_set o.strong index r)))))
   sane_store_field h j o index old r found is_there_now named there c =
-      changes {also = r ∷ []} (raised r h) j o (with_strong_fields o (slice_set o.strong index r)) found (λ k. field_moves (suc k) h j o index old r found is_there_now named ∙ sym (holders_head (suc k) r (all_places h)))
-      (λ f. record { there = f.there; held = f.held; sized = length-set o.strong index r ∙ f.sized })
-      (gains h (raised r h) r refl there (λ k. raised_count r h (suc k)) (λ k. holders_head (suc k) r (all_places h)) c)
+      changes j o (with_strong_fields o (slice_set o.strong index r)) found (λ k. field_moves (suc k) h j o index old r found is_there_now named ∙ sym (holders_head (suc k) r (all_places h)))
+      (λ f. record { there = f.there; held = f.held; sized = length-set o.strong index r ∙ f.sized }) (gains r there c)
 
   -- one that holds a number is set
   pub sane_field : (h : Held) (r : ℕ) (o : Object) (fields : List ℤ) → object_at h.objects (suc r) ≡ Some o → Sane classes h → Sane classes (with_things h (with_object h.objects (suc r) (with_fields o fields)))
-  sane_field h r o fields found = changes h r o (with_fields o fields) found (λ k. same_fields (suc k) h r o (with_fields o fields) found refl) (λ f. record { there = f.there; held = f.held; sized = f.sized })
+  sane_field h r o fields found = changes r o (with_fields o fields) found (λ k. same_fields (suc k) h r o (with_fields o fields) found refl) (λ f. record { there = f.there; held = f.held; sized = f.sized })
 
   -- the fields of an object are destroyed from now on
   pub sane_empty : (h : Held) (j : ℕ) (o : Object) → object_at h.objects (suc j) ≡ Some o → is_there o.phase ≡ true → Sane classes h → Sane classes (with_things h (with_object h.objects (suc j) (in_phase Emptying o)))
-  sane_empty h j o found there = changes h j o (in_phase Emptying o) found (λ k. same_fields (suc k) h j o (in_phase Emptying o) found (sym (there_fields o there))) (λ f. record { there = λ some. refl; held = λ live. cc; sized = f.sized })
+  sane_empty h j o found there = changes j o (in_phase Emptying o) found (λ k. same_fields (suc k) h j o (in_phase Emptying o) found (sym (there_fields o there))) (λ f. record { there = λ some. refl; held = λ live. cc; sized = f.sized })
 
   -- an object is gone, which has no holder, and whose fields name nothing
   pub sane_gone : (h : Held) (j : ℕ) (o : Object) → object_at h.objects (suc j) ≡ Some o → ((k : ℕ) → holders (suc k) (fields_of o) ≡ 0) → nat_eq (h.counts (suc j)) 0 ≡ true → Sane classes h
       → Sane classes (with_things h (with_object h.objects (suc j) (in_phase Gone o)))
   sane_gone h j o found empty none =
       let x = in_phase Gone o in
-      changes h j o x found (λ k. omega (arith, all_holders (suc k) h, all_holders (suc k) (with_things h (slice_set h.objects j x)), fields_set (suc k) h.objects j o x found, empty k))
+      changes j o x found (λ k. omega (arith, all_holders (suc k) h, all_holders (suc k) (with_things h (slice_set h.objects j x)), fields_set (suc k) h.objects j o x found, empty k))
       (λ f. record { there = λ some. absurd (omega (arith, some, eqb-true (h.counts (suc j)) 0 none)); held = λ live. cc; sized = f.sized })
 
   -- an object is made, and a place takes it
@@ -205,7 +184,7 @@ module _ {classes : List Class} where
       record {
         counted = λ k. omega (arith, raised_count (suc r) h (suc k), holders_head (suc k) (suc r) (all_places h1), all_holders (suc k) h, all_holders (suc k) h1, all_holders (suc k) made, holders_head (suc k) (suc r) h.temporaries, fields_made (suc k) h.objects x, nils_holders k n, c.counted k);
         right = λ k. ⊎_elim
-            (λ same. subst (λ i. Right classes (made.counts (suc i)) (slice_get made.objects i)) (sym same) (subst (Right classes (made.counts (suc r))) (sym (get_new h.objects x)) new))
+            (λ same. subst (λ i. Right classes (made.counts (suc i)) (slice_get made.objects i)) (sym same) (subst (Right classes (made.counts (suc r))) (sym (seam h.objects [] x)) new))
             (λ ne. subst (Right classes (made.counts (suc k))) (sym (get_other h.objects k x ne)) (subst (λ m. Right classes m (slice_get h.objects k)) (omega (arith, raised_count (suc r) h (suc k), tally_other (suc k) (suc r) (λ e. ne (omega (arith, e))))) (c.right k)))
             (cases_eq k r);
       }
@@ -219,13 +198,13 @@ module _ {classes : List Class} where
   }
 
   pub sane_nil : (h : Held) → Drops classes 0 h → Sane classes (lowered 0 h)
-  sane_nil h c = lowers 0 h (λ k o found live. omega (arith, lowered_count 0 h (suc k), tally_nil k, (fits_at h k o found c).held live)) c
+  sane_nil h c = lowers 0 h (λ k o found live. omega (arith, lowered_count 0 h (suc k), tally_nil k, (fits_at k o found c).held live)) c
 
   -- it isn't the last place of an object whose dealloc hasn't begun
   pub sane_other : (h : Held) (r : ℕ) (o : Object) → object_at h.objects (suc r) ≡ Some o → (is_live (Some o) && nat_eq (h.counts (suc r)) 1) ≡ false → Drops classes (suc r) h → Sane classes (lowered (suc r) h)
   sane_other h r o found more c = lowers (suc r) h (λ k other at_k live. ⊎_elim
       (λ same. subst (λ i. 0 < (lowered (suc r) h).counts (suc i)) (sym same) (this other (subst (λ i. slice_get h.objects i ≡ Some other) same at_k) live))
-      (λ ne. omega (arith, lowered_count (suc r) h (suc k), tally_other (suc k) (suc r) (λ e. ne (omega (arith, e))), (fits_at h k other at_k c).held live))
+      (λ ne. omega (arith, lowered_count (suc r) h (suc k), tally_other (suc k) (suc r) (λ e. ne (omega (arith, e))), (fits_at k other at_k c).held live))
       (cases_eq k r)) c
     where
       this : (other : Object) → slice_get h.objects r ≡ Some other → other.phase ≡ Live → 0 < (lowered (suc r) h).counts (suc r)
@@ -233,7 +212,7 @@ module _ {classes : List Class} where
           let same : other ≡ o = cc in
           let seen : is_live (Some o) ≡ true = subst (λ phase. is_live (Some (in_phase phase o)) ≡ true) (sym (ap (λ (a : Object). a.phase) (sym same) ∙ live)) refl in
           let many : h.counts (suc r) ≡ 1 → ⊥ = λ one. false≢true (sym more ∙ and_from (is_live (Some o)) (nat_eq (h.counts (suc r)) 1) seen (eq-eqb (h.counts (suc r)) 1 one)) in
-          omega (arith, lowered_count (suc r) h (suc r), tally_same (suc r), (fits_at h r other at_r c).held live, many)
+          omega (arith, lowered_count (suc r) h (suc r), tally_same (suc r), (fits_at r other at_r c).held live, many)
 
   -- it is, and the end of that object begins
   pub sane_last : (h : Held) (r : ℕ) (o : Object) → object_at h.objects (suc r) ≡ Some o → is_there o.phase ≡ true → Drops classes (suc r) h → Sane classes (with_things (lowered (suc r) h) (with_object h.objects (suc r) (in_phase Dying o)))
@@ -241,5 +220,5 @@ module _ {classes : List Class} where
       let x = in_phase Dying o in
       let h1 = with_things h (slice_set h.objects r x) in
       sane_other h1 r x (set_here h.objects r x o found) refl
-      (changes {also1 = suc r ∷ []} h r o x found (λ k. omega (arith, holders_head (suc k) (suc r) (all_places h), holders_head (suc k) (suc r) (all_places h1), same_fields (suc k) h r o x found (sym (there_fields o there))))
+      (changes r o x found (λ k. omega (arith, holders_head (suc k) (suc r) (all_places h), holders_head (suc k) (suc r) (all_places h1), same_fields (suc k) h r o x found (sym (there_fields o there))))
       (λ f. record { there = λ some. refl; held = λ live. cc; sized = f.sized }) c)

@@ -2,6 +2,7 @@
 use Rattle.std.proofs.Common.{◌≡◌, ℕ, zero, suc, ◌+◌, ◌-◌, Bool, true, false, not, ◌||◌, nat_eq, nat_lt, if◌then◌else◌, List, [], ◌∷◌, ◌++◌, length, Some, slice_get, slice_set, refl, sym, ap, ◌∙◌, arith, ◌<◌, Option}
 use Rattle.std.proofs.Math.Dec.{eqb-suc-zero}
 use Rattle.std.proofs.lemmas.Bool.{eq-eqb, ne_eqb, lt-ltb}
+use Rattle.std.proofs.lemmas.Bool.Decides.{nat_tests}
 use Rattle.arc_spec.specs.Objects.{Object, Phase, Gone, nils, names, in_phase, with_strong_fields, is_live, is_there, fields_of, field_places, object_at}
 use Rattle.arc_spec.specs.Holding.{Held, holders, all_places, with_temporaries, with_variables, with_things, with_strong_globals, raised, lowered, on_object, on_named}
 use Rattle.arc_spec.specs.World.{name_at}
@@ -57,12 +58,10 @@ names_holders o [] = refl
 names_holders o (p ∷ places) = names_if (nat_eq o p) (names o places) (holders o places) (names_holders o places)
 
 one_left : (n : ℕ) → nat_eq (suc n) 1 ≡ not (nat_lt 0 n)
-one_left zero = refl
-one_left (suc n) = ne_eqb (suc (suc n)) 1 (λ e. omega (arith, e)) ∙ sym (ap not (lt-ltb 0 (suc n) (omega arith)))
+one_left n = grind (arith, nat_tests)
 
 none_left : (n : ℕ) → nat_eq n 0 ≡ not (nat_lt 0 n)
-none_left zero = refl
-none_left (suc n) = eqb-suc-zero n ∙ sym (ap not (lt-ltb 0 (suc n) (omega arith)))
+none_left n = grind (arith, nat_tests)
 
 -- a count of 1 more than the places is 1 where no place names the object
 pub last_one : (o count : ℕ) (places : List ℕ) → count ≡ suc (holders o places) → nat_eq count 1 ≡ not (names o places)
@@ -191,14 +190,9 @@ set_here [] k x a e = cc
 set_here (b ∷ all) zero x a e = refl
 set_here (b ∷ all) (suc k) x a e = set_here all k x a e
 
-pub get_first : {A : Type 0} (all : List A) (k : ℕ) (x a : A) → slice_get all k ≡ Some a → slice_get (all ++ x ∷ []) k ≡ Some a
-get_first [] k x a e = cc
-get_first (b ∷ all) zero x a e = e
-get_first (b ∷ all) (suc k) x a e = get_first all k x a e
-
-pub get_new : {A : Type 0} (all : List A) (x : A) → slice_get (all ++ x ∷ []) (length all) ≡ Some x
-get_new [] x = refl
-get_new (b ∷ all) x = get_new all x
+pub seam : {A : Type 0} (before later : List A) (x : A) → slice_get (before ++ x ∷ later) (length before) ≡ Some x
+seam [] later x = refl
+seam (b ∷ before) later x = seam before later x
 
 pub get_other : {A : Type 0} (all : List A) (k : ℕ) (x : A) → (k ≡ length all → ⊥) → slice_get (all ++ x ∷ []) k ≡ slice_get all k
 get_other [] zero x ne = absurd (ne refl)

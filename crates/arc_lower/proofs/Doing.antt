@@ -1,5 +1,5 @@
 -- Steps after which each count is the number of places that name the object.
-use Rattle.std.proofs.Common.{◌≡◌, ℕ, ℤ, List, ◌++◌, length, append_assoc, ◌+◌, [], ◌∷◌, Some, refl, sym, ap, ◌∙◌, subst, arith, length-append, slice_get}
+use Rattle.std.proofs.Common.{◌≡◌, ℕ, zero, suc, ℤ, List, ◌++◌, length, append_assoc, ◌+◌, [], ◌∷◌, Some, refl, sym, ap, ◌∙◌, subst, arith, slice_get}
 use Rattle.std.proofs.Math.Seq.{take-append_seam, drop-append_seam}
 use Rattle.arc_spec.specs.Stepping.{Next, Goes, Asks, Ends, Faults, Stuck}
 use Rattle.arc_spec.specs.World.{World, places}
@@ -54,33 +54,52 @@ does p x = instructions.executes (bare p) (Some x)
 pub acts_does : (p : Program) (x : Action) (s : State) → executes p (Some x) s ≡ does p (order x) s
 acts_does p x s = sym (renamed_same (linked p) [] lands (λ f. Some (entry p f)) (λ bytes. Some bytes) (λ to. to) (λ f. f) (λ part. part.bytes.items) s x (λ to. refl) (λ f is. refl) (λ part is. refl))
 
+pub executes_at : (p : Program) (xs : List Action) (pc : ℕ) (x : Order) (s : State) → slice_get (orders xs) pc ≡ Some x
+    → executes p (slice_get xs pc) s ≡ does p x s
+executes_at p [] pc x s e = cc
+executes_at p (y ∷ xs) zero x s e = let same : order y ≡ x = cc in acts_does p y s ∙ ap (λ z. does p z s) same
+executes_at p (y ∷ xs) (suc pc) x s e = executes_at p xs pc x s e
+
+-- a fact of each element of a list, and of the place where it stands, from a place on
+abbrev pub Each : {A : Type 0} → (ℕ → A → Type 0) → ℕ → List A → Type 0
+Each P pc [] = Unit {0}
+Each P pc (x ∷ xs) = P pc x × Each P (pc + 1) xs
+
+module _ {A : Type 0} (P : ℕ → A → Type 0) where
+  pub each_front : (pc : ℕ) (xs ys : List A) → Each P pc (xs ++ ys) → Each P pc xs
+  each_front pc [] ys h = tt
+  each_front pc (x ∷ xs) ys h = (h.0, each_front (pc + 1) xs ys h.1)
+
+  pub each_back : (pc : ℕ) (xs ys : List A) → Each P pc (xs ++ ys) → Each P (pc + length xs) ys
+  each_back pc [] ys h = let e : pc ≡ pc + 0 = omega arith in subst (λ n. Each P n ys) e h
+  each_back pc (x ∷ xs) ys h = subst (λ n. Each P n ys) (omega arith) (each_back (pc + 1) xs ys h.1)
+
+  pub each_then : (pc : ℕ) (xs ys : List A) → Each P pc xs → Each P (pc + length xs) ys → Each P pc (xs ++ ys)
+  each_then pc [] ys first next = let e : pc + 0 ≡ pc = omega arith in subst (λ n. Each P n ys) e next
+  each_then pc (x ∷ xs) ys first next = (first.0, each_then (pc + 1) xs ys first.1 (subst (λ n. Each P n ys) (omega arith) next))
+
+  -- of the one with a number, and from those of each number
+  pub each_at : (pc i : ℕ) (xs : List A) (x : A) → Each P pc xs → slice_get xs i ≡ Some x → P (pc + i) x
+  each_at pc i [] x h e = cc
+  each_at pc zero (y ∷ xs) x h e = let same : y ≡ x = cc in subst (λ n. P n x) (omega arith) (subst (P pc) same h.0)
+  each_at pc (suc i) (y ∷ xs) x h e = subst (λ n. P n x) (omega arith) (each_at (pc + 1) i xs x h.1 e)
+
+  pub each_from : (pc : ℕ) (xs : List A) → ((i : ℕ) (x : A) → slice_get xs i ≡ Some x → P (pc + i) x) → Each P pc xs
+  each_from pc [] h = tt
+  each_from pc (x ∷ xs) h =
+      let e : pc + 0 ≡ pc = omega arith in
+      (subst (λ n. P n x) e (h 0 x refl), each_from (pc + 1) xs (λ i y is. subst (λ n. P n y) (omega arith) (h (suc i) y is)))
+
 -- the actions of these orders stand among the actions at this place
 abbrev pub HasAt : Program → ℕ → List Order → Type 0
-HasAt p pc [] = Unit {0}
-HasAt p pc (x ∷ xs) = ((frames : List Frame) (stack : List ℤ) (held : Held) → step p (at frames pc stack held) ≡ does p x (at frames pc stack held)) × HasAt p (pc + 1) xs
+HasAt p = Each (λ pc x. (frames : List Frame) (stack : List ℤ) (held : Held) → step p (at frames pc stack held) ≡ does p x (at frames pc stack held))
 
 pub has_front : (p : Program) (pc : ℕ) (a b : List Order) → HasAt p pc (a ++ b) → HasAt p pc a
-has_front p pc [] b h = tt
-has_front p pc (x ∷ a) b h = (h.0, has_front p (pc + 1) a b h.1)
+has_front p = each_front _
 
 pub has_back : (p : Program) (pc : ℕ) (a b : List Order) → HasAt p pc (a ++ b) → HasAt p (pc + length a) b
-has_back p pc [] b h = let e : pc ≡ pc + 0 = omega arith in subst (λ n. HasAt p n b) e h
-has_back p pc (x ∷ a) b h =
-    subst (λ n. HasAt p n b) (omega arith) (has_back p (pc + 1) a b h.1)
-
-get_seam : (before later : List Action) (x : Action) → slice_get (before ++ x ∷ later) (length before) ≡ Some x
-get_seam [] later x = refl
-get_seam (b ∷ before) later x = get_seam before later x
-
-has_from : (p : Program) (is before : List Action) → p.actions ≡ before ++ is → HasAt p (length before) (orders is)
-has_from p [] before e = tt
-has_from p (x ∷ is) before e =
-    let rest = has_from p is (before ++ x ∷ []) (e ∙ sym (append_assoc before (x ∷ []) is)) in (
-      λ frames stack held.
-          let s = at frames (length before) stack held in
-          ap (λ l. executes p (slice_get l (length before)) s) e ∙ ap (λ o. executes p o s) (get_seam before is x) ∙ acts_does p x s,
-      subst (λ m. HasAt p m (orders is)) (omega (arith, length-append before (x ∷ []))) rest,
-    )
+has_back p = each_back _
 
 pub has_all : (p : Program) → HasAt p 0 (orders p.actions)
-has_all p = has_from p p.actions [] refl
+has_all p = each_from _ 0 (orders p.actions) (λ i x e frames stack held.
+    executes_at p p.actions (0 + i) x (at frames (0 + i) stack held) (subst (λ n. slice_get (orders p.actions) n ≡ Some x) (omega arith) e))

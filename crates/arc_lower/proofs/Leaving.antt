@@ -1,6 +1,7 @@
 -- A run does what a function does, and leaves it.
-use Rattle.std.proofs.Common.{◌≡◌, ℕ, zero, suc, ◌+◌, ◌-◌, ◌≤◌, ◌<◌, ℤ, pos, Bool, true, false, not, ◌&&◌, ◌||◌, inl, inr, if◌then◌else◌, List, [], ◌∷◌, ◌++◌, length, take, Some, None, slice_get, slice_set, refl, sym, ap, ◌∙◌, subst, arith, append_assoc, length-append}
-use Rattle.std.proofs.lemmas.Bool.{eq-eqb, true≢false}
+use Rattle.std.proofs.Common.{◌≡◌, ℕ, zero, suc, ◌+◌, ◌-◌, ◌≤◌, ◌<◌, ℤ, pos, Bool, true, false, not, ◌&&◌, ◌||◌, inl, inr, if◌then◌else◌, List, [], ◌∷◌, ◌++◌, length, take, Some, None, slice_get, slice_set, refl, sym, ap, ◌∙◌, subst, arith, length-append}
+use Rattle.std.proofs.lemmas.Bool.{eq-eqb, and_from, true≢false}
+use Rattle.std.proofs.lemmas.List.{append-nil}
 use Rattle.std.proofs.Math.Seq.{take-nil}
 use Rattle.std.proofs.lemmas.Bool.Decides.{nat_tests}
 use Rattle.arc_ast.specs.declared.tree.Moment.{Moment}
@@ -8,7 +9,7 @@ use Rattle.arc_spec.specs.declared.class.Gives.{Gives}
 use Rattle.arc_spec.specs.declared.class.Gives.TheVariants as gives
 use Rattle.arc_spec.specs.Classes.{lesser, same_gives}
 use Rattle.arc_spec.specs.Objects.{nils, object_at, is_live, names}
-use Rattle.arc_spec.specs.Resolved.{Value, Command, Sequence, Give, Choose, Repeat, Break, Continue, Commands, no_commands, and_command}
+use Rattle.arc_spec.specs.Resolved.{Value, Command, Sequence, Choose, Repeat, Break, Continue, Commands, no_commands, and_command}
 use Rattle.arc_spec.specs.Resolved as resolved
 use Rattle.arc_spec.specs.Meaning.{Deeper, Flow, given, answer, released, all_dropped, variables_dropped, function_places, called, all_executed}
 use Rattle.arc_spec.specs.World as world
@@ -27,11 +28,11 @@ use Rattle.arc_lower.specs.Size.{object_parameters, does_nothing}
 use Rattle.arc_lower.proofs.Leading as leading
 use Rattle.arc_lower.proofs.Leading.{Runs, leads_runs, stuck_runs, ends_here, then_runs, then_at, running, one_runs, quiet, quiet_runs, Passes, then_passes, one_passes, no_passes}
 use Rattle.arc_lower.proofs.Doing.{recount, moves, at, counting, held_of, bare, HasAt, has_front, has_back}
-use Rattle.arc_lower.proofs.Stacking.{onto, padded_length, get_below, set_below, keep_passes}
+use Rattle.arc_lower.proofs.Stacking.{onto, front_of, padded_length, get_below, set_below, keep_passes}
 use Rattle.arc_lower.proofs.Releasing.{Kept, Stays, only_runs, named_runs, emptied, empties_run, dropped_runs}
 use Rattle.arc_lower.proofs.Shaping.{push, Way, Out, left_by}
 use Rattle.arc_lower.proofs.Executing.{calm, body_is}
-use Rattle.arc_lower.proofs.Quiet.{takes_none, both_true}
+use Rattle.arc_lower.proofs.Quiet.{takes_none}
 use Rattle.arc_lower.proofs.Running.{Deep, Good, Leaves, emptied_good, kept_good, block_runs}
 
 nils_split : (a b n : ℕ) → a ≤ n → b ≡ n - a → nils n ≡ nils a ++ nils b
@@ -42,9 +43,6 @@ nils_split (suc a) b (suc n) le e = ap (λ l. 0 ∷ l) (nils_split a b n (omega 
 fewest : (a b : ℕ) → (lesser a b ≤ a) × (lesser a b ≤ b) × (lesser a b < b → a ≡ lesser a b)
 fewest a b = (grind (arith, nat_tests), grind (arith, nat_tests), grind (arith, nat_tests))
 
-few_of : (a b : ℕ) → lesser a b ≤ b
-few_of a b = (fewest a b).1
-
 nil_there : (n : ℕ) (tail : List ℕ) → slice_get (nils (suc n) ++ tail) n ≡ Some 0
 nil_there zero tail = refl
 nil_there (suc n) tail = nil_there n tail
@@ -53,35 +51,20 @@ nil_set : (n : ℕ) (tail : List ℕ) (r : ℕ) → slice_set (nils (suc n) ++ t
 nil_set zero tail r = refl
 nil_set (suc n) tail r = ap (λ l. 0 ∷ l) (nil_set n tail r)
 
--- the last of so many
-record Last (n : ℕ) (all : List ℕ) : Type 0 where
-  first : List ℕ
-  one : ℕ
-  is : all ≡ first ++ one ∷ []
-  size : length first ≡ n
-
-last_of : (n : ℕ) (all : List ℕ) → length all ≡ suc n → Last n all
-last_of n [] e = absurd (omega (arith, e))
-last_of zero (r ∷ []) e = record { first = []; one = r; is = refl; size = refl }
-last_of zero (r ∷ q ∷ all) e = absurd (omega (arith, e))
-last_of (suc n) (r ∷ all) e =
-    let deep = last_of n all (omega (arith, e)) in
-    record { first = r ∷ deep.first; one = deep.one; is = ap (λ l. r ∷ l) deep.is; size = ap suc deep.size }
-
-onto_last : (first rest : List ℕ) (r : ℕ) → onto (first ++ r ∷ []) rest ≡ r ∷ onto first rest
-onto_last [] rest r = refl
-onto_last (q ∷ first) rest r = onto_last first (q ∷ rest) r
+onto_back : (xs ys rest : List ℕ) → onto (onto xs ys) rest ≡ onto ys (xs ++ rest)
+onto_back [] ys rest = refl
+onto_back (x ∷ xs) ys rest = onto_back xs (x ∷ ys) rest
 
 -- no statement has a temporary after it
 loop_quiet : (R : resolved.Program) (moment : Moment) (without_step : Bool) (step body : Block) (test : Value) → takes_none R step ≡ true → takes_none R body ≡ true → takes_none R (loop_block moment without_step step (whole_block test) body) ≡ true
 loop_quiet R moment true step body test e f = f
-loop_quiet R moment false step body test e f = both_true (takes_none R step) (takes_none R body) e f
+loop_quiet R moment false step body test e f = and_from (takes_none R step) (takes_none R body) e f
 
 mutual
   command_quiet : (R : resolved.Program) (exit : ℕ) (breaks continues : Block) → takes_none R breaks ≡ true → takes_none R continues ≡ true → (c : Command) → takes_none R (command_block exit breaks continues c) ≡ true
-  command_quiet R exit b n e f (Sequence first count all) = both_true (takes_none R (commands_block exit (Then (Clear first count) b) (Then (Clear first count) n) all)) true (commands_quiet R exit (Then (Clear first count) b) (Then (Clear first count) n) e f all) refl
+  command_quiet R exit b n e f (Sequence first count all) = and_from (takes_none R (commands_block exit (Then (Clear first count) b) (Then (Clear first count) n) all)) true (commands_quiet R exit (Then (Clear first count) b) (Then (Clear first count) n) e f all) refl
   command_quiet R exit b n e f (resolved.Return None) = refl
-  command_quiet R exit b n e f (Choose test x y) = both_true (takes_none R (command_block exit b n x)) (takes_none R (command_block exit b n y)) (command_quiet R exit b n e f x) (command_quiet R exit b n e f y)
+  command_quiet R exit b n e f (Choose test x y) = and_from (takes_none R (command_block exit b n x)) (takes_none R (command_block exit b n y)) (command_quiet R exit b n e f x) (command_quiet R exit b n e f y)
   command_quiet R exit b n e f (Repeat moment test step body) = loop_quiet R moment (does_nothing step) (command_block exit b n step) (command_block exit Quit Advance body) test (command_quiet R exit b n e f step) (command_quiet R exit Quit Advance refl refl body)
   command_quiet R exit b n e f Break = e
   command_quiet R exit b n e f Continue = f
@@ -89,7 +72,7 @@ mutual
 
   commands_quiet : (R : resolved.Program) (exit : ℕ) (breaks continues : Block) → takes_none R breaks ≡ true → takes_none R continues ≡ true → (all : Commands) → takes_none R (commands_block exit breaks continues all) ≡ true
   commands_quiet R exit b n e f no_commands = refl
-  commands_quiet R exit b n e f (and_command c others) = both_true (takes_none R (command_block exit b n c)) (takes_none R (commands_block exit b n others)) (command_quiet R exit b n e f c) (commands_quiet R exit b n e f others)
+  commands_quiet R exit b n e f (and_command c others) = and_from (takes_none R (command_block exit b n c)) (takes_none R (commands_block exit b n others)) (command_quiet R exit b n e f c) (commands_quiet R exit b n e f others)
 
 -- what a run does of what is left in some way
 ways_back : {S A : Type 0} (step : S → Next S) (bound : ℕ) (r : Reached S) (way : A → Way) (end : Way → World → Reached S → Type 0) (o : Outcome A) → Runs step bound r end (left_by way o) → Runs step bound r (λ a w to. end (way a) w to) o
@@ -179,25 +162,21 @@ module _ (p : Program) (frames : List Frame) (bound : ℕ) (R : resolved.Program
     result_runs [] h n go size next = last_runs h.variables n (λ r. go r (with_variables h [])) size (next refl)
     result_runs (r ∷ others) h n go size next = stuck_runs (moves p) bound w.input w.trace end o
 
+  left_there : (wanted : Gives) (v : ℤ) (w : World) (pc : ℕ) → Fine false w → w.frame.temporaries ≡ []
+      → Goes_to w (Left wanted) (Done (answer_with F v w) (left before w)) (leaves_with wanted (at frames pc (v ∷ below) (held_of rs w)) frames (answer_with F v w) (with_variables (held_of rs w) []))
+  left_there wanted v w pc g none =
+      let a = answer_with F v w in
+      ends_here (moves p) bound _ (Left wanted) a (left before w) (ap (λ n. follow n w.input w.trace) (bared_leaves wanted a w pc g none), record { frame = refl; waiting = refl })
+
   -- the last action of a function
   last_step_runs : (wanted : Gives) (v : ℤ) (w : World) (pc : ℕ) → Fine false w → length w.frame.strong ≡ (if same_gives wanted gives.Object then suc F.names else F.names) → HasAt p pc (leaving_order wanted ∷ [])
       → Runs (moves p) bound (running frames rs pc (v ∷ below) w) (Left wanted) (Done (answer_with F v w) (left before w))
   last_step_runs gives.Number v w pc g size has =
-      let h = held_of rs w in
-      let s = at frames pc (v ∷ below) h in
-      let a = answer_with F v w in
-      let o = Done a (left before w) in
-      one_runs p frames bound rs Return pc (v ∷ below) w (Left gives.Number) o has
-      (left_runs w (Left gives.Number) o w.frame.temporaries h (acting.leaves p s frames v below) (λ none.
-      ends_here (moves p) bound _ (Left gives.Number) a (left before w) (ap (λ n. follow n w.input w.trace) (bared_leaves gives.Number a w pc g none), record { frame = refl; waiting = refl })))
+      one_runs p frames bound rs Return pc (v ∷ below) w (Left gives.Number) (Done (answer_with F v w) (left before w)) has
+      (left_runs w (Left gives.Number) (Done (answer_with F v w) (left before w)) w.frame.temporaries (held_of rs w) _ (left_there gives.Number v w pc g))
   last_step_runs gives.Object v w pc g size has =
-      let h = held_of rs w in
-      let s = at frames pc (v ∷ below) h in
-      let a = answer_with F v w in
-      let o = Done a (left before w) in
-      one_runs p frames bound rs instrs.Give pc (v ∷ below) w (Left gives.Object) o has
-      (result_runs w (Left gives.Object) o w.frame.temporaries h F.names (λ r. instructions.hands_over (bare p) s frames r below) size (λ none.
-      ends_here (moves p) bound _ (Left gives.Object) a (left before w) (ap (λ n. follow n w.input w.trace) (bared_leaves gives.Object a w pc g none), record { frame = refl; waiting = refl })))
+      one_runs p frames bound rs instrs.Give pc (v ∷ below) w (Left gives.Object) (Done (answer_with F v w) (left before w)) has
+      (result_runs w (Left gives.Object) (Done (answer_with F v w) (left before w)) w.frame.temporaries (held_of rs w) F.names _ size (left_there gives.Object v w pc g))
 
   -- the variables are emptied, and the result is put in their place
   leave_runs : (v : ℤ) (w : World) → Fine false w → HasAt p exit (leave_orders F) → Runs (moves p) bound (running frames rs exit (v ∷ vars w) w) (Left F.gives) (then_do (variables_dropped D 0 F.names w) (λ _ w2. Done (answer_with F v w2) (left before w2)))
@@ -231,18 +210,14 @@ module _ (p : Program) (frames : List Frame) (bound : ℕ) (R : resolved.Program
       subst (λ k. Passes p frames bound names1 (declare_orders (suc n)) stack w stack (begun_with given_to (nils k))) (omega arith)
       (then_passes p frames bound names1 (Plain Declare ∷ []) (declare_orders n) stack w stack w1 stack (begun_with given_to (nils (n + suc m))) (one_passes p frames bound names1 (Plain Declare) stack w stack w1 (λ pc. quiet p frames bound names1 (pc + 1) stack w1)) (declares_pass n (suc m) given_to names1 stack))
 
-  -- after these variables the next ones take what the function was given, the last one first
-  takes_run : {A : Type 0} (head : List ℕ) (n : ℕ) (objects tail : List ℕ) (given_to : Given) (stack : List ℤ) (pc : ℕ) (end : A → World → Reached State → Type 0) (o : Outcome A) → length objects ≡ n → HasAt p pc (take_orders (length head) n)
-      → Runs (moves p) bound (running frames rs (pc + length (take_orders (length head) n)) stack (begun_with given_to (head ++ (objects ++ tail)))) end o
-      → Runs (moves p) bound (running frames (onto objects rs) pc stack (begun_with given_to (head ++ (nils n ++ tail)))) end o
+  -- after these variables the next ones take what the last references name, the last one first
+  takes_run : {A : Type 0} (head : List ℕ) (n : ℕ) (last tail : List ℕ) (given_to : Given) (stack : List ℤ) (pc : ℕ) (end : A → World → Reached State → Type 0) (o : Outcome A) → length last ≡ n → HasAt p pc (take_orders (length head) n)
+      → Runs (moves p) bound (running frames rs (pc + length (take_orders (length head) n)) stack (begun_with given_to (head ++ onto last tail))) end o
+      → Runs (moves p) bound (running frames (last ++ rs) pc stack (begun_with given_to (head ++ (nils n ++ tail)))) end o
   takes_run head zero [] tail given_to stack pc end o size has go = let e : pc + 0 ≡ pc = omega arith in subst (λ q. Runs (moves p) bound (running frames rs q stack (begun_with given_to (head ++ tail))) end o) e go
-  takes_run head zero (r ∷ objects) tail given_to stack pc end o size has go = absurd (omega (arith, size))
-  takes_run head (suc n) objects tail given_to stack pc end o size has go =
+  takes_run head (suc n) (r ∷ last) tail given_to stack pc end o size has go =
       let k = length head in
-      let last = last_of n objects size in
-      let r = last.one in
-      let first = last.first in
-      let names1 = r ∷ onto first rs in
+      let names1 = r ∷ (last ++ rs) in
       let begin = head ++ (nils (suc n) ++ tail) in
       let next = head ++ (nils n ++ r ∷ tail) in
       let w = begun_with given_to begin in
@@ -252,20 +227,44 @@ module _ (p : Program) (frames : List Frame) (bound : ℕ) (R : resolved.Program
       let after = raised r (with_variables h (slice_set begin (k + n) r)) in
       let found : slice_get begin (k + n) ≡ Some 0 = get_below head (nils (suc n) ++ tail) n ∙ nil_there n tail in
       let set : slice_set begin (k + n) r ≡ next = set_below head (nils (suc n) ++ tail) n r ∙ ap (λ l. head ++ l) (nil_set n tail r) in
-      let names_are : onto objects rs ≡ names1 = ap (λ l. onto l rs) last.is ∙ onto_last first rs r in
-      let rest : begun_with given_to (head ++ (objects ++ tail)) ≡ begun_with given_to (head ++ (first ++ r ∷ tail)) = ap (λ l. begun_with given_to (head ++ (l ++ tail))) last.is ∙ ap (λ l. begun_with given_to (head ++ l)) (append_assoc first (r ∷ []) tail) in
       let place : pc + length (take_orders k (suc n)) ≡ pc + 1 + 1 + length (take_orders k n) = omega arith in
-      let deep = takes_run head n first (r ∷ tail) given_to stack (pc + 1 + 1) end o last.size has.1.1
-      (subst (λ q. Runs (moves p) bound (running frames rs q stack (begun_with given_to (head ++ (first ++ r ∷ tail)))) end o) place (subst (λ (x : World). Runs (moves p) bound (running frames rs (pc + length (take_orders k (suc n))) stack x) end o) rest go)) in
+      let deep = takes_run head n last (r ∷ tail) given_to stack (pc + 1 + 1) end o (omega (arith, size)) has.1.1
+      (subst (λ q. Runs (moves p) bound (running frames rs q stack (begun_with given_to (head ++ onto last (r ∷ tail)))) end o) place go) in
       let forgotten : Runs (moves p) bound (running frames names1 (pc + 1) stack w1) end o =
-      one_runs p frames bound names1 (Plain Forget) (pc + 1) stack w1 end o (has.1.0, tt) (quiet_runs p frames bound (onto first rs) (pc + 1 + 1) stack w1 end o deep) in
-      let stored : Runs (moves p) bound (running frames names1 pc stack w) end o =
+      one_runs p frames bound names1 (Plain Forget) (pc + 1) stack w1 end o (has.1.0, tt) (quiet_runs p frames bound (last ++ rs) (pc + 1 + 1) stack w1 end o deep) in
       one_runs p frames bound names1 (StoreStrong (k + n)) pc stack w end o (has.0, tt)
       (subst (λ f. Runs (moves p) bound (follow (recount (on_found f (λ q. on_named r h (acting.releases p st q after)))) w.input w.trace) end o) (sym found)
       (named_runs p bound w.input w.trace end o r h (acting.releases p st 0 after)
       (subst (λ l. Runs (moves p) bound (follow (recount (acting.keeps st stack (with_variables h l))) w.input w.trace) end o) (sym set)
-      (quiet_runs p frames bound names1 (pc + 1) stack w1 end o forgotten)))) in
-      subst (λ l. Runs (moves p) bound (running frames l pc stack w) end o) (sym names_are) stored
+      (quiet_runs p frames bound names1 (pc + 1) stack w1 end o forgotten))))
+  takes_run head _ _ tail given_to stack pc end o size has go = absurd (omega (arith, size))
+
+  -- the variables are declared, and after these the next ones take what the function was given
+  declared_run : {A : Type 0} (head : List ℕ) (count few more : ℕ) (given_to : Given) (stack : List ℤ) (entry : ℕ) (later : List Order) (end : A → World → Reached State → Type 0) (o : Outcome A)
+      → nils count ≡ head ++ (nils few ++ nils more) → HasAt p entry (declare_orders count ++ (take_orders (length head) few ++ later))
+      → (HasAt p (entry + length (declare_orders count) + length (take_orders (length head) few)) later
+      → Runs (moves p) bound (running frames rs (entry + length (declare_orders count) + length (take_orders (length head) few)) stack
+      (begun_with given_to (head ++ (padded 0 few given_to.objects ++ nils more)))) end o)
+      → Runs (moves p) bound (running frames (onto (padded 0 few given_to.objects) rs) entry stack (begun_with given_to [])) end o
+  declared_run head count few more given_to stack entry later end o parts has go =
+      let objects = padded 0 few given_to.objects in
+      let f = front_of objects in
+      let declares = declare_orders count in
+      let takes1 = take_orders (length head) few in
+      let middle = entry + length declares in
+      let start = running frames (onto objects rs) entry stack (begun_with given_to []) in
+      let begun = running frames (onto objects rs) middle stack (begun_with given_to (head ++ (nils few ++ nils more))) in
+      let rest = has_back p entry declares (takes1 ++ later) has in
+      let all : count + 0 ≡ count = omega arith in
+      let back : onto f.front (nils more) ≡ objects ++ nils more = ap (λ l. onto l (nils more)) (sym (append-nil f.front) ∙ sym (f.is []))
+      ∙ onto_back objects [] (nils more) in
+      let declared = declares_pass count 0 given_to (onto objects rs) stack entry (has_front p entry declares (takes1 ++ later) has) in
+      leads_runs (moves p) bound start begun end o
+      (subst (λ l. leading.Leads (moves p) start (running frames (onto objects rs) middle stack (begun_with given_to l))) (ap nils all ∙ parts) declared)
+      (subst (λ l. Runs (moves p) bound (running frames l middle stack (begun_with given_to (head ++ (nils few ++ nils more)))) end o) (sym (f.is rs))
+      (takes_run head few f.front (nils more) given_to stack middle end o (f.size ∙ padded_length 0 few given_to.objects) (has_front p middle takes1 later rest)
+      (subst (λ l. Runs (moves p) bound (running frames rs (middle + length takes1) stack (begun_with given_to (head ++ l))) end o) (sym back)
+      (go (has_back p middle takes1 later rest)))))
 
   -- the first variable takes `self`, and holds it where the temporary is dropped
   owns_run : {A : Type 0} (tail : List ℕ) (given_to : Given) (stack : List ℤ) (pc : ℕ) (end : A → World → Reached State → Type 0) (o : Outcome A) → HasAt p pc (Plain ReadSelf ∷ StoreStrong 0 ∷ Plain Forget ∷ DropAll ∷ [])
@@ -327,62 +326,43 @@ module _ (p : Program) (frames : List Frame) (bound : ℕ) (R : resolved.Program
   abbrev first_strong : (owns : Bool) → (count : ℕ) → Given → List ℕ
   first_strong owns count arguments = padded 0 count (and_self owns self (take F.parameters arguments.objects))
 
-  declared_leads : (head : List ℕ) (count few rest : ℕ) (arguments : Given) (all_names : List ℕ) (stack : List ℤ) (entry : ℕ) → nils count ≡ head ++ (nils few ++ nils rest) → HasAt p entry (declare_orders count)
-      → leading.Leads (moves p) (running frames all_names entry stack (begun_with arguments [])) (running frames all_names (entry + length (declare_orders count)) stack (begun_with arguments (head ++ (nils few ++ nils rest))))
-  declared_leads head count few rest arguments all_names stack entry parts has =
-      let e : count + 0 ≡ count = omega arith in
-      let start = running frames all_names entry stack (begun_with arguments []) in
-      let middle = entry + length (declare_orders count) in
-      subst (λ l. leading.Leads (moves p) start (running frames all_names middle stack (begun_with arguments l))) parts
-      (subst (λ n. leading.Leads (moves p) start (running frames all_names middle stack (begun_with arguments (nils n)))) e (declares_pass count 0 arguments all_names stack entry has))
-
   opening_runs : {A : Type 0} (owns : Bool) (count few : ℕ) (arguments : Given) (stack : List ℤ) (entry : ℕ) (end : A → World → Reached State → Type 0) (o : Outcome A) → few ≡ lesser F.parameters (count - (if owns then 1 else 0)) → HasAt p entry (opens owns count few)
       → Runs (moves p) bound (running frames rs (entry + length (opens owns count few)) stack (begun_with arguments (first_strong owns count arguments))) end o
       → Runs (moves p) bound (running frames (onto (padded 0 few arguments.objects) rs) entry stack (begun_with arguments [])) end o
   opening_runs false count few arguments stack entry end o few_is has go =
       let e : count - 0 ≡ count = omega arith in
       let is : few ≡ lesser F.parameters count = few_is ∙ ap (lesser F.parameters) e in
-      let le : few ≤ count = omega (arith, is, few_of F.parameters count) in
-      let objects = padded 0 few arguments.objects in
-      let all_names = onto objects rs in
+      let le : few ≤ count = omega (arith, is, (fewest F.parameters count).1) in
       let declares = declare_orders count in
       let takes1 = take_orders 0 few in
-      let middle = entry + length declares in
-      let there : middle + length takes1 ≡ entry + length (declares ++ (takes1 ++ [])) = omega (arith, length-append declares (takes1 ++ []), length-append takes1 []) in
-      let same : objects ++ nils (count - few) ≡ first_strong false count arguments = first_are few count F.parameters arguments.objects is in
-      leads_runs (moves p) bound (running frames all_names entry stack (begun_with arguments [])) (running frames all_names middle stack (begun_with arguments (nils few ++ nils (count - few)))) end o
-      (declared_leads [] count few (count - few) arguments all_names stack entry (nils_split few (count - few) count le refl) (has_front p entry declares (takes1 ++ []) has))
-      (takes_run [] few objects (nils (count - few)) arguments stack middle end o (padded_length 0 few arguments.objects) (has_front p middle takes1 [] (has_back p entry declares (takes1 ++ []) has))
-      (subst (λ q. Runs (moves p) bound (running frames rs q stack (begun_with arguments (objects ++ nils (count - few)))) end o) (sym there)
-      (subst (λ l. Runs (moves p) bound (running frames rs (entry + length (opens false count few)) stack (begun_with arguments l)) end o) (sym same) go)))
+      let q = entry + length declares + length takes1 in
+      let there : q ≡ entry + length (declares ++ (takes1 ++ [])) = omega (arith, length-append declares (takes1 ++ []), length-append takes1 []) in
+      let same : padded 0 few arguments.objects ++ nils (count - few) ≡ first_strong false count arguments = first_are few count F.parameters arguments.objects is in
+      declared_run [] count few (count - few) arguments stack entry [] end o (nils_split few (count - few) count le refl) has (λ last.
+      subst (λ l. Runs (moves p) bound (running frames rs q stack (begun_with arguments l)) end o) (sym same)
+      (subst (λ n. Runs (moves p) bound (running frames rs n stack (begun_with arguments (first_strong false count arguments))) end o) (sym there) go))
   opening_runs true zero few arguments stack entry end o few_is has go =
       let e : 0 - 1 ≡ 0 = omega arith in
       let is : few ≡ lesser F.parameters 0 = few_is ∙ ap (lesser F.parameters) e in
-      let none : 0 ≡ few = omega (arith, is, few_of F.parameters 0) in
+      let none : 0 ≡ few = omega (arith, is, (fewest F.parameters 0).1) in
       subst (λ n. Runs (moves p) bound (running frames rs (entry + length (opens true zero n)) stack (begun_with arguments [])) end o → Runs (moves p) bound (running frames (onto (padded 0 n arguments.objects) rs) entry stack (begun_with arguments [])) end o) none
       (λ go1. subst (λ q. Runs (moves p) bound (running frames rs q stack (begun_with arguments [])) end o) (omega arith) go1) go
   opening_runs true (suc m) few arguments stack entry end o few_is has go =
       let e : suc m - 1 ≡ m = omega arith in
       let is : few ≡ lesser F.parameters m = few_is ∙ ap (lesser F.parameters) e in
-      let le : few ≤ m = omega (arith, is, few_of F.parameters m) in
-      let objects = padded 0 few arguments.objects in
-      let all_names = onto objects rs in
+      let le : few ≤ m = omega (arith, is, (fewest F.parameters m).1) in
       let declares = declare_orders (suc m) in
       let takes1 = take_orders 1 few in
       let owned = own_orders (suc m) in
       let four : length owned ≡ 4 = refl in
-      let middle = entry + length declares in
-      let q = middle + length takes1 in
+      let q = entry + length declares + length takes1 in
       let there : q + 1 + 1 + 1 + 1 ≡ entry + length (declares ++ (takes1 ++ owned)) = omega (arith, length-append declares (takes1 ++ owned), length-append takes1 owned, four) in
-      let tail = objects ++ nils (m - few) in
+      let tail = padded 0 few arguments.objects ++ nils (m - few) in
       let same : tail ≡ padded 0 m (take F.parameters arguments.objects) = first_are few m F.parameters arguments.objects is in
-      let has_after = has_back p entry declares (takes1 ++ owned) has in
-      leads_runs (moves p) bound (running frames all_names entry stack (begun_with arguments [])) (running frames all_names middle stack (begun_with arguments (0 ∷ (nils few ++ nils (m - few))))) end o
-      (declared_leads (0 ∷ []) (suc m) few (m - few) arguments all_names stack entry (ap (λ l. 0 ∷ l) (nils_split few (m - few) m le refl)) (has_front p entry declares (takes1 ++ owned) has))
-      (takes_run (0 ∷ []) few objects (nils (m - few)) arguments stack middle end o (padded_length 0 few arguments.objects) (has_front p middle takes1 owned has_after)
-      (owns_run tail arguments stack q end o (has_back p middle takes1 owned has_after)
+      declared_run (0 ∷ []) (suc m) few (m - few) arguments stack entry owned end o (ap (λ l. 0 ∷ l) (nils_split few (m - few) m le refl)) has (λ last.
+      owns_run tail arguments stack q end o last
       (subst (λ n. Runs (moves p) bound (running frames rs n stack (begun_with arguments (self ∷ tail))) end o) (sym there)
-      (subst (λ l. Runs (moves p) bound (running frames rs (entry + length (opens true (suc m) few)) stack (begun_with arguments (self ∷ l))) end o) (sym same) go))))
+      (subst (λ l. Runs (moves p) bound (running frames rs (entry + length (opens true (suc m) few)) stack (begun_with arguments (self ∷ l))) end o) (sym same) go)))
 
   -- a function that is entered comes to its last step
   pub function_runs : (entry : ℕ) (arguments : Given) → length (padded (pos 0) F.slots arguments.numbers) ≡ F.slots → HasAt p exit (leave_orders F) → HasAt p entry (body_orders R exit entry F)
@@ -403,7 +383,7 @@ module _ (p : Program) (frames : List Frame) (bound : ℕ) (R : resolved.Program
       let good : Fine true w0 = (record { locals = size; strong = strong; itself = refl; waits = refl }, λ x. refl) in
       let end = Leaves p frames bound R F.slots count self (stacked before) below D deep no_turn true (place + length xs) in
       let o = then_do (all_executed D bound F.body w0) (λ flow w1. Done (given flow) w1) in
-      let quiet_body = both_true (takes_none R (commands_block exit none_given none_given F.body)) true (commands_quiet R exit none_given none_given refl refl F.body) refl in
+      let quiet_body = and_from (takes_none R (commands_block exit none_given none_given F.body)) true (commands_quiet R exit none_given none_given refl refl F.body) refl in
       let runs = subst (Runs (moves p) bound (running frames rs place stack w0) end) (body_is D bound exit rs F.body w0) (block_runs p frames bound R F.slots count self (stacked before) below D deep 0 spot no_turn true true (λ x. x) (λ x. absurd (true≢false x)) b (λ x. quiet_body) place refl s w0 good (has_back p entry opening xs has)) in
       let ready : Runs (moves p) bound (running frames rs place stack w0) (Left F.gives) meant =
       subst (Runs (moves p) bound (running frames rs place stack w0) (Left F.gives)) (given_later D F before (all_executed D bound F.body w0))

@@ -1,9 +1,9 @@
 -- No action lacks what it takes, whatever is read, and the counts are right: what runs and what waits have as many
 -- numbers, references and places as the heights of a program say.
-use Rattle.std.proofs.Common.{◌≡◌, ◌⊎◌, inl, inr, ℕ, zero, suc, ◌+◌, ◌-◌, ◌<◌, ◌≤◌, ℤ, pos, Bool, true, false, ◌&&◌, nat_eq, if◌then◌else◌, List, [], ◌∷◌, ◌++◌, length, drop, Option, Some, None, ⊎_elim, refl, sym, ap, ◌∙◌, subst, arith, append_assoc, length-append, slice_get, slice_set}
+use Rattle.std.proofs.Common.{◌≡◌, ◌⊎◌, inl, inr, ℕ, zero, suc, ◌+◌, ◌-◌, ◌<◌, ◌≤◌, ℤ, pos, Bool, true, false, ◌&&◌, nat_eq, if◌then◌else◌, List, [], ◌∷◌, ◌++◌, length, take, drop, Option, Some, None, ⊎_elim, refl, sym, ap, ◌∙◌, subst, arith, append_assoc, length-append, length-drop, slice_get, slice_set}
 use Rattle.std.proofs.Math.Seq.{take-append_seam, drop-append_seam}
 use Rattle.std.proofs.lemmas.Bool.{and_parts, eqb-true, cases_eq}
-use Rattle.std.proofs.lemmas.List.{length-set}
+use Rattle.std.proofs.lemmas.List.{length-set, nil_from_length, take-append-drop, length-take-le}
 use Rattle.std.proofs.lemmas.Option.{slice_get_within}
 use Rattle.arc_ast.specs.declared.tree.Sign.{Sign}
 use Rattle.arc_ast.specs.declared.tree.Sign.TheVariants as signs
@@ -14,11 +14,11 @@ use Rattle.arc_spec.specs.World.{name_at}
 use Rattle.arc_spec.specs.declared.event.Fault.TheVariants.{FieldClass, Resurrected, Unrecognized}
 use Rattle.arc_spec.specs.Meaning.{chosen}
 use Rattle.arc_spec.specs.Number.{combined, counted, is_zero}
-use Rattle.arc_spec.specs.Objects.{Object, Dying, Emptying, Gone, object_at, with_object, with_fields, with_strong_fields, in_phase, is_live, is_emptying, fields_of}
+use Rattle.arc_spec.specs.Objects.{Object, Dying, Emptying, Gone, nils, object_at, with_object, with_fields, with_strong_fields, in_phase, is_live, is_emptying, fields_of}
 use Rattle.arc_spec.specs.Resolved as resolved
-use Rattle.arc_spec.specs.Holding.{Held, nothing_held, Frame, Calling, Ending, Clearing, Waiter, Counted, holders, is_there, stacked, with_strong_globals, with_strong_field, on_place, turned_in, with_temporaries, with_variables, with_names, with_things, with_globals, lowered, raised, named, taken_by, on_named, on_field, declares, lets_go, resumed, all_nil, on_left, on_last, on_result, given_back, with_field}
+use Rattle.arc_spec.specs.Holding.{Held, Frame, Calling, Ending, Clearing, Waiter, waiter_of, Counted, holders, is_there, stacked, with_strong_globals, with_strong_field, on_place, turned_in, with_temporaries, with_variables, with_names, with_things, lowered, raised, named, taken_by, on_named, on_field, declares, lets_go, resumed, all_nil, on_left, on_last, on_result, given_back, with_field}
 use Rattle.arc_spec.specs.Stepping.{Next, Goes, Asks, Faults, Stuck, Along, Safe, Sound, on_top, on_found, only_if}
-use Rattle.arc_ir.specs.Acting.{Action, Program, State, lands, start, step, entry, keeps, goes, or_fault, has_level, enters, answers, taken, sends, allocates, operates, begins_end, releases, runs_dealloc, clears, after_deallocs, clears_next, ends_class, end_goes_on, leaves, executes}
+use Rattle.arc_ir.specs.Acting.{Program, State, lands, start, step, entry, keeps, goes, or_fault, has_level, enters, answers, taken, sends, allocates, operates, begins_end, releases, runs_dealloc, clears, after_deallocs, clears_next, ends_class, end_goes_on, leaves}
 use Rattle.arc_code.specs.declared.effect.Height.{Height}
 use Rattle.arc_code.specs.declared.instr.Op.{Op}
 use Rattle.arc_code.specs.declared.instr.Op.TheVariants as ops
@@ -32,13 +32,13 @@ use Rattle.arc_lower.specs.Order.{Order, order, orders}
 use Rattle.arc_lower.specs.Lowered.{slots_of, parameters_of, entries_of, end_step_of, lowered as lowered_orders, classes_linked}
 use Rattle.arc_lower.specs.Heights.{height, next_height}
 use Rattle.arc_lower.proofs.Cases.{by_test}
-use Rattle.arc_lower.proofs.CountsPlaces.{IsThere, AllThere, place_there, name_there, object_goes, named_goes, set_here, set_same, set_other, holders_head, holders_nil, holders_append, all_holders, live_there, there_fields}
-use Rattle.arc_lower.proofs.CountsKept.{Sane, Drops, nothing_sane, sane_moved, sane_names, sane_globals, sane_start, sane_entered, sane_take, sane_declare, fits_at, sane_counted, variables_there, waiting_there, stacked_there, globals_there, fields_there, sane_store, sane_store_global, sane_store_field, sane_drop, sane_settle, drops_there, sane_nil, sane_last, sane_other, sane_make, sane_field, sane_empty, sane_gone}
-use Rattle.arc_lower.proofs.Doing.{at, resumed_as, bare, does, acts_does}
+use Rattle.arc_lower.proofs.CountsPlaces.{seam, IsThere, AllThere, place_there, name_there, object_goes, named_goes, set_here, set_same, set_other, holders_head, nils_holders, holders_append, all_holders, live_there, there_fields}
+use Rattle.arc_lower.proofs.CountsKept.{Sane, Drops, gains, sane_moved, sane_start, sane_declare, fits_at, sane_counted, named_there, fields_there, sane_store, sane_store_global, sane_store_field, sane_drop, sane_settle, drops_there, sane_nil, sane_last, sane_other, sane_make, sane_field, sane_empty, sane_gone}
+use Rattle.arc_lower.proofs.Doing.{at, resumed_as, bare, does, executes_at}
 use Rattle.arc_lower.proofs.Standing.{no_nil, ending, AllDying, IsDying, NilBut, Alive, nil_alive, ends_there, ending_alive, IsHeld, last_held, held_there, held_within, made_dying, changed_dying, IsApart, live_apart, apart_dying, stored_far, fields_far, one_nil, no_field, nil_named, all_in_order}
 use Rattle.arc_lower.proofs.Typing.{Reaches, enough, IsCalled}
 use Rattle.arc_lower.proofs.Stacking.{after_one}
-use Rattle.arc_lower.proofs.Stepping.{some_same, seam, Clears, opens_clears, Stands, Quiet, Free, free_at, Onward, Steps}
+use Rattle.arc_lower.proofs.Stepping.{some_same, Stays, Ends, role, role_of, Clears, inside_clears, Stands, Quiet, Free, calm_free, Onward, Steps}
 use Rattle.arc_lower.proofs.Stepping as stepping
 use Rattle.arc_lower.proofs.Programs.{all, table, methods_go, dealloc_goes, start_goes, end_is, steps_at}
 use Rattle.arc_lower.proofs.HeightsFit.{entry_goes}
@@ -58,34 +58,19 @@ shut_set mine n variables h i k above lt named = ⊎_elim
     (λ ne. h i k (omega (arith, above, ne)) (omega (arith, lt, length-set variables n 0)) (sym (set_other variables n i 0 ne) ∙ named))
     (cases_eq i n)
 
-no_names : NilBut [] []
-no_names i k e = cc
-
--- all but the last one are nil, and that names this
-abbrev LastIs : ℕ → List ℕ → Type 0
-LastIs r [] = ⊥
-LastIs r (q ∷ []) = q ≡ r
-LastIs r (q ∷ next ∷ rest) = (q ≡ 0) × LastIs r (next ∷ rest)
-
-last_there : (variables : List ℕ) → 1 ≤ length variables → Shut gives.Object 0 variables → (r : ℕ) × LastIs r variables
+-- all but the last one are nil, which names an object
+last_there : (variables : List ℕ) → 1 ≤ length variables → Shut gives.Object 0 variables → (n : ℕ) × (r : ℕ) × (variables ≡ nils n ++ r ∷ [])
 last_there [] some h = absurd (omega (arith, some))
-last_there (r ∷ []) some h = (r, refl)
+last_there (r ∷ []) some h = (0, r, refl)
 last_there (suc k ∷ q ∷ rest) some h = absurd (h 0 k (omega arith) (omega arith) refl)
 last_there (zero ∷ q ∷ rest) some h =
     let deep = last_there (q ∷ rest) (omega arith) (λ i k above lt. h (suc i) k (omega arith) (omega (arith, lt))) in
-    (deep.0, (refl, deep.1))
+    (suc deep.0, deep.1, ap (λ l. 0 ∷ l) deep.2)
 
-last_goes : {S : Type 0} (r : ℕ) (variables : List ℕ) (go : ℕ → Next S) → LastIs r variables → on_last variables go ≡ go r
-last_goes r [] go h = absurd h
-last_goes r (q ∷ []) go h = ap go h
-last_goes r (zero ∷ q ∷ rest) go h = last_goes r (q ∷ rest) go h.1
-last_goes r (suc k ∷ q ∷ rest) go h = absurd (omega (arith, h.0))
-
-last_holders : (k r : ℕ) (variables : List ℕ) → LastIs r variables → holders (suc k) variables ≡ holders (suc k) (r ∷ [])
-last_holders k r [] h = absurd h
-last_holders k r (q ∷ []) h = ap (λ x. holders (suc k) (x ∷ [])) h
-last_holders k r (zero ∷ q ∷ rest) h = omega (arith, holders_nil k (q ∷ rest), last_holders k r (q ∷ rest) h.1)
-last_holders k r (suc j ∷ q ∷ rest) h = absurd (omega (arith, h.0))
+last_goes : {S : Type 0} (n r : ℕ) (go : ℕ → Next S) → on_last (nils n ++ r ∷ []) go ≡ go r
+last_goes zero r go = refl
+last_goes (suc zero) r go = refl
+last_goes (suc (suc n)) r go = last_goes (suc n) r go
 
 nil_seen : (variables : List ℕ) → NilBut [] variables → all_nil variables ≡ true
 nil_seen [] nil = refl
@@ -110,28 +95,9 @@ all_within : (temporaries strong waiting own : List ℕ) → AllHeld own (tempor
 all_within temporaries strong waiting [] h = tt
 all_within temporaries strong waiting (r ∷ own) h = (held_within temporaries strong waiting r h.0, all_within temporaries strong waiting own h.1)
 
-held_first : (first rest temporaries : List ℕ) → AllHeld (first ++ rest) temporaries → AllHeld first temporaries
-held_first [] rest temporaries h = tt
-held_first (r ∷ first) rest temporaries h = (h.0, held_first first rest temporaries h.1)
-
-held_rest : (first rest temporaries : List ℕ) → AllHeld (first ++ rest) temporaries → AllHeld rest temporaries
-held_rest [] rest temporaries h = h
-held_rest (r ∷ first) rest temporaries h = held_rest first rest temporaries h.1
-
--- so many references, and those below
-record Parted (n : ℕ) (own : List ℕ) : Type 0 where
-  first : List ℕ
-  rest : List ℕ
-  is : own ≡ first ++ rest
-  many : length first ≡ n
-  left : length own ≡ n + length rest
-
-parted : (n : ℕ) (own : List ℕ) → n ≤ length own → Parted n own
-parted zero own le = record { first = []; rest = own; is = refl; many = refl; left = omega arith }
-parted (suc n) [] le = absurd (omega (arith, le))
-parted (suc n) (r ∷ own) le =
-    let deep = parted n own (omega (arith, le)) in
-    record { first = r ∷ deep.first; rest = deep.rest; is = ap (λ l. r ∷ l) deep.is; many = ap suc deep.many; left = omega (arith, deep.left) }
+held_split : (first rest temporaries : List ℕ) → AllHeld (first ++ rest) temporaries → AllHeld first temporaries × AllHeld rest temporaries
+held_split [] rest temporaries h = (tt, h)
+held_split (r ∷ first) rest temporaries h = let deep = held_split first rest temporaries h.1 in ((h.0, deep.0), deep.1)
 
 -- an object was made, which the last reference names and the last temporary holds; the others hold the other references
 record Made (own temporaries waiting : List ℕ) : Type 0 where
@@ -156,20 +122,11 @@ first_of : (own : List ℕ) → 1 ≤ length own → (r : ℕ) × (rest : List �
 first_of [] some = absurd (omega (arith, some))
 first_of (r ∷ rest) some = (r, rest, refl)
 
-none_of : (own : List ℕ) → length own ≤ 0 → own ≡ []
-none_of [] none = refl
-none_of (r ∷ own) none = absurd (omega (arith, none))
-
 along_map : {S : Type 0} (P Q : S → Type 0) → ((s : S) → P s → Q s) → (next : Next S) → Along P next → Along Q next
 along_map P Q f (Goes s events) p = f s p
 along_map P Q f (Asks go) p = λ answer. f (go answer) (p answer)
 along_map P Q f Stuck p = p
 along_map P Q f _ p = tt
-
-executes_at : (p : Program) (xs : List Action) (pc : ℕ) (x : Order) (s : State) → slice_get (orders xs) pc ≡ Some x → executes p (slice_get xs pc) s ≡ does p x s
-executes_at p [] pc x s e = cc
-executes_at p (y ∷ xs) zero x s e = acts_does p y s ∙ ap (λ z. does p z s) (some_same (order y) x e)
-executes_at p (y ∷ xs) (suc pc) x s e = executes_at p xs pc x s e
 
 -- ---- the places of a function that waits
 
@@ -190,19 +147,20 @@ resumes_again w h s = resumed_as w h s.temporaries s.variables s.waiting s.is s.
 
 -- the function that is left has no temporary, and its variables are nil
 again_sane : {classes : List Class} (w : Waiter) (h : Held) (s : Splits w h.places) → h.temporaries ≡ [] → NilBut [] h.variables → Sane classes h → Sane classes (again w s h)
-again_sane w h s none nil sane = sane_moved h (again w s h) refl refl (λ k.
+again_sane w h s none nil sane = sane_moved (λ k.
     let h1 = again w s h in
     omega (arith, ap (holders (suc k)) s.is, holders_append (suc k) (s.temporaries ++ s.variables) s.waiting, holders_append (suc k) s.temporaries s.variables, all_holders (suc k) h1, all_holders (suc k) h, nil_named h.variables nil k, ap (holders (suc k)) none)) sane
 
 -- the function that is left has no temporary, and of its variables the last one alone names something: that is a temporary of the one that runs again
-given_sane : {classes : List Class} (w : Waiter) (h : Held) (s : Splits w h.places) (r : ℕ) → h.temporaries ≡ [] → LastIs r h.variables → Sane classes h → Sane classes (given_back r (again w s (with_variables h [])))
-given_sane w h s r none last sane =
+given_sane : {classes : List Class} (w : Waiter) (h : Held) (s : Splits w h.places) (n r : ℕ) → h.temporaries ≡ [] → h.variables ≡ nils n ++ r ∷ []
+    → Sane classes h → Sane classes (given_back r (again w s (with_variables h [])))
+given_sane w h s n r none last sane =
     let h1 = given_back r (again w s (with_variables h [])) in
-    sane_moved h h1 refl refl (λ k.
-    omega (arith, ap (holders (suc k)) s.is, holders_append (suc k) (s.temporaries ++ s.variables) s.waiting, holders_append (suc k) s.temporaries s.variables, all_holders (suc k) h1, all_holders (suc k) h, last_holders k r h.variables last, holders_head (suc k) r s.temporaries, holders_head (suc k) r [], ap (holders (suc k)) none)) sane
+    sane_moved (λ k.
+    omega (arith, ap (holders (suc k)) s.is, holders_append (suc k) (s.temporaries ++ s.variables) s.waiting, holders_append (suc k) s.temporaries s.variables, all_holders (suc k) h1, all_holders (suc k) h, ap (holders (suc k)) last, holders_append (suc k) (nils n) (r ∷ []), nils_holders k n, holders_head (suc k) r s.temporaries, holders_head (suc k) r [], ap (holders (suc k)) none)) sane
 
 left_sane : {classes : List Class} (h : Held) → h.temporaries ≡ [] → NilBut [] h.variables → Sane classes h → Sane classes (with_variables h [])
-left_sane h none nil sane = sane_moved h (with_variables h []) refl refl (λ k. omega (arith, all_holders (suc k) (with_variables h []), all_holders (suc k) h, nil_named h.variables nil k)) sane
+left_sane h none nil sane = sane_moved (λ k. omega (arith, all_holders (suc k) (with_variables h []), all_holders (suc k) h, nil_named h.variables nil k)) sane
 
 module _ (p : Program) (R : resolved.Program) where
   -- in a function that gives this
@@ -266,36 +224,31 @@ module _ (p : Program) (R : resolved.Program) where
   Numbers gives.Number A = A
   Numbers gives.Object A = ⊥
 
+  -- A function or the end of an object goes on, above what waits for a function that gives a number or an object.
+  abbrev pub GoesOn : (Below : Gives → ℕ → (names places : List ℕ) → Type 0) → (at self : ℕ) → List Frame → (numbers : ℕ)
+      → (names temporaries variables places : List ℕ) → Type 0
+  GoesOn Below at self frames numbers names temporaries variables places =
+      ((mine : Gives) × (below : ℕ) × (deeper : List ℕ) × Resumes mine at self frames numbers below names deeper temporaries variables places × Below mine below deeper places)
+      ⊎ (EndsAgain at self frames temporaries variables places × Below gives.Number numbers names places)
+
+  -- the same of what waits for the end of an object
+  abbrev pub Interrupted : (Below : Gives → ℕ → (names places : List ℕ) → Type 0) → (back : ℕ) → Waiter → (o : ℕ) → List Frame → ℕ → (names places : List ℕ)
+      → Type 0
+  Interrupted Below back w o others n names places =
+      IsApart o (ending others) × (s : Splits w places) × GoesOn Below back w.self others n names s.temporaries s.variables s.waiting
+
   -- so many numbers, and these references and places, wait for a function that gives this; what a call gives isn't there yet
   abbrev pub Waits : Gives → List Frame → ℕ → (names places : List ℕ) → Type 0
   Waits given [] n names places = Numbers given (Unit {0})
   Waits given (Calling back w ∷ others) n names places =
       (mine : Gives) × (below : ℕ) × (deeper : List ℕ) × (s : Splits w places) × Comes_back given mine back w.self others n below names deeper s.temporaries s.variables s.waiting × Waits mine others below deeper s.waiting
-  Waits given (Ending back w o next left ∷ others) n names places = Numbers given (IsApart o (ending others) × (s : Splits w places)
-      × (((mine : Gives) × (below : ℕ) × (deeper : List ℕ) × Resumes mine back w.self others n below names deeper s.temporaries s.variables s.waiting × Waits mine others below deeper s.waiting)
-      ⊎ (EndsAgain back w.self others s.temporaries s.variables s.waiting × Waits gives.Number others n names s.waiting)))
-  Waits given (Clearing back w o fields ∷ others) n names places = Numbers given (IsApart o (ending others) × (s : Splits w places)
-      × (((mine : Gives) × (below : ℕ) × (deeper : List ℕ) × Resumes mine back w.self others n below names deeper s.temporaries s.variables s.waiting × Waits mine others below deeper s.waiting)
-      ⊎ (EndsAgain back w.self others s.temporaries s.variables s.waiting × Waits gives.Number others n names s.waiting)))
-
-  pub record InFunction (s : State) : Type 0 where
-    mine : Gives
-    below : ℕ
-    deeper : List ℕ
-    resumes : Resumes mine s.at s.held.self s.frames (length s.stack) below s.held.names deeper s.held.temporaries s.held.variables s.held.places
-    waits : Waits mine s.frames below deeper s.held.places
-
-  -- where the end of an object goes on
-  pub record InEnd (s : State) : Type 0 where
-    at_end : s.at ≡ p.end_step
-    is_ending : IsEnding s.frames
-    none : s.held.temporaries ≡ []
-    empty : s.held.variables ≡ []
-    alive : Alive s.frames s.held.places s.held.self
-    waits : Waits gives.Number s.frames (length s.stack) s.held.names s.held.places
+  Waits given (Ending back w o next left ∷ others) n names places = Numbers given (Interrupted (λ g. Waits g others) back w o others n names places)
+  Waits given (Clearing back w o fields ∷ others) n names places = Numbers given (Interrupted (λ g. Waits g others) back w o others n names places)
 
   abbrev pub Good : State → Type 0
-  Good s = (InFunction s ⊎ InEnd s) × AllDying s.held.objects (ending s.frames) × Sane p.classes s.held
+  Good s =
+      GoesOn (λ g. Waits g s.frames) s.at s.held.self s.frames (length s.stack) s.held.names s.held.temporaries s.held.variables s.held.places
+      × AllDying s.held.objects (ending s.frames) × Sane p.classes s.held
 
   abbrev Leads : Next State → Type 0
   Leads = Along Good
@@ -355,50 +308,46 @@ module _ (p : Program) (R : resolved.Program) where
       (λ t. e k ob refl there.1 (and_parts (is_live (Some ob)) (nat_eq (held.counts (suc k)) 1) t).0)
       (λ t. h (sane_other held k ob there.1 t drops)))
 
-  last_leads : (r : ℕ) (temporaries : List ℕ) (held : Held) (go : ℕ → Held → Next State) → temporaries ≡ [] → LastIs r held.variables → Leads (go r (with_variables held [])) → Leads (on_result temporaries held go)
-  last_leads r [] held go none last h = subst Leads (sym (last_goes r held.variables (λ q. go q (with_variables held [])) last)) h
-  last_leads r (q ∷ others) held go none last h = cc
+  last_leads : (n r : ℕ) (temporaries : List ℕ) (held : Held) (go : ℕ → Held → Next State) → temporaries ≡ [] → held.variables ≡ nils n ++ r ∷ []
+      → Leads (go r (with_variables held [])) → Leads (on_result temporaries held go)
+  last_leads n r [] held go none last h =
+      subst Leads (sym (ap (λ l. on_last l (λ q. go q (with_variables held []))) last ∙ last_goes n r (λ q. go q (with_variables held [])))) h
+  last_leads n r (q ∷ others) held go none last h = cc
 
   -- a function is left that gives a number
-  leaves_lead : (frames : List Frame) (below : ℕ) (deeper : List ℕ) (pc : ℕ) (v : ℤ) (stack rest : List ℤ) (held : Held) → Waits gives.Number frames below deeper held.places → Alive frames held.places held.self → length stack ≡ suc (length rest) → below ≡ length rest → held.names ≡ deeper → held.temporaries ≡ [] → NilBut [] held.variables → AllDying held.objects (ending frames) → Sane p.classes held → Runs frames
+  leaves_lead : (frames : List Frame) (pc : ℕ) (v : ℤ) (stack rest : List ℤ) (held : Held) → Waits gives.Number frames (length rest) held.names held.places
+      → Alive frames held.places held.self → length stack ≡ suc (length rest) → held.temporaries ≡ [] → NilBut [] held.variables
+      → AllDying held.objects (ending frames) → Sane p.classes held → Runs frames
       → Leads (leaves p (at frames pc stack held) frames v rest (with_variables held []))
-  leaves_lead [] below deeper pc v stack rest held waits alive size e f none nil dying sane running = tt
-  leaves_lead (Calling back w ∷ others) below deeper pc v stack rest held waits alive size e f none nil dying sane running =
-      let h = with_variables held [] in
-      let mine = waits.0 in
+  leaves_lead [] pc v stack rest held waits alive size none nil dying sane running = tt
+  leaves_lead (Calling back w ∷ others) pc v stack rest held waits alive size none nil dying sane running =
       let s = waits.3 in
-      let more : below + 1 ≡ length stack = omega (arith, size, e) in
-      let resumes = subst (λ l. Resumes mine back w.self others (length stack) waits.1 l waits.2 s.temporaries s.variables s.waiting) (sym f) (subst (λ n. Resumes mine back w.self others n waits.1 deeper waits.2 s.temporaries s.variables s.waiting) more waits.4) in
-      subst (λ h1. Good (at others back stack h1)) (sym (resumes_again w h s))
-      (inl (record { mine = mine; below = waits.1; deeper = waits.2; resumes = resumes; waits = waits.5 }), dying, again_sane w h s none no_names (left_sane held none nil sane))
-  leaves_lead (Ending back w o next left ∷ others) below deeper pc v stack rest held waits alive size e f none nil dying sane running =
-      let frames = Ending back w o next left ∷ others in
-      (inr (record { at_end = refl; is_ending = tt; none = none; empty = refl; alive = alive; waits = subst (λ l. Waits gives.Number frames (length rest) l held.places) (sym f) (subst (λ n. Waits gives.Number frames n deeper held.places) e waits) }), dying, left_sane held none nil sane)
-  leaves_lead (Clearing back w o fields ∷ others) below deeper pc v stack rest held waits alive size e f none nil dying sane running = absurd running
+      let more : length rest + 1 ≡ length stack = omega (arith, size) in
+      let resumes = subst (λ n. Resumes waits.0 back w.self others n waits.1 held.names waits.2 s.temporaries s.variables s.waiting) more waits.4 in
+      subst (λ h1. Good (at others back stack h1)) (sym (resumes_again w (with_variables held []) s))
+      (inl (waits.0, waits.1, waits.2, resumes, waits.5), dying, again_sane w held s none nil sane)
+  leaves_lead (Ending back w o next left ∷ others) pc v stack rest held waits alive size none nil dying sane running =
+      (inr (record { at_end = refl; is_ending = tt; none = none; empty = refl; alive = alive }, waits), dying, left_sane held none nil sane)
+  leaves_lead (Clearing back w o fields ∷ others) pc v stack rest held waits alive size none nil dying sane running = absurd running
 
   -- one that gives an object, which was called
-  hands_lead : (frames : List Frame) (below : ℕ) (deeper : List ℕ) (pc r : ℕ) (stack rest : List ℤ) (held : Held) → Waits gives.Object frames below deeper held.places → below ≡ length rest → held.names ≡ deeper → held.temporaries ≡ [] → LastIs r held.variables → AllDying held.objects (ending frames) → Sane p.classes held
+  hands_lead : (frames : List Frame) (pc n r : ℕ) (stack rest : List ℤ) (held : Held) → Waits gives.Object frames (length rest) held.names held.places
+      → held.temporaries ≡ [] → held.variables ≡ nils n ++ r ∷ [] → AllDying held.objects (ending frames) → Sane p.classes held
       → Leads (instructions.hands_over (bare p) (at frames pc stack held) frames r rest (with_variables held []))
-  hands_lead (Calling back w ∷ others) below deeper pc r stack rest held waits e f none last dying sane =
-      let h = with_variables held [] in
-      let mine = waits.0 in
+  hands_lead (Calling back w ∷ others) pc n r stack rest held waits none last dying sane =
       let s = waits.3 in
-      let resumes = subst (λ l. Resumes mine back w.self others (length rest) waits.1 (r ∷ l) waits.2 (r ∷ s.temporaries) s.variables s.waiting) (sym f) (subst (λ n. Resumes mine back w.self others n waits.1 (r ∷ deeper) waits.2 (r ∷ s.temporaries) s.variables s.waiting) e (waits.4 r)) in
-      subst (λ h1. Good (at others back rest (given_back r h1))) (sym (resumes_again w h s))
-      (inl (record { mine = mine; below = waits.1; deeper = waits.2; resumes = resumes; waits = waits.5 }), dying, given_sane w held s r none last sane)
-  hands_lead _ below deeper pc r stack rest held waits e f none last dying sane = absurd waits
+      subst (λ h1. Good (at others back rest (given_back r h1))) (sym (resumes_again w (with_variables held []) s))
+      (inl (waits.0, waits.1, waits.2, waits.4 r, waits.5), dying, given_sane w held s n r none last sane)
+  hands_lead _ pc n r stack rest held waits none last dying sane = absurd waits
 
   -- ---- ends that begin
 
-  abbrev waits_as : Held → Waiter
-  waits_as held = record { self = held.self; temporaries = length held.temporaries; variables = length held.variables }
-
-  abbrev splits_as : (held : Held) → Splits (waits_as held) (stacked held)
+  abbrev splits_as : (held : Held) → Splits (waiter_of held) (stacked held)
   splits_as held = record { temporaries = held.temporaries; variables = held.variables; waiting = held.places; is = refl; first = refl; next = refl }
 
   -- what was dropped ends, and what runs waits
   begins_lead : (frames : List Frame) (b : Bool) (k to pc : ℕ) (ob : Object) (stack : List ℤ) (before held : Held) → object_at held.objects (suc k) ≡ Some ob → is_live (Some ob) ≡ true → AllDying held.objects (ending frames) → Drops p.classes (suc k) held
-      → (IsApart (suc k) (ending frames) → Waits gives.Number (Ending to (waits_as held) (suc k) (Some ob.class) (length p.classes) ∷ frames) (length stack) held.names (stacked held))
+      → (IsApart (suc k) (ending frames) → Waits gives.Number (Ending to (waiter_of held) (suc k) (Some ob.class) (length p.classes) ∷ frames) (length stack) held.names (stacked held))
       → Leads (begins_end p (at frames pc stack before) to (suc k) ob.class (with_things (lowered (suc k) held) (with_object held.objects (suc k) (in_phase Dying ob))) b)
   begins_lead frames false k to pc ob stack before held found live dying drops waits = tt
   begins_lead frames true k to pc ob stack before held found live dying drops waits =
@@ -407,9 +356,9 @@ module _ (p : Program) (R : resolved.Program) where
       let begun : IsDying objects (suc k) None = (in_phase Dying ob, set_here held.objects k (in_phase Dying ob) ob found, refl) in
       let apart = live_apart held.objects k ob (ending frames) found live dying in
       let still : AllDying objects (ending frames) = apart_dying held.objects k (in_phase Dying ob) (ending frames) apart dying in (
-        inr (record { at_end = refl; is_ending = tt; none = refl; empty = refl; alive = ending_alive frames to (waits_as held) (suc k) (Some ob.class) (length p.classes) (stacked held); waits = waits apart }),
+        inr (record { at_end = refl; is_ending = tt; none = refl; empty = refl; alive = ending_alive frames to (waiter_of held) (suc k) (Some ob.class) (length p.classes) (stacked held) }, waits apart),
         (begun, still),
-        sane_entered h1 (suc k) (sane_last held k ob found (live_there ob live) drops),
+        sane_last held k ob found (live_there ob live) drops,
       )
 
   -- ---- one step of a function
@@ -428,38 +377,27 @@ module _ (p : Program) (R : resolved.Program) where
     abbrev Back : ℕ → ℕ → List ℕ → Held → Type 0
     Back to numbers names held = Resumes mine to self frames numbers below names deeper held.temporaries held.variables waiting
 
-    back : (to : ℕ) (h : Height) → Stands R (all R) (table R) mine to h → (numbers : ℕ) (own : List ℕ) (held : Held) → ((k : ℕ) → Clear k to → Shut mine k held.variables) → Ready to own held.temporaries waiting → numbers ≡ h.numbers + below → length own ≡ h.names → length held.temporaries ≤ h.temporaries → length held.variables ≡ h.variables → AllHeld own (held.temporaries ++ waiting) → Back to numbers (own ++ deeper) held
-    back to h stands numbers own held nil ready count size few many keeps = record { high = h; stands = stands; count = count; own = own; is = refl; size = size; few = few; many = many; held = keeps; nil = nil; ready = ready; alive = alive; running = running }
+    back : (to : ℕ) (h : Height) → Stands R (all R) (table R) mine to h → (numbers : ℕ) (names own : List ℕ) (held : Held) → names ≡ own ++ deeper → ((k : ℕ) → Clear k to → Shut mine k held.variables) → Ready to own held.temporaries waiting → numbers ≡ h.numbers + below → length own ≡ h.names → length held.temporaries ≤ h.temporaries → length held.variables ≡ h.variables → AllHeld own (held.temporaries ++ waiting) → Back to numbers names held
+    back to h stands numbers names own held is nil ready count size few many keeps = record { high = h; stands = stands; count = count; own = own; is = is; size = size; few = few; many = many; held = keeps; nil = nil; ready = ready; alive = alive; running = running }
 
     goes_nil : (to : ℕ) (h : Height) → ((k : ℕ) → Clear k to → h.variables ≤ k + as_object mine) → (variables : List ℕ) → length variables ≡ h.variables → (k : ℕ) → Clear k to → Shut mine k variables
     goes_nil to h g variables many k c = let le = g k c in shut_end mine variables k (omega (arith, many, le))
 
-    run_on : (to : ℕ) (stack : List ℤ) (held : Held) (own : List ℕ) → Owns own held → Back to (length stack) (own ++ deeper) held → Good (at frames to stack held)
-    run_on to stack held own o b = (
-      inl (record {
-        mine = mine;
-        below = below;
-        deeper = deeper;
-        resumes = subst (λ l. Resumes mine to held.self frames (length stack) below held.names deeper held.temporaries held.variables l) (sym o.places) (subst (λ l. Resumes mine to held.self frames (length stack) below l deeper held.temporaries held.variables waiting) (sym o.is) (subst (λ x. Resumes mine to x frames (length stack) below (own ++ deeper) deeper held.temporaries held.variables waiting) (sym o.itself) b));
-        waits = subst (Waits mine frames below deeper) (sym o.places) waits;
-      }),
-      o.dying,
-      o.sane,
-    )
+    run_on : (to : ℕ) (stack : List ℤ) (held : Held) (own : List ℕ) → Owns own held → Back to (length stack) held.names held → Good (at frames to stack held)
+    run_on to stack held own o b = (inl (mine, below, deeper, home, subst (Waits mine frames below deeper) (sym o.places) waits), o.dying, o.sane)
+      where
+        home : Resumes mine to held.self frames (length stack) below held.names deeper held.temporaries held.variables held.places
+        home = subst (λ l. Resumes mine to held.self frames (length stack) below held.names deeper held.temporaries held.variables l) (sym o.places)
+            (subst (λ x. Resumes mine to x frames (length stack) below held.names deeper held.temporaries held.variables waiting) (sym o.itself) b)
 
     go_on : (to : ℕ) (h : Height) → Goes_to mine to h → (stack : List ℤ) (held : Held) (own : List ℕ) → length stack ≡ h.numbers + below → length own ≡ h.names → length held.temporaries ≤ h.temporaries → length held.variables ≡ h.variables → Owns own held → Good (at frames to stack held)
-    go_on to h g stack held own count size few many o = run_on to stack held own o (back to h g.0 (length stack) own held (goes_nil to h g.1 held.variables many) (inl g.2) count size few many o.keeps)
-
-    -- what is held is there
-    own_there : (own : List ℕ) (held : Held) → Owns own held → (r : ℕ) → IsHeld r (held.temporaries ++ waiting) → IsThere held.objects r
-    own_there own held o r h = held_there held.objects held.temporaries held.variables waiting r h
-        (subst (λ l. AllThere held.objects ((held.temporaries ++ held.variables) ++ l)) o.places (stacked_there held o.sane))
+    go_on to h g stack held own count size few many o = run_on to stack held own o (back to h g.0 (length stack) held.names own held o.is (goes_nil to h g.1 held.variables many) (inl g.2) count size few many o.keeps)
 
     -- ---- what begins the end of an object, or calls
 
     begins_leads : (b : Bool) (k to pc : ℕ) (ob : Object) (stack : List ℤ) (before held : Held) → held.self ≡ self → held.places ≡ waiting → object_at held.objects (suc k) ≡ Some ob → is_live (Some ob) ≡ true → AllDying held.objects (ending frames) → Drops p.classes (suc k) held → Back to (length stack) held.names held → Leads (begins_end p (at frames pc stack before) to (suc k) ob.class (with_things (lowered (suc k) held) (with_object held.objects (suc k) (in_phase Dying ob))) b)
     begins_leads b k to pc ob stack before held same there found live dying drops home =
-        let w : Waiter = waits_as held in
+        let w : Waiter = waiter_of held in
         let splits : Splits w (stacked held) = splits_as held in
         let home1 = subst (λ l. Resumes mine to held.self frames (length stack) below held.names deeper held.temporaries held.variables l) (sym there) (subst (λ x. Resumes mine to x frames (length stack) below held.names deeper held.temporaries held.variables waiting) (sym same) home) in
         begins_lead frames b k to pc ob stack before held found live dying drops (λ apart. (apart, splits, inl (mine, below, deeper, home1, subst (Waits mine frames below deeper) (sym there) waits)))
@@ -467,7 +405,7 @@ module _ (p : Program) (R : resolved.Program) where
     -- a place that named this names another, or nil
     releases_lead : (r pc : ℕ) (stack : List ℤ) (before held : Held) (own : List ℕ) → held.names ≡ own ++ deeper → held.places ≡ waiting → held.self ≡ self → AllHeld own (held.temporaries ++ waiting) → AllDying held.objects (ending frames) → Drops p.classes r held → Back (pc + 1) (length stack) held.names held → Leads (releases p (at frames pc stack before) r held)
     releases_lead r pc stack before held own is places same keeps dying drops home = lets_go_leads r held _ _ drops
-        (λ sane. run_on (pc + 1) stack (lowered r held) own (record { is = is; places = places; itself = same; keeps = keeps; dying = dying; sane = sane }) (subst (λ l. Resumes mine (pc + 1) self frames (length stack) below l deeper held.temporaries held.variables waiting) is home))
+        (λ sane. run_on (pc + 1) stack (lowered r held) own (record { is = is; places = places; itself = same; keeps = keeps; dying = dying; sane = sane }) home)
         (λ k ob e found live. begins_leads (has_level (at frames pc stack before)) k (pc + 1) pc ob stack before held same places found live dying (subst (λ q. Drops p.classes q held) e drops) home)
 
     -- where the running function goes on after a call that takes so many numbers and the references before these
@@ -479,20 +417,20 @@ module _ (p : Program) (R : resolved.Program) where
         → Leads (enters (at frames pc stack held) to self1 b)
     enters_lead false wanted to self1 passed pc given rest stack held g le is keeps living same there dying sane home = tt
     enters_lead true wanted to self1 passed pc given rest stack held g le is keeps living same there dying sane home =
-        let w : Waiter = waits_as held in
+        let w : Waiter = waiter_of held in
         let n = length stack - passed in
         let splits : Splits w (stacked held) = splits_as held in
         let home1 = subst (λ l. Comes_back wanted mine (pc + 1) held.self frames n below rest deeper held.temporaries held.variables l) (sym there) (subst (λ x. Comes_back wanted mine (pc + 1) x frames n below rest deeper held.temporaries held.variables waiting) (sym same) home) in
         let held_there = subst (λ l. AllHeld given ((held.temporaries ++ held.variables) ++ l)) (sym there) (all_within held.temporaries held.variables waiting given keeps) in (
-          inl (record {
-            mine = wanted;
-            below = n;
-            deeper = rest;
-            resumes = record { high = height passed (length given) 0 0; stands = g.0; count = omega (arith, le); own = given; is = is; size = refl; few = omega arith; many = refl; held = held_there; nil = λ k c. shut_end wanted [] k (omega arith); ready = inl g.2; alive = living; running = tt };
-            waits = (mine, below, deeper, splits, home1, subst (Waits mine frames below deeper) (sym there) waits);
-          }),
+          inl (
+            wanted,
+            n,
+            rest,
+            record { high = height passed (length given) 0 0; stands = g.0; count = omega (arith, le); own = given; is = is; size = refl; few = omega arith; many = refl; held = held_there; nil = λ k c. shut_end wanted [] k (omega arith); ready = inl g.2; alive = living; running = tt },
+            (mine, below, deeper, splits, home1, subst (Waits mine frames below deeper) (sym there) waits),
+          ),
           dying,
-          sane_entered held self1 sane,
+          sane,
         )
 
     answers_lead : (found : Option ℕ) (wanted : Gives) (self1 passed pc : ℕ) (given rest : List ℕ) (stack : List ℤ) (held : Held) → ((to : ℕ) → found ≡ Some to → Goes_to wanted to (height passed (length given) 0 0)) → passed ≤ length stack → held.names ≡ given ++ rest → AllHeld given (held.temporaries ++ waiting) → Alive frames (stacked held) self1 → held.self ≡ self → held.places ≡ waiting → AllDying held.objects (ending frames) → Sane p.classes held → Home wanted pc (length stack - passed) rest held
@@ -509,7 +447,7 @@ module _ (p : Program) (R : resolved.Program) where
         lets_go_leads r held1 _ _ (sane_drop held r others is o.sane)
         (λ sane. drops_lead others pc h stack before (lowered r held1) refl stands free g nil count size (omega (arith, few)) many (record { is = o.is; places = o.places; itself = o.itself; keeps = tt; dying = o.dying; sane = sane }))
         (λ k ob e found live. begins_leads (has_level (at frames pc stack before)) k pc pc ob stack before held1 o.itself o.places found live o.dying (subst (λ q. Drops p.classes q held1) e (sane_drop held r others is o.sane))
-        (subst (λ l. Resumes mine pc self frames (length stack) below l deeper others held.variables waiting) (sym o.is) (back pc h stands (length stack) [] held1 nil (inl free) count size (omega (arith, few)) many tt)))
+        (back pc h stands (length stack) held.names [] held1 o.is nil (inl free) count size (omega (arith, few)) many tt))
 
     -- ---- one order
 
@@ -521,10 +459,12 @@ module _ (p : Program) (R : resolved.Program) where
       finds from sign selector takes objects wanted to e = methods_go R from sign selector takes objects wanted to (subst (λ cs. lookup cs from sign selector takes objects wanted ≡ Some to) classes e)
 
       self_there : IsThere held.objects held.self
-      self_there = subst (IsThere held.objects) (sym o.itself) (alive held.objects (subst (AllThere held.objects) o.places (waiting_there held o.sane)) (ends_there held.objects frames o.dying))
+      self_there = subst (IsThere held.objects) (sym o.itself)
+          (alive held.objects (subst (AllThere held.objects) o.places (named_there held held.places (λ k some. omega (arith, all_holders (suc k) held, some)) o.sane)) (ends_there held.objects frames o.dying))
 
       is_held : (r : ℕ) → IsHeld r (held.temporaries ++ waiting) → IsThere held.objects r
-      is_held r e = own_there own held o r e
+      is_held r h = held_there held.objects held.temporaries held.variables waiting r h
+          (subst (λ l. AllThere held.objects ((held.temporaries ++ held.variables) ++ l)) o.places (named_there held (stacked held) (λ k some. omega (arith, all_holders (suc k) held, holders_append, some)) o.sane))
 
       held_alive : (r : ℕ) → IsHeld r (held.temporaries ++ waiting) → Alive frames (stacked held) r
       held_alive r e objects there ends = held_there objects held.temporaries held.variables waiting r e (subst (λ l. AllThere objects ((held.temporaries ++ held.variables) ++ l)) o.places there)
@@ -556,11 +496,11 @@ module _ (p : Program) (R : resolved.Program) where
 
       -- there are these
       refers : (x : Op) (stack1 : List ℤ) (names1 own1 : List ℕ) → names1 ≡ own1 ++ deeper → AllHeld own1 (held.temporaries ++ waiting) → declared x held.variables ≡ held.variables → IsMade x own1 held.temporaries → Kept x (at frames (pc + 1) stack1 (with_names held names1))
-      refers x stack1 names1 own1 is keeps same made = record { own1 = own1; owns = record { is = is; places = o.places; itself = o.itself; keeps = keeps; dying = o.dying; sane = sane_names held names1 o.sane }; variables = sym same; made = made }
+      refers x stack1 names1 own1 is keeps same made = record { own1 = own1; owns = record { is = is; places = o.places; itself = o.itself; keeps = keeps; dying = o.dying; sane = o.sane }; variables = sym same; made = made }
 
       -- and a temporary takes this
       takes : (x : Op) (r : ℕ) (names1 own1 : List ℕ) → names1 ≡ own1 ++ deeper → IsThere held.objects r → AllHeld own1 (r ∷ (held.temporaries ++ waiting)) → declared x held.variables ≡ held.variables → IsMade x own1 (r ∷ held.temporaries) → Kept x (at frames (pc + 1) stack (taken_by r (with_names held names1)))
-      takes x r names1 own1 is there keeps same made = record { own1 = own1; owns = record { is = is; places = o.places; itself = o.itself; keeps = keeps; dying = o.dying; sane = sane_take (with_names held names1) r there (sane_names held names1 o.sane) }; variables = sym same; made = made }
+      takes x r names1 own1 is there keeps same made = record { own1 = own1; owns = record { is = is; places = o.places; itself = o.itself; keeps = keeps; dying = o.dying; sane = gains r there o.sane }; variables = sym same; made = made }
 
       -- which is the last reference, above these
       reads : (x : Op) (r : ℕ) (names1 own1 : List ℕ) → names1 ≡ own1 ++ deeper → IsThere held.objects r → AllHeld own1 (held.temporaries ++ waiting) → declared x held.variables ≡ held.variables → IsMade x (r ∷ own1) (r ∷ held.temporaries)
@@ -593,14 +533,14 @@ module _ (p : Program) (R : resolved.Program) where
       operation_keeps (ops.GetGlobal i) needs = stays _ _ refl tt
       operation_keeps (ops.SetGlobal i) needs = top_leads _ stack _ (omega (arith, count, needs)) (λ v rest _. record {
         own1 = own;
-        owns = record { is = o.is; places = o.places; itself = o.itself; keeps = o.keeps; dying = o.dying; sane = sane_globals held (slice_set held.statics.numbers i v) o.sane };
+        owns = record { is = o.is; places = o.places; itself = o.itself; keeps = o.keeps; dying = o.dying; sane = o.sane };
         variables = refl;
         made = tt;
       })
       operation_keeps PrintNum needs = top_leads _ stack _ (omega (arith, count, needs)) (λ v rest e. top_leads _ rest _ (omega (arith, count, needs, e)) (λ c others _. stays _ _ refl tt))
       operation_keeps PrintByte needs = top_leads _ stack _ (omega (arith, count, needs)) (λ v rest e. top_leads _ rest _ (omega (arith, count, needs, e)) (λ c others _. stays _ _ refl tt))
       operation_keeps GetChar needs = λ answer. stays _ _ refl tt
-      operation_keeps Declare needs = subst (λ l. Along (Kept Declare) (declares l held (keeps s stack))) (sym (none_of held.temporaries (omega (arith, few, needs)))) (record {
+      operation_keeps Declare needs = subst (λ l. Along (Kept Declare) (declares l held (keeps s stack))) (sym (nil_from_length held.temporaries (omega (arith, few, needs)))) (record {
         own1 = own;
         owns = record { is = o.is; places = o.places; itself = o.itself; keeps = o.keeps; dying = o.dying; sane = sane_declare held o.sane };
         variables = refl;
@@ -608,8 +548,12 @@ module _ (p : Program) (R : resolved.Program) where
       })
       operation_keeps Nil needs = refers _ _ _ (0 ∷ own) (ap (λ l. 0 ∷ l) o.is) (tt, o.keeps) refl tt
       operation_keeps ReadSelf needs = reads _ held.self held.names own o.is self_there o.keeps refl tt
-      operation_keeps (ReadRef i) needs = found_leads _ held.variables i _ (omega (arith, many, needs)) (λ r found. reads _ r held.names own o.is (place_there held.objects i r held.variables found (variables_there held o.sane)) o.keeps refl tt)
-      operation_keeps (ReadGlobal i) needs = reads _ (name_at held.strong_globals i) held.names own o.is (name_there held.objects held.strong_globals i (globals_there held o.sane)) o.keeps refl tt
+      operation_keeps (ReadRef i) needs = found_leads _ held.variables i _ (omega (arith, many, needs)) (λ r found.
+          reads _ r held.names own o.is
+          (place_there held.objects i r held.variables found
+          (named_there held held.variables (λ k some. omega (arith, all_holders (suc k) held, some)) o.sane)) o.keeps refl tt)
+      operation_keeps (ReadGlobal i) needs = reads _ (name_at held.strong_globals i) held.names own o.is
+          (name_there held.objects held.strong_globals i (named_there held held.strong_globals (λ k some. omega (arith, all_holders (suc k) held, some)) o.sane)) o.keeps refl tt
       operation_keeps (ReadField class index) needs = last_leads_on _ _ (omega (arith, needs)) (λ r rest _ now kept. field_leads _ class r held _ (is_held r now) (λ j ob _ found there.
           reads _ (name_at ob.strong index) (rest ++ deeper) rest refl (name_there held.objects ob.strong index (fields_there held j ob found there o.sane)) kept refl tt))
       operation_keeps Hold needs = last_leads_on _ _ (omega (arith, needs)) (λ r rest _ now kept. named_leads _ r held _ (is_held r now) (takes _ r held.names own o.is (is_held r now) (all_more r own (held.temporaries ++ waiting) o.keeps) refl tt))
@@ -622,7 +566,7 @@ module _ (p : Program) (R : resolved.Program) where
           let fields = slice_set ob.fields index v in
           let set : Sane p.classes (with_field held r ob index v) = subst (λ q. Sane p.classes (with_things held (with_object held.objects q (with_fields ob fields)))) (sym same) (sane_field held j ob fields found o.sane) in
           let dying = subst (λ q. AllDying (with_object held.objects q (with_fields ob fields)) (ending frames)) (sym same) (changed_dying held.objects j (with_fields ob fields) (ending frames) (fields_far held.objects j ob fields found) o.dying) in
-          record { own1 = rest; owns = record { is = refl; places = o.places; itself = o.itself; keeps = kept; dying = dying; sane = sane_names (with_field held r ob index v) (rest ++ deeper) set }; variables = refl; made = tt })))
+          record { own1 = rest; owns = record { is = refl; places = o.places; itself = o.itself; keeps = kept; dying = dying; sane = set }; variables = refl; made = tt })))
       operation_keeps Differ needs = last_leads_on _ _ (omega (arith, needs)) (λ r rest e now kept. reference_leads _ rest deeper (held.temporaries ++ waiting) (rest ++ deeper) _ refl (omega (arith, needs, e, size)) kept (λ q others _ also below1.
           named_leads _ r held _ (is_held r now) (named_leads _ q held _ (is_held q also) (refers _ _ _ others refl below1 refl tt))))
       operation_keeps IsObject needs = last_leads_on _ _ (omega (arith, needs)) (λ r rest _ now kept. named_leads _ r held _ (is_held r now) (refers _ _ _ rest refl kept refl tt))
@@ -633,7 +577,7 @@ module _ (p : Program) (R : resolved.Program) where
       ready_after _ own1 temporaries1 made (inr (same, quiet)) = cc
 
       shut_before : (x : Op) → slice_get (all R) pc ≡ Some (Plain x) → (k : ℕ) → Clear k pc → Shut mine k held.variables → Shut mine k (declared x held.variables)
-      shut_before Declare is k before shut = absurd (opens_clears R (all R) (table R) pc (Plain Declare) tt is k before)
+      shut_before Declare is k before shut = absurd (inside_clears R (all R) (table R) pc Stays tt (ap role_of is) k before)
       shut_before _ is k before shut = shut
 
       operation_leads : (x : Op) → slice_get (all R) pc ≡ Some (Plain x) → (nil : (k : ℕ) → Clear k pc → Shut mine k held.variables) → Reaches x h → Onward R (all R) (table R) mine pc (pc + 1) (next_height R (Plain x) h) → Is_free (pc + 1) ⊎ ((x ≡ Alloc) × Quiet R (all R) (table R) (pc + 1)) → Leads (operates p.classes x s)
@@ -645,7 +589,7 @@ module _ (p : Program) (R : resolved.Program) where
           let longer = length-append own deeper in
           subst (λ fs. Good (at fs t.at t.stack t.held)) (sym f.frames) (subst (λ n. Good (at frames n t.stack t.held)) (sym f.at)
           (run_on (pc + 1) t.stack t.held kept.own1 kept.owns
-          (back (pc + 1) (next_height R (Plain x) h) g.0 (length t.stack) kept.own1 t.held
+          (back (pc + 1) (next_height R (Plain x) h) g.0 (length t.stack) t.held.names kept.own1 t.held kept.owns.is
           (λ k c. ⊎_elim (λ before. subst (Shut mine k) (sym kept.variables) (shut_before x is k before (nil k before))) (λ le. shut_end mine t.held.variables k (omega (arith, f.variables, many, le))) (g.1 k c))
           (ready_after x kept.own1 t.held.temporaries kept.made free) (omega (arith, count, none, f.numbers)) (omega (arith, size, none, f.names, names_now, names_then, long, longer)) (omega (arith, few, f.temporaries)) (omega (arith, many, f.variables)) kept.owns.keeps))))
           (operates p.classes x s) (operation_keeps x needs) (operation_follows p.classes s x)
@@ -665,7 +609,7 @@ module _ (p : Program) (R : resolved.Program) where
 
       -- where a call comes back, with these references
       home : (wanted : Gives) (x : Height) (n : ℕ) (rest : List ℕ) → After_call x → Ready_after wanted rest → AllHeld rest (held.temporaries ++ waiting) → n + as_number wanted ≡ x.numbers + below → length rest + as_object wanted ≡ x.names → x.temporaries ≡ h.temporaries + as_object wanted → x.variables ≡ h.variables → Home wanted pc n (rest ++ deeper) held
-      home gives.Number x n rest g ready keeps count1 size1 b c = back (pc + 1) x g.0 (n + 1) rest held (goes_nil (pc + 1) x g.1 held.variables (omega (arith, many, c))) ready count1 (omega (arith, size1)) (omega (arith, few, b)) (omega (arith, many, c)) keeps
+      home gives.Number x n rest g ready keeps count1 size1 b c = back (pc + 1) x g.0 (n + 1) (rest ++ deeper) rest held refl (goes_nil (pc + 1) x g.1 held.variables (omega (arith, many, c))) ready count1 (omega (arith, size1)) (omega (arith, few, b)) (omega (arith, many, c)) keeps
       home gives.Object x n rest g ready keeps count1 size1 b c = λ r. record {
         high = x;
         stands = g.0;
@@ -687,13 +631,13 @@ module _ (p : Program) (R : resolved.Program) where
       at_once_leads gives.Number object stack0 stack1 names0 rest home1 there kept =
           let more : length stack1 + 1 ≡ length (pos 0 ∷ stack1) = omega arith in
           run_on (pc + 1) (pos 0 ∷ stack1) (with_names held (rest ++ deeper)) rest
-          (record { is = refl; places = o.places; itself = o.itself; keeps = kept; dying = o.dying; sane = sane_names held (rest ++ deeper) o.sane })
+          (record { is = refl; places = o.places; itself = o.itself; keeps = kept; dying = o.dying; sane = o.sane })
           (subst (λ n. Resumes mine (pc + 1) self frames n below (rest ++ deeper) deeper held.temporaries held.variables waiting) more home1)
       at_once_leads gives.Object object stack0 stack1 names0 rest home1 there kept =
           let names1 = object ∷ (rest ++ deeper) in
           named_leads Good object (with_names held names1) _ there
           (run_on (pc + 1) stack1 (taken_by object (with_names held names1)) (object ∷ rest)
-          (record { is = refl; places = o.places; itself = o.itself; keeps = (last_held object (held.temporaries ++ waiting), all_more object rest (held.temporaries ++ waiting) kept); dying = o.dying; sane = sane_take (with_names held names1) object there (sane_names held names1 o.sane) })
+          (record { is = refl; places = o.places; itself = o.itself; keeps = (last_held object (held.temporaries ++ waiting), all_more object rest (held.temporaries ++ waiting) kept); dying = o.dying; sane = gains object there o.sane })
           (home1 object))
 
       -- the root's own `init` takes no argument
@@ -705,7 +649,7 @@ module _ (p : Program) (R : resolved.Program) where
           let parts = and_parts (nat_eq takes 0) few1 (and_parts (nat_eq selector init_selector) (nat_eq takes 0 && few1) e).1 in
           let no_numbers = eqb-true takes 0 parts.0 in
           let no_objects = eqb-true objects 0 (and_parts (nat_eq objects 0) (same_gives wanted gives.Object) parts.1).0 in
-          let none : given ≡ [] = none_of given (omega (arith, some, no_objects)) in
+          let none : given ≡ [] = nil_from_length given (omega (arith, some, no_objects)) in
           let same : given ++ (rest ++ deeper) ≡ rest ++ deeper = ap (λ l. l ++ (rest ++ deeper)) none in
           let all_left : length stack - takes ≡ length stack = omega (arith, no_numbers) in
           subst (λ l. Leads (instructions.gives_at_once (bare p) (at frames pc stack (with_names held (given ++ (rest ++ deeper)))) wanted object stack l)) (sym same)
@@ -718,58 +662,81 @@ module _ (p : Program) (R : resolved.Program) where
           root_leads wanted selector takes objects object given rest (is_root_init selector takes objects wanted) refl some home1 (is_held object kept) kept_rest
       object_answers_lead (Some to) wanted selector takes objects object given rest begins le some kept_first kept kept_rest home1 =
           let held1 = with_names held (given ++ (rest ++ deeper)) in
-          enters_lead (has_level (at frames pc stack held1)) wanted to object takes pc given (rest ++ deeper) stack held1 (begins to refl) le refl kept_first (held_alive object kept) o.itself o.places o.dying (sane_names held (given ++ (rest ++ deeper)) o.sane) home1
+          enters_lead (has_level (at frames pc stack held1)) wanted to object takes pc given (rest ++ deeper) stack held1 (begins to refl) le refl kept_first (held_alive object kept) o.itself o.places o.dying o.sane home1
+
+      -- the last so many of its references, which are passed, and those below
+      record Passed (n : ℕ) : Type 0 where
+        first : List ℕ
+        rest : List ℕ
+        is : own ≡ first ++ rest
+        taken : length first ≡ n
+        left : length own ≡ n + length rest
+        names_are : held.names ≡ first ++ (rest ++ deeper)
+        held_first : AllHeld first (held.temporaries ++ waiting)
+        held_rest : AllHeld rest (held.temporaries ++ waiting)
+
+      passed : (n : ℕ) → n ≤ h.names → Passed n
+      passed n le =
+          let first = take n own in
+          let rest = drop n own in
+          let is : own ≡ first ++ rest = sym (take-append-drop n own) in
+          let kept = held_split first rest (held.temporaries ++ waiting) (subst (λ l. AllHeld l (held.temporaries ++ waiting)) is o.keeps) in
+          record {
+            first = first;
+            rest = rest;
+            is = is;
+            taken = length-take-le n own (omega (arith, le, size));
+            left = omega (arith, le, size, length-drop n own);
+            names_are = o.is ∙ ap (λ l. l ++ deeper) is ∙ append_assoc first rest deeper;
+            held_first = kept.0;
+            held_rest = kept.1;
+          }
 
       -- a message to the object of the reference below its arguments
-      message_sent : (wanted : Gives) (from : Object → ℕ) (r : ℕ) (given rest : List ℕ) (selector takes objects : ℕ) (x : Height) → own ≡ given ++ r ∷ rest → length given ≡ objects → takes ≤ h.numbers → After_call x → Ready_after wanted rest → x.numbers ≡ h.numbers - takes + as_number wanted → x.names + suc objects ≡ h.names + as_object wanted → x.temporaries ≡ h.temporaries + as_object wanted → x.variables ≡ h.variables
+      message_sent : (wanted : Gives) (from : Object → ℕ) (r : ℕ) (given rest : List ℕ) (selector takes objects : ℕ) (x : Height) → length own ≡ objects + suc (length rest) → length given ≡ objects
+          → AllHeld given (held.temporaries ++ waiting) → IsHeld r (held.temporaries ++ waiting) → AllHeld rest (held.temporaries ++ waiting)
+          → takes ≤ h.numbers → After_call x → Ready_after wanted rest
+          → x.numbers ≡ h.numbers - takes + as_number wanted → x.names + suc objects ≡ h.names + as_object wanted
+          → x.temporaries ≡ h.temporaries + as_object wanted → x.variables ≡ h.variables
           → Leads (sends p s wanted from r selector takes objects (given ++ (rest ++ deeper)))
-      message_sent wanted from zero given rest selector takes objects x e some le g ready a b c d =
-          let shorter = ap length e in
-          let both = length-append given (zero ∷ rest) in
-          let kept = held_rest given (zero ∷ rest) (held.temporaries ++ waiting) (subst (λ l. AllHeld l (held.temporaries ++ waiting)) e o.keeps) in
+      message_sent wanted from zero given rest selector takes objects x e some kept_first kept kept_rest le g ready a b c d =
           let names_is : drop objects (given ++ (rest ++ deeper)) ≡ rest ++ deeper = ap (λ n. drop n (given ++ (rest ++ deeper))) (sym some) ∙ drop-append_seam given (rest ++ deeper) in
           taken_leads takes stack _ (omega (arith, count, le)) (λ numbers m.
           subst (λ l. Leads (instructions.gives_at_once (bare p) s wanted 0 numbers l)) (sym names_is)
-          (at_once_leads wanted 0 stack numbers held.names rest (home wanted x (length numbers) rest g ready kept.1 (omega (arith, count, le, m, a)) (omega (arith, size, shorter, both, some, b)) c d) tt kept.1))
-      message_sent wanted from (suc j) given rest selector takes objects x e some le g ready a b c d =
-          let shorter = ap length e in
-          let both = length-append given (suc j ∷ rest) in
-          let all_kept = subst (λ l. AllHeld l (held.temporaries ++ waiting)) e o.keeps in
-          let kept = held_rest given (suc j ∷ rest) (held.temporaries ++ waiting) all_kept in
-          let there = is_held (suc j) kept.0 in
+          (at_once_leads wanted 0 stack numbers held.names rest (home wanted x (length numbers) rest g ready kept_rest (omega (arith, count, le, m, a)) (omega (arith, size, e, b)) c d) tt kept_rest))
+      message_sent wanted from (suc j) given rest selector takes objects x e some kept_first kept kept_rest le g ready a b c d =
+          let there = is_held (suc j) kept in
           let found : Object → Option ℕ = λ ob. lookup p.classes (Some (from ob)) signs.Instance selector takes objects wanted in
           let st = at frames pc stack (with_names held (given ++ (rest ++ deeper))) in
           subst Leads (sym (object_goes (object_at held.objects (suc j)) there.0 (λ ob. instructions.answers_object (bare p) st wanted (suc j) selector takes objects (found ob)) there.1 there.2))
           (object_answers_lead (found there.0) wanted selector takes objects (suc j) given rest
           (λ to f. subst (λ n. Goes_to wanted to (height takes n 0 0)) (sym some) (finds (Some (from there.0)) signs.Instance selector takes objects wanted to f))
-          (omega (arith, count, le)) some (held_first given (suc j ∷ rest) (held.temporaries ++ waiting) all_kept) kept.0 kept.1
-          (home wanted x (length stack - takes) rest g ready kept.1 (omega (arith, count, le, a)) (omega (arith, size, shorter, both, some, b)) c d))
+          (omega (arith, count, le)) some kept_first kept kept_rest
+          (home wanted x (length stack - takes) rest g ready kept_rest (omega (arith, count, le, a)) (omega (arith, size, e, b)) c d))
 
       -- a message to an object, with what gets it below its arguments
       message_leads : (wanted : Gives) (from : Object → ℕ) (selector takes objects : ℕ) (x : Height) → (takes ≤ h.numbers) × (suc objects ≤ h.names) → After_call x → ((given rest : List ℕ) (r : ℕ) → own ≡ given ++ r ∷ rest → length given ≡ objects → Ready_after wanted rest) → x.numbers ≡ h.numbers - takes + as_number wanted → x.names ≡ h.names - suc objects + as_object wanted → x.temporaries ≡ h.temporaries + as_object wanted → x.variables ≡ h.variables
           → Leads (instructions.on_receiver objects held.names (λ r rest. sends p s wanted from r selector takes objects rest))
       message_leads wanted from selector takes objects x needs g ready a b c d =
-          let part = parted objects own (omega (arith, needs.1, size)) in
+          let part = passed objects (omega (arith, needs.1)) in
           let f = first_of part.rest (omega (arith, needs.1, size, part.left)) in
-          let is : own ≡ part.first ++ f.0 ∷ f.1 = part.is ∙ ap (λ l. part.first ++ l) f.2 in
-          let names_is : held.names ≡ part.first ++ f.0 ∷ (f.1 ++ deeper) = o.is ∙ ap (λ l. l ++ deeper) is ∙ append_assoc part.first (f.0 ∷ f.1) deeper in
+          let below = subst (λ l. AllHeld l (held.temporaries ++ waiting)) f.2 part.held_rest in
+          let names_is : held.names ≡ part.first ++ f.0 ∷ (f.1 ++ deeper) = part.names_are ∙ ap (λ l. part.first ++ (l ++ deeper)) f.2 in
           subst (λ l. Leads (instructions.on_receiver objects l (λ r rest. sends p s wanted from r selector takes objects rest))) (sym names_is)
-          (subst Leads (sym (receiver_goes objects part.first (f.1 ++ deeper) f.0 (λ r rest. sends p s wanted from r selector takes objects rest) part.many))
-          (message_sent wanted from f.0 part.first f.1 selector takes objects x is part.many needs.0 g (ready part.first f.1 f.0 is part.many) a (omega (arith, b, needs.1)) c d))
-
-      -- a call that takes no reference below what it passes
-      own_home : (wanted : Gives) (x : Height) (n : ℕ) (given rest : List ℕ) → own ≡ given ++ rest → Goes_to mine (pc + 1) x → n + as_number wanted ≡ x.numbers + below → length rest + as_object wanted ≡ x.names → x.temporaries ≡ h.temporaries + as_object wanted → x.variables ≡ h.variables → Home wanted pc n (rest ++ deeper) held
-      own_home wanted x n given rest is g a b c d = home wanted x n rest (g.0, g.1) (always_ready wanted rest g.2) (held_rest given rest (held.temporaries ++ waiting) (subst (λ l. AllHeld l (held.temporaries ++ waiting)) is o.keeps)) a b c d
+          (subst Leads (sym (receiver_goes objects part.first (f.1 ++ deeper) f.0 (λ r rest. sends p s wanted from r selector takes objects rest) part.taken))
+          (message_sent wanted from f.0 part.first f.1 selector takes objects x
+          (part.left ∙ ap (λ l. objects + length l) f.2) part.taken part.held_first below.0 below.1 needs.0 g
+          (ready part.first f.1 f.0 (part.is ∙ ap (λ l. part.first ++ l) f.2) part.taken) a (omega (arith, b, needs.1)) c d))
 
       class_reported : (wanted : Gives) (from : Option ℕ) (selector takes objects : ℕ) (x : Height) → (suc takes ≤ h.numbers) × (objects ≤ h.names) → Goes_to mine (pc + 1) x → x.numbers ≡ h.numbers - suc takes + as_number wanted → x.names ≡ h.names - objects + as_object wanted → x.temporaries ≡ h.temporaries + as_object wanted → x.variables ≡ h.variables
           → Leads (answers s 0 (lookup p.classes from signs.Class selector takes objects wanted))
       class_reported wanted from selector takes objects x needs g a b c d =
-          let part = parted objects own (omega (arith, needs.1, size)) in
-          let names_is : held.names ≡ part.first ++ (part.rest ++ deeper) = o.is ∙ ap (λ l. l ++ deeper) part.is ∙ append_assoc part.first part.rest deeper in
+          let part = passed objects (omega (arith, needs.1)) in
           answers_lead (lookup p.classes from signs.Class selector takes objects wanted) wanted 0 (suc takes) pc part.first (part.rest ++ deeper) stack held
-          (λ to f. subst (λ n. Goes_to wanted to (height (suc takes) n 0 0)) (sym part.many) (finds from signs.Class selector takes objects wanted to f))
-          (omega (arith, count, needs.0)) names_is (held_first part.first part.rest (held.temporaries ++ waiting) (subst (λ l. AllHeld l (held.temporaries ++ waiting)) part.is o.keeps)) (nil_alive frames (stacked held)) o.itself o.places o.dying o.sane
-          (own_home wanted x (length stack - suc takes) part.first part.rest part.is g (omega (arith, count, needs.0, a)) (omega (arith, size, part.left, needs.1, b)) c d)
+          (λ to f. subst (λ n. Goes_to wanted to (height (suc takes) n 0 0)) (sym part.taken) (finds from signs.Class selector takes objects wanted to f))
+          (omega (arith, count, needs.0)) part.names_are part.held_first (nil_alive frames (stacked held)) o.itself o.places o.dying o.sane
+          (home wanted x (length stack - suc takes) part.rest (g.0, g.1) (always_ready wanted part.rest g.2) part.held_rest (omega (arith, count, needs.0, a))
+          (omega (arith, size, part.left, needs.1, b)) c d)
 
       -- after a message to a made object what `init` gives is there, and elsewhere nothing matters
       init_ready : (wanted : Gives) (selector takes objects : ℕ) → slice_get (all R) pc ≡ Some (SendTo selector takes objects wanted) → Ready pc own held.temporaries waiting
@@ -778,11 +745,11 @@ module _ (p : Program) (R : resolved.Program) where
       init_ready wanted selector takes objects is ready (inl f) given rest r e some = always_ready wanted rest f
       init_ready wanted selector takes objects is ready (inr q) given rest r e some =
           subst (λ g. Ready_after g rest) (sym q.2) (⊎_elim
-          (λ (f : Is_free pc). absurd (f.1 (SendTo selector takes objects wanted) is tt Settle q.3 tt))
+          (λ (f : Is_free pc). absurd (f.1 (ap role_of is) (ap role_of q.3)))
           (λ more. ⊎_elim
           (λ made.
           let m = made.1 in
-          let none : given ≡ [] = none_of given (omega (arith, some, q.1)) in
+          let none : given ≡ [] = nil_from_length given (omega (arith, some, q.1)) in
           let names_same : r ∷ rest ≡ m.made ∷ m.rest = ap (λ l. l ++ r ∷ rest) (sym none) ∙ sym e ∙ m.names_are in
           let rest_same : m.rest ≡ rest = cc in
           λ r1. inr (inr (q.3, record { given = r1; made = m.made; rest = rest; others = m.others; names_are = refl; places_are = ap (λ l. r1 ∷ l) m.places_are; kept = subst (λ l. AllHeld l (m.others ++ waiting)) rest_same m.kept })))
@@ -795,18 +762,24 @@ module _ (p : Program) (R : resolved.Program) where
       stored true j ob same found is_there_now index r there own1 kept x g a b c d e = tt
       stored false j ob {q} same found is_there_now index r there own1 kept x g a b c d e =
           let held1 = with_names held (own1 ++ deeper) in
-          let sane1 = sane_names held (own1 ++ deeper) o.sane in
           place_leads (slice_get ob.strong index) _ _
-          (λ none. go_on (pc + 1) x g stack held1 own1 a b (omega (arith, few, c)) (omega (arith, many, d)) (record { is = refl; places = o.places; itself = o.itself; keeps = kept; dying = o.dying; sane = sane1 }))
+          (λ none. go_on (pc + 1) x g stack held1 own1 a b (omega (arith, few, c)) (omega (arith, many, d)) (record { is = refl; places = o.places; itself = o.itself; keeps = kept; dying = o.dying; sane = o.sane }))
           (λ old named.
           let strong = slice_set ob.strong index r in
           let held2 = raised r (with_strong_field held1 (suc j) ob index r) in
           let dying1 = changed_dying held.objects j (with_strong_fields ob strong) (ending frames) (stored_far held.objects j ob strong found e) o.dying in
           subst (λ k. Leads (releases p s old (raised r (with_strong_field held1 k ob index r)))) (sym same)
-          (releases_lead old pc stack held held2 own1 refl o.places o.itself kept dying1 (sane_store_field held1 j ob index old r found is_there_now named there sane1)
-          (back (pc + 1) x g.0 (length stack) own1 held1 (goes_nil (pc + 1) x g.1 held.variables (omega (arith, many, d))) (inl g.2) a b (omega (arith, few, c)) (omega (arith, many, d)) kept)))
+          (releases_lead old pc stack held held2 own1 refl o.places o.itself kept dying1 (sane_store_field held1 j ob index old r found is_there_now named there o.sane)
+          (back (pc + 1) x g.0 (length stack) (own1 ++ deeper) own1 held1 refl (goes_nil (pc + 1) x g.1 held.variables (omega (arith, many, d))) (inl g.2) a b (omega (arith, few, c)) (omega (arith, many, d)) kept)))
 
-      order_leads : (x : Order) → slice_get (all R) pc ≡ Some x → Stands R (all R) (table R) mine pc h → (x ≡ EndStep → ⊥) → (nil : (k : ℕ) → Clear k pc → Shut mine k held.variables) → Ready pc own held.temporaries waiting → Steps R (all R) (table R) mine h pc x → Leads (does p x s)
+      -- what waits, once there is nothing left of the running function
+      left_waits : (g : Gives) → mine ≡ g → (rest : List ℤ) → below ≡ length rest → h.names ≡ 0 → Waits g frames (length rest) held.names held.places
+      left_waits g same rest e no_names =
+          let none = nil_from_length own (omega (arith, size, no_names)) in
+          subst (λ n. Waits g frames n held.names held.places) e (subst (λ l. Waits g frames below l held.places) (sym (o.is ∙ ap (λ l. l ++ deeper) none))
+          (subst (λ m. Waits m frames below deeper held.places) same (subst (Waits mine frames below deeper) (sym o.places) waits)))
+
+      order_leads : (x : Order) → slice_get (all R) pc ≡ Some x → Stands R (all R) (table R) mine pc h → (role x ≡ Ends → ⊥) → (nil : (k : ℕ) → Clear k pc → Shut mine k held.variables) → Ready pc own held.temporaries waiting → Steps R (all R) (table R) mine h pc x → Leads (does p x s)
       order_leads (Plain x) is stands no_end nil ready st = operation_leads x is nil st.0 st.1 st.2
       order_leads (PrintText bytes) is stands no_end nil ready st = top_leads Good stack _ (omega (arith, count, st.0)) (λ c rest e. go_on (pc + 1) _ st.1 (counted c bytes ∷ rest) held own (omega (arith, count, st.0, e)) (omega (arith, size)) (omega (arith, few)) (omega (arith, many)) o)
       order_leads (Jump to) is stands no_end nil ready st = go_on (lands pc to) _ st.2 stack held own count size (omega (arith, few, st.1)) many o
@@ -817,12 +790,12 @@ module _ (p : Program) (R : resolved.Program) where
       order_leads (Call f wanted) is stands no_end nil ready st =
           let n = parameters_of R wanted f in
           let x = next_height R (Call f wanted) h in
-          let part = parted n own (omega (arith, st.0.2, size)) in
-          let names_is : held.names ≡ part.first ++ (part.rest ++ deeper) = o.is ∙ ap (λ l. l ++ deeper) part.is ∙ append_assoc part.first part.rest deeper in
+          let part = passed n st.0.2 in
           enters_lead (has_level s) wanted (entry p f) 0 (slots_of R wanted f) pc part.first (part.rest ++ deeper) stack held
-          (subst (λ m. Goes_to wanted (entry p f) (height (slots_of R wanted f) m 0 0)) (sym part.many) (calls wanted f st.0.1))
-          (omega (arith, count, st.0.0)) names_is (held_first part.first part.rest (held.temporaries ++ waiting) (subst (λ l. AllHeld l (held.temporaries ++ waiting)) part.is o.keeps)) (nil_alive frames (stacked held)) o.itself o.places o.dying o.sane
-          (own_home wanted x (length stack - slots_of R wanted f) part.first part.rest part.is st.1 (omega (arith, count, st.0.0)) (omega (arith, size, part.left)) (omega arith) (omega arith))
+          (subst (λ m. Goes_to wanted (entry p f) (height (slots_of R wanted f) m 0 0)) (sym part.taken) (calls wanted f st.0.1))
+          (omega (arith, count, st.0.0)) part.names_are part.held_first (nil_alive frames (stacked held)) o.itself o.places o.dying o.sane
+          (home wanted x (length stack - slots_of R wanted f) part.rest (st.1.0, st.1.1) (always_ready wanted part.rest st.1.2) part.held_rest
+          (omega (arith, count, st.0.0)) (omega (arith, size, part.left)) (omega arith) (omega arith))
       order_leads (Send selector takes objects wanted) is stands no_end nil ready st = found_leads Good stack takes _ (omega (arith, count, st.0.0)) (λ class _. class_reported wanted (class_at class) selector takes objects (next_height R (Send selector takes objects wanted) h) st.0 st.1 (omega arith) (omega arith) (omega arith) (omega arith))
       order_leads (SendSuper from selector takes objects wanted) is stands no_end nil ready st = class_reported wanted (Some from) selector takes objects (next_height R (SendSuper from selector takes objects wanted) h) st.0 st.1 (omega arith) (omega arith) (omega arith) (omega arith)
       order_leads (SendTo selector takes objects wanted) is stands no_end nil ready st =
@@ -835,7 +808,7 @@ module _ (p : Program) (R : resolved.Program) where
           let long = length-set held.variables i r in
           let every : length held1.variables ≡ (next_height R (StoreStrong i) h).variables = omega (arith, many, long) in
           releases_lead old pc stack held held1 own o.is o.places o.itself o.keeps o.dying (sane_store held i old r found (is_held r now) o.sane)
-          (subst (λ l. Resumes mine (pc + 1) self frames (length stack) below l deeper held.temporaries held1.variables waiting) (sym o.is) (back (pc + 1) (next_height R (StoreStrong i) h) st.1.0 (length stack) own held1 (goes_nil (pc + 1) (next_height R (StoreStrong i) h) st.1.1 held1.variables every) (inl st.1.2) (omega (arith, count)) (omega (arith, size, st.0.0)) (omega (arith, few)) every o.keeps)))))
+          (back (pc + 1) (next_height R (StoreStrong i) h) st.1.0 (length stack) held.names own held1 o.is (goes_nil (pc + 1) (next_height R (StoreStrong i) h) st.1.1 held1.variables every) (inl st.1.2) (omega (arith, count)) (omega (arith, size, st.0.0)) (omega (arith, few)) every o.keeps))))
       order_leads (StoreGlobal i) is stands no_end nil ready st =
           let x = next_height R (StoreGlobal i) h in
           last_leads_on Good _ st.0 (λ r rest _ now _. named_leads Good r held _ (is_held r now) (place_leads (slice_get held.strong_globals i) _ _
@@ -843,7 +816,7 @@ module _ (p : Program) (R : resolved.Program) where
           (λ old found.
           let held1 = raised r (with_strong_globals held (slice_set held.strong_globals i r)) in
           releases_lead old pc stack held held1 own o.is o.places o.itself o.keeps o.dying (sane_store_global held i old r found (is_held r now) o.sane)
-          (subst (λ l. Resumes mine (pc + 1) self frames (length stack) below l deeper held.temporaries held.variables waiting) (sym o.is) (back (pc + 1) x st.1.0 (length stack) own held (goes_nil (pc + 1) x st.1.1 held.variables (omega (arith, many))) (inl st.1.2) (omega (arith, count)) (omega (arith, size, st.0)) (omega (arith, few)) (omega (arith, many)) o.keeps)))))
+          (back (pc + 1) x st.1.0 (length stack) held.names own held o.is (goes_nil (pc + 1) x st.1.1 held.variables (omega (arith, many))) (inl st.1.2) (omega (arith, count)) (omega (arith, size, st.0)) (omega (arith, few)) (omega (arith, many)) o.keeps))))
       order_leads (StoreField class index) is stands no_end nil ready st =
           let x = next_height R (StoreField class index) h in
           last_leads_on Good _ (omega (arith, st.0)) (λ r rest e now kept. reference_leads Good rest deeper (held.temporaries ++ waiting) (rest ++ deeper) _ refl (omega (arith, st.0, size, e)) kept (λ q others f also below1.
@@ -853,17 +826,17 @@ module _ (p : Program) (R : resolved.Program) where
           let held1 = raised 0 (with_variables held (slice_set held.variables i 0)) in
           let long = length-set held.variables i 0 in
           releases_lead r pc stack held held1 own o.is o.places o.itself o.keeps o.dying (sane_store held i r 0 found tt o.sane)
-          (subst (λ l. Resumes mine (pc + 1) self frames (length stack) below l deeper held.temporaries held1.variables waiting) (sym o.is) (back (pc + 1) (next_height R (Empty i) h) st.1 (length stack) own held1 (λ k c. ⊎_elim (λ same. nil_from k (subst (λ j. Clear j (pc + 1)) same c) same) (λ le. shut_end mine held1.variables k (omega (arith, many, long, le))) (st.2 k c)) (inl st.3) (omega (arith, count)) (omega (arith, size)) (omega (arith, few)) (omega (arith, many, long)) o.keeps)))
+          (back (pc + 1) (next_height R (Empty i) h) st.1 (length stack) held.names own held1 o.is (λ k c. ⊎_elim (λ same. nil_from k (subst (λ j. Clear j (pc + 1)) same c) same) (λ le. shut_end mine held1.variables k (omega (arith, many, long, le))) (st.2 k c)) (inl st.3) (omega (arith, count)) (omega (arith, size)) (omega (arith, few)) (omega (arith, many, long)) o.keeps))
         where
           nil_from : (k : ℕ) → Clear i (pc + 1) → k ≡ i → Shut mine k (slice_set held.variables i 0)
-          nil_from k c same = subst (λ j. Shut mine j (slice_set held.variables i 0)) (sym same) (shut_set mine i held.variables (nil (suc i) (is, c)))
+          nil_from k c same = subst (λ j. Shut mine j (slice_set held.variables i 0)) (sym same) (shut_set mine i held.variables (nil (suc i) (ap role_of is, c)))
       order_leads DropAll is stands no_end nil ready st =
-          let none = none_of own (omega (arith, size, st.0)) in
-          let free = free_at R (all R) (table R) pc DropAll is (λ e. e) (λ e. absurd e) in
+          let none = nil_from_length own (omega (arith, size, st.0)) in
+          let free = calm_free R (all R) (table R) pc Stays tt (ap role_of is) in
           drops_lead held.temporaries pc h stack held held refl stands free st.1 nil count (omega (arith, st.0)) few many (subst (λ l. Owns l held) none o)
       order_leads Settle is stands no_end nil ready st = ⊎_elim
-          (λ (f : Is_free pc). absurd (f.0 Settle is tt))
-          (λ more. ⊎_elim (λ made. absurd (made.0 Settle is tt)) (λ over. settles_lead over.1 st) more)
+          (λ (f : Is_free pc). absurd (f.0 (ap role_of is)))
+          (λ more. ⊎_elim (λ made. absurd (made.0 (ap role_of is))) (λ over. settles_lead over.1 st) more)
           ready
         where
           settles_lead : Initialized own held.temporaries waiting → Goes_to mine (pc + 1) (next_height R Settle h) → Leads (does p Settle s)
@@ -877,140 +850,138 @@ module _ (p : Program) (R : resolved.Program) where
               let places_size = ap length m.places_are in
               subst (λ l. Leads (instructions.settles (bare p) s l)) (sym m.places_are)
               (releases_lead m.made pc stack held held1 own1 is1 o.places o.itself keeps1 o.dying (sane_settle held m.given m.made m.others m.places_are o.sane)
-              (subst (λ l. Resumes mine (pc + 1) self frames (length stack) below l deeper held1.temporaries held.variables waiting) (sym is1) (back (pc + 1) x g.0 (length stack) own1 held1 (goes_nil (pc + 1) x g.1 held.variables (omega (arith, many))) (inl g.2) (omega (arith, count)) (omega (arith, size, names_size)) (omega (arith, few, places_size)) (omega (arith, many)) keeps1)))
+              (back (pc + 1) x g.0 (length stack) held.names own1 held1 is1 (goes_nil (pc + 1) x g.1 held.variables (omega (arith, many))) (inl g.2) (omega (arith, count)) (omega (arith, size, names_size)) (omega (arith, few, places_size)) (omega (arith, many)) keeps1))
       order_leads Give is stands no_end nil ready st =
-          let none = none_of held.temporaries (omega (arith, few, st.2)) in
-          let clears : Clear 0 pc = (0, (Give, is, tt)) in
+          let none = nil_from_length held.temporaries (omega (arith, few, st.2)) in
+          let clears : Clear 0 pc = (0, ap role_of is) in
           let shut = subst (λ g. Shut g 0 held.variables) st.3 (nil 0 clears) in
           let last = last_there held.variables (omega (arith, many, st.4)) shut in
-          top_leads Good stack _ (omega (arith, count, st.0)) (λ v rest e. last_leads last.0 held.temporaries held _ none last.1
-          (hands_lead frames below deeper pc last.0 stack rest held (subst (λ g. Waits g frames below deeper held.places) st.3 (subst (Waits mine frames below deeper) (sym o.places) waits)) (omega (arith, count, st.0, e)) (o.is ∙ ap (λ l. l ++ deeper) (none_of own (omega (arith, size, st.1)))) none last.1 o.dying o.sane))
+          top_leads Good stack _ (omega (arith, count, st.0)) (λ v rest e. last_leads last.0 last.1 held.temporaries held _ none last.2
+          (hands_lead frames pc last.0 last.1 stack rest held (left_waits gives.Object st.3 rest (omega (arith, count, st.0, e)) st.1) none last.2 o.dying o.sane))
       order_leads Return is stands no_end nil ready st =
-          let none = none_of held.temporaries (omega (arith, few, st.2)) in
-          let clears : Clear 0 pc = (0, (Return, is, tt)) in
+          let none = nil_from_length held.temporaries (omega (arith, few, st.2)) in
+          let clears : Clear 0 pc = (0, ap role_of is) in
           let shut = subst (λ g. Shut g 0 held.variables) st.3 (nil 0 clears) in
           let empty : NilBut [] held.variables = λ i k named. shut i k (omega arith) (omega (arith, slice_get_within held.variables i (suc k) named)) named in
           top_leads Good stack _ (omega (arith, count, st.0)) (λ v rest e. left_leads held.temporaries held _ none empty
-          (leaves_lead frames below deeper pc v stack rest held (subst (λ g. Waits g frames below deeper held.places) st.3 (subst (Waits mine frames below deeper) (sym o.places) waits)) (subst (λ l. Alive frames l held.self) (sym o.places) (subst (Alive frames waiting) (sym o.itself) alive)) e (omega (arith, count, st.0, e)) (o.is ∙ ap (λ l. l ++ deeper) (none_of own (omega (arith, size, st.1)))) none empty o.dying o.sane running))
+          (leaves_lead frames pc v stack rest held (left_waits gives.Number st.3 rest (omega (arith, count, st.0, e)) st.1)
+          (subst (λ l. Alive frames l held.self) (sym o.places) (subst (Alive frames waiting) (sym o.itself) alive)) e none empty o.dying o.sane running))
       order_leads EndStep is stands no_end nil ready st = absurd (no_end refl)
 
   -- ---- the end of an object
 
   module _ (classes : p.classes ≡ classes_linked R) (stack : List ℤ) (held : Held) (none : held.temporaries ≡ []) (empty : held.variables ≡ []) (sane : Sane p.classes held) where
     no_variables : NilBut [] held.variables
-    no_variables = subst (NilBut []) (sym empty) no_names
+    no_variables = subst (NilBut []) (sym empty) (λ i k e. cc)
 
     -- what waits for the end of this object
     abbrev Later : (back : ℕ) → Waiter → ℕ → List Frame → Type 0
-    Later back w o others = IsApart o (ending others) × (s : Splits w held.places)
-        × (((mine : Gives) × (below : ℕ) × (deeper : List ℕ) × Resumes mine back w.self others (length stack) below held.names deeper s.temporaries s.variables s.waiting × Waits mine others below deeper s.waiting)
-        ⊎ (EndsAgain back w.self others s.temporaries s.variables s.waiting × Waits gives.Number others (length stack) held.names s.waiting))
+    Later back w o others = Interrupted (λ g. Waits g others) back w o others (length stack) held.names held.places
 
-    -- an object is gone, whose fields name nothing
-    ends_lead : (b : Bool) (back : ℕ) (w : Waiter) (o : ℕ) (others frames : List Frame) (ob : Object) → object_at held.objects o ≡ Some ob → ((k : ℕ) → holders (suc k) (fields_of ob) ≡ 0) → AllDying held.objects (ending others) → nat_eq (held.counts o) 0 ≡ b → Later back w o others
-        → Leads (if b then on_left held.temporaries held (λ h. Goes (record { at = back; stack = stack; frames = others; held = resumed w (with_things h (turned_in Gone h.objects o)) }) []) else Faults Resurrected)
-    ends_lead false back w o others frames ob found none_named dying e later = tt
-    ends_lead true back w zero others frames ob found none_named dying e later = cc
-    ends_lead true back w (suc k) others frames ob found none_named dying e later =
-        let x = in_phase Gone ob in
-        let objects = slice_set held.objects k x in
-        let gone_is : turned_in Gone held.objects (suc k) ≡ objects = rw found refl in
-        let still : AllDying objects (ending others) = apart_dying held.objects k x (ending others) later.0 dying in
-        let h1 = with_things held objects in
-        let h = with_variables h1 [] in
-        let split = later.1 in
-        let sane1 = again_sane w h split none no_names (left_sane h1 none no_variables (sane_gone held k ob found none_named e sane)) in
-        left_leads held.temporaries held _ none no_variables
-        (subst (λ l. Good (at others back stack (resumed w (with_things (with_variables held []) l)))) (sym gone_is)
-        (subst (λ q. Good (at others back stack q)) (sym (resumes_again w h split))
-        (⊎_elim
-        (λ f. (inl (record { mine = f.0; below = f.1; deeper = f.2; resumes = f.3; waits = f.4 }), still, sane1))
-        (λ f. (inr (record { at_end = f.0.at_end; is_ending = f.0.is_ending; none = f.0.none; empty = f.0.empty; alive = f.0.alive; waits = f.1 }), still, sane1))
-        later.2)))
+    -- it goes on
+    ends_again : (frames : List Frame) → IsEnding frames → Alive frames held.places held.self
+        → EndsAgain p.end_step held.self frames held.temporaries held.variables held.places
+    ends_again frames is alive = record { at_end = refl; is_ending = is; none = none; empty = empty; alive = alive }
 
-    -- the deallocs of an object are done: its fields are destroyed, and then it is gone
-    clears_lead : (back : ℕ) (w : Waiter) (o : ℕ) (others frames : List Frame) (order : List ℕ) (ob : Object) → object_at held.objects o ≡ Some ob → ob.phase ≡ Dying → NilBut order ob.strong → AllDying held.objects (ending others) → Alive (Ending back w o None 0 ∷ others) held.places held.self → Later back w o others
-        → Leads (clears p (at frames p.end_step stack held) back w o order others)
-    clears_lead back w o others frames [] ob found phase but dying alive later =
-        ends_lead (nat_eq (held.counts o) 0) back w o others frames ob found (λ k. ap (holders (suc k)) (there_fields ob (ap is_there phase)) ∙ nil_named ob.strong but k) dying refl later
-    clears_lead back w zero others frames (index ∷ order) ob found phase but dying alive later = cc
-    clears_lead back w (suc k) others frames (index ∷ order) ob found phase but dying alive later =
-        let x = in_phase Emptying ob in
-        let objects = slice_set held.objects k x in
-        let turned_is : turned_in Emptying held.objects (suc k) ≡ objects = rw found refl in
-        let still : AllDying objects (ending others) = apart_dying held.objects k x (ending others) later.0 dying in
-        subst (λ l. Good (at (Clearing back w (suc k) (index ∷ order) ∷ others) p.end_step stack (with_things held l))) (sym turned_is) (
-          inr (record { at_end = refl; is_ending = tt; none = none; empty = empty; alive = alive; waits = later }),
-          ((x, set_here held.objects k x ob found, (refl, but)), still),
-          sane_empty held k ob found (ap is_there phase) sane,
-        )
+    module _ (back : ℕ) (w : Waiter) (k : ℕ) (others : List Frame) (alive : Alive (Ending back w (suc k) None 0 ∷ others) held.places held.self) (dying : AllDying held.objects (ending others)) (later : Later back w (suc k) others) where
+      -- what else ends is as far as before once the object is changed
+      still : (x : Object) → AllDying (slice_set held.objects k x) (ending others)
+      still x = apart_dying held.objects k x (ending others) later.0 dying
 
-    after_lead : (back : ℕ) (w : Waiter) (o : ℕ) (others frames : List Frame) → IsDying held.objects o None → AllDying held.objects (ending others) → Alive (Ending back w o None 0 ∷ others) held.places held.self → Later back w o others → Leads (after_deallocs p (at frames p.end_step stack held) back w o others)
-    after_lead back w zero others frames dies dying alive later = absurd (no_nil held.objects None dies)
-    after_lead back w (suc k) others frames dies dying alive later =
-        let ob = dies.0 in
-        subst Leads (sym (object_goes (object_at held.objects (suc k)) ob (λ x. clears p (at frames p.end_step stack held) back w (suc k) (field_order p.classes x.class) others) dies.1 (ap is_there dies.2)))
-        (clears_lead back w (suc k) others frames (field_order p.classes ob.class) ob dies.1 dies.2 (all_in_order p.classes ob ((fits_at held k ob dies.1 sane).sized)) dying alive later)
+      -- an object is gone, whose fields name nothing
+      ends_lead : (b : Bool) (ob : Object) → object_at held.objects (suc k) ≡ Some ob → ((i : ℕ) → holders (suc i) (fields_of ob) ≡ 0)
+          → nat_eq (held.counts (suc k)) 0 ≡ b
+          → Leads (if b then on_left held.temporaries held (λ h. Goes (record { at = back; stack = stack; frames = others; held = resumed w (with_things h (turned_in Gone h.objects (suc k))) }) []) else Faults Resurrected)
+      ends_lead false ob found none_named e = tt
+      ends_lead true ob found none_named e =
+          let x = in_phase Gone ob in
+          let objects = slice_set held.objects k x in
+          let gone_is : turned_in Gone held.objects (suc k) ≡ objects = rw found refl in
+          let h1 = with_things held objects in
+          let split = later.1 in
+          let sane1 = again_sane w h1 split none no_variables (sane_gone held k ob found none_named e sane) in
+          left_leads held.temporaries held _ none no_variables
+          (subst (λ l. Good (at others back stack (resumed w (with_things (with_variables held []) l)))) (sym gone_is)
+          (subst (λ q. Good (at others back stack q)) (sym (resumes_again w (with_variables h1 []) split)) (later.2, still x, sane1)))
 
-    -- the next field lets go of what it names
-    next_lead : (back : ℕ) (w : Waiter) (o index : ℕ) (fields : List ℕ) (others : List Frame) → IsDying held.objects o (Some (index ∷ fields)) → AllDying held.objects (ending others) → Alive (Clearing back w o (index ∷ fields) ∷ others) held.places held.self → Later back w o others
-        → Leads (clears_next p (at (Clearing back w o fields ∷ others) p.end_step stack held) o index)
-    next_lead back w zero index fields others dies dying alive later = absurd (no_nil held.objects (Some (index ∷ fields)) dies)
-    next_lead back w (suc k) index fields others dies dying alive later =
-        let ob = dies.0 in
-        let frames : List Frame = Clearing back w (suc k) fields ∷ others in
-        let s = at frames p.end_step stack held in
-        let there_now = ap is_there dies.2.0 in
-        let stays : Held → Next State = λ h. Goes (at frames p.end_step stack h) [] in
-        let ends : ℕ → ℕ → Held → Next State = λ other class h. begins_end p s p.end_step other class h (has_level s) in
-        let go : Object → Next State = λ x. on_place (slice_get x.strong index) (stays held) (λ old. lets_go old (raised 0 (with_strong_field held (suc k) x index 0)) stays ends) in
-        subst Leads (sym (object_goes (object_at held.objects (suc k)) ob go dies.1 there_now))
-        (place_leads (slice_get ob.strong index) _ _
-        (λ absent. (inr (record { at_end = refl; is_ending = tt; none = none; empty = empty; alive = alive; waits = later }), ((ob, dies.1, (dies.2.0, no_field index fields ob.strong absent dies.2.1)), dying), sane))
-        (λ old named.
-        let x = with_strong_fields ob (slice_set ob.strong index 0) in
-        let objects = slice_set held.objects k x in
-        let held1 = raised 0 (with_strong_field held (suc k) ob index 0) in
-        let still : AllDying objects (ending frames) = ((x, set_here held.objects k x ob dies.1, (dies.2.0, one_nil index fields ob.strong dies.2.1)), apart_dying held.objects k x (ending others) later.0 dying) in
-        lets_go_leads old held1 stays ends (sane_store_field held k ob index old 0 dies.1 there_now named tt sane)
-        (λ sane1. (inr (record { at_end = refl; is_ending = tt; none = none; empty = empty; alive = alive; waits = later }), still, sane1))
-        (λ j other e found live.
-        begins_lead frames (has_level s) j p.end_step p.end_step other stack held held1 found live still (subst (λ q. Drops p.classes q held1) e (sane_store_field held k ob index old 0 dies.1 there_now named tt sane))
-        (λ apart. (apart, splits_as held1, inr (record { at_end = refl; is_ending = tt; none = none; empty = empty; alive = alive }, later))))))
+      -- the deallocs of an object are done: its fields are destroyed, and then it is gone
+      clears_lead : (frames : List Frame) (order : List ℕ) (ob : Object) → object_at held.objects (suc k) ≡ Some ob → ob.phase ≡ Dying → NilBut order ob.strong
+          → Leads (clears p (at frames p.end_step stack held) back w (suc k) order others)
+      clears_lead frames [] ob found phase but =
+          ends_lead (nat_eq (held.counts (suc k)) 0) ob found (λ i. ap (holders (suc i)) (there_fields ob (ap is_there phase)) ∙ nil_named ob.strong but i) refl
+      clears_lead frames (index ∷ order) ob found phase but =
+          let x = in_phase Emptying ob in
+          let turned_is : turned_in Emptying held.objects (suc k) ≡ slice_set held.objects k x = rw found refl in
+          subst (λ l. Good (at (Clearing back w (suc k) (index ∷ order) ∷ others) p.end_step stack (with_things held l))) (sym turned_is)
+          (inr (ends_again _ tt alive, later), ((x, set_here held.objects k x ob found, (refl, but)), still x), sane_empty held k ob found (ap is_there phase) sane)
 
-    module _ (back : ℕ) (w : Waiter) (o : ℕ) (others : List Frame) (alive : (next : Option ℕ) (left : ℕ) → Alive (Ending back w o next left ∷ others) held.places held.self) (later : Later back w o others) (dying : (next : Option ℕ) (left : ℕ) → AllDying held.objects (ending (Ending back w o next left ∷ others))) (frames : List Frame) where
-      abbrev here : State
-      here = at frames p.end_step stack held
+      after_lead : (frames : List Frame) → IsDying held.objects (suc k) None → Leads (after_deallocs p (at frames p.end_step stack held) back w (suc k) others)
+      after_lead frames dies =
+          let ob = dies.0 in
+          subst Leads (sym (object_goes (slice_get held.objects k) ob (λ x. clears p (at frames p.end_step stack held) back w (suc k) (field_order p.classes x.class) others) dies.1 (ap is_there dies.2)))
+          (clears_lead frames (field_order p.classes ob.class) ob dies.1 dies.2 (all_in_order p.classes ob ((fits_at k ob dies.1 sane).sized)))
 
-      dealloc_leads : (d : Option ℕ) (next : Option ℕ) (left : ℕ) → ((to : ℕ) → d ≡ Some to → Goes_to gives.Number to (height 0 0 0 0)) → Leads (runs_dealloc d here (Ending back w o next left ∷ others))
-      dealloc_leads None next left goes = (inr (record { at_end = refl; is_ending = tt; none = none; empty = empty; alive = alive next left; waits = later }), dying next left, sane)
-      dealloc_leads (Some to) next left goes =
-          let g = goes to refl in
-          let few = ap length none in
-          let many = ap length empty in (
-            inl (record {
-              mine = gives.Number;
-              below = length stack;
-              deeper = held.names;
-              resumes = record { high = height 0 0 0 0; stands = g.0; count = omega arith; own = []; is = refl; size = refl; few = omega (arith, few); many = many; held = tt; nil = λ k c. shut_end gives.Number held.variables k (omega (arith, many)); ready = inl g.2; alive = alive next left; running = tt };
-              waits = later;
-            }),
-            dying next left,
-            sane,
-          )
+      -- the next field lets go of what it names
+      next_lead : (index : ℕ) (fields : List ℕ) → IsDying held.objects (suc k) (Some (index ∷ fields))
+          → Leads (clears_next p (at (Clearing back w (suc k) fields ∷ others) p.end_step stack held) (suc k) index)
+      next_lead index fields dies =
+          let ob = dies.0 in
+          let frames : List Frame = Clearing back w (suc k) fields ∷ others in
+          let s = at frames p.end_step stack held in
+          let there_now = ap is_there dies.2.0 in
+          let stays : Held → Next State = λ h. Goes (at frames p.end_step stack h) [] in
+          let ends : ℕ → ℕ → Held → Next State = λ other class h. begins_end p s p.end_step other class h (has_level s) in
+          let go : Object → Next State = λ x. on_place (slice_get x.strong index) (stays held) (λ old. lets_go old (raised 0 (with_strong_field held (suc k) x index 0)) stays ends) in
+          subst Leads (sym (object_goes (slice_get held.objects k) ob go dies.1 there_now))
+          (place_leads (slice_get ob.strong index) _ _
+          (λ absent. (inr (ends_again _ tt alive, later), ((ob, dies.1, (dies.2.0, no_field index fields ob.strong absent dies.2.1)), dying), sane))
+          (λ old named.
+          let x = with_strong_fields ob (slice_set ob.strong index 0) in
+          let held1 = raised 0 (with_strong_field held (suc k) ob index 0) in
+          let drops = sane_store_field held k ob index old 0 dies.1 there_now named tt sane in
+          let dying1 : AllDying held1.objects (ending frames) = ((x, set_here held.objects k x ob dies.1, (dies.2.0, one_nil index fields ob.strong dies.2.1)), still x) in
+          lets_go_leads old held1 stays ends drops
+          (λ sane1. (inr (ends_again _ tt alive, later), dying1, sane1))
+          (λ j other e found live.
+          begins_lead frames (has_level s) j p.end_step p.end_step other stack held held1 found live dying1 (subst (λ q. Drops p.classes q held1) e drops)
+          (λ apart. (apart, splits_as held1, inr (ends_again _ tt alive, later))))))
 
-      class_leads : (i : ℕ) (c : Option Class) (left : ℕ) → slice_get p.classes i ≡ c → Leads (ends_class p here back w o c left others)
-      class_leads i None left e = after_lead back w o others frames (dying None left).0 (dying None left).1 (alive None 0) later
-      class_leads i (Some d) left e = dealloc_leads d.dealloc d.superclass left (λ to f. dealloc_goes R i d to (ap (λ cs. slice_get cs i) (sym classes) ∙ e) f)
+      -- its next dealloc, of which what ends is as far as before
+      module _ (dies : IsDying held.objects (suc k) None) (frames : List Frame) where
+        dealloc_leads : (d : Option ℕ) (next : Option ℕ) (left : ℕ) → ((to : ℕ) → d ≡ Some to → Goes_to gives.Number to (height 0 0 0 0))
+            → Leads (runs_dealloc d (at frames p.end_step stack held) (Ending back w (suc k) next left ∷ others))
+        dealloc_leads None next left goes = (inr (ends_again _ tt alive, later), (dies, dying), sane)
+        dealloc_leads (Some to) next left goes =
+            let g = goes to refl in
+            let few = ap length none in
+            let many = ap length empty in (
+              inl (
+                gives.Number,
+                length stack,
+                held.names,
+                record { high = height 0 0 0 0; stands = g.0; count = omega arith; own = []; is = refl; size = refl; few = omega (arith, few); many = many; held = tt; nil = λ i c. shut_end gives.Number held.variables i (omega (arith, many)); ready = inl g.2; alive = alive; running = tt },
+                later,
+              ),
+              (dies, dying),
+              sane,
+            )
+
+        class_leads : (i : ℕ) (c : Option Class) (left : ℕ) → slice_get p.classes i ≡ c
+            → Leads (ends_class p (at frames p.end_step stack held) back w (suc k) c left others)
+        class_leads i None left e = after_lead frames dies
+        class_leads i (Some d) left e = dealloc_leads d.dealloc d.superclass left (λ to f. dealloc_goes R i d to (ap (λ cs. slice_get cs i) (sym classes) ∙ e) f)
 
     goes_on_leads : (frames : List Frame) → IsEnding frames → Alive frames held.places held.self → Waits gives.Number frames (length stack) held.names held.places → AllDying held.objects (ending frames) → Leads (end_goes_on p (at frames p.end_step stack held) frames)
-    goes_on_leads (Ending back w o None left ∷ others) is alive waits dying = after_lead back w o others (Ending back w o None left ∷ others) dying.0 dying.1 alive waits
-    goes_on_leads (Ending back w o (Some c) zero ∷ others) is alive waits dying = after_lead back w o others (Ending back w o (Some c) zero ∷ others) dying.0 dying.1 alive waits
-    goes_on_leads (Ending back w o (Some c) (suc left) ∷ others) is alive waits dying = class_leads back w o others (λ n l. alive) waits (λ n l. dying) (Ending back w o (Some c) (suc left) ∷ others) c (slice_get p.classes c) left refl
-    goes_on_leads (Clearing back w o [] ∷ others) is alive waits dying =
+    goes_on_leads (Ending back w zero next left ∷ others) is alive waits dying = absurd (no_nil held.objects None dying.0)
+    goes_on_leads (Clearing back w zero fields ∷ others) is alive waits dying = absurd (no_nil held.objects (Some fields) dying.0)
+    goes_on_leads (Ending back w (suc k) None left ∷ others) is alive waits dying = after_lead back w k others alive dying.1 waits (Ending back w (suc k) None left ∷ others) dying.0
+    goes_on_leads (Ending back w (suc k) (Some c) zero ∷ others) is alive waits dying = after_lead back w k others alive dying.1 waits (Ending back w (suc k) (Some c) zero ∷ others) dying.0
+    goes_on_leads (Ending back w (suc k) (Some c) (suc left) ∷ others) is alive waits dying = class_leads back w k others alive dying.1 waits dying.0 _ c (slice_get p.classes c) left refl
+    goes_on_leads (Clearing back w (suc k) [] ∷ others) is alive waits dying =
         let ob = dying.0.0 in
-        ends_lead (nat_eq (held.counts o) 0) back w o others (Clearing back w o [] ∷ others) ob dying.0.1 (λ k. ap (holders (suc k)) (there_fields ob (ap is_there dying.0.2.0)) ∙ nil_named ob.strong dying.0.2.1 k) dying.1 refl waits
-    goes_on_leads (Clearing back w o (index ∷ fields) ∷ others) is alive waits dying = next_lead back w o index fields others dying.0 dying.1 alive waits
+        let named : (i : ℕ) → holders (suc i) (fields_of ob) ≡ 0 = λ i. ap (holders (suc i)) (there_fields ob (ap is_there dying.0.2.0)) ∙ nil_named ob.strong dying.0.2.1 i in
+        ends_lead back w k others alive dying.1 waits (nat_eq (held.counts (suc k)) 0) ob dying.0.1 named refl
+    goes_on_leads (Clearing back w (suc k) (index ∷ fields) ∷ others) is alive waits dying = next_lead back w k others alive dying.1 waits index fields dying.0
     goes_on_leads _ is alive waits dying = absurd is
 
   -- ---- the program
@@ -1019,31 +990,39 @@ module _ (p : Program) (R : resolved.Program) where
     step_does : (s : State) (x : Order) → slice_get (lowered_orders R) s.at ≡ Some x → step p s ≡ does p x s
     step_does s x e = executes_at p p.actions s.at x s (ap (λ l. slice_get l s.at) is ∙ e)
 
-    function_leads : (s : State) → InFunction s → AllDying s.held.objects (ending s.frames) → Sane p.classes s.held → Leads (step p s)
-    function_leads s f dying sane =
-        let r = f.resumes in
+    function_leads : (s : State) (mine : Gives) (below : ℕ) (deeper : List ℕ)
+        → Resumes mine s.at s.held.self s.frames (length s.stack) below s.held.names deeper s.held.temporaries s.held.variables s.held.places
+        → Waits mine s.frames below deeper s.held.places → AllDying s.held.objects (ending s.frames) → Sane p.classes s.held → Leads (step p s)
+    function_leads s mine below deeper r waits dying sane =
         let x = r.stands.order in
         let st = steps_at R s.at x r.stands.is in
-        let mark : Height × Gives = (r.high, f.mine) in
+        let mark : Height × Gives = (r.high, mine) in
         let same : st.0 ≡ mark = some_same st.0 mark (sym st.1 ∙ r.stands.height) in
         let steps = subst (λ (m : Height × Gives). Steps R (all R) (table R) m.1 m.0 s.at x) same st.2 in
         subst Leads (sym (step_does s x r.stands.is))
-        (order_leads f.mine s.frames f.below f.deeper s.held.places s.held.self r.alive f.waits r.running classes (λ wanted g called. entry_goes p R is entries wanted g called) s.at r.high s.stack s.held r.own r.count r.size r.few r.many (record { is = r.is; places = refl; itself = refl; keeps = r.held; dying = dying; sane = sane }) x r.stands.is r.stands r.stands.no_end r.nil r.ready steps)
+        (order_leads mine s.frames below deeper s.held.places s.held.self r.alive waits r.running classes (λ wanted g called. entry_goes p R is entries wanted g called) s.at r.high s.stack s.held r.own r.count r.size r.few r.many
+        (record { is = r.is; places = refl; itself = refl; keeps = r.held; dying = dying; sane = sane }) x r.stands.is r.stands r.stands.no_end r.nil r.ready steps)
 
-    end_leads : (s : State) → InEnd s → AllDying s.held.objects (ending s.frames) → Sane p.classes s.held → Leads (step p s)
-    end_leads s f dying sane =
+    end_leads : (s : State) → EndsAgain s.at s.held.self s.frames s.held.temporaries s.held.variables s.held.places
+        → Waits gives.Number s.frames (length s.stack) s.held.names s.held.places
+        → AllDying s.held.objects (ending s.frames) → Sane p.classes s.held → Leads (step p s)
+    end_leads s f waits dying sane =
         let e : slice_get (lowered_orders R) s.at ≡ Some EndStep = ap (slice_get (lowered_orders R)) (f.at_end ∙ end) ∙ end_is R in
-        subst Leads (sym (step_does s EndStep e)) (subst (λ pc. Leads (end_goes_on p (at s.frames pc s.stack s.held) s.frames)) (sym f.at_end) (goes_on_leads classes s.stack s.held f.none f.empty sane s.frames f.is_ending f.alive f.waits dying))
+        subst Leads (sym (step_does s EndStep e)) (subst (λ pc. Leads (end_goes_on p (at s.frames pc s.stack s.held) s.frames)) (sym f.at_end) (goes_on_leads classes s.stack s.held f.none f.empty sane s.frames f.is_ending f.alive waits dying))
 
     pub step_leads : (s : State) → Good s → Leads (step p s)
-    step_leads s good = ⊎_elim (λ f. function_leads s f good.1 good.2) (λ f. end_leads s f good.1 good.2) good.0
+    step_leads s good = ⊎_elim (λ f. function_leads s f.0 f.1 f.2 f.3 f.4 good.1 good.2) (λ f. end_leads s f.0 f.1 good.1 good.2) good.0
 
     safe : (n : ℕ) (s : State) → Good s → Safe (step p) (λ t. Counted t.held) n s
     safe zero s good = sane_counted s.held good.2
     safe (suc n) s good = along_map Good (Safe (step p) (λ t. Counted t.held) n) (safe n) (step p s) (step_leads s good)
 
     pub start_good : Good (start p)
-    start_good = (inl (record { mine = gives.Number; below = 0; deeper = []; resumes = record { high = height 0 0 0 0; stands = (start_goes R).0; count = refl; own = []; is = refl; size = refl; few = omega arith; many = refl; held = tt; nil = λ k c. shut_end gives.Number [] k (omega arith); ready = inl (start_goes R).2; alive = nil_alive [] []; running = tt }; waits = tt }), tt, sane_start (with_globals nothing_held p.globals) p.strong_globals refl (sane_globals nothing_held p.globals nothing_sane))
+    start_good = (
+      inl (gives.Number, 0, [], record { high = height 0 0 0 0; stands = (start_goes R).0; count = refl; own = []; is = refl; size = refl; few = omega arith; many = refl; held = tt; nil = λ k c. shut_end gives.Number [] k (omega arith); ready = inl (start_goes R).2; alive = nil_alive [] []; running = tt }, tt),
+      tt,
+      sane_start p.strong_globals,
+    )
 
     -- the actions of a lowered program are never stuck, and their counts are right
     pub lowered_never_stuck : Sound (step p) (λ s. Counted s.held) (start p)

@@ -1,11 +1,11 @@
 -- What a running program keeps: what places name is there, and an object whose end is running stays as it is.
-use Rattle.std.proofs.Common.{◌≡◌, ◌⊎◌, inl, inr, ℕ, zero, suc, ◌+◌, ◌-◌, ◌<◌, ◌≤◌, ℤ, Bool, true, false, List, [], ◌∷◌, ◌++◌, length, Option, Some, None, ⊎_elim, slice_get, slice_set, refl, sym, ap, ◌∙◌, subst, arith}
-use Rattle.std.proofs.lemmas.Bool.{cases_eq, false≢true}
+use Rattle.std.proofs.Common.{◌≡◌, ◌⊎◌, inl, inr, ℕ, zero, suc, ◌+◌, ◌-◌, ◌<◌, ◌≤◌, ℤ, true, false, List, [], ◌∷◌, ◌++◌, length, Option, Some, None, ⊎_elim, slice_get, slice_set, refl, sym, ap, ◌∙◌, subst, arith}
+use Rattle.std.proofs.lemmas.Bool.{cases_eq, cases_lt, false≢true}
 use Rattle.std.proofs.lemmas.Option.{none-some, slice_get_within}
 use Rattle.arc_spec.specs.Classes.{Class, lesser, numbers_from, order_of_fields, strong_count, strong_counts, ancestry, superclasses, above_class, field_order}
-use Rattle.arc_spec.specs.Objects.{Object, Phase, Dying, Emptying, object_at, in_phase, with_fields, with_strong_fields, is_live, is_emptying}
+use Rattle.arc_spec.specs.Objects.{Object, Dying, Emptying, object_at, in_phase, with_fields, with_strong_fields, is_live, is_emptying}
 use Rattle.arc_spec.specs.Holding.{Frame, Calling, Ending, Clearing, Waiter, holders, is_there}
-use Rattle.arc_lower.proofs.CountsPlaces.{tally_same, holders_head, holders_append, holders_nil, IsThere, AllThere, set_other, set_same, set_here, get_first}
+use Rattle.arc_lower.proofs.CountsPlaces.{tally_same, holders_head, holders_append, holders_nil, IsThere, AllThere, set_other, set_same, set_here, get_other}
 
 -- an end that is running: of this object, and which fields are still to be destroyed, where they are being
 pub record End : Type 0 where
@@ -35,16 +35,21 @@ IsAsFar (Some fields) ob = (ob.phase ≡ Emptying) × NilBut fields ob.strong
 abbrev pub IsDying : List Object → ℕ → Option (List ℕ) → Type 0
 IsDying objects o fields = (ob : Object) × (object_at objects o ≡ Some ob) × IsAsFar fields ob
 
+-- a fact of each of these ends
+abbrev pub AllEnds : (End → Type 0) → List End → Type 0
+AllEnds P [] = Unit {0}
+AllEnds P (e ∷ others) = P e × AllEnds P others
+
+ends_map : (P Q : End → Type 0) → ((e : End) → P e → Q e) → (all : List End) → AllEnds P all → AllEnds Q all
+ends_map P Q f [] h = tt
+ends_map P Q f (e ∷ others) h = (f e h.0, ends_map P Q f others h.1)
+
 abbrev pub AllDying : List Object → List End → Type 0
-AllDying objects [] = Unit {0}
-AllDying objects (e ∷ others) = IsDying objects e.object e.fields × AllDying objects others
+AllDying objects = AllEnds (λ e. IsDying objects e.object e.fields)
 
 -- the objects whose ends are running are there
 abbrev pub EndsThere : List Object → List Frame → Type 0
-EndsThere objects [] = Unit {0}
-EndsThere objects (Calling back waits ∷ others) = EndsThere objects others
-EndsThere objects (Ending back waits o next left ∷ others) = IsThere objects o × EndsThere objects others
-EndsThere objects (Clearing back waits o fields ∷ others) = IsThere objects o × EndsThere objects others
+EndsThere objects frames = AllEnds (λ e. IsThere objects e.object) (ending frames)
 
 -- wherever what these places name is there, and what is ending is, this object is there, too
 abbrev pub Alive : List Frame → (held : List ℕ) → ℕ → Type 0
@@ -62,10 +67,7 @@ dying_there objects zero fields d = tt
 dying_there objects (suc k) fields d = (d.0, d.1, far_there fields d.0 d.2)
 
 pub ends_there : (objects : List Object) (frames : List Frame) → AllDying objects (ending frames) → EndsThere objects frames
-ends_there objects [] dying = tt
-ends_there objects (Calling back waits ∷ others) dying = ends_there objects others dying
-ends_there objects (Ending back waits o next left ∷ others) dying = (dying_there objects o None dying.0, ends_there objects others dying.1)
-ends_there objects (Clearing back waits o fields ∷ others) dying = (dying_there objects o (Some fields) dying.0, ends_there objects others dying.1)
+ends_there objects frames = ends_map _ _ (λ e. dying_there objects e.object e.fields) (ending frames)
 
 pub ending_alive : (frames : List Frame) (back : ℕ) (waits : Waiter) (o : ℕ) (next : _) (left : ℕ) (held : List ℕ) → Alive (Ending back waits o next left ∷ frames) held o
 ending_alive frames back waits o next left held objects there ends = ends.0
@@ -95,11 +97,10 @@ held_within temporaries strong waiting (suc k) h = omega (arith, holders_append 
 -- an object is made
 made_dies : (objects : List Object) (x : Object) (o : ℕ) (fields : Option (List ℕ)) → IsDying objects o fields → IsDying (objects ++ x ∷ []) o fields
 made_dies objects x zero fields d = d
-made_dies objects x (suc j) fields d = (d.0, get_first objects j x d.0 d.1, d.2)
+made_dies objects x (suc j) fields d = (d.0, get_other objects j x (λ last. omega (arith, last, slice_get_within objects j d.0 d.1)) ∙ d.1, d.2)
 
 pub made_dying : (objects : List Object) (x : Object) (all : List End) → AllDying objects all → AllDying (objects ++ x ∷ []) all
-made_dying objects x [] d = tt
-made_dying objects x (e ∷ others) d = (made_dies objects x e.object e.fields d.0, made_dying objects x others d.1)
+made_dying objects x = ends_map _ _ (λ e. made_dies objects x e.object e.fields)
 
 -- an object is changed, which is afterwards as far as before
 changed_dies : (objects : List Object) (k : ℕ) (x : Object) → ((fields : Option (List ℕ)) → IsDying objects (suc k) fields → IsAsFar fields x) → (o : ℕ) (fields : Option (List ℕ)) → IsDying objects o fields → IsDying (slice_set objects k x) o fields
@@ -112,32 +113,25 @@ changed_dies objects k x still (suc j) fields d = ⊎_elim
     (cases_eq j k)
 
 pub changed_dying : (objects : List Object) (k : ℕ) (x : Object) (all : List End) → ((fields : Option (List ℕ)) → IsDying objects (suc k) fields → IsAsFar fields x) → AllDying objects all → AllDying (slice_set objects k x) all
-changed_dying objects k x [] still d = tt
-changed_dying objects k x (e ∷ others) still d = (changed_dies objects k x still e.object e.fields d.0, changed_dying objects k x others still d.1)
+changed_dying objects k x all still = ends_map _ _ (λ e. changed_dies objects k x still e.object e.fields) all
 
 -- this object isn't one of these
 abbrev pub IsApart : ℕ → List End → Type 0
-IsApart o [] = Unit {0}
-IsApart o (q ∷ others) = (q.object ≡ o → ⊥) × IsApart o others
+IsApart o = AllEnds (λ e. e.object ≡ o → ⊥)
 
-live_no_dying : (ob found : Object) (fields : Option (List ℕ)) → Some ob ≡ Some found → is_live (Some ob) ≡ true → IsAsFar fields found → ⊥
-live_no_dying ob found fields e live far =
-    let same : ob ≡ found = cc in
-    let no : false ≡ true = sym (not_live fields far) ∙ ap (λ (x : Object). is_live (Some x)) (sym same) ∙ live in
-    false≢true no
-  where
-    live_in : Phase → Bool
-    live_in phase = is_live (Some (in_phase phase found))
+far_not_live : (fields : Option (List ℕ)) (ob : Object) → IsAsFar fields ob → is_live (Some ob) ≡ true → ⊥
+far_not_live None ob far live = false≢true (sym (ap (λ phase. is_live (Some (in_phase phase ob))) far) ∙ live)
+far_not_live (Some fields) ob far live = false≢true (sym (ap (λ phase. is_live (Some (in_phase phase ob))) far.0) ∙ live)
 
-    not_live : (fs : Option (List ℕ)) → IsAsFar fs found → is_live (Some found) ≡ false
-    not_live None far1 = ap live_in far1
-    not_live (Some fs) far1 = ap live_in far1.0
+-- an object that is found is as far as the end that is running
+as_far : (objects : List Object) (k : ℕ) (ob : Object) → object_at objects (suc k) ≡ Some ob → (fields : Option (List ℕ)) → IsDying objects (suc k) fields
+    → IsAsFar fields ob
+as_far objects k ob found fields d = let same : d.0 ≡ ob = cc in subst (IsAsFar fields) same d.2
 
 -- what isn't ending yet is none of those that are
 pub live_apart : (objects : List Object) (k : ℕ) (ob : Object) (all : List End) → object_at objects (suc k) ≡ Some ob → is_live (Some ob) ≡ true → AllDying objects all → IsApart (suc k) all
-live_apart objects k ob [] found live d = tt
-live_apart objects k ob (o ∷ others) found live d =
-    (λ same. live_no_dying ob d.0.0 o.fields (sym found ∙ ap (object_at objects) (sym same) ∙ d.0.1) live d.0.2, live_apart objects k ob others found live d.1)
+live_apart objects k ob all found live =
+    ends_map _ _ (λ e d same. far_not_live e.fields ob (as_far objects k ob found e.fields (subst (λ o. IsDying objects o e.fields) same d)) live) all
 
 apart_dies : (objects : List Object) (k : ℕ) (x : Object) (o : ℕ) (fields : Option (List ℕ)) → (o ≡ suc k → ⊥) → IsDying objects o fields → IsDying (slice_set objects k x) o fields
 apart_dies objects k x zero fields ne d = absurd (none-some d.0 d.1)
@@ -151,25 +145,18 @@ apart_dying objects k x (o ∷ others) apart d = (apart_dies objects k x o.objec
 pub no_nil : (objects : List Object) (fields : Option (List ℕ)) → IsDying objects 0 fields → ⊥
 no_nil objects fields d = none-some d.0 d.1
 
--- the same object, found twice
-pub found_once : (ob found : Object) (o : Option Object) → o ≡ Some ob → o ≡ Some found → ob ≡ found
-found_once ob found o e f = cc
-
 -- ---- fields that are destroyed
 
 -- an object whose fields aren't destroyed is as far with other fields that name objects
 pub stored_far : (objects : List Object) (k : ℕ) (ob : Object) (strong : List ℕ) → object_at objects (suc k) ≡ Some ob → is_emptying ob.phase ≡ false → (fields : Option (List ℕ)) → IsDying objects (suc k) fields → IsAsFar fields (with_strong_fields ob strong)
-stored_far objects k ob strong found not_yet None d = ap (λ (x : Object). x.phase) (found_once ob d.0 (object_at objects (suc k)) found d.1) ∙ d.2
+stored_far objects k ob strong found not_yet None d = as_far objects k ob found None d
 stored_far objects k ob strong found not_yet (Some fields) d =
-    let is : ob.phase ≡ Emptying = ap (λ (x : Object). x.phase) (found_once ob d.0 (object_at objects (suc k)) found d.1) ∙ d.2.0 in
-    let no : false ≡ true = sym not_yet ∙ ap is_emptying is in
-    absurd (false≢true no)
+    absurd (false≢true (sym not_yet ∙ ap is_emptying (as_far objects k ob found (Some fields) d).0))
 
 -- an object is as far with other fields that hold numbers
 pub fields_far : (objects : List Object) (k : ℕ) (ob : Object) (numbers : List ℤ) → object_at objects (suc k) ≡ Some ob → (fields : Option (List ℕ)) → IsDying objects (suc k) fields → IsAsFar fields (with_fields ob numbers)
-fields_far objects k ob numbers found None d = ap (λ (x : Object). x.phase) (found_once ob d.0 (object_at objects (suc k)) found d.1) ∙ d.2
-fields_far objects k ob numbers found (Some fields) d =
-    subst (λ (x : Object). (x.phase ≡ Emptying) × NilBut fields x.strong) (sym (found_once ob d.0 (object_at objects (suc k)) found d.1)) d.2
+fields_far objects k ob numbers found None d = as_far objects k ob found None d
+fields_far objects k ob numbers found (Some fields) d = as_far objects k ob found (Some fields) d
 
 -- one field more names nothing
 pub one_nil : (index : ℕ) (fields strong : List ℕ) → NilBut (index ∷ fields) strong → NilBut fields (slice_set strong index 0)
@@ -214,10 +201,7 @@ in_order (n ∷ above) i count lt =
     ⊎_elim
     (λ small. in_next i (numbers_from least (count - least)) (order_of_fields least above) (in_order above i least small))
     (λ great. in_first i (numbers_from least (count - least)) (order_of_fields least above) (in_numbers i least (count - least) great (omega (arith, great, lt))))
-    (before_or i least)
-  where
-    before_or : (a b : ℕ) → (a < b) ⊎ (b ≤ a)
-    before_or a b = grind arith
+    (cases_lt i least)
 
 -- the order of an object's fields has all of them
 pub all_in_order : (classes : List Class) (ob : Object) → length ob.strong ≡ strong_count (slice_get classes ob.class) → NilBut (field_order classes ob.class) ob.strong

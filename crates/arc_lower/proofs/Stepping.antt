@@ -1,5 +1,5 @@
 -- Where orders stand with their heights, each has what it needs, and goes on where the heights are those that it leaves.
-use Rattle.std.proofs.Common.{◌≡◌, ◌⊎◌, inl, inr, ℕ, zero, suc, ◌+◌, ◌<◌, ◌≤◌, Bool, true, false, if◌then◌else◌, List, [], ◌∷◌, ◌++◌, length, drop, Some, slice_get, refl, sym, ap, ◌∙◌, subst, arith, append_assoc, length-append, pos}
+use Rattle.std.proofs.Common.{◌≡◌, ◌⊎◌, inl, inr, ℕ, zero, suc, ◌+◌, ◌<◌, ◌≤◌, Bool, true, false, if◌then◌else◌, List, [], ◌∷◌, ◌++◌, length, drop, Option, Some, None, slice_get, refl, sym, ap, ◌∙◌, subst, arith, length-append, pos}
 use Rattle.std.proofs.lemmas.Bool.{true≢false}
 use Rattle.arc_spec.specs.Resolved as resolved
 use Rattle.arc_spec.specs.declared.class.Gives.{Gives}
@@ -16,140 +16,119 @@ use Rattle.arc_lower.specs.Lowered.{drop_orders, Entry, AtStep, AtTest, AtBody, 
 use Rattle.arc_lower.specs.Size.{has_new}
 use Rattle.arc_lower.specs.declared.frame.Turn.{Turn}
 use Rattle.arc_lower.specs.Heights.{between, next_height, Walk, walk, next_walk, walk_heights, last_walk, in_function}
-use Rattle.arc_lower.proofs.Typing.{heights_same, tested, over_none, Reaches, Needs, Types, next_same, with_temporaries, ByTest, BlockTypes}
+use Rattle.arc_lower.proofs.Doing.{Each, each_then, each_from}
+use Rattle.arc_lower.proofs.Typing.{alike_same, tested, over_none, Reaches, Needs, Types, next_same, with_temporaries, ByTest, BlockTypes}
 use Rattle.arc_lower.proofs.HeightsEnd.{chosen_same, AllBase, entered, enter_keeps, enter_ends, Keeps, keeps_on, keeps_test, keeps_rest, part_same, block_ends}
 
 pub some_same : {A : Type 0} (a b : A) → Some a ≡ Some b → a ≡ b
 some_same a b e = cc
 
--- ---- lists, which have these parts from a place on
-
+-- a list has this part from a place on
 abbrev pub HasPart : {A : Type 0} → List A → ℕ → List A → Type 0
-HasPart all pc [] = Unit {0}
-HasPart all pc (a ∷ part) = (slice_get all pc ≡ Some a) × HasPart all (pc + 1) part
+HasPart all = Each (λ pc x. slice_get all pc ≡ Some x)
 
-module _ {A : Type 0} (all : List A) where
-  pub part_front : (pc : ℕ) (a b : List A) → HasPart all pc (a ++ b) → HasPart all pc a
-  part_front pc [] b f = tt
-  part_front pc (x ∷ a) b f = (f.0, part_front (pc + 1) a b f.1)
-
-  pub part_back : (pc : ℕ) (a b : List A) → HasPart all pc (a ++ b) → HasPart all (pc + length a) b
-  part_back pc [] b f = let e : pc ≡ pc + 0 = omega arith in subst (λ n. HasPart all n b) e f
-  part_back pc (x ∷ a) b f =
-      subst (λ n. HasPart all n b) (omega arith) (part_back (pc + 1) a b f.1)
-
-  pub seam : (before later : List A) (x : A) → slice_get (before ++ x ∷ later) (length before) ≡ Some x
-  seam [] later x = refl
-  seam (b ∷ before) later x = seam before later x
-
-  part_from : (before part : List A) → all ≡ before ++ part → HasPart all (length before) part
-  part_from before [] e = tt
-  part_from before (x ∷ part) e =
-      let n : length (before ++ x ∷ []) ≡ length before + 1 = omega (arith, length-append before (x ∷ [])) in
-      (ap (λ l. slice_get l (length before)) e ∙ seam before part x, subst (λ m. HasPart all m part) n (part_from (before ++ x ∷ []) part (e ∙ sym (append_assoc before (x ∷ []) part))))
-
-  pub has_whole : HasPart all 0 all
-  has_whole = part_from [] all refl
+pub has_whole : {A : Type 0} (all : List A) → HasPart all 0 all
+has_whole all = each_from _ 0 all (λ i x e. subst (λ n. slice_get all n ≡ Some x) (omega arith) e)
 
 -- ---- orders before which a run leaves its function, where it has emptied its variables
 
+-- What an order is on that way: it leaves the function, takes numbers before, or empties a variable before these. Or it is a message
+-- to an object, drops the temporary before the last one, or is the last step of an object's end; all others stay in the function.
+pub data Role : Type 0 where
+  Leaves : Role
+  Takes : Role
+  Empties : ℕ → Role
+  Messages : Role
+  Settles : Role
+  Ends : Role
+  Stays : Role
+
+abbrev pub role : Order → Role
+role Return = Leaves
+role Give = Leaves
+role (Plain Pop) = Takes
+role (Plain (Set depth)) = Takes
+role (Empty i) = Empties i
+role (SendTo selector takes objects wanted) = Messages
+role Settle = Settles
+role EndStep = Ends
+role _ = Stays
+
+abbrev pub role_of : Option Order → Role
+role_of None = Ends
+role_of (Some x) = role x
+
 -- an order that keeps its place in a function, and isn't the last step of an object's end, nor one that needs two temporaries
-abbrev pub Ordinary : Order → Type 0
-Ordinary Return = ⊥
-Ordinary Give = ⊥
-Ordinary EndStep = ⊥
-Ordinary Settle = ⊥
+abbrev Ordinary : Role → Type 0
+Ordinary Leaves = ⊥
+Ordinary Settles = ⊥
+Ordinary Ends = ⊥
 Ordinary _ = Unit {0}
 
-abbrev pub IsSettle : Order → Type 0
-IsSettle Settle = Unit {0}
-IsSettle _ = ⊥
+-- one that isn't on the way out of a function
+abbrev pub IsInside : Role → Type 0
+IsInside Leaves = ⊥
+IsInside Takes = ⊥
+IsInside (Empties i) = ⊥
+IsInside _ = Unit {0}
 
--- a message to an object
-abbrev pub IsMessage : Order → Type 0
-IsMessage (SendTo selector takes objects wanted) = Unit {0}
-IsMessage _ = ⊥
+-- one that drops no temporary, nor needs what a message to an object gives
+abbrev pub IsCalm : Role → Type 0
+IsCalm Messages = ⊥
+IsCalm Settles = ⊥
+IsCalm _ = Unit {0}
 
--- orders among which there is none that drops the temporary before the last one, and those without a message to an object
-not_settle : (Of : Order → Type 0) → (Of Settle → ⊥) → (x : Order) → Of x → IsSettle x → ⊥
-not_settle Of none Settle s is = none s
-not_settle Of none _ s is = is
+-- one before which the variables are emptied
+abbrev pub IsLast : Role → Type 0
+IsLast Leaves = Unit {0}
+IsLast Takes = Unit {0}
+IsLast _ = ⊥
 
-not_message : (Of : Order → Type 0) → ((selector takes objects : ℕ) (wanted : Gives) → Of (SendTo selector takes objects wanted) → ⊥)
-    → (x : Order) → Of x → IsMessage x → ⊥
-not_message Of none (SendTo selector takes objects wanted) s is = none selector takes objects wanted s
-not_message Of none _ s is = is
+-- one that is on the way, but doesn't leave the function
+abbrev IsBefore : Role → Type 0
+IsBefore Takes = Unit {0}
+IsBefore (Empties i) = Unit {0}
+IsBefore _ = ⊥
 
--- an order that takes numbers before a function is left
-abbrev pub Takes : Order → Type 0
-Takes (Plain Pop) = Unit {0}
-Takes (Plain (Set depth)) = Unit {0}
-Takes _ = ⊥
-
--- an order that leaves a function
-abbrev pub IsLeave : Order → Type 0
-IsLeave Return = Unit {0}
-IsLeave Give = Unit {0}
-IsLeave _ = ⊥
-
--- an order that doesn't, and empties no variable, nor needs what a message to an object gives
-abbrev pub Opens : Order → Type 0
-Opens (Plain Pop) = ⊥
-Opens (Plain (Set depth)) = ⊥
-Opens (Empty i) = ⊥
-Opens (SendTo selector takes objects wanted) = ⊥
-Opens Settle = ⊥
-Opens Give = ⊥
-Opens Return = ⊥
-Opens EndStep = ⊥
-Opens _ = Unit {0}
-
-opens_none : (x : Order) → Opens x → Takes x → ⊥
-opens_none (Plain Pop) opens takes = opens
-opens_none (Plain (Set depth)) opens takes = opens
-opens_none _ opens takes = takes
-
-opens_stays : (x : Order) → Opens x → IsLeave x → ⊥
-opens_stays Return opens leaves = opens
-opens_stays Give opens leaves = opens
-opens_stays _ opens leaves = leaves
-
-ordinary_stays : (x : Order) → Ordinary x → IsLeave x → ⊥
-ordinary_stays Return o leaves = o
-ordinary_stays Give o leaves = o
-ordinary_stays _ o leaves = leaves
-
-pub leaves_keep : (x : Order) (i : ℕ) → IsLeave x → x ≡ Empty i → ⊥
-leaves_keep x i leaves e = subst IsLeave e leaves
-
-needs_ordinary : (P : resolved.Program) (x : Order) (h : Height) → Needs P x h → Ordinary x
+needs_ordinary : (P : resolved.Program) (x : Order) (h : Height) → Needs P x h → Ordinary (role x)
 needs_ordinary P Return h needs = needs
 needs_ordinary P EndStep h needs = needs
 needs_ordinary P Give h needs = needs
 needs_ordinary P Settle h needs = needs
+needs_ordinary P (Plain Pop) h needs = tt
+needs_ordinary P (Plain (Set depth)) h needs = tt
 needs_ordinary P _ h needs = tt
 
 module _ (R : resolved.Program) (all : List Order) (table : List (Height × Gives)) where
+  abbrev pub role_at : ℕ → Role
+  role_at pc = role_of (slice_get all pc)
+
   -- the next n orders take numbers, and then the function is left
   abbrev pub Leaving : ℕ → ℕ → Type 0
-  Leaving zero pc = (x : Order) × (slice_get all pc ≡ Some x) × IsLeave x
-  Leaving (suc n) pc = (x : Order) × (slice_get all pc ≡ Some x) × Takes x × Leaving n (pc + 1)
+  Leaving zero pc = role_at pc ≡ Leaves
+  Leaving (suc n) pc = (role_at pc ≡ Takes) × Leaving n (pc + 1)
 
   -- the next k orders empty variables, the last one the first variable, and then the function is left
   abbrev pub Clears : ℕ → ℕ → Type 0
   Clears zero pc = (n : ℕ) × Leaving n pc
-  Clears (suc k) pc = (slice_get all pc ≡ Some (Empty k)) × Clears k (pc + 1)
+  Clears (suc k) pc = (role_at pc ≡ Empties k) × Clears k (pc + 1)
 
   -- there stands no order that drops the temporary before the last one
   abbrev pub Quiet : ℕ → Type 0
-  Quiet pc = (x : Order) → slice_get all pc ≡ Some x → IsSettle x → ⊥
+  Quiet pc = role_at pc ≡ Settles → ⊥
 
   -- nor a message to an object before such an order
   abbrev pub Free : ℕ → Type 0
-  Free pc = Quiet pc × ((x : Order) → slice_get all pc ≡ Some x → IsMessage x → Quiet (pc + 1))
+  Free pc = Quiet pc × (role_at pc ≡ Messages → Quiet (pc + 1))
 
-  pub free_at : (pc : ℕ) (x : Order) → slice_get all pc ≡ Some x → (IsSettle x → ⊥) → (IsMessage x → Quiet (pc + 1)) → Free pc
-  free_at pc x is quiet next = (λ y e settles. quiet (subst IsSettle (some_same y x (sym e ∙ is)) settles), λ y e message. next (subst IsMessage (some_same y x (sym e ∙ is)) message))
+  pub calm_free : (pc : ℕ) (r : Role) → IsCalm r → role_at pc ≡ r → Free pc
+  calm_free pc r calm e = (λ s. subst IsCalm (sym e ∙ s) calm, λ m. absurd (subst IsCalm (sym e ∙ m) calm))
+
+  -- before such an order no function is left
+  pub inside_clears : (pc : ℕ) (r : Role) → IsInside r → role_at pc ≡ r → (k : ℕ) → Clears k pc → ⊥
+  inside_clears pc r inside e zero (zero, y) = subst IsInside (sym e ∙ y) inside
+  inside_clears pc r inside e zero (suc n, y) = subst IsInside (sym e ∙ y.0) inside
+  inside_clears pc r inside e (suc k) c = subst IsInside (sym e ∙ c.0) inside
 
   -- in a function that gives this
   module _ (given : Gives) where
@@ -158,7 +137,7 @@ module _ (R : resolved.Program) (all : List Order) (table : List (Height × Give
       pub height : slice_get table pc ≡ Some (h, given)
       pub order : Order
       pub is : slice_get all pc ≡ Some order
-      pub no_end : order ≡ EndStep → ⊥
+      pub no_end : role order ≡ Ends → ⊥
 
     -- a run may go there with any variables: the function isn't left before they are emptied, but for the place of an object that it gives
     abbrev pub Goes : ℕ → Height → Type 0
@@ -192,44 +171,18 @@ module _ (R : resolved.Program) (all : List Order) (table : List (Height × Give
   StepsAt pc x = (m : Height × Gives) × (slice_get table pc ≡ Some m) × Steps m.1 m.0 pc x
 
   abbrev pub AllStep : ℕ → List Order → Type 0
-  AllStep pc [] = Unit {0}
-  AllStep pc (x ∷ xs) = StepsAt pc x × AllStep (pc + 1) xs
+  AllStep = Each StepsAt
 
   pub step_then : (pc : ℕ) (xs ys : List Order) → AllStep pc xs → AllStep (pc + length xs) ys → AllStep pc (xs ++ ys)
-  step_then pc [] ys first next = let e : pc + 0 ≡ pc = omega arith in subst (λ n. AllStep n ys) e next
-  step_then pc (x ∷ xs) ys first next =
-      (first.0, step_then (pc + 1) xs ys first.1 (subst (λ n. AllStep n ys) (omega arith) next))
-
-  -- before such an order no function is left
-  pub opens_clears : (pc : ℕ) (x : Order) → Opens x → slice_get all pc ≡ Some x → (k : ℕ) → Clears k pc → ⊥
-  opens_clears pc x opens is zero (zero, y) = opens_stays y.0 (subst Opens (some_same x y.0 (sym is ∙ y.1)) opens) y.2
-  opens_clears pc x opens is zero (suc n, y) = opens_none y.0 (subst Opens (some_same x y.0 (sym is ∙ y.1)) opens) y.2
-  opens_clears pc x opens is (suc k) c = subst Opens (some_same x (Empty k) (sym is ∙ c.0)) opens
-
-  -- before a message to an object, and before what drops a temporary, no function is left
-  message_clears : (pc : ℕ) → slice_get all pc ≡ Some (SendTo init_selector 0 0 gives.Object) → (k : ℕ) → Clears k pc → ⊥
-  message_clears pc is zero (zero, y) = not_message IsLeave (λ s t o w m. m) y.0 y.2
-      (subst IsMessage (some_same (SendTo init_selector 0 0 gives.Object) y.0 (sym is ∙ y.1)) tt)
-  message_clears pc is zero (suc n, y) = not_message Takes (λ s t o w m. m) y.0 y.2
-      (subst IsMessage (some_same (SendTo init_selector 0 0 gives.Object) y.0 (sym is ∙ y.1)) tt)
-  message_clears pc is (suc k) c = subst IsMessage (some_same (SendTo init_selector 0 0 gives.Object) (Empty k) (sym is ∙ c.0)) tt
-
-  settle_clears : (pc : ℕ) → slice_get all pc ≡ Some Settle → (k : ℕ) → Clears k pc → ⊥
-  settle_clears pc is zero (zero, y) = not_settle IsLeave (λ o. o) y.0 y.2 (subst IsSettle (some_same Settle y.0 (sym is ∙ y.1)) tt)
-  settle_clears pc is zero (suc n, y) = not_settle Takes (λ o. o) y.0 y.2 (subst IsSettle (some_same Settle y.0 (sym is ∙ y.1)) tt)
-  settle_clears pc is (suc k) c = subst IsSettle (some_same Settle (Empty k) (sym is ∙ c.0)) tt
+  step_then = each_then StepsAt
 
   -- ---- in one function
 
   module _ (given : Gives) where
-    pub opens_goes : (pc : ℕ) (h : Height) (x : Order) → Opens x → slice_get table pc ≡ Some (h, given) → slice_get all pc ≡ Some x → Goes given pc h
-    opens_goes pc h x opens e is = (
-      record { height = e; order = x; is = is; no_end = λ same. subst Opens same opens },
-      λ k c. absurd
-          (opens_clears pc x opens is k c),
-      free_at pc x is (not_settle Opens (λ o. o) x opens)
-          (λ message. absurd (not_message Opens (λ s t o w m. m) x opens message)),
-    )
+    pub opens_goes : (pc : ℕ) (h : Height) (x : Order) → role x ≡ Stays → slice_get table pc ≡ Some (h, given) → slice_get all pc ≡ Some x → Goes given pc h
+    opens_goes pc h x opens e is =
+        let at : role_at pc ≡ Stays = ap role_of is ∙ opens in
+        (record { height = e; order = x; is = is; no_end = λ end. cc }, λ k c. absurd (inside_clears pc Stays tt at k c), calm_free pc Stays tt at)
 
     -- a function without variables may be left
     pub none_goes : (pc : ℕ) (h : Height) → Stands given pc h → h.variables ≡ 0 → Free pc → Goes given pc h
@@ -268,30 +221,25 @@ module _ (R : resolved.Program) (all : List Order) (table : List (Height × Give
           let e : pc + 1 + length xs ≡ pc + length (x ∷ xs) = omega arith in
           subst (λ n. Row n (last_walk R base (next_walk R base x w) xs) ys) e (row_back (pc + 1) (next_walk R base x w) xs ys f.2)
 
-      taken_same : (x : Order) (w : Walk) → Takes x → (next_walk R base x w).height.variables ≡ w.height.variables
-      taken_same (Plain Pop) w takes = omega arith
-      taken_same (Plain (Set depth)) w takes = omega arith
-      taken_same _ w takes = absurd takes
+      variables_same : (x : Order) (w : Walk) → IsBefore (role x) → (next_walk R base x w).height.variables ≡ w.height.variables
+      variables_same (Plain Pop) w before = omega arith
+      variables_same (Plain (Set depth)) w before = omega arith
+      variables_same (Empty i) w before = omega arith
+      variables_same _ w before = absurd before
 
       -- an order that keeps its place in a function, before one to which a run may go
-      goes_before : (pc : ℕ) (w : Walk) (x : Order) → Ordinary x → slice_get table pc ≡ Some (w.height, given) → slice_get all pc ≡ Some x → Goes given (pc + 1) (next_walk R base x w).height → Goes given pc w.height
-      goes_before pc w x o height is later = (
-        record { height = height; order = x; is = is; no_end = λ same. subst Ordinary same o },
-        none later.1,
-        free_at pc x is (not_settle Ordinary (λ o. o) x o) (λ message. later.2.0),
-      )
+      goes_before : (pc : ℕ) (w : Walk) (x : Order) → Ordinary (role x) → slice_get table pc ≡ Some (w.height, given) → slice_get all pc ≡ Some x
+          → Goes given (pc + 1) (next_walk R base x w).height → Goes given pc w.height
+      goes_before pc w x o height is later =
+          (record { height = height; order = x; is = is; no_end = λ end. subst Ordinary end o }, none, (λ s. subst Ordinary (sym at ∙ s) o, λ m. later.2.0))
         where
-          none : ((k : ℕ) → Clears k (pc + 1) → (next_walk R base x w).height.variables ≤ k + as_object given) → (k : ℕ) → Clears k pc → w.height.variables ≤ k + as_object given
-          none next zero (zero, y) = absurd (ordinary_stays x o (subst IsLeave (some_same y.0 x (sym y.1 ∙ is)) y.2))
-          none next zero (suc n, y) =
-              let same = taken_same x w (subst Takes (some_same y.0 x (sym y.1 ∙ is)) y.2) in
-              let le = next zero (n, y.3) in
-              omega (arith, same, le)
-          none next (suc k) c =
-              let same : x ≡ Empty k = some_same x (Empty k) (sym is ∙ c.0) in
-              let variables : (next_walk R base x w).height.variables ≡ w.height.variables + 0 = ap (λ y. (next_walk R base y w).height.variables) same in
-              let le = next k c.1 in
-              omega (arith, variables, le)
+          at : role_at pc ≡ role x
+          at = ap role_of is
+
+          none : (k : ℕ) → Clears k pc → w.height.variables ≤ k + as_object given
+          none zero (zero, y) = absurd (subst Ordinary (sym at ∙ y) o)
+          none zero (suc n, y) = omega (arith, variables_same x w (subst IsBefore (sym y.0 ∙ at) tt), later.1 zero (n, y.1))
+          none (suc k) c = omega (arith, variables_same x w (subst IsBefore (sym c.0 ∙ at) tt), later.1 k c.1)
 
       -- orders that go on with the next one each
       pub typed_steps : (pc : ℕ) (h : Height) (pending : List Height) (xs : List Order) (g : Height) → Types R 0 0 h xs g → Row pc (walk h pending) xs → Goes given (pc + length xs) g → Goes given pc h × AllStep pc xs
@@ -309,47 +257,42 @@ module _ (R : resolved.Program) (all : List Order) (table : List (Height × Give
 
       abbrev pub AllTake : List Order → Type 0
       AllTake [] = Unit {0}
-      AllTake (x ∷ xs) = Takes x × AllTake xs
+      AllTake (x ∷ xs) = (role x ≡ Takes) × AllTake xs
 
       -- where they begin the variables are empty
-      pub takes_stand : (pc : ℕ) (w : Walk) (xs : List Order) (leave : Order) → IsLeave leave → AllTake xs → Row pc w (xs ++ leave ∷ []) → Stands given pc w.height × ((k : ℕ) → Clears k pc → k ≡ 0) × Free pc
-      takes_stand pc w [] leave leaves takes f = (
-        record { height = f.0; order = leave; is = f.1; no_end = λ same. subst IsLeave same leaves },
-        only,
-        free_at pc leave f.1
-            (not_settle IsLeave (λ o. o) leave leaves) (λ message. absurd (not_message IsLeave (λ s t o w m. m) leave leaves message)),
-      )
-        where
-          only : (k : ℕ) → Clears k pc → k ≡ 0
-          only zero c = refl
-          only (suc k) c = absurd (leaves_keep leave k leaves (some_same leave (Empty k) (sym f.1 ∙ c.0)))
-      takes_stand pc w (x ∷ xs) leave leaves takes f = (
-        record { height = f.0; order = x; is = f.1; no_end = λ same. subst Takes same takes.0 },
-        only,
-        free_at pc x f.1
-            (not_settle Takes (λ o. o) x takes.0) (λ message. absurd (not_message Takes (λ s t o w m. m) x takes.0 message)),
-      )
-        where
-          only : (k : ℕ) → Clears k pc → k ≡ 0
-          only zero c = refl
-          only (suc k) c = absurd (subst Takes (some_same x (Empty k) (sym f.1 ∙ c.0)) takes.0)
+      abbrev pub Emptied : ℕ → Height → Type 0
+      Emptied pc h = Stands given pc h × ((k : ℕ) → Clears k pc → k ≡ 0) × Free pc
 
-      pub takes_step : (pc : ℕ) (h : Height) (pending : List Height) (xs : List Order) (g : Height) (leave : Order) → IsLeave leave → AllTake xs → Types R 0 0 h xs g → Row pc (walk h pending) (xs ++ leave ∷ []) → AllStep pc xs
+      last_stands : (pc : ℕ) (h : Height) (x : Order) (r : Role) → IsLast r → role x ≡ r → slice_get table pc ≡ Some (h, given) → slice_get all pc ≡ Some x
+          → Emptied pc h
+      last_stands pc h x r last e height is =
+          let at : role_at pc ≡ r = ap role_of is ∙ e in
+          (record { height = height; order = x; is = is; no_end = λ end. subst IsLast (sym e ∙ end) last }, only at, (λ s. subst IsLast (sym at ∙ s) last, λ m. absurd (subst IsLast (sym at ∙ m) last)))
+        where
+          only : role_at pc ≡ r → (k : ℕ) → Clears k pc → k ≡ 0
+          only at zero c = refl
+          only at (suc k) c = absurd (subst IsLast (sym at ∙ c.0) last)
+
+      pub takes_stand : (pc : ℕ) (w : Walk) (xs : List Order) (leave : Order) → role leave ≡ Leaves → AllTake xs → Row pc w (xs ++ leave ∷ []) → Emptied pc w.height
+      takes_stand pc w [] leave leaves takes f = last_stands pc w.height leave Leaves tt leaves f.0 f.1
+      takes_stand pc w (x ∷ xs) leave leaves takes f = last_stands pc w.height x Takes tt takes.0 f.0 f.1
+
+      pub takes_step : (pc : ℕ) (h : Height) (pending : List Height) (xs : List Order) (g : Height) (leave : Order) → role leave ≡ Leaves → AllTake xs → Types R 0 0 h xs g → Row pc (walk h pending) (xs ++ leave ∷ []) → AllStep pc xs
       takes_step pc h pending [] g leave leaves takes t f = tt
       takes_step pc h pending (x ∷ xs) g leave leaves takes t f =
           let needs : Needs R x h = subst (Needs R x) (over_none h) t.0 in
           let rest : Row (pc + 1) (walk (next_height R x h) pending) (xs ++ leave ∷ []) = subst (λ w. Row (pc + 1) w (xs ++ leave ∷ [])) (next_same R base x (walk h pending) h needs) f.2 in
           let there = takes_stand (pc + 1) (walk (next_height R x h) pending) xs leave leaves takes.1 rest in
-          (((h, given), f.0, by x takes.0 needs f.1 there), takes_step (pc + 1) (next_height R x h) pending xs g leave leaves takes.1 t.1 rest)
+          (((h, given), f.0, by x takes.0 needs there), takes_step (pc + 1) (next_height R x h) pending xs g leave leaves takes.1 t.1 rest)
         where
-          again : (y : Order) → Takes y → slice_get all pc ≡ Some y → (k : ℕ) → k ≡ 0 → Clears k (pc + 1) → Clears k pc
-          again y keeps is zero none c = (suc c.0, (y, is, keeps, c.1))
-          again y keeps is (suc k) none c = absurd (omega (arith, none))
+          again : (k : ℕ) → k ≡ 0 → Clears k (pc + 1) → Clears k pc
+          again zero none c = (suc c.0, (ap role_of f.1 ∙ takes.0, c.1))
+          again (suc k) none c = absurd (omega (arith, none))
 
-          by : (y : Order) → Takes y → Needs R y h → slice_get all pc ≡ Some y → Stands given (pc + 1) (next_height R y h) × ((k : ℕ) → Clears k (pc + 1) → k ≡ 0) × Free (pc + 1) → Steps given h pc y
-          by (Plain Pop) keeps needs is there = (needs, (there.0, λ k c. inl (again (Plain Pop) keeps is k (there.1 k c) c)), inl there.2)
-          by (Plain (Set depth)) keeps needs is there = (needs, (there.0, λ k c. inl (again (Plain (Set depth)) keeps is k (there.1 k c) c)), inl there.2)
-          by _ keeps needs is there = absurd keeps
+          by : (y : Order) → role y ≡ Takes → Needs R y h → Emptied (pc + 1) (next_height R y h) → Steps given h pc y
+          by (Plain Pop) keeps needs there = (needs, (there.0, λ k c. inl (again k (there.1 k c) c)), inl there.2)
+          by (Plain (Set depth)) keeps needs there = (needs, (there.0, λ k c. inl (again k (there.1 k c) c)), inl there.2)
+          by _ keeps needs there = absurd (cc)
 
     -- ---- blocks, in a function that is left from a place
 
@@ -379,10 +322,10 @@ module _ (R : resolved.Program) (all : List Order) (table : List (Height × Give
       -- that jump leads to the test or to the body
       enter_steps : (entry : Entry) (n m pc : ℕ) (pending : List Height) (xs : List Order) → Goes given (pc + enter_size entry) base → Goes given (pc + enter_size entry + n) base → Goes given (pc + enter_size entry + n + m + 1) base → Row base pc (walk base pending) (enter_orders entry n m ++ xs) → AllStep (pc + enter_size entry) xs → Goes given pc base × AllStep pc (enter_orders entry n m ++ xs)
       enter_steps AtStep n m pc pending xs stepped tested turned f steps = let e : pc + 0 ≡ pc = omega arith in (subst (λ q. Goes given q base) e stepped, subst (λ q. AllStep q xs) e steps)
-      enter_steps AtTest n m pc pending xs stepped tested turned f steps = (opens_goes pc base (Jump (Skip n)) tt f.0 f.1, (((base, given), f.0, (0, omega arith, tested)), steps))
+      enter_steps AtTest n m pc pending xs stepped tested turned f steps = (opens_goes pc base (Jump (Skip n)) refl f.0 f.1, (((base, given), f.0, (0, omega arith, tested)), steps))
       enter_steps AtBody n m pc pending xs stepped tested turned f steps =
           let e : pc + 1 + n + m + 1 ≡ pc + 1 + (n + m + 1) = omega arith in
-          (opens_goes pc base (Jump (Skip (n + m + 1))) tt f.0 f.1, (((base, given), f.0, (0, omega arith, subst (λ q. Goes given q base) e turned)), steps))
+          (opens_goes pc base (Jump (Skip (n + m + 1))) refl f.0 f.1, (((base, given), f.0, (0, omega arith, subst (λ q. Goes given q base) e turned)), steps))
 
       module _ (leaves : Goes given exit test) where
         abbrev Keeps_on : (statement : Bool) → (before after : List Height) → Type 0
@@ -405,12 +348,13 @@ module _ (R : resolved.Program) (all : List Order) (table : List (Height × Give
             let message : Order = SendTo init_selector 0 0 gives.Object in
             let two = next_height R message one in
             let size : pc + 3 ≡ pc + 1 + 1 + 1 = omega arith in
-            let at_message : Stands given (pc + 1) one = record { height = f.2.0; order = message; is = f.2.1; no_end = λ same. subst IsMessage same tt } in
-            let at_settle : Stands given (pc + 1 + 1) two = record { height = f.2.2.0; order = Settle; is = f.2.2.1; no_end = λ same. subst IsSettle same tt } in (
-              opens_goes pc h (Plain Alloc) tt f.0 f.1,
+            let sent : role_at (pc + 1) ≡ Messages = ap role_of f.2.1 in
+            let at_message : Stands given (pc + 1) one = record { height = f.2.0; order = message; is = f.2.1; no_end = λ end. cc } in
+            let at_settle : Stands given (pc + 1 + 1) two = record { height = f.2.2.0; order = Settle; is = f.2.2.1; no_end = λ end. cc } in (
+              opens_goes pc h (Plain Alloc) refl f.0 f.1,
               (
-                ((h, given), f.0, (omega (arith, t.0), (at_message, λ k c. absurd (message_clears (pc + 1) f.2.1 k c)), inr (refl, λ y e settles. subst IsSettle (some_same y message (sym e ∙ f.2.1)) settles))),
-                (((one, given), f.2.0, ((omega arith, omega arith), (at_settle, λ k c. absurd (settle_clears (pc + 1 + 1) f.2.2.1 k c)), inr (refl, refl, refl, f.2.2.1))), (((two, given), f.2.2.0, subst (Goes given (pc + 1 + 1 + 1)) (sym t.1) (subst (λ n. Goes given n g) size end)), tt)),
+                ((h, given), f.0, (omega (arith, t.0), (at_message, λ k c. absurd (inside_clears (pc + 1) Messages tt sent k c)), inr (refl, λ s. cc))),
+                (((one, given), f.2.0, ((omega arith, omega arith), (at_settle, λ k c. absurd (inside_clears (pc + 1 + 1) Settles tt (ap role_of f.2.2.1) k c)), inr (refl, refl, refl, f.2.2.1))), (((two, given), f.2.2.0, subst (Goes given (pc + 1 + 1 + 1)) (sym t.1) (subst (λ n. Goes given n g) size end)), tt)),
               ),
             )
         block_steps e turn l statement (IfNew class x y) h g pc pending here ways keeps t f end = either (has_new R class) (block_steps e turn l statement x h g pc pending here ways keeps) (block_steps e turn l statement y h g pc pending here ways keeps) t f end
@@ -453,9 +397,9 @@ module _ (R : resolved.Program) (all : List Order) (table : List (Height × Give
             let kept = keeps_on R 0 0 slots names exit base statement pending others (keeps_rest R 0 0 slots names exit base statement i pending after.0 keeps after.1) in
             let part = subst (λ n. Row base two (walk n others) ys) (part_same R 0 0 slots names exit base statement i m pending after.0 t.3 after.1) after.2.2 in
             let second = block_steps other turn l statement y j g two others (λ s. ap (λ e. past 1 (past (length xs) (past 1 e))) (here s)) ways kept t.5 part last in
-            let first = block_steps inner turn l statement x i m one (i ∷ pending) (λ s. ap (past 1) (here s)) ways more t.4 (row_front base one (walk i (i ∷ pending)) xs rest inside) (opens_goes (one + length xs) m over tt after.2.0 after.2.1) in
+            let first = block_steps inner turn l statement x i m one (i ∷ pending) (λ s. ap (past 1) (here s)) ways more t.4 (row_front base one (walk i (i ∷ pending)) xs rest inside) (opens_goes (one + length xs) m over refl after.2.0 after.2.1) in
             let chosen = subst (λ n. Goes given one n × Leads given (lands pc to) n) (sym t.2.left) (first.0, (t.1, t.2.first, subst (λ q. Goes given q j) there second.0)) in (
-              opens_goes pc h (JumpZero to) tt f.0 f.1,
+              opens_goes pc h (JumpZero to) refl f.0 f.1,
               (((h, given), f.0, (t.2.some, chosen.0, chosen.1)), step_then one xs rest first.1 (((m, given), after.2.0, (g.temporaries, t.2.next, last)), second.1)),
             )
         block_steps e turn l true (Loop entry z x y) h g pc pending here ways keeps t f end =
@@ -491,11 +435,11 @@ module _ (R : resolved.Program) (all : List Order) (table : List (Height × Give
             let most = keeps_test R 0 0 slots names exit base true base chosen.0 refl (keeps_on R 0 0 slots names exit base true stepped.0 chosen.0 chosen.1) in
             let inside = subst (λ n. Row base one (walk n (n ∷ chosen.0)) (xs ++ again)) less chosen.2.2 in
             let after = later at_body true true y base base one (base ∷ chosen.0) again most t.4 inside in
-            let goes_out = opens_goes q test out tt chosen.2.0 chosen.2.1 in
+            let goes_out = opens_goes q test out refl chosen.2.0 chosen.2.1 in
             let tests = block_steps at_test turn l true x base test q0 stepped.0 (λ s. ap (λ e. past (length zs) (past (enter_size entry) e)) (here s)) ways more t.3 (row_front base q0 (walk base stepped.0) ts rest stepped.2) goes_out in
             let steps = block_steps begin turn l true z base base first others (λ s. ap (past (enter_size entry)) (here s)) ways kept t.2 (row_front base first (walk base others) zs (ts ++ rest) turned) tests.0 in
             let inner : Turn = record { begin = first; out = q } in
-            let turns = block_steps at_body inner true true y base base one (base ∷ chosen.0) (λ s. ap (λ e. body_spot (length zs) (length ts) (past (enter_size entry) e)) (here s)) (λ s. (goes_out, steps.0)) most t.4 (row_front base one (walk base (base ∷ chosen.0)) xs again inside) (opens_goes (one + length xs) base (Jump back_to) tt after.2.0 after.2.1) in
+            let turns = block_steps at_body inner true true y base base one (base ∷ chosen.0) (λ s. ap (λ e. body_spot (length zs) (length ts) (past (enter_size entry) e)) (here s)) (λ s. (goes_out, steps.0)) most t.4 (row_front base one (walk base (base ∷ chosen.0)) xs again inside) (opens_goes (one + length xs) base (Jump back_to) refl after.2.0 after.2.1) in
             let both = subst (λ n. Goes given one n × Leads given (lands q to) n) (sym less) (turns.0, (0, omega arith, subst (λ n. Goes given n base) there last)) in
             let whole = enter_steps entry (length zs) (length ts) pc pending (zs ++ (ts ++ rest)) steps.0 tests.0 turns.0 start (step_then first zs (ts ++ rest) steps.1 (step_then q0 ts rest tests.1 (
               ((test, given), chosen.2.0, (omega arith, both.0, both.1)),
@@ -504,13 +448,13 @@ module _ (R : resolved.Program) (all : List Order) (table : List (Height × Give
             (subst (Goes given pc) (sym t.1) whole.0, whole.1)
         block_steps e turn l true Quit h g pc pending here ways keeps t f end =
             let goes = subst (λ n. Goes given n test) (sym (ap (λ e. (turn_at e).out) (here refl))) (ways t.1).0 in
-            let up : next_height R (Plain (Num (pos 0))) base ≡ test = heights_same _ _ _ _ (suc slots) 0 0 names (omega arith) (omega arith) (omega arith) (omega arith) in
-            let next = opens_goes (pc + 1) _ (Jump (At (turn_at e).out)) tt f.2.0 f.2.1 in
-            (opens_goes pc h (Plain (Num (pos 0))) tt f.0 f.1, (((h, given), f.0, (omega arith, (next.0, λ k c. inr (next.1 k c)), inl next.2)), (((next_height R (Plain (Num (pos 0))) h, given), f.2.0, subst (λ n. Leads given (turn_at e).out n) (sym (ap (next_height R (Plain (Num (pos 0)))) t.2 ∙ up)) (0, omega arith, goes)), tt)))
+            let up : next_height R (Plain (Num (pos 0))) base ≡ test = alike_same _ _ (omega arith) in
+            let next = opens_goes (pc + 1) _ (Jump (At (turn_at e).out)) refl f.2.0 f.2.1 in
+            (opens_goes pc h (Plain (Num (pos 0))) refl f.0 f.1, (((h, given), f.0, (omega arith, (next.0, λ k c. inr (next.1 k c)), inl next.2)), (((next_height R (Plain (Num (pos 0))) h, given), f.2.0, subst (λ n. Leads given (turn_at e).out n) (sym (ap (next_height R (Plain (Num (pos 0)))) t.2 ∙ up)) (0, omega arith, goes)), tt)))
         block_steps e turn l true Advance h g pc pending here ways keeps t f end =
             let goes = subst (λ n. Goes given n base) (sym (ap (λ e. (turn_at e).begin) (here refl))) (ways t.1).1 in
-            (opens_goes pc h (Jump (At (turn_at e).begin)) tt f.0 f.1, (((h, given), f.0, subst (λ n. Leads given (turn_at e).begin n) (sym t.2) (0, omega arith, goes)), tt))
-        block_steps e turn l true (Leave to) h g pc pending here ways keeps t f end = (opens_goes pc h (Jump (At to)) tt f.0 f.1, (((h, given), f.0, subst (λ n. Leads given to n) (sym t.2) (0, omega arith, subst (λ q. Goes given q test) (sym t.1) leaves)), tt))
+            (opens_goes pc h (Jump (At (turn_at e).begin)) refl f.0 f.1, (((h, given), f.0, subst (λ n. Leads given (turn_at e).begin n) (sym t.2) (0, omega arith, goes)), tt))
+        block_steps e turn l true (Leave to) h g pc pending here ways keeps t f end = (opens_goes pc h (Jump (At to)) refl f.0 f.1, (((h, given), f.0, subst (λ n. Leads given to n) (sym t.2) (0, omega arith, subst (λ q. Goes given q test) (sym t.1) leaves)), tt))
         block_steps e turn l false (Loop entry z x y) h g pc pending here ways keeps t f end = absurd (true≢false (sym t.0))
         block_steps e turn l false Quit h g pc pending here ways keeps t f end = absurd (true≢false (sym t.0))
         block_steps e turn l false Advance h g pc pending here ways keeps t f end = absurd (true≢false (sym t.0))

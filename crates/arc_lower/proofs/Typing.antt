@@ -67,6 +67,13 @@ parameters_same P wanted f = ap object_parameters (function_same P wanted f)
 pub heights_same : (a b c d n m t v : ℕ) → a ≡ n → b ≡ m → c ≡ t → d ≡ v → height a b c d ≡ height n m t v
 heights_same a b c d n m t v e f g h = ap (λ x. height x b c d) e ∙ ap (λ x. height n x c d) f ∙ ap (λ x. height n m x d) g ∙ ap (height n m t) h
 
+-- heights of which each number is the same
+abbrev pub Alike : Height → Height → Type 0
+Alike h i = (h.numbers ≡ i.numbers) × (h.names ≡ i.names) × (h.temporaries ≡ i.temporaries) × (h.variables ≡ i.variables)
+
+pub alike_same : (h i : Height) → Alike h i → h ≡ i
+alike_same h i e = heights_same _ _ _ _ _ _ _ _ e.0 e.1 e.2 e.3
+
 pred_less : (n : ℕ) → pred n ≤ n
 pred_less zero = omega arith
 pred_less (suc n) = omega arith
@@ -80,7 +87,7 @@ abbrev pub over : (r s : ℕ) → Height → Height
 over r s h = height (h.numbers + r) h.names h.temporaries (h.variables + s)
 
 pub over_none : (h : Height) → over 0 0 h ≡ h
-over_none h = heights_same (h.numbers + 0) h.names h.temporaries (h.variables + 0) h.numbers h.names h.temporaries h.variables (omega arith) refl refl (omega arith)
+over_none h = alike_same _ _ (omega arith)
 
 -- what an effect takes that isn't there at a height
 abbrev pub lacking : Effect → Height → ℕ
@@ -136,23 +143,20 @@ module _ (P : Program) (r s : ℕ) where
   types_then h [] g ys i first next = subst (λ x. Types x ys i) (sym first) next
   types_then h (x ∷ xs) g ys i first next = (first.0, types_then (next_height P x h) xs g ys i first.1 next)
 
-  pub types_same : (h : Height) (xs : List Order) (g i : Height) → g ≡ i → Types h xs g → Types h xs i
-  types_same h xs g i e t = subst (Types h xs) e t
+  types_at : (h i : Height) (xs : List Order) (g j : Height) → Types h xs g → Alike h i → Alike g j → Types i xs j
+  types_at h i xs g j t e f = subst (λ x. Types x xs j) (alike_same h i e) (subst (Types h xs) (alike_same g j f) t)
 
   -- ---- numbers alone
 
   module _ (b c d : ℕ) where
     numbers_same : (taken given a n : ℕ) → a - taken + given ≡ n → height (a - taken + given) (b - 0 + 0) (c + 0) (d + 0) ≡ height n b c d
-    numbers_same taken given a n e = heights_same _ _ _ _ n b c d e (omega arith) (omega arith) (omega arith)
+    numbers_same taken given a n e = alike_same _ _ (omega (arith, e))
 
     abbrev pub Counts : (a : ℕ) → List Order → (n : ℕ) → Type 0
     Counts a xs n = Types (height a b c d) xs (height n b c d)
 
     pub counts_then : (a : ℕ) (xs : List Order) (n : ℕ) (ys : List Order) (u : ℕ) → Counts a xs n → Counts n ys u → Counts a (xs ++ ys) u
     counts_then a xs n ys u first next = types_then (height a b c d) xs (height n b c d) ys (height u b c d) first next
-
-    pub counts_same : (a : ℕ) (xs : List Order) (n u : ℕ) → n ≡ u → Counts a xs n → Counts a xs u
-    counts_same a xs n u e t = subst (λ m. Counts a xs m) e t
 
     -- an operation before others, and an operation alone
     pub op : (taken given a : ℕ) (o : Op) (xs : List Order) (n u : ℕ) → operation_effect o ≡ on_numbers taken given → Reaches o (height (a + r) b c (d + s)) → a - taken + given ≡ n → Counts n xs u → Counts a (Plain o ∷ xs) u
@@ -172,17 +176,14 @@ module _ (P : Program) (r s : ℕ) where
 
     pub zeros_type : (n a : ℕ) → Counts a (zero_orders n) (n + a)
     zeros_type zero a = ap (λ x. height x b c d) (omega arith)
-    zeros_type (suc n) a = op 0 1 a (Num (pos 0)) (zero_orders n) (suc a) (suc n + a) refl (omega arith) (omega arith) (counts_same (suc a) (zero_orders n) (n + suc a) (suc n + a) (omega arith) (zeros_type n (suc a)))
-
-    fit_by : (values slots a pops zeros : ℕ) → pops ≡ values - slots → zeros ≡ slots - values → Counts (values + a) (pop_orders pops ++ zero_orders zeros) (slots + a)
-    fit_by values slots a pops zeros e f =
-        let rest = values + a - pops in
-        counts_then (values + a) (pop_orders pops) rest (zero_orders zeros) (slots + a)
-        (subst (λ n. Counts n (pop_orders pops) rest) (omega (arith, e)) (pops_type pops rest))
-        (counts_same rest (zero_orders zeros) (zeros + rest) (slots + a) (omega (arith, e, f)) (zeros_type zeros rest))
+    zeros_type (suc n) a = op 0 1 a (Num (pos 0)) (zero_orders n) (suc a) (suc n + a) refl (omega arith) (omega arith) (types_at _ _ _ _ _ (zeros_type n (suc a)) (omega arith) (omega arith))
 
     pub fit_types : (values slots a : ℕ) → Counts (values + a) (fit_orders values slots) (slots + a)
-    fit_types values slots a = fit_by values slots a (values - slots) (slots - values) refl refl
+    fit_types values slots a =
+        let rest = values + a - (values - slots) in
+        counts_then (values + a) (pop_orders (values - slots)) rest (zero_orders (slots - values)) (slots + a)
+        (types_at _ _ _ _ _ (pops_type (values - slots) rest) (omega arith) (omega arith))
+        (types_at _ _ _ _ _ (zeros_type (slots - values) rest) (omega arith) (omega arith))
 
     -- ---- formats, above the count of bytes
 
@@ -233,23 +234,21 @@ module _ (P : Program) (r s : ℕ) where
   -- ---- references, and calls
 
   pub forgets_type : (n a b c d : ℕ) → Types (height a (n + b) c d) (forget_orders n) (height a b c d)
-  forgets_type zero a b c d = heights_same a (0 + b) c d a b c d refl (omega arith) refl refl
-  forgets_type (suc n) a b c d = (omega arith, subst (λ h. Types h (forget_orders n) (height a b c d)) (heights_same a (n + b) c d _ _ _ _ (omega arith) (omega arith) (omega arith) (omega arith)) (forgets_type n a b c d))
+  forgets_type zero a b c d = alike_same _ _ (omega arith)
+  forgets_type (suc n) a b c d = (omega arith, types_at _ _ _ _ _ (forgets_type n a b c d) (omega arith) (omega arith))
 
   nils_type : (n a b c d : ℕ) → Types (height a b c d) (nil_orders n) (height a (n + b) c d)
-  nils_type zero a b c d = heights_same a b c d a (0 + b) c d refl (omega arith) refl refl
-  nils_type (suc n) a b c d = (
-    omega arith,
-    subst (λ h. Types h (nil_orders n) (height a (suc n + b) c d)) (heights_same a (suc b) c d _ _ _ _ (omega arith) (omega arith) (omega arith) (omega arith))
-        (types_same (height a (suc b) c d) (nil_orders n) (height a (n + suc b) c d) (height a (suc n + b) c d) (heights_same a (n + suc b) c d a (suc n + b) c d refl (omega arith) refl refl) (nils_type n a (suc b) c d)),
-  )
+  nils_type zero a b c d = alike_same _ _ (omega arith)
+  nils_type (suc n) a b c d = (omega arith, types_at _ _ _ _ _ (nils_type n a (suc b) c d) (omega arith) (omega arith))
 
-  fit_objects_by : (objects parameters a b c d forgets nils : ℕ) → forgets ≡ objects - parameters → nils ≡ parameters - objects → Types (height a (objects + b) c d) (forget_orders forgets ++ nil_orders nils) (height a (parameters + b) c d)
-  fit_objects_by objects parameters a b c d forgets nils e f =
-      let rest = objects + b - forgets in
-      types_then (height a (objects + b) c d) (forget_orders forgets) (height a rest c d) (nil_orders nils) (height a (parameters + b) c d)
-      (subst (λ n. Types (height a n c d) (forget_orders forgets) (height a rest c d)) (omega (arith, e)) (forgets_type forgets a rest c d))
-      (subst (λ n. Types (height a rest c d) (nil_orders nils) (height a n c d)) (omega (arith, e, f)) (nils_type nils a rest c d))
+  fit_objects_type : (objects parameters a b c d : ℕ)
+      → Types (height a (objects + b) c d) (fit_object_orders objects parameters) (height a (parameters + b) c d)
+  fit_objects_type objects parameters a b c d =
+      let rest = objects + b - (objects - parameters) in
+      types_then (height a (objects + b) c d) (forget_orders (objects - parameters)) (height a rest c d) (nil_orders (parameters - objects))
+      (height a (parameters + b) c d)
+      (types_at _ _ _ _ _ (forgets_type (objects - parameters) a rest c d) (omega arith) (omega arith))
+      (types_at _ _ _ _ _ (nils_type (parameters - objects) a rest c d) (omega arith) (omega arith))
 
   -- so many numbers and references become what a function takes
   pub passing_types : (wanted : Gives) (f values objects a b c d : ℕ) → Types (height (values + a) (objects + b) c d) (passing_orders P wanted f values objects) (height (slots_of P wanted f + a) (parameters_of P wanted f + b) c d)
@@ -258,7 +257,7 @@ module _ (P : Program) (r s : ℕ) where
       let parameters = parameters_of P wanted f in
       types_then (height (values + a) (objects + b) c d) (fit_orders values slots) (height (slots + a) (objects + b) c d) (fit_object_orders objects parameters) (height (slots + a) (parameters + b) c d)
       (fit_types (objects + b) c d values slots a)
-      (fit_objects_by objects parameters (slots + a) b c d (objects - parameters) (parameters - objects) refl refl)
+      (fit_objects_type objects parameters (slots + a) b c d)
 
   -- a call leaves a number, or a reference and a temporary
   pub call_types : (wanted : Gives) (b c d f values objects a : ℕ) → Types (height (values + a) (objects + b) c d) (call_orders P wanted f values objects) (height (as_number wanted + a) (as_object wanted + b) (c + as_object wanted) d)
@@ -270,14 +269,13 @@ module _ (P : Program) (r s : ℕ) where
       let end = height (as_number wanted + a) (as_object wanted + b) (c + as_object wanted) d in
       types_then (height (values + a) (objects + b) c d) (passing_orders P wanted f values objects) (height (slots + a) (parameters + b) c d) (Call (number_of P wanted f) wanted ∷ []) end
       (passing_types wanted f values objects a b c d)
-      ((omega (arith, same), number_there P wanted f, omega (arith, other)), heights_same _ _ _ _ (as_number wanted + a) (as_object wanted + b) (c + as_object wanted) d (omega (arith, same)) (omega (arith, other)) (omega arith) (omega arith))
+      ((omega (arith, same), number_there P wanted f, omega (arith, other)), alike_same _ _ (omega (arith, same, other)))
 
   -- ---- variables that name objects
 
   pub declare_types : (n a b d : ℕ) → Types (height a b 0 d) (declare_orders n) (height a b 0 (n + d))
-  declare_types zero a b d = heights_same _ _ _ _ a b 0 (0 + d) refl refl refl (omega arith)
-  declare_types (suc n) a b d =
-      (refl, subst (λ h. Types h (declare_orders n) (height a b 0 (suc n + d))) (heights_same a b 0 (d + 1) _ _ _ _ (omega arith) (omega arith) (omega arith) (omega arith)) (types_same (height a b 0 (d + 1)) (declare_orders n) (height a b 0 (n + (d + 1))) (height a b 0 (suc n + d)) (heights_same _ _ _ _ a b 0 (suc n + d) refl refl refl (omega arith)) (declare_types n a b (d + 1))))
+  declare_types zero a b d = alike_same _ _ (omega arith)
+  declare_types (suc n) a b d = (refl, types_at _ _ _ _ _ (declare_types n a b (d + 1)) (omega arith) (omega arith))
 
   module _ (names a b c d : ℕ) (room : names ≤ d + s) where
     abbrev stays : Height
@@ -285,7 +283,7 @@ module _ (P : Program) (r s : ℕ) where
 
     empty_types : (i : ℕ) → Types stays (empty_orders names i) stays
     empty_types i = by_test (λ t. Types stays (if t then Empty i ∷ [] else []) stays) (nat_lt i names)
-        (λ e. let lt = ltb-true i names e in (omega (arith, lt, room), heights_same _ _ _ _ a b c d (omega arith) (omega arith) (omega arith) (omega arith)))
+        (λ e. let lt = ltb-true i names e in (omega (arith, lt, room), alike_same _ _ (omega arith)))
         (λ e. refl)
 
     pub all_empty_type : (first count : ℕ) → Types stays (all_empty_orders names first count) stays
@@ -293,32 +291,30 @@ module _ (P : Program) (r s : ℕ) where
     all_empty_type first (suc n) = types_then stays (empty_orders names (first + n)) stays (all_empty_orders names first n) stays (empty_types (first + n)) (all_empty_type first n)
 
     pub store_types : (i : Location) → 1 ≤ b → Types stays (store_orders names i) stays
-    store_types (Global i) some = (some, heights_same _ _ _ _ a b c d (omega arith) (omega (arith, some)) (omega arith) (omega arith))
+    store_types (Global i) some = (some, alike_same _ _ (omega (arith, some)))
     store_types (Local i) some = by_test (λ t. Types stays (if t then StoreStrong i ∷ [] else []) stays) (nat_lt i names)
-        (λ e. let lt = ltb-true i names e in ((some, omega (arith, lt, room)), heights_same _ _ _ _ a b c d (omega arith) (omega (arith, some)) (omega arith) (omega arith)))
+        (λ e. let lt = ltb-true i names e in ((some, omega (arith, lt, room)), alike_same _ _ (omega (arith, some))))
         (λ e. refl)
 
   -- so many variables, from the first one on, take what the last references name
   pub take_types : (first n a b c d : ℕ) → n ≤ d + s - first → Types (height a (n + b) c d) (take_orders first n) (height a b c d)
-  take_types first zero a b c d room = heights_same a (0 + b) c d a b c d refl (omega arith) refl refl
-  take_types first (suc n) a b c d room = (
-    (omega arith, omega (arith, room)),
-    (omega arith, subst (λ h. Types h (take_orders first n) (height a b c d)) (heights_same a (n + b) c d _ _ _ _ (omega arith) (omega arith) (omega arith) (omega arith)) (take_types first n a b c d (omega (arith, room)))),
-  )
+  take_types first zero a b c d room = alike_same _ _ (omega arith)
+  take_types first (suc n) a b c d room =
+      ((omega arith, omega (arith, room)), (omega arith, types_at _ _ _ _ _ (take_types first n a b c d (omega (arith, room))) (omega arith) (omega arith)))
 
   -- the first variable takes `self`
   pub own_types : (names a d : ℕ) → names ≤ d + s → Types (height a 0 0 d) (own_orders names) (height a 0 0 d)
   own_types zero a d room = refl
   own_types (suc n) a d room = (
     omega arith,
-    ((omega arith, omega (arith, room)), (omega arith, (omega arith, heights_same _ _ _ _ a 0 0 d (omega arith) (omega arith) refl (omega arith)))),
+    ((omega arith, omega (arith, room)), (omega arith, (omega arith, alike_same _ _ (omega arith)))),
   )
 
   pub read_types : (names : ℕ) (i : Location) (a b c d : ℕ) → names ≤ d + s → Types (height a b c d) (read_orders names i) (height a (suc b) (c + 1) d)
-  read_types names (Global i) a b c d room = (omega arith, heights_same _ _ _ _ a (suc b) (c + 1) d (omega arith) (omega arith) (omega arith) (omega arith))
+  read_types names (Global i) a b c d room = (omega arith, alike_same _ _ (omega arith))
   read_types names (Local i) a b c d room = by_test (λ t. Types (height a b c d) (if t then Plain (ReadRef i) ∷ [] else Plain Nil ∷ Plain Hold ∷ []) (height a (suc b) (c + 1) d)) (nat_lt i names)
-      (λ e. let lt = ltb-true i names e in (omega (arith, lt, room), heights_same _ _ _ _ a (suc b) (c + 1) d (omega arith) (omega arith) (omega arith) (omega arith)))
-      (λ e. (omega arith, (omega arith, heights_same _ _ _ _ a (suc b) (c + 1) d (omega arith) (omega arith) (omega arith) (omega arith))))
+      (λ e. let lt = ltb-true i names e in (omega (arith, lt, room), alike_same _ _ (omega arith)))
+      (λ e. (omega arith, (omega arith, alike_same _ _ (omega arith))))
 
   pub drop_types : (takes : Bool) (a c d : ℕ) → (takes ≡ false → c ≡ 0) → Types (height a 0 c d) (if takes then DropAll ∷ [] else []) (height a 0 0 d)
   drop_types true a c d none = (refl, refl)

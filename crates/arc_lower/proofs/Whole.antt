@@ -1,5 +1,5 @@
 -- When steps that show what is meant behave as it is meant.
-use Rattle.std.proofs.Common.{◌≡◌, ℕ, ◌≤◌, ◌<◌, List, Option, Some, None, refl, sym, ap, ◌∙◌, subst, arith, ⊎_elim, ◌+◌, ℤ, pos, [], ◌∷◌, ◌++◌, length, length-append, inl, inr}
+use Rattle.std.proofs.Common.{◌≡◌, ℕ, ◌≤◌, ◌<◌, List, Option, Some, None, refl, sym, ap, ◌∙◌, subst, arith, ⊎_elim, ◌+◌, ℤ, pos, [], ◌∷◌, ◌++◌, length, length-append, le_of_eq, inl, inr}
 use Rattle.std.proofs.lemmas.Bool.{cases_lt}
 use Rattle.arc_spec.specs.Correct.{IsPrefix, Stop, Sight, Behaves, Steady, meaning_seen, run_seen}
 use Rattle.arc_spec.proofs.Steadiness.{prefix_refl, steady}
@@ -91,6 +91,7 @@ module _ (p : Program) (R : resolved.Program) (is : orders p.actions ≡ lowered
 
   program_runs : (input : List ℕ) (bound : ℕ) → Runs (moves p) bound (running [] [] 0 [] (first_world R.globals R.strong_globals input)) Ends_with (mean R input bound)
   program_runs input bound =
+      let none : 0 + MOST_LEVELS ≡ MOST_LEVELS = omega arith in
       let w = first_world R.globals R.strong_globals input in
       let fits = passing_orders R gives.Number R.main 0 0 in
       let call = Call (number_of R gives.Number R.main) gives.Number ∷ [] in
@@ -114,17 +115,11 @@ module _ (p : Program) (R : resolved.Program) (is : orders p.actions ≡ lowered
       let from = running [] [] (q + 1) (v ∷ []) w1 in
       leads_runs (moves p) bound to from Ends_with (Done (converted k.Int v) w1) (leads_same (moves p) to from m.0)
       (inr (Ended (converted k.Int v) w1.input w1.trace, leads_step (moves p) (at [] (q + 1) (v ∷ []) (held_of [] w1)) w1.input w1.trace (Ends (converted k.Int v)) (ap recount (last.0 [] (v ∷ []) (held_of [] w1)) ∙ main_ends v w1 m.1.frame), refl)))
-    where
-      none : 0 + MOST_LEVELS ≡ MOST_LEVELS
-      none = omega arith
 
   -- no step lacks what it needs
   program_comes : (input : List ℕ) (bound : ℕ) → Runs (moves p) bound (running [] [] 0 [] (first_world p.globals p.strong_globals input)) Ends_with (mean R input bound) → Comes (moves p) bound (running [] [] 0 [] (first_world p.globals p.strong_globals input)) Ends_with (mean R input bound)
   program_comes input bound (inl wedged) = absurd (never_wedged p R is entries classes end_at input wedged.0 wedged.1 wedged.2.steps wedged.2.there)
   program_comes input bound (inr comes) = comes
-
-at_most_same : {a b : ℕ} → b ≡ a → a ≤ b
-at_most_same e = omega (arith, e)
 
 -- the actions that a program becomes perform it
 pub performs : (p : Program) (R : resolved.Program) → IsLowered R p → Performs R p
@@ -136,5 +131,5 @@ performs p R is =
           (subst (λ globals. Runs (moves p) bound (running [] [] 0 [] (first_world globals p.strong_globals input)) Ends_with (mean R input bound)) (sym is.globals)
           (subst (λ n. Runs (moves p) bound (running [] [] 0 [] (first_world R.globals n input)) Ends_with (mean R input bound)) (sym is.strong_globals) (program_runs p R is.actions is.entries is.classes is.end_step input bound)))));
       steady = calm;
-      sound = room_suffices p R is.actions is.entries is.classes is.end_step (at_most_same is.room) (at_most_same is.names) (at_most_same is.places);
+      sound = room_suffices p R is.actions is.entries is.classes is.end_step (le_of_eq (sym is.room)) (le_of_eq (sym is.names)) (le_of_eq (sym is.places));
     }
