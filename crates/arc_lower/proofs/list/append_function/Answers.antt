@@ -1,5 +1,4 @@
 use Rattle.std.proofs.Common.{◌≡◌, ◌≤◌, suc, ◌++◌, length, sym, ap, ◌∙◌, arith, length-append}
-use Rattle.std.proofs.lemmas.Grind.{common_steps}
 use Rattle.std.proofs.lemmas.List.{length-map}
 use Rattle.arc_spec.specs.Resolved.{Function}
 use Rattle.arc_spec.specs.Meaning.{function_places}
@@ -10,15 +9,6 @@ use Rattle.arc_lower.specs.Size.{object_parameters}
 use Rattle.arc_lower.specs.Heights.{height, between, heights, raised}
 use Rattle.arc_lower.proofs.Rows.{slice_after, begins_within, raised_append}
 use Rattle.arc_lower.proofs.list.append_function.Goals as goal
-
-pub offset_bounds-deref-exit : goal.offset_bounds-deref-exit
-offset_bounds-deref-exit c = grind (arith, common_steps)
-
-pub slice_bounds-raise-start : goal.slice_bounds-raise-start
-slice_bounds-raise-start c = grind (arith, common_steps)
-
-pub slice_bounds-raise-count : goal.slice_bounds-raise-count
-slice_bounds-raise-count c = grind (arith, common_steps)
 
 pub slice_bounds-raise-start-2 : goal.slice_bounds-raise-start-2
 slice_bounds-raise-start-2 c =
@@ -31,12 +21,6 @@ slice_bounds-raise-count-2 c =
     let middle = c.append_leave.new.actions in
     let within : c.len-entry.result ≤ length c.deref-2.result.now = begins_within middle.items c.append_body.new.actions.items c.deref-2.result.now c.len-entry.result _ (c.len-entry.ensures ∙ middle.ok.0) c.deref-2.ensures.value c.in_ok-append_body.ensures in
     omega (arith, within)
-
-pub returns-clause-actions : goal.returns-clause-actions
-returns-clause-actions c = grind (arith, common_steps)
-
-pub returns-clause-entries : goal.returns-clause-entries
-returns-clause-entries c = grind (arith, common_steps)
 
 pub returns-clause-most : goal.returns-clause-most
 returns-clause-most c =

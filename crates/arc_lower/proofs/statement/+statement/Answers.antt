@@ -77,39 +77,3 @@ append_command-returns-in_ok-append_turn-in-Repeat-clause-actions t c =
 
 pub append_step-returns-clause-actions : goal.append_step-returns-clause-actions
 append_step-returns-clause-actions t c = grind (arith, common_steps, step_written)
-
-pub append_step-returns-clause-begin : goal.append_step-returns-clause-begin
-append_step-returns-clause-begin t c = grind (arith, common_steps)
-
-pub append_step-returns-then-begins_first-clause-begin : goal.append_step-returns-then-begins_first-clause-begin
-append_step-returns-then-begins_first-clause-begin t c = grind (arith, common_steps)
-
-pub append_step-replace-requires : goal.append_step-replace-requires
-append_step-replace-requires t c = grind (arith, common_steps)
-
-pub append_turn-replace-requires : goal.append_turn-replace-requires
-append_turn-replace-requires t c = grind (arith, common_steps)
-
-pub append_turn-returns : goal.append_turn-returns
-append_turn-returns t c = grind (arith, common_steps)
-
-pub append_command-join-requires-clause-branch : goal.append_command-join-requires-clause-branch
-append_command-join-requires-clause-branch t c = grind (arith, common_steps)
-
-pub append_command-join-requires-clause-skip : goal.append_command-join-requires-clause-skip
-append_command-join-requires-clause-skip t c = grind (arith, common_steps)
-
-pub append_command-enter_loop-requires : goal.append_command-enter_loop-requires
-append_command-enter_loop-requires t c = grind (arith, common_steps)
-
-pub append_commands-loop-statement-preserved : goal.append_commands-loop-statement-preserved
-append_commands-loop-statement-preserved t c = grind (arith, common_steps)
-
-pub append_commands-returns-clause-actions : goal.append_commands-returns-clause-actions
-append_commands-returns-clause-actions t c = grind (arith, common_steps)
-
-pub append_sequence-returns-clause-actions : goal.append_sequence-returns-clause-actions
-append_sequence-returns-clause-actions t c = grind (arith, common_steps)
-
-pub append_sequence-returns-clause-scopes : goal.append_sequence-returns-clause-scopes
-append_sequence-returns-clause-scopes t c = grind (arith, common_steps)

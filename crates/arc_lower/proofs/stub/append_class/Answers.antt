@@ -3,11 +3,5 @@ use Rattle.std.proofs.lemmas.Grind.{common_steps}
 use Rattle.arc_lower.proofs.Rows.{raised_append}
 use Rattle.arc_lower.proofs.stub.append_class.Goals as goal
 
-pub returns-clause-actions : goal.returns-clause-actions
-returns-clause-actions c = grind (arith, common_steps)
-
-pub returns-clause-linked : goal.returns-clause-linked
-returns-clause-linked c = grind (arith, common_steps)
-
 pub returns-clause-most : goal.returns-clause-most
 returns-clause-most c = grind (arith, raised_append, common_steps)

@@ -5,6 +5,3 @@ use Rattle.arc_lower.proofs.stub.append_classes.Goals as goal
 
 pub loop-class-preserved : goal.loop-class-preserved
 loop-class-preserved c = grind (arith, raised_append, raised_nothing, common_steps)
-
-pub returns-clause-linked : goal.returns-clause-linked
-returns-clause-linked c = grind (arith, common_steps)
