@@ -199,9 +199,7 @@ module _ (p : Program) (R : resolved.Program) (bound : ℕ) (begins : (wanted : 
     last_by true w still = faults
     last_by false w still =
         let objects = turned_in Gone w.objects o in
-        subst (λ (x : World). After p bound (goes_back w) w.input w.trace (Back w) (Done finished x))
-        (sym (turned_is w.objects o (object_at w.objects o) w refl refl))
-        (quietly (ends (ap (λ h. Running (at frames back stack (recounted h)) w.input w.trace)
+        rw (turned_is w.objects o (object_at w.objects o) w refl refl) (quietly (ends (ap (λ h. Running (at frames back stack (recounted h)) w.input w.trace)
         (resumed_as waits (with_things (ended_held rs o w) objects) f0.temporaries f0.strong waiting (sym still) refl refl),
         record { frame = refl; waiting = refl })))
 
@@ -230,7 +228,7 @@ module _ (p : Program) (R : resolved.Program) (bound : ℕ) (begins : (wanted : 
             then Faulted Resurrected (turned Emptying o (Some ob) w)
             else Done finished (turned Gone o (object_at (turned Emptying o (Some ob) w).objects o) (turned Emptying o (Some ob) w)))
         by true = faults
-        by false = subst (λ (x : World). After p bound (goes_back w) w.input w.trace (Back w) (Done finished x)) gone_same (last_by false w still)
+        by false = rw (← gone_same) (last_by false w still)
 
     -- ---- fields that are destroyed
 
@@ -272,10 +270,7 @@ module _ (p : Program) (R : resolved.Program) (bound : ℕ) (begins : (wanted : 
       field_run index w =
           let D = level R bound levels in
           let h = ended_held rs o w in
-          let go : Object → Next State = λ ob. on_place (slice_get ob.strong index) (stays h)
-          (λ old. lets_go old (raised 0 (with_strong_field h o ob index 0)) stays (begins_other w)) in
-          after_object (object_at w.objects o) {go = go} (λ ob found there.
-          subst (λ f. After p bound (go ob) w.input w.trace (Goes_on w) (field_dropped D o index f w)) (sym found)
+          after_object (object_at w.objects o) (λ ob found there. rw found
           (after_place D (λ x. x) ob.strong index 0 (λ l. with_objects w (with_object w.objects o (with_strong_fields ob l)))
           (ap (with_objects w) (same_put w.objects j ob found)) (stays_run w h.counts) (λ old named. record {
           follows = better (lets_run w old (raised 0 h).counts (field_stores o ob index 0 w)
@@ -345,15 +340,13 @@ module _ (p : Program) (R : resolved.Program) (bound : ℕ) (begins : (wanted : 
           → Follows p bound (at_end rs (frame ∷ frames) o stack w) (Back w) (rest_of w)
       after_runs frame w still e =
           let D = level R bound levels in
-          let go : Object → Next State = λ ob.
-          clears p (at (frame ∷ frames) p.end_step stack (ended_held rs o w)) back waits o (field_order p.classes ob.class) frames in
-          moves_on e (after_object (object_at w.objects o) {go = go} (λ ob found there.
+          let s = at (frame ∷ frames) p.end_step stack (ended_held rs o w) in
+          moves_on e (after_object (object_at w.objects o) {go = λ ob. clears p s back waits o (field_order p.classes ob.class) frames} (λ ob found there.
           let order_is : field_order D.classes ob.class ≡ field_order p.classes ob.class =
           ap (λ cs. field_order cs ob.class) (classes_are levels) ∙ sym (order_same p R links ob.class) in
-          subst (λ f. After p bound (go ob) w.input w.trace (Back w) (then_do (emptied D o f w) (λ _ w1. gone o w1))) (sym found)
-          (subst (λ order. After p bound (go ob) w.input w.trace (Back w)
-          (then_do (fields_dropped D order o (turned Emptying o (Some ob) w)) (λ _ w1. gone o w1))) (sym order_is)
-          (clears_run frame (field_order p.classes ob.class) ob w found there still))))
+          subst (λ f. After p bound (clears p s back waits o (field_order p.classes ob.class) frames) w.input w.trace (Back w)
+          (then_do (emptied D o f w) (λ _ w1. gone o w1))) (sym found)
+          (rw order_is (clears_run frame (field_order p.classes ob.class) ob w found there still))))
 
       by_class : (n c : ℕ) (w : World) (a b : Option Class) → Still w → Same p R a b
           → moves p (at (Ending back waits o (Some c) (suc n) ∷ frames) p.end_step stack (ended_held rs o w))
@@ -376,9 +369,7 @@ module _ (p : Program) (R : resolved.Program) (bound : ℕ) (begins : (wanted : 
 
       end_runs : (n : ℕ) (next : Option ℕ) (w : World) → Still w → EndRuns n next w
       end_runs (suc n) (Some c) w still =
-          subst (λ x. Follows p bound (at_end rs (Ending back waits o (Some c) (suc n) ∷ frames) o stack w) (Back w) (then_do x (λ _ w1. rest_of w1)))
-          (sym (deallocs_from R (level R bound levels) bound n c o w))
-          (by_class n c w (slice_get R.classes c) (slice_get p.classes c) still (links.same c)
+          rw (deallocs_from R (level R bound levels) bound n c o w) (by_class n c w (slice_get R.classes c) (slice_get p.classes c) still (links.same c)
           (ap recount (has_end.0 (Ending back waits o (Some c) (suc n) ∷ frames) stack (ended_held rs o w))) (end_runs n))
       end_runs zero None w still = after_runs _ w still (ap recount (has_end.0 _ _ _))
       end_runs zero (Some c) w still = after_runs _ w still (ap recount (has_end.0 _ _ _))
