@@ -1,5 +1,5 @@
 -- A run calls functions and methods, and ends objects, to the most levels.
-use Rattle.std.proofs.Common.{◌≡◌, ℕ, zero, suc, ◌+◌, ℤ, pos, Bool, true, false, not, nat_eq, nat_lt, if◌then◌else◌, List, [], ◌∷◌, ◌++◌, length, Option, Some, None, slice_get, slice_set, slice_index_or, refl, sym, ap, ◌∙◌, subst, arith}
+use Rattle.std.proofs.Common.{◌≡◌, ℕ, zero, suc, ◌+◌, ℤ, pos, Bool, true, false, not, nat_eq, if◌then◌else◌, List, [], ◌∷◌, ◌++◌, length, Option, Some, None, slice_get, slice_set, slice_index_or, refl, sym, ap, ◌∙◌, subst, arith}
 use Rattle.std.proofs.lemmas.Bool.{lt-ltb, le-ltb}
 use Rattle.std.proofs.Math.Seq.{take-append_seam, drop-append_seam}
 use Rattle.std.proofs.lemmas.List.{append-nil, append_assoc, length-map, set-set}
@@ -12,11 +12,11 @@ use Rattle.arc_spec.specs.Resolved as resolved
 use Rattle.arc_spec.specs.Meaning.{function_at, called, released, field_stores, field_dropped, fields_dropped, emptied, class_in, dealloc_run, deallocs_run, turned, gone, dying, level}
 use Rattle.arc_spec.specs.World as world
 use Rattle.arc_spec.specs.World.{World, Outcome, Done, Faulted, Finished, finished, then_do, Given, nothing_given, places, stacked, frame_places, with_objects, entered, padded}
-use Rattle.arc_spec.specs.Holding.{Held, Frame, Calling, Ending, Clearing, Waiter, holders, with_things, with_strong_field, on_place, lets_go, raised, resumed, turned_in}
+use Rattle.arc_spec.specs.Holding.{Held, Frame, Calling, Ending, Clearing, Waiter, holders, with_things, lets_go, raised, resumed, turned_in}
 use Rattle.arc_spec.specs.Stepping.{Next, Goes, Faults, Reached, Running, follow}
 use Rattle.arc_spec.proofs.Deallocs.{dealloc_and_above, deallocs_from}
 use Rattle.arc_ir.specs.Acting.{Program, State, has_level, enters, answers, begins_end, clears, after_deallocs, clears_next, runs_dealloc, ends_class}
-use Rattle.arc_code.specs.declared.instr.Instr.TheVariants.{Call, Jump, EndStep}
+use Rattle.arc_code.specs.declared.instr.Instr.TheVariants.{Jump, EndStep}
 use Rattle.arc_ir.specs.declared.action.Target.TheVariants as target
 use Rattle.arc_code.specs.Effects.{passes}
 use Rattle.arc_lower.specs.Order.{Order}
@@ -71,10 +71,6 @@ turned_is objects o (Some ob) w e same = rw e (rw same refl)
 module _ (p : Program) (R : resolved.Program) (bound : ℕ) (begins : (wanted : Gives) (f : ℕ) → Begins p R (number_of R wanted f) (function_at R wanted f)) where
   abbrev pub entry : Gives → ℕ → ℕ
   entry wanted f = entry_of (begins wanted f).place (function_at R wanted f)
-
-  -- the step of a call
-  call_steps : (wanted : Gives) (f pc : ℕ) (frames : List Frame) (stack : List ℤ) (held : Held) (b : Bool) → HasAt p pc (Call (number_of R wanted f) wanted ∷ []) → nat_lt (length frames) MOST_LEVELS ≡ b → moves p (at frames pc stack held) ≡ recount (enters (at frames pc stack held) (entry wanted f) 0 b)
-  call_steps wanted f pc frames stack held b has e = ap recount (call_enters p R wanted f (begins wanted f) pc frames stack held b has e)
 
   -- a function as it is entered
   abbrev begun_at : (rs : List ℕ) (wanted : Gives) (f : ℕ) (frames : List Frame) (given : Given) (stack : List ℤ) → World → Reached State
@@ -406,7 +402,8 @@ module _ (p : Program) (R : resolved.Program) (bound : ℕ) (begins : (wanted : 
     pub calls_run : (levels : ℕ) (frames : List Frame) → length frames + levels ≡ MOST_LEVELS → Deep p frames bound R (level R bound levels)
     calls_run zero frames full = record {
       invokes = λ wanted f given stack rs w pc has.
-          moves_on (call_steps wanted f pc frames _ _ false has (le-ltb (length frames) MOST_LEVELS (omega (arith, full)))) faults;
+          moves_on (ap recount (call_enters p R wanted f (begins wanted f) pc frames _ _ false has
+          (le-ltb (length frames) MOST_LEVELS (omega (arith, full))))) faults;
       says = λ sign from selector arguments objects wanted self given stack rs w pc size few.
           last_finds rs frames full _ _ wanted (passes sign arguments) objects self given stack w pc
           (lookup_meets p R links sign from selector arguments objects wanted);
@@ -421,8 +418,8 @@ module _ (p : Program) (R : resolved.Program) (bound : ℕ) (begins : (wanted : 
           let deep = calls_run levels (Calling (pc + 1) (waits_of w) ∷ frames) (omega (arith, full)) in
           let names1 = onto (padded 0 (parameters_of R wanted f) given.objects) rs in
           let s = at frames pc (onto (padded (pos 0) (slots_of R wanted f) given.numbers) stack) (held_of names1 w) in
-          moves_on {next = enters s (entry wanted f) 0 true}
-          (call_steps wanted f pc frames s.stack s.held true has (lt-ltb (length frames) MOST_LEVELS (omega (arith, full))))
+          moves_on {next = enters s (entry wanted f) 0 true} (ap recount (call_enters p R wanted f (begins wanted f) pc frames s.stack s.held true has
+          (lt-ltb (length frames) MOST_LEVELS (omega (arith, full)))))
           (quietly (method_runs rs levels wanted f pc 0 frames given stack w deep));
       says = λ sign from selector arguments objects wanted self given stack rs w pc size few.
           level_finds rs levels frames full _ _ wanted (passes sign arguments) objects self given stack w pc

@@ -28,7 +28,7 @@ use Rattle.arc_lower.specs.Lowered.{all_empty_orders, keep_orders, leaving_order
 use Rattle.arc_lower.specs.Size.{object_parameters, does_nothing}
 use Rattle.arc_lower.proofs.Leading.{running, Follows, After, ends, leads, on, quietly, steps, done_then, next, shows_nothing}
 use Rattle.arc_lower.proofs.Leading.{Crosses, one_crosses, then_crosses, no_crosses}
-use Rattle.arc_lower.proofs.Doing.{recount, at, counting, held_of, bare, HasAt, has_front, has_back}
+use Rattle.arc_lower.proofs.Doing.{recount, at, held_of, bare, HasAt, has_front, has_back}
 use Rattle.arc_lower.proofs.Stacking.{onto, front_of, padded_length, get_below, set_below, keeps_pass}
 use Rattle.arc_lower.proofs.Releasing.{Kept, Stays, stuck, after_only, after_named, emptied, empties_by, dropped_runs}
 use Rattle.arc_lower.proofs.Shaping.{push, Way, Out, left_by}
@@ -129,15 +129,12 @@ module _ (p : Program) (frames : List Frame) (bound : ℕ) (R : resolved.Program
   counts_aside gives.Object (Calling back waits ∷ fs) pc stack held other h c a = refl
   counts_aside _ _ pc stack held other h c a = refl
 
-  bared_leaves : (wanted : Gives) (a : world.Answer) (w : World) (pc : ℕ) → Fine false w → w.frame.temporaries ≡ [] → recount (leaves_with wanted (at frames pc (a.number ∷ below) (held_of rs w)) frames a (with_variables (held_of rs w) [])) ≡ recount (leaves_with wanted (at frames 0 (a.number ∷ below) (held_of rs (bared w))) frames a (held_of rs (bared w)))
+  bared_leaves : (wanted : Gives) (a : world.Answer) (w : World) (pc : ℕ) → Fine false w → w.frame.temporaries ≡ []
+      → recount (leaves_with wanted (at frames pc (a.number ∷ below) (held_of rs w)) frames a (with_variables (held_of rs w) []))
+      ≡ recount (leaves_with wanted (at frames 0 (a.number ∷ below) (held_of rs (bared w))) frames a (held_of rs (bared w)))
   bared_leaves wanted a w pc g none =
-      let c = (held_of rs (bared w)).counts in
-      let s = at frames 0 (a.number ∷ below) (held_of rs (bared w)) in
-      let held : (ts : List ℕ) (itself : ℕ) (waits : List ℕ) → Held = λ ts itself waits. record (counting rs w c) { temporaries = ts; variables = []; self = itself; places = waits } in
-      counts_aside wanted frames pc (a.number ∷ below) (held_of rs w) (held_of rs (bared w)) (with_variables (held_of rs w) []) c a
-      ∙ ap (λ ts. recount (leaves_with wanted s frames a (held ts w.frame.self w.waiting))) none
-      ∙ ap (λ x. recount (leaves_with wanted s frames a (held [] x w.waiting))) g.0.itself
-      ∙ ap (λ l. recount (leaves_with wanted s frames a (held [] self l))) g.0.waits
+      counts_aside wanted frames pc (a.number ∷ below) (held_of rs w) (held_of rs (bared w)) (with_variables (held_of rs w) [])
+      (held_of rs (bared w)).counts a ∙ rw (none, g.0.itself, g.0.waits)
 
   module _ {A : Type 0} {i : List ℕ} {t : List Event} {end : A → World → Reached State → Type 0} {o : Outcome A} where
     -- a function is left only without temporaries
