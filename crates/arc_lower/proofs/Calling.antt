@@ -1,31 +1,33 @@
 -- A run calls functions and methods, and ends objects, to the most levels.
-use Rattle.std.proofs.Common.{◌≡◌, ℕ, zero, suc, ◌+◌, ℤ, pos, Bool, true, false, not, nat_eq, nat_lt, if◌then◌else◌, List, [], ◌∷◌, ◌++◌, length, Option, Some, None, slice_get, slice_set, slice_index_or, refl, sym, ap, ◌∙◌, subst, arith, inr}
+use Rattle.std.proofs.Common.{◌≡◌, ℕ, zero, suc, ◌+◌, ℤ, pos, Bool, true, false, not, nat_eq, if◌then◌else◌, List, [], ◌∷◌, ◌++◌, length, Option, Some, None, slice_get, slice_set, slice_index_or, refl, sym, ap, ◌∙◌, subst, arith}
 use Rattle.std.proofs.lemmas.Bool.{lt-ltb, le-ltb}
 use Rattle.std.proofs.Math.Seq.{take-append_seam, drop-append_seam}
 use Rattle.std.proofs.lemmas.List.{append-nil, append_assoc, length-map, set-set}
 use Rattle.arc_spec.specs.declared.event.Fault.TheVariants.{Resurrected}
 use Rattle.arc_spec.specs.declared.class.Gives.{Gives}
 use Rattle.arc_spec.specs.declared.class.Gives.TheVariants as gives
-use Rattle.arc_spec.specs.Classes.{Class, superclass_of, superclasses, ancestry_within, lookup, field_order}
+use Rattle.arc_spec.specs.Classes.{Class, superclass_of, superclasses, ancestry_within, field_order}
 use Rattle.arc_spec.specs.Objects.{Object, Emptying, Gone, object_at, with_object, in_phase, with_strong_fields, is_there, fields_of, field_places, names}
 use Rattle.arc_spec.specs.Resolved as resolved
 use Rattle.arc_spec.specs.Meaning.{function_at, called, released, field_stores, field_dropped, fields_dropped, emptied, class_in, dealloc_run, deallocs_run, turned, gone, dying, level}
 use Rattle.arc_spec.specs.World as world
 use Rattle.arc_spec.specs.World.{World, Outcome, Done, Faulted, Finished, finished, then_do, Given, nothing_given, places, stacked, frame_places, with_objects, entered, padded}
-use Rattle.arc_spec.specs.Holding.{Held, Frame, Calling, Ending, Clearing, Waiter, holders, with_things, with_strong_field, on_place, lets_go, raised, resumed, turned_in}
+use Rattle.arc_spec.specs.Holding.{Held, Frame, Calling, Ending, Clearing, Waiter, holders, with_things, lets_go, raised, resumed, turned_in}
 use Rattle.arc_spec.specs.Stepping.{Next, Goes, Faults, Reached, Running, follow}
 use Rattle.arc_spec.proofs.Deallocs.{dealloc_and_above, deallocs_from}
 use Rattle.arc_ir.specs.Acting.{Program, State, has_level, enters, answers, begins_end, clears, after_deallocs, clears_next, runs_dealloc, ends_class}
-use Rattle.arc_code.specs.declared.instr.Instr.TheVariants.{Call, Jump, EndStep}
+use Rattle.arc_code.specs.declared.instr.Instr.TheVariants.{Jump, EndStep}
 use Rattle.arc_ir.specs.declared.action.Target.TheVariants as target
 use Rattle.arc_code.specs.Effects.{passes}
+use Rattle.arc_lower.specs.Order.{Order}
 use Rattle.arc_lower.specs.Lowered.{number_of, slots_of, parameters_of, entry_of, entries_of, passing_orders, leave_orders, body_orders}
 use Rattle.arc_lower.proofs.CountsPlaces.{no_one, there_fields, raised_count, field_moves, set_here}
-use Rattle.arc_lower.proofs.Leading.{Leads, leads_same, leads_trans, leads_step, Runs, leads_runs, ends_here, then_runs, better_runs, running, quiet}
+use Rattle.arc_lower.proofs.Leading as leading
+use Rattle.arc_lower.proofs.Leading.{running, Follows, After, ends, leads, on, faults, quietly, moves_on, steps, next, better}
 use Rattle.arc_lower.proofs.Doing.{recounted, recount, moves, at, counting, held_of, resumed_as, HasAt, has_front, has_back}
 use Rattle.arc_lower.proofs.Stacking.{onto, padded_length, passing_leads}
 use Rattle.arc_lower.proofs.Shaping.{then_twice}
-use Rattle.arc_lower.proofs.Releasing.{Kept, kept_trans, Ends, laid, dying_in, there_runs, place_takes, lets_runs}
+use Rattle.arc_lower.proofs.Releasing.{Kept, kept_trans, Ends, laid, dying_in, after_object, after_place, after_let_go}
 use Rattle.arc_lower.proofs.Running.{after_call, Returns, answered, Deep, same_put}
 use Rattle.arc_lower.proofs.Leaving.{leaving, Left, function_runs}
 use Rattle.arc_lower.proofs.Linking.{Begins, call_enters, function_gives, Stub, Meets, Same, Linked, lookup_meets, descent_same, fields_same, order_same, found_same}
@@ -70,44 +72,46 @@ module _ (p : Program) (R : resolved.Program) (bound : ℕ) (begins : (wanted : 
   abbrev pub entry : Gives → ℕ → ℕ
   entry wanted f = entry_of (begins wanted f).place (function_at R wanted f)
 
-  -- the step of a call
-  call_steps : (wanted : Gives) (f pc : ℕ) (frames : List Frame) (stack : List ℤ) (held : Held) (b : Bool) → HasAt p pc (Call (number_of R wanted f) wanted ∷ []) → nat_lt (length frames) MOST_LEVELS ≡ b → moves p (at frames pc stack held) ≡ recount (enters (at frames pc stack held) (entry wanted f) 0 b)
-  call_steps wanted f pc frames stack held b has e = ap recount (call_enters p R wanted f (begins wanted f) pc frames stack held b has e)
+  -- a function as it is entered
+  abbrev begun_at : (rs : List ℕ) (wanted : Gives) (f : ℕ) (frames : List Frame) (given : Given) (stack : List ℤ) → World → Reached State
+  begun_at rs wanted f frames given stack w =
+      running frames (onto (padded 0 (parameters_of R wanted f) given.objects) rs) (entry wanted f)
+      (onto (padded (pos 0) (slots_of R wanted f) given.numbers) stack) w
 
   -- a stub makes its function ready, and leads there
-  stub_leads : (rs : List ℕ) (frames : List Frame) (wanted : Gives) (values objects f to : ℕ) (given : Given) (stack : List ℤ) (w : World) → length given.numbers ≡ values → length given.objects ≡ objects → Stub p R wanted values objects f to
-      → Leads (moves p) (running frames (onto given.objects rs) to (onto given.numbers stack) w) (running frames (onto (padded 0 (parameters_of R wanted f) given.objects) rs) (entry wanted f) (onto (padded (pos 0) (slots_of R wanted f) given.numbers) stack) w)
-  stub_leads rs frames wanted values objects f to given stack w size few has =
+  stub_runs : {A : Type 0} {end : A → World → Reached State → Type 0} {o : Outcome A} (rs : List ℕ) (frames : List Frame) (wanted : Gives)
+      (values objects f to : ℕ) (given : Given) (stack : List ℤ) (w : World) → length given.numbers ≡ values → length given.objects ≡ objects
+      → Stub p R wanted values objects f to → Follows p bound (begun_at rs wanted f frames given stack w) end o
+      → Follows p bound (running frames (onto given.objects rs) to (onto given.numbers stack) w) end o
+  stub_runs rs frames wanted values objects f to given stack w size few has go =
       let fits = passing_orders R wanted f values objects in
       let place = slice_index_or (entries_of R) (number_of R wanted f) 0 in
-      let q = to + length fits in
+      let jump : List Order = Jump (target.At place) ∷ [] in
       let s = onto (padded (pos 0) (slots_of R wanted f) given.numbers) stack in
       let names1 = onto (padded 0 (parameters_of R wanted f) given.objects) rs in
-      let start = running frames (onto given.objects rs) to (onto given.numbers stack) w in
-      let next = Goes (at frames place s (held_of names1 w)) [] in
-      let last = has_back p to fits (Jump (target.At place) ∷ []) has in
-      let ready = passing_leads p frames (slots_of R wanted f) (parameters_of R wanted f) values objects given stack rs w to size few (has_front p to fits (Jump (target.At place) ∷ []) has) in
-      let there = subst (λ n. Leads (moves p) (follow next w.input w.trace) (running frames names1 n s w)) (begins wanted f).first (quiet p frames bound names1 place s w) in
-      leads_trans (moves p) start (running frames names1 q s w) (running frames names1 (entry wanted f) s w) ready
-      (leads_trans (moves p) (running frames names1 q s w) (follow next w.input w.trace) (running frames names1 (entry wanted f) s w) (leads_step (moves p) (at frames q s (held_of names1 w)) w.input w.trace next (ap recount (last.0 frames s (held_of names1 w)))) there)
+      let last = has_back p to fits jump has in
+      leads (passing_leads p frames (slots_of R wanted f) (parameters_of R wanted f) values objects given stack rs w to size few (has_front p to fits jump has))
+      (steps (Jump (target.At place)) last.0 (quietly (on (ap (λ n. running frames names1 n s w) (begins wanted f).first) go)))
 
   abbrev Left_by : (rs : List ℕ) (wanted : Gives) (f self : ℕ) (frames : List Frame) (stack : List ℤ) (before : World) (levels : ℕ) → Deep p frames bound R (level R bound levels) → world.Answer → World → Reached State → Type 0
   Left_by rs wanted f self frames stack before levels deep = Left p frames bound R (function_at R wanted f) self before stack rs (level R bound levels) deep (begins wanted f).place wanted
 
-  -- a function as it is entered
-  abbrev begun_at : (rs : List ℕ) (wanted : Gives) (f self : ℕ) (frames : List Frame) (given : Given) (stack : List ℤ) → World → Reached State
-  begun_at rs wanted f self frames given stack w = running frames (onto (padded 0 (parameters_of R wanted f) given.objects) rs) (entry wanted f) (onto (padded (pos 0) (slots_of R wanted f) given.numbers) stack) (entered (slots_of R wanted f) 0 0 false self given w)
-
   -- a function that was entered comes to its last step
-  body_runs : (rs : List ℕ) (levels : ℕ) (wanted : Gives) (f self : ℕ) (frames : List Frame) (given : Given) (stack : List ℤ) (w : World) (deep : Deep p frames bound R (level R bound levels)) → Runs (moves p) bound (begun_at rs wanted f self frames given stack w) (Left_by rs wanted f self frames stack w levels deep) (called (level R bound levels) bound (function_at R wanted f) self given w)
+  body_runs : (rs : List ℕ) (levels : ℕ) (wanted : Gives) (f self : ℕ) (frames : List Frame) (given : Given) (stack : List ℤ) (w : World)
+      (deep : Deep p frames bound R (level R bound levels))
+      → Follows p bound (begun_at rs wanted f frames given stack (entered (slots_of R wanted f) 0 0 false self given w))
+      (Left_by rs wanted f self frames stack w levels deep) (called (level R bound levels) bound (function_at R wanted f) self given w)
   body_runs rs levels wanted f self frames given stack w deep =
       let F = function_at R wanted f in
       let D = level R bound levels in
       let place = (begins wanted f).place in
       let leave = leave_orders F in
       let body = body_orders R place (entry wanted f) F in
-      subst (λ g. Runs (moves p) bound (begun_at rs wanted f self frames given stack w) (Left p frames bound R F self w stack rs D deep place g) (called D bound F self given w)) (function_gives R wanted f)
-      (function_runs p frames bound R F self w stack rs D deep place (entry wanted f) given (padded_length (pos 0) F.slots given.numbers) (has_front p place leave body (begins wanted f).code) (has_back p place leave body (begins wanted f).code))
+      let code = (begins wanted f).code in
+      let w1 = entered (slots_of R wanted f) 0 0 false self given w in
+      subst (λ g. Follows p bound (begun_at rs wanted f frames given stack w1) (Left p frames bound R F self w stack rs D deep place g)
+      (called D bound F self given w)) (function_gives R wanted f) (function_runs p frames bound R F self w stack rs D deep place (entry wanted f) given
+      (padded_length (pos 0) F.slots given.numbers) (has_front p place leave body code) (has_back p place leave body code))
 
   -- a method or a function comes back after its call
   comes_home : (rs : List ℕ) (levels : ℕ) (wanted : Gives) (f pc self : ℕ) (frames : List Frame) (stack : List ℤ) (w : World) (deep : Deep p (Calling (pc + 1) (waits_of w) ∷ frames) bound R (level R bound levels)) (a : world.Answer) (w2 : World) → Kept w w2
@@ -118,34 +122,38 @@ module _ (p : Program) (R : resolved.Program) (bound : ℕ) (begins : (wanted : 
       let all = append_assoc w.frame.temporaries w.frame.strong w.waiting in
       rw (append-nil w2.trace, k.frame, k.waiting, all, take-append_seam, drop-append_seam, take-append_seam, drop-append_seam, all)
 
-  method_runs : (rs : List ℕ) (levels : ℕ) (wanted : Gives) (f pc self : ℕ) (frames : List Frame) (given : Given) (stack : List ℤ) (w : World) → Deep p (Calling (pc + 1) (waits_of w) ∷ frames) bound R (level R bound levels) → Runs (moves p) bound (begun_at rs wanted f self (Calling (pc + 1) (waits_of w) ∷ frames) given stack w) (Returns wanted frames rs pc stack w) ((level R bound (suc levels)).call wanted f self given w)
+  method_runs : (rs : List ℕ) (levels : ℕ) (wanted : Gives) (f pc self : ℕ) (frames : List Frame) (given : Given) (stack : List ℤ) (w : World)
+      → Deep p (Calling (pc + 1) (waits_of w) ∷ frames) bound R (level R bound levels)
+      → Follows p bound (begun_at rs wanted f (Calling (pc + 1) (waits_of w) ∷ frames) given stack (entered (slots_of R wanted f) 0 0 false self given w))
+      (Returns wanted frames rs pc stack w) ((level R bound (suc levels)).call wanted f self given w)
   method_runs rs levels wanted f pc self frames given stack w deep =
-      let inner = Calling (pc + 1) (waits_of w) ∷ frames in
-      better_runs (moves p) bound (begun_at rs wanted f self inner given stack w) (Left_by rs wanted f self inner stack w levels deep) (Returns wanted frames rs pc stack w) (called (level R bound levels) bound (function_at R wanted f) self given w) (body_runs rs levels wanted f self inner given stack w deep) (λ a w2 to m. (m.0 ∙ comes_home rs levels wanted f pc self frames stack w deep a w2 m.1, m.1))
-
-  abbrev enters_at : (rs : List ℕ) (frames : List Frame) (pc to self : ℕ) (stack : List ℤ) (w : World) → Bool → Reached State
-  enters_at rs frames pc to self stack w b = follow (recount (enters (at frames pc stack (held_of rs w)) to self b)) w.input w.trace
+      better (body_runs rs levels wanted f self (Calling (pc + 1) (waits_of w) ∷ frames) given stack w deep)
+      (λ a w2 to m. (m.0 ∙ comes_home rs levels wanted f pc self frames stack w deep a w2 m.1, m.1))
 
   -- a message, by what it finds
-  abbrev SendsMessage : (rs : List ℕ) (levels : ℕ) (frames : List Frame) (meant stands : Option ℕ) (wanted : Gives) (values objects self : ℕ) (given : Given) (stack : List ℤ) (w : World) (pc : ℕ) → Type 0
-  SendsMessage rs levels frames meant stands wanted values objects self given stack w pc = Meets p R wanted values objects meant stands → Runs (moves p) bound (follow (recount (answers (at frames pc (onto given.numbers stack) (held_of (onto given.objects rs) w)) self stands)) w.input w.trace) (Returns wanted frames rs pc stack w) (answered (level R bound levels) wanted meant self given w)
+  abbrev SendsMessage : (rs : List ℕ) (levels : ℕ) (frames : List Frame) (meant stands : Option ℕ) (wanted : Gives) (values objects self : ℕ) (given : Given)
+      (stack : List ℤ) (w : World) (pc : ℕ) → Type 0
+  SendsMessage rs levels frames meant stands wanted values objects self given stack w pc =
+      Meets p R wanted values objects meant stands
+      → After p bound (answers (at frames pc (onto given.numbers stack) (held_of (onto given.objects rs) w)) self stands) w.input w.trace
+      (Returns wanted frames rs pc stack w) (answered (level R bound levels) wanted meant self given w)
 
-  last_finds : (rs : List ℕ) (frames : List Frame) → length frames + 0 ≡ MOST_LEVELS → (meant stands : Option ℕ) (wanted : Gives) (values objects self : ℕ) (given : Given) (stack : List ℤ) (w : World) (pc : ℕ) → SendsMessage rs zero frames meant stands wanted values objects self given stack w pc
-  last_finds rs frames full None None wanted values objects self given stack w pc meets = inr (leads_same (moves p) _ _ refl)
-  last_finds rs frames full (Some f) (Some to) wanted values objects self given stack w pc meets = inr (leads_same (moves p) _ _ (ap (enters_at (onto given.objects rs) frames pc to self (onto given.numbers stack) w) (le-ltb (length frames) MOST_LEVELS (omega (arith, full)))))
+  last_finds : (rs : List ℕ) (frames : List Frame) → length frames + 0 ≡ MOST_LEVELS → (meant stands : Option ℕ) (wanted : Gives) (values objects self : ℕ)
+      (given : Given) (stack : List ℤ) (w : World) (pc : ℕ) → SendsMessage rs zero frames meant stands wanted values objects self given stack w pc
+  last_finds rs frames full None None wanted values objects self given stack w pc meets = faults
+  last_finds rs frames full (Some f) (Some to) wanted values objects self given stack w pc meets =
+      rw (le-ltb (length frames) MOST_LEVELS (omega (arith, full))) faults
   last_finds rs frames full _ _ wanted values objects self given stack w pc meets = absurd meets
 
-  level_finds : (rs : List ℕ) (levels : ℕ) (frames : List Frame) → length frames + suc levels ≡ MOST_LEVELS → (meant stands : Option ℕ) (wanted : Gives) (values objects self : ℕ) (given : Given) (stack : List ℤ) (w : World) (pc : ℕ) → Deep p (Calling (pc + 1) (waits_of w) ∷ frames) bound R (level R bound levels) → length given.numbers ≡ values → length given.objects ≡ objects → SendsMessage rs (suc levels) frames meant stands wanted values objects self given stack w pc
-  level_finds rs levels frames full None None wanted values objects self given stack w pc deep size few meets = inr (leads_same (moves p) _ _ refl)
+  level_finds : (rs : List ℕ) (levels : ℕ) (frames : List Frame) → length frames + suc levels ≡ MOST_LEVELS → (meant stands : Option ℕ) (wanted : Gives)
+      (values objects self : ℕ) (given : Given) (stack : List ℤ) (w : World) (pc : ℕ)
+      → Deep p (Calling (pc + 1) (waits_of w) ∷ frames) bound R (level R bound levels) → length given.numbers ≡ values → length given.objects ≡ objects
+      → SendsMessage rs (suc levels) frames meant stands wanted values objects self given stack w pc
+  level_finds rs levels frames full None None wanted values objects self given stack w pc deep size few meets = faults
   level_finds rs levels frames full (Some f) (Some to) wanted values objects self given stack w pc deep size few meets =
-      let inner = Calling (pc + 1) (waits_of w) ∷ frames in
-      let all = onto given.numbers stack in
-      let names1 = onto given.objects rs in
-      let w1 = entered (slots_of R wanted f) 0 0 false self given w in
-      let from = enters_at names1 frames pc to self all w in
-      let into = leads_trans (moves p) (from true) (running inner names1 to all w1) (begun_at rs wanted f self inner given stack w) (quiet p inner bound names1 to all w1) (stub_leads rs inner wanted values objects f to given stack w1 size few meets) in
-      subst (λ b. Runs (moves p) bound (from b) (Returns wanted frames rs pc stack w) ((level R bound (suc levels)).call wanted f self given w)) (sym (lt-ltb (length frames) MOST_LEVELS (omega (arith, full))))
-      (leads_runs (moves p) bound (from true) (begun_at rs wanted f self inner given stack w) (Returns wanted frames rs pc stack w) ((level R bound (suc levels)).call wanted f self given w) into (method_runs rs levels wanted f pc self frames given stack w deep))
+      rw (lt-ltb (length frames) MOST_LEVELS (omega (arith, full))) (quietly
+      (stub_runs rs (Calling (pc + 1) (waits_of w) ∷ frames) wanted values objects f to given stack (entered (slots_of R wanted f) 0 0 false self given w)
+      size few meets (method_runs rs levels wanted f pc self frames given stack w deep)))
   level_finds rs levels frames full _ _ wanted values objects self given stack w pc deep size few meets = absurd meets
 
   -- ---- the end of an object
@@ -175,41 +183,35 @@ module _ (p : Program) (R : resolved.Program) (bound : ℕ) (begins : (wanted : 
     abbrev Back : World → Finished → World → Reached State → Type 0
     Back w done w1 to = (to ≡ running frames rs back stack (laid w1 f0 waiting)) × Kept w w1
 
-    back_from : (w w1 : World) (from : Reached State) (o1 : Outcome Finished) → Kept w w1 → Runs (moves p) bound from (Back w1) o1 → Runs (moves p) bound from (Back w) o1
-    back_from w w1 from o1 k runs = better_runs (moves p) bound from (Back w1) (Back w) o1 runs (λ done w2 to m. (m.0, kept_trans w w1 w2 k m.1))
+    back_from : {w w1 : World} {from : Reached State} {o1 : Outcome Finished} → Kept w w1 → Follows p bound from (Back w1) o1 → Follows p bound from (Back w) o1
+    back_from {w} {w1} k runs = better runs (λ done w2 to m. (m.0, kept_trans w w1 w2 k m.1))
 
     -- after the end
     abbrev goes_back : World → Next State
     goes_back w = Goes (at frames back stack (resumed waits (with_things (ended_held rs o w) (turned_in Gone w.objects o)))) []
 
-    last_by : (b : Bool) (w : World) → Still w → Runs (moves p) bound (follow (recount (if not b then goes_back w else Faults Resurrected)) w.input w.trace) (Back w) (if b then Faulted Resurrected w else Done finished (turned Gone o (object_at w.objects o) w))
-    last_by true w still = inr (leads_same (moves p) _ _ refl)
+    last_by : (b : Bool) (w : World) → Still w → After p bound (if not b then goes_back w else Faults Resurrected) w.input w.trace (Back w)
+        (if b then Faulted Resurrected w else Done finished (turned Gone o (object_at w.objects o) w))
+    last_by true w still = faults
     last_by false w still =
-        let w2 : World = record w { objects = turned_in Gone w.objects o } in
-        let from = recount (goes_back w) in
-        let path : follow from w.input w.trace ≡ running frames rs back stack (laid w2 f0 waiting) =
-        ap (λ t. Running (at frames back stack (recounted (resumed waits (with_things (ended_held rs o w) w2.objects)))) w.input t) (append-nil w.trace)
-        ∙ ap (λ h. Running (at frames back stack (recounted h)) w.input w.trace) (resumed_as waits (with_things (ended_held rs o w) w2.objects) f0.temporaries f0.strong waiting (sym still) refl refl)
-        in
-        subst (λ (x : World). Runs (moves p) bound (follow from w.input w.trace) (Back w) (Done finished x)) (sym (turned_is w.objects o (object_at w.objects o) w refl refl))
-        (ends_here (moves p) bound (follow from w.input w.trace) (Back w) finished w2 (path, record { frame = refl; waiting = refl }))
+        let objects = turned_in Gone w.objects o in
+        rw (turned_is w.objects o (object_at w.objects o) w refl refl) (quietly (ends (ap (λ h. Running (at frames back stack (recounted h)) w.input w.trace)
+        (resumed_as waits (with_things (ended_held rs o w) objects) f0.temporaries f0.strong waiting (sym still) refl refl),
+        record { frame = refl; waiting = refl })))
 
     abbrev last_step : World → Next State
     last_step w = if nat_eq (holders o (places w)) 0 then goes_back w else Faults Resurrected
 
     -- the last step of an end
-    last_runs : (w : World) → Still w → Runs (moves p) bound (follow (recount (last_step w)) w.input w.trace) (Back w) (gone o w)
-    last_runs w still = subst (λ b. Runs (moves p) bound (follow (recount (if b then goes_back w else Faults Resurrected)) w.input w.trace) (Back w) (gone o w)) (sym (no_one o (holders o (places w)) (places w) refl)) (last_by (names o (places w)) w still)
+    last_runs : (w : World) → Still w → After p bound (last_step w) w.input w.trace (Back w) (gone o w)
+    last_runs w still = rw (no_one o (holders o (places w)) (places w) refl) (last_by (names o (places w)) w still)
 
     -- the same of an object whose fields there are none to destroy of
-    bare_runs : (w : World) (ob : Object) → object_at w.objects o ≡ Some ob → is_there ob.phase ≡ true → Still w → Runs (moves p) bound (follow (recount (last_step w)) w.input w.trace) (Back w) (gone o (turned Emptying o (Some ob) w))
+    bare_runs : (w : World) (ob : Object) → object_at w.objects o ≡ Some ob → is_there ob.phase ≡ true → Still w
+        → After p bound (last_step w) w.input w.trace (Back w) (gone o (turned Emptying o (Some ob) w))
     bare_runs w ob found there still =
-        let x = in_phase Emptying ob in
-        let w1 = turned Emptying o (Some ob) w in
-        let same : names o (places w1) ≡ names o (places w) = ap (λ l. names o (stacked w ++ (w.strong_globals ++ l)))
-        (fields_put w.objects j ob x found (sym (there_fields ob there))) in
-        subst (λ b. Runs (moves p) bound (follow (recount (if b then goes_back w else Faults Resurrected)) w.input w.trace) (Back w) (gone o w1)) (sym (no_one o (holders o (places w)) (places w) refl))
-        (subst (λ b. Runs (moves p) bound (follow (recount (if not (names o (places w)) then goes_back w else Faults Resurrected)) w.input w.trace) (Back w) (if b then Faulted Resurrected w1 else Done finished (turned Gone o (object_at w1.objects o) w1))) (sym same) (by (names o (places w))))
+        rw (no_one o (holders o (places w)) (places w) refl, fields_put w.objects j ob (in_phase Emptying ob) found (sym (there_fields ob there)))
+        (by (names o (places w)))
       where
         gone_same : turned Gone o (object_at w.objects o) w ≡ turned Gone o (object_at (turned Emptying o (Some ob) w).objects o) (turned Emptying o (Some ob) w)
         gone_same =
@@ -218,9 +220,11 @@ module _ (p : Program) (R : resolved.Program) (bound : ℕ) (begins : (wanted : 
             ∙ ap (λ l. with_objects w l) (sym (set-set w.objects j y (in_phase Gone ob)))
             ∙ ap (λ f. turned Gone o f (turned Emptying o (Some ob) w)) (sym (set_here w.objects j y ob found))
 
-        by : (b : Bool) → Runs (moves p) bound (follow (recount (if not b then goes_back w else Faults Resurrected)) w.input w.trace) (Back w) (if b then Faulted Resurrected (turned Emptying o (Some ob) w) else Done finished (turned Gone o (object_at (turned Emptying o (Some ob) w).objects o) (turned Emptying o (Some ob) w)))
-        by true = inr (leads_same (moves p) _ _ refl)
-        by false = subst (λ (x : World). Runs (moves p) bound (follow (recount (goes_back w)) w.input w.trace) (Back w) (Done finished x)) gone_same (last_by false w still)
+        by : (b : Bool) → After p bound (if not b then goes_back w else Faults Resurrected) w.input w.trace (Back w) (if b
+            then Faulted Resurrected (turned Emptying o (Some ob) w)
+            else Done finished (turned Gone o (object_at (turned Emptying o (Some ob) w).objects o) (turned Emptying o (Some ob) w)))
+        by true = faults
+        by false = rw (← gone_same) (last_by false w still)
 
     -- ---- fields that are destroyed
 
@@ -241,38 +245,33 @@ module _ (p : Program) (R : resolved.Program) (bound : ℕ) (begins : (wanted : 
       abbrev stays : Held → Next State
       stays h = Goes (at inner p.end_step stack h) []
 
-      abbrev ends : World → ℕ → ℕ → Held → Next State
-      ends w other class h = begins_end p (at inner p.end_step stack (ended_held rs o w)) p.end_step other class h (has_level (at inner p.end_step stack (ended_held rs o w)))
+      abbrev begins_other : World → ℕ → ℕ → Held → Next State
+      begins_other w other class h =
+          begins_end p (at inner p.end_step stack (ended_held rs o w)) p.end_step other class h (has_level (at inner p.end_step stack (ended_held rs o w)))
 
-      stays_run : (w : World) (c : ℕ → ℕ) → Runs (moves p) bound (follow (recount (stays (counting rs (lay w) c))) w.input w.trace) (Goes_on w) (Done finished w)
-      stays_run w c = leads_runs (moves p) bound _ (at_end rs inner o stack w) (Goes_on w) (Done finished w) (leads_same (moves p) _ _ (ap (λ t. Running (at inner p.end_step stack (ended_held rs o w)) w.input t) (append-nil w.trace)))
-          (ends_here (moves p) bound (at_end rs inner o stack w) (Goes_on w) finished w (refl, record { frame = refl; waiting = refl }))
+      stays_run : (w : World) (c : ℕ → ℕ) → After p bound (stays (counting rs (lay w) c)) w.input w.trace (Goes_on w) (Done finished w)
+      stays_run w c = quietly (ends (refl, record { frame = refl; waiting = refl }))
 
       -- a field lets go of what it named
       lets_run : (before : World) (old : ℕ) (c : ℕ → ℕ) (w : World) → ((k : ℕ) → c (suc k) ≡ holders (suc k) (old ∷ places w))
-          → Runs (moves p) bound (follow (recount (lets_go old (counting rs (lay w) c) stays (ends before))) w.input w.trace) (Goes_on w) (released (level R bound levels) old w)
+          → After p bound (lets_go old (counting rs (lay w) c) stays (begins_other before)) w.input w.trace (Goes_on w) (released (level R bound levels) old w)
       lets_run before old c w count =
-          lets_runs p bound rs (level R bound levels) w own_frame (stacked w) (Goes_on w) (λ o. o) old c stays (ends before) count (λ less _. stays_run w less) (λ k ob less found.
-          better_runs (moves p) bound _ (λ done w1 to. (to ≡ running inner rs p.end_step stack (laid w1 own_frame (stacked w))) × Kept w w1) (Goes_on w) ((level R bound levels).end_of (suc k) w)
-          ((deep (Clearing back waits o fields)).ends own_frame (stacked w) k ob less (ended_held rs o before) rs stack w p.end_step p.end_step refl found)
-          (λ done w1 to m. (m.0 ∙ rw (m.1.frame, m.1.waiting), m.1)))
+          after_let_go (level R bound levels) (λ o. o) rs own_frame (stacked w) old c stays (begins_other before) count (λ less _. stays_run w less)
+          (λ k ob less found. record { follows = better ((deep (Clearing back waits o fields)).ends own_frame (stacked w) k ob less (ended_held rs o before)
+          rs stack w p.end_step p.end_step refl found).follows (λ done w1 to m. (m.0 ∙ rw (m.1.frame, m.1.waiting), m.1)) })
 
       -- the next field
-      field_run : (index : ℕ) (w : World) → Runs (moves p) bound (follow (recount (clears_next p (at inner p.end_step stack (ended_held rs o w)) o index)) w.input w.trace) (Goes_on w) (field_dropped (level R bound levels) o index (object_at w.objects o) w)
+      field_run : (index : ℕ) (w : World) → After p bound (clears_next p (at inner p.end_step stack (ended_held rs o w)) o index) w.input w.trace (Goes_on w)
+          (field_dropped (level R bound levels) o index (object_at w.objects o) w)
       field_run index w =
           let D = level R bound levels in
           let h = ended_held rs o w in
-          let meant : Option Object → Outcome Finished = λ f. field_dropped D o index f w in
-          let go : Object → Next State = λ ob. on_place (slice_get ob.strong index) (stays h) (λ old. lets_go old (raised 0 (with_strong_field h o ob index 0)) stays (ends w)) in
-          there_runs p bound w.input w.trace (Goes_on w) (meant (object_at w.objects o)) (object_at w.objects o) go (λ ob found there.
-          subst (λ f. Runs (moves p) bound (follow (recount (go ob)) w.input w.trace) (Goes_on w) (meant f)) (sym found)
-          (place_takes p bound rs D w own_frame (stacked w) (Goes_on w) (λ x. x) ob.strong index 0 (stays h) (λ old. lets_go old (raised 0 (with_strong_field h o ob index 0)) stays (ends w))
-          (λ l. with_objects w (with_object w.objects o (with_strong_fields ob l))) (ap (with_objects w) (same_put w.objects j ob found)) (stays_run w h.counts) (λ old named.
-          let w1 = field_stores o ob index 0 w in
-          better_runs (moves p) bound _ (Goes_on w1) (Goes_on w) (released D old w1)
-          (lets_run w old (raised 0 h).counts w1
-          (λ k. raised_count 0 (held_of [] w) (suc k) ∙ sym (field_moves (suc k) (held_of [] w) j ob index old 0 found there named)))
-          (λ done w2 to m. (m.0, record { frame = m.1.frame; waiting = m.1.waiting })))))
+          after_object (object_at w.objects o) (λ ob found there. rw found
+          (after_place D (λ x. x) ob.strong index 0 (λ l. with_objects w (with_object w.objects o (with_strong_fields ob l)))
+          (ap (with_objects w) (same_put w.objects j ob found)) (stays_run w h.counts) (λ old named. record {
+          follows = better (lets_run w old (raised 0 h).counts (field_stores o ob index 0 w)
+          (λ k. raised_count 0 (held_of [] w) (suc k) ∙ sym (field_moves (suc k) (held_of [] w) j ob index old 0 found there named))).follows
+          (λ done w2 to m. (m.0, record { frame = m.1.frame; waiting = m.1.waiting })) })))
 
     -- ---- what is left of an end
 
@@ -285,88 +284,78 @@ module _ (p : Program) (R : resolved.Program) (bound : ℕ) (begins : (wanted : 
     meant_from n next w = then_do (deallocs_run R (level R bound levels) bound (above_in R n next) o w) (λ _ w1. rest_of w1)
 
     abbrev EndRuns : (n : ℕ) → (next : Option ℕ) → World → Type 0
-    EndRuns n next w = Runs (moves p) bound (at_end rs (Ending back waits o next n ∷ frames) o stack w) (Back w) (meant_from n next w)
+    EndRuns n next w = Follows p bound (at_end rs (Ending back waits o next n ∷ frames) o stack w) (Back w) (meant_from n next w)
 
     -- the dealloc of one class, and then what is above it
-    by_dealloc : (n : ℕ) (next : Option ℕ) (w : World) (from : Reached State) (meant stands : Option ℕ) → Still w → Meets p R gives.Number 0 0 meant stands → Leads (moves p) from (follow (recount (runs_dealloc stands (at [] p.end_step stack (ended_held rs o w)) (Ending back waits o next n ∷ frames))) w.input w.trace) → ((w1 : World) → Still w1 → EndRuns n next w1) → Runs (moves p) bound from (Back w) (then_do (then_do (dealloc_run R (level R bound levels) bound meant o w) (λ _ w1. deallocs_run R (level R bound levels) bound (above_in R n next) o w1)) (λ _ w1. rest_of w1))
-    by_dealloc n next w from None None still meets e go =
-        let inner1 = Ending back waits o next n ∷ frames in
-        let there = leads_trans (moves p) from _ (at_end rs inner1 o stack w) e (leads_same (moves p) _ (at_end rs inner1 o stack w) (ap (λ t. Running (at inner1 p.end_step stack (ended_held rs o w)) w.input t) (append-nil w.trace))) in
-        leads_runs (moves p) bound from (at_end rs inner1 o stack w) (Back w) (meant_from n next w) there (go w still)
-    by_dealloc n next w from (Some f) (Some to) still meets e go =
+    by_dealloc : (n : ℕ) (next : Option ℕ) (w : World) (meant stands : Option ℕ) → Still w → Meets p R gives.Number 0 0 meant stands
+        → ((w1 : World) → Still w1 → EndRuns n next w1)
+        → After p bound (runs_dealloc stands (at [] p.end_step stack (ended_held rs o w)) (Ending back waits o next n ∷ frames)) w.input w.trace (Back w)
+        (then_do (then_do (dealloc_run R (level R bound levels) bound meant o w) (λ _ w1. deallocs_run R (level R bound levels) bound (above_in R n next) o w1))
+        (λ _ w1. rest_of w1))
+    by_dealloc n next w None None still meets go = quietly (go w still)
+    by_dealloc n next w (Some f) (Some to) still meets go =
         let inner1 = Ending back waits o next n ∷ frames in
         let D = level R bound levels in
         let w0 = entered (slots_of R gives.Number f) 0 0 false o nothing_given w in
-        let into = leads_trans (moves p) from _ (running inner1 rs to stack w0) e (quiet p inner1 bound rs to stack w0) in
-        let there = leads_trans (moves p) from (running inner1 rs to stack w0) (begun_at rs gives.Number f o inner1 nothing_given stack w) into (stub_leads rs inner1 gives.Number 0 0 f to nothing_given stack w0 refl refl meets) in
-        let body = called D bound (function_at R gives.Number f) o nothing_given w in
-        let inside = deep (Ending back waits o next n) in
-        let end = Left_by rs gives.Number f o inner1 stack w levels inside in
-        let runs = leads_runs (moves p) bound from (begun_at rs gives.Number f o inner1 nothing_given stack w) end body there (body_runs rs levels gives.Number f o inner1 nothing_given stack w inside) in
-        subst (Runs (moves p) bound from (Back w)) (then_thrice body (λ _ w1. Done finished w1) (λ _ w1. deallocs_run R D bound (above_in R n next) o w1) (λ _ w1. rest_of w1))
-        (then_runs (moves p) bound from end (Back w) body (λ _ w1. meant_from n next w1) runs (λ v w1 reached m.
+        quietly (subst (Follows p bound (running inner1 rs to stack w0) (Back w))
+        (then_thrice (called D bound (function_at R gives.Number f) o nothing_given w) (λ _ w1. Done finished w1)
+        (λ _ w1. deallocs_run R D bound (above_in R n next) o w1) (λ _ w1. rest_of w1))
+        (leading.next (stub_runs rs inner1 gives.Number 0 0 f to nothing_given stack w0 refl refl meets
+        (body_runs rs levels gives.Number f o inner1 nothing_given stack w (deep (Ending back waits o next n)))) (λ v w1 reached m.
         let k = m.1 in
         let home : reached ≡ at_end rs inner1 o stack w1 = m.0 ∙ rw (append-nil, k.frame, k.waiting) in
-        leads_runs (moves p) bound reached (at_end rs inner1 o stack w1) (Back w) (meant_from n next w1) (leads_same (moves p) reached (at_end rs inner1 o stack w1) home)
-        (back_from w w1 (at_end rs inner1 o stack w1) (meant_from n next w1) k (go w1 (still_on w w1 still k)))))
-    by_dealloc n next w from _ _ still meets e go = absurd meets
+        on home (back_from k (go w1 (still_on w w1 still k))))))
+    by_dealloc n next w _ _ still meets go = absurd meets
 
     module _ (links : Linked p R) (has_end : HasAt p p.end_step (EndStep ∷ [])) where
       -- the fields that are left, and the last step
-      fields_run : (fields : List ℕ) (w : World) → Still w → Runs (moves p) bound (at_end rs (Clearing back waits o fields ∷ frames) o stack w) (Back w) (then_do (fields_dropped (level R bound levels) fields o w) (λ _ w1. gone o w1))
-      fields_run [] w still =
-          let inner1 = Clearing back waits o [] ∷ frames in
-          leads_runs (moves p) bound (at_end rs inner1 o stack w) (follow (recount (last_step w)) w.input w.trace) (Back w) (gone o w) (leads_step (moves p) (at inner1 p.end_step stack (ended_held rs o w)) w.input w.trace (recount (last_step w)) (ap recount (has_end.0 inner1 stack (ended_held rs o w)))) (last_runs w still)
+      fields_run : (fields : List ℕ) (w : World) → Still w → Follows p bound (at_end rs (Clearing back waits o fields ∷ frames) o stack w) (Back w)
+          (then_do (fields_dropped (level R bound levels) fields o w) (λ _ w1. gone o w1))
+      fields_run [] w still = steps EndStep has_end.0 (last_runs w still)
       fields_run (index ∷ others) w still =
-          let inner1 = Clearing back waits o (index ∷ others) ∷ frames in
           let D = level R bound levels in
-          let next = recount (clears_next p (at (inner others) p.end_step stack (ended_held rs o w)) o index) in
-          let from = follow next w.input w.trace in
-          let first = field_dropped D o index (object_at w.objects o) w in
-          let meant = then_do (fields_dropped D (index ∷ others) o w) (λ _ w1. gone o w1) in
-          leads_runs (moves p) bound (at_end rs inner1 o stack w) from (Back w) meant (leads_step (moves p) (at inner1 p.end_step stack (ended_held rs o w)) w.input w.trace next (ap recount (has_end.0 inner1 stack (ended_held rs o w))))
-          (subst (Runs (moves p) bound from (Back w)) (then_twice first (λ _ w1. fields_dropped D others o w1) (λ _ w1. gone o w1))
-          (then_runs (moves p) bound from (Goes_on others w) (Back w) first (λ _ w1. then_do (fields_dropped D others o w1) (λ _ w2. gone o w2)) (field_run others index w) (λ done w1 to m.
-          leads_runs (moves p) bound to (at_end rs (inner others) o stack w1) (Back w) (then_do (fields_dropped D others o w1) (λ _ w2. gone o w2)) (leads_same (moves p) _ _ m.0)
-          (back_from w w1 (at_end rs (inner others) o stack w1) (then_do (fields_dropped D others o w1) (λ _ w2. gone o w2)) m.1 (fields_run others w1 (still_on w w1 still m.1))))))
+          subst (Follows p bound (at_end rs (Clearing back waits o (index ∷ others) ∷ frames) o stack w) (Back w))
+          (then_twice (field_dropped D o index (object_at w.objects o) w) (λ _ w1. fields_dropped D others o w1) (λ _ w1. gone o w1))
+          (steps EndStep has_end.0 (record { follows = next (field_run others index w).follows (λ done w1 to m.
+          on m.0 (back_from m.1 (fields_run others w1 (still_on w w1 still m.1)))) }))
 
       -- the deallocs are done
       clears_run : (frame : Frame) (order : List ℕ) (ob : Object) (w : World) → object_at w.objects o ≡ Some ob → is_there ob.phase ≡ true → Still w
-          → Runs (moves p) bound (follow (recount (clears p (at (frame ∷ frames) p.end_step stack (ended_held rs o w)) back waits o order frames)) w.input w.trace) (Back w) (then_do (fields_dropped (level R bound levels) order o (turned Emptying o (Some ob) w)) (λ _ w1. gone o w1))
+          → After p bound (clears p (at (frame ∷ frames) p.end_step stack (ended_held rs o w)) back waits o order frames) w.input w.trace (Back w)
+          (then_do (fields_dropped (level R bound levels) order o (turned Emptying o (Some ob) w)) (λ _ w1. gone o w1))
       clears_run frame [] ob w found there still = bare_runs w ob found there still
       clears_run frame (index ∷ order) ob w found there still =
           let fields = index ∷ order in
-          let inner1 = Clearing back waits o fields ∷ frames in
           let w1 = turned Emptying o (Some ob) w in
-          let meant = then_do (fields_dropped (level R bound levels) fields o w1) (λ _ w2. gone o w2) in
           let from = follow (recount (clears p (at (frame ∷ frames) p.end_step stack (ended_held rs o w)) back waits o fields frames)) w.input w.trace in
-          let path : from ≡ at_end rs inner1 o stack w1 = simp (append-nil, found) in
-          leads_runs (moves p) bound from (at_end rs inner1 o stack w1) (Back w) meant (leads_same (moves p) _ _ path)
-          (back_from w w1 (at_end rs inner1 o stack w1) meant (record { frame = refl; waiting = refl }) (fields_run fields w1 still))
+          let path : from ≡ at_end rs (Clearing back waits o fields ∷ frames) o stack w1 = simp (append-nil, found) in
+          record { follows = on path (back_from (record { frame = refl; waiting = refl }) (fields_run fields w1 still)) }
 
-      after_runs : (frame : Frame) (w : World) → Still w → moves p (at (frame ∷ frames) p.end_step stack (ended_held rs o w)) ≡ recount (after_deallocs p (at (frame ∷ frames) p.end_step stack (ended_held rs o w)) back waits o frames) → Runs (moves p) bound (at_end rs (frame ∷ frames) o stack w) (Back w) (rest_of w)
+      after_runs : (frame : Frame) (w : World) → Still w → moves p (at (frame ∷ frames) p.end_step stack (ended_held rs o w))
+          ≡ recount (after_deallocs p (at (frame ∷ frames) p.end_step stack (ended_held rs o w)) back waits o frames)
+          → Follows p bound (at_end rs (frame ∷ frames) o stack w) (Back w) (rest_of w)
       after_runs frame w still e =
           let D = level R bound levels in
           let s = at (frame ∷ frames) p.end_step stack (ended_held rs o w) in
-          let next = recount (after_deallocs p s back waits o frames) in
-          let meant : Option Object → Outcome Finished = λ f. then_do (emptied D o f w) (λ _ w1. gone o w1) in
-          let go : Object → Next State = λ ob. clears p s back waits o (field_order p.classes ob.class) frames in
-          leads_runs (moves p) bound (at_end rs (frame ∷ frames) o stack w) (follow next w.input w.trace) (Back w) (rest_of w) (leads_step (moves p) s w.input w.trace next e)
-          (there_runs p bound w.input w.trace (Back w) (rest_of w) (object_at w.objects o) go (λ ob found there.
-          let order_is : field_order D.classes ob.class ≡ field_order p.classes ob.class = ap (λ cs. field_order cs ob.class) (classes_are levels) ∙ sym (order_same p R links ob.class) in
-          subst (λ f. Runs (moves p) bound (follow (recount (go ob)) w.input w.trace) (Back w) (meant f)) (sym found)
-          (subst (λ order. Runs (moves p) bound (follow (recount (go ob)) w.input w.trace) (Back w) (then_do (fields_dropped D order o (turned Emptying o (Some ob) w)) (λ _ w1. gone o w1))) (sym order_is)
-          (clears_run frame (field_order p.classes ob.class) ob w found there still))))
+          moves_on e (after_object (object_at w.objects o) {go = λ ob. clears p s back waits o (field_order p.classes ob.class) frames} (λ ob found there.
+          let order_is : field_order D.classes ob.class ≡ field_order p.classes ob.class =
+          ap (λ cs. field_order cs ob.class) (classes_are levels) ∙ sym (order_same p R links ob.class) in
+          subst (λ f. After p bound (clears p s back waits o (field_order p.classes ob.class) frames) w.input w.trace (Back w)
+          (then_do (emptied D o f w) (λ _ w1. gone o w1))) (sym found)
+          (rw order_is (clears_run frame (field_order p.classes ob.class) ob w found there still))))
 
-      by_class : (n c : ℕ) (w : World) (a b : Option Class) → Still w → Same p R a b → moves p (at (Ending back waits o (Some c) (suc n) ∷ frames) p.end_step stack (ended_held rs o w)) ≡ recount (ends_class p (at (Ending back waits o (Some c) (suc n) ∷ frames) p.end_step stack (ended_held rs o w)) back waits o b n frames) → ((next : Option ℕ) (w1 : World) → Still w1 → EndRuns n next w1) → Runs (moves p) bound (at_end rs (Ending back waits o (Some c) (suc n) ∷ frames) o stack w) (Back w) (then_do (dealloc_and_above R (level R bound levels) bound a o (λ above w1. deallocs_run R (level R bound levels) bound (above_in R n above) o w1) w) (λ _ w1. rest_of w1))
+      by_class : (n c : ℕ) (w : World) (a b : Option Class) → Still w → Same p R a b
+          → moves p (at (Ending back waits o (Some c) (suc n) ∷ frames) p.end_step stack (ended_held rs o w))
+          ≡ recount (ends_class p (at (Ending back waits o (Some c) (suc n) ∷ frames) p.end_step stack (ended_held rs o w)) back waits o b n frames)
+          → ((next : Option ℕ) (w1 : World) → Still w1 → EndRuns n next w1)
+          → Follows p bound (at_end rs (Ending back waits o (Some c) (suc n) ∷ frames) o stack w) (Back w) (then_do (dealloc_and_above R (level R bound levels)
+          bound a o (λ above w1. deallocs_run R (level R bound levels) bound (above_in R n above) o w1) w) (λ _ w1. rest_of w1))
       by_class n c w None None still same e go = after_runs (Ending back waits o (Some c) (suc n)) w still e
       by_class n c w (Some x) (Some d) still same e go =
-          let inner1 = Ending back waits o (Some c) (suc n) ∷ frames in
-          let h : Held = ended_held rs o w in
-          let s = at inner1 p.end_step stack h in
-          let next = recount (runs_dealloc d.dealloc (at [] p.end_step stack h) (Ending back waits o x.superclass n ∷ frames)) in
-          let step : moves p s ≡ next = e ∙ ap (λ up. recount (runs_dealloc d.dealloc s (Ending back waits o up n ∷ frames))) same.0 ∙ deallocs_alike d.dealloc (Ending back waits o x.superclass n ∷ frames) in
-          by_dealloc n x.superclass w (at_end rs inner1 o stack w) x.dealloc d.dealloc still same.2 (leads_step (moves p) s w.input w.trace next step) (go x.superclass)
+          let s = at (Ending back waits o (Some c) (suc n) ∷ frames) p.end_step stack (ended_held rs o w) in
+          moves_on (e ∙ ap (λ up. recount (runs_dealloc d.dealloc s (Ending back waits o up n ∷ frames))) same.0
+          ∙ deallocs_alike d.dealloc (Ending back waits o x.superclass n ∷ frames))
+          (by_dealloc n x.superclass w x.dealloc d.dealloc still same.2 (go x.superclass))
         where
           -- what waited before doesn't matter
           deallocs_alike : (dealloc : Option ℕ) (all : List Frame) → recount (runs_dealloc dealloc (at (Ending back waits o (Some c) (suc n) ∷ frames) p.end_step stack (ended_held rs o w)) all) ≡ recount (runs_dealloc dealloc (at [] p.end_step stack (ended_held rs o w)) all)
@@ -375,19 +364,17 @@ module _ (p : Program) (R : resolved.Program) (bound : ℕ) (begins : (wanted : 
       by_class n c w _ _ still same e go = absurd same
 
       end_runs : (n : ℕ) (next : Option ℕ) (w : World) → Still w → EndRuns n next w
-      end_runs zero None w still = after_runs (Ending back waits o None zero) w still (ap recount (has_end.0 (Ending back waits o None zero ∷ frames) stack (ended_held rs o w)))
-      end_runs zero (Some c) w still = after_runs (Ending back waits o (Some c) zero) w still (ap recount (has_end.0 (Ending back waits o (Some c) zero ∷ frames) stack (ended_held rs o w)))
-      end_runs (suc n) None w still = after_runs (Ending back waits o None (suc n)) w still (ap recount (has_end.0 (Ending back waits o None (suc n) ∷ frames) stack (ended_held rs o w)))
       end_runs (suc n) (Some c) w still =
-          subst (λ x. Runs (moves p) bound (at_end rs (Ending back waits o (Some c) (suc n) ∷ frames) o stack w) (Back w) (then_do x (λ _ w1. rest_of w1)))
-          (sym (deallocs_from R (level R bound levels) bound n c o w))
-          (by_class n c w (slice_get R.classes c) (slice_get p.classes c) still (links.same c) (ap recount (has_end.0 (Ending back waits o (Some c) (suc n) ∷ frames) stack (ended_held rs o w))) (λ next w1 still1. end_runs n next w1 still1))
+          rw (deallocs_from R (level R bound levels) bound n c o w) (by_class n c w (slice_get R.classes c) (slice_get p.classes c) still (links.same c)
+          (ap recount (has_end.0 (Ending back waits o (Some c) (suc n) ∷ frames) stack (ended_held rs o w))) (end_runs n))
+      end_runs zero None w still = after_runs _ w still (ap recount (has_end.0 _ _ _))
+      end_runs zero (Some c) w still = after_runs _ w still (ap recount (has_end.0 _ _ _))
+      end_runs (suc n) None w still = after_runs _ w still (ap recount (has_end.0 _ _ _))
 
   module _ (links : Linked p R) (has_end : HasAt p p.end_step (EndStep ∷ [])) where
     -- the end of an object at the last level
     last_ends : (frames : List Frame) → length frames + 0 ≡ MOST_LEVELS → Ends p frames bound (level R bound zero)
-    last_ends frames full f0 waiting k ob c h0 rs stack w pc back e found =
-        inr (leads_same (moves p) _ _ (ap (λ b. follow (recount (begins_end p (at frames pc stack h0) back (suc k) ob.class (dying_in rs (laid w f0 waiting) k ob c) b)) w.input w.trace) (le-ltb (length frames) MOST_LEVELS (omega (arith, full)))))
+    last_ends frames full f0 waiting k ob c h0 rs stack w pc back e found = rw (le-ltb (length frames) MOST_LEVELS (omega (arith, full))) faults
 
     level_ends : (levels : ℕ) (frames : List Frame) → length frames + suc levels ≡ MOST_LEVELS → ((frame : Frame) → Deep p (frame ∷ frames) bound R (level R bound levels)) → Ends p frames bound (level R bound (suc levels))
     level_ends levels frames full deep f0 waiting k ob c h0 rs stack w pc back e found =
@@ -398,27 +385,28 @@ module _ (p : Program) (R : resolved.Program) (bound : ℕ) (begins : (wanted : 
         let h = dying_in rs (laid w f0 waiting) k ob c in
         let s = at frames pc stack h0 in
         let D = level R bound levels in
-        let o = meant_from rs back f0 waiting k levels frames stack deep n (Some ob.class) w1 in
-        let runs = end_runs rs back f0 waiting k levels frames stack deep links has_end n (Some ob.class) w1 e in
-        let from = follow (recount (begins_end p s back (suc k) ob.class h (has_level s))) w.input w.trace in
-        let path : from ≡ at_end rs inner1 (suc k) stack w1 =
+        let path : follow (recount (begins_end p s back (suc k) ob.class h (has_level s))) w.input w.trace ≡ at_end rs inner1 (suc k) stack w1 =
         ap (λ b. follow (recount (begins_end p s back (suc k) ob.class h b)) w.input w.trace) (lt-ltb (length frames) MOST_LEVELS (omega (arith, full)))
-        ∙ ap (λ m. Running (at (Ending back waits1 (suc k) (Some ob.class) m ∷ frames) p.end_step stack (ended_by rs (suc k) w1 (frame_places f0 ++ waiting))) w.input w1.trace) (links.count ∙ sym (length-map R.classes superclass_of))
+        ∙ ap (λ m. Running (at (Ending back waits1 (suc k) (Some ob.class) m ∷ frames) p.end_step stack (ended_by rs (suc k) w1 (frame_places f0 ++ waiting)))
+        w.input w1.trace) (links.count ∙ sym (length-map R.classes superclass_of))
         ∙ ap (λ l. Running (at inner1 p.end_step stack (ended_by rs (suc k) w1 l)) w.input w1.trace) e
         in
-        let meant : o ≡ (level R bound (suc levels)).end_of (suc k) w = ap (λ x. then_do (deallocs_run R D bound (above_in R n (class_in x)) (suc k) (dying (suc k) x w)) (λ _ w2. then_do (emptied D (suc k) (object_at w2.objects (suc k)) w2) (λ _ w3. gone (suc k) w3))) (sym found) in
-        subst (Runs (moves p) bound from (λ done w2 to. (to ≡ running frames rs back stack (laid w2 f0 waiting)) × Kept w w2)) meant
-        (leads_runs (moves p) bound from (at_end rs inner1 (suc k) stack w1) (λ done w2 to. (to ≡ running frames rs back stack (laid w2 f0 waiting)) × Kept w w2) o (leads_same (moves p) _ _ path)
-        (better_runs (moves p) bound (at_end rs inner1 (suc k) stack w1) (λ done w2 to. (to ≡ running frames rs back stack (laid w2 f0 waiting)) × Kept w1 w2) (λ done w2 to. (to ≡ running frames rs back stack (laid w2 f0 waiting)) × Kept w w2) o runs (λ done w2 to m. (m.0, record { frame = m.1.frame; waiting = m.1.waiting }))))
+        let meant : meant_from rs back f0 waiting k levels frames stack deep n (Some ob.class) w1 ≡ (level R bound (suc levels)).end_of (suc k) w =
+        ap (λ x. then_do (deallocs_run R D bound (above_in R n (class_in x)) (suc k) (dying (suc k) x w))
+        (λ _ w2. then_do (emptied D (suc k) (object_at w2.objects (suc k)) w2) (λ _ w3. gone (suc k) w3))) (sym found) in
+        record {
+          follows = rw (← meant) (on path (better (end_runs rs back f0 waiting k levels frames stack deep links has_end n (Some ob.class) w1 e)
+              (λ done w2 to m. (m.0, record { frame = m.1.frame; waiting = m.1.waiting }))));
+        }
 
     pub calls_run : (levels : ℕ) (frames : List Frame) → length frames + levels ≡ MOST_LEVELS → Deep p frames bound R (level R bound levels)
     calls_run zero frames full = record {
       invokes = λ wanted f given stack rs w pc has.
-          let s = onto (padded (pos 0) (slots_of R wanted f) given.numbers) stack in
-          let names1 = onto (padded 0 (parameters_of R wanted f) given.objects) rs in
-          inr (leads_step (moves p) (at frames pc s (held_of names1 w)) w.input w.trace (enters (at frames pc s (held_of names1 w)) (entry wanted f) 0 false) (call_steps wanted f pc frames s (held_of names1 w) false has (le-ltb (length frames) MOST_LEVELS (omega (arith, full)))));
+          moves_on (ap recount (call_enters p R wanted f (begins wanted f) pc frames _ _ false has
+          (le-ltb (length frames) MOST_LEVELS (omega (arith, full))))) faults;
       says = λ sign from selector arguments objects wanted self given stack rs w pc size few.
-          last_finds rs frames full (lookup R.classes from sign selector arguments objects wanted) (lookup p.classes from sign selector arguments objects wanted) wanted (passes sign arguments) objects self given stack w pc (lookup_meets p R links sign from selector arguments objects wanted);
+          last_finds rs frames full _ _ wanted (passes sign arguments) objects self given stack w pc
+          (lookup_meets p R links sign from selector arguments objects wanted);
       ends = last_ends frames full;
       same_found = found_same p R links;
       same_classes = refl;
@@ -427,16 +415,16 @@ module _ (p : Program) (R : resolved.Program) (bound : ℕ) (begins : (wanted : 
     }
     calls_run (suc levels) frames full = record {
       invokes = λ wanted f given stack rs w pc has.
-          let inner1 = Calling (pc + 1) (waits_of w) ∷ frames in
-          let s = onto (padded (pos 0) (slots_of R wanted f) given.numbers) stack in
+          let deep = calls_run levels (Calling (pc + 1) (waits_of w) ∷ frames) (omega (arith, full)) in
           let names1 = onto (padded 0 (parameters_of R wanted f) given.objects) rs in
-          let w1 = entered (slots_of R wanted f) 0 0 false 0 given w in
-          let next = Goes (at inner1 (entry wanted f) s (held_of names1 w1)) [] in
-          let begun1 = begun_at rs wanted f 0 inner1 given stack w in
-          let into = leads_trans (moves p) (running frames names1 pc s w) (follow next w.input w.trace) begun1 (leads_step (moves p) (at frames pc s (held_of names1 w)) w.input w.trace next (call_steps wanted f pc frames s (held_of names1 w) true has (lt-ltb (length frames) MOST_LEVELS (omega (arith, full))))) (quiet p inner1 bound names1 (entry wanted f) s w1) in
-          leads_runs (moves p) bound (running frames names1 pc s w) begun1 (Returns wanted frames rs pc stack w) ((level R bound (suc levels)).call wanted f 0 given w) into (method_runs rs levels wanted f pc 0 frames given stack w (calls_run levels inner1 (omega (arith, full))));
+          let s = at frames pc (onto (padded (pos 0) (slots_of R wanted f) given.numbers) stack) (held_of names1 w) in
+          moves_on {next = enters s (entry wanted f) 0 true} (ap recount (call_enters p R wanted f (begins wanted f) pc frames s.stack s.held true has
+          (lt-ltb (length frames) MOST_LEVELS (omega (arith, full)))))
+          (quietly (method_runs rs levels wanted f pc 0 frames given stack w deep));
       says = λ sign from selector arguments objects wanted self given stack rs w pc size few.
-          level_finds rs levels frames full (lookup R.classes from sign selector arguments objects wanted) (lookup p.classes from sign selector arguments objects wanted) wanted (passes sign arguments) objects self given stack w pc (calls_run levels (Calling (pc + 1) (waits_of w) ∷ frames) (omega (arith, full))) size few (lookup_meets p R links sign from selector arguments objects wanted);
+          level_finds rs levels frames full _ _ wanted (passes sign arguments) objects self given stack w pc
+          (calls_run levels (Calling (pc + 1) (waits_of w) ∷ frames) (omega (arith, full))) size few
+          (lookup_meets p R links sign from selector arguments objects wanted);
       ends = level_ends levels frames full (λ frame. calls_run levels (frame ∷ frames) (omega (arith, full)));
       same_found = found_same p R links;
       same_classes = refl;

@@ -1,5 +1,5 @@
 -- Where steps lead, and what a run does of which a meaning is known.
-use Rattle.std.proofs.Common.{◌≡◌, ℕ, zero, suc, ◌+◌, ◌≤◌, List, refl, sym, ap, ◌∙◌, subst, arith, ◌⊎◌, inl, inr, ℤ, [], ◌∷◌, ◌++◌, length, length-append}
+use Rattle.std.proofs.Common.{◌≡◌, ℕ, zero, suc, ◌+◌, ◌≤◌, List, refl, ap, ◌∙◌, arith, ◌⊎◌, inl, inr, ℤ, [], ◌∷◌, ◌++◌, length, length-append}
 use Rattle.arc_spec.specs.declared.event.Event.{Event}
 use Rattle.arc_spec.specs.World.{World, Outcome, Done, Faulted, Cut, then_do}
 use Rattle.arc_spec.specs.Stepping.{Next, Reached, Running, Wedged, follow, further, after_steps, Goes, Faults}
@@ -45,16 +45,6 @@ module _ {S : Type 0} (step : S → Next S) where
   abbrev pub Runs : {A : Type 0} → (bound : ℕ) (from : Reached S) (end : A → World → Reached S → Type 0) → Outcome A → Type 0
   Runs bound from end o = Wedges from ⊎ Comes bound from end o
 
-  -- an end is one place, with what is good there
-  abbrev pub At : {A : Type 0} → (good : A → World → Type 0) → (exit : A → World → Reached S) → A → World → Reached S → Type 0
-  At good exit a w to = (to ≡ exit a w) × good a w
-
-  pub stuck_runs : {A : Type 0} (bound : ℕ) (i : List ℕ) (t : List Event) (end : A → World → Reached S → Type 0) (o : Outcome A) → Runs bound (Wedged i t) end o
-  stuck_runs bound i t end o = inl (i, t, leads_same (Wedged i t) (Wedged i t) refl)
-
-  pub ends_here : {A : Type 0} (bound : ℕ) (r : Reached S) (end : A → World → Reached S → Type 0) (a : A) (w : World) → end a w r → Runs bound r end (Done a w)
-  ends_here bound r end a w e = inr (r, leads_same r r refl, e)
-
   comes_by : {A : Type 0} (least bound : ℕ) (r r' : Reached S) (end : A → World → Reached S → Type 0) (o : Outcome A) (p : Leads r r') → least ≤ p.steps + bound → Comes bound r' end o → Comes least r end o
   comes_by least bound r r' end (Done a w) p le q = (q.0, leads_trans r r' q.0 p q.1, q.2)
   comes_by least bound r r' end (Faulted f w) p le q = leads_trans r r' (stepping.Faulted f w.input w.trace) p q
@@ -66,57 +56,11 @@ module _ {S : Type 0} (step : S → Next S) where
   runs_by least bound r r' end o p le (inl q) = inl ((q.0, q.1, leads_trans r r' (Wedged q.0 q.1) p q.2))
   runs_by least bound r r' end o p le (inr q) = inr (comes_by least bound r r' end o p le q)
 
-  pub leads_runs : {A : Type 0} (bound : ℕ) (r r' : Reached S) (end : A → World → Reached S → Type 0) (o : Outcome A) → Leads r r' → Runs bound r' end o → Runs bound r end o
-  leads_runs bound r r' end o p = runs_by bound bound r r' end o p (omega arith)
-
-  -- one part after another
-  pub then_runs : {A B : Type 0} (bound : ℕ) (r : Reached S) (middle : A → World → Reached S → Type 0) (end : B → World → Reached S → Type 0) (o : Outcome A) (go : A → World → Outcome B) → Runs bound r middle o → ((a : A) (w : World) (to : Reached S) → middle a w to → Runs bound to end (go a w)) → Runs bound r end (then_do o go)
-  then_runs bound r middle end (Done a w) go (inr p) next = leads_runs bound r p.0 end (go a w) p.1 (next a w p.0 p.2)
-  then_runs bound r middle end _ go (inr p) next = inr p
-  then_runs bound r middle end _ go (inl p) next = inl p
-
-  -- the same after one place
-  pub then_at : {A B : Type 0} (bound : ℕ) (r : Reached S) (good : A → World → Type 0) (exit : A → World → Reached S) (end : B → World → Reached S → Type 0) (o : Outcome A) (go : A → World → Outcome B) → Runs bound r (At good exit) o → ((a : A) (w : World) → good a w → Runs bound (exit a w) end (go a w)) → Runs bound r end (then_do o go)
-  then_at bound r good exit end o go p next = then_runs bound r (At good exit) end o go p (λ a w to m. subst (λ q. Runs bound q end (go a w)) (sym m.0) (next a w m.1))
-
-  -- the same run, by what follows of its ends
-  pub better_runs : {A : Type 0} (bound : ℕ) (r : Reached S) (middle end : A → World → Reached S → Type 0) (o : Outcome A) → Runs bound r middle o → ((a : A) (w : World) (to : Reached S) → middle a w to → end a w to) → Runs bound r end o
-  better_runs bound r middle end (Done a w) (inr p) f = inr (p.0, p.1, f a w p.0 p.2)
-  better_runs bound r middle end _ (inr p) f = inr p
-  better_runs bound r middle end _ (inl p) f = inl p
-
 -- ---- What a run does at orders that stand one after the other.
 
 -- a run at this place with this stack
 abbrev pub running : List Frame → (names : List ℕ) → ℕ → List ℤ → World → Reached State
 running frames rs pc stack w = Running (at frames pc stack (held_of rs w)) w.input w.trace
-
-module _ (p : Program) (frames : List Frame) (bound : ℕ) (rs : List ℕ) where
-  -- what a step of one order leads to
-  pub one_runs : {A : Type 0} (x : Order) (pc : ℕ) (stack : List ℤ) (w : World) (end : A → World → Reached State → Type 0) (o : Outcome A) → HasAt p pc (x ∷ []) → Runs (moves p) bound (follow (recount (does p x (at frames pc stack (held_of rs w)))) w.input w.trace) end o → Runs (moves p) bound (running frames rs pc stack w) end o
-  one_runs x pc stack w end o has h = leads_runs (moves p) bound (running frames rs pc stack w) (follow (recount (does p x (at frames pc stack (held_of rs w)))) w.input w.trace) end o (leads_step (moves p) (at frames pc stack (held_of rs w)) w.input w.trace (recount (does p x (at frames pc stack (held_of rs w)))) (ap recount (has.0 frames stack (held_of rs w)))) h
-
-  -- a step that shows nothing
-  pub quiet : (pc : ℕ) (stack : List ℤ) (w : World) → Leads (moves p) (follow (Goes (at frames pc stack (held_of rs w)) []) w.input w.trace) (running frames rs pc stack w)
-  quiet pc stack w = leads_same (moves p) _ _ (ap (λ t. Running (at frames pc stack (held_of rs w)) w.input t) (append-nil w.trace))
-
-  pub quiet_runs : {A : Type 0} (pc : ℕ) (stack : List ℤ) (w : World) (end : A → World → Reached State → Type 0) (o : Outcome A) → Runs (moves p) bound (running frames rs pc stack w) end o → Runs (moves p) bound (follow (Goes (at frames pc stack (held_of rs w)) []) w.input w.trace) end o
-  quiet_runs pc stack w end o h = leads_runs (moves p) bound (follow (Goes (at frames pc stack (held_of rs w)) []) w.input w.trace) (running frames rs pc stack w) end o (quiet pc stack w) h
-
-  -- a run comes from the first of these orders to the place after them
-  abbrev pub Passes : List Order → List ℤ → World → List ℤ → World → Type 0
-  Passes xs stack w stack' w' = (pc : ℕ) → HasAt p pc xs → Leads (moves p) (running frames rs pc stack w) (running frames rs (pc + length xs) stack' w')
-
-  pub then_passes : (xs ys : List Order) (s0 : List ℤ) (w0 : World) (s1 : List ℤ) (w1 : World) (s2 : List ℤ) (w2 : World) → Passes xs s0 w0 s1 w1 → Passes ys s1 w1 s2 w2 → Passes (xs ++ ys) s0 w0 s2 w2
-  then_passes xs ys s0 w0 s1 w1 s2 w2 first next pc has =
-      let e : pc + length xs + length ys ≡ pc + length (xs ++ ys) = omega (arith, length-append xs ys) in
-      leads_trans (moves p) (running frames rs pc s0 w0) (running frames rs (pc + length xs) s1 w1) (running frames rs (pc + length (xs ++ ys)) s2 w2) (first pc (has_front p pc xs ys has)) (subst (λ q. Leads (moves p) (running frames rs (pc + length xs) s1 w1) (running frames rs q s2 w2)) e (next (pc + length xs) (has_back p pc xs ys has)))
-
-  pub one_passes : (x : Order) (s : List ℤ) (w : World) (s' : List ℤ) (w' : World) → ((pc : ℕ) → Leads (moves p) (follow (recount (does p x (at frames pc s (held_of rs w)))) w.input w.trace) (running frames rs (pc + 1) s' w')) → Passes (x ∷ []) s w s' w'
-  one_passes x s w s' w' h pc has = leads_trans (moves p) (running frames rs pc s w) (follow (recount (does p x (at frames pc s (held_of rs w)))) w.input w.trace) (running frames rs (pc + 1) s' w') (leads_step (moves p) (at frames pc s (held_of rs w)) w.input w.trace (recount (does p x (at frames pc s (held_of rs w)))) (ap recount (has.0 frames s (held_of rs w)))) (h pc)
-
-  pub no_passes : (s : List ℤ) (w : World) (s' : List ℤ) (w' : World) → s ≡ s' → w ≡ w' → Passes [] s w s' w'
-  no_passes s w s' w' es ew pc has = let e : pc ≡ pc + 0 = omega arith in leads_same (moves p) _ _ (ap (λ q. running frames rs q s w) e ∙ ap (λ x. running frames rs (pc + 0) x w) es ∙ ap (λ (x : World). running frames rs (pc + 0) s' x) ew)
 
 -- ---- The same, where what is spoken of follows from where it stands.
 
@@ -139,7 +83,7 @@ module _ {p : Program} {bound : ℕ} {A : Type 0} {end : A → World → Reached
   ends {r} h = record { runs = inr (r, leads_same (moves p) r r refl, h) }
 
   pub leads : {r r' : Reached State} {o : Outcome A} → Leads (moves p) r r' → Follows p bound r' end o → Follows p bound r end o
-  leads {r} {r'} {o} l h = record { runs = leads_runs (moves p) bound r r' end o l h.runs }
+  leads {r} {r'} {o} l h = record { runs = runs_by (moves p) bound bound r r' end o l (omega arith) h.runs }
 
   pub on : {r r' : Reached State} {o : Outcome A} → r ≡ r' → Follows p bound r' end o → Follows p bound r end o
   on e h = leads (leads_same (moves p) _ _ e) h
@@ -157,31 +101,44 @@ module _ {p : Program} {bound : ℕ} {A : Type 0} {end : A → World → Reached
   pub quietly : {s : State} {i : List ℕ} {t : List Event} {o : Outcome A} → Follows p bound (Running (fresh s) i t) end o → After p bound (Goes s []) i t end o
   quietly {s} {i} {t} h = record { follows = on (ap (Running (fresh s) i) (append-nil t)) h }
 
+  -- what comes of one step
+  by_step : {s : State} {next : Next State} {i : List ℕ} {t : List Event} {o : Outcome A} → moves p s ≡ recount next → After p bound next i t end o
+      → Follows p (suc bound) (Running s i t) end o
+  by_step {s} {i} {t} e h = record { runs = runs_by (moves p) (suc bound) bound _ _ end _ (leads_step (moves p) s i t _ e) (omega arith) h.runs }
+
+  pub moves_on : {s : State} {next : Next State} {i : List ℕ} {t : List Event} {o : Outcome A} → moves p s ≡ recount next → After p bound next i t end o
+      → Follows p bound (Running s i t) end o
+  moves_on e h = fewer (omega arith) (by_step e h)
+
   -- what an order does is one step
   pub steps_more : {pc : ℕ} {frames : List Frame} {stack : List ℤ} {held : Held} {i : List ℕ} {t : List Event} {o : Outcome A} (x : Order) → Acts p pc x
       → After p bound (does p x (at frames pc stack held)) i t end o → Follows p (suc bound) (Running (at frames pc stack held) i t) end o
-  steps_more {pc} {frames} {stack} {held} {i} {t} {o} x acts h = record {
-    runs = runs_by (moves p) (suc bound) bound _ _ end o (leads_step (moves p) _ i t _ (ap recount (acts frames stack held))) (omega arith) h.runs;
-  }
+  steps_more {frames} {stack} {held} x acts h = by_step (ap recount (acts frames stack held)) h
 
   pub steps : {pc : ℕ} {frames : List Frame} {stack : List ℤ} {held : Held} {i : List ℕ} {t : List Event} {o : Outcome A} (x : Order) → Acts p pc x
       → After p bound (does p x (at frames pc stack held)) i t end o → Follows p bound (Running (at frames pc stack held) i t) end o
   steps x acts h = fewer (omega arith) (steps_more x acts h)
 
+  -- what is done leads to one end
+  pub done_then : {B : Type 0} {middle : B → World → Reached State → Type 0} {r : Reached State} {b : B} {w : World} {o : Outcome A}
+      → Follows p bound r middle (Done b w) → ((to : Reached State) → middle b w to → Follows p bound to end o) → Follows p bound r end o
+  done_then {middle} {r} {b} {w} {o} h others = by h.runs
+    where
+      by : Runs (moves p) bound r middle (Done b w) → Follows p bound r end o
+      by (inl wedged) = record { runs = inl wedged }
+      by (inr there) = leads there.1 (others there.0 there.2)
+
   -- one part after another
   pub next : {B : Type 0} {middle : B → World → Reached State → Type 0} {r : Reached State} {o : Outcome B} {go : B → World → Outcome A}
       → Follows p bound r middle o → ((b : B) (w : World) (to : Reached State) → middle b w to → Follows p bound to end (go b w))
       → Follows p bound r end (then_do o go)
-  next {middle} {r} {o} {go} h others = record { runs = then_runs (moves p) bound r middle end o go h.runs (λ b w to m. (others b w to m).runs) }
+  next {o = Done b w} h others = done_then h (others b w)
+  next h others = record { runs = h.runs }
 
   -- by what follows from each of its ends
   pub further_on : {middle : A → World → Reached State → Type 0} {r : Reached State} {o : Outcome A} → Follows p bound r middle o
       → ((a : A) (w : World) (to : Reached State) → middle a w to → Follows p bound to end (Done a w)) → Follows p bound r end o
-  further_on {middle} {r} {o = Done a w} h others = by h.runs
-    where
-      by : Runs (moves p) bound r middle (Done a w) → Follows p bound r end (Done a w)
-      by (inl wedged) = record { runs = inl wedged }
-      by (inr there) = leads there.1 (others a w there.0 there.2)
+  further_on {o = Done a w} h others = done_then h (others a w)
   further_on h others = record { runs = h.runs }
 
   pub better : {middle : A → World → Reached State → Type 0} {r : Reached State} {o : Outcome A} → Follows p bound r middle o

@@ -1,5 +1,5 @@
 -- A run drops places, and ends the objects that these were the last to hold.
-use Rattle.std.proofs.Common.{◌≡◌, ℕ, zero, suc, ◌+◌, ◌≤◌, ℤ, Bool, true, false, not, ◌&&◌, nat_eq, nat_lt, if◌then◌else◌, List, [], ◌∷◌, ◌++◌, length, Option, Some, None, slice_get, slice_set, refl, sym, ap, ◌∙◌, subst, arith, length-append}
+use Rattle.std.proofs.Common.{inl, ◌≡◌, ℕ, zero, suc, ◌+◌, ◌≤◌, ℤ, Bool, true, false, not, ◌&&◌, nat_eq, nat_lt, if◌then◌else◌, List, [], ◌∷◌, ◌++◌, length, Option, Some, None, slice_get, slice_set, refl, sym, ap, ◌∙◌, subst, arith, length-append}
 use Rattle.std.proofs.lemmas.Bool.{ltb-true, ltb-false}
 use Rattle.std.proofs.lemmas.List.{length-set, get_or_past, set_past}
 use Rattle.std.proofs.lemmas.Option.{get_or_from_slice_get, none-some, slice_get-get_or}
@@ -10,16 +10,16 @@ use Rattle.arc_spec.specs.World as world
 use Rattle.arc_spec.specs.World.{World, Outcome, Done, finished, Finished, then_do, places, stacked, with_temporaries, with_strong, stores, name_at}
 use Rattle.arc_spec.specs.Meaning.{Deeper, released, field_stores, temporaries_dropped, second_dropped, all_dropped, assigned, variables_dropped}
 use Rattle.arc_spec.specs.Holding.{Held, Frame, holders, is_there, on_object, on_named, with_things, with_variables, with_strong_globals, with_strong_field, on_place, raised, lowered, lets_go}
-use Rattle.arc_spec.specs.Stepping.{Next, Goes, Reached, only_if, follow}
+use Rattle.arc_spec.specs.Stepping.{Next, Goes, Stuck, Reached, only_if}
 use Rattle.arc_code.specs.Instructions as instructions
-use Rattle.arc_ir.specs.Acting.{Program, State, keeps, has_level, begins_end, ends_after, releases}
+use Rattle.arc_ir.specs.Acting.{Program, State, has_level, begins_end, releases}
 use Rattle.arc_code.specs.declared.instr.Instr.TheVariants.{DropAll, Settle, Empty}
 use Rattle.arc_lower.specs.Order.{Order}
 use Rattle.arc_lower.specs.Lowered.{empty_orders, all_empty_orders}
 use Rattle.arc_lower.proofs.CountsPlaces.{tally_same, holders_head, last_one, raised_count, lowered_count, variable_moves, global_moves, field_moves, second_moves}
-use Rattle.arc_lower.proofs.Leading.{Runs, stuck_runs, running, Follows, After, after, ends, on, quietly, steps, next, better}
+use Rattle.arc_lower.proofs.Leading.{leads_same, running, Follows, After, after, ends, on, quietly, steps, next, better}
 use Rattle.arc_lower.proofs.Cases.{by_test}
-use Rattle.arc_lower.proofs.Doing.{recount, moves, at, counting, held_of, bare, HasAt, has_front, has_back}
+use Rattle.arc_lower.proofs.Doing.{moves, at, counting, held_of, bare, HasAt, has_front, has_back}
 
 -- the places of the functions are as they were
 pub record Kept (w w1 : World) : Type 0 where
@@ -47,90 +47,83 @@ laid w f waiting = record w { frame = f; waiting = waiting }
 -- The ends of objects do what is meant, and go on at a place. The places of the functions are laid out between the one
 -- that runs and those that wait as in this frame.
 abbrev pub Ends : Program → List Frame → (bound : ℕ) → Deeper → Type 0
-Ends p frames bound D = (f : world.Frame) (waiting : List ℕ) (k : ℕ) (ob : Object) (c : ℕ → ℕ) (h0 : Held) (rs : List ℕ) (stack : List ℤ) (w : World) (pc back : ℕ) → world.frame_places f ++ waiting ≡ stacked w → object_at w.objects (suc k) ≡ Some ob
-    → Runs (moves p) bound (follow (recount (begins_end p (at frames pc stack h0) back (suc k) ob.class (dying_in rs (laid w f waiting) k ob c) (has_level (at frames pc stack h0)))) w.input w.trace) (λ done w1 to. (to ≡ running frames rs back stack (laid w1 f waiting)) × Kept w w1) (D.end_of (suc k) w)
+Ends p frames bound D = (f : world.Frame) (waiting : List ℕ) (k : ℕ) (ob : Object) (c : ℕ → ℕ) (h0 : Held) (rs : List ℕ) (stack : List ℤ) (w : World)
+    (pc back : ℕ) → world.frame_places f ++ waiting ≡ stacked w → object_at w.objects (suc k) ≡ Some ob
+    → After p bound (begins_end p (at frames pc stack h0) back (suc k) ob.class (dying_in rs (laid w f waiting) k ob c) (has_level (at frames pc stack h0)))
+    w.input w.trace (λ done w1 to. (to ≡ running frames rs back stack (laid w1 f waiting)) × Kept w w1) (D.end_of (suc k) w)
 
 -- ---- what a step needs
 
-module _ (p : Program) (bound : ℕ) {A : Type 0} (i : List ℕ) (t : List Event) (end : A → World → Reached State → Type 0) (o : Outcome A) where
-  abbrev Goes_on : Next State → Type 0
-  Goes_on next = Runs (moves p) bound (follow (recount next) i t) end o
-
-  there_only_runs : (b : Bool) (next : Next State) → (b ≡ true → Goes_on next) → Goes_on (only_if b next)
-  there_only_runs true next h = h refl
-  there_only_runs false next h = stuck_runs (moves p) bound i t end o
-
-  pub only_runs : (b : Bool) (next : Next State) → Goes_on next → Goes_on (only_if b next)
-  only_runs b next h = there_only_runs b next (λ e. h)
-
-  pub there_runs : (found : Option Object) (go : Object → Next State) → ((ob : Object) → found ≡ Some ob → is_there ob.phase ≡ true → Goes_on (go ob)) → Goes_on (on_object found go)
-  there_runs None go h = stuck_runs (moves p) bound i t end o
-  there_runs (Some ob) go h = there_only_runs (is_there ob.phase) (go ob) (h ob refl)
-
-  pub object_runs : (found : Option Object) (go : Object → Next State) → ((ob : Object) → found ≡ Some ob → Goes_on (go ob)) → Goes_on (on_object found go)
-  object_runs found go h = there_runs found go (λ ob e there. h ob e)
-
-  pub place_runs : (found : Option ℕ) (none : Next State) (go : ℕ → Next State) → (found ≡ None → Goes_on none) → ((old : ℕ) → found ≡ Some old → Goes_on (go old)) → Goes_on (on_place found none go)
-  place_runs None none go h g = h refl
-  place_runs (Some old) none go h g = g old refl
-
-  pub named_runs : (r : ℕ) (h : Held) (next : Next State) → Goes_on next → Goes_on (on_named r h next)
-  named_runs zero h next go = go
-  named_runs (suc k) h next go = object_runs (object_at h.objects (suc k)) (λ _. next) (λ ob e. go)
-
--- the same, where it follows from where the step leads
 module _ {p : Program} {bound : ℕ} {A : Type 0} {i : List ℕ} {t : List Event} {end : A → World → Reached State → Type 0} {o : Outcome A} where
+  pub stuck : After p bound Stuck i t end o
+  stuck = after (inl (i, t, leads_same (moves p) _ _ refl))
+
+  there_only : (b : Bool) {next : Next State} → (b ≡ true → After p bound next i t end o) → After p bound (only_if b next) i t end o
+  there_only true h = h refl
+  there_only false h = stuck
+
+  pub after_only : (b : Bool) {next : Next State} → After p bound next i t end o → After p bound (only_if b next) i t end o
+  after_only b h = there_only b (λ e. h)
+
   pub after_object : (found : Option Object) {go : Object → Next State}
-      → ((ob : Object) → found ≡ Some ob → is_there ob.phase ≡ true → After p bound (go ob) i t end o) → After p bound (on_object found go) i t end o
-  after_object found {go} h = after (there_runs p bound i t end o found go (λ ob e is. (h ob e is).runs))
+      → ((ob : Object) → found ≡ Some ob → is_there ob.phase ≡ true → After p bound (go ob) i t end o)
+      → After p bound (on_object found go) i t end o
+  after_object None h = stuck
+  after_object (Some ob) h = there_only (is_there ob.phase) (h ob refl)
+
+  by_place : (found : Option ℕ) {none : Next State} {go : ℕ → Next State} → (found ≡ None → After p bound none i t end o)
+      → ((old : ℕ) → found ≡ Some old → After p bound (go old) i t end o)
+      → After p bound (on_place found none go) i t end o
+  by_place None h g = h refl
+  by_place (Some old) h g = g old refl
 
   pub after_named : (r : ℕ) (h : Held) {next : Next State} → After p bound next i t end o → After p bound (on_named r h next) i t end o
-  after_named r h {next} go = after (named_runs p bound i t end o r h next go.runs)
+  after_named zero h go = go
+  after_named (suc k) h go = after_object (object_at h.objects (suc k)) (λ ob e is. go)
 
 past_end : (names : List ℕ) (i : ℕ) → slice_get names i ≡ None → length names ≤ i
 past_end [] i e = omega arith
 past_end (q ∷ names) zero e = absurd (none-some q (sym e))
 past_end (q ∷ names) (suc i) e = omega (arith, past_end names i e)
 
-module _ (p : Program) (bound : ℕ) (rs : List ℕ) (D : Deeper) (w : World) (f : world.Frame) (waiting : List ℕ) {A : Type 0} (end : A → World → Reached State → Type 0) (meant : Outcome Finished → Outcome A) where
-  abbrev Comes_to : Next State → Outcome Finished → Type 0
-  Comes_to next o = Runs (moves p) bound (follow (recount next) w.input w.trace) end (meant o)
-
-  abbrev held_by : (ℕ → ℕ) → Held
-  held_by c = counting rs (laid w f waiting) c
-
-  pub lets_runs : (r : ℕ) (c : ℕ → ℕ) (stays : Held → Next State) (ends : (o class : ℕ) → Held → Next State) → ((k : ℕ) → c (suc k) ≡ holders (suc k) (r ∷ places w))
-      → ((less : ℕ → ℕ) → ((k : ℕ) → less (suc k) ≡ holders (suc k) (places w)) → Comes_to (stays (held_by less)) (Done finished w))
-      → ((k : ℕ) (ob : Object) (less : ℕ → ℕ) → object_at w.objects (suc k) ≡ Some ob → Comes_to (ends (suc k) ob.class (dying_in rs (laid w f waiting) k ob less)) (D.end_of (suc k) w))
-      → Comes_to (lets_go r (held_by c) stays ends) (released D r w)
-  lets_runs zero c stays ends count stay begin = stay (lowered 0 (held_by c)).counts (λ k. omega (arith, lowered_count 0 (held_by c) (suc k), count k, holders_head (suc k) 0 (places w)))
-  lets_runs (suc k) c stays ends count stay begin =
-      let less = (lowered (suc k) (held_by c)).counts in
-      let go : Object → Bool → Next State = λ ob b. if b then ends (suc k) ob.class (dying_in rs (laid w f waiting) k ob less) else stays (held_by less) in
+module _ {p : Program} {bound : ℕ} (D : Deeper) {w : World} {A : Type 0} {end : A → World → Reached State → Type 0}
+    (meant : Outcome Finished → Outcome A) where
+  pub after_let_go : (rs : List ℕ) (f : world.Frame) (waiting : List ℕ) (r : ℕ) (c : ℕ → ℕ) (stays : Held → Next State)
+      (ends : (o class : ℕ) → Held → Next State) → ((k : ℕ) → c (suc k) ≡ holders (suc k) (r ∷ places w))
+      → ((less : ℕ → ℕ) → ((k : ℕ) → less (suc k) ≡ holders (suc k) (places w))
+      → After p bound (stays (counting rs (laid w f waiting) less)) w.input w.trace end (meant (Done finished w)))
+      → ((k : ℕ) (ob : Object) (less : ℕ → ℕ) → object_at w.objects (suc k) ≡ Some ob
+      → After p bound (ends (suc k) ob.class (dying_in rs (laid w f waiting) k ob less)) w.input w.trace end (meant (D.end_of (suc k) w)))
+      → After p bound (lets_go r (counting rs (laid w f waiting) c) stays ends) w.input w.trace end (meant (released D r w))
+  after_let_go rs f waiting zero c stays ends count stay begin =
+      stay (lowered 0 (counting rs (laid w f waiting) c)).counts
+      (λ k. omega (arith, lowered_count 0 (counting rs (laid w f waiting) c) (suc k), count k, holders_head (suc k) 0 (places w)))
+  after_let_go rs f waiting (suc k) c stays ends count stay begin =
+      let held = counting rs (laid w f waiting) in
+      let less = (lowered (suc k) (held c)).counts in
+      let go : Object → Bool → Next State = λ ob b. if b then ends (suc k) ob.class (dying_in rs (laid w f waiting) k ob less) else stays (held less) in
       let one : c (suc k) ≡ suc (holders (suc k) (places w)) = omega (arith, count k, holders_head (suc k) (suc k) (places w), tally_same (suc k)) in
-      object_runs p bound w.input w.trace end (meant (released D (suc k) w)) (object_at w.objects (suc k)) (λ ob. go ob (is_live (Some ob) && nat_eq (c (suc k)) 1)) (λ ob found.
-      subst (λ b. Comes_to (go ob b) (released D (suc k) w)) (sym (ap (λ f. is_live f && nat_eq (c (suc k)) 1) (sym found) ∙ ap (λ b. is_live (object_at w.objects (suc k)) && b) (last_one (suc k) (c (suc k)) (places w) one)))
-      (by_test (λ b. Comes_to (go ob b) (if b then D.end_of (suc k) w else Done finished w)) (is_live (object_at w.objects (suc k)) && not (names (suc k) (places w))) (λ e. begin k ob less found)
-      (λ e. stay less (λ j. omega (arith, lowered_count (suc k) (held_by c) (suc j), count j, holders_head (suc j) (suc k) (places w))))))
+      after_object (object_at w.objects (suc k)) {go = λ ob. go ob (is_live (Some ob) && nat_eq (c (suc k)) 1)} (λ ob found is.
+      subst (λ b. After p bound (go ob b) w.input w.trace end (meant (released D (suc k) w))) (sym (ap (λ f. is_live f && nat_eq (c (suc k)) 1) (sym found)
+      ∙ ap (λ b. is_live (object_at w.objects (suc k)) && b) (last_one (suc k) (c (suc k)) (places w) one)))
+      (by_test (λ b. After p bound (go ob b) w.input w.trace end (meant (if b then D.end_of (suc k) w else Done finished w)))
+      (is_live (object_at w.objects (suc k)) && not (names (suc k) (places w)))
+      (λ e. begin k ob less found)
+      (λ e. stay less (λ j. omega (arith, lowered_count (suc k) (held c) (suc j), count j, holders_head (suc j) (suc k) (places w))))))
 
   -- a place of some takes another object, where there is such a place
-  pub place_takes : (places' : List ℕ) (i r : ℕ) (none : Next State) (go : ℕ → Next State) (with : List ℕ → World) → with places' ≡ w → Comes_to none (Done finished w)
-      → ((old : ℕ) → slice_get places' i ≡ Some old → Comes_to (go old) (released D old (with (slice_set places' i r)))) → Comes_to (on_place (slice_get places' i) none go) (released D (name_at places' i) (with (slice_set places' i r)))
-  place_takes places' i r none go with is stay release =
-      let after = with (slice_set places' i r) in
-      place_runs p bound w.input w.trace end (meant (released D (name_at places' i) after)) (slice_get places' i) none go (λ e.
-      let le = past_end places' i e in
-      subst (λ q. Comes_to none (released D q after)) (sym (get_or_past places' i 0 le)) (subst (λ x. Comes_to none (Done finished x)) (sym (ap with (set_past places' i r le) ∙ is)) stay))
-      (λ old found. subst (λ q. Comes_to (go old) (released D q after)) (sym (get_or_from_slice_get places' i old 0 found)) (release old found))
-
-module _ {p : Program} {bound : ℕ} (D : Deeper) {w : World} {A : Type 0} {end : A → World → Reached State → Type 0} where
-  pub after_place : (meant : Outcome Finished → Outcome A) (places' : List ℕ) (i r : ℕ) {none : Next State} {go : ℕ → Next State} (with : List ℕ → World)
-      → with places' ≡ w
+  pub after_place : (places' : List ℕ) (i r : ℕ) {none : Next State} {go : ℕ → Next State} (with : List ℕ → World) → with places' ≡ w
       → After p bound none w.input w.trace end (meant (Done finished w))
       → ((old : ℕ) → slice_get places' i ≡ Some old → After p bound (go old) w.input w.trace end (meant (released D old (with (slice_set places' i r)))))
       → After p bound (on_place (slice_get places' i) none go) w.input w.trace end (meant (released D (name_at places' i) (with (slice_set places' i r))))
-  after_place meant places' i r {none} {go} with is stay release =
-      after (place_takes p bound [] D w w.frame w.waiting end meant places' i r none go with is stay.runs (λ old found. (release old found).runs))
+  after_place places' i r {none} {go} with is stay release =
+      let changed = with (slice_set places' i r) in
+      by_place (slice_get places' i) (λ e.
+      let le = past_end places' i e in
+      subst (λ q. After p bound none w.input w.trace end (meant (released D q changed))) (sym (get_or_past places' i 0 le))
+      (subst (λ x. After p bound none w.input w.trace end (meant (Done finished x))) (sym (ap with (set_past places' i r le) ∙ is)) stay))
+      (λ old found. subst (λ q. After p bound (go old) w.input w.trace end (meant (released D q changed)))
+      (sym (get_or_from_slice_get places' i old 0 found)) (release old found))
 
 -- variables that are emptied, from the first one on, the last one first
 abbrev pub empties : (first count : ℕ) → List ℕ → List ℕ
@@ -156,20 +149,19 @@ module _ (p : Program) (frames : List Frame) (bound : ℕ) (rs : List ℕ) (D : 
       → Dropping stack back (begins_end p (at frames pc stack h0) back (suc k) ob.class (dying_in rs w k ob c) (has_level (at frames pc stack h0))) w w
       (D.end_of (suc k) w)
   own_ends k ob c h0 stack w pc back found = record {
-    follows = better (record { runs = all_ends w.frame w.waiting k ob c h0 rs stack w pc back refl found })
+    follows = better (all_ends w.frame w.waiting k ob c h0 rs stack w pc back refl found).follows
         (λ done w1 to m. (m.0 ∙ rw (← m.1.frame, ← m.1.waiting), m.1));
   }
 
-  kept_at : (stack : List ℤ) (w : World) (pc : ℕ) → Dropping stack pc (Goes (at frames pc stack (held_of rs w)) []) w w (Done finished w)
-  kept_at stack w pc = quietly (ends (refl, kept_same w))
+  kept_at : (stack : List ℤ) (w : World) (pc : ℕ) (c : ℕ → ℕ) → Dropping stack pc (Goes (at frames pc stack (counting rs w c)) []) w w (Done finished w)
+  kept_at stack w pc c = quietly (ends (refl, kept_same w))
 
   -- a place names this no more
   release_runs : (r : ℕ) (c : ℕ → ℕ) (h0 : Held) (stack : List ℤ) (w : World) (pc : ℕ) → ((k : ℕ) → c (suc k) ≡ holders (suc k) (r ∷ places w))
       → Dropping stack (pc + 1) (releases p (at frames pc stack h0) r (counting rs w c)) w w (released D r w)
   release_runs r c h0 stack w pc count =
-      after (lets_runs p bound rs D w w.frame w.waiting (stays stack (pc + 1) w) (λ o. o) r c (keeps (at frames pc stack h0) stack)
-      (ends_after p (at frames pc stack h0)) count
-      (λ less _. (kept_at stack w (pc + 1)).runs) (λ k ob less found. (own_ends k ob less h0 stack w pc (pc + 1) found).runs))
+      after_let_go D (λ o. o) rs w.frame w.waiting r c _ _ count (λ less _. kept_at stack w (pc + 1) less)
+      (λ k ob less found. own_ends k ob less h0 stack w pc (pc + 1) found)
 
   -- ---- temporaries
 
@@ -194,18 +186,17 @@ module _ (p : Program) (frames : List Frame) (bound : ℕ) (rs : List ℕ) (D : 
   drops_run (r ∷ others) stack pc has c h0 w count =
       let w1 = with_temporaries w others in
       let end = stays stack (pc + 1) (with_temporaries w []) in
-      let s = at frames pc stack h0 in
       let emptied = λ (f : world.Frame). (with_temporaries (record w { frame = f }) []).frame in
-      after (lets_runs p bound rs D w1 w1.frame w1.waiting end (λ o. then_do o (λ _ w2. temporaries_dropped D others w2)) r c (drops h0 stack pc others)
-      (λ o class h. begins_end p s pc o class h (has_level s)) count
-      (λ less left. (drops_run others stack pc has less h0 w left).runs)
-      (λ k ob less found. (next {end = end} (own_ends k ob less h0 stack w1 pc pc found).follows
+      after_let_go D (λ o. then_do o (λ _ w2. temporaries_dropped D others w2)) rs w1.frame w1.waiting r c _ _ count
+      (λ less left. drops_run others stack pc has less h0 w left)
+      (λ k ob less found. record { follows = next {end = end} (own_ends k ob less h0 stack w1 pc pc found).follows
       (λ done w2 to m. on m.0 (better (met_again others stack pc w2 has (drops_run others stack pc has) (ap (λ (f : world.Frame). f.temporaries) m.1.frame))
-      (λ done w3 to n. (n.0, kept_trans _ _ _ (record { frame = ap emptied m.1.frame; waiting = m.1.waiting }) n.1))))).runs))
+      (λ done w3 to n. (n.0, kept_trans _ _ _ (record { frame = ap emptied m.1.frame; waiting = m.1.waiting }) n.1)))) })
 
   -- all temporaries
-  pub dropped_runs : (stack : List ℤ) (w : World) (pc : ℕ) → HasAt p pc (DropAll ∷ []) → Runs (moves p) bound (running frames rs pc stack w) (stays stack (pc + 1) (with_temporaries w [])) (all_dropped D w)
-  dropped_runs stack w pc has = (met_again w.frame.temporaries stack pc w has (drops_run w.frame.temporaries stack pc has) refl).runs
+  pub dropped_runs : (stack : List ℤ) (w : World) (pc : ℕ) → HasAt p pc (DropAll ∷ [])
+      → Drops stack pc (pc + 1) w (with_temporaries w []) (all_dropped D w)
+  dropped_runs stack w pc has = met_again w.frame.temporaries stack pc w has (drops_run w.frame.temporaries stack pc has) refl
 
   -- the temporary before the last one
   pub settled_runs : (x r : ℕ) (ts : List ℕ) (stack : List ℤ) (w : World) (pc : ℕ) → w.frame.temporaries ≡ x ∷ r ∷ ts → HasAt p pc (Settle ∷ [])
@@ -269,9 +260,3 @@ module _ (p : Program) (frames : List Frame) (bound : ℕ) (rs : List ℕ) (D : 
       (better (empties_by names' first n stack w2 (pc + length xs) (ap (λ (f : world.Frame). length f.strong) m.1.frame ∙ length-set w.frame.strong i 0 ∙ size)
       (has_back p pc xs ys has))
       (λ done w3 to k. (k.0, kept_trans _ _ _ (record { frame = ap emptied_in m.1.frame; waiting = m.1.waiting }) k.1)))))
-
-  pub empties_run : (names' first count : ℕ) (stack : List ℤ) (w : World) (pc : ℕ) → length w.frame.strong ≡ names'
-      → let xs = all_empty_orders names' first count in
-      HasAt p pc xs
-      → Runs (moves p) bound (running frames rs pc stack w) (stays stack (pc + length xs) (emptied first count w)) (variables_dropped D first count w)
-  empties_run names' first count stack w pc size has = (empties_by names' first count stack w pc size has).runs

@@ -15,14 +15,14 @@ use Rattle.arc_spec.specs.Resolved as resolved
 use Rattle.arc_spec.specs.declared.location.Location.{Location}
 use Rattle.arc_spec.specs.declared.location.Location.TheVariants.{Local, Global}
 use Rattle.arc_spec.specs.Resolved.{Piece}
-use Rattle.arc_spec.specs.Meaning.{Deeper, held_at, holds, chosen, temporaries_dropped, released, and_number, field_stores, dispatched, finds, gives_object, runs_found, class_in, sent, sent_from, object_given, next_object, made, made_new, second_dropped, result_place, in_object, difference, formatted, byte_count, or_fault, assigned, all_dropped, variables_dropped}
+use Rattle.arc_spec.specs.Meaning.{Deeper, held_at, holds, chosen, temporaries_dropped, released, and_number, field_stores, dispatched, finds, gives_object, runs_found, class_in, sent, sent_from, object_given, next_object, made, made_new, second_dropped, result_place, in_object, formatted, byte_count, or_fault, assigned, all_dropped}
 use Rattle.arc_spec.specs.World as world
-use Rattle.arc_spec.specs.World.{World, Outcome, Done, Faulted, Finished, finished, then_do, Given, nothing_given, prints, next_number, with_locals, with_objects, with_temporaries, local_at, name_at, named_at, with_strong_globals, takes, stores, padded}
+use Rattle.arc_spec.specs.World.{World, Outcome, Done, Faulted, Finished, then_do, Given, nothing_given, prints, next_number, with_objects, with_temporaries, local_at, name_at, named_at, with_strong_globals, takes, stores, padded}
 use Rattle.arc_spec.specs.Holding.{Frame, is_there, on_field, with_strong_field, on_place, raised}
-use Rattle.arc_spec.specs.Stepping.{Next, Goes, Faults, Reached, follow, fed}
+use Rattle.arc_spec.specs.Stepping.{Next, Goes, Faults, Reached, fed}
 use Rattle.arc_ir.specs.declared.action.Target.{Target}
 use Rattle.arc_ir.specs.declared.action.Target.TheVariants.{Skip, Back, At}
-use Rattle.arc_ir.specs.Acting.{Program, State, lands, onward, goes, keeps, answers, taken, sends, allocates, releases}
+use Rattle.arc_ir.specs.Acting.{Program, State, lands, onward, keeps, answers, taken, sends, allocates, releases}
 use Rattle.arc_ir.specs.Acting as acting
 use Rattle.arc_code.specs.Instructions as instructions
 use Rattle.arc_code.specs.declared.instr.Op.{Op}
@@ -36,7 +36,7 @@ use Rattle.arc_lower.specs.Lowered.{Message, ToClass, ToSuperClass, ToObject, To
 use Rattle.arc_lower.specs.Size.{has_new}
 use Rattle.std.specs.List.{list_any}
 use Rattle.std.proofs.lemmas.Option.{get_or_from_slice_get, slice_get-get_or}
-use Rattle.arc_lower.proofs.Leading.{Leads, leads_trans, leads_step, Runs, running, Follows, After, after, ends, leads, on, fewer, faults, quietly, steps, steps_more, next, further_on, shows_nothing, Crosses, one_crosses, then_crosses, no_crosses}
+use Rattle.arc_lower.proofs.Leading.{Leads, leads_trans, leads_step, running, Follows, After, ends, leads, on, fewer, faults, quietly, steps, steps_more, next, further_on, shows_nothing, Crosses, one_crosses, then_crosses, no_crosses}
 use Rattle.arc_lower.proofs.Cases.{by_test}
 use Rattle.arc_lower.proofs.Doing.{fresh, recount, moves, at, counting, held_of, bare, does, HasAt, has_front, has_back}
 use Rattle.arc_lower.proofs.Stacking.{onto, Peels, peels_onto, drop_onto, without_below, get_onto, get_local, set_local, get_below, set_below, print_passes, forgets_shift, passing_leads}
@@ -74,9 +74,13 @@ onto_none (v ∷ values) rest e = absurd (omega (arith, e))
 -- calls of functions, messages and ends of objects do what is meant, and classes are as they are meant
 pub record Deep (p : Program) (frames : List Frame) (bound : ℕ) (R : resolved.Program) (D : Deeper) : Type 0 where
   pub invokes : (wanted : Gives) (f : ℕ) (given : Given) (stack : List ℤ) (rs : List ℕ) (w : World) (pc : ℕ) → HasAt p pc (Call (number_of R wanted f) wanted ∷ [])
-      → Runs (moves p) bound (running frames (onto (padded 0 (parameters_of R wanted f) given.objects) rs) pc (onto (padded (pos 0) (slots_of R wanted f) given.numbers) stack) w) (Returns wanted frames rs pc stack w) (D.call wanted f 0 given w)
-  pub says : (sign : Sign) (from : Option ℕ) (selector arguments objects : ℕ) (wanted : Gives) (self : ℕ) (given : Given) (stack : List ℤ) (rs : List ℕ) (w : World) (pc : ℕ) → length given.numbers ≡ passes sign arguments → length given.objects ≡ objects
-      → Runs (moves p) bound (follow (recount (answers (at frames pc (onto given.numbers stack) (held_of (onto given.objects rs) w)) self (lookup p.classes from sign selector arguments objects wanted))) w.input w.trace) (Returns wanted frames rs pc stack w) (answered D wanted (lookup D.classes from sign selector arguments objects wanted) self given w)
+      → Follows p bound (running frames (onto (padded 0 (parameters_of R wanted f) given.objects) rs) pc
+      (onto (padded (pos 0) (slots_of R wanted f) given.numbers) stack) w) (Returns wanted frames rs pc stack w) (D.call wanted f 0 given w)
+  pub says : (sign : Sign) (from : Option ℕ) (selector arguments objects : ℕ) (wanted : Gives) (self : ℕ) (given : Given) (stack : List ℤ) (rs : List ℕ)
+      (w : World) (pc : ℕ) → length given.numbers ≡ passes sign arguments → length given.objects ≡ objects
+      → After p bound (answers (at frames pc (onto given.numbers stack) (held_of (onto given.objects rs) w)) self
+      (lookup p.classes from sign selector arguments objects wanted)) w.input w.trace (Returns wanted frames rs pc stack w)
+      (answered D wanted (lookup D.classes from sign selector arguments objects wanted) self given w)
   pub ends : Ends p frames bound D
   pub same_found : (from : Option ℕ) (sign : Sign) (selector arguments objects : ℕ) (wanted : Gives) → is_some (lookup p.classes from sign selector arguments objects wanted) ≡ is_some (lookup D.classes from sign selector arguments objects wanted)
   pub same_classes : D.classes ≡ R.classes
@@ -332,7 +336,7 @@ module _ (p : Program) (frames : List Frame) (bound : ℕ) (R : resolved.Program
         rw size (leads (passing_leads p frames (slots_of R wanted f) (parameters_of R wanted f) n m given stack s.names w pc e1 e2
         (has_front p pc fits call has))
         (returned wanted (pc + length fits) s w free g
-        (record { runs = deep.invokes wanted f given stack s.names w (pc + length fits) (has_back p pc fits call has) })))
+        (deep.invokes wanted f given stack s.names w (pc + length fits) (has_back p pc fits call has))))
 
     -- ---- messages
 
@@ -375,7 +379,7 @@ module _ (p : Program) (frames : List Frame) (bound : ℕ) (R : resolved.Program
           let next = answers (at frames pc (onto given.numbers (class ∷ stack)) (held_of (onto given.objects rs) w)) 0
           (lookup p.classes from signs.Class selector values references wanted) in
           subst (λ o. Comes_back next o) (dispatched_answers D wanted (lookup D.classes from signs.Class selector values references wanted) class given w)
-          (after (deep.says signs.Class from selector values references wanted 0 (and_number class given) stack rs w pc refl refl))
+          (deep.says signs.Class from selector values references wanted 0 (and_number class given) stack rs w pc refl refl)
 
       nil_runs : (names : List ℕ)
           → Comes_back (taken values (onto given.numbers stack) (λ rest. instructions.gives_at_once (bare p) (before names) wanted 0 rest
@@ -418,7 +422,7 @@ module _ (p : Program) (frames : List Frame) (bound : ℕ) (R : resolved.Program
           let finds_by = deep.same_found (Some (class_of o)) signs.Instance selector values references wanted in
           rw (same k o refl found) (found_runs (suc k) (lookup p.classes (Some (class_of o)) signs.Instance selector values references wanted)
           (lookup D.classes (Some (class_of o)) signs.Instance selector values references wanted) finds_by
-          (after (deep.says signs.Instance (Some (class_of o)) selector values references wanted (suc k) given stack rs w pc refl refl))))
+          (deep.says signs.Instance (Some (class_of o)) selector values references wanted (suc k) given stack rs w pc refl refl)))
 
       to_object : (class_of : Object → ℕ) (from : Option ℕ) (r : ℕ)
           → ((k : ℕ) (o : Object) → r ≡ suc k → object_at w.objects (suc k) ≡ Some o → from ≡ Some (class_of o))
@@ -700,7 +704,7 @@ module _ (p : Program) (frames : List Frame) (bound : ℕ) (R : resolved.Program
       → Goes_on turn true (standing pc s w) (pc + length {A = Order} (if some then DropAll ∷ [] else [])) (passes_by s (all_dropped D w))
   drops_by {turn} true pc s w g has =
       stayed turn true s (with_temporaries w []) (g.0, λ e. refl)
-      (record { runs = dropped_runs p frames bound s.names D deep.ends (s.numbers ++ vars w) w pc has })
+      (dropped_runs p frames bound s.names D deep.ends (s.numbers ++ vars w) w pc has)
   drops_by {turn} false pc s w g has =
       let e : pc + 0 ≡ pc = omega arith in
       rw e (subst (λ o. Goes_on turn true (standing pc s w) pc (passes_by s o)) (sym (ap (λ ts. temporaries_dropped D ts w) (g.1 refl)))
@@ -856,9 +860,3 @@ module _ (p : Program) (frames : List Frame) (bound : ℕ) (R : resolved.Program
       (has_front p q ys zs after_first)))
       (λ s1 w1 g1. drops_by some (q + length ys) s1 w1 g1 (has_back p q ys zs after_first)))
   block_follows place e m h placed (Leave exit) free pc stands s w g has = leads (moving (At exit) s w has) (ends (refl, (g.0, λ x. absurd (false≢true x))))
-
-  pub block_runs : (place : ℕ) (e : Spot) (turn : Turn) (calm m : Bool) → (m ≡ true → calm ≡ true) → (m ≡ false → place ≡ names - 1) → (b : Block)
-      → (calm ≡ true → takes_none R b ≡ true)
-      → (pc : ℕ) → Stands m e pc turn → (s : Operands) (w : World) → Good calm w → HasAt p pc (actions e b)
-      → Runs (moves p) bound (standing pc s w) (Leaves turn calm (pc + length (actions e b))) (block D bound place m b s w)
-  block_runs place e turn calm m h placed b free pc stands s w g has = (block_follows place e m h placed b free pc stands s w g has).runs

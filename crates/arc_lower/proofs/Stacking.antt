@@ -19,7 +19,6 @@ use Rattle.arc_code.specs.declared.instr.Op.TheVariants.{Narrow, Get, PrintNum, 
 use Rattle.arc_code.specs.declared.instr.Instr.TheVariants.{Plain, PrintText}
 use Rattle.arc_lower.specs.Order.{Order}
 use Rattle.arc_lower.specs.Lowered.{conversion_orders, part_orders, format_orders, pop_orders, keep_orders, print_orders, zero_orders, fit_orders, forget_orders, nil_orders, fit_object_orders}
-use Rattle.arc_lower.proofs.Leading as leading
 use Rattle.arc_lower.proofs.Leading.{Leads, leads_same, running, Crosses, one_crosses, then_crosses, no_crosses, shows_nothing}
 use Rattle.arc_lower.proofs.Doing.{moves, HasAt}
 
@@ -186,7 +185,7 @@ module _ (p : Program) (frames : List Frame) (rs : List ℕ) where
   pops_pass (suc n) [] rest w h = absurd h
   pops_pass (suc n) (v ∷ stack) rest w h = then_crosses (one_crosses (λ pc. shows_nothing)) (pops_pass n stack rest w h)
 
-  keeps_pass : (values stack : List ℤ) (c : ℤ) (w : World) → Passes (keep_orders (length values)) (c ∷ onto values stack) w (c ∷ stack) w
+  pub keeps_pass : (values stack : List ℤ) (c : ℤ) (w : World) → Passes (keep_orders (length values)) (c ∷ onto values stack) w (c ∷ stack) w
   keeps_pass [] stack c w = no_crosses
   keeps_pass (v ∷ values) stack c w =
       then_crosses (one_crosses (λ pc. rw (get_onto values stack v, set_onto values stack v c) shows_nothing))
@@ -200,10 +199,6 @@ module _ (p : Program) (frames : List Frame) (rs : List ℕ) where
       then_crosses (one_crosses (λ pc. shows_nothing)) (then_crosses (rw e at (format_passes pieces values stack 0 w))
       (then_crosses {xs = Plain (Narrow k.Int) ∷ []} (rw (← kept_count bytes) (one_crosses (λ pc. shows_nothing)))
       (keeps_pass values stack (byte_count bytes) (prints bytes w))))
-
-pub keep_passes : (p : Program) (frames : List Frame) (bound : ℕ) (rs : List ℕ) (values stack : List ℤ) (c : ℤ) (w : World)
-    → leading.Passes p frames bound rs (keep_orders (length values)) (c ∷ onto values stack) w (c ∷ stack) w
-keep_passes p frames bound rs values stack c w = (keeps_pass p frames rs values stack c w).leads
 
 -- ---- A run makes what is given to a function its variables.
 

@@ -1,5 +1,5 @@
 -- When steps that show what is meant behave as it is meant.
-use Rattle.std.proofs.Common.{◌≡◌, ℕ, ◌≤◌, ◌<◌, List, Option, Some, None, refl, sym, ap, ◌∙◌, subst, arith, ⊎_elim, ◌+◌, ℤ, pos, [], ◌∷◌, ◌++◌, length, length-append, le_of_eq, inl, inr}
+use Rattle.std.proofs.Common.{◌≡◌, ℕ, ◌≤◌, ◌<◌, List, Option, Some, None, refl, sym, ap, ◌∙◌, subst, arith, ⊎_elim, ◌+◌, ℤ, [], ◌∷◌, ◌++◌, length, length-append, le_of_eq, inl, inr}
 use Rattle.std.proofs.lemmas.Bool.{cases_lt}
 use Rattle.arc_spec.specs.Correct.{IsPrefix, Stop, Sight, Behaves, Steady, meaning_seen, run_seen}
 use Rattle.arc_spec.proofs.Steadiness.{prefix_refl, steady}
@@ -8,8 +8,8 @@ use Rattle.arc_spec.specs.declared.class.Gives.TheVariants as gives
 use Rattle.arc_spec.specs.Number.{converted}
 use Rattle.arc_spec.specs.Resolved as resolved
 use Rattle.arc_spec.specs.World as world
-use Rattle.arc_spec.specs.World.{World, Outcome, Done, Faulted, Cut, first_frame, first_world, nothing_given, padded}
-use Rattle.arc_spec.specs.Meaning.{level, mean}
+use Rattle.arc_spec.specs.World.{World, Outcome, Done, Faulted, Cut, first_frame, first_world, nothing_given}
+use Rattle.arc_spec.specs.Meaning.{mean}
 use Rattle.arc_spec.specs.Holding.{all_nil, on_left}
 use Rattle.arc_spec.specs.Stepping.{Next, Reached, Running, Ends, Ended, only_if, after_steps}
 use Rattle.arc_ir.specs.Acting.{Program, State, step, start, seen}
@@ -17,10 +17,9 @@ use Rattle.arc_code.specs.declared.instr.Instr.TheVariants.{Call, Return, EndSte
 use Rattle.arc_lower.specs.Order.{orders}
 use Rattle.arc_lower.specs.Lowered.{number_of, slots_of, parameters_of, passing_orders, lowered, entries_of, end_step_of, classes_linked}
 use Rattle.arc_lower.specs.Promise.{Performs, IsLowered}
-use Rattle.arc_lower.proofs.Leading.{leads_same, leads_step, Comes, Runs, leads_runs, then_runs, running}
-use Rattle.arc_lower.proofs.Doing.{fresh, recount, moves, at, held_of, HasAt, has_front, has_back}
-use Rattle.arc_lower.proofs.Stacking.{onto, passing_leads}
-use Rattle.arc_lower.proofs.Running.{Returns}
+use Rattle.arc_lower.proofs.Leading.{Comes, Runs, running, Follows, ends, leads, on, moves_on, next}
+use Rattle.arc_lower.proofs.Doing.{fresh, recount, moves, held_of, HasAt, has_front, has_back}
+use Rattle.arc_lower.proofs.Stacking.{passing_leads}
 use Rattle.arc_lower.proofs.Linking.{has_start, has_end, has_stubs, begins, Linked, linked}
 use Rattle.arc_lower.proofs.Calling.{calls_run}
 use Rattle.arc_lower.proofs.Transferring.{room_suffices, seen_moves, never_wedged}
@@ -89,7 +88,8 @@ module _ (p : Program) (R : resolved.Program) (is : orders p.actions ≡ lowered
   links : Linked p R
   links = linked p R classes (has_stubs p R is entries)
 
-  program_runs : (input : List ℕ) (bound : ℕ) → Runs (moves p) bound (running [] [] 0 [] (first_world R.globals R.strong_globals input)) Ends_with (mean R input bound)
+  program_runs : (input : List ℕ) (bound : ℕ)
+      → Follows p bound (running [] [] 0 [] (first_world R.globals R.strong_globals input)) Ends_with (mean R input bound)
   program_runs input bound =
       let none : 0 + MOST_LEVELS ≡ MOST_LEVELS = omega arith in
       let w = first_world R.globals R.strong_globals input in
@@ -99,22 +99,14 @@ module _ (p : Program) (R : resolved.Program) (is : orders p.actions ≡ lowered
       let q = 0 + length fits in
       let has = has_start p R is entries in
       let has_call = has_front p 0 (fits ++ call) last_orders has in
-      let later = has_back p 0 (fits ++ call) last_orders has in
       let size : 0 + length (fits ++ call) ≡ q + 1 = omega (arith, length-append fits call) in
-      let last = subst (λ n. HasAt p n last_orders) size later in
-      let s = onto (padded (pos 0) (slots_of R gives.Number R.main) []) [] in
-      let names = onto (padded 0 (parameters_of R gives.Number R.main) []) [] in
-      let o = (level R bound MOST_LEVELS).call gives.Number R.main 0 nothing_given w in
-      let end = Returns gives.Number [] [] q [] w in
-      let ready = passing_leads p [] (slots_of R gives.Number R.main) (parameters_of R gives.Number R.main) 0 0 nothing_given [] [] w 0 refl refl (has_front p 0 fits call has_call) in
-      let called = (calls_run p R bound (begins p R is entries) links (has_end p R is entries end_at) MOST_LEVELS [] none).invokes gives.Number R.main nothing_given [] [] w q (has_back p 0 fits call has_call) in
-      then_runs (moves p) bound (running [] [] 0 [] w) end Ends_with o (λ a w1. Done (converted k.Int a.number) w1)
-      (leads_runs (moves p) bound (running [] [] 0 [] w) (running [] names q s w) end o ready called)
-      (λ a w1 to m.
-      let v = a.number in
-      let from = running [] [] (q + 1) (v ∷ []) w1 in
-      leads_runs (moves p) bound to from Ends_with (Done (converted k.Int v) w1) (leads_same (moves p) to from m.0)
-      (inr (Ended (converted k.Int v) w1.input w1.trace, leads_step (moves p) (at [] (q + 1) (v ∷ []) (held_of [] w1)) w1.input w1.trace (Ends (converted k.Int v)) (ap recount (last.0 [] (v ∷ []) (held_of [] w1)) ∙ main_ends v w1 m.1.frame), refl)))
+      let last = subst (λ n. HasAt p n last_orders) size (has_back p 0 (fits ++ call) last_orders has) in
+      let ready = passing_leads p [] (slots_of R gives.Number R.main) (parameters_of R gives.Number R.main) 0 0 nothing_given [] [] w 0 refl refl
+      (has_front p 0 fits call has_call) in
+      let levels = calls_run p R bound (begins p R is entries) links (has_end p R is entries end_at) MOST_LEVELS [] none in
+      next (leads ready (levels.invokes gives.Number R.main nothing_given [] [] w q (has_back p 0 fits call has_call))) (λ a w1 to m.
+      on m.0 (moves_on {next = Ends (converted k.Int a.number)} (ap recount (last.0 [] (a.number ∷ []) (held_of [] w1)) ∙ main_ends a.number w1 m.1.frame)
+      (record { follows = ends refl })))
 
   -- no step lacks what it needs
   program_comes : (input : List ℕ) (bound : ℕ) → Runs (moves p) bound (running [] [] 0 [] (first_world p.globals p.strong_globals input)) Ends_with (mean R input bound) → Comes (moves p) bound (running [] [] 0 [] (first_world p.globals p.strong_globals input)) Ends_with (mean R input bound)
@@ -129,7 +121,8 @@ performs p R is =
       behaves = behaves (λ input bound. meaning_seen (mean R input bound)) (seen p) calm
           (λ input bound. shows p input bound (mean R input bound) (seen_moves p R is.actions is.entries is.classes is.end_step input) (program_comes p R is.actions is.entries is.classes is.end_step input bound
           (subst (λ globals. Runs (moves p) bound (running [] [] 0 [] (first_world globals p.strong_globals input)) Ends_with (mean R input bound)) (sym is.globals)
-          (subst (λ n. Runs (moves p) bound (running [] [] 0 [] (first_world R.globals n input)) Ends_with (mean R input bound)) (sym is.strong_globals) (program_runs p R is.actions is.entries is.classes is.end_step input bound)))));
+          (subst (λ n. Runs (moves p) bound (running [] [] 0 [] (first_world R.globals n input)) Ends_with (mean R input bound)) (sym is.strong_globals)
+          (program_runs p R is.actions is.entries is.classes is.end_step input bound).runs))));
       steady = calm;
       sound = room_suffices p R is.actions is.entries is.classes is.end_step (le_of_eq (sym is.room)) (le_of_eq (sym is.names)) (le_of_eq (sym is.places));
     }
