@@ -195,9 +195,11 @@ module _ (p : Program) (R : resolved.Program) (bound : ℕ) (begins : (wanted : 
     last_by true w still = faults
     last_by false w still =
         let objects = turned_in Gone w.objects o in
-        rw (turned_is w.objects o (object_at w.objects o) w refl refl) (quietly (ends (ap (λ h. Running (at frames back stack (recounted h)) w.input w.trace)
-        (resumed_as waits (with_things (ended_held rs o w) objects) f0.temporaries f0.strong waiting (sym still) refl refl),
-        record { frame = refl; waiting = refl })))
+        rw (turned_is w.objects o (object_at w.objects o) w refl refl) (quietly (ends (
+          ap (λ h. Running (at frames back stack (recounted h)) w.input w.trace)
+              (resumed_as waits (with_things (ended_held rs o w) objects) f0.temporaries f0.strong waiting (sym still) refl refl),
+          record { frame = refl; waiting = refl },
+        )))
 
     abbrev last_step : World → Next State
     last_step w = if nat_eq (holders o (places w)) 0 then goes_back w else Faults Resurrected
@@ -257,8 +259,10 @@ module _ (p : Program) (R : resolved.Program) (bound : ℕ) (begins : (wanted : 
           → After p bound (lets_go old (counting rs (lay w) c) stays (begins_other before)) w.input w.trace (Goes_on w) (released (level R bound levels) old w)
       lets_run before old c w count =
           after_let_go (level R bound levels) (λ o. o) rs own_frame (stacked w) old c stays (begins_other before) count (λ less _. stays_run w less)
-          (λ k ob less found. record { follows = better ((deep (Clearing back waits o fields)).ends own_frame (stacked w) k ob less (ended_held rs o before)
-          rs stack w p.end_step p.end_step refl found).follows (λ done w1 to m. (m.0 ∙ rw (m.1.frame, m.1.waiting), m.1)) })
+          (λ k ob less found. record {
+            follows = better ((deep (Clearing back waits o fields)).ends own_frame (stacked w) k ob less (ended_held rs o before)
+                rs stack w p.end_step p.end_step refl found).follows (λ done w1 to m. (m.0 ∙ rw (m.1.frame, m.1.waiting), m.1));
+          })
 
       -- the next field
       field_run : (index : ℕ) (w : World) → After p bound (clears_next p (at inner p.end_step stack (ended_held rs o w)) o index) w.input w.trace (Goes_on w)
@@ -269,9 +273,10 @@ module _ (p : Program) (R : resolved.Program) (bound : ℕ) (begins : (wanted : 
           after_object (object_at w.objects o) (λ ob found there. rw found
           (after_place D (λ x. x) ob.strong index 0 (λ l. with_objects w (with_object w.objects o (with_strong_fields ob l)))
           (ap (with_objects w) (same_put w.objects j ob found)) (stays_run w h.counts) (λ old named. record {
-          follows = better (lets_run w old (raised 0 h).counts (field_stores o ob index 0 w)
-          (λ k. raised_count 0 (held_of [] w) (suc k) ∙ sym (field_moves (suc k) (held_of [] w) j ob index old 0 found there named))).follows
-          (λ done w2 to m. (m.0, record { frame = m.1.frame; waiting = m.1.waiting })) })))
+            follows = better (lets_run w old (raised 0 h).counts (field_stores o ob index 0 w)
+                (λ k. raised_count 0 (held_of [] w) (suc k) ∙ sym (field_moves (suc k) (held_of [] w) j ob index old 0 found there named))).follows
+                (λ done w2 to m. (m.0, record { frame = m.1.frame; waiting = m.1.waiting }));
+          })))
 
     -- ---- what is left of an end
 
@@ -316,8 +321,10 @@ module _ (p : Program) (R : resolved.Program) (bound : ℕ) (begins : (wanted : 
           let D = level R bound levels in
           subst (Follows p bound (at_end rs (Clearing back waits o (index ∷ others) ∷ frames) o stack w) (Back w))
           (then_twice (field_dropped D o index (object_at w.objects o) w) (λ _ w1. fields_dropped D others o w1) (λ _ w1. gone o w1))
-          (steps EndStep has_end.0 (record { follows = next (field_run others index w).follows (λ done w1 to m.
-          on m.0 (back_from m.1 (fields_run others w1 (still_on w w1 still m.1)))) }))
+          (steps EndStep has_end.0 (record {
+            follows = next (field_run others index w).follows (λ done w1 to m.
+                on m.0 (back_from m.1 (fields_run others w1 (still_on w w1 still m.1))));
+          }))
 
       -- the deallocs are done
       clears_run : (frame : Frame) (order : List ℕ) (ob : Object) (w : World) → object_at w.objects o ≡ Some ob → is_there ob.phase ≡ true → Still w

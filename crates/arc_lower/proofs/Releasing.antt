@@ -189,9 +189,11 @@ module _ (p : Program) (frames : List Frame) (bound : ℕ) (rs : List ℕ) (D : 
       let emptied = λ (f : world.Frame). (with_temporaries (record w { frame = f }) []).frame in
       after_let_go D (λ o. then_do o (λ _ w2. temporaries_dropped D others w2)) rs w1.frame w1.waiting r c _ _ count
       (λ less left. drops_run others stack pc has less h0 w left)
-      (λ k ob less found. record { follows = next {end = end} (own_ends k ob less h0 stack w1 pc pc found).follows
-      (λ done w2 to m. on m.0 (better (met_again others stack pc w2 has (drops_run others stack pc has) (ap (λ (f : world.Frame). f.temporaries) m.1.frame))
-      (λ done w3 to n. (n.0, kept_trans _ _ _ (record { frame = ap emptied m.1.frame; waiting = m.1.waiting }) n.1)))) })
+      (λ k ob less found. record {
+        follows = next {end = end} (own_ends k ob less h0 stack w1 pc pc found).follows
+            (λ done w2 to m. on m.0 (better (met_again others stack pc w2 has (drops_run others stack pc has) (ap (λ (f : world.Frame). f.temporaries) m.1.frame))
+            (λ done w3 to n. (n.0, kept_trans _ _ _ (record { frame = ap emptied m.1.frame; waiting = m.1.waiting }) n.1))));
+      })
 
   -- all temporaries
   pub dropped_runs : (stack : List ℤ) (w : World) (pc : ℕ) → HasAt p pc (DropAll ∷ [])
