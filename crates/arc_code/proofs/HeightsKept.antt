@@ -1,5 +1,6 @@
 -- No run has more numbers, references or places than a table of heights that fits the program allows.
 use Rattle.std.proofs.Common.{◌≡◌, ℕ, zero, suc, ◌+◌, ◌-◌, ◌*◌, ◌≤◌, Bool, true, false, ◌&&◌, nat_eq, if◌then◌else◌, ℤ, List, [], ◌∷◌, ◌++◌, length, drop, Option, Some, None, refl, ap, ◌∙◌, arith, slice_get, length-append, length-take, length-drop}
+use Rattle.std.proofs.Math.Nat.{mul-le-mul_right}
 use Rattle.std.proofs.lemmas.Bool.{ltb-true, eqb-true, and_parts}
 use Rattle.std.proofs.lemmas.List.{length-set}
 use Rattle.arc_ast.specs.declared.tree.Sign.TheVariants as signs
@@ -16,21 +17,12 @@ use Rattle.arc_spec.specs.Holding.{Held, Frame, Calling, Ending, Clearing, Waite
 use Rattle.arc_code.specs.declared.instr.Instr.{Instr}
 use Rattle.arc_code.specs.declared.instr.Instr.TheVariants.{Plain, PrintText, Jump, JumpZero, Call, Send, SendSuper, SendTo, SendToSuper, StoreStrong, StoreGlobal, StoreField, Empty, DropAll, Settle, Give, Return, EndStep}
 use Rattle.arc_code.specs.Instructions.{Program, State, start, moved, keeps, has_level, enters, answers, operates, gives_at_once, answers_object, sends, begins_end, ends_after, releases, settles, drops_all, ends_object, runs_dealloc, clears, after_deallocs, ends_class, clears_next, end_goes_on, leaves, hands_over, executes, step, Fits, IsSound}
-use Rattle.arc_code.specs.Effects.{Effect, Height, on_numbers, as_number, as_object, giving, operation_effect, no_height, FitsBetween, FitsCall, SameResult, Follows, After, HeightsFit, room_for, HasAtMost, NeverHasMore}
+use Rattle.arc_code.specs.Effects.{Effect, Height, on_numbers, as_number, as_object, giving, operation_effect, no_height, FitsBetween, FitsCall, SameResult, Follows, After, HeightsFit, FitsAt, GivesAt, room_for, HasAtMost, NeverHasMore}
 use Rattle.arc_code.proofs.Outcomes.{along_both, after_map, top_after, taken_after, found_after, chosen_after, if_after, object_after, named_after, reference_after, field_after, left_after, result_after, lets_go_after, place_after, receiver_after, dying_in, stores_after, clears_after}
 use Rattle.arc_code.proofs.EffectsFollowed.{operation_follows}
 
 times_more : (n m : ℕ) → suc n * m ≡ m + n * m
 times_more n m = grind arith
-
-times_rise : (j k n : ℕ) → j ≤ k → j * n ≤ k * n
-times_rise zero k n le = omega arith
-times_rise (suc j) zero n le = absurd (omega (arith, le))
-times_rise (suc j) (suc k) n le = let h = times_rise j k n (omega (arith, le)) in let a = times_more j n in let b = times_more k n in omega (arith, h, a, b)
-
--- what runs and what waits have together no more than the room
-below_room : (most own rest frames : ℕ) → own ≤ most → rest ≤ frames * most → frames ≤ MOST_LEVELS → own + rest ≤ room_for most
-below_room most own rest frames few waits levels = omega (arith, few, waits, times_rise frames MOST_LEVELS most levels, times_more MOST_LEVELS most)
 
 -- what the root's own `init` takes and gives
 root_init_takes : (selector takes objects : ℕ) (g : Gives) → is_root_init selector takes objects g ≡ true → (takes ≡ 0) × (objects ≡ 0)
@@ -245,117 +237,83 @@ module _ {J F T : Type 0} (p : Program J F T) (height : ℕ → Height) (result 
     ends_class_within back w o (Some c) left others h = runs_dealloc_within c.dealloc back w o c.superclass left others h
 
     end_goes_on_within : (frames : List Frame) → Stands frames → After Within (end_goes_on p s frames)
-    end_goes_on_within [] h = tt
-    end_goes_on_within (Calling back w ∷ others) h = tt
-    end_goes_on_within (Ending back w o None left ∷ others) h = after_deallocs_within back w o others h
-    end_goes_on_within (Ending back w o (Some c) zero ∷ others) h = after_deallocs_within back w o others h
     end_goes_on_within (Ending back w o (Some c) (suc left) ∷ others) h = ends_class_within back w o (slice_get p.classes c) left others h
+    end_goes_on_within (Ending back w o _ left ∷ others) h = after_deallocs_within back w o others h
     end_goes_on_within (Clearing back w o [] ∷ others) h = ends_object_within back w o others h
     end_goes_on_within (Clearing back w o (index ∷ fields) ∷ others) h =
         let within = stands_within (Clearing back w o fields ∷ others) h in
         clears_within (record s { frames = Clearing back w o fields ∷ others }) within o index within.above
+    end_goes_on_within _ h = tt
 
-    -- a call that waits for what this function gives
-    module _ (back : ℕ) (w : Waiter) (others : List Frame) (within : Within s) (is : s.frames ≡ Calling back w ∷ others) (g : Gives) (given : result s.at ≡ g) where
-      called_above : Above (height s.at) g (Calling back w ∷ others) s.stack s.held
-      called_above = rw (is, given) at within.above
-
-      called_waits : AllWait g (Calling back w ∷ others)
-      called_waits = rw (is, given) at within.waits
-
-    leaves_within : (frames : List Frame) (v : ℤ) (rest : List ℤ) → Within s → s.frames ≡ frames → length s.stack ≡ suc (length rest) → s.held.temporaries ≡ [] → FitsBetween (record (height s.at) { variables = 0 }) no_height (on_numbers 1 0)
-        → result s.at ≡ gives.Number → After Within (leaves p s frames v rest (record s.held { variables = [] }))
-    leaves_within (Calling back w ∷ others) v rest within is e none fit given =
-        let a = called_above back w others within is gives.Number given in
-        let waits = called_waits back w others within is gives.Number given in
-        record { above = resumed_above (height back) (result back) w s.held s.stack others (omega (arith, a.0, fit.numbers, waits.0.1)) (omega (arith, a.1, fit.names)) a.4 waits.0.0; levels = omega (arith, within.levels, ap length is); waits = waits.1 }
-    leaves_within (Ending back w o next left ∷ others) v rest within is e none fit given =
-        let a : Above (height s.at) (result s.at) (Ending back w o next left ∷ others) s.stack s.held = rw is at within.above in
-        let waits : AllWait (result s.at) (Ending back w o next left ∷ others) = rw is at within.waits in
+    leaves_within : (frames : List Frame) (v : ℤ) (rest : List ℤ) → Within (record s { frames = frames }) → length s.stack ≡ suc (length rest) → s.held.temporaries ≡ [] → FitsBetween (record (height s.at) { variables = 0 }) no_height (on_numbers 1 0)
+        → result s.at ≡ gives.Number → After Within (leaves p (record s { frames = frames }) frames v rest (record s.held { variables = [] }))
+    leaves_within (Calling back w ∷ others) v rest within e none fit given =
+        let a = rw given at within.above in
+        let waits = rw given at within.waits in
+        record { above = resumed_above (height back) (result back) w s.held s.stack others (omega (arith, a.0, fit.numbers, waits.0.1)) (omega (arith, a.1, fit.names)) a.4 waits.0.0; levels = omega (arith, within.levels); waits = waits.1 }
+    leaves_within (Ending back w o next left ∷ others) v rest within e none fit given =
+        let a = within.above in
         let l = ap length none in
-        record { above = rw is (search arith); levels = within.levels; waits = rw is waits }
-    leaves_within _ v rest within is e none fit given = tt
+        record { above = search arith; levels = within.levels; waits = within.waits }
+    leaves_within _ v rest within e none fit given = tt
 
-    hands_over_within : (frames : List Frame) (r : ℕ) (rest : List ℤ) → Within s → s.frames ≡ frames → length s.stack ≡ suc (length rest) → FitsBetween (record (height s.at) { variables = 0 }) no_height (on_numbers 1 0)
-        → result s.at ≡ gives.Object → After Within (hands_over p s frames r rest (record s.held { variables = [] }))
-    hands_over_within (Calling back w ∷ others) r rest within is e fit given =
-        let a = called_above back w others within is gives.Object given in
-        let waits = called_waits back w others within is gives.Object given in
-        record { above = search (arith, length-take {A = ℕ}, length-drop {A = ℕ}); levels = omega (arith, within.levels, ap length is); waits = waits.1 }
-    hands_over_within _ r rest within is e fit given = tt
+    hands_over_within : (frames : List Frame) (r : ℕ) (rest : List ℤ) → Within (record s { frames = frames }) → length s.stack ≡ suc (length rest) → FitsBetween (record (height s.at) { variables = 0 }) no_height (on_numbers 1 0)
+        → result s.at ≡ gives.Object → After Within (hands_over p (record s { frames = frames }) frames r rest (record s.held { variables = [] }))
+    hands_over_within (Calling back w ∷ others) r rest within e fit given =
+        let a = rw given at within.above in
+        let waits = rw given at within.waits in
+        record { above = search (arith, length-take {A = ℕ}, length-drop {A = ℕ}); levels = omega (arith, within.levels); waits = waits.1 }
+    hands_over_within _ r rest within e fit given = tt
 
-  executes_within : (x : Option (Instr J F T)) (s : State) → slice_get p.instrs s.at ≡ x → Within s → After Within (executes p x s)
-  executes_within None s is w = tt
-  executes_within (Some (Plain o)) s is w =
-      after_map _ Within (follows_within s w (operation_effect o) (fits.at s.at _ is) (fits.results s.at _ is)) (operates p.classes o s)
-      (operation_follows p.classes s o)
-  executes_within (Some (PrintText t)) s is w =
-      found_after Within (p.text t) _ (λ bytes _. top_after Within s.stack _
-      (λ count rest e. moved_within s w (s.at + 1) _ 1 1 (fits.at s.at _ is) (fits.results s.at _ is) (omega (arith, e))))
-  executes_within (Some (Jump j)) s is w = moved_within s w (p.lands s.at j) s.stack 0 0 (fits.at s.at _ is) (fits.results s.at _ is) refl
-  executes_within (Some (JumpZero j)) s is w =
-      let fit = fits.at s.at _ is in
-      let same = fits.results s.at _ is in
+  executes_within : (x : Instr J F T) (s : State) → Within s → FitsAt p height s.at x → GivesAt p result s.at x → After Within (executes p (Some x) s)
+  executes_within (Plain o) s w fit same = after_map _ Within (follows_within s w (operation_effect o) fit same) (operates p.classes o s) (operation_follows p.classes s o)
+  executes_within (PrintText t) s w fit same =
+      found_after Within (p.text t) _ (λ bytes _. top_after Within s.stack _ (λ count rest e. moved_within s w (s.at + 1) _ 1 1 fit same (omega (arith, e))))
+  executes_within (Jump j) s w fit same = moved_within s w (p.lands s.at j) s.stack 0 0 fit same refl
+  executes_within (JumpZero j) s w fit same =
       top_after Within s.stack _ (λ v rest e. chosen_after Within (is_zero v) _ _ (moved_within s w (s.at + 1) rest 1 0 fit.0 same.0 (omega (arith, e))) (moved_within s w (p.lands s.at j) rest 1 0 fit.1 same.1 (omega (arith, e))))
-  executes_within (Some (Call f wanted)) s is w =
-      let same = fits.results s.at _ is in
+  executes_within (Call f wanted) s w fit same =
       found_after Within (p.entry f) _ (λ to found. enters_within s w s.held.names wanted (height to).numbers (height to).names 0 (height to).names
-      (fits.at s.at _ is to found) same.0 (omega arith) (omega arith) to 0 (has_level s) refl
-      (omega arith, omega arith, same.1 to found))
-  executes_within (Some (Send selector takes objects wanted)) s is w =
-      found_after Within (slice_get s.stack takes) _ (λ self _. answers_within s w s.held.names wanted (suc takes) objects 0 objects (fits.at s.at _ is)
-      (fits.results s.at _ is) (omega arith) (omega arith) 0
-      (lookup p.classes (class_at self) signs.Class selector takes objects wanted) (λ to found. fits.methods (class_at self) signs.Class selector takes objects wanted to found))
-  executes_within (Some (SendSuper from selector takes objects wanted)) s is w =
-      answers_within s w s.held.names wanted (suc takes) objects 0 objects (fits.at s.at _ is) (fits.results s.at _ is) (omega arith) (omega arith) 0
-      (lookup p.classes (Some from) signs.Class selector takes objects wanted) (λ to found. fits.methods (Some from) signs.Class selector takes objects wanted to found)
-  executes_within (Some (SendTo selector takes objects wanted)) s is w =
-      receiver_after Within objects s.held.names _ (λ r rest e l. sends_within s w wanted (λ o. o.class) r selector takes objects rest (fits.at s.at _ is)
-      (fits.results s.at _ is) e l)
-  executes_within (Some (SendToSuper from selector takes objects wanted)) s is w =
-      receiver_after Within objects s.held.names _ (λ r rest e l. sends_within s w wanted (λ o. from) r selector takes objects rest (fits.at s.at _ is)
-      (fits.results s.at _ is) e l)
-  executes_within (Some (StoreStrong i)) s is w =
-      let fit = fits.at s.at _ is in
-      let same = fits.results s.at _ is in
+      (fit to found) same.0 (omega arith) (omega arith) to 0 (has_level s) refl (omega arith, omega arith, same.1 to found))
+  executes_within (Send selector takes objects wanted) s w fit same =
+      found_after Within (slice_get s.stack takes) _ (λ self _. answers_within s w s.held.names wanted (suc takes) objects 0 objects fit same (omega arith) (omega arith) 0 _
+      (fits.methods (class_at self) signs.Class selector takes objects wanted))
+  executes_within (SendSuper from selector takes objects wanted) s w fit same =
+      answers_within s w s.held.names wanted (suc takes) objects 0 objects fit same (omega arith) (omega arith) 0 _ (fits.methods (Some from) signs.Class selector takes objects wanted)
+  executes_within (SendTo selector takes objects wanted) s w fit same =
+      receiver_after Within objects s.held.names _ (λ r rest e l. sends_within s w wanted (λ o. o.class) r selector takes objects rest fit same e l)
+  executes_within (SendToSuper from selector takes objects wanted) s w fit same =
+      receiver_after Within objects s.held.names _ (λ r rest e l. sends_within s w wanted (λ o. from) r selector takes objects rest fit same e l)
+  executes_within (StoreStrong i) s w fit same =
       let a = above_at s w (s.at + 1) same in
       reference_after Within s.held.names _ (λ r rest e. found_after Within (slice_get s.held.variables i) _ (λ old _. named_after Within r s.held _ (releases_within s w same old _
       (let l = length-set s.held.variables i r in search arith))))
-  executes_within (Some (StoreGlobal i)) s is w =
-      let fit = fits.at s.at _ is in
-      let same = fits.results s.at _ is in
+  executes_within (StoreGlobal i) s w fit same =
       let b = above_at s w (s.at + 1) same in
       let a : Above (height (s.at + 1)) (result (s.at + 1)) s.frames s.stack s.held = search arith in
       reference_after Within s.held.names _ (λ r rest e. named_after Within r s.held _ (place_after Within (slice_get s.held.strong_globals i) _ _
       (record { above = a; levels = w.levels; waits = waits_at s w (s.at + 1) same }) (λ old _. releases_within s w same old _ a)))
-  executes_within (Some (StoreField class index)) s is w =
-      let fit = fits.at s.at _ is in
-      let same = fits.results s.at _ is in
+  executes_within (StoreField class index) s w fit same =
       let a = above_at s w (s.at + 1) same in
       reference_after Within s.held.names _ (λ r rest e. reference_after Within rest _ (λ x below f. named_after Within r s.held _ (field_after Within p.classes class x s.held _ (λ o.
-      stores_within s w same x o index r (with_names s.held (r ∷ below))
-      (search arith)))))
-  executes_within (Some (Empty i)) s is w =
-      let fit = fits.at s.at _ is in
-      let same = fits.results s.at _ is in
+      stores_within s w same x o index r (with_names s.held (r ∷ below)) (search arith)))))
+  executes_within (Empty i) s w fit same =
       let a = above_at s w (s.at + 1) same in
-      found_after Within (slice_get s.held.variables i) _ (λ r _. releases_within s w same r _
-      (let l = length-set s.held.variables i 0 in search arith))
-  executes_within (Some DropAll) s is w = drops_within s w (fits.results s.at _ is) s.held.temporaries s.held refl w.above (fits.at s.at _ is)
-  executes_within (Some Settle) s is w = settles_within s w (fits.results s.at _ is) s.held.temporaries refl (fits.at s.at _ is)
-  executes_within (Some Give) s is w =
-      top_after Within s.stack _ (λ v rest e. result_after Within s.held.temporaries s.held _
-      (λ none r. hands_over_within s s.frames r rest w refl e (fits.at s.at _ is) (fits.results s.at _ is)))
-  executes_within (Some Return) s is w =
-      top_after Within s.stack _ (λ v rest e. left_after Within s.held.temporaries s.held _
-      (λ none. leaves_within s s.frames v rest w refl e none (fits.at s.at _ is) (fits.results s.at _ is)))
-  executes_within (Some EndStep) s is w =
-      let fit = fits.at s.at _ is in
-      end_goes_on_within s s.frames
-      (let a = w.above in search arith, w.levels, w.waits)
+      found_after Within (slice_get s.held.variables i) _ (λ r _. releases_within s w same r _ (let l = length-set s.held.variables i 0 in search arith))
+  executes_within DropAll s w fit same = drops_within s w same s.held.temporaries s.held refl w.above fit
+  executes_within Settle s w fit same = settles_within s w same s.held.temporaries refl fit
+  executes_within Give s w fit same =
+      top_after Within s.stack _ (λ v rest e. result_after Within s.held.temporaries s.held _ (λ none r. hands_over_within s s.frames r rest w e fit same))
+  executes_within Return s w fit same =
+      top_after Within s.stack _ (λ v rest e. left_after Within s.held.temporaries s.held _ (λ none. leaves_within s s.frames v rest w e none fit same))
+  executes_within EndStep s w fit same = end_goes_on_within s s.frames (let a = w.above in search arith, w.levels, w.waits)
 
   pub step_within : (s : State) → Within s → After Within (step p s)
-  step_within s w = executes_within (slice_get p.instrs s.at) s refl w
+  step_within s w = by (slice_get p.instrs s.at) refl
+    where
+      by : (x : Option (Instr J F T)) → slice_get p.instrs s.at ≡ x → After Within (executes p x s)
+      by None is = tt
+      by (Some x) is = executes_within x s w (fits.at s.at x is) (fits.results s.at x is)
 
   -- ---- the room
 
@@ -378,16 +336,14 @@ module _ {J F T : Type 0} (p : Program J F T) (height : ℕ → Height) (result 
   -- all levels together have no more than the room
   module _ (s : State) (w : Within s) where
     together : (f : Gives → Frame → ℕ) (most own : ℕ) → ((g : Gives) (x : Frame) → Waits g x → f g x ≤ most) → own ≤ most → own + waiting f (result s.at) s.frames ≤ room_for most
-    together f most own each few = below_room most own (waiting f (result s.at) s.frames) (length s.frames) few (waiting_most f most each (result s.at) s.frames w.waits) w.levels
+    together f most own each few = omega (arith, few, waiting_most f most each (result s.at) s.frames w.waits, mul-le-mul_right most w.levels, times_more MOST_LEVELS most)
 
-    numbers_fit : length s.stack ≤ room_for most_numbers
-    numbers_fit = let all = together numbers_of most_numbers (height s.at).numbers numbers_few (fits.numbers_most s.at) in omega (arith, w.above.0, all)
-
-    names_fit : length s.held.names ≤ room_for most_names
-    names_fit = let all = together names_of most_names (height s.at).names names_few (fits.names_most s.at) in omega (arith, w.above.1, all)
-
-    places_fit : length (stacked s.held) ≤ room_for most_places
-    places_fit = let all = together places_of most_places ((height s.at).temporaries + (height s.at).variables) places_few (fits.places_most s.at) in omega (arith, w.above.2, w.above.3, w.above.4, all_length s.held, all)
+    room_suffices : (length s.stack ≤ room_for most_numbers) × (length s.held.names ≤ room_for most_names) × (length (stacked s.held) ≤ room_for most_places)
+    room_suffices = (
+      omega (arith, w.above.0, together numbers_of most_numbers (height s.at).numbers numbers_few (fits.numbers_most s.at)),
+      omega (arith, w.above.1, together names_of most_names (height s.at).names names_few (fits.names_most s.at)),
+      omega (arith, w.above.2, w.above.3, w.above.4, all_length s.held, together places_of most_places _ places_few (fits.places_most s.at)),
+    )
 
   -- ---- runs
 
@@ -395,13 +351,10 @@ module _ {J F T : Type 0} (p : Program J F T) (height : ℕ → Height) (result 
   RunsWithin (Running s input trace) = Within s
   RunsWithin _ = Unit {0}
 
-  fed_within : (go : Option ℕ → State) (input : List ℕ) (trace : List Event) → ((answer : Option ℕ) → Within (go answer)) → RunsWithin (fed go input trace)
-  fed_within go [] trace h = h None
-  fed_within go (b ∷ input) trace h = h (Some b)
-
   follow_within : (next : Next State) (input : List ℕ) (trace : List Event) → After Within next → RunsWithin (follow next input trace)
   follow_within (Goes s events) input trace h = h
-  follow_within (Asks go) input trace h = fed_within go input trace h
+  follow_within (Asks go) [] trace h = h None
+  follow_within (Asks go) (b ∷ input) trace h = h (Some b)
   follow_within _ input trace h = tt
 
   further_within : (r : Reached State) → RunsWithin r → RunsWithin (further (step p) r)
@@ -413,7 +366,7 @@ module _ {J F T : Type 0} (p : Program J F T) (height : ℕ → Height) (result 
   steps_within (suc n) r h = further_within (after_steps (step p) n r) (steps_within n r h)
 
   within_room : (r : Reached State) → RunsWithin r → HasAtMost (room_for most_numbers) (room_for most_names) (room_for most_places) r
-  within_room (Running s input trace) h = (numbers_fit s h, names_fit s h, places_fit s h)
+  within_room (Running s input trace) h = room_suffices s h
   within_room _ h = tt
 
   -- no run has more than the room
@@ -424,7 +377,9 @@ module _ {J F T : Type 0} (p : Program J F T) (height : ℕ → Height) (result 
 
   module _ (numbers_room : room_for most_numbers ≤ p.room) (names_room : room_for most_names ≤ p.names) (places_room : room_for most_places ≤ p.places) where
     safe_within : (n : ℕ) (s : State) → Within s → Safe (step p) (λ t. Counted t.held) n s → Safe (step p) (Fits p) n s
-    safe_within zero s w counts = record { numbers = omega (arith, numbers_fit s w, numbers_room); names = omega (arith, names_fit s w, names_room); places = omega (arith, places_fit s w, places_room); counts = counts }
+    safe_within zero s w counts =
+        let few = room_suffices s w in
+        record { numbers = omega arith; names = omega arith; places = omega arith; counts = counts }
     safe_within (suc n) s w safe = along_both (Safe (step p) (λ t. Counted t.held) n) Within (Safe (step p) (Fits p) n) (λ t counts within. safe_within n t within counts) (step p s) safe (step_within s w)
 
     -- a program that never is stuck, and whose counts are right, is sound with the room that its heights ask for
