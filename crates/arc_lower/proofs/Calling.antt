@@ -19,8 +19,8 @@ use Rattle.arc_ir.specs.Acting.{Program, State, has_level, enters, answers, begi
 use Rattle.arc_code.specs.declared.instr.Instr.TheVariants.{Jump, EndStep}
 use Rattle.arc_ir.specs.declared.action.Target.TheVariants as target
 use Rattle.arc_code.specs.Effects.{passes}
-use Rattle.arc_lower.specs.Order.{Order}
-use Rattle.arc_lower.specs.Lowered.{number_of, slots_of, parameters_of, entry_of, entries_of, passing_orders, leave_orders, body_orders}
+use Rattle.arc_lower.specs.Order.{Order, orders}
+use Rattle.arc_lower.specs.Lowered.{number_of, slots_of, parameters_of, entry_of, entries_of, passing_orders, leave_orders, body_orders, lowered}
 use Rattle.arc_lower.proofs.CountsPlaces.{no_one, there_fields, raised_count, field_moves, set_here}
 use Rattle.arc_lower.proofs.Leading as leading
 use Rattle.arc_lower.proofs.Leading.{running, Follows, After, ends, leads, on, faults, quietly, moves_on, steps, next, better}
@@ -30,7 +30,7 @@ use Rattle.arc_lower.proofs.Shaping.{then_twice}
 use Rattle.arc_lower.proofs.Releasing.{Kept, kept_trans, Ends, laid, dying_in, after_object, after_place, after_let_go}
 use Rattle.arc_lower.proofs.Running.{after_call, Returns, answered, Deep, same_put}
 use Rattle.arc_lower.proofs.Leaving.{leaving, Left, function_runs}
-use Rattle.arc_lower.proofs.Linking.{Begins, call_enters, function_gives, Stub, Meets, Same, Linked, lookup_meets, descent_same, fields_same, order_same, found_same}
+use Rattle.arc_lower.proofs.Linking.{begins, has_part, call_enters, function_gives, Stub, Meets, Same, Linked, lookup_meets, descent_same, fields_same, order_same, found_same}
 use Rattle.arc_spec.specs.declared.limits.TheConstants.{MOST_LEVELS}
 
 then_thrice : {A B C E : Type 0} (o : Outcome A) (f : A → World → Outcome B) (g : B → World → Outcome C) (h : C → World → Outcome E) → then_do o (λ a w. then_do (then_do (f a w) g) h) ≡ then_do (then_do (then_do o f) g) h
@@ -68,9 +68,9 @@ turned_is : (objects : List Object) (o : ℕ) (found : Option Object) (w : World
 turned_is objects o None w e same = ap (λ l. record w { objects = l }) same ∙ rw e refl
 turned_is objects o (Some ob) w e same = rw e (rw same refl)
 
-module _ (p : Program) (R : resolved.Program) (bound : ℕ) (begins : (wanted : Gives) (f : ℕ) → Begins p R (number_of R wanted f) (function_at R wanted f)) where
+module _ (p : Program) (R : resolved.Program) (bound : ℕ) (is : orders p.actions ≡ lowered R) (entries : p.entries ≡ entries_of R) where
   abbrev pub entry : Gives → ℕ → ℕ
-  entry wanted f = entry_of (begins wanted f).place (function_at R wanted f)
+  entry wanted f = entry_of (begins p R is entries wanted f).place (function_at R wanted f)
 
   -- a function as it is entered
   abbrev begun_at : (rs : List ℕ) (wanted : Gives) (f : ℕ) (frames : List Frame) (given : Given) (stack : List ℤ) → World → Reached State
@@ -81,7 +81,7 @@ module _ (p : Program) (R : resolved.Program) (bound : ℕ) (begins : (wanted : 
   -- a stub makes its function ready, and leads there
   stub_runs : {A : Type 0} {end : A → World → Reached State → Type 0} {o : Outcome A} (rs : List ℕ) (frames : List Frame) (wanted : Gives)
       (values objects f to : ℕ) (given : Given) (stack : List ℤ) (w : World) → length given.numbers ≡ values → length given.objects ≡ objects
-      → Stub p R wanted values objects f to → Follows p bound (begun_at rs wanted f frames given stack w) end o
+      → Stub R wanted values objects f to → Follows p bound (begun_at rs wanted f frames given stack w) end o
       → Follows p bound (running frames (onto given.objects rs) to (onto given.numbers stack) w) end o
   stub_runs rs frames wanted values objects f to given stack w size few has go =
       let fits = passing_orders R wanted f values objects in
@@ -89,12 +89,13 @@ module _ (p : Program) (R : resolved.Program) (bound : ℕ) (begins : (wanted : 
       let jump : List Order = Jump (target.At place) ∷ [] in
       let s = onto (padded (pos 0) (slots_of R wanted f) given.numbers) stack in
       let names1 = onto (padded 0 (parameters_of R wanted f) given.objects) rs in
-      let last = has_back p to fits jump has in
-      leads (passing_leads p frames (slots_of R wanted f) (parameters_of R wanted f) values objects given stack rs w to size few (has_front p to fits jump has))
-      (steps (Jump (target.At place)) last.0 (quietly (on (ap (λ n. running frames names1 n s w) (begins wanted f).first) go)))
+      let stands = has_part p R is to (fits ++ jump) has.1 in
+      let last = has_back p to fits jump stands in
+      leads (passing_leads p frames (slots_of R wanted f) (parameters_of R wanted f) values objects given stack rs w to size few (has_front p to fits jump stands))
+      (steps (Jump (target.At place)) last.0 (quietly (on (ap (λ n. running frames names1 n s w) (begins p R is entries wanted f).first) go)))
 
   abbrev Left_by : (rs : List ℕ) (wanted : Gives) (f self : ℕ) (frames : List Frame) (stack : List ℤ) (before : World) (levels : ℕ) → Deep p frames bound R (level R bound levels) → world.Answer → World → Reached State → Type 0
-  Left_by rs wanted f self frames stack before levels deep = Left p frames bound R (function_at R wanted f) self before stack rs (level R bound levels) deep (begins wanted f).place wanted
+  Left_by rs wanted f self frames stack before levels deep = Left p frames bound R (function_at R wanted f) self before stack rs (level R bound levels) deep (begins p R is entries wanted f).place wanted
 
   -- a function that was entered comes to its last step
   body_runs : (rs : List ℕ) (levels : ℕ) (wanted : Gives) (f self : ℕ) (frames : List Frame) (given : Given) (stack : List ℤ) (w : World)
@@ -104,10 +105,10 @@ module _ (p : Program) (R : resolved.Program) (bound : ℕ) (begins : (wanted : 
   body_runs rs levels wanted f self frames given stack w deep =
       let F = function_at R wanted f in
       let D = level R bound levels in
-      let place = (begins wanted f).place in
+      let place = (begins p R is entries wanted f).place in
       let leave = leave_orders F in
       let body = body_orders R place (entry wanted f) F in
-      let code = (begins wanted f).code in
+      let code = (begins p R is entries wanted f).code in
       let w1 = entered (slots_of R wanted f) 0 0 false self given w in
       subst (λ g. Follows p bound (begun_at rs wanted f frames given stack w1) (Left p frames bound R F self w stack rs D deep place g)
       (called D bound F self given w)) (function_gives R wanted f) (function_runs p frames bound R F self w stack rs D deep place (entry wanted f) given
@@ -115,7 +116,7 @@ module _ (p : Program) (R : resolved.Program) (bound : ℕ) (begins : (wanted : 
 
   -- a method or a function comes back after its call
   comes_home : (rs : List ℕ) (levels : ℕ) (wanted : Gives) (f pc self : ℕ) (frames : List Frame) (stack : List ℤ) (w : World) (deep : Deep p (Calling (pc + 1) (waits_of w) ∷ frames) bound R (level R bound levels)) (a : world.Answer) (w2 : World) → Kept w w2
-      → leaving p (Calling (pc + 1) (waits_of w) ∷ frames) bound R (function_at R wanted f) self w stack rs (level R bound levels) deep (begins wanted f).place wanted a w2 ≡ after_call wanted frames rs pc stack a w2
+      → leaving p (Calling (pc + 1) (waits_of w) ∷ frames) bound R (function_at R wanted f) self w stack rs (level R bound levels) deep (begins p R is entries wanted f).place wanted a w2 ≡ after_call wanted frames rs pc stack a w2
   comes_home rs levels gives.Number f pc self frames stack w deep a w2 k =
       simp (append-nil, k.frame, k.waiting, append_assoc, take-append_seam, drop-append_seam)
   comes_home rs levels gives.Object f pc self frames stack w deep a w2 k =
@@ -134,7 +135,7 @@ module _ (p : Program) (R : resolved.Program) (bound : ℕ) (begins : (wanted : 
   abbrev SendsMessage : (rs : List ℕ) (levels : ℕ) (frames : List Frame) (meant stands : Option ℕ) (wanted : Gives) (values objects self : ℕ) (given : Given)
       (stack : List ℤ) (w : World) (pc : ℕ) → Type 0
   SendsMessage rs levels frames meant stands wanted values objects self given stack w pc =
-      Meets p R wanted values objects meant stands
+      Meets R wanted values objects meant stands
       → After p bound (answers (at frames pc (onto given.numbers stack) (held_of (onto given.objects rs) w)) self stands) w.input w.trace
       (Returns wanted frames rs pc stack w) (answered (level R bound levels) wanted meant self given w)
 
@@ -292,7 +293,7 @@ module _ (p : Program) (R : resolved.Program) (bound : ℕ) (begins : (wanted : 
     EndRuns n next w = Follows p bound (at_end rs (Ending back waits o next n ∷ frames) o stack w) (Back w) (meant_from n next w)
 
     -- the dealloc of one class, and then what is above it
-    by_dealloc : (n : ℕ) (next : Option ℕ) (w : World) (meant stands : Option ℕ) → Still w → Meets p R gives.Number 0 0 meant stands
+    by_dealloc : (n : ℕ) (next : Option ℕ) (w : World) (meant stands : Option ℕ) → Still w → Meets R gives.Number 0 0 meant stands
         → ((w1 : World) → Still w1 → EndRuns n next w1)
         → After p bound (runs_dealloc stands (at [] p.end_step stack (ended_held rs o w)) (Ending back waits o next n ∷ frames)) w.input w.trace (Back w)
         (then_do (then_do (dealloc_run R (level R bound levels) bound meant o w) (λ _ w1. deallocs_run R (level R bound levels) bound (above_in R n next) o w1))
@@ -312,7 +313,7 @@ module _ (p : Program) (R : resolved.Program) (bound : ℕ) (begins : (wanted : 
         on home (back_from k (go w1 (still_on w w1 still k))))))
     by_dealloc n next w _ _ still meets go = absurd meets
 
-    module _ (links : Linked p R) (has_end : HasAt p p.end_step (EndStep ∷ [])) where
+    module _ (links : Linked R p.classes) (has_end : HasAt p p.end_step (EndStep ∷ [])) where
       -- the fields that are left, and the last step
       fields_run : (fields : List ℕ) (w : World) → Still w → Follows p bound (at_end rs (Clearing back waits o fields ∷ frames) o stack w) (Back w)
           (then_do (fields_dropped (level R bound levels) fields o w) (λ _ w1. gone o w1))
@@ -346,12 +347,12 @@ module _ (p : Program) (R : resolved.Program) (bound : ℕ) (begins : (wanted : 
           let s = at (frame ∷ frames) p.end_step stack (ended_held rs o w) in
           moves_on e (after_object (object_at w.objects o) {go = λ ob. clears p s back waits o (field_order p.classes ob.class) frames} (λ ob found there.
           let order_is : field_order D.classes ob.class ≡ field_order p.classes ob.class =
-          ap (λ cs. field_order cs ob.class) (classes_are levels) ∙ sym (order_same p R links ob.class) in
+          ap (λ cs. field_order cs ob.class) (classes_are levels) ∙ sym (order_same R p.classes links ob.class) in
           subst (λ f. After p bound (clears p s back waits o (field_order p.classes ob.class) frames) w.input w.trace (Back w)
           (then_do (emptied D o f w) (λ _ w1. gone o w1))) (sym found)
           (rw order_is (clears_run frame (field_order p.classes ob.class) ob w found there still))))
 
-      by_class : (n c : ℕ) (w : World) (a b : Option Class) → Still w → Same p R a b
+      by_class : (n c : ℕ) (w : World) (a b : Option Class) → Still w → Same R a b
           → moves p (at (Ending back waits o (Some c) (suc n) ∷ frames) p.end_step stack (ended_held rs o w))
           ≡ recount (ends_class p (at (Ending back waits o (Some c) (suc n) ∷ frames) p.end_step stack (ended_held rs o w)) back waits o b n frames)
           → ((next : Option ℕ) (w1 : World) → Still w1 → EndRuns n next w1)
@@ -378,7 +379,7 @@ module _ (p : Program) (R : resolved.Program) (bound : ℕ) (begins : (wanted : 
       end_runs zero (Some c) w still = after_runs _ w still (ap recount (has_end.0 _ _ _))
       end_runs (suc n) None w still = after_runs _ w still (ap recount (has_end.0 _ _ _))
 
-  module _ (links : Linked p R) (has_end : HasAt p p.end_step (EndStep ∷ [])) where
+  module _ (links : Linked R p.classes) (has_end : HasAt p p.end_step (EndStep ∷ [])) where
     -- the end of an object at the last level
     last_ends : (frames : List Frame) → length frames + 0 ≡ MOST_LEVELS → Ends p frames bound (level R bound zero)
     last_ends frames full f0 waiting k ob c h0 rs stack w pc back e found = rw (le-ltb (length frames) MOST_LEVELS (omega (arith, full))) faults
@@ -409,32 +410,32 @@ module _ (p : Program) (R : resolved.Program) (bound : ℕ) (begins : (wanted : 
     pub calls_run : (levels : ℕ) (frames : List Frame) → length frames + levels ≡ MOST_LEVELS → Deep p frames bound R (level R bound levels)
     calls_run zero frames full = record {
       invokes = λ wanted f given stack rs w pc has.
-          moves_on (ap recount (call_enters p R wanted f (begins wanted f) pc frames _ _ false has
+          moves_on (ap recount (call_enters p R wanted f (begins p R is entries wanted f) pc frames _ _ false has
           (le-ltb (length frames) MOST_LEVELS (omega (arith, full))))) faults;
       says = λ sign from selector arguments objects wanted self given stack rs w pc size few.
           last_finds rs frames full _ _ wanted (passes sign arguments) objects self given stack w pc
-          (lookup_meets p R links sign from selector arguments objects wanted);
+          (lookup_meets R p.classes links sign from selector arguments objects wanted);
       ends = last_ends frames full;
-      same_found = found_same p R links;
+      same_found = found_same R p.classes links;
       same_classes = refl;
-      same_descent = descent_same p R links;
-      same_fields = fields_same p R links;
+      same_descent = descent_same R p.classes links;
+      same_fields = fields_same R p.classes links;
     }
     calls_run (suc levels) frames full = record {
       invokes = λ wanted f given stack rs w pc has.
           let deep = calls_run levels (Calling (pc + 1) (waits_of w) ∷ frames) (omega (arith, full)) in
           let names1 = onto (padded 0 (parameters_of R wanted f) given.objects) rs in
           let s = at frames pc (onto (padded (pos 0) (slots_of R wanted f) given.numbers) stack) (held_of names1 w) in
-          moves_on {next = enters s (entry wanted f) 0 true} (ap recount (call_enters p R wanted f (begins wanted f) pc frames s.stack s.held true has
+          moves_on {next = enters s (entry wanted f) 0 true} (ap recount (call_enters p R wanted f (begins p R is entries wanted f) pc frames s.stack s.held true has
           (lt-ltb (length frames) MOST_LEVELS (omega (arith, full)))))
           (quietly (method_runs rs levels wanted f pc 0 frames given stack w deep));
       says = λ sign from selector arguments objects wanted self given stack rs w pc size few.
           level_finds rs levels frames full _ _ wanted (passes sign arguments) objects self given stack w pc
           (calls_run levels (Calling (pc + 1) (waits_of w) ∷ frames) (omega (arith, full))) size few
-          (lookup_meets p R links sign from selector arguments objects wanted);
+          (lookup_meets R p.classes links sign from selector arguments objects wanted);
       ends = level_ends levels frames full (λ frame. calls_run levels (frame ∷ frames) (omega (arith, full)));
-      same_found = found_same p R links;
+      same_found = found_same R p.classes links;
       same_classes = refl;
-      same_descent = descent_same p R links;
-      same_fields = fields_same p R links;
+      same_descent = descent_same R p.classes links;
+      same_fields = fields_same R p.classes links;
     }

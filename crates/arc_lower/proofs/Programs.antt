@@ -1,5 +1,5 @@
 -- Each order of a lowered program has what it needs, with the heights before it.
-use Rattle.std.proofs.Common.{◌≡◌, inl, inr, ℕ, zero, suc, ◌+◌, ◌-◌, ◌≤◌, pos, Bool, true, false, if◌then◌else◌, List, [], ◌∷◌, ◌++◌, length, Option, Some, None, refl, sym, ap, ◌∙◌, subst, arith, length-append, append_assoc, zero-add, add-zero, slice_get, slice_index_or}
+use Rattle.std.proofs.Common.{◌≡◌, inl, inr, ℕ, zero, suc, ◌+◌, ◌-◌, ◌≤◌, pos, true, false, if◌then◌else◌, List, [], ◌∷◌, ◌++◌, length, Option, Some, None, refl, sym, ap, ◌∙◌, subst, arith, length-append, append_assoc, zero-add, add-zero, slice_get, slice_index_or}
 use Rattle.std.proofs.lemmas.Bool.{lt-ltb, false≢true}
 use Rattle.std.proofs.lemmas.Option.{get_or_from_slice_get}
 use Rattle.std.proofs.lemmas.Bool.Decides.{nat_tests}
@@ -7,7 +7,7 @@ use Rattle.arc_ast.specs.declared.tree.Sign.{Sign}
 use Rattle.arc_spec.specs.declared.class.Gives.{Gives}
 use Rattle.arc_spec.specs.declared.class.Gives.TheVariants as gives
 use Rattle.arc_spec.specs.declared.class.Method.{Method}
-use Rattle.arc_spec.specs.Classes.{Class, answers, found, own_methods, first_that_has, superclasses, ancestry, lookup, same_gives}
+use Rattle.arc_spec.specs.Classes.{Class, lookup, same_gives}
 use Rattle.arc_spec.specs.Resolved.{Function, Commands}
 use Rattle.arc_spec.specs.Resolved as resolved
 use Rattle.arc_spec.specs.Meaning.{function_at, function_places}
@@ -17,22 +17,17 @@ use Rattle.arc_code.specs.declared.instr.Instr.TheVariants.{Plain, Jump, Call, R
 use Rattle.arc_code.specs.Effects.{passes, as_object}
 use Rattle.arc_ir.specs.declared.action.Target.TheVariants.{At}
 use Rattle.arc_lower.specs.Order.{Order}
-use Rattle.arc_lower.specs.Lowered.{all_functions, number_of, slots_of, parameters_of, call_orders, passing_orders, opening_orders, take_orders, own_orders, leaving_order, leave_orders, body_orders, declare_orders, pop_orders, keep_orders, all_empty_orders, no_turn, Between, Block, nothing_given, commands_block, flat, function_orders, functions_orders, entries_from, start_orders, end_step_of, entry_of, entries_of, stub_orders, methods_orders, dealloc_orders, class_orders, classes_orders, linked_methods, linked_dealloc, linked_classes, running_orders, lowered, classes_linked}
+use Rattle.arc_lower.specs.Lowered.{all_functions, number_of, slots_of, parameters_of, call_orders, passing_orders, opening_orders, take_orders, own_orders, leaving_order, leave_orders, body_orders, declare_orders, pop_orders, keep_orders, all_empty_orders, no_turn, Between, Block, nothing_given, commands_block, flat, function_orders, functions_orders, start_orders, end_step_of, entry_of, entries_of, methods_orders, dealloc_orders, class_orders, classes_orders, running_orders, lowered, classes_linked}
 use Rattle.arc_lower.specs.Size.{object_parameters, owned_by}
-use Rattle.arc_lower.specs.Heights.{height, between, next_height, walk, Walk, next_walk, last_walk, walk_heights, heights, start_heights, function_heights, stub_heights, dealloc_heights, in_function, functions_marks, methods_marks, class_marks, classes_marks, lowered_marks}
+use Rattle.arc_lower.specs.Heights.{height, between, next_height, walk, last_walk, heights, function_heights, in_function, functions_marks, lowered_marks}
 use Rattle.arc_lower.proofs.Cases.{by_test}
 use Rattle.arc_lower.proofs.Rows.{call_length}
-use Rattle.arc_lower.proofs.Linking.{numbered, function_gives, answers_as}
+use Rattle.arc_lower.proofs.Linking.{Both, both_split, marks_length, left_marks, entry_marks, marks_split, functions_split, function_found, stub, stub_marks, method_stub, Methods, Dealloc, Classes, methods_split, classes_split, start_stands, functions_stand, stubs_stand, Meets, Same, linked, lookup_meets, function_gives}
 use Rattle.arc_lower.proofs.Typing.{alike_same, slots_same, parameters_same, number_there, Types, types_then, types_last, tested, keep_types, passing_types, declare_types, take_types, own_types, BlockTypes}
 use Rattle.arc_lower.proofs.HeightsEnd.{Keeps, block_ends}
 use Rattle.arc_lower.proofs.Forms.{nothing_types, commands_type}
-use Rattle.arc_lower.proofs.Doing.{each_front, each_back, each_at}
-use Rattle.arc_lower.proofs.Stepping.{some_same, HasPart, has_whole, Leaves, Empties, role, role_of, role_at, Clears, Stands, Goes, Free, calm_free, Steps, StepsAt, AllStep, step_then, opens_goes, Stays, none_goes, Row, row_of, row_front, row_back, typed_steps, AllTake, takes_stand, takes_step, block_steps}
-use Rattle.std.specs.Option.{option_or}
-
-in_append : (given : Gives) (a b : List Height) → in_function given (a ++ b) ≡ in_function given a ++ in_function given b
-in_append given [] b = refl
-in_append given (h ∷ a) b = ap (λ l. (h, given) ∷ l) (in_append given a b)
+use Rattle.arc_lower.proofs.Doing.{each_at}
+use Rattle.arc_lower.proofs.Stepping.{some_same, Leaves, Empties, role, role_of, role_at, Clears, Stands, Goes, Free, calm_free, Steps, StepsAt, AllStep, step_then, opens_goes, Stays, none_goes, Row, row_of, row_front, row_back, typed_steps, AllTake, takes_stand, takes_step, block_steps}
 
 leaving_is : (given : Gives) → role (leaving_order given) ≡ Leaves
 leaving_is gives.Number = refl
@@ -48,16 +43,6 @@ module _ (R : resolved.Program) where
 
   abbrev pub table : List (Height × Gives)
   table = lowered_marks R
-
-  -- orders and their heights stand there
-  abbrev Both : ℕ → List (Height × Gives) → List Order → Type 0
-  Both pc hs xs = HasPart table pc hs × HasPart all pc xs × (length hs ≡ length xs)
-
-  both_split : (pc : ℕ) (a b : List (Height × Gives)) (xs ys : List Order) → length a ≡ length xs → Both pc (a ++ b) (xs ++ ys) → Both pc a xs × Both (pc + length xs) b ys
-  both_split pc a b xs ys e f = (
-    (each_front _ pc a b f.0, each_front _ pc xs ys f.1, e),
-    (subst (λ n. HasPart table (pc + n) b) e (each_back _ pc a b f.0), each_back _ pc xs ys f.1, omega (arith, e, f.2, length-append a b, length-append xs ys)),
-  )
 
   abbrev Goes_to : Gives → ℕ → Height → Type 0
   Goes_to = Goes R all table
@@ -211,27 +196,8 @@ module _ (R : resolved.Program) where
 
   -- ---- all functions
 
-  abbrev row : (given : Gives) (base h : Height) (pc : ℕ) (xs : List Order) → Both pc (in_function given (heights R base h xs)) xs → Row R all table given base pc (walk h []) xs
+  abbrev row : (given : Gives) (base h : Height) (pc : ℕ) (xs : List Order) → Both R pc (in_function given (heights R base h xs)) xs → Row R all table given base pc (walk h []) xs
   row given base h pc xs f = row_of R all table given base pc (walk h []) xs f.0 f.1
-
-  -- as many marks as orders
-  marks_length : (given : Gives) (low : Height) (w : Walk) (xs : List Order) → length (in_function given (walk_heights R low w xs)) ≡ length xs
-  marks_length given low w [] = refl
-  marks_length given low w (x ∷ xs) = ap suc (marks_length given low (next_walk R low x w) xs)
-
-  abbrev left_marks : Function → List (Height × Gives)
-  left_marks g = in_function g.gives (heights R (between g.slots (function_places g)) (between (suc g.slots) (function_places g)) (leave_orders g))
-
-  abbrev entry_marks : (place : ℕ) → Function → List (Height × Gives)
-  entry_marks place g =
-      in_function g.gives (heights R (between g.slots (function_places g)) (height g.slots (object_parameters g) 0 0) (body_orders R place (entry_of place g) g))
-
-  -- a function's marks, those where it is left, and those from its entry on
-  marks_split : (place : ℕ) (g : Function) → in_function g.gives (function_heights R place g) ≡ left_marks g ++ entry_marks place g
-  marks_split place g = in_append g.gives _ _
-
-  function_length : (place : ℕ) (g : Function) → length (in_function g.gives (function_heights R place g)) ≡ length (function_orders R place g)
-  function_length place g = omega (arith, ap length (marks_split place g), length-append {A = Height × Gives}, length-append {A = Order}, marks_length)
 
   pub record Entered (entries : List ℕ) (n : ℕ) (f : Function) : Type 0 where
     pub at : ℕ
@@ -256,7 +222,7 @@ module _ (R : resolved.Program) where
       (by_test (λ b. Types R 0 0 base (if b then own_orders places else []) base) g.owns (λ e. own_types R 0 0 places slots places (omega arith)) (λ e. refl)))
 
   -- a run may enter a function, and each of its orders has what it needs
-  g_steps : (place : ℕ) (g : Function) → Both place (in_function g.gives (function_heights R place g)) (function_orders R place g)
+  g_steps : (place : ℕ) (g : Function) → Both R place (in_function g.gives (function_heights R place g)) (function_orders R place g)
       → Goes_to g.gives (entry_of place g) (height g.slots (object_parameters g) 0 0) × Step_all place (function_orders R place g)
   g_steps place g here =
       let base = between g.slots (function_places g) in
@@ -264,49 +230,22 @@ module _ (R : resolved.Program) where
       let entered = height g.slots (object_parameters g) 0 0 in
       let leave = leave_orders g in
       let body = body_orders R place (entry_of place g) g in
-      let whole = subst (λ l. Both place l (leave ++ body)) (marks_split place g) here in
-      let parts = both_split place (left_marks g) (entry_marks place g) leave body (marks_length g.gives base (walk first []) leave) whole in
+      let whole = subst (λ l. Both R place l (leave ++ body)) (marks_split R place g) here in
+      let parts = both_split R place (left_marks R g) (entry_marks R place g) leave body (marks_length R g.gives base (walk first []) leave) whole in
       function_steps place g.slots (function_places g) g.names (object_parameters g) g.gives (opening_orders g) (opening_types g) (places_by g.gives g.names) g.body
       (row g.gives base first place leave parts.0) (row g.gives base entered (entry_of place g) body parts.1)
 
-  functions_begin : (fs : List Function) (place n : ℕ) (f : Function) → Both place (functions_marks R place fs) (functions_orders R place fs) → slice_get fs n ≡ Some f → Entered (entries_from R place fs) n f
-  functions_begin [] place n f has e = cc
-  functions_begin (g ∷ fs) place zero f has e =
-      let same : g ≡ f = cc in
-      let xs = function_orders R place g in
-      let here = (both_split place (in_function g.gives (function_heights R place g)) (functions_marks R (place + length xs) fs) xs _ (function_length place g) has).0 in
-      record { at = entry_of place g; is = refl; goes = subst (λ (h : Function). Goes_to h.gives (entry_of place g) (height h.slots (object_parameters h) 0 0)) same (g_steps place g here).0 }
-  functions_begin (g ∷ fs) place (suc n) f has e =
-      let xs = function_orders R place g in
-      let there = functions_begin fs (place + length xs) n f (both_split place (in_function g.gives (function_heights R place g)) (functions_marks R (place + length xs) fs) xs _ (function_length place g) has).1 e in
-      record { at = there.at; is = there.is; goes = there.goes }
-
-  functions_step : (fs : List Function) (place : ℕ) → Both place (functions_marks R place fs) (functions_orders R place fs) → Step_all place (functions_orders R place fs)
+  functions_step : (fs : List Function) (place : ℕ) → Both R place (functions_marks R place fs) (functions_orders R place fs) → Step_all place (functions_orders R place fs)
   functions_step [] place has = tt
   functions_step (g ∷ fs) place has =
       let xs = function_orders R place g in
-      let marks = in_function g.gives (function_heights R place g) in
-      let rest = functions_marks R (place + length xs) fs in
-      step_then R all table place xs (functions_orders R (place + length xs) fs) (g_steps place g (both_split place marks rest xs _ (function_length place g) has).0).1
-      (functions_step fs (place + length xs) (both_split place marks rest xs _ (function_length place g) has).1)
-
-  functions_length : (fs : List Function) (place : ℕ) → length (functions_marks R place fs) ≡ length (functions_orders R place fs)
-  functions_length [] place = refl
-  functions_length (g ∷ fs) place = omega (arith, length-append {A = Height × Gives}, length-append {A = Order}, function_length place g, functions_length fs (place + length (function_orders R place g)))
+      let parts = functions_split R place g fs has in
+      step_then R all table place xs (functions_orders R (place + length xs) fs) (g_steps place g parts.0).1 (functions_step fs (place + length xs) parts.1)
 
   -- ---- stubs
 
   abbrev zeroed : Height
   zeroed = height 0 0 0 0
-
-  abbrev stub : (wanted : Gives) → (values objects f : ℕ) → List Order
-  stub wanted values objects f = stub_orders R (entries_of R) wanted values objects f
-
-  abbrev stub_marks : (wanted : Gives) → (values objects f : ℕ) → List (Height × Gives)
-  stub_marks wanted values objects f = in_function wanted (stub_heights R (entries_of R) wanted values objects f)
-
-  stub_length : (wanted : Gives) (values objects f : ℕ) → length (stub_marks wanted values objects f) ≡ length (stub wanted values objects f)
-  stub_length wanted values objects f = marks_length wanted zeroed (walk (height values objects 0 0) []) (stub wanted values objects f)
 
   -- the height at which a function is called
   abbrev called : (wanted : Gives) → (f : ℕ) → Height
@@ -329,160 +268,63 @@ module _ (R : resolved.Program) where
       let goes = opens_goes R all table wanted (place + length xs) (called wanted f) x stays last.0 last.1 in
       (typed_steps R all table wanted zeroed place h [] xs (called wanted f) typed (row_front R all table wanted zeroed place (walk h []) xs (x ∷ later) rows) goes, last)
 
-  stub_goes : (wanted : Gives) (values objects f place : ℕ) → Both place (stub_marks wanted values objects f) (stub wanted values objects f)
+  stub_goes : (wanted : Gives) (values objects f place : ℕ) → Both R place (stub_marks R wanted values objects f) (stub R wanted values objects f)
       → Goes_to wanted place (height values objects 0 0)
-      × (Goes_to wanted (slice_index_or (entries_of R) (number_of R wanted f) 0) (called wanted f) → Step_all place (stub wanted values objects f))
+      × (Goes_to wanted (slice_index_or (entries_of R) (number_of R wanted f) 0) (called wanted f) → Step_all place (stub R wanted values objects f))
   stub_goes wanted values objects f place has =
       let xs = passing_orders R wanted f values objects in
       let jump = Jump (At (slice_index_or (entries_of R) (number_of R wanted f) 0)) in
       let begun = passing_goes wanted values objects f place jump [] refl
-      (row wanted zeroed (height values objects 0 0) place (stub wanted values objects f) has) in
+      (row wanted zeroed (height values objects 0 0) place (stub R wanted values objects f) has) in
       (begun.0.0, λ goes. step_then R all table place xs (jump ∷ []) begun.0.1 (((called wanted f, wanted), begun.1.0, (0, omega arith, goes)), tt))
 
-  abbrev method_marks : Method → List (Height × Gives)
-  method_marks m = stub_marks m.gives (passes m.sign m.takes) m.objects m.runs
-
-  abbrev method_stub : Method → List Order
-  method_stub m = stub m.gives (passes m.sign m.takes) m.objects m.runs
-
-  method_length : (m : Method) → length (method_marks m) ≡ length (method_stub m)
-  method_length m = stub_length m.gives (passes m.sign m.takes) m.objects m.runs
-
-  methods_length : (ms : List Method) → length (methods_marks R (entries_of R) ms) ≡ length (methods_orders R (entries_of R) ms)
-  methods_length [] = refl
-  methods_length (m ∷ others) = omega (arith, length-append (method_marks m) (methods_marks R (entries_of R) others), length-append (method_stub m) (methods_orders R (entries_of R) others), method_length m, methods_length others)
-
-  abbrev dealloc_marks : Option ℕ → List (Height × Gives)
-  dealloc_marks d = in_function gives.Number (dealloc_heights R (entries_of R) d)
-
-  dealloc_length : (d : Option ℕ) → length (dealloc_marks d) ≡ length (dealloc_orders R (entries_of R) d)
-  dealloc_length None = refl
-  dealloc_length (Some f) = stub_length gives.Number 0 0 f
-
-  class_length : (c : Class) → length (class_marks R (entries_of R) c) ≡ length (class_orders R (entries_of R) c)
-  class_length c = omega (arith, length-append (dealloc_marks c.dealloc) (methods_marks R (entries_of R) c.methods), length-append (dealloc_orders R (entries_of R) c.dealloc) (methods_orders R (entries_of R) c.methods), dealloc_length c.dealloc, methods_length c.methods)
-
-  -- the stubs of a class, and those of the classes after it
-  abbrev Methods : ℕ → List Method → Type 0
-  Methods place ms = Both place (methods_marks R (entries_of R) ms) (methods_orders R (entries_of R) ms)
-
-  abbrev Classes : ℕ → List Class → Type 0
-  Classes place cs = Both place (classes_marks R (entries_of R) cs) (classes_orders R (entries_of R) cs)
-
-  methods_split : (place : ℕ) (m : Method) (others : List Method) → Methods place (m ∷ others) → Both place (method_marks m) (method_stub m) × Methods (place + length (method_stub m)) others
-  methods_split place m others has = both_split place (method_marks m) (methods_marks R (entries_of R) others) _ _ (method_length m) has
-
-  classes_split : (place : ℕ) (c : Class) (others : List Class) → Classes place (c ∷ others) → Both place (class_marks R (entries_of R) c) (class_orders R (entries_of R) c) × Classes (place + length (class_orders R (entries_of R) c)) others
-  classes_split place c others has = both_split place (class_marks R (entries_of R) c) (classes_marks R (entries_of R) others) _ _ (class_length c) has
-
-  class_split : (place : ℕ) (c : Class) → Both place (class_marks R (entries_of R) c) (class_orders R (entries_of R) c)
-      → Both place (dealloc_marks c.dealloc) (dealloc_orders R (entries_of R) c.dealloc) × Methods (place + length (dealloc_orders R (entries_of R) c.dealloc)) c.methods
-  class_split place c has = both_split place (dealloc_marks c.dealloc) (methods_marks R (entries_of R) c.methods) _ _ (dealloc_length c.dealloc) has
-
   module _ (target : (wanted : Gives) (f : ℕ) → Goes_to wanted (slice_index_or (entries_of R) (number_of R wanted f) 0) (called wanted f)) where
-    methods_step : (ms : List Method) (place : ℕ) → Methods place ms → Step_all place (methods_orders R (entries_of R) ms)
+    methods_step : (ms : List Method) (place : ℕ) → Methods R place ms → Step_all place (methods_orders R (entries_of R) ms)
     methods_step [] place has = tt
     methods_step (m ∷ others) place has =
-        step_then R all table place (method_stub m) (methods_orders R (entries_of R) others) ((stub_goes m.gives (passes m.sign m.takes) m.objects m.runs place (methods_split place m others has).0).1 (target m.gives m.runs)) (methods_step others (place + length (method_stub m)) (methods_split place m others has).1)
+        step_then R all table place (method_stub R m) (methods_orders R (entries_of R) others) ((stub_goes m.gives (passes m.sign m.takes) m.objects m.runs place (methods_split R place m others has).0).1 (target m.gives m.runs)) (methods_step others (place + length (method_stub R m)) (methods_split R place m others has).1)
 
-    dealloc_steps : (d : Option ℕ) (place : ℕ) → Both place (dealloc_marks d) (dealloc_orders R (entries_of R) d) → Step_all place (dealloc_orders R (entries_of R) d)
+    dealloc_steps : (d : Option ℕ) (place : ℕ) → Dealloc R place d → Step_all place (dealloc_orders R (entries_of R) d)
     dealloc_steps None place has = tt
     dealloc_steps (Some f) place has = (stub_goes gives.Number 0 0 f place has).1 (target gives.Number f)
 
-    classes_step : (cs : List Class) (place : ℕ) → Classes place cs → Step_all place (classes_orders R (entries_of R) cs)
+    classes_step : (cs : List Class) (place : ℕ) → Classes R place cs → Step_all place (classes_orders R (entries_of R) cs)
     classes_step [] place has = tt
     classes_step (c ∷ others) place has =
-        let here = (classes_split place c others has).0 in
+        let parts = classes_split R place c others has in
         let first = dealloc_orders R (entries_of R) c.dealloc in
         step_then R all table place (class_orders R (entries_of R) c) (classes_orders R (entries_of R) others)
-        (step_then R all table place first (methods_orders R (entries_of R) c.methods) (dealloc_steps c.dealloc place (class_split place c here).0) (methods_step c.methods (place + length first) (class_split place c here).1))
-        (classes_step others (place + length (class_orders R (entries_of R) c)) (classes_split place c others has).1)
+        (step_then R all table place first (methods_orders R (entries_of R) c.methods) (dealloc_steps c.dealloc place parts.0) (methods_step c.methods (place + length first) parts.1))
+        (classes_step others (place + length (class_orders R (entries_of R) c)) parts.2)
 
   -- ---- what messages and ends of objects find
 
-  found_goes : (ms : List Method) (place : ℕ) → Methods place ms → (sign : Sign) (selector takes objects : ℕ) (wanted : Gives) (to : ℕ) → found sign selector takes objects wanted (linked_methods R (entries_of R) place ms) ≡ Some to → Goes_to wanted to (height (passes sign takes) objects 0 0)
-  found_goes [] place has sign selector takes objects wanted to e = cc
-  found_goes (m ∷ others) place has sign selector takes objects wanted to e =
-      by (found_goes others (place + length (method_stub m)) (methods_split place m others has).1 sign selector takes objects wanted to)
-      (stub_goes m.gives (passes m.sign m.takes) m.objects m.runs place (methods_split place m others has).0).0 (answers sign selector takes objects wanted m) refl e
-    where
-      by : (found sign selector takes objects wanted (linked_methods R (entries_of R) (place + length (method_stub m)) others) ≡ Some to → Goes_to wanted to (height (passes sign takes) objects 0 0)) → Goes_to m.gives place (height (passes m.sign m.takes) m.objects 0 0) → (t : Bool) → answers sign selector takes objects wanted m ≡ t
-          → (if t then Some place else found sign selector takes objects wanted (linked_methods R (entries_of R) (place + length (method_stub m)) others)) ≡ Some to → Goes_to wanted to (height (passes sign takes) objects 0 0)
-      by rest here true is e =
-          let same = answers_as sign selector takes objects wanted m is in
-          subst (λ n. Goes_to wanted n (height (passes sign takes) objects 0 0)) (some_same place to e)
-          (subst (λ g. Goes_to g place (height (passes sign takes) objects 0 0)) same.same
-          (subst (λ n. Goes_to m.gives place (height (passes sign takes) n 0 0)) same.references (subst (λ n. Goes_to m.gives place (height n m.objects 0 0)) same.numbers here)))
-      by rest here false is e = rest e
+  meets_goes : (wanted : Gives) (values objects : ℕ) (meant stands : Option ℕ) (to : ℕ) → Meets R wanted values objects meant stands → stands ≡ Some to → Goes_to wanted to (height values objects 0 0)
+  meets_goes wanted values objects None None to meets e = cc
+  meets_goes wanted values objects (Some f) (Some place) to meets e = subst (λ n. Goes_to wanted n (height values objects 0 0)) (some_same place to e) (stub_goes wanted values objects f place meets).0
+  meets_goes wanted values objects _ _ to meets e = absurd meets
 
-  -- the classes of a program, with their stubs
-  record Finds (d : Class) : Type 0 where
-    methods : (sign : Sign) (selector takes objects : ℕ) (wanted : Gives) (to : ℕ) → found sign selector takes objects wanted d.methods ≡ Some to → Goes R all table wanted to (height (passes sign takes) objects 0 0)
-    dealloc : (to : ℕ) → d.dealloc ≡ Some to → Goes R all table gives.Number to (height 0 0 0 0)
+  same_goes : (a b : Option Class) (d : Class) (to : ℕ) → Same R a b → b ≡ Some d → d.dealloc ≡ Some to → Goes_to gives.Number to zeroed
+  same_goes None None d to same is e = cc
+  same_goes (Some c) (Some x) d to same is e = meets_goes gives.Number 0 0 c.dealloc x.dealloc to same.2 (ap (λ (y : Class). y.dealloc) (some_same x d is) ∙ e)
+  same_goes _ _ d to same is e = absurd same
 
-  stub_found : (d : Option ℕ) (place to : ℕ) → Both place (dealloc_marks d) (dealloc_orders R (entries_of R) d) → linked_dealloc place d ≡ Some to → Goes_to gives.Number to zeroed
-  stub_found None place to has e = cc
-  stub_found (Some f) place to has e = subst (λ n. Goes_to gives.Number n zeroed) (some_same place to e) (stub_goes gives.Number 0 0 f place has).0
+  pub methods_go : (from : Option ℕ) (sign : Sign) (selector takes objects : ℕ) (wanted : Gives) (to : ℕ) → lookup (classes_linked R) from sign selector takes objects wanted ≡ Some to → Goes_to wanted to (height (passes sign takes) objects 0 0)
+  methods_go from sign selector takes objects wanted to = meets_goes wanted (passes sign takes) objects (lookup R.classes from sign selector takes objects wanted) _ to (lookup_meets R (classes_linked R) (linked R) sign from selector takes objects wanted)
 
-  class_finds : (cs : List Class) (place i : ℕ) (d : Class) → Classes place cs → slice_get (linked_classes R (entries_of R) place cs) i ≡ Some d → Finds d
-  class_finds [] place i d has e = cc
-  class_finds (c ∷ others) place zero d has e =
-      let here = (classes_split place c others has).0 in
-      let q = place + length (dealloc_orders R (entries_of R) c.dealloc) in
-      subst Finds (some_same _ d e) (record { methods = found_goes c.methods q (class_split place c here).1; dealloc = λ to. stub_found c.dealloc place to (class_split place c here).0 })
-  class_finds (c ∷ others) place (suc i) d has e = class_finds others (place + length (class_orders R (entries_of R) c)) i d (classes_split place c others has).1 e
-
-  own_goes : (o : Option Class) → ((d : Class) → o ≡ Some d → Finds d) → (sign : Sign) (selector takes objects : ℕ) (wanted : Gives) (to : ℕ) → found sign selector takes objects wanted (own_methods o) ≡ Some to → Goes_to wanted to (height (passes sign takes) objects 0 0)
-  own_goes None finds sign selector takes objects wanted to e = cc
-  own_goes (Some d) finds sign selector takes objects wanted to e = (finds d refl).methods sign selector takes objects wanted to e
-
-  first_of : (Q : Type 0) (go : ℕ → Option ℕ) (to : ℕ) → ((c : ℕ) → go c ≡ Some to → Q) → (cs : List ℕ) → first_that_has go cs ≡ Some to → Q
-  first_of Q go to one [] e = cc
-  first_of Q go to one (c ∷ cs) e = by (first_of Q go to one cs) (go c) refl e
-    where
-      by : (first_that_has go cs ≡ Some to → Q) → (o : Option ℕ) → go c ≡ o → option_or o (first_that_has go cs) ≡ Some to → Q
-      by rest None is e = rest e
-      by rest (Some a) is e = one c (is ∙ e)
+  pub dealloc_goes : (i : ℕ) (d : Class) (to : ℕ) → slice_get (classes_linked R) i ≡ Some d → d.dealloc ≡ Some to → Goes_to gives.Number to (height 0 0 0 0)
+  dealloc_goes i d to = same_goes (slice_get R.classes i) (slice_get (classes_linked R) i) d to ((linked R).same i)
 
   -- ---- the program
-
-  abbrev first : List (Height × Gives)
-  first = in_function gives.Number (start_heights R)
-
-  abbrev functions : List (Height × Gives)
-  functions = functions_marks R (length (start_orders R)) (all_functions R)
 
   abbrev function_list : List Order
   function_list = functions_orders R (length (start_orders R)) (all_functions R)
 
-  start_length : length first ≡ length (start_orders R)
-  start_length = marks_length gives.Number zeroed (walk zeroed []) (start_orders R)
-
-  running_length : length (first ++ functions) ≡ length (running_orders R)
-  running_length = omega (arith, length-append first functions, length-append (start_orders R) function_list, start_length, functions_length (all_functions R) (length (start_orders R)))
-
-  classes_length : (cs : List Class) → length (classes_marks R (entries_of R) cs) ≡ length (classes_orders R (entries_of R) cs)
-  classes_length [] = refl
-  classes_length (c ∷ others) = omega (arith, length-append (class_marks R (entries_of R) c) (classes_marks R (entries_of R) others), length-append (class_orders R (entries_of R) c) (classes_orders R (entries_of R) others), class_length c, classes_length others)
-
-  has_all : Both 0 table all
-  has_all = (has_whole table, has_whole all, omega (arith, length-append (first ++ functions) (classes_marks R (entries_of R) R.classes), length-append (running_orders R) (classes_orders R (entries_of R) R.classes), running_length, classes_length R.classes))
-
-  has_running : Both 0 (first ++ functions) (running_orders R)
-  has_running = (both_split 0 (first ++ functions) (classes_marks R (entries_of R) R.classes) (running_orders R) (classes_orders R (entries_of R) R.classes) running_length has_all).0
-
-  has_start : Both 0 first (start_orders R)
-  has_start = (both_split 0 first functions (start_orders R) function_list start_length has_running).0
-
-  has_functions : Both (length (start_orders R)) functions function_list
-  has_functions = subst (λ n. Both n functions function_list) (zero-add (length (start_orders R))) (both_split 0 first functions (start_orders R) function_list start_length has_running).1
-
-  has_stubs : Classes (length (running_orders R)) R.classes
-  has_stubs = subst (λ n. Classes n R.classes) (zero-add (length (running_orders R))) (both_split 0 (first ++ functions) (classes_marks R (entries_of R) R.classes) (running_orders R) (classes_orders R (entries_of R) R.classes) running_length has_all).1
-
   -- a function is entered with its variables
   pub entered_at : (wanted : Gives) (f : ℕ) → Entered (entries_of R) (number_of R wanted f) (function_at R wanted f)
-  entered_at wanted f = functions_begin (all_functions R) (length (start_orders R)) (number_of R wanted f) (function_at R wanted f) has_functions (numbered R wanted f)
+  entered_at wanted f =
+      let there = function_found R wanted f in
+      record { at = entry_of there.place (function_at R wanted f); is = there.entry; goes = (g_steps there.place (function_at R wanted f) there.code).0 }
 
   target : (wanted : Gives) (f : ℕ) → Goes_to wanted (slice_index_or (entries_of R) (number_of R wanted f) 0) (called wanted f)
   target wanted f =
@@ -490,14 +332,6 @@ module _ (R : resolved.Program) where
       subst (λ n. Goes_to wanted n (called wanted f))
       (sym (get_or_from_slice_get (entries_of R) (number_of R wanted f) e.at 0 e.is))
       (subst (λ g. Goes_to g e.at (called wanted f)) (function_gives R wanted f) e.goes)
-
-  pub methods_go : (from : Option ℕ) (sign : Sign) (selector takes objects : ℕ) (wanted : Gives) (to : ℕ) → lookup (classes_linked R) from sign selector takes objects wanted ≡ Some to → Goes_to wanted to (height (passes sign takes) objects 0 0)
-  methods_go from sign selector takes objects wanted to e =
-      first_of (Goes_to wanted to (height (passes sign takes) objects 0 0)) (λ c. found sign selector takes objects wanted (own_methods (slice_get (classes_linked R) c))) to (λ c f.
-      own_goes (slice_get (classes_linked R) c) (λ d is. class_finds R.classes (length (running_orders R)) c d has_stubs is) sign selector takes objects wanted to f) (ancestry (superclasses (classes_linked R)) from) e
-
-  pub dealloc_goes : (i : ℕ) (d : Class) (to : ℕ) → slice_get (classes_linked R) i ≡ Some d → d.dealloc ≡ Some to → Goes_to gives.Number to (height 0 0 0 0)
-  dealloc_goes i d to is e = (class_finds R.classes (length (running_orders R)) i d has_stubs is).dealloc to e
 
   abbrev zeros : List Order
   zeros = passing_orders R gives.Number R.main 0 0
@@ -514,7 +348,7 @@ module _ (R : resolved.Program) where
 
   main_goes : (Goes_to gives.Number 0 zeroed × Step_all 0 zeros) × Row R all table gives.Number zeroed (0 + length zeros) (walk (called gives.Number R.main) []) call
   main_goes = passing_goes gives.Number 0 0 R.main 0 main_call (Return ∷ (EndStep ∷ [])) refl
-      (subst (Row R all table gives.Number zeroed 0 (walk zeroed [])) start_is (row gives.Number zeroed zeroed 0 (start_orders R) has_start))
+      (subst (Row R all table gives.Number zeroed 0 (walk zeroed [])) start_is (row gives.Number zeroed zeroed 0 (start_orders R) (start_stands R)))
 
   pub start_goes : Goes_to gives.Number 0 zeroed
   start_goes = main_goes.0.0
@@ -545,8 +379,8 @@ module _ (R : resolved.Program) where
   program_steps : Step_all 0 (lowered R)
   program_steps =
       step_then R all table 0 (running_orders R) (classes_orders R (entries_of R) R.classes)
-      (step_then R all table 0 (start_orders R) function_list start_steps (subst (λ n. Step_all n function_list) (sym (zero-add (length (start_orders R)))) (functions_step (all_functions R) (length (start_orders R)) has_functions)))
-      (subst (λ n. Step_all n (classes_orders R (entries_of R) R.classes)) (sym (zero-add (length (running_orders R)))) (classes_step target R.classes (length (running_orders R)) has_stubs))
+      (step_then R all table 0 (start_orders R) function_list start_steps (subst (λ n. Step_all n function_list) (sym (zero-add (length (start_orders R)))) (functions_step (all_functions R) (length (start_orders R)) (functions_stand R))))
+      (subst (λ n. Step_all n (classes_orders R (entries_of R) R.classes)) (sym (zero-add (length (running_orders R)))) (classes_step target R.classes (length (running_orders R)) (stubs_stand R)))
 
   pub steps_at : (pc : ℕ) (x : Order) → slice_get (lowered R) pc ≡ Some x → StepsAt R all table pc x
   steps_at pc x e = subst (λ q. StepsAt R all table q x) (zero-add pc) (each_at _ 0 pc (lowered R) x program_steps e)

@@ -20,7 +20,7 @@ use Rattle.arc_lower.specs.Promise.{Performs, IsLowered}
 use Rattle.arc_lower.proofs.Leading.{Comes, Runs, running, Follows, ends, leads, on, moves_on, next}
 use Rattle.arc_lower.proofs.Doing.{fresh, recount, moves, held_of, HasAt, has_front, has_back}
 use Rattle.arc_lower.proofs.Stacking.{passing_leads}
-use Rattle.arc_lower.proofs.Linking.{has_start, has_end, has_stubs, begins, Linked, linked}
+use Rattle.arc_lower.proofs.Linking.{has_start, has_end, Linked, linked}
 use Rattle.arc_lower.proofs.Calling.{calls_run}
 use Rattle.arc_lower.proofs.Transferring.{room_suffices, seen_moves, never_wedged}
 use Rattle.arc_spec.specs.declared.limits.TheConstants.{MOST_LEVELS}
@@ -85,8 +85,8 @@ main_ends v w e =
     ap (λ (f : world.Frame). recount (on_left f.temporaries (held_of [] w) (λ h. last))) e ∙ ap (λ (f : world.Frame). recount (only_if (all_nil f.strong) last)) e
 
 module _ (p : Program) (R : resolved.Program) (is : orders p.actions ≡ lowered R) (entries : p.entries ≡ entries_of R) (classes : p.classes ≡ classes_linked R) (end_at : p.end_step ≡ end_step_of R) where
-  links : Linked p R
-  links = linked p R classes (has_stubs p R is entries)
+  links : Linked R p.classes
+  links = subst (Linked R) (sym classes) (linked R)
 
   program_runs : (input : List ℕ) (bound : ℕ)
       → Follows p bound (running [] [] 0 [] (first_world R.globals R.strong_globals input)) Ends_with (mean R input bound)
@@ -97,13 +97,13 @@ module _ (p : Program) (R : resolved.Program) (is : orders p.actions ≡ lowered
       let call = Call (number_of R gives.Number R.main) gives.Number ∷ [] in
       let last_orders = Return ∷ (EndStep ∷ []) in
       let q = 0 + length fits in
-      let has = has_start p R is entries in
+      let has = has_start p R is in
       let has_call = has_front p 0 (fits ++ call) last_orders has in
       let size : 0 + length (fits ++ call) ≡ q + 1 = omega (arith, length-append fits call) in
       let last = subst (λ n. HasAt p n last_orders) size (has_back p 0 (fits ++ call) last_orders has) in
       let ready = passing_leads p [] (slots_of R gives.Number R.main) (parameters_of R gives.Number R.main) 0 0 nothing_given [] [] w 0 refl refl
       (has_front p 0 fits call has_call) in
-      let levels = calls_run p R bound (begins p R is entries) links (has_end p R is entries end_at) MOST_LEVELS [] none in
+      let levels = calls_run p R bound is entries links (has_end p R is end_at) MOST_LEVELS [] none in
       next (leads ready (levels.invokes gives.Number R.main nothing_given [] [] w q (has_back p 0 fits call has_call))) (λ a w1 to m.
       on m.0 (moves_on {next = Ends (converted k.Int a.number)} (ap recount (last.0 [] (a.number ∷ []) (held_of [] w1)) ∙ main_ends a.number w1 m.1.frame)
       (record { follows = ends refl })))
