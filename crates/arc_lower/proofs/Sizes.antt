@@ -1,5 +1,5 @@
 -- A program becomes exactly as many actions as its forms say.
-use Rattle.std.proofs.Common.{◌≡◌, ℕ, zero, suc, ◌+◌, ◌-◌, ◌*◌, ◌/◌, ◌<◌, ◌≤◌, Bool, true, false, ◌||◌, nat_lt, if◌then◌else◌, List, [], ◌∷◌, ◌++◌, length, drop, pos, Option, Some, None, refl, sym, ap, subst, ◌∙◌, arith, length-append}
+use Rattle.std.proofs.Common.{◌≡◌, ℕ, zero, suc, ◌+◌, ◌-◌, ◌*◌, ◌/◌, ◌<◌, ◌≤◌, Bool, true, false, ◌||◌, nat_lt, if◌then◌else◌, List, [], ◌∷◌, ◌++◌, length, drop, pos, Option, Some, None, refl, sym, ap, subst, ◌∙◌, arith, rules, length-append}
 use Rattle.std.proofs.lemmas.Bool.{true≢false, ltb-true, ltb-false}
 use Rattle.std.proofs.lemmas.Bool.Decides.{nat_tests}
 use Rattle.std.specs.List.{list_any, sum_by}
@@ -83,15 +83,10 @@ owned false n = grind (arith, nat_tests)
 
 cleared : (names first n : ℕ) → length (orders.all_empty_orders names first n) ≡ lesser n (names - first)
 cleared names first zero = grind (arith, nat_tests)
-cleared names first (suc n) = one (cleared names first n) (nat_lt (first + n) names) (ltb-true (first + n) names) (ltb-false (first + n) names)
-  where
-    more : (n m : ℕ) → (n < m → lesser (suc n) m ≡ suc (lesser n m)) × (m ≤ n → lesser (suc n) m ≡ lesser n m)
-    more n m = (grind (arith, nat_tests), grind (arith, nat_tests))
-
-    one : length (orders.all_empty_orders names first n) ≡ lesser n (names - first) → (b : Bool) → (b ≡ true → first + n < names) → (b ≡ false → names ≤ first + n)
-        → length ((if b then Empty (first + n) ∷ [] else []) ++ orders.all_empty_orders names first n) ≡ lesser (suc n) (names - first)
-    one others true h k = ap suc others ∙ sym ((more n (names - first)).0 (let lt = h refl in omega arith))
-    one others false h k = others ∙ sym ((more n (names - first)).1 (let le = k refl in omega arith))
+cleared names first (suc n) =
+    let others = cleared names first n in
+    by_test (λ b. length ((if b then Empty (first + n) ∷ [] else []) ++ orders.all_empty_orders names first n) ≡ lesser (suc n) (names - first)) (nat_lt (first + n) names)
+    (λ e. grind (arith, nat_tests)) (λ e. grind (arith, nat_tests))
 
 all_cleared : (b : Bool) (n : ℕ) → lesser n ((if b then suc n else n) - 0) ≡ n
 all_cleared true n = grind (arith, nat_tests)
@@ -200,8 +195,7 @@ module _ (P : Program) (f : Function) where
   }
     where
       or_none : (b : Bool) → b ≡ (b || false)
-      or_none true = refl
-      or_none false = refl
+      or_none b = search rules
 
   loops : (entry : Entry) {x y z : Block} {n m k : ℕ} → Long x n → Long y m → Long z k → Long (Loop entry x y z) (orders.enter_size entry + n + m + k + 2)
   loops entry {x} {y} {z} a b c = record {
@@ -342,16 +336,10 @@ module _ (P : Program) (f : Function) where
 
   -- the last place takes an object, where there is one
   answers : Long Answer (lesser 1 (function_places f))
-  answers = record { at = λ e. ((assigns (Local (function_places f - 1))).at e).many ∙ last (function_places f) }
-    where
-      last : (n : ℕ) → (if nat_lt (n - 1) n then 1 else 0) ≡ lesser 1 n
-      last n = grind (arith, nat_tests)
+  answers = record { at = λ e. ((assigns (Local (function_places f - 1))).at e).many ∙ grind (arith, nat_tests) }
 
   empty : (step : Command) (b c : ℕ) → does_nothing step ≡ true → command_size P f b c step ≡ 0
-  empty (Sequence first zero no_commands) b c e = none (function_places f - first)
-    where
-      none : (n : ℕ) → 0 + lesser 0 n ≡ 0
-      none n = grind (arith, nat_tests)
+  empty (Sequence first zero no_commands) b c e = grind (arith, nat_tests)
   empty _ b c e = absurd (true≢false (sym e))
 
   repeats : (moment : Moment) (without : Bool) {step test body : Block} {n m k : ℕ} → (without ≡ true → n ≡ 0) → Long step n → Long test m → Long body k
