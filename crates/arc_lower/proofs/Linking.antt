@@ -25,7 +25,7 @@ use Rattle.arc_lower.specs.Order.{Order, orders}
 use Rattle.arc_lower.specs.Size.{object_parameters}
 use Rattle.arc_code.specs.declared.effect.Height.{Height}
 use Rattle.arc_lower.specs.Heights.{height, walk, Walk, next_walk, walk_heights, between, heights, start_heights, function_heights, stub_heights, dealloc_heights, in_function, functions_marks, methods_marks, class_marks, classes_marks, lowered_marks}
-use Rattle.arc_lower.proofs.Rows.{call_length}
+use Rattle.arc_lower.proofs.Sizes.{call_length}
 use Rattle.arc_lower.proofs.Callees.{with_functions}
 use Rattle.arc_spec.specs.declared.limits.TheConstants.{MOST_LEVELS}
 use Rattle.std.specs.Option.{option_or}

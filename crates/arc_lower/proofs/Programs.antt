@@ -21,7 +21,7 @@ use Rattle.arc_lower.specs.Lowered.{all_functions, number_of, slots_of, paramete
 use Rattle.arc_lower.specs.Size.{object_parameters, owned_by}
 use Rattle.arc_lower.specs.Heights.{height, between, next_height, walk, last_walk, heights, function_heights, in_function, functions_marks, lowered_marks}
 use Rattle.arc_lower.proofs.Cases.{by_test}
-use Rattle.arc_lower.proofs.Rows.{call_length}
+use Rattle.arc_lower.proofs.Sizes.{call_length}
 use Rattle.arc_lower.proofs.Linking.{Both, both_split, marks_length, left_marks, entry_marks, marks_split, functions_split, function_found, stub, stub_marks, method_stub, Methods, Dealloc, Classes, methods_split, classes_split, start_stands, functions_stand, stubs_stand, Meets, Same, linked, lookup_meets, function_gives}
 use Rattle.arc_lower.proofs.Typing.{alike_same, slots_same, parameters_same, number_there, Types, types_then, types_last, tested, keep_types, passing_types, declare_types, take_types, own_types, BlockTypes}
 use Rattle.arc_lower.proofs.HeightsEnd.{Keeps, block_ends}

@@ -56,21 +56,6 @@ emptied_more names first count passed lt =
     let f : count - 1 - passed ≡ count - (passed + 1) = omega arith in
     rw (e, f)
 
-row_length : (row : ℕ → List Order) (a : Order) → row 0 ≡ [] → ((n : ℕ) → row (suc n) ≡ a ∷ row n) → (n : ℕ) → length (row n) ≡ n
-row_length row a none more zero = ap length none
-row_length row a none more (suc n) = ap length (more n) ∙ ap suc (row_length row a none more n)
-
-fits_from_nothing : (slots parameters number : ℕ) (wanted : Gives) → length ((fit_orders 0 slots ++ fit_object_orders 0 parameters) ++ Call number wanted ∷ []) ≡ slots + parameters + 1
-fits_from_nothing slots parameters number wanted =
-    let numbers = row_length zero_orders (Plain (Num (pos 0))) refl (λ n. refl) (slots - 0) in
-    let objects = row_length nil_orders (Plain Nil) refl (λ n. refl) (parameters - 0) in
-    let none = row_length pop_orders (Plain Pop) refl (λ n. refl) (0 - slots) in
-    omega (arith, length-append {A = Order}, numbers, objects, none, row_length forget_orders (Plain Forget) refl (λ n. refl) (0 - parameters))
-
--- how many actions a call is that passes nothing
-pub call_length : (P : Program) (wanted : Gives) (f : ℕ) → length (call_orders P wanted f 0 0) ≡ slots_of P wanted f + parameters_of P wanted f + 1
-call_length P wanted f = fits_from_nothing (slots_of P wanted f) (parameters_of P wanted f) (number_of P wanted f) wanted
-
 pub functions_length : (all : List CheckedFunction) → length (functions all) ≡ length all
 functions_length [] = refl
 functions_length (f ∷ others) = ap suc (functions_length others)

@@ -77,9 +77,8 @@ stored first zero = refl
 stored first (suc n) = omega (arith, stored first n)
 
 owned : (b : Bool) (n : ℕ) → length (if b then orders.own_orders n else []) ≡ 4 * lesser (if b then 1 else 0) n
-owned true zero = refl
 owned true (suc n) = grind (arith, nat_tests)
-owned false n = grind (arith, nat_tests)
+owned _ n = grind (arith, nat_tests)
 
 cleared : (names first n : ℕ) → length (orders.all_empty_orders names first n) ≡ lesser n (names - first)
 cleared names first zero = grind (arith, nat_tests)
@@ -89,15 +88,13 @@ cleared names first (suc n) =
     (λ e. grind (arith, nat_tests)) (λ e. grind (arith, nat_tests))
 
 all_cleared : (b : Bool) (n : ℕ) → lesser n ((if b then suc n else n) - 0) ≡ n
-all_cleared true n = grind (arith, nat_tests)
-all_cleared false n = grind (arith, nat_tests)
+all_cleared b n = grind (arith, nat_tests)
 
 abbrev drops : Bool → List Order
 drops b = if b then DropAll ∷ [] else []
 
 dropped : (b : Bool) → length (drops b) ≡ (if b then 1 else 0)
-dropped true = refl
-dropped false = refl
+dropped b = search rules
 
 -- ---- formats
 
@@ -108,10 +105,8 @@ parts (suc n) bytes = let others = parts n (drop MOST_TEXT bytes) in record { ma
 formats : (pieces : List Piece) (n : ℕ) → Sized (plain (format_size pieces n)) (orders.format_orders pieces n)
 formats [] n = exact
 formats (Bytes bytes ∷ pieces) n = appended (parts ((length bytes - 1) / MOST_TEXT) bytes) (formats pieces n)
-formats (Decimal ∷ pieces) zero = formats pieces zero
-formats (Character ∷ pieces) zero = formats pieces zero
-formats (Decimal ∷ pieces) (suc n) = let others = formats pieces n in record { many = omega (arith, others.many); takes = others.takes }
-formats (Character ∷ pieces) (suc n) = let others = formats pieces n in record { many = omega (arith, others.many); takes = others.takes }
+formats (_ ∷ pieces) zero = formats pieces zero
+formats (_ ∷ pieces) (suc n) = let others = formats pieces n in record { many = omega (arith, others.many); takes = others.takes }
 
 prints : (pieces : List Piece) (n m : ℕ) → Sized (plain (print_size pieces n m)) (orders.forget_orders m ++ orders.print_orders pieces n)
 prints pieces n m =
@@ -139,6 +134,10 @@ module _ (P : Program) (wanted : Gives) (g n m : ℕ) where
 
   stubbed : (entries : List ℕ) → length (orders.stub_orders P entries wanted n m g) ≡ entering_size P wanted g n m
   stubbed entries = omega (arith, length-append {A = Order}, passed.many)
+
+-- how many actions a call is that passes nothing
+pub call_length : (P : Program) (wanted : Gives) (g : ℕ) → length (orders.call_orders P wanted g 0 0) ≡ orders.slots_of P wanted g + orders.parameters_of P wanted g + 1
+call_length P wanted g = omega (arith, (called P wanted g 0 0).many)
 
 -- ---- blocks
 
@@ -210,8 +209,7 @@ module _ (P : Program) (f : Function) where
     where
       enters : (entry : Entry) (n m : ℕ) → length (orders.enter_orders entry n m) ≡ orders.enter_size entry
       enters AtStep n m = refl
-      enters AtTest n m = refl
-      enters AtBody n m = refl
+      enters _ n m = refl
 
   fulls : {x y : Block} {s : Size} {n : ℕ} → Is x s → Long y n → Long (Full x y) (full_size s + n)
   fulls {s} a b = record {
@@ -257,9 +255,7 @@ module _ (P : Program) (f : Function) where
 
   sends : (wanted : Gives) (message : orders.Message) (n m : ℕ) → Is (SendsMessage wanted message n m) (giving_size wanted 1)
   sends wanted (ToClass selector) n m = record { at = λ e. exact }
-  sends wanted (ToSuperClass from selector) n m = record { at = λ e. exact }
-  sends wanted (ToObject selector) n m = record { at = λ e. exact }
-  sends wanted (ToSuper from selector) n m = record { at = λ e. exact }
+  sends wanted _ n m = record { at = λ e. exact }
 
   makes : Is Making (taking 3)
   makes = record { at = λ e. exact }
@@ -322,17 +318,11 @@ module _ (P : Program) (f : Function) where
 
   -- ---- statements
 
-  one : {o : Op} → Long (One o) 1
-  one = record { at = λ e. refl }
-
-  leaves : (exit : ℕ) → Long (Leave exit) 1
-  leaves exit = record { at = λ e. refl }
-
   wholes : (a : Value) → Long (whole_block a) (full_size (value_size P f a))
   wholes a = same (omega arith) (fulls (value_is 0 a) (long idle))
 
   nothing : (exit : ℕ) → Long (nothing_given exit) 2
-  nothing exit = after one (leaves exit)
+  nothing exit = after (long op) (record { at = λ e. refl })
 
   -- the last place takes an object, where there is one
   answers : Long Answer (lesser 1 (function_places f))
@@ -355,13 +345,13 @@ module _ (P : Program) (f : Function) where
     command_is exit breaks continues b c h k (Sequence first count all) =
         let ends : Long (Clear first count) (scope_size f first count) = record { at = λ e. cleared (function_places f) first count } in
         after (commands_are exit _ _ _ _ (after ends h) (after ends k) all) ends
-    command_is exit breaks continues b c h k (Evaluate a) = after (wholes (unused a)) one
-    command_is exit breaks continues b c h k (EvaluateReference a) = fulls (reference_is 0 a) one
-    command_is exit breaks continues b c h k (Begin i a) = same (omega arith) (fulls (reference_is 0 a) (after (long (assigns (Local i))) one))
+    command_is exit breaks continues b c h k (Evaluate a) = after (wholes (unused a)) (long op)
+    command_is exit breaks continues b c h k (EvaluateReference a) = fulls (reference_is 0 a) (long op)
+    command_is exit breaks continues b c h k (Begin i a) = same (omega arith) (fulls (reference_is 0 a) (after (long (assigns (Local i))) (long op)))
     command_is exit breaks continues b c h k (Return None) = nothing exit
-    command_is exit breaks continues b c h k (Return (Some a)) = after (wholes a) (leaves exit)
+    command_is exit breaks continues b c h k (Return (Some a)) = after (wholes a) (record { at = λ e. refl })
     command_is exit breaks continues b c h k (Give a) =
-        same (omega arith) (after (fulls (reference_is 0 a) (after answers one)) (nothing exit))
+        same (omega arith) (after (fulls (reference_is 0 a) (after answers (long op))) (nothing exit))
     command_is exit breaks continues b c h k (Choose test x y) =
         same (omega arith) (after (wholes test) (forks (command_is exit breaks continues b c h k x) (command_is exit breaks continues b c h k y)))
     command_is exit breaks continues b c h k (Repeat moment test step body) =

@@ -5,7 +5,7 @@ use Rattle.arc_checked.specs.Checked.{program_of}
 use Rattle.arc_code.specs.declared.instr.Instr.TheVariants.{Return}
 use Rattle.arc_lower.specs.Order.{order, orders}
 use Rattle.arc_lower.specs.Lowered.{call_orders}
-use Rattle.arc_lower.proofs.Rows.{call_length}
+use Rattle.arc_lower.proofs.Sizes.{call_length}
 use Rattle.arc_lower.proofs.list.append_call_of_main.Goals as goal
 
 pub returns-clause-end_step : goal.returns-clause-end_step
