@@ -12,7 +12,7 @@ use Rattle.arc_spec.specs.Classes.{Class, class_at, lookup, same_gives, init_sel
 use Rattle.arc_spec.specs.Objects.{Object, object_at}
 use Rattle.arc_spec.specs.Number.{is_zero}
 use Rattle.arc_spec.specs.declared.limits.TheConstants.{MOST_LEVELS}
-use Rattle.arc_spec.specs.Stepping.{Next, Goes, Asks, Faults, Safe, Sound, Reached, Running, fed, follow, further, after_steps}
+use Rattle.arc_spec.specs.Stepping.{Next, Goes, Asks, Faults, Safe, Sound, Reached, Running, follow, further, after_steps}
 use Rattle.arc_spec.specs.Holding.{Held, Frame, Calling, Ending, Clearing, Waiter, Counted, stacked, with_temporaries, with_names, raised, lowered, resumed, with_strong_field, stores_field}
 use Rattle.arc_code.specs.declared.instr.Instr.{Instr}
 use Rattle.arc_code.specs.declared.instr.Instr.TheVariants.{Plain, PrintText, Jump, JumpZero, Call, Send, SendSuper, SendTo, SendToSuper, StoreStrong, StoreGlobal, StoreField, Empty, DropAll, Settle, Give, Return, EndStep}

@@ -3,12 +3,10 @@ use Rattle.std.proofs.Common.{◌≡◌, ℕ, zero, suc, ◌+◌, ◌-◌, ◌/�
 use Rattle.arc_code.specs.declared.code.TheConstants.{MOST_TEXT}
 use Rattle.arc_checked.specs.declared.program.CheckedFunction.{CheckedFunction}
 use Rattle.arc_checked.specs.Checked.{functions}
-use Rattle.arc_spec.specs.declared.class.Gives.{Gives}
-use Rattle.arc_spec.specs.Resolved.{Program}
 use Rattle.arc_code.specs.declared.instr.Op.TheVariants.{Num, Pop, Declare, Nil, Forget}
-use Rattle.arc_code.specs.declared.instr.Instr.TheVariants.{Plain, PrintText, Call, StoreStrong}
+use Rattle.arc_code.specs.declared.instr.Instr.TheVariants.{Plain, PrintText, StoreStrong}
 use Rattle.arc_lower.specs.Order.{Order, order, orders}
-use Rattle.arc_lower.specs.Lowered.{text_orders, pop_orders, zero_orders, empty_orders, all_empty_orders, forget_orders, nil_orders, declare_orders, take_orders, fit_orders, fit_object_orders, call_orders, number_of, slots_of, parameters_of}
+use Rattle.arc_lower.specs.Lowered.{text_orders, pop_orders, zero_orders, empty_orders, all_empty_orders, forget_orders, nil_orders, declare_orders, take_orders}
 use Rattle.std.proofs.lemmas.List.{take_all, length-map}
 use Rattle.arc_ir.specs.Acting.{Action}
 use Rattle.arc_code.specs.declared.effect.Height.{Height}
