@@ -16,7 +16,7 @@ use Rattle.arc_ir.specs.Acting.{Program, has_level, enters, step}
 use Rattle.arc_code.specs.Effects.{passes}
 use Rattle.arc_lower.specs.Lowered.{entries_of, stub_orders, dealloc_orders, methods_orders, class_orders, classes_orders, linked_methods, linked_dealloc, linked_classes, running_orders, classes_linked, all_functions, gives_at, number_of_nothing, number_of, call_orders, end_step_of, entry_of, function_orders, functions_orders, entries_from, start_orders, leave_orders, body_orders, lowered}
 use Rattle.arc_lower.proofs.Cases.{by_test}
-use Rattle.arc_lower.proofs.Doing.{Each, each_front, each_back, each_at, each_from, HasAt, has_back, at, executes_at}
+use Rattle.arc_lower.proofs.Doing.{Each, each_front, each_back, each_at, each_from, HasAt, at, executes_at}
 use Rattle.std.proofs.lemmas.Option.{get_or_from_slice_get}
 use Rattle.arc_spec.specs.Resolved.{Function}
 use Rattle.arc_ir.specs.Acting as acting
@@ -216,6 +216,12 @@ module _ (R : resolved.Program) where
 
   pub stubs_stand : Classes (length (running_orders R)) R.classes
   stubs_stand = subst (λ n. Classes n R.classes) (zero-add (length (running_orders R))) parts.1
+
+  -- the order at which the ends of objects go on
+  pub end_is : slice_get all (end_step_of R) ≡ Some EndStep
+  end_is =
+      let has = each_back _ 0 (call_orders R gives.Number R.main 0 0) (Return ∷ (EndStep ∷ [])) start_stands.1 in
+      subst (λ n. slice_get all n ≡ Some EndStep) (omega (arith, call_length R gives.Number R.main)) has.1.0
 
   -- ---- what a lookup finds
 
@@ -422,9 +428,7 @@ module _ (p : Program) (R : resolved.Program) (is : orders p.actions ≡ lowered
 
   -- the action at which the ends of objects go on
   pub has_end : p.end_step ≡ end_step_of R → HasAt p p.end_step (EndStep ∷ [])
-  has_end at_end =
-      let has = has_back p 0 (call_orders R gives.Number R.main 0 0) (Return ∷ (EndStep ∷ [])) has_start in
-      subst (λ n. HasAt p n (EndStep ∷ [])) (omega (arith, call_length R gives.Number R.main, at_end)) has.1
+  has_end at_end = subst (λ n. HasAt p n (EndStep ∷ [])) (sym at_end) (has_part (end_step_of R) (EndStep ∷ []) (end_is R, tt))
 
   pub begins : p.entries ≡ entries_of R → (wanted : Gives) (f : ℕ) → Begins p R (number_of R wanted f) (function_at R wanted f)
   begins entries wanted f =

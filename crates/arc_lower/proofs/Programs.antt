@@ -1,5 +1,5 @@
 -- Each order of a lowered program has what it needs, with the heights before it.
-use Rattle.std.proofs.Common.{◌≡◌, inl, inr, ℕ, zero, suc, ◌+◌, ◌-◌, ◌≤◌, pos, true, false, if◌then◌else◌, List, [], ◌∷◌, ◌++◌, length, Option, Some, None, refl, sym, ap, ◌∙◌, subst, arith, length-append, append_assoc, zero-add, add-zero, slice_get, slice_index_or}
+use Rattle.std.proofs.Common.{◌≡◌, inl, inr, ℕ, zero, suc, ◌+◌, ◌-◌, ◌≤◌, pos, true, false, if◌then◌else◌, List, [], ◌∷◌, ◌++◌, length, Option, Some, None, refl, sym, ap, ◌∙◌, subst, arith, append_assoc, zero-add, add-zero, slice_get, slice_index_or}
 use Rattle.std.proofs.lemmas.Bool.{lt-ltb, false≢true}
 use Rattle.std.proofs.lemmas.Option.{get_or_from_slice_get}
 use Rattle.std.proofs.lemmas.Bool.Decides.{nat_tests}
@@ -17,11 +17,11 @@ use Rattle.arc_code.specs.declared.instr.Instr.TheVariants.{Plain, Jump, Call, R
 use Rattle.arc_code.specs.Effects.{passes, as_object}
 use Rattle.arc_ir.specs.declared.action.Target.TheVariants.{At}
 use Rattle.arc_lower.specs.Order.{Order}
-use Rattle.arc_lower.specs.Lowered.{all_functions, number_of, slots_of, parameters_of, call_orders, passing_orders, opening_orders, take_orders, own_orders, leaving_order, leave_orders, body_orders, declare_orders, pop_orders, keep_orders, all_empty_orders, no_turn, Between, Block, nothing_given, commands_block, flat, function_orders, functions_orders, start_orders, end_step_of, entry_of, entries_of, methods_orders, dealloc_orders, class_orders, classes_orders, running_orders, lowered, classes_linked}
+use Rattle.arc_lower.specs.Lowered.{all_functions, number_of, slots_of, parameters_of, passing_orders, opening_orders, take_orders, own_orders, leaving_order, leave_orders, body_orders, declare_orders, pop_orders, keep_orders, all_empty_orders, no_turn, Between, Block, nothing_given, commands_block, flat, function_orders, functions_orders, start_orders, entry_of, entries_of, methods_orders, dealloc_orders, class_orders, classes_orders, running_orders, lowered, classes_linked}
 use Rattle.arc_lower.specs.Size.{object_parameters, owned_by}
 use Rattle.arc_lower.specs.Heights.{height, between, next_height, walk, last_walk, heights, function_heights, in_function, functions_marks, lowered_marks}
 use Rattle.arc_lower.proofs.Cases.{by_test}
-use Rattle.arc_lower.proofs.Sizes.{call_length}
+pub use Rattle.arc_lower.proofs.Linking.{end_is}
 use Rattle.arc_lower.proofs.Linking.{Both, both_split, marks_length, left_marks, entry_marks, marks_split, functions_split, function_found, stub, stub_marks, method_stub, Methods, Dealloc, Classes, methods_split, classes_split, start_stands, functions_stand, stubs_stand, Meets, Same, linked, lookup_meets, function_gives}
 use Rattle.arc_lower.proofs.Typing.{alike_same, slots_same, parameters_same, number_there, Types, types_then, types_last, tested, keep_types, passing_types, declare_types, take_types, own_types, BlockTypes}
 use Rattle.arc_lower.proofs.HeightsEnd.{Keeps, block_ends}
@@ -352,14 +352,6 @@ module _ (R : resolved.Program) where
 
   pub start_goes : Goes_to gives.Number 0 zeroed
   start_goes = main_goes.0.0
-
-  -- the order at which the ends of objects go on
-  pub end_is : slice_get all (end_step_of R) ≡ Some EndStep
-  end_is =
-      let size = ap length start_is in
-      let both = length-append zeros call in
-      let whole = length-append (call_orders R gives.Number R.main 0 0) (Return ∷ (EndStep ∷ [])) in
-      subst (λ n. slice_get all n ≡ Some EndStep) (omega (arith, call_length R gives.Number R.main, size, both, whole)) main_goes.1.2.2.1
 
   start_steps : Step_all 0 (start_orders R)
   start_steps =
