@@ -1,6 +1,6 @@
 -- Where a walk over the orders of a block ends: at the height that its type says, and with the parts before it that tests may lead to.
 use Rattle.std.proofs.Common.{◌≡◌, ℕ, ◌≤◌, Bool, false, List, [], ◌∷◌, refl, sym, ap, ◌∙◌, arith}
-use Rattle.std.proofs.lemmas.Bool.{ltb-false}
+use Rattle.std.proofs.lemmas.Bool.{ltb-false, or_parts}
 use Rattle.std.specs.List.{list_any}
 use Rattle.arc_spec.specs.Resolved.{Program}
 use Rattle.arc_spec.specs.declared.class.Gives.TheVariants as gives
@@ -10,7 +10,6 @@ use Rattle.arc_code.specs.Effects.{effect}
 use Rattle.arc_lower.specs.Order.{Order}
 use Rattle.arc_lower.specs.Lowered.{order_takes, Spot, Inside, Block, flat}
 use Rattle.arc_lower.specs.Heights.{between, Walk, walk, next_walk, last_walk}
-use Rattle.arc_lower.proofs.Quiet.{or_first, or_second}
 use Rattle.arc_lower.proofs.Typing.{BlockTypes}
 use Rattle.arc_lower.proofs.Stepping as stepping
 use Rattle.arc_lower.proofs.Stepping.{block_walks}
@@ -40,9 +39,8 @@ module _ (P : Program) (r s slots names exit : ℕ) where
   quiet_walk : (xs : List Order) (w : Walk) → list_any order_takes xs ≡ false → (last_walk P base w xs).height.temporaries ≤ w.height.temporaries
   quiet_walk [] w e = omega arith
   quiet_walk (x ∷ xs) w e =
-      let one = quiet_next x w (or_first (order_takes x) (list_any order_takes xs) e) in
-      let others = quiet_walk xs (next_walk P base x w) (or_second (order_takes x) (list_any order_takes xs) e) in
-      omega (arith, one, others)
+      let parts = or_parts (order_takes x) (list_any order_takes xs) e in
+      omega (arith, quiet_next x w parts.0, quiet_walk xs (next_walk P base x w) parts.1)
 
   -- leave no more of them
   pub quiet_types : (x : Block) (h g : Height) → BlockTypes P r s slots names exit false false h x g → list_any order_takes (flat P slots names Inside x) ≡ false → g.temporaries ≤ h.temporaries

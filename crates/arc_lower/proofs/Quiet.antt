@@ -1,5 +1,5 @@
 -- Blocks whose orders take no temporary.
-use Rattle.std.proofs.Common.{◌||◌, ◌≡◌, ℕ, suc, ◌+◌, Bool, true, false, not, ◌&&◌, nat_lt, if◌then◌else◌, List, [], ◌∷◌, ◌++◌, length, refl, sym, ap, ◌∙◌}
+use Rattle.std.proofs.Common.{◌≡◌, ℕ, suc, ◌+◌, Bool, true, false, not, ◌&&◌, nat_lt, if◌then◌else◌, List, [], ◌∷◌, ◌++◌, length, refl, sym, ap, ◌∙◌}
 use Rattle.std.proofs.lemmas.Bool.{and_from, or_parts}
 use Rattle.std.specs.List.{list_any}
 use Rattle.std.proofs.lemmas.List.Folds.{list_any-append}
@@ -12,7 +12,7 @@ use Rattle.arc_code.specs.declared.instr.Instr.TheVariants.{Plain, Call, Jump, J
 use Rattle.arc_code.specs.Effects.{operation_effect}
 use Rattle.arc_ir.specs.declared.action.Target.TheVariants.{Skip, Back}
 use Rattle.arc_lower.specs.Order.{Order}
-use Rattle.arc_lower.specs.Lowered.{enter_orders, Inside, Block, One, Read, Calls, SendsMessage, Making, IfNew, Then, Fork, Loop, Full, ToClass, ToSuperClass, ToObject, ToSuper, flat, number_of, passing_orders, order_takes, drop_orders}
+use Rattle.arc_lower.specs.Lowered.{enter_orders, Inside, Block, One, Read, Calls, SendsMessage, Making, IfNew, Then, Fork, Loop, Full, ToClass, flat, number_of, passing_orders, order_takes, drop_orders}
 use Rattle.arc_lower.specs.Size.{has_new}
 use Rattle.arc_lower.proofs.Cases.{by_test}
 
@@ -30,12 +30,6 @@ takes_none P (Loop entry step test body) = takes_none P step && (takes_none P te
 takes_none P (Full a b) = takes_none P b
 takes_none P _ = true
 
-pub or_first : (a b : Bool) → (a || b) ≡ false → a ≡ false
-or_first a b e = (or_parts a b e).0
-
-pub or_second : (a b : Bool) → (a || b) ≡ false → b ≡ false
-or_second a b e = (or_parts a b e).1
-
 module _ (P : Program) (slots names : ℕ) where
   abbrev none : List Order → Type 0
   none xs = list_any order_takes xs ≡ false
@@ -44,7 +38,7 @@ module _ (P : Program) (slots names : ℕ) where
   none_parts xs ys e = or_parts (list_any order_takes xs) (list_any order_takes ys) (sym (list_any-append order_takes xs ys) ∙ e)
 
   pub quiet_flat : (b : Block) → none (flat P slots names Inside b) → takes_none P b ≡ true
-  quiet_flat (One o) e = ap not (or_first (nat_lt 0 (operation_effect o).temporaries) false e)
+  quiet_flat (One o) e = ap not (or_parts (nat_lt 0 (operation_effect o).temporaries) false e).0
   quiet_flat (Read (Global i)) e = sym e
   quiet_flat (Read (Local i)) e =
       by_test (λ t. none (if t then Plain (ReadRef i) ∷ [] else Plain Nil ∷ Plain Hold ∷ []) → false ≡ true) (nat_lt i names) (λ _ e1. sym e1)
@@ -53,9 +47,7 @@ module _ (P : Program) (slots names : ℕ) where
   quiet_flat (Calls gives.Object f n m) e = sym (none_parts (passing_orders P gives.Object f n m) (Call (number_of P gives.Object f) gives.Object ∷ []) e).1
   quiet_flat (SendsMessage gives.Number message n m) e = refl
   quiet_flat (SendsMessage gives.Object (ToClass selector) n m) e = sym e
-  quiet_flat (SendsMessage gives.Object (ToSuperClass from selector) n m) e = sym e
-  quiet_flat (SendsMessage gives.Object (ToObject selector) n m) e = sym e
-  quiet_flat (SendsMessage gives.Object (ToSuper from selector) n m) e = sym e
+  quiet_flat (SendsMessage gives.Object _ n m) e = sym e
   quiet_flat Making e = sym e
   quiet_flat (IfNew class a b) e =
       by_test (λ t. none (if t then flat P slots names Inside a else flat P slots names Inside b) → (if t then takes_none P a else takes_none P b) ≡ true) (has_new P class)

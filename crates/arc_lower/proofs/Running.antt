@@ -62,10 +62,6 @@ dispatched_answers : (D : Deeper) (wanted : Gives) (found : Option ℕ) (class :
 dispatched_answers D wanted None class given w = refl
 dispatched_answers D wanted (Some f) class given w = refl
 
--- what follows an object that is given
-object_then : {B : Type 0} (o : Outcome world.Answer) (go : ℕ → World → Outcome B) → then_do o (λ a w. go a.object (takes a.object w)) ≡ then_do (object_given o) go
-object_then o go = then_twice o (λ a w. Done a.object (takes a.object w)) go
-
 -- nothing lies on others
 pub onto_none : {A : Type 0} (values rest : List A) → length values ≡ 0 → onto values rest ≡ rest
 onto_none [] rest e = refl
@@ -204,11 +200,6 @@ module _ (p : Program) (frames : List Frame) (bound : ℕ) (R : resolved.Program
         rw (deep.same_fields class) (still (taken_good free (next_object w)
         (with_objects w (w.objects ++ new_object class (field_counts (slice_get D.classes class)) ∷ [])) g))
 
-    by_descent : {A : Type 0} (b : Bool) (pc : ℕ) (way : A → Way) (w : World) (next : Next State) (go : Outcome A) → Steps next w pc (left_by way go)
-        → Steps (if b then next else Faults FieldClass) w pc (left_by way (if b then go else Faulted FieldClass w))
-    by_descent true pc way w next go h = h
-    by_descent false pc way w next go h = faults
-
     -- a field of an object
     field_runs : {A : Type 0} (class r pc : ℕ) (rs : List ℕ) (way : A → Way) (w : World) {next : Object → Next State} (go : Object → Outcome A)
         → ((k : ℕ) (o : Object) → r ≡ suc k → object_at w.objects (suc k) ≡ Some o → is_there o.phase ≡ true → Steps (next o) w pc (left_by way (go o)))
@@ -216,7 +207,8 @@ module _ (p : Program) (frames : List Frame) (bound : ℕ) (R : resolved.Program
     field_runs class zero pc rs way w go h = faults
     field_runs class (suc k) pc rs way w {next} go h =
         after_object (object_at w.objects (suc k)) (λ o found is. rw (found, deep.same_descent (Some o.class) class)
-        (by_descent (descends D.classes (Some o.class) class) pc way w (next o) (go o) (h k o refl found is)))
+        (by_test (λ b. Steps (if b then next o else Faults FieldClass) w pc (left_by way (if b then go o else Faulted FieldClass w)))
+        (descends D.classes (Some o.class) class) (λ e. h k o refl found is) (λ e. faults)))
 
     operation_runs : (o : Op) (pc : ℕ) (numbers : List ℤ) (rs : List ℕ) (w : World) → (calm ≡ true → takes_none R (One o) ≡ true) → Good calm w
         → Steps (does p (Plain o) (state pc (operands numbers rs) w)) w (pc + 1) (operation D o (operands numbers rs) w)
@@ -397,11 +389,10 @@ module _ (p : Program) (frames : List Frame) (bound : ℕ) (R : resolved.Program
       root_runs object names true e =
           let few = nat_eq references 0 && same_gives wanted gives.Object in
           let counts = and_parts (nat_eq values 0) few (and_parts (nat_eq selector init_selector) (nat_eq values 0 && few) e).1 in
-          subst (λ l. Comes_back (instructions.gives_at_once (bare p) (before names) wanted object l (onto given.objects rs)) _)
-          (sym (onto_none given.numbers stack (eqb-true values 0 counts.0)))
-          (subst (λ l. Comes_back (instructions.gives_at_once (bare p) (before names) wanted object stack l) _)
-          (sym (onto_none given.objects rs (eqb-true references 0 (and_parts (nat_eq references 0) (same_gives wanted gives.Object) counts.1).0)))
-          (at_once_runs wanted object pc (onto given.numbers stack) names stack rs w))
+          let none = (and_parts (nat_eq references 0) (same_gives wanted gives.Object) counts.1).0 in
+          let back : List ℤ → List ℕ → Type 0 = λ l m. Comes_back (instructions.gives_at_once (bare p) (before names) wanted object l m) (Done (gives_object object) w) in
+          subst (λ l. back l (onto given.objects rs)) (sym (onto_none given.numbers stack (eqb-true values 0 counts.0)))
+          (subst (back stack) (sym (onto_none given.objects rs (eqb-true references 0 none))) (at_once_runs wanted object pc (onto given.numbers stack) names stack rs w))
 
       -- a message to an object, by what it finds
       found_runs : (object : ℕ) (stands meant : Option ℕ) → is_some stands ≡ is_some meant
@@ -486,7 +477,7 @@ module _ (p : Program) (frames : List Frame) (bound : ℕ) (R : resolved.Program
           let w1 = with_new class w in
           let init = sent D gives.Object (Rattle.arc_spec.specs.Meaning.ToObject r) init_selector nothing_given w1 in
           let rest : ℕ → World → Outcome ℕ = λ a w3. then_do (second_dropped D w3.frame.temporaries w3) (λ _ w4. Done a w4) in
-          subst (Follows p bound (standing pc (name r s) w1) (Made_at (pc + 1 + 1) s)) (object_then init rest)
+          subst (Follows p bound (standing pc (name r s) w1) (Made_at (pc + 1 + 1) s)) (then_twice init (λ a w2. Done a.object (takes a.object w2)) rest)
           (next (steps (SendTo init_selector 0 0 gives.Object) has.0 (to_object gives.Object init_selector pc nothing_given (s.numbers ++ vars w1) s.names w1
           (λ o. o.class) (class_in (object_at w1.objects r)) r (class_found w1 r)))
           (λ a w2 to m. on (m.0 ∙ rw m.1.frame) (settling (pc + 1) r s w2 a w.frame.temporaries

@@ -92,13 +92,8 @@ IsBefore (Empties i) = Unit {0}
 IsBefore _ = ⊥
 
 needs_ordinary : (P : resolved.Program) (x : Order) (h : Height) → Needs P x h → Ordinary (role x)
-needs_ordinary P Return h needs = needs
-needs_ordinary P EndStep h needs = needs
-needs_ordinary P Give h needs = needs
-needs_ordinary P Settle h needs = needs
-needs_ordinary P (Plain Pop) h needs = tt
 needs_ordinary P (Plain (Set depth)) h needs = tt
-needs_ordinary P _ h needs = tt
+needs_ordinary P _ h needs = search arith
 
 module _ (R : resolved.Program) (all : List Order) (table : List (Height × Gives)) where
   abbrev pub role_at : ℕ → Role
@@ -194,13 +189,7 @@ module _ (R : resolved.Program) (all : List Order) (table : List (Height × Give
     order_steps (Plain o) pc h needs goes = (needs, (goes.0, λ k c. inr (goes.1 k c)), inl goes.2)
     order_steps (SendTo selector takes objects wanted) pc h needs goes = (needs, (goes.0, goes.1), inl goes.2)
     order_steps (Empty i) pc h needs goes = (needs, goes.0, λ k c. let le = goes.1 k c in inr (omega (arith, le)), goes.2)
-    order_steps (Jump to) pc h needs goes = absurd needs
-    order_steps (JumpZero to) pc h needs goes = absurd needs
-    order_steps Return pc h needs goes = absurd needs
-    order_steps EndStep pc h needs goes = absurd needs
-    order_steps Give pc h needs goes = absurd needs
-    order_steps Settle pc h needs goes = absurd needs
-    order_steps _ pc h needs goes = (needs, goes)
+    order_steps _ pc h needs goes = search arith
 
     module _ (base : Height) where
       -- orders with their heights
@@ -223,10 +212,8 @@ module _ (R : resolved.Program) (all : List Order) (table : List (Height × Give
           subst (λ n. Row n (last_walk R base (next_walk R base x w) xs) ys) e (row_back (pc + 1) (next_walk R base x w) xs ys f.2)
 
       variables_same : (x : Order) (w : Walk) → IsBefore (role x) → (next_walk R base x w).height.variables ≡ w.height.variables
-      variables_same (Plain Pop) w before = omega arith
       variables_same (Plain (Set depth)) w before = omega arith
-      variables_same (Empty i) w before = omega arith
-      variables_same _ w before = absurd before
+      variables_same _ w before = grind arith
 
       -- an order that keeps its place in a function, before one to which a run may go
       goes_before : (pc : ℕ) (w : Walk) (x : Order) → Ordinary (role x) → slice_get table pc ≡ Some (w.height, given) → slice_get all pc ≡ Some x

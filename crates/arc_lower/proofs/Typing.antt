@@ -103,10 +103,7 @@ Reaches o h = lacking (operation_effect o) h ≡ 0
 
 pub enough : (o : Op) (h : Height) → Reaches o h → lacking (operation_effect o) h ≡ 0
 enough (Get depth) h reaches = omega arith
-enough (Set depth) h reaches = omega (arith, reaches)
-enough (ReadRef i) h reaches = omega arith
-enough Declare h reaches = omega arith
-enough _ h reaches = reaches
+enough _ h reaches = omega (arith, reaches)
 
 module _ (P : Program) where
   -- the same of an order that goes on with the next one; no reference outlives the temporaries
@@ -127,11 +124,7 @@ module _ (P : Program) where
 
 pub next_same : (P : Program) (base : Height) (x : Order) (w : Walk) (u : Height) → Needs P x u → next_walk P base x w ≡ walk (next_height P x w.height) w.pending
 next_same P base (Jump to) w u needs = absurd needs
-next_same P base (JumpZero to) w u needs = absurd needs
-next_same P base Return w u needs = absurd needs
-next_same P base Give w u needs = absurd needs
-next_same P base Settle w u needs = absurd needs
-next_same P base _ w u needs = refl
+next_same P base _ w u needs = search arith
 
 module _ (P : Program) (r s : ℕ) where
   -- from one height, below which so many numbers and variables more lie, these orders come to the other, and each has what it needs
