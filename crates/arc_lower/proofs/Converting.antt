@@ -82,15 +82,8 @@ same_true (negsuc n) (negsuc m) e = ap negsuc (eqb-true n m e)
 same_true _ _ e = absurd (false≢true e)
 
 number_good : (n : ℤ) → IsOf (least_kind n) n
-number_good n = by (is_same (converted k.Bool n) n) refl
-  where
-    or_int : (t : Bool) → is_same (converted k.Int n) n ≡ t → IsOf (if t then k.Int else k.Long) n
-    or_int true e = same_true (converted k.Int n) n e
-    or_int false e = refl
-
-    by : (t : Bool) → is_same (converted k.Bool n) n ≡ t → IsOf (if t then k.Bool else if is_same (converted k.Int n) n then k.Int else k.Long) n
-    by true e = same_true (converted k.Bool n) n e
-    by false e = or_int (is_same (converted k.Int n) n) refl
+number_good n = by_test (λ t. IsOf (if t then k.Bool else if is_same (converted k.Int n) n then k.Int else k.Long) n) (is_same (converted k.Bool n) n) (same_true (converted k.Bool n) n)
+    (λ _. by_test (λ t. IsOf (if t then k.Int else k.Long) n) (is_same (converted k.Int n) n) (same_true (converted k.Int n) n) (λ _. refl))
 
 answered : (b : Bool) → IsOf k.Bool (answer b)
 answered true = refl
@@ -124,17 +117,9 @@ either_holds P true x y h g = g
 either_holds P false x y h g = h
 
 pub combined_good : (operator : BinaryOperator) (kind : Kind) (x y : ℤ) (w : World) → Holds (IsOf (combined_kind operator kind)) (or_fault (combined operator kind x y) w)
-combined_good o.Add kind x y w = again kind _
-combined_good o.Subtract kind x y w = again kind _
-combined_good o.Multiply kind x y w = again kind _
 combined_good o.Divide kind x y w = any_long _
 combined_good o.Remainder kind x y w = any_long _
-combined_good o.ShiftLeft kind x y w = again kind _
-combined_good o.ShiftRight kind x y w = refl
-combined_good o.BitAnd kind x y w = again kind _
-combined_good o.BitXor kind x y w = again kind _
-combined_good o.BitOr kind x y w = again kind _
-combined_good _ kind x y w = answered _
+combined_good _ kind x y w = search (again, answered)
 
 module _ (D : Deeper) where
   set_holds : (P : ℤ → Type 0) (class : ℕ) (found : Option Object) (v : ℤ) (go : Object → World) (w : World) → P v → Holds P (in_object D class found (λ o. Done v (go o)) w)

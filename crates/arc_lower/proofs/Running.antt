@@ -39,7 +39,7 @@ use Rattle.std.proofs.lemmas.Option.{get_or_from_slice_get, slice_get-get_or}
 use Rattle.arc_lower.proofs.Leading.{Leads, leads_trans, leads_step, running, Follows, After, ends, leads, on, fewer, faults, quietly, steps, steps_more, next, further_on, shows_nothing, Crosses, one_crosses, then_crosses, no_crosses}
 use Rattle.arc_lower.proofs.Cases.{by_test}
 use Rattle.arc_lower.proofs.Doing.{fresh, recount, moves, at, counting, held_of, bare, does, HasAt, has_front, has_back}
-use Rattle.arc_lower.proofs.Stacking.{onto, Peels, peels_onto, drop_onto, without_below, get_onto, get_local, set_local, get_below, set_below, print_passes, forgets_shift, passing_leads}
+use Rattle.arc_lower.proofs.Stacking.{onto, onto_front, drop_onto, without_below, get_onto, get_local, set_local, get_below, set_below, print_passes, forgets_shift, passing_leads}
 use Rattle.arc_lower.proofs.Releasing.{Kept, kept_same, Ends, Stays, after_place, after_object, after_named, global_runs, strong_field_runs, emptied, empties, empties_by, dropped_runs, settled_runs, no_variable, changes_runs}
 use Rattle.arc_lower.proofs.Shaping.{Operands, operands, push, name, Way, On, Out, Quits, Turns, Lost, left_by, on_way, and_then, only_on, after_turn, on_test, top_of, taken_of, on_given, pushes, answers_left, passes_by, operation, message_sent, block_turns, loop_entered, block, then_twice}
 use Rattle.arc_lower.proofs.Quiet.{takes_none, quiet_flat}
@@ -88,10 +88,9 @@ pub same_put : (objects : List Object) (k : ℕ) (o : Object) → slice_get obje
 same_put objects k o e = ap (slice_set objects k) (sym (get_or_from_slice_get objects k o o e)) ∙ set-get_or objects k o
 
 -- so many numbers are taken
-taken_peels : {S : Type 0} → (n : ℕ) (stack rest : List ℤ) (go : List ℤ → Next S) → Peels n stack rest → taken n stack go ≡ go rest
-taken_peels zero stack rest go h = ap go h
-taken_peels (suc n) [] rest go h = absurd h
-taken_peels (suc n) (v ∷ stack) rest go h = taken_peels n stack rest go h
+taken_front : {S : Type 0} → (front rest : List ℤ) (go : List ℤ → Next S) → taken (length front) (front ++ rest) go ≡ go rest
+taken_front [] rest go = refl
+taken_front (v ∷ front) rest go = taken_front front rest go
 
 -- the running function, with so many variables of each kind, its `self`, and the places of those that wait
 pub record IsFramed (slots names self : ℕ) (waiting : List ℕ) (locals' : List ℤ) (strong' : List ℕ) (self' : ℕ) (waiting' : List ℕ) : Type 0 where
@@ -314,7 +313,7 @@ module _ (p : Program) (frames : List Frame) (bound : ℕ) (R : resolved.Program
         → Comes (passed pc given s w) (pc + length (forget_orders m ++ print_orders pieces n))
         (Done (On (push (byte_count (formatted pieces given.numbers)) s)) (prints (formatted pieces given.numbers) w))
     format_runs pieces pc n m given s w e f g = rw (← e, ← f) (λ has.
-        leads ((then_crosses (forgets_shift p frames _ w (length given.objects) _ s.names (peels_onto given.objects s.names))
+        leads ((then_crosses (forgets_shift p frames _ w given.objects s.names)
         (print_passes p frames s.names pieces given.numbers (s.numbers ++ vars w) w)).leads pc has) (here g))
 
     calls_run : (wanted : Gives) (f pc n m : ℕ) (given : Given) (s : Operands) (w : World) → length given.numbers ≡ n → length given.objects ≡ m
@@ -378,7 +377,7 @@ module _ (p : Program) (frames : List Frame) (bound : ℕ) (R : resolved.Program
           (drop references (onto given.objects rs)))) (Done (gives_object 0) w)
       nil_runs names =
           let gives : List ℤ → Next State = λ rest. instructions.gives_at_once (bare p) (before names) wanted 0 rest rs in
-          rw (drop_onto given.objects rs, taken_peels values _ stack gives (peels_onto given.numbers stack))
+          rw (drop_onto given.objects rs, onto_front (λ n list. taken n list gives ≡ gives stack) given.numbers stack (λ front. taken_front front stack gives))
           (at_once_runs wanted 0 pc (onto given.numbers stack) names stack rs w)
 
       -- the root's own `init` gives the object
@@ -558,14 +557,6 @@ module _ (p : Program) (frames : List Frame) (bound : ℕ) (R : resolved.Program
         field_stored (is_emptying o.phase) x r index pc (r ∷ x ∷ rs) (operands numbers rs) w k o e found is g)))
     assign_field_runs class index pc numbers _ w g has = lost
 
-    load_runs : (depth : ℕ) (i : Location) (pc : ℕ) (s : Operands) (w : World) → Good calm w → HasAt p pc (get_orders slots depth i)
-        → Comes (standing pc s w) (pc + length (get_orders slots depth i)) (block D bound 0 false (Load depth i) s w)
-    load_runs depth i pc s w g has =
-        by_test (λ b. Comes (standing pc s w) (pc + length (get_orders slots depth i)) (if b then Done (On (push (held_at i w) s)) w else Done Lost w))
-        (nat_eq depth (length s.numbers))
-        (λ e. passing pc s w g has (loading i s w depth g.0.locals (eqb-true depth (length s.numbers) e)))
-        (λ e. lost)
-
     store_runs : (depth : ℕ) (i : Location) (pc : ℕ) (numbers : List ℤ) (rs : List ℕ) (w : World) → Good calm w → HasAt p pc (set_orders slots depth i)
         → Comes (standing pc (operands numbers rs) w) (pc + length (set_orders slots depth i)) (block D bound 0 false (Store depth i) (operands numbers rs) w)
     store_runs depth i pc [] rs w g has = lost
@@ -739,7 +730,11 @@ module _ (p : Program) (frames : List Frame) (bound : ℕ) (R : resolved.Program
   block_follows place e m h placed Idle free pc stands s w g has = let same : pc + 0 ≡ pc = omega arith in rw same (here g)
   block_follows {turn} {calm} place e m h placed (One o) free pc stands s w g has =
       steps (Plain o) has.0 (operation_runs turn calm o pc s.numbers s.names w free g)
-  block_follows {turn} {calm} place e m h placed (Load depth i) free pc stands s w g has = load_runs turn calm depth i pc s w g has
+  block_follows {turn} {calm} place e m h placed (Load depth i) free pc stands s w g has =
+      by_test (λ b. Goes_on turn calm (standing pc s w) (pc + length (get_orders slots depth i)) (if b then Done (On (push (held_at i w) s)) w else Done Lost w))
+      (nat_eq depth (length s.numbers))
+      (λ t. passing turn calm pc s w g has (loading turn calm i s w depth g.0.locals (eqb-true depth (length s.numbers) t)))
+      (λ t. lost)
   block_follows {turn} {calm} place e m h placed (Store depth i) free pc stands s w g has = store_runs turn calm depth i pc s.numbers s.names w g has
   block_follows {turn} {calm} place e m h placed (Read i) free pc stands s w g has = read_runs turn calm i pc s w free g has
   block_follows {turn} {calm} place e m h placed (Assign i) free pc stands s w g has = assign_runs turn calm i pc s.numbers s.names w g has
@@ -765,7 +760,6 @@ module _ (p : Program) (frames : List Frame) (bound : ℕ) (R : resolved.Program
       (λ free1 has1. block_follows place e m h placed b free1 pc stands s w g has1))
   block_follows {turn} {calm} place e false h placed Answer free pc stands s w g has =
       rw (placed refl) (assign_runs turn calm (Local (names - 1)) pc s.numbers s.names w g has)
-  block_follows place e true h placed Answer free pc stands s w g has = lost
   block_follows {turn} place e m h placed (Then a b) free pc stands s w g has =
       let xs = actions e a in
       let ys = actions (past (length xs) e) b in
@@ -791,7 +785,6 @@ module _ (p : Program) (frames : List Frame) (bound : ℕ) (R : resolved.Program
       (has_front p one xs (Jump (Skip (length ys)) ∷ ys) has.1)))
       (λ v rest. block_follows place e2 m h placed b (λ x. (and_parts _ _ (free x)).1) two
       (past_stands m 1 (one + length xs) turn (past (length xs) e1) (past_stands m (length xs) one turn e1 at1)) rest w g after_one.1)))
-  block_follows place e false h placed (Loop entry step test body) free pc stands s w g has = lost
   block_follows {turn} {calm} place e true h placed (Loop entry step test body) free pc stands s w g has =
       let e0 = past (enter_size entry) e in
       let first = pc + enter_size entry in
@@ -830,7 +823,6 @@ module _ (p : Program) (frames : List Frame) (bound : ℕ) (R : resolved.Program
       (ends (ap (λ (t : Turn). standing t.out (push (pos 0) s) w) (turn_is m pc turn e stands), g))))
   block_follows {turn} place e m h placed Advance free pc stands s w g has =
       leads (moving (At (turn_at e).begin) s w has) (ends (ap (λ (t : Turn). standing t.begin s w) (turn_is m pc turn e stands), g))
-  block_follows place e false h placed (Full a b) free pc stands s w g has = lost
   block_follows {calm = false} place e true h placed (Full a b) free pc stands s w g has = absurd (false≢true (h refl))
   block_follows {turn} {calm = true} place e true h placed (Full a b) free pc stands s w g has =
       let xs = actions Inside a in
@@ -851,3 +843,4 @@ module _ (p : Program) (frames : List Frame) (bound : ℕ) (R : resolved.Program
       (has_front p q ys zs after_first)))
       (λ s1 w1 g1. drops_by some (q + length ys) s1 w1 g1 (has_back p q ys zs after_first)))
   block_follows place e m h placed (Leave exit) free pc stands s w g has = leads (moving (At exit) s w has) (ends (refl, (g.0, λ x. absurd (false≢true x))))
+  block_follows place e m h placed _ free pc stands s w g has = lost
