@@ -1,6 +1,6 @@
 -- Steps do what blocks mean.
 use Rattle.std.proofs.Common.{◌≡◌, ℕ, zero, suc, ◌+◌, ◌-◌, ◌≤◌, ℤ, pos, Bool, true, false, not, ◌&&◌, is_some, nat_eq, nat_lt, if◌then◌else◌, inr, List, [], ◌∷◌, ◌++◌, length, drop, Option, Some, None, slice_get, slice_set, refl, sym, ap, ◌∙◌, subst, arith, length-append}
-use Rattle.std.proofs.lemmas.Bool.{ltb-true, ltb-false, eqb-true, and_parts, false≢true}
+use Rattle.std.proofs.lemmas.Bool.{ltb-true, ltb-false, eqb-true, and_parts, not-true, false≢true}
 use Rattle.std.proofs.lemmas.List.{length-set, get_or_past, set_past, set-get_or}
 use Rattle.arc_ast.specs.declared.tree.Sign.{Sign}
 use Rattle.arc_ast.specs.declared.tree.Sign.TheVariants as signs
@@ -692,11 +692,6 @@ module _ (p : Program) (frames : List Frame) (bound : ℕ) (R : resolved.Program
       rw e (subst (λ o. Goes_on turn true (standing pc s w) pc (passes_by s o)) (sym (ap (λ ts. temporaries_dropped D ts w) (g.1 refl)))
       (here (g.0, λ x. g.1 refl)))
 
-  -- where the orders of the first part take none, there is none after it
-  not_some : (some : Bool) → not some ≡ true → some ≡ false
-  not_some true e = absurd (false≢true e)
-  not_some false e = refl
-
   -- what stands between statements knows its place and the loop in whose body it stands, and what stands in an expression the loop alone
   abbrev pub Stands : (between : Bool) → Spot → ℕ → Turn → Type 0
   Stands true e pc turn = e ≡ Between pc turn
@@ -714,14 +709,6 @@ module _ (p : Program) (frames : List Frame) (bound : ℕ) (R : resolved.Program
   entered_size : (entry : Entry) (n m : ℕ) → length (enter_orders entry n m) ≡ enter_size entry
   entered_size AtStep n m = refl
   entered_size _ n m = refl
-
-  -- one of two blocks
-  either_runs : {turn : Turn} {calm : Bool} (pc : ℕ) {from : Reached State} (t : Bool) (xs ys : List Order) {x y : Outcome Way} (m n : Bool)
-      → (calm ≡ true → (if t then m else n) ≡ true) → HasAt p pc (if t then xs else ys)
-      → ((calm ≡ true → m ≡ true) → HasAt p pc xs → Goes_on turn calm from (pc + length xs) x) → ((calm ≡ true → n ≡ true) → HasAt p pc ys → Goes_on turn calm from (pc + length ys) y)
-      → Goes_on turn calm from (pc + length (if t then xs else ys)) (if t then x else y)
-  either_runs pc true xs ys m n free has h k = h free has
-  either_runs pc false xs ys m n free has h k = k free has
 
   pub block_follows : {turn : Turn} {calm : Bool} (place : ℕ) (e : Spot) (m : Bool) → (m ≡ true → calm ≡ true) → (m ≡ false → place ≡ names - 1) → (b : Block)
       → (calm ≡ true → takes_none R b ≡ true)
@@ -755,9 +742,9 @@ module _ (p : Program) (frames : List Frame) (bound : ℕ) (R : resolved.Program
       subst (λ classes. Goes_on turn calm (standing pc s w) (pc + length (actions e (IfNew class a b)))
       (if is_some (lookup classes (Some class) signs.Class new_selector 0 0 gives.Object) then block D bound place m a s w else block D bound place m b s w))
       (sym deep.same_classes)
-      (either_runs pc (has_new R class) (actions e a) (actions e b) (takes_none R a) (takes_none R b) free has
-      (λ free1 has1. block_follows place e m h placed a free1 pc stands s w g has1)
-      (λ free1 has1. block_follows place e m h placed b free1 pc stands s w g has1))
+      (by_test (λ t. (calm ≡ true → (if t then takes_none R a else takes_none R b) ≡ true) → HasAt p pc (if t then actions e a else actions e b)
+      → Goes_on turn calm (standing pc s w) (pc + length (if t then actions e a else actions e b)) (if t then block D bound place m a s w else block D bound place m b s w)) (has_new R class)
+      (λ _ free1. block_follows place e m h placed a free1 pc stands s w g) (λ _ free1. block_follows place e m h placed b free1 pc stands s w g) free has)
   block_follows {turn} {calm} place e false h placed Answer free pc stands s w g has =
       rw (placed refl) (assign_runs turn calm (Local (names - 1)) pc s.numbers s.names w g has)
   block_follows {turn} place e m h placed (Then a b) free pc stands s w g has =
@@ -835,7 +822,7 @@ module _ (p : Program) (frames : List Frame) (bound : ℕ) (R : resolved.Program
       let place1 = result_place w in
       let inside = λ (x : false ≡ true). absurd (false≢true x) in
       let placed1 = λ (x : false ≡ false). ap (λ n. n - 1) g.0.strong in
-      let quiet = λ (x : not some ≡ true). quiet_flat R slots names a (not_some some x) in
+      let quiet = λ (x : not some ≡ true). quiet_flat R slots names a (not-true some x) in
       rw size (full_way
       (then_way (block_follows {turn = no_turn} {calm = not some} place1 Inside false inside placed1 a quiet pc refl s w (g.0, λ x. g.1 refl)
       (has_front p pc xs (ys ++ zs) has))
