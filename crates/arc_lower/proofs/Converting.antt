@@ -61,9 +61,7 @@ within_keeps a k.Void v e h = refl
 within_keeps _ _ v e h = absurd (false≢true e)
 
 first_of_two : (a b : Kind) (v : ℤ) → IsOf a v → IsOf (greater_kind a b) v
-first_of_two a b v h = by_test (λ t. IsOf (if t then b else a) v) (is_within a b)
-    (λ e. within_keeps a b v e h)
-    (λ e. h)
+first_of_two a b v h = grind (arith, within_keeps a b v)
 
 second_of_two : (a b : Kind) (v : ℤ) → IsOf b v → IsOf (greater_kind a b) v
 second_of_two a b v h = by_test (λ t. IsOf (if t then b else a) v) (is_within a b)
@@ -72,9 +70,7 @@ second_of_two a b v h = by_test (λ t. IsOf (if t then b else a) v) (is_within a
 
 -- what a conversion gives
 conversion_gives : (a b : Kind) (v : ℤ) → IsOf a v → IsOf (lesser_kind a b) (converted b v)
-conversion_gives a b v h = by_test (λ t. IsOf (if t then a else b) (converted b v)) (is_within a b)
-    (λ e. subst (IsOf a) (sym (within_keeps a b v e h)) h)
-    (λ e. again b v)
+conversion_gives a b v h = grind (arith, within_keeps a b v, again b v)
 
 same_true : (x y : ℤ) → is_same x y ≡ true → x ≡ y
 same_true (pos n) (pos m) e = ap pos (eqb-true n m e)
@@ -124,9 +120,7 @@ combined_good _ kind x y w = search (again, answered)
 module _ (D : Deeper) where
   set_holds : (P : ℤ → Type 0) (class : ℕ) (found : Option Object) (v : ℤ) (go : Object → World) (w : World) → P v → Holds P (in_object D class found (λ o. Done v (go o)) w)
   set_holds P class None v go w h = tt
-  set_holds P class (Some o) v go w h = by_test (λ b. Holds P (if b then Done v (go o) else Faulted FieldClass w)) (descends D.classes (Some o.class) class)
-      (λ e. h)
-      (λ e. tt)
+  set_holds P class (Some o) v go w h = grind (arith, h)
 
   pub known_good : (a : Value) (w : World) → Holds (IsOf (known_kind a)) (evaluated D a w)
   known_good (Number n) w = number_good n

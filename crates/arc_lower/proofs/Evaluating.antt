@@ -1,5 +1,5 @@
 -- The blocks of expressions mean what these mean.
-use Rattle.std.proofs.Common.{◌≡◌, ℕ, suc, ℤ, pos, Bool, true, false, sym, is_some, if◌then◌else◌, length, Option, Some, None, refl, ap, ◌∙◌}
+use Rattle.std.proofs.Common.{arith, ◌≡◌, ℕ, suc, ℤ, pos, Bool, true, false, sym, is_some, if◌then◌else◌, length, Option, Some, None, refl, ap, ◌∙◌}
 use Rattle.arc_ast.specs.declared.tree.BinaryOperator.{BinaryOperator}
 use Rattle.arc_ast.specs.declared.tree.Kind.{Kind}
 use Rattle.arc_ast.specs.declared.tree.Moment.{Moment}
@@ -131,9 +131,7 @@ module _ (D : Deeper) (bound place : ℕ) where
   -- ---- conversions
 
   narrow_is : (known kind : Kind) (v : ℤ) (s : Operands) (w : World) → IsOf known v → run (narrow_block known kind) (push v s) w ≡ Done (above s (converted kind v)) w
-  narrow_is known kind v s w g = by_test (λ b. run (if b then Idle else One (Narrow kind)) (push v s) w ≡ Done (above s (converted kind v)) w) (is_within known kind)
-      (λ e. ap (λ x. Done (above s x) w) (sym (within_keeps known kind v e g)))
-      (λ e. refl)
+  narrow_is known kind v s w g = grind (arith, within_keeps known kind v)
 
   -- ---- updates
 
@@ -175,9 +173,7 @@ module _ (D : Deeper) (bound place : ℕ) where
   -- a field that is set gives what it is set to
   set_gives : (class : ℕ) (found : Option Object) (new : ℤ) (t : Operands) (go : Object → World) (w : World) → pushes t (in_object D class found (λ o. Done new (go o)) w) ≡ left_by (λ _. On (push new t)) (in_object D class found (λ o. Done new (go o)) w)
   set_gives class None new t go w = refl
-  set_gives class (Some o) new t go w = by_test (λ b. pushes t (if b then Done new (go o) else Faulted FieldClass w) ≡ left_by (λ _. On (push new t)) (if b then Done new (go o) else Faulted FieldClass w)) (descends D.classes (Some o.class) class)
-      (λ e. refl)
-      (λ e. refl)
+  set_gives class (Some o) new t go w = grind arith
 
   field_stores : (moment : Moment) (old : ℤ) (r class index : ℕ) (s : Operands) → Stores (One (SetField class index)) (kept_below moment old (name r s)) (kept_below moment old s) (field_set D r class index)
   field_stores Before old r class index s new w = set_gives class (object_at w.objects r) new (push old s) _ w

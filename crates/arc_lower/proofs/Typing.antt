@@ -45,9 +45,7 @@ abbrev pub IsCalled : Program → Gives → ℕ → Type 0
 IsCalled P wanted f = number_of P wanted f ≡ f
 
 pub number_there : (P : Program) (wanted : Gives) (f : ℕ) → IsCalled P wanted (number_of P wanted f)
-number_there P wanted f = by_test (λ b. IsCalled P wanted (if b then f else number_of_nothing P wanted)) (gives_at P wanted f)
-    (λ e. ap (λ c. if c then f else number_of_nothing P wanted) e)
-    (λ e. let n = number_of_nothing P wanted in ap (λ c. if c then n else n) (none_gives P wanted P.functions n (past_all P wanted)))
+number_there P wanted f = let n = number_of_nothing P wanted in grind (arith, none_gives P wanted P.functions n (past_all P wanted))
 
 -- a function that there isn't is as the one that is called for it
 pub function_same : (P : Program) (wanted : Gives) (f : ℕ) → function_at P wanted (number_of P wanted f) ≡ function_at P wanted f
