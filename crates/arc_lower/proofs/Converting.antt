@@ -52,13 +52,9 @@ small_bit false = refl
 
 -- a number of one kind is one of each that is as wide
 pub within_keeps : (a b : Kind) (v : ℤ) → is_within a b ≡ true → IsOf a v → IsOf b v
-within_keeps k.Bool k.Bool v e h = h
 within_keeps k.Bool k.Int v e h = subst (IsOf k.Int) h (small_bit (is_zero v))
-within_keeps k.Int k.Int v e h = h
 within_keeps a k.Long v e h = refl
-within_keeps a k.Object v e h = refl
-within_keeps a k.Void v e h = refl
-within_keeps _ _ v e h = absurd (false≢true e)
+within_keeps _ _ v e h = grind arith
 
 first_of_two : (a b : Kind) (v : ℤ) → IsOf a v → IsOf (greater_kind a b) v
 first_of_two a b v h = grind (arith, within_keeps a b v)
@@ -100,7 +96,7 @@ pub any_holds : {A B : Type 0} (Good : B → Type 0) (o : Outcome A) (go : A →
 any_holds Good (Done a w) go h = h a w
 any_holds Good _ go h = tt
 
-holds_then : {A B : Type 0} (P : A → Type 0) (Q : B → Type 0) (o : Outcome A) (go : A → World → Outcome B) → Holds P o → ((a : A) (w : World) → P a → Holds Q (go a w)) → Holds Q (then_do o go)
+pub holds_then : {A B : Type 0} (P : A → Type 0) (Q : B → Type 0) (o : Outcome A) (go : A → World → Outcome B) → Holds P o → ((a : A) (w : World) → P a → Holds Q (go a w)) → Holds Q (then_do o go)
 holds_then P Q (Done a w) go h next = next a w h
 holds_then P Q _ go h next = tt
 

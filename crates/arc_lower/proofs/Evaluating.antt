@@ -20,7 +20,7 @@ use Rattle.arc_spec.specs.Meaning.{Deeper, sent, new_found, new_sent, number_giv
 use Rattle.arc_code.specs.Instructions.{one_if}
 use Rattle.arc_code.specs.declared.instr.Op.TheVariants.{Narrow, SetField, Hold, Finds}
 use Rattle.arc_lower.specs.Known.{is_within, combined_kind, known_kind}
-use Rattle.arc_lower.proofs.Converting.{IsOf, within_keeps, combined_good, known_good, any_holds}
+use Rattle.arc_lower.proofs.Converting.{IsOf, within_keeps, combined_good, known_good, any_holds, holds_then}
 use Rattle.arc_lower.specs.Lowered.{Message, ToClass, ToSuperClass, ToObject, ToSuper, Block, Idle, One, Store, Format, Calls, SendsMessage, Making, Then, Fork, given_block, below_new, narrow_block, update_block, message_to, below_arguments, value_block, reference_block, receiver_block, arguments_block}
 use Rattle.arc_lower.specs.Size.{number_count, object_count}
 use Rattle.arc_lower.proofs.Shaping.{Operands, push, name, pushed, Way, On, Lost, left_by, and_then, pushes, passes_by, answers_left, message_sent, block, after, either, same_depth, on_pushed, Holds, after_known, then_twice}
@@ -44,18 +44,10 @@ module _ (D : Deeper) (bound place : ℕ) where
   abbrev Counted : Arguments → Given → Type 0
   Counted all given = (length given.numbers ≡ number_count all) × (length given.objects ≡ object_count all)
 
-  more_numbers : (a : Value) (others : Arguments) (x : ℤ) (o : Outcome Given) → Holds (Counted others) o → Holds (Counted (number_argument a others)) (then_do o (λ given w. Done (and_number x given) w))
-  more_numbers a others x (Done given w) h = (ap suc h.0, h.1)
-  more_numbers a others x _ h = tt
-
-  more_objects : (a : Reference) (others : Arguments) (r : ℕ) (o : Outcome Given) → Holds (Counted others) o → Holds (Counted (object_argument a others)) (then_do o (λ given w. Done (and_object r given) w))
-  more_objects a others r (Done given w) h = (h.0, ap suc h.1)
-  more_objects a others r _ h = tt
-
   given_counted : (all : Arguments) (w : World) → Holds (Counted all) (all_evaluated D all w)
   given_counted no_arguments w = (refl, refl)
-  given_counted (number_argument a others) w = any_holds (Counted (number_argument a others)) (evaluated D a w) _ (λ x w1. more_numbers a others x (all_evaluated D others w1) (given_counted others w1))
-  given_counted (object_argument a others) w = any_holds (Counted (object_argument a others)) (referred D a w) _ (λ r w1. more_objects a others r (all_evaluated D others w1) (given_counted others w1))
+  given_counted (number_argument a others) w = any_holds (Counted (number_argument a others)) (evaluated D a w) _ (λ x w1. holds_then (Counted others) (Counted (number_argument a others)) (all_evaluated D others w1) _ (given_counted others w1) (λ given w2 h. (ap suc h.0, h.1)))
+  given_counted (object_argument a others) w = any_holds (Counted (object_argument a others)) (referred D a w) _ (λ r w1. holds_then (Counted others) (Counted (object_argument a others)) (all_evaluated D others w1) _ (given_counted others w1) (λ given w2 h. (h.0, ap suc h.1)))
 
   held : (r : ℕ) (s : Operands) (o : Outcome Finished) → and_then (passes_by (name r s) o) (run (One Hold)) ≡ left_by (beside s) (then_do o (λ _ w. Done r (takes r w)))
   held r s o = sym (then_twice o (λ _ w. Done (On (name r s)) w) _) ∙ then_twice o (λ _ w. Done r (takes r w)) _
@@ -118,15 +110,8 @@ module _ (D : Deeper) (bound place : ℕ) where
   abbrev found_from : Option ℕ → Option ℕ
   found_from class = lookup D.classes class signs.Class new_selector 0 0 gives.Object
 
-  -- where the program finds out whether there is such a method
-  chosen_by_test : (b : Bool) (x y : Outcome Way) → meaning.chosen (is_zero (one_if b)) x y ≡ (if b then x else y)
-  chosen_by_test true x y = refl
-  chosen_by_test false x y = refl
-
   new_tested : (class : ℤ) (s : Operands) (w : World) → run (Then (One (Finds new_selector)) (Fork (SendsMessage gives.Object (ToClass new_selector) 0 0) Making)) (push class s) w ≡ left_by (beside s) (new_sent D None class w)
-  new_tested class s w =
-      chosen_by_test (is_some (found_from (class_at class))) (run (SendsMessage gives.Object (ToClass new_selector) 0 0) (push class s) w) (run Making (push class s) w)
-      ∙ new_by (found_from (class_at class)) (ToClass new_selector) class s w refl
+  new_tested class s w = let e = new_by (found_from (class_at class)) (ToClass new_selector) class s w refl in grind (arith, e)
 
   -- ---- conversions
 

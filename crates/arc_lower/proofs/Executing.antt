@@ -178,8 +178,6 @@ module _ (D : Deeper) (bound : ℕ) where
     -- a statement that does nothing
     nothing_is : (c : Command) (w : World) → does_nothing c ≡ true → executed D bound c w ≡ Done Normal w
     nothing_is (Sequence first zero no_commands) w e = refl
-    nothing_is (Sequence first zero (and_command c others)) w e = cc
-    nothing_is (Sequence first (suc n) all) w e = cc
     nothing_is _ w e = cc
 
     -- a loop, with or without a step

@@ -2,7 +2,7 @@
 use Rattle.std.proofs.Common.{inl, ◌≡◌, ℕ, zero, suc, ◌+◌, ◌≤◌, ℤ, Bool, true, false, not, ◌&&◌, nat_eq, nat_lt, if◌then◌else◌, List, [], ◌∷◌, ◌++◌, length, Option, Some, None, slice_get, slice_set, refl, sym, ap, ◌∙◌, subst, arith, length-append}
 use Rattle.std.proofs.lemmas.Bool.{ltb-true, ltb-false}
 use Rattle.std.proofs.lemmas.List.{length-set, get_or_past, set_past}
-use Rattle.std.proofs.lemmas.Option.{get_or_from_slice_get, none-some, slice_get-get_or}
+use Rattle.std.proofs.lemmas.Option.{get_or_from_slice_get, slice_get-get_or, slice_get_cases}
 use Rattle.arc_spec.specs.declared.event.Event.{Event}
 use Rattle.arc_spec.specs.declared.location.Location.TheVariants.{Local, Global}
 use Rattle.arc_spec.specs.Objects.{Object, Dying, object_at, with_object, in_phase, is_live, names}
@@ -82,9 +82,7 @@ module _ {p : Program} {bound : ℕ} {A : Type 0} {i : List ℕ} {t : List Event
   after_named (suc k) h go = after_object (object_at h.objects (suc k)) (λ ob e is. go)
 
 past_end : (names : List ℕ) (i : ℕ) → slice_get names i ≡ None → length names ≤ i
-past_end [] i e = omega arith
-past_end (q ∷ names) zero e = absurd (none-some q (sym e))
-past_end (q ∷ names) (suc i) e = omega (arith, past_end names i e)
+past_end names i e = grind (arith, slice_get_cases names i)
 
 module _ {p : Program} {bound : ℕ} (D : Deeper) {w : World} {A : Type 0} {end : A → World → Reached State → Type 0}
     (meant : Outcome Finished → Outcome A) where

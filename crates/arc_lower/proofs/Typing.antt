@@ -49,9 +49,8 @@ number_there P wanted f = let n = number_of_nothing P wanted in grind (arith, no
 
 -- a function that there isn't is as the one that is called for it
 pub function_same : (P : Program) (wanted : Gives) (f : ℕ) → function_at P wanted (number_of P wanted f) ≡ function_at P wanted f
-function_same P wanted f = by_test (λ b. function_at P wanted (if b then f else number_of_nothing P wanted) ≡ function_at P wanted f) (gives_at P wanted f) (λ e. refl) (λ e.
-    let n = number_of_nothing P wanted in
-    sym (out_of_list P wanted P.functions n (none_gives P wanted P.functions n (past_all P wanted))) ∙ out_of_list P wanted P.functions f e)
+function_same P wanted f = let n = number_of_nothing P wanted in
+    grind (arith, out_of_list P wanted P.functions n (none_gives P wanted P.functions n (past_all P wanted)), out_of_list P wanted P.functions f)
 
 pub slots_same : (P : Program) (wanted : Gives) (f : ℕ) → slots_of P wanted (number_of P wanted f) ≡ slots_of P wanted f
 slots_same P wanted f = ap (λ (g : Function). g.slots) (function_same P wanted f)
@@ -208,19 +207,12 @@ module _ (P : Program) (r s : ℕ) where
 
     pub get_types : (slots depth : ℕ) (i : Location) (a : ℕ) → depth + slots ≤ a + r → Counts a (get_orders slots depth i) (suc a)
     get_types slots depth (Global i) a h = one 0 1 a (ops.GetGlobal i) (suc a) refl (omega arith) (omega arith)
-    get_types slots depth (Local i) a h = by_test (λ t. Counts a (if t then Plain (Get (depth + (slots - suc i))) ∷ [] else Plain (Num (pos 0)) ∷ []) (suc a)) (nat_lt i slots)
-        (λ e. let lt = ltb-true i slots e in one 0 1 a (Get (depth + (slots - suc i))) (suc a) refl (omega (arith, lt, h)) (omega arith))
-        (λ e. one 0 1 a (Num (pos 0)) (suc a) refl (omega arith) (omega arith))
+    get_types slots depth (Local i) a h = grind (arith, ltb-true i slots, heights_same)
 
     pub set_types : (slots depth : ℕ) (i : Location) (a : ℕ) → depth + slots ≤ a + r → Counts (suc a) (set_orders slots depth i) (suc a)
     set_types slots depth (Global i) a h =
         op 0 1 (suc a) (Get 0) (Plain (ops.SetGlobal i) ∷ []) (suc (suc a)) (suc a) refl (omega arith) (omega arith) (one 1 0 (suc (suc a)) (ops.SetGlobal i) (suc a) refl (omega arith) (omega arith))
-    set_types slots depth (Local i) a h = by_test (λ t. Counts (suc a) (if t then Plain (Get 0) ∷ Plain (Set (suc depth + (slots - suc i))) ∷ [] else []) (suc a)) (nat_lt i slots)
-        (λ e.
-        let lt = ltb-true i slots e in
-        let set = suc depth + (slots - suc i) in
-        op 0 1 (suc a) (Get 0) (Plain (Set set) ∷ []) (suc (suc a)) (suc a) refl (omega arith) (omega arith) (one 1 0 (suc (suc a)) (Set set) (suc a) refl (omega (arith, lt, h)) (omega arith)))
-        (λ e. refl)
+    set_types slots depth (Local i) a h = grind (arith, ltb-true i slots, heights_same)
 
   -- ---- references, and calls
 
@@ -273,9 +265,7 @@ module _ (P : Program) (r s : ℕ) where
     stays = height a b c d
 
     empty_types : (i : ℕ) → Types stays (empty_orders names i) stays
-    empty_types i = by_test (λ t. Types stays (if t then Empty i ∷ [] else []) stays) (nat_lt i names)
-        (λ e. let lt = ltb-true i names e in (omega (arith, lt, room), alike_same _ _ (omega arith)))
-        (λ e. refl)
+    empty_types i = grind (arith, ltb-true i names, heights_same)
 
     pub all_empty_type : (first count : ℕ) → Types stays (all_empty_orders names first count) stays
     all_empty_type first zero = refl
@@ -283,9 +273,7 @@ module _ (P : Program) (r s : ℕ) where
 
     pub store_types : (i : Location) → 1 ≤ b → Types stays (store_orders names i) stays
     store_types (Global i) some = (some, alike_same _ _ (omega (arith, some)))
-    store_types (Local i) some = by_test (λ t. Types stays (if t then StoreStrong i ∷ [] else []) stays) (nat_lt i names)
-        (λ e. let lt = ltb-true i names e in ((some, omega (arith, lt, room)), alike_same _ _ (omega (arith, some))))
-        (λ e. refl)
+    store_types (Local i) some = grind (arith, ltb-true i names, heights_same)
 
   -- so many variables, from the first one on, take what the last references name
   pub take_types : (first n a b c d : ℕ) → n ≤ d + s - first → Types (height a (n + b) c d) (take_orders first n) (height a b c d)
@@ -303,9 +291,7 @@ module _ (P : Program) (r s : ℕ) where
 
   pub read_types : (names : ℕ) (i : Location) (a b c d : ℕ) → names ≤ d + s → Types (height a b c d) (read_orders names i) (height a (suc b) (c + 1) d)
   read_types names (Global i) a b c d room = (omega arith, alike_same _ _ (omega arith))
-  read_types names (Local i) a b c d room = by_test (λ t. Types (height a b c d) (if t then Plain (ReadRef i) ∷ [] else Plain Nil ∷ Plain Hold ∷ []) (height a (suc b) (c + 1) d)) (nat_lt i names)
-      (λ e. let lt = ltb-true i names e in (omega (arith, lt, room), alike_same _ _ (omega arith)))
-      (λ e. (omega arith, (omega arith, alike_same _ _ (omega arith))))
+  read_types names (Local i) a b c d room = grind (arith, ltb-true i names, heights_same)
 
   pub drop_types : (takes : Bool) (a c d : ℕ) → (takes ≡ false → c ≡ 0) → Types (height a 0 c d) (if takes then DropAll ∷ [] else []) (height a 0 0 d)
   drop_types true a c d none = (refl, refl)
