@@ -1,5 +1,5 @@
 -- A number is of the kind that the form of its expression shows.
-use Rattle.std.proofs.Common.{◌%◌, ◌≡◌, ℕ, suc, ℤ, pos, negsuc, Bool, true, false, nat_eq, nat_lt, if◌then◌else◌, length, Option, Some, None, ◌-◌, ◌<◌, refl, sym, ap, subst, arith}
+use Rattle.std.proofs.Common.{◌%◌, ◌≡◌, ℕ, suc, ℤ, pos, negsuc, Bool, true, false, nat_eq, nat_lt, if◌then◌else◌, length, Option, Some, None, ◌-◌, ◌<◌, refl, ap, subst, arith}
 use Rattle.std.proofs.lemmas.Bool.{false≢true, eqb-true, ltb-false, leb-false}
 use Rattle.std.proofs.lemmas.Bool.Decides.{nat_tests}
 use Rattle.std.specs.Int.{w32, w64, cast_signed, cast_unsigned}
@@ -9,12 +9,10 @@ use Rattle.arc_ast.specs.declared.tree.UnaryOperator.{UnaryOperator}
 use Rattle.arc_ast.specs.declared.tree.UnaryOperator.TheVariants as u
 use Rattle.arc_ast.specs.declared.tree.BinaryOperator.{BinaryOperator}
 use Rattle.arc_ast.specs.declared.tree.BinaryOperator.TheVariants as o
-use Rattle.arc_spec.specs.declared.event.Fault.TheVariants.{FieldClass}
-use Rattle.arc_spec.specs.Classes.{descends}
 use Rattle.arc_spec.specs.Objects.{Object, object_at}
 use Rattle.arc_spec.specs.Resolved.{Value, Number, Print, Applied, Combined, Choice, Converted, Assigned, FieldAssigned, Differ, IsObject}
 use Rattle.arc_spec.specs.Number.{converted, applied, combined, answer, is_zero, is_same, low_32}
-use Rattle.arc_spec.specs.World.{World, Outcome, Done, Faulted, then_do}
+use Rattle.arc_spec.specs.World.{World, Outcome, Done, then_do}
 use Rattle.arc_spec.specs.Meaning.{Deeper, chosen, formatted, in_object, or_fault, evaluated, referred, all_evaluated}
 use Rattle.arc_lower.specs.Known.{rank, is_within, greater_kind, lesser_kind, least_kind, applied_kind, combined_kind, known_kind}
 use Rattle.arc_lower.proofs.Shaping.{Holds}

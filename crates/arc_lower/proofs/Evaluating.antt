@@ -1,30 +1,27 @@
 -- The blocks of expressions mean what these mean.
-use Rattle.std.proofs.Common.{arith, ◌≡◌, ℕ, suc, ℤ, pos, Bool, true, false, sym, is_some, if◌then◌else◌, length, Option, Some, None, refl, ap, ◌∙◌}
+use Rattle.std.proofs.Common.{arith, ◌≡◌, ℕ, suc, ℤ, pos, false, sym, is_some, if◌then◌else◌, length, Option, Some, None, refl, ap, ◌∙◌}
 use Rattle.arc_ast.specs.declared.tree.BinaryOperator.{BinaryOperator}
 use Rattle.arc_ast.specs.declared.tree.Kind.{Kind}
 use Rattle.arc_ast.specs.declared.tree.Moment.{Moment}
 use Rattle.arc_ast.specs.declared.tree.Moment.TheVariants.{Before, After}
 use Rattle.arc_ast.specs.declared.tree.Sign.TheVariants as signs
-use Rattle.arc_spec.specs.declared.event.Fault.TheVariants.{FieldClass}
 use Rattle.arc_spec.specs.declared.class.Gives.{Gives}
 use Rattle.arc_spec.specs.declared.class.Gives.TheVariants as gives
-use Rattle.arc_spec.specs.Classes.{class_at, descends, lookup, new_selector}
+use Rattle.arc_spec.specs.Classes.{class_at, lookup, new_selector}
 use Rattle.arc_spec.specs.Objects.{Object, object_at}
 use Rattle.arc_spec.specs.declared.location.Location.{Location}
 use Rattle.arc_spec.specs.Resolved.{Value, Number, Print, Applied, Combined, Choice, Converted, Read, Assigned, Updated, Invoked, Sent, Receiver, ClassValue, ClassSuper, ObjectValue, ObjectSuper, Field, FieldAssigned, FieldUpdated, Reference, Chosen, Stored, ObjectField, ObjectFieldStored, Made, New, ObjectInvoked, ObjectSent, Arguments, no_arguments, number_argument, object_argument}
 use Rattle.arc_spec.specs.Resolved as resolved
-use Rattle.arc_spec.specs.World.{World, Outcome, Done, Faulted, Finished, then_do, Given, nothing_given, Answer, prints, local_at, takes}
+use Rattle.arc_spec.specs.World.{World, Outcome, Done, Finished, then_do, Given, nothing_given, Answer, prints, takes}
 use Rattle.arc_spec.specs.Number.{converted, combined, is_zero}
 use Rattle.arc_spec.specs.Meaning as meaning
 use Rattle.arc_spec.specs.Meaning.{Deeper, sent, new_found, new_sent, number_given, object_given, and_number, and_object, object_field_set, formatted, byte_count, or_fault, held_at, holds, updated, given_by, in_object, field_read, field_set, assigned, evaluated, referred, received, all_evaluated}
-use Rattle.arc_code.specs.Instructions.{one_if}
-use Rattle.arc_code.specs.declared.instr.Op.TheVariants.{Narrow, SetField, Hold, Finds}
-use Rattle.arc_lower.specs.Known.{is_within, combined_kind, known_kind}
+use Rattle.arc_code.specs.declared.instr.Op.TheVariants.{SetField, Hold, Finds}
+use Rattle.arc_lower.specs.Known.{combined_kind, known_kind}
 use Rattle.arc_lower.proofs.Converting.{IsOf, within_keeps, combined_good, known_good, any_holds, holds_then}
-use Rattle.arc_lower.specs.Lowered.{Message, ToClass, ToSuperClass, ToObject, ToSuper, Block, Idle, One, Store, Format, Calls, SendsMessage, Making, Then, Fork, given_block, below_new, narrow_block, update_block, message_to, below_arguments, value_block, reference_block, receiver_block, arguments_block}
+use Rattle.arc_lower.specs.Lowered.{Message, ToClass, ToSuperClass, ToObject, ToSuper, Block, One, Store, Format, Calls, SendsMessage, Making, Then, Fork, given_block, below_new, narrow_block, update_block, message_to, below_arguments, value_block, reference_block, receiver_block, arguments_block}
 use Rattle.arc_lower.specs.Size.{number_count, object_count}
 use Rattle.arc_lower.proofs.Shaping.{Operands, push, name, pushed, Way, On, Lost, left_by, and_then, pushes, passes_by, answers_left, message_sent, block, after, either, same_depth, on_pushed, Holds, after_known, then_twice}
-use Rattle.arc_lower.proofs.Cases.{by_test}
 
 module _ (D : Deeper) (bound place : ℕ) where
   abbrev run : Block → Operands → World → Outcome Way

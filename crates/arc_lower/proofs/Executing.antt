@@ -1,13 +1,10 @@
 -- An expression whose number nobody uses does what the one does that gives another number.
 use Rattle.std.proofs.Common.{◌≡◌, ℕ, ℤ, refl, sym, ap, ◌∙◌, zero, suc, Bool, true, false, List, [], Some}
-use Rattle.arc_ast.specs.declared.tree.BinaryOperator.{BinaryOperator}
-use Rattle.arc_ast.specs.declared.tree.Kind.{Kind}
 use Rattle.arc_ast.specs.declared.tree.Moment.{Moment}
 use Rattle.arc_ast.specs.declared.tree.Moment.TheVariants.{Before, After}
-use Rattle.arc_spec.specs.declared.location.Location.{Location}
 use Rattle.arc_spec.specs.Resolved.{Value, Reference, Updated, FieldUpdated, Command, Sequence, Evaluate, EvaluateReference, Begin, Give, Choose, Repeat, Commands, no_commands, and_command}
 use Rattle.arc_spec.specs.World.{World, Outcome, Done, Finished, finished, then_do, Cut}
-use Rattle.arc_spec.specs.Meaning.{Deeper, Normal, held_at, holds, updated, field_read, field_set, all_dropped, evaluated, referred, whole, Flow, Broken, Continued, Returned, given, chosen, if_normal, in_turn, after_body, turns, looped, normally, assigned, variables_dropped, scope_left, whole_reference, begun, result_place, executed, all_executed}
+use Rattle.arc_spec.specs.Meaning.{Deeper, Normal, held_at, updated, field_read, field_set, all_dropped, evaluated, referred, whole, Flow, Broken, Continued, Returned, given, chosen, if_normal, in_turn, after_body, turns, looped, normally, assigned, variables_dropped, scope_left, whole_reference, begun, result_place, executed, all_executed}
 use Rattle.arc_lower.specs.Lowered.{Block, Idle, One, Clear, Assign, Answer, Full, reference_block, Then, Quit, Advance, nothing_given, loop_block, whole_block, whole_reference_block, begin_block, answer_block, command_block, commands_block, body_block}
 use Rattle.arc_lower.specs.Size.{unused, does_nothing}
 use Rattle.arc_spec.specs.Number.{is_zero}

@@ -1,5 +1,5 @@
 -- What each form of expression and of statement needs and leaves.
-use Rattle.std.proofs.Common.{◌≡◌, ℕ, suc, ◌+◌, ◌-◌, ◌≤◌, Bool, true, false, if◌then◌else◌, List, Some, None, refl, sym, subst, arith, pos, [], ◌∷◌, Option, is_some}
+use Rattle.std.proofs.Common.{◌≡◌, ℕ, suc, ◌+◌, ◌-◌, ◌≤◌, Bool, true, false, if◌then◌else◌, List, Some, None, refl, subst, arith, pos, [], ◌∷◌, Option, is_some}
 use Rattle.std.specs.List.{list_any}
 use Rattle.arc_ast.specs.declared.tree.BinaryOperator.{BinaryOperator}
 use Rattle.arc_ast.specs.declared.tree.Kind.{Kind}
@@ -10,7 +10,6 @@ use Rattle.arc_spec.specs.Resolved.{Value, Number, ReadByte, Print, Applied, Com
 use Rattle.arc_spec.specs.Resolved as resolved
 use Rattle.arc_spec.specs.declared.class.Gives.{Gives}
 use Rattle.arc_spec.specs.declared.class.Gives.TheVariants as gives
-use Rattle.arc_spec.specs.Classes.{new_selector}
 use Rattle.arc_code.specs.declared.instr.Op.{Op}
 use Rattle.arc_code.specs.declared.instr.Op.TheVariants.{Narrow, Forget}
 use Rattle.arc_code.specs.declared.effect.Height.{Height}
@@ -18,7 +17,7 @@ use Rattle.arc_code.specs.Effects.{as_number, as_object, operation_effect}
 use Rattle.arc_lower.specs.Known.{is_within, combined_kind, known_kind}
 use Rattle.arc_lower.specs.declared.frame.Turn.{Turn}
 use Rattle.arc_lower.specs.declared.frame.Scope.{Scope}
-use Rattle.arc_lower.specs.Lowered.{forget_orders, print_orders, order_takes, Inside, Block, Idle, One, Clear, Calls, SendsMessage, Making, IfNew, Answer, ToClass, message_to, below_arguments, new_block, receiver_block, answer_block, Then, Fork, Quit, Advance, Full, Assign, flat, old_block, given_block, below_new, narrow_block, update_block, value_block, reference_block, arguments_block, whole_block, whole_reference_block, begin_block, nothing_given, loop_block, command_block, commands_block, Surroundings, within_scopes, leaving, breaking, continuing}
+use Rattle.arc_lower.specs.Lowered.{forget_orders, print_orders, order_takes, Inside, Block, Idle, One, Clear, Calls, SendsMessage, Making, IfNew, Answer, message_to, below_arguments, new_block, receiver_block, Then, Fork, Quit, Advance, Full, Assign, flat, old_block, given_block, below_new, narrow_block, update_block, value_block, reference_block, arguments_block, whole_block, whole_reference_block, nothing_given, command_block, commands_block, Surroundings, within_scopes, leaving, breaking, continuing}
 use Rattle.arc_lower.specs.Size.{number_count, object_count, has_new, unused, does_nothing}
 use Rattle.arc_lower.specs.Heights.{height, between, walk, last_walk}
 use Rattle.arc_lower.specs.Lowered.{whole_orders, whole_reference_orders}
@@ -130,7 +129,7 @@ module _ (P : Program) (r s slots names exit d : ℕ) (room : names ≤ d + s) w
     value_types (Print pieces arguments) depth a b c h =
         let n = number_count arguments in
         let m = object_count arguments in
-        next (arguments_type arguments depth a b c h) (λ t. plain (types_then P r s (height (n + a) (m + b) t d) (forget_orders m) (height (n + a) b t d) (print_orders pieces n) (height (suc a) b t d) (forgets_type P r s m (n + a) b t d) (print_types P r s b t d pieces n a)))
+        next (arguments_type arguments depth a b c h) (λ t. plain (types_then P r s _ (forget_orders m) _ (print_orders pieces n) _ (forgets_type P r s m (n + a) b t d) (print_types P r s b t d pieces n a)))
     value_types (Applied operator kind v) depth a b c h = next (value_types v depth a b c h) (λ t. search (arith, op))
     value_types (Combined operator kind v u) depth a b c h =
         next (value_types v depth a b c h) (λ t. next (value_types u (suc depth) (suc a) b t (omega (arith, h))) (λ q. search (arith, op)))

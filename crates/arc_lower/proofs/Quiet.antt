@@ -1,20 +1,15 @@
 -- Blocks whose orders take no temporary.
-use Rattle.std.proofs.Common.{arith, ◌≡◌, ℕ, suc, ◌+◌, Bool, true, false, not, ◌&&◌, nat_lt, if◌then◌else◌, List, [], ◌∷◌, ◌++◌, length, refl, sym, ap, ◌∙◌}
-use Rattle.std.proofs.lemmas.Bool.{and_from, or_parts}
+use Rattle.std.proofs.Common.{arith, ◌≡◌, ℕ, Bool, true, false, not, ◌&&◌, nat_lt, if◌then◌else◌, List, refl, sym}
 use Rattle.std.specs.List.{list_any}
 use Rattle.std.proofs.lemmas.List.Folds.{list_any-append}
 use Rattle.arc_spec.specs.declared.location.Location.TheVariants.{Local, Global}
 use Rattle.arc_spec.specs.declared.class.Gives.TheVariants as gives
 use Rattle.arc_spec.specs.Classes.{same_gives}
 use Rattle.arc_spec.specs.Resolved.{Program}
-use Rattle.arc_code.specs.declared.instr.Op.TheVariants.{Nil, ReadRef, Hold}
-use Rattle.arc_code.specs.declared.instr.Instr.TheVariants.{Plain, Call, Jump, JumpZero}
 use Rattle.arc_code.specs.Effects.{operation_effect}
-use Rattle.arc_ir.specs.declared.action.Target.TheVariants.{Skip, Back}
 use Rattle.arc_lower.specs.Order.{Order}
-use Rattle.arc_lower.specs.Lowered.{enter_orders, Inside, Block, One, Read, Calls, SendsMessage, Making, IfNew, Then, Fork, Loop, Full, ToClass, flat, number_of, passing_orders, order_takes, drop_orders}
+use Rattle.arc_lower.specs.Lowered.{Inside, Block, One, Read, Calls, SendsMessage, Making, IfNew, Then, Fork, Loop, Full, ToClass, flat, order_takes}
 use Rattle.arc_lower.specs.Size.{has_new}
-use Rattle.arc_lower.proofs.Cases.{by_test}
 
 -- whether no temporary of a block is there after it
 abbrev pub takes_none : Program → Block → Bool

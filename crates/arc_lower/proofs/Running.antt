@@ -15,7 +15,7 @@ use Rattle.arc_spec.specs.Resolved as resolved
 use Rattle.arc_spec.specs.declared.location.Location.{Location}
 use Rattle.arc_spec.specs.declared.location.Location.TheVariants.{Local, Global}
 use Rattle.arc_spec.specs.Resolved.{Piece}
-use Rattle.arc_spec.specs.Meaning.{Deeper, held_at, holds, chosen, temporaries_dropped, released, and_number, field_stores, dispatched, finds, gives_object, runs_found, class_in, sent, sent_from, object_given, next_object, made, made_new, second_dropped, result_place, in_object, formatted, byte_count, or_fault, assigned, all_dropped}
+use Rattle.arc_spec.specs.Meaning.{Deeper, held_at, holds, chosen, temporaries_dropped, released, and_number, field_stores, dispatched, finds, gives_object, runs_found, class_in, sent, sent_from, next_object, made, made_new, second_dropped, result_place, in_object, formatted, byte_count, or_fault, assigned, all_dropped}
 use Rattle.arc_spec.specs.World as world
 use Rattle.arc_spec.specs.World.{World, Outcome, Done, Faulted, Finished, then_do, Given, nothing_given, prints, next_number, with_objects, with_temporaries, local_at, name_at, named_at, with_strong_globals, takes, stores, padded}
 use Rattle.arc_spec.specs.Holding.{Frame, is_there, on_field, with_strong_field, on_place, raised}
@@ -37,10 +37,11 @@ use Rattle.arc_lower.specs.Size.{has_new}
 use Rattle.std.specs.List.{list_any}
 use Rattle.std.proofs.lemmas.Option.{get_or_from_slice_get, slice_get-get_or}
 use Rattle.arc_lower.proofs.Leading.{Leads, leads_trans, leads_step, running, Follows, After, ends, leads, on, fewer, faults, quietly, steps, steps_more, next, further_on, shows_nothing, Crosses, one_crosses, then_crosses, no_crosses}
+use Rattle.arc_lower.proofs.CountsPlaces.{raised_count, global_moves, field_moves}
 use Rattle.arc_lower.proofs.Cases.{by_test}
 use Rattle.arc_lower.proofs.Doing.{fresh, recount, moves, at, counting, held_of, bare, does, HasAt, has_front, has_back}
 use Rattle.arc_lower.proofs.Stacking.{onto, onto_front, drop_onto, without_below, get_onto, get_local, set_local, get_below, set_below, print_passes, forgets_shift, passing_leads}
-use Rattle.arc_lower.proofs.Releasing.{Kept, kept_same, Ends, Stays, after_place, after_object, after_named, global_runs, strong_field_runs, emptied, empties, empties_by, dropped_runs, settled_runs, no_variable, changes_runs}
+use Rattle.arc_lower.proofs.Releasing.{Kept, kept_same, Ends, Stays, after_place, after_object, after_named, release_runs, emptied, empties, empties_by, dropped_runs, settled_runs, no_variable, changes_runs}
 use Rattle.arc_lower.proofs.Shaping.{Operands, operands, push, name, Way, On, Out, Quits, Turns, Lost, left_by, on_way, and_then, only_on, after_turn, on_test, top_of, taken_of, on_given, pushes, answers_left, passes_by, operation, message_sent, block_turns, loop_entered, block, then_twice}
 use Rattle.arc_lower.proofs.Quiet.{takes_none, quiet_flat}
 use Rattle.std.specs.Prelude.{drop}
@@ -459,15 +460,6 @@ module _ (p : Program) (frames : List Frame) (bound : ℕ) (R : resolved.Program
       abbrev Made_at : ℕ → Operands → ℕ → World → Reached State → Type 0
       Made_at q s r w to = (to ≡ standing q (name r s) w) × Good calm w
 
-      -- the temporary of what was made is dropped after what `init` gives
-      settling : (pc r : ℕ) (s : Operands) (w : World) (a : world.Answer) (ts : List ℕ) → Good calm w → w.frame.temporaries ≡ r ∷ ts → HasAt p pc (Settle ∷ [])
-          → Follows p bound (standing pc (name a.object s) (takes a.object w)) (Made_at (pc + 1) s)
-          (then_do (second_dropped D (takes a.object w).frame.temporaries (takes a.object w)) (λ _ w2. Done a.object w2))
-      settling pc r s w a ts g these has =
-          next (settled_runs p frames bound (a.object ∷ s.names) D deep.ends a.object r ts (s.numbers ++ vars w) (takes a.object w) pc
-          (ap (λ l. a.object ∷ l) these) has)
-          (λ done w2 to m. ends (m.0 ∙ rw m.1.frame, kept_good calm (with_temporaries w (a.object ∷ ts)) w2 (g.0, λ e. absurd (false≢true (free e))) m.1))
-
       -- the made object gets `init`
       initializing : (class pc : ℕ) (s : Operands) (w : World) → Good calm w → HasAt p pc (SendTo init_selector 0 0 gives.Object ∷ Settle ∷ [])
           → Follows p bound (standing pc (name (next_object w) s) (with_new class w)) (Made_at (pc + 1 + 1) s) (made_new D (Some class) w)
@@ -479,8 +471,11 @@ module _ (p : Program) (frames : List Frame) (bound : ℕ) (R : resolved.Program
           subst (Follows p bound (standing pc (name r s) w1) (Made_at (pc + 1 + 1) s)) (then_twice init (λ a w2. Done a.object (takes a.object w2)) rest)
           (next (steps (SendTo init_selector 0 0 gives.Object) has.0 (to_object gives.Object init_selector pc nothing_given (s.numbers ++ vars w1) s.names w1
           (λ o. o.class) (class_in (object_at w1.objects r)) r (class_found w1 r)))
-          (λ a w2 to m. on (m.0 ∙ rw m.1.frame) (settling (pc + 1) r s w2 a w.frame.temporaries
-          (kept_good calm w1 w2 (g.0, λ e. absurd (false≢true (free e))) m.1) (ap (λ (f : world.Frame). f.temporaries) m.1.frame) has.1)))
+          (λ a w2 to m. on (m.0 ∙ rw m.1.frame) (
+          let g2 = kept_good calm w1 w2 (g.0, λ e. absurd (false≢true (free e))) m.1 in
+          let these = ap (λ (f : world.Frame). a.object ∷ f.temporaries) m.1.frame in
+          next (settled_runs p frames bound (a.object ∷ s.names) D deep.ends a.object r w.frame.temporaries (s.numbers ++ vars w2) (takes a.object w2) (pc + 1) these has.1)
+          (λ done w3 to3 n. ends (n.0 ∙ rw n.1.frame, kept_good calm (with_temporaries w2 (a.object ∷ w.frame.temporaries)) w3 (g2.0, λ e. absurd (false≢true (free e))) n.1)))))
 
       makes_new : (found : Option ℕ) (pc : ℕ) (v : ℤ) (s : Operands) (w : World) → Good calm w
           → HasAt p (pc + 1) (SendTo init_selector 0 0 gives.Object ∷ Settle ∷ [])
@@ -521,7 +516,10 @@ module _ (p : Program) (frames : List Frame) (bound : ℕ) (R : resolved.Program
     assign_runs (Global i) pc numbers (r ∷ rs) w g =
         λ has. stayed (operands numbers (r ∷ rs)) (stores (Global i) r w) g (steps (StoreGlobal i) has.0 (after_named r _
         (after_place D (λ o. o) w.strong_globals i r (with_strong_globals w) refl (quietly (ends (refl, record { frame = refl; waiting = refl })))
-        (λ old found. global_runs p frames bound (r ∷ rs) D deep.ends i r old (numbers ++ vars w) w pc found))))
+        (λ old found.
+        let h = held_of (r ∷ rs) w in
+        release_runs p frames bound (r ∷ rs) D deep.ends old (raised r h).counts h (numbers ++ vars w) (stores (Global i) r w) pc
+        (λ k. raised_count r h (suc k) ∙ sym (global_moves (suc k) h i old r found))))))
     assign_runs (Local i) pc numbers (r ∷ rs) w g =
         let s : Operands = operands numbers (r ∷ rs) in
         let put : Bool → List Order = λ b. if b then StoreStrong i ∷ [] else [] in
@@ -545,8 +543,9 @@ module _ (p : Program) (frames : List Frame) (bound : ℕ) (R : resolved.Program
     field_stored false x r index pc before s w k o e found is g = rw e
         (after_place D (passes_by (name r s)) o.strong index r (λ l. with_objects w (slice_set w.objects k (with_strong_fields o l)))
         (ap (with_objects w) (same_put w.objects k o found)) (still g) (λ old named.
-        let dropping = strong_field_runs p frames bound (r ∷ s.names) D deep.ends k o index r old (held_of before w)
-        (s.numbers ++ vars w) w pc found is named in
+        let h = held_of (r ∷ s.names) w in
+        let dropping = release_runs p frames bound (r ∷ s.names) D deep.ends old (raised r h).counts (held_of before w) (s.numbers ++ vars w) (field_stores (suc k) o index r w) pc
+        (λ j. raised_count r h (suc j) ∙ sym (field_moves (suc j) h k o index old r found is named)) in
         record { follows = stayed (name r s) (field_stores (suc k) o index r w) g dropping.follows }))
 
     assign_field_runs : (class index pc : ℕ) (numbers : List ℤ) (rs : List ℕ) (w : World) → Good calm w → HasAt p pc (StoreField class index ∷ [])

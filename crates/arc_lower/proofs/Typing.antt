@@ -1,6 +1,6 @@
 -- Orders that go on with the next one each: how many numbers, references, temporaries and variables there are after
 -- them, where each of them has as many as it needs.
-use Rattle.std.proofs.Common.{◌≡◌, ℕ, zero, suc, pred, ◌+◌, ◌-◌, ◌/◌, ◌<◌, ◌≤◌, Bool, true, false, if◌then◌else◌, nat_lt, List, [], ◌∷◌, ◌++◌, length, take, drop, refl, sym, ap, ◌∙◌, subst, arith, pos}
+use Rattle.std.proofs.Common.{◌≡◌, ℕ, zero, suc, pred, ◌+◌, ◌-◌, ◌/◌, ◌<◌, ◌≤◌, Bool, true, false, if◌then◌else◌, List, [], ◌∷◌, ◌++◌, length, take, drop, refl, sym, ap, ◌∙◌, subst, arith, pos}
 use Rattle.std.proofs.lemmas.Bool.{ltb-true}
 use Rattle.arc_code.specs.declared.code.TheConstants.{MOST_TEXT}
 use Rattle.arc_ast.specs.declared.tree.Kind.TheVariants as k
@@ -14,8 +14,8 @@ use Rattle.arc_spec.specs.Resolved.{Piece, Bytes, Decimal, Character, Function, 
 use Rattle.arc_spec.specs.Meaning.{function_at}
 use Rattle.arc_code.specs.declared.instr.Op.{Op}
 use Rattle.arc_code.specs.declared.instr.Op.TheVariants as ops
-use Rattle.arc_code.specs.declared.instr.Op.TheVariants.{Num, Narrow, Pop, Get, Set, PrintNum, PrintByte, Declare, Nil, ReadRef, Hold, Alloc}
-use Rattle.arc_code.specs.declared.instr.Instr.TheVariants.{Plain, PrintText, Jump, JumpZero, Call, Send, SendSuper, SendTo, SendToSuper, StoreStrong, StoreGlobal, StoreField, Empty, DropAll, Settle, Give, Return}
+use Rattle.arc_code.specs.declared.instr.Op.TheVariants.{Num, Narrow, Pop, Get, Set, PrintNum, PrintByte, Declare, ReadRef, Alloc}
+use Rattle.arc_code.specs.declared.instr.Instr.TheVariants.{Plain, PrintText, Jump, JumpZero, Call, Send, SendSuper, SendTo, SendToSuper, StoreStrong, StoreGlobal, StoreField, Empty, DropAll, Settle}
 use Rattle.arc_code.specs.declared.effect.Effect.{Effect}
 use Rattle.arc_code.specs.declared.effect.Height.{Height}
 use Rattle.arc_code.specs.Effects.{on_numbers, as_number, as_object, operation_effect, passes}
@@ -26,7 +26,6 @@ use Rattle.arc_lower.specs.Size.{object_parameters, has_new}
 use Rattle.arc_lower.specs.Heights.{height, between, after_effect, next_height, Walk, walk, next_walk, last_walk}
 use Rattle.arc_lower.proofs.Callees.{with_functions}
 use Rattle.arc_lower.proofs.Linking.{out_of_list}
-use Rattle.arc_lower.proofs.Cases.{by_test}
 
 -- ---- the function that is called
 
@@ -228,30 +227,22 @@ module _ (P : Program) (r s : ℕ) where
       → Types (height a (objects + b) c d) (fit_object_orders objects parameters) (height a (parameters + b) c d)
   fit_objects_type objects parameters a b c d =
       let rest = objects + b - (objects - parameters) in
-      types_then (height a (objects + b) c d) (forget_orders (objects - parameters)) (height a rest c d) (nil_orders (parameters - objects))
-      (height a (parameters + b) c d)
+      types_then _ (forget_orders (objects - parameters)) (height a rest c d) (nil_orders (parameters - objects)) _
       (types_at _ _ _ _ _ (forgets_type (objects - parameters) a rest c d) (omega arith) (omega arith))
       (types_at _ _ _ _ _ (nils_type (parameters - objects) a rest c d) (omega arith) (omega arith))
 
   -- so many numbers and references become what a function takes
   pub passing_types : (wanted : Gives) (f values objects a b c d : ℕ) → Types (height (values + a) (objects + b) c d) (passing_orders P wanted f values objects) (height (slots_of P wanted f + a) (parameters_of P wanted f + b) c d)
   passing_types wanted f values objects a b c d =
-      let slots = slots_of P wanted f in
-      let parameters = parameters_of P wanted f in
-      types_then (height (values + a) (objects + b) c d) (fit_orders values slots) (height (slots + a) (objects + b) c d) (fit_object_orders objects parameters) (height (slots + a) (parameters + b) c d)
-      (fit_types (objects + b) c d values slots a)
-      (fit_objects_type objects parameters (slots + a) b c d)
+      types_then _ (fit_orders values (slots_of P wanted f)) _ (fit_object_orders objects (parameters_of P wanted f)) _
+      (fit_types (objects + b) c d values (slots_of P wanted f) a) (fit_objects_type objects (parameters_of P wanted f) (slots_of P wanted f + a) b c d)
 
   -- a call leaves a number, or a reference and a temporary
   pub call_types : (wanted : Gives) (b c d f values objects a : ℕ) → Types (height (values + a) (objects + b) c d) (call_orders P wanted f values objects) (height (as_number wanted + a) (as_object wanted + b) (c + as_object wanted) d)
   call_types wanted b c d f values objects a =
       let same = slots_same P wanted f in
       let other = parameters_same P wanted f in
-      let slots = slots_of P wanted f in
-      let parameters = parameters_of P wanted f in
-      let end = height (as_number wanted + a) (as_object wanted + b) (c + as_object wanted) d in
-      types_then (height (values + a) (objects + b) c d) (passing_orders P wanted f values objects) (height (slots + a) (parameters + b) c d) (Call (number_of P wanted f) wanted ∷ []) end
-      (passing_types wanted f values objects a b c d)
+      types_then _ (passing_orders P wanted f values objects) _ (Call (number_of P wanted f) wanted ∷ []) _ (passing_types wanted f values objects a b c d)
       ((omega (arith, same), number_there P wanted f, omega (arith, other)), alike_same _ _ (omega (arith, same, other)))
 
   -- ---- variables that name objects
