@@ -110,27 +110,19 @@ module _ (D : Deeper) (bound : ℕ) where
     normal_is breaks continues o = then_twice o (λ _ w. Done Normal w) (ends breaks continues)
 
     cleared_stops : (first count : ℕ) (b : Block) → Stops b → Stops (Then (Clear first count) b)
-    cleared_stops first count b stops w k = by (variables_dropped D first count w)
-      where
-        by : (o : Outcome Finished) → and_then (and_then (passes_by s o) (run b)) k ≡ and_then (passes_by s o) (run b)
-        by (Done done w1) = stops w1 k
-        by _ = refl
-
-    -- what a block goes on with, once its variables are emptied
-    cleared_then : (breaks continues b : Block) (flow : Flow) → ((w : World) → run b s w ≡ ends breaks continues flow w)
-        → (o : Outcome Finished) → and_then (passes_by s o) (run b) ≡ then_do (then_do o (λ _ w. Done flow w)) (ends breaks continues)
-    cleared_then breaks continues b flow e (Done done w) = e w
-    cleared_then breaks continues b flow e _ = refl
+    cleared_stops first count b stops w k =
+        sym (then_twice (passes_by s (variables_dropped D first count w)) (on_way (run b)) (on_way k))
+        ∙ parts (λ (done : Finished) w1. Done (On s) w1) (on_way (run b)) _ (variables_dropped D first count w) _ (λ done w1. Done (On s) w1) refl (λ done w1. stops w1 k)
 
     -- a block that is left empties its variables
     scope_is : (first count : ℕ) (breaks continues : Block) → Stops breaks → Stops continues → (flow : Flow) (w : World) → and_then (ends (Then (Clear first count) breaks) (Then (Clear first count) continues) flow w) (run (Clear first count)) ≡ then_do (scope_left D first count flow w) (ends breaks continues)
     scope_is first count breaks continues quits turns Normal w = normal_is breaks continues (variables_dropped D first count w)
     scope_is first count breaks continues quits turns Broken w =
         cleared_stops first count breaks quits w (run (Clear first count))
-        ∙ cleared_then breaks continues breaks Broken (λ w1. refl) (variables_dropped D first count w)
+        ∙ parts (λ (done : Finished) w1. Done (On s) w1) (ends breaks continues) _ (variables_dropped D first count w) _ (λ done w1. Done Broken w1) refl (λ done w1. refl)
     scope_is first count breaks continues quits turns Continued w =
         cleared_stops first count continues turns w (run (Clear first count))
-        ∙ cleared_then breaks continues continues Continued (λ w1. refl) (variables_dropped D first count w)
+        ∙ parts (λ (done : Finished) w1. Done (On s) w1) (ends breaks continues) _ (variables_dropped D first count w) _ (λ done w1. Done Continued w1) refl (λ done w1. refl)
     scope_is first count breaks continues quits turns (Returned v) w = refl
 
     -- one statement after another

@@ -1,5 +1,5 @@
 -- Blocks whose orders take no temporary.
-use Rattle.std.proofs.Common.{arith, ◌≡◌, ℕ, Bool, true, false, not, ◌&&◌, nat_lt, if◌then◌else◌, List, refl, sym}
+use Rattle.std.proofs.Common.{length, arith, ◌≡◌, ℕ, Bool, true, false, not, ◌&&◌, nat_lt, if◌then◌else◌, List, refl, sym}
 use Rattle.std.specs.List.{list_any}
 use Rattle.std.proofs.lemmas.List.Folds.{list_any-append}
 use Rattle.arc_spec.specs.declared.location.Location.TheVariants.{Local, Global}
@@ -8,7 +8,7 @@ use Rattle.arc_spec.specs.Classes.{same_gives}
 use Rattle.arc_spec.specs.Resolved.{Program}
 use Rattle.arc_code.specs.Effects.{operation_effect}
 use Rattle.arc_lower.specs.Order.{Order}
-use Rattle.arc_lower.specs.Lowered.{Inside, Block, One, Read, Calls, SendsMessage, Making, IfNew, Then, Fork, Loop, Full, ToClass, flat, order_takes}
+use Rattle.arc_lower.specs.Lowered.{Entry, AtStep, enter_orders, enter_size, Inside, Block, One, Read, Calls, SendsMessage, Making, IfNew, Then, Fork, Loop, Full, ToClass, flat, order_takes}
 use Rattle.arc_lower.specs.Size.{has_new}
 
 -- whether no temporary of a block is there after it
@@ -24,6 +24,10 @@ takes_none P (Fork a b) = takes_none P a && takes_none P b
 takes_none P (Loop entry step test body) = takes_none P step && (takes_none P test && takes_none P body)
 takes_none P (Full a b) = takes_none P b
 takes_none P _ = true
+
+pub enter_length : (entry : Entry) (n m : ℕ) → length (enter_orders entry n m) ≡ enter_size entry
+enter_length AtStep n m = refl
+enter_length _ n m = refl
 
 module _ (P : Program) (slots names : ℕ) where
   abbrev none : List Order → Type 0

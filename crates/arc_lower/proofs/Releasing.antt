@@ -114,14 +114,11 @@ module _ {p : Program} {bound : ℕ} (D : Deeper) {w : World} {A : Type 0} {end 
       → After p bound none w.input w.trace end (meant (Done finished w))
       → ((old : ℕ) → slice_get places' i ≡ Some old → After p bound (go old) w.input w.trace end (meant (released D old (with (slice_set places' i r)))))
       → After p bound (on_place (slice_get places' i) none go) w.input w.trace end (meant (released D (name_at places' i) (with (slice_set places' i r))))
-  after_place places' i r {none} {go} with is stay release =
-      let changed = with (slice_set places' i r) in
+  after_place places' i r with is stay release =
       by_place (slice_get places' i) (λ e.
       let le = past_end places' i e in
-      subst (λ q. After p bound none w.input w.trace end (meant (released D q changed))) (sym (get_or_past places' i 0 le))
-      (subst (λ x. After p bound none w.input w.trace end (meant (Done finished x))) (sym (ap with (set_past places' i r le) ∙ is)) stay))
-      (λ old found. subst (λ q. After p bound (go old) w.input w.trace end (meant (released D q changed)))
-      (sym (get_or_from_slice_get places' i old 0 found)) (release old found))
+      rw (get_or_past places' i 0 le, ap with (set_past places' i r le) ∙ is) stay)
+      (λ old found. rw (get_or_from_slice_get places' i old 0 found) (release old found))
 
 -- variables that are emptied, from the first one on, the last one first
 abbrev pub empties : (first count : ℕ) → List ℕ → List ℕ
@@ -224,9 +221,8 @@ module _ (p : Program) (frames : List Frame) (bound : ℕ) (rs : List ℕ) (D : 
 
   empty_runs : (count i : ℕ) (stack : List ℤ) (w : World) (pc : ℕ) → length w.frame.strong ≡ count → HasAt p pc (empty_orders count i)
       → Drops stack pc (pc + length (empty_orders count i)) w (stores (Local i) 0 w) (assigned D (Local i) 0 w)
-  empty_runs count i stack w pc size =
-      let Does : List Order → Type 0 = λ xs. HasAt p pc xs → Drops stack pc (pc + length xs) w (stores (Local i) 0 w) (assigned D (Local i) 0 w) in
-      subst (λ m. Does (empty_orders m i)) size (by_test (λ b. Does (if b then Empty i ∷ [] else [])) (nat_lt i (length w.frame.strong))
+  empty_runs count i stack w pc size = rw (← size)
+      (by_test (λ b. HasAt p pc (if b then Empty i ∷ [] else []) → Drops stack pc (pc + length {A = Order} (if b then Empty i ∷ [] else [])) w (stores (Local i) 0 w) (assigned D (Local i) 0 w)) (nat_lt i (length w.frame.strong))
       (λ e has. let found = slice_get-get_or w.frame.strong i 0 (ltb-true i (length w.frame.strong) e) in steps (Empty i) has.0
       (rw found (changes_runs i 0 (name_at w.frame.strong i) stack w pc found)))
       (λ e has. no_variable i 0 stack w pc (ltb-false i (length w.frame.strong) e)))

@@ -43,7 +43,7 @@ use Rattle.arc_lower.proofs.Doing.{fresh, recount, moves, at, counting, held_of,
 use Rattle.arc_lower.proofs.Stacking.{onto, onto_front, drop_onto, without_below, get_onto, get_local, set_local, get_below, set_below, print_passes, forgets_shift, passing_leads}
 use Rattle.arc_lower.proofs.Releasing.{Kept, kept_same, Ends, Stays, after_place, after_object, after_named, release_runs, emptied, empties, empties_by, dropped_runs, settled_runs, no_variable, changes_runs}
 use Rattle.arc_lower.proofs.Shaping.{Operands, operands, push, name, Way, On, Out, Quits, Turns, Lost, left_by, on_way, and_then, only_on, after_turn, on_test, top_of, taken_of, on_given, pushes, answers_left, passes_by, operation, message_sent, block_turns, loop_entered, block, then_twice}
-use Rattle.arc_lower.proofs.Quiet.{takes_none, quiet_flat}
+use Rattle.arc_lower.proofs.Quiet.{takes_none, quiet_flat, enter_length}
 use Rattle.std.specs.Prelude.{drop}
 
 -- after a call, with its number on top, or with its object, which the last reference names and the last temporary
@@ -339,11 +339,6 @@ module _ (p : Program) (frames : List Frame) (bound : ℕ) (R : resolved.Program
     at_once_runs gives.Number object pc all before stack rs w = quietly (ends (refl, kept_same w))
     at_once_runs gives.Object object pc all before stack rs w = after_named object _ (quietly (ends (refl, kept_same w)))
 
-    -- what gets a message lies below its arguments
-    receiver_goes : (objects rest : List ℕ) (r : ℕ) (go : ℕ → List ℕ → Next State)
-        → instructions.on_receiver (length objects) (onto objects (r ∷ rest)) go ≡ go r (onto objects rest)
-    receiver_goes objects rest r go = rw (get_onto objects rest r) (ap (go r) (without_below objects rest r))
-
     -- the class of what gets a message
     class_found : (w : World) (r k : ℕ) (o : Object) → r ≡ suc k → object_at w.objects (suc k) ≡ Some o → class_in (object_at w.objects r) ≡ Some o.class
     class_found w r k o e found = rw (e, found)
@@ -368,9 +363,7 @@ module _ (p : Program) (frames : List Frame) (bound : ℕ) (R : resolved.Program
           (lookup p.classes from signs.Class selector values references wanted))
           (dispatched D wanted (finds D wanted from signs.Class selector given) class given w)
       to_class from class =
-          let next = answers (at frames pc (onto given.numbers (class ∷ stack)) (held_of (onto given.objects rs) w)) 0
-          (lookup p.classes from signs.Class selector values references wanted) in
-          subst (λ o. Comes_back next o) (dispatched_answers D wanted (lookup D.classes from signs.Class selector values references wanted) class given w)
+          rw (← dispatched_answers D wanted (lookup D.classes from signs.Class selector values references wanted) class given w)
           (deep.says signs.Class from selector values references wanted 0 (and_number class given) stack rs w pc refl refl)
 
       nil_runs : (names : List ℕ)
@@ -390,9 +383,7 @@ module _ (p : Program) (frames : List Frame) (bound : ℕ) (R : resolved.Program
           let few = nat_eq references 0 && same_gives wanted gives.Object in
           let counts = and_parts (nat_eq values 0) few (and_parts (nat_eq selector init_selector) (nat_eq values 0 && few) e).1 in
           let none = (and_parts (nat_eq references 0) (same_gives wanted gives.Object) counts.1).0 in
-          let back : List ℤ → List ℕ → Type 0 = λ l m. Comes_back (instructions.gives_at_once (bare p) (before names) wanted object l m) (Done (gives_object object) w) in
-          subst (λ l. back l (onto given.objects rs)) (sym (onto_none given.numbers stack (eqb-true values 0 counts.0)))
-          (subst (back stack) (sym (onto_none given.objects rs (eqb-true references 0 none))) (at_once_runs wanted object pc (onto given.numbers stack) names stack rs w))
+          rw (onto_none given.numbers stack (eqb-true values 0 counts.0), onto_none given.objects rs (eqb-true references 0 none)) (at_once_runs wanted object pc stack names stack rs w)
 
       -- a message to an object, by what it finds
       found_runs : (object : ℕ) (stands meant : Option ℕ) → is_some stands ≡ is_some meant
@@ -421,9 +412,7 @@ module _ (p : Program) (frames : List Frame) (bound : ℕ) (R : resolved.Program
           (λ q rest. sends p (before (onto given.objects (r ∷ rs))) wanted class_of q selector values references rest))
           (sent_from D wanted from r selector given w)
       to_object class_of from r same =
-          subst (λ n. Comes_back n (sent_from D wanted from r selector given w))
-          (sym (receiver_goes given.objects rs r (λ q rest. sends p (before (onto given.objects (r ∷ rs))) wanted class_of q selector values references rest)))
-          (sends_run class_of from r (onto given.objects (r ∷ rs)) same)
+          rw (get_onto given.objects rs r, without_below given.objects rs r) (sends_run class_of from r (onto given.objects (r ∷ rs)) same)
 
     returned_there : {next : Next State} {i : List ℕ} {t : List Event} (wanted : Gives) (pc : ℕ) (s : Operands) (w : World) {o : Outcome world.Answer}
         → (calm ≡ true → same_gives wanted gives.Number ≡ true) → Good calm w
@@ -705,10 +694,6 @@ module _ (p : Program) (frames : List Frame) (bound : ℕ) (R : resolved.Program
   turn_is true pc turn e h = ap turn_at h
   turn_is false pc turn e h = h
 
-  entered_size : (entry : Entry) (n m : ℕ) → length (enter_orders entry n m) ≡ enter_size entry
-  entered_size AtStep n m = refl
-  entered_size _ n m = refl
-
   pub block_follows : {turn : Turn} {calm : Bool} (place : ℕ) (e : Spot) (m : Bool) → (m ≡ true → calm ≡ true) → (m ≡ false → place ≡ names - 1) → (b : Block)
       → (calm ≡ true → takes_none R b ≡ true)
       → (pc : ℕ) → Stands m e pc turn → (s : Operands) (w : World) → Good calm w → HasAt p pc (actions e b)
@@ -792,8 +777,8 @@ module _ (p : Program) (frames : List Frame) (bound : ℕ) (R : resolved.Program
       let rest = JumpZero out ∷ (xs ++ last) in
       let there : lands q out ≡ q1 + 1 = omega arith in
       let home : lands q1 back ≡ first = omega arith in
-      let size : pc + length (enters ++ (zs ++ (ts ++ rest))) ≡ q1 + 1 = omega (arith, length-append {A = Order}, entered_size entry (length zs) (length ts)) in
-      let has_turn = subst (λ n. HasAt p (pc + n) (zs ++ (ts ++ rest))) (entered_size entry (length zs) (length ts)) (has_back p pc enters (zs ++ (ts ++ rest)) has) in
+      let size : pc + length (enters ++ (zs ++ (ts ++ rest))) ≡ q1 + 1 = omega (arith, length-append {A = Order}, enter_length entry (length zs) (length ts)) in
+      let has_turn = subst (λ n. HasAt p (pc + n) (zs ++ (ts ++ rest))) (enter_length entry (length zs) (length ts)) (has_back p pc enters (zs ++ (ts ++ rest)) has) in
       let has_test = has_back p first zs (ts ++ rest) has_turn in
       let has_out = has_back p second ts rest has_test in
       rw size (entering turn inner calm first second q (q1 + 1) q1 out back (block D bound place true step) (block D bound place true test)

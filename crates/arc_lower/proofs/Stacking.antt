@@ -1,6 +1,6 @@
 -- Values that lie on a stack, the first one deepest, and references, the same.
 use Rattle.std.proofs.Common.{◌^◌, ◌%◌, ◌≡◌, ℕ, zero, suc, ◌+◌, ℤ, pos, List, [], ◌∷◌, ◌++◌, length, take, drop, map, Some, refl, sym, ap, ◌∙◌, arith, append_assoc, length-append, slice_get, slice_set, ◌-◌, ◌/◌, subst}
-use Rattle.std.proofs.lemmas.List.{append-nil, map-append, take-append-drop}
+use Rattle.std.proofs.lemmas.List.{set-append_right, append-nil, map-append, take-append-drop}
 use Rattle.std.proofs.Math.Seq.{take-append_seam, drop-append_seam}
 use Rattle.std.proofs.Math.Nat.{mod-add-mod, mod-mod}
 use Rattle.std.specs.Int.{w32, cast_signed}
@@ -60,10 +60,9 @@ get_below (v ∷ operands) stack n =
 
 pub set_below : {A : Type 0} (operands stack : List A) (n : ℕ) (u : A)
     → slice_set (operands ++ stack) (length operands + n) u ≡ operands ++ slice_set stack n u
-set_below [] stack n u = let e : 0 + n ≡ n = omega arith in ap (λ m. slice_set stack m u) e
-set_below (v ∷ operands) stack n u =
-    let e : length (v ∷ operands) + n ≡ suc (length operands + n) = omega arith in
-    ap (λ m. slice_set (v ∷ operands ++ stack) m u) e ∙ ap (λ l. v ∷ l) (set_below operands stack n u)
+set_below operands stack n u =
+    let e : length operands + n - length operands ≡ n = omega arith in
+    set-append_right operands stack (length operands) (length operands + n) u refl (omega arith) ∙ ap (λ m. operands ++ slice_set stack m u) e
 
 -- the count of n bytes, as it is kept while a format is printed
 abbrev pub kept : ℕ → ℤ

@@ -20,6 +20,7 @@ use Rattle.arc_lower.specs.Heights.{between, next_height, Walk, walk, other_part
 use Rattle.arc_lower.proofs.Doing.{Each, each_then, each_from}
 use Rattle.arc_lower.proofs.Typing.{heights_same, alike_same, tested, over_none, Reaches, Needs, Types, types_last, next_same, with_temporaries, Leaves as IsBetween, ByTest, BlockTypes}
 use Rattle.arc_lower.proofs.Cases.{by_test}
+use Rattle.arc_lower.proofs.Quiet.{enter_length}
 
 pub some_same : {A : Type 0} (a b : A) → Some a ≡ Some b → a ≡ b
 some_same a b e = cc
@@ -293,10 +294,6 @@ module _ (R : resolved.Program) (all : List Order) (table : List (Height × Give
 
       abbrev orders : Spot → Block → List Order
       orders e x = flat R slots names e x
-
-      enter_length : (entry : Entry) (n m : ℕ) → length (enter_orders entry n m) ≡ enter_size entry
-      enter_length AtStep n m = refl
-      enter_length _ n m = refl
 
       -- what stands after a choice stands between two statements
       chosen_same : (to : Target) → next_height R (JumpZero to) test ≡ base
