@@ -1,6 +1,7 @@
 -- Blocks whose orders take no temporary.
-use Rattle.std.proofs.Common.{length, arith, ◌≡◌, ℕ, Bool, true, false, not, ◌&&◌, nat_lt, if◌then◌else◌, List, refl, sym}
+use Rattle.std.proofs.Common.{◌||◌, length, arith, ◌≡◌, ℕ, Bool, true, false, not, ◌&&◌, nat_lt, if◌then◌else◌, List, refl, sym}
 use Rattle.std.specs.List.{list_any}
+use Rattle.std.proofs.lemmas.Bool.{and_from, or_parts}
 use Rattle.std.proofs.lemmas.List.Folds.{list_any-append}
 use Rattle.arc_spec.specs.declared.location.Location.TheVariants.{Local, Global}
 use Rattle.arc_spec.specs.declared.class.Gives.TheVariants as gives
@@ -29,6 +30,10 @@ pub enter_length : (entry : Entry) (n m : ℕ) → length (enter_orders entry n 
 enter_length AtStep n m = refl
 enter_length _ n m = refl
 
+both : (a b x y : Bool) → (a || b) ≡ false → (a ≡ false → x ≡ true) → (b ≡ false → y ≡ true) → (x && y) ≡ true
+both false false x y e first next = and_from x y (first refl) (next refl)
+both _ _ x y e first next = cc
+
 module _ (P : Program) (slots names : ℕ) where
   abbrev none : List Order → Type 0
   none xs = list_any order_takes xs ≡ false
@@ -44,8 +49,9 @@ module _ (P : Program) (slots names : ℕ) where
   quiet_flat (SendsMessage gives.Object _ n m) e = sym e
   quiet_flat Making e = sym e
   quiet_flat (IfNew class a b) e = grind (arith, quiet_flat a, quiet_flat b)
-  quiet_flat (Then a b) e = let e1 = simp list_any-append at e in grind (arith, quiet_flat a, quiet_flat b)
-  quiet_flat (Fork a b) e = let e1 = simp list_any-append at e in grind (arith, quiet_flat a, quiet_flat b)
-  quiet_flat (Loop entry a b c) e = let e1 = simp list_any-append at e in grind (arith, quiet_flat a, quiet_flat b, quiet_flat c)
-  quiet_flat (Full a b) e = let e1 = simp list_any-append at e in grind (arith, quiet_flat b)
+  quiet_flat (Then a b) e = both _ _ _ _ (simp list_any-append at e) (quiet_flat a) (quiet_flat b)
+  quiet_flat (Fork a b) e = both _ _ _ _ (simp list_any-append at e) (quiet_flat a) (quiet_flat b)
+  quiet_flat (Loop entry a b c) e =
+      both _ _ _ _ (or_parts _ _ (simp list_any-append at e)).1 (quiet_flat a) (λ e1. both _ _ _ _ e1 (quiet_flat b) (λ e2. quiet_flat c (or_parts _ _ e2).0))
+  quiet_flat (Full a b) e = quiet_flat b (or_parts _ _ (or_parts _ _ (simp list_any-append at e)).1).0
   quiet_flat _ e = refl
