@@ -76,16 +76,12 @@ module _ (p : Program) (R : resolved.Program) where
   within : (given : Gives) (pc to : ℕ) (h g : Height) (e : Effect) → slice_get (table R) pc ≡ Some (h, given) → slice_get (table R) to ≡ Some (g, given) → FitsBetween h g e → FitsBetween (height_at R pc) (height_at R to) e
   within given pc to h g e now next f = rw (there pc h given now, there to g given next) f
 
-  -- a number or a reference is after what gives one
-  given_there : (given wanted : Gives) (pc : ℕ) (g : Height) → slice_get (table R) pc ≡ Some (g, given) → as_number wanted ≤ g.numbers → as_object wanted ≤ g.names → (as_number wanted ≤ (height_at R pc).numbers) × (as_object wanted ≤ (height_at R pc).names)
-  given_there given wanted pc g next number object = rw (there pc g given next) (number, object)
-
   module _ (calls : (wanted : Gives) (f : ℕ) → IsCalled R wanted f → Goes R (all R) (table R) wanted (entry p f) (height (slots_of R wanted f) (parameters_of R wanted f) 0 0)) (given : Gives) where
     message_fits : (wanted : Gives) (taken names pc : ℕ) (h : Height) → slice_get (table R) pc ≡ Some (h, given)
         → slice_get (table R) (pc + 1) ≡ Some (height (h.numbers - taken + as_number wanted) (h.names - names + as_object wanted) (h.temporaries + as_object wanted) (h.variables + 0), given)
         → FitsBetween (height_at R pc) (height_at R (pc + 1)) (giving wanted taken names) × ((as_number wanted ≤ (height_at R (pc + 1)).numbers) × (as_object wanted ≤ (height_at R (pc + 1)).names))
     message_fits wanted taken names pc h now next =
-        (within given pc (pc + 1) h _ (giving wanted taken names) now next (search arith), given_there given wanted (pc + 1) _ next (omega arith) (omega arith))
+        (within given pc (pc + 1) h _ (giving wanted taken names) now next (search arith), rw (there (pc + 1) _ given next) (omega arith, omega arith))
 
     order_fits : (pc : ℕ) (h : Height) (x : Order) → slice_get (table R) pc ≡ Some (h, given) → Steps R (all R) (table R) given h pc x → FitsAt (bare p) (height_at R) pc x
     order_fits pc h (Jump to) now s = within given pc (lands pc to) h _ _ now s.2.0.height (search arith)

@@ -10,7 +10,7 @@ use Rattle.arc_spec.specs.World as world
 use Rattle.arc_spec.specs.World.{World, Outcome, Done, finished, Finished, then_do, places, stacked, with_temporaries, with_strong, stores, name_at}
 use Rattle.arc_spec.specs.Meaning.{Deeper, released, temporaries_dropped, second_dropped, all_dropped, assigned, variables_dropped}
 use Rattle.arc_spec.specs.Holding.{Held, Frame, holders, is_there, on_object, on_named, with_things, with_variables, on_place, raised, lowered, lets_go}
-use Rattle.arc_spec.specs.Stepping.{Next, Goes, Stuck, Reached, only_if}
+use Rattle.arc_spec.specs.Stepping.{Next, Stuck, Reached, only_if}
 use Rattle.arc_code.specs.Instructions as instructions
 use Rattle.arc_ir.specs.Acting.{Program, State, has_level, begins_end, releases}
 use Rattle.arc_code.specs.declared.instr.Instr.TheVariants.{DropAll, Settle, Empty}
@@ -148,14 +148,11 @@ module _ (p : Program) (frames : List Frame) (bound : ℕ) (rs : List ℕ) (D : 
         (λ done w1 to m. (m.0 ∙ rw (← m.1.frame, ← m.1.waiting), m.1));
   }
 
-  kept_at : (stack : List ℤ) (w : World) (pc : ℕ) (c : ℕ → ℕ) → Dropping stack pc (Goes (at frames pc stack (counting rs w c)) []) w w (Done finished w)
-  kept_at stack w pc c = quietly (ends (refl, kept_same w))
-
   -- a place names this no more
   pub release_runs : (r : ℕ) (c : ℕ → ℕ) (h0 : Held) (stack : List ℤ) (w : World) (pc : ℕ) → ((k : ℕ) → c (suc k) ≡ holders (suc k) (r ∷ places w))
       → Dropping stack (pc + 1) (releases p (at frames pc stack h0) r (counting rs w c)) w w (released D r w)
   release_runs r c h0 stack w pc count =
-      after_let_go D (λ o. o) rs w.frame w.waiting r c _ _ count (λ less _. kept_at stack w (pc + 1) less)
+      after_let_go D (λ o. o) rs w.frame w.waiting r c _ _ count (λ less _. quietly (ends (refl, kept_same w)))
       (λ k ob less found. own_ends k ob less h0 stack w pc (pc + 1) found)
 
   -- ---- temporaries

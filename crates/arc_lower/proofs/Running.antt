@@ -339,10 +339,6 @@ module _ (p : Program) (frames : List Frame) (bound : ℕ) (R : resolved.Program
     at_once_runs gives.Number object pc all before stack rs w = quietly (ends (refl, kept_same w))
     at_once_runs gives.Object object pc all before stack rs w = after_named object _ (quietly (ends (refl, kept_same w)))
 
-    -- the class of what gets a message
-    class_found : (w : World) (r k : ℕ) (o : Object) → r ≡ suc k → object_at w.objects (suc k) ≡ Some o → class_in (object_at w.objects r) ≡ Some o.class
-    class_found w r k o e found = rw (e, found)
-
     -- what gets a message, and its arguments, are taken, and it comes back after it
     module _ (wanted : Gives) (selector pc : ℕ) (given : Given) (stack : List ℤ) (rs : List ℕ) (w : World) where
       abbrev Comes_back : Next State → Outcome world.Answer → Type 0
@@ -432,7 +428,7 @@ module _ (p : Program) (frames : List Frame) (bound : ℕ) (R : resolved.Program
         returned_there wanted pc (operands numbers rs) w free g (to_class wanted selector pc given (numbers ++ vars w) rs w (Some from) class)
     finds_run wanted (ToObject selector) pc given numbers (r ∷ rs) w free g =
         returned_there wanted pc (operands numbers rs) w free g (to_object wanted selector pc given (numbers ++ vars w) rs w (λ o. o.class)
-        (class_in (object_at w.objects r)) r (class_found w r))
+        (class_in (object_at w.objects r)) r (λ k o e found. rw (e, found)))
     finds_run wanted (ToSuper from selector) pc given numbers (r ∷ rs) w free g =
         returned_there wanted pc (operands numbers rs) w free g (to_object wanted selector pc given (numbers ++ vars w) rs w (λ o. from) (Some from) r
         (λ k o e found. refl))
@@ -459,7 +455,7 @@ module _ (p : Program) (frames : List Frame) (bound : ℕ) (R : resolved.Program
           let rest : ℕ → World → Outcome ℕ = λ a w3. then_do (second_dropped D w3.frame.temporaries w3) (λ _ w4. Done a w4) in
           subst (Follows p bound (standing pc (name r s) w1) (Made_at (pc + 1 + 1) s)) (then_twice init (λ a w2. Done a.object (takes a.object w2)) rest)
           (next (steps (SendTo init_selector 0 0 gives.Object) has.0 (to_object gives.Object init_selector pc nothing_given (s.numbers ++ vars w1) s.names w1
-          (λ o. o.class) (class_in (object_at w1.objects r)) r (class_found w1 r)))
+          (λ o. o.class) (class_in (object_at w1.objects r)) r (λ k o e found. ap class_in (ap (object_at w1.objects) e ∙ found))))
           (λ a w2 to m. on (m.0 ∙ rw m.1.frame) (
           let g2 = kept_good calm w1 w2 (g.0, λ e. absurd (false≢true (free e))) m.1 in
           let these = ap (λ (f : world.Frame). a.object ∷ f.temporaries) m.1.frame in
