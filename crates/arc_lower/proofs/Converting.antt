@@ -1,5 +1,5 @@
 -- A number is of the kind that the form of its expression shows.
-use Rattle.std.proofs.Common.{◌%◌, ◌≡◌, ℕ, suc, ℤ, pos, negsuc, Bool, true, false, nat_eq, nat_lt, if◌then◌else◌, length, Option, Some, None, ◌-◌, ◌<◌, refl, sym, ap, subst, arith}
+use Rattle.std.proofs.Common.{◌%◌, ◌≡◌, ℕ, suc, ℤ, pos, negsuc, Bool, true, false, nat_eq, nat_lt, if◌then◌else◌, length, Option, Some, None, ◌-◌, ◌<◌, refl, ap, subst, arith}
 use Rattle.std.proofs.lemmas.Bool.{false≢true, eqb-true, ltb-false, leb-false}
 use Rattle.std.proofs.lemmas.Bool.Decides.{nat_tests}
 use Rattle.std.specs.Int.{w32, w64, cast_signed, cast_unsigned}
@@ -9,12 +9,10 @@ use Rattle.arc_ast.specs.declared.tree.UnaryOperator.{UnaryOperator}
 use Rattle.arc_ast.specs.declared.tree.UnaryOperator.TheVariants as u
 use Rattle.arc_ast.specs.declared.tree.BinaryOperator.{BinaryOperator}
 use Rattle.arc_ast.specs.declared.tree.BinaryOperator.TheVariants as o
-use Rattle.arc_spec.specs.declared.event.Fault.TheVariants.{FieldClass}
-use Rattle.arc_spec.specs.Classes.{descends}
 use Rattle.arc_spec.specs.Objects.{Object, object_at}
 use Rattle.arc_spec.specs.Resolved.{Value, Number, Print, Applied, Combined, Choice, Converted, Assigned, FieldAssigned, Differ, IsObject}
 use Rattle.arc_spec.specs.Number.{converted, applied, combined, answer, is_zero, is_same, low_32}
-use Rattle.arc_spec.specs.World.{World, Outcome, Done, Faulted, then_do}
+use Rattle.arc_spec.specs.World.{World, Outcome, Done, then_do}
 use Rattle.arc_spec.specs.Meaning.{Deeper, chosen, formatted, in_object, or_fault, evaluated, referred, all_evaluated}
 use Rattle.arc_lower.specs.Known.{rank, is_within, greater_kind, lesser_kind, least_kind, applied_kind, combined_kind, known_kind}
 use Rattle.arc_lower.proofs.Shaping.{Holds}
@@ -52,18 +50,12 @@ small_bit false = refl
 
 -- a number of one kind is one of each that is as wide
 pub within_keeps : (a b : Kind) (v : ℤ) → is_within a b ≡ true → IsOf a v → IsOf b v
-within_keeps k.Bool k.Bool v e h = h
 within_keeps k.Bool k.Int v e h = subst (IsOf k.Int) h (small_bit (is_zero v))
-within_keeps k.Int k.Int v e h = h
 within_keeps a k.Long v e h = refl
-within_keeps a k.Object v e h = refl
-within_keeps a k.Void v e h = refl
-within_keeps _ _ v e h = absurd (false≢true e)
+within_keeps _ _ v e h = grind arith
 
 first_of_two : (a b : Kind) (v : ℤ) → IsOf a v → IsOf (greater_kind a b) v
-first_of_two a b v h = by_test (λ t. IsOf (if t then b else a) v) (is_within a b)
-    (λ e. within_keeps a b v e h)
-    (λ e. h)
+first_of_two a b v h = grind (arith, within_keeps a b v)
 
 second_of_two : (a b : Kind) (v : ℤ) → IsOf b v → IsOf (greater_kind a b) v
 second_of_two a b v h = by_test (λ t. IsOf (if t then b else a) v) (is_within a b)
@@ -72,9 +64,7 @@ second_of_two a b v h = by_test (λ t. IsOf (if t then b else a) v) (is_within a
 
 -- what a conversion gives
 conversion_gives : (a b : Kind) (v : ℤ) → IsOf a v → IsOf (lesser_kind a b) (converted b v)
-conversion_gives a b v h = by_test (λ t. IsOf (if t then a else b) (converted b v)) (is_within a b)
-    (λ e. subst (IsOf a) (sym (within_keeps a b v e h)) h)
-    (λ e. again b v)
+conversion_gives a b v h = grind (arith, within_keeps a b v, again b v)
 
 same_true : (x y : ℤ) → is_same x y ≡ true → x ≡ y
 same_true (pos n) (pos m) e = ap pos (eqb-true n m e)
@@ -82,15 +72,8 @@ same_true (negsuc n) (negsuc m) e = ap negsuc (eqb-true n m e)
 same_true _ _ e = absurd (false≢true e)
 
 number_good : (n : ℤ) → IsOf (least_kind n) n
-number_good n = by (is_same (converted k.Bool n) n) refl
-  where
-    or_int : (t : Bool) → is_same (converted k.Int n) n ≡ t → IsOf (if t then k.Int else k.Long) n
-    or_int true e = same_true (converted k.Int n) n e
-    or_int false e = refl
-
-    by : (t : Bool) → is_same (converted k.Bool n) n ≡ t → IsOf (if t then k.Bool else if is_same (converted k.Int n) n then k.Int else k.Long) n
-    by true e = same_true (converted k.Bool n) n e
-    by false e = or_int (is_same (converted k.Int n) n) refl
+number_good n = by_test (λ t. IsOf (if t then k.Bool else if is_same (converted k.Int n) n then k.Int else k.Long) n) (is_same (converted k.Bool n) n) (same_true (converted k.Bool n) n)
+    (λ _. by_test (λ t. IsOf (if t then k.Int else k.Long) n) (is_same (converted k.Int n) n) (same_true (converted k.Int n) n) (λ _. refl))
 
 answered : (b : Bool) → IsOf k.Bool (answer b)
 answered true = refl
@@ -111,7 +94,7 @@ pub any_holds : {A B : Type 0} (Good : B → Type 0) (o : Outcome A) (go : A →
 any_holds Good (Done a w) go h = h a w
 any_holds Good _ go h = tt
 
-holds_then : {A B : Type 0} (P : A → Type 0) (Q : B → Type 0) (o : Outcome A) (go : A → World → Outcome B) → Holds P o → ((a : A) (w : World) → P a → Holds Q (go a w)) → Holds Q (then_do o go)
+pub holds_then : {A B : Type 0} (P : A → Type 0) (Q : B → Type 0) (o : Outcome A) (go : A → World → Outcome B) → Holds P o → ((a : A) (w : World) → P a → Holds Q (go a w)) → Holds Q (then_do o go)
 holds_then P Q (Done a w) go h next = next a w h
 holds_then P Q _ go h next = tt
 
@@ -124,24 +107,14 @@ either_holds P true x y h g = g
 either_holds P false x y h g = h
 
 pub combined_good : (operator : BinaryOperator) (kind : Kind) (x y : ℤ) (w : World) → Holds (IsOf (combined_kind operator kind)) (or_fault (combined operator kind x y) w)
-combined_good o.Add kind x y w = again kind _
-combined_good o.Subtract kind x y w = again kind _
-combined_good o.Multiply kind x y w = again kind _
 combined_good o.Divide kind x y w = any_long _
 combined_good o.Remainder kind x y w = any_long _
-combined_good o.ShiftLeft kind x y w = again kind _
-combined_good o.ShiftRight kind x y w = refl
-combined_good o.BitAnd kind x y w = again kind _
-combined_good o.BitXor kind x y w = again kind _
-combined_good o.BitOr kind x y w = again kind _
-combined_good _ kind x y w = answered _
+combined_good _ kind x y w = search (again, answered)
 
 module _ (D : Deeper) where
   set_holds : (P : ℤ → Type 0) (class : ℕ) (found : Option Object) (v : ℤ) (go : Object → World) (w : World) → P v → Holds P (in_object D class found (λ o. Done v (go o)) w)
   set_holds P class None v go w h = tt
-  set_holds P class (Some o) v go w h = by_test (λ b. Holds P (if b then Done v (go o) else Faulted FieldClass w)) (descends D.classes (Some o.class) class)
-      (λ e. h)
-      (λ e. tt)
+  set_holds P class (Some o) v go w h = grind (arith, h)
 
   pub known_good : (a : Value) (w : World) → Holds (IsOf (known_kind a)) (evaluated D a w)
   known_good (Number n) w = number_good n

@@ -1,30 +1,27 @@
 -- The blocks of expressions mean what these mean.
-use Rattle.std.proofs.Common.{◌≡◌, ℕ, suc, ℤ, pos, Bool, true, false, sym, is_some, if◌then◌else◌, length, Option, Some, None, refl, ap, ◌∙◌}
+use Rattle.std.proofs.Common.{arith, ◌≡◌, ℕ, suc, ℤ, pos, false, sym, is_some, if◌then◌else◌, length, Option, Some, None, refl, ap, ◌∙◌}
 use Rattle.arc_ast.specs.declared.tree.BinaryOperator.{BinaryOperator}
 use Rattle.arc_ast.specs.declared.tree.Kind.{Kind}
 use Rattle.arc_ast.specs.declared.tree.Moment.{Moment}
 use Rattle.arc_ast.specs.declared.tree.Moment.TheVariants.{Before, After}
 use Rattle.arc_ast.specs.declared.tree.Sign.TheVariants as signs
-use Rattle.arc_spec.specs.declared.event.Fault.TheVariants.{FieldClass}
 use Rattle.arc_spec.specs.declared.class.Gives.{Gives}
 use Rattle.arc_spec.specs.declared.class.Gives.TheVariants as gives
-use Rattle.arc_spec.specs.Classes.{class_at, descends, lookup, new_selector}
+use Rattle.arc_spec.specs.Classes.{class_at, lookup, new_selector}
 use Rattle.arc_spec.specs.Objects.{Object, object_at}
 use Rattle.arc_spec.specs.declared.location.Location.{Location}
 use Rattle.arc_spec.specs.Resolved.{Value, Number, Print, Applied, Combined, Choice, Converted, Read, Assigned, Updated, Invoked, Sent, Receiver, ClassValue, ClassSuper, ObjectValue, ObjectSuper, Field, FieldAssigned, FieldUpdated, Reference, Chosen, Stored, ObjectField, ObjectFieldStored, Made, New, ObjectInvoked, ObjectSent, Arguments, no_arguments, number_argument, object_argument}
 use Rattle.arc_spec.specs.Resolved as resolved
-use Rattle.arc_spec.specs.World.{World, Outcome, Done, Faulted, Finished, then_do, Given, nothing_given, Answer, prints, local_at, takes}
+use Rattle.arc_spec.specs.World.{World, Outcome, Done, Finished, then_do, Given, nothing_given, Answer, prints, takes}
 use Rattle.arc_spec.specs.Number.{converted, combined, is_zero}
 use Rattle.arc_spec.specs.Meaning as meaning
 use Rattle.arc_spec.specs.Meaning.{Deeper, sent, new_found, new_sent, number_given, object_given, and_number, and_object, object_field_set, formatted, byte_count, or_fault, held_at, holds, updated, given_by, in_object, field_read, field_set, assigned, evaluated, referred, received, all_evaluated}
-use Rattle.arc_code.specs.Instructions.{one_if}
-use Rattle.arc_code.specs.declared.instr.Op.TheVariants.{Narrow, SetField, Hold, Finds}
-use Rattle.arc_lower.specs.Known.{is_within, combined_kind, known_kind}
-use Rattle.arc_lower.proofs.Converting.{IsOf, within_keeps, combined_good, known_good, any_holds}
-use Rattle.arc_lower.specs.Lowered.{Message, ToClass, ToSuperClass, ToObject, ToSuper, Block, Idle, One, Store, Format, Calls, SendsMessage, Making, Then, Fork, given_block, below_new, narrow_block, update_block, message_to, below_arguments, value_block, reference_block, receiver_block, arguments_block}
+use Rattle.arc_code.specs.declared.instr.Op.TheVariants.{SetField, Hold, Finds}
+use Rattle.arc_lower.specs.Known.{combined_kind, known_kind}
+use Rattle.arc_lower.proofs.Converting.{IsOf, within_keeps, combined_good, known_good, any_holds, holds_then}
+use Rattle.arc_lower.specs.Lowered.{Message, ToClass, ToSuperClass, ToObject, ToSuper, Block, One, Store, Format, Calls, SendsMessage, Making, Then, Fork, given_block, below_new, narrow_block, update_block, message_to, below_arguments, value_block, reference_block, receiver_block, arguments_block}
 use Rattle.arc_lower.specs.Size.{number_count, object_count}
-use Rattle.arc_lower.proofs.Shaping.{Operands, push, name, pushed, Way, On, Lost, left_by, and_then, pushes, passes_by, answers_left, message_sent, block, after, chosen_by, same_depth, on_pushed, Holds, after_known, then_twice}
-use Rattle.arc_lower.proofs.Cases.{by_test}
+use Rattle.arc_lower.proofs.Shaping.{Operands, push, name, pushed, Way, On, Lost, left_by, and_then, pushes, passes_by, answers_left, message_sent, block, after, either, same_depth, on_pushed, Holds, after_known, then_twice}
 
 module _ (D : Deeper) (bound place : ℕ) where
   abbrev run : Block → Operands → World → Outcome Way
@@ -44,24 +41,10 @@ module _ (D : Deeper) (bound place : ℕ) where
   abbrev Counted : Arguments → Given → Type 0
   Counted all given = (length given.numbers ≡ number_count all) × (length given.objects ≡ object_count all)
 
-  more_numbers : (a : Value) (others : Arguments) (x : ℤ) (o : Outcome Given) → Holds (Counted others) o → Holds (Counted (number_argument a others)) (then_do o (λ given w. Done (and_number x given) w))
-  more_numbers a others x (Done given w) h = (ap suc h.0, h.1)
-  more_numbers a others x _ h = tt
-
-  more_objects : (a : Reference) (others : Arguments) (r : ℕ) (o : Outcome Given) → Holds (Counted others) o → Holds (Counted (object_argument a others)) (then_do o (λ given w. Done (and_object r given) w))
-  more_objects a others r (Done given w) h = (h.0, ap suc h.1)
-  more_objects a others r _ h = tt
-
   given_counted : (all : Arguments) (w : World) → Holds (Counted all) (all_evaluated D all w)
   given_counted no_arguments w = (refl, refl)
-  given_counted (number_argument a others) w = any_holds (Counted (number_argument a others)) (evaluated D a w) _ (λ x w1. more_numbers a others x (all_evaluated D others w1) (given_counted others w1))
-  given_counted (object_argument a others) w = any_holds (Counted (object_argument a others)) (referred D a w) _ (λ r w1. more_objects a others r (all_evaluated D others w1) (given_counted others w1))
-
-  with_number : (x : ℤ) (s : Operands) (o : Outcome Given) → left_by (all_above (push x s)) o ≡ left_by (all_above s) (then_do o (λ given w. Done (and_number x given) w))
-  with_number x s o = then_twice o (λ given w. Done (and_number x given) w) _
-
-  with_object : (r : ℕ) (s : Operands) (o : Outcome Given) → left_by (all_above (name r s)) o ≡ left_by (all_above s) (then_do o (λ given w. Done (and_object r given) w))
-  with_object r s o = then_twice o (λ given w. Done (and_object r given) w) _
+  given_counted (number_argument a others) w = any_holds (Counted (number_argument a others)) (evaluated D a w) _ (λ x w1. holds_then (Counted others) (Counted (number_argument a others)) (all_evaluated D others w1) _ (given_counted others w1) (λ given w2 h. (ap suc h.0, h.1)))
+  given_counted (object_argument a others) w = any_holds (Counted (object_argument a others)) (referred D a w) _ (λ r w1. holds_then (Counted others) (Counted (object_argument a others)) (all_evaluated D others w1) _ (given_counted others w1) (λ given w2 h. (h.0, ap suc h.1)))
 
   held : (r : ℕ) (s : Operands) (o : Outcome Finished) → and_then (passes_by (name r s) o) (run (One Hold)) ≡ left_by (beside s) (then_do o (λ _ w. Done r (takes r w)))
   held r s o = sym (then_twice o (λ _ w. Done (On (name r s)) w) _) ∙ then_twice o (λ _ w. Done r (takes r w)) _
@@ -71,9 +54,23 @@ module _ (D : Deeper) (bound place : ℕ) where
       → run (Then (arguments_block (length s.numbers) all) later) s w ≡ left_by end (then_do (all_evaluated D all w) go)
   passed all later end s w go arguments next = after_known (Counted all) (λ given. pushed given s) end _ (all_evaluated D all w) _ _ (given_counted all w) arguments next
 
-  says : {B : Type 0} (wanted : Gives) (end : B → Way) (message : Message) (all : Arguments) (s : Operands) (w : World) (go : Given → World → Outcome B) → run (arguments_block (length s.numbers) all) s w ≡ left_by (all_above s) (all_evaluated D all w) → ((given : Given) (w1 : World) → message_sent D wanted message given s w1 ≡ left_by end (go given w1))
-      → run (Then (arguments_block (length s.numbers) all) (SendsMessage wanted message (number_count all) (object_count all))) s w ≡ left_by end (then_do (all_evaluated D all w) go)
-  says wanted end message all s w go arguments answer = passed all (SendsMessage wanted message (number_count all) (object_count all)) end s w go arguments (λ given w1 e. on_pushed (number_count all) (object_count all) given s w1 (λ values below. message_sent D wanted message values below w1) e.0 e.1 ∙ answer given w1)
+  -- the operands where a message gets to this
+  abbrev put : meaning.Target → Operands → Operands
+  put (meaning.ToClass from class) s = push class s
+  put (meaning.ToObject self) s = name self s
+  put (meaning.ToSuper from self) s = name self s
+
+  -- a message gets to what its receiver gives
+  abbrev Gets : (wanted : Gives) → Receiver → (selector : ℕ) → Operands → meaning.Target → Type 0
+  Gets wanted receiver selector s target =
+      (below_arguments receiver (length s.numbers) ≡ length (put target s).numbers)
+      × ((given : Given) (w : World) → message_sent D wanted (message_to receiver selector) given (put target s) w ≡ answers_left wanted s (sent D wanted target selector given w))
+
+  gets : (wanted : Gives) (receiver : Receiver) (selector : ℕ) (s : Operands) (w : World) → Holds (Gets wanted receiver selector s) (received D receiver w)
+  gets wanted (ClassValue a) selector s w = any_holds (Gets wanted (ClassValue a) selector s) (evaluated D a w) _ (λ class w1. (refl, λ given w2. refl))
+  gets wanted (ClassSuper from) selector s w = (refl, λ given w2. refl)
+  gets wanted (ObjectValue a) selector s w = any_holds (Gets wanted (ObjectValue a) selector s) (referred D a w) _ (λ self w1. (refl, λ given w2. refl))
+  gets wanted (ObjectSuper a from) selector s w = any_holds (Gets wanted (ObjectSuper a from) selector s) (referred D a w) _ (λ self w1. (refl, λ given w2. refl))
 
   -- ---- what calls and messages give
 
@@ -90,35 +87,15 @@ module _ (D : Deeper) (bound place : ℕ) where
         on_pushed (number_count all) (object_count all) given s w1 (λ values rest. answers_left wanted rest (D.call wanted f 0 values w1)) e.0 e.1 ∙ leaves s (D.call wanted f 0 given w1))
 
     -- a message with its arguments, after what gets it
-    abbrev Sends : Receiver → (selector : ℕ) → Arguments → Operands → World → Type 0
-    Sends receiver selector all s w =
-        run (Then (receiver_block (length s.numbers) receiver) (Then (arguments_block (below_arguments receiver (length s.numbers)) all) (SendsMessage wanted (message_to receiver selector) (number_count all) (object_count all)))) s w
+    sends_is : (receiver : Receiver) (selector : ℕ) (all : Arguments) (s : Operands) (w : World) → run (receiver_block (length s.numbers) receiver) s w ≡ left_by (λ target. On (put target s)) (received D receiver w)
+        → ((s : Operands) (w : World) → run (arguments_block (length s.numbers) all) s w ≡ left_by (all_above s) (all_evaluated D all w))
+        → run (Then (receiver_block (length s.numbers) receiver) (Then (arguments_block (below_arguments receiver (length s.numbers)) all) (SendsMessage wanted (message_to receiver selector) (number_count all) (object_count all)))) s w
         ≡ left_by (end s) (then_do (received D receiver w) (λ target w1. then_do (all_evaluated D all w1) (λ given w2. give (sent D wanted target selector given w2))))
-
-    module _ (selector : ℕ) (all : Arguments) (arguments : (s : Operands) (w : World) → run (arguments_block (length s.numbers) all) s w ≡ left_by (all_above s) (all_evaluated D all w)) where
-      to_class : (a : Value) (s : Operands) (w : World) → run (value_block (length s.numbers) a) s w ≡ left_by (above s) (evaluated D a w) → Sends (ClassValue a) selector all s w
-      to_class a s w value = after (λ v. push v s) (end s) _ (evaluated D a w) _ _ value (λ self w1.
-          says wanted (end s) (ToClass selector) all (push self s) w1 (λ given w2. give (sent D wanted (meaning.ToClass (class_at self) self) selector given w2)) (arguments (push self s) w1) (λ given w2. leaves s (sent D wanted (meaning.ToClass (class_at self) self) selector given w2)))
-          ∙ ap (left_by (end s)) (then_twice (evaluated D a w) (λ self w1. Done (meaning.ToClass (class_at self) self) w1)
-          (λ target w1. then_do (all_evaluated D all w1) (λ given w2. give (sent D wanted target selector given w2))))
-
-      to_super_class : (from : ℕ) (s : Operands) (w : World) → Sends (ClassSuper from) selector all s w
-      to_super_class from s w =
-          let self = local_at w.frame.locals 0 in
-          ap (λ x. and_then x (run (Then (arguments_block (suc (length s.numbers)) all) (SendsMessage wanted (ToSuperClass from selector) (number_count all) (object_count all))))) (same_depth (length s.numbers) (Done (On (push self s)) w) (Done Lost w))
-          ∙ says wanted (end s) (ToSuperClass from selector) all (push self s) w (λ given w2. give (sent D wanted (meaning.ToClass (Some from) self) selector given w2)) (arguments (push self s) w) (λ given w2. leaves s (sent D wanted (meaning.ToClass (Some from) self) selector given w2))
-
-      to_object : (a : Reference) (s : Operands) (w : World) → run (reference_block (length s.numbers) a) s w ≡ left_by (beside s) (referred D a w) → Sends (ObjectValue a) selector all s w
-      to_object a s w value = after (λ r. name r s) (end s) _ (referred D a w) _ _ value (λ self w1.
-          says wanted (end s) (ToObject selector) all (name self s) w1 (λ given w2. give (sent D wanted (meaning.ToObject self) selector given w2)) (arguments (name self s) w1) (λ given w2. leaves s (sent D wanted (meaning.ToObject self) selector given w2)))
-          ∙ ap (left_by (end s)) (then_twice (referred D a w) (λ self w1. Done (meaning.ToObject self) w1)
-          (λ target w1. then_do (all_evaluated D all w1) (λ given w2. give (sent D wanted target selector given w2))))
-
-      to_super : (a : Reference) (from : ℕ) (s : Operands) (w : World) → run (reference_block (length s.numbers) a) s w ≡ left_by (beside s) (referred D a w) → Sends (ObjectSuper a from) selector all s w
-      to_super a from s w value = after (λ r. name r s) (end s) _ (referred D a w) _ _ value (λ self w1.
-          says wanted (end s) (ToSuper from selector) all (name self s) w1 (λ given w2. give (sent D wanted (meaning.ToSuper from self) selector given w2)) (arguments (name self s) w1) (λ given w2. leaves s (sent D wanted (meaning.ToSuper from self) selector given w2)))
-          ∙ ap (left_by (end s)) (then_twice (referred D a w) (λ self w1. Done (meaning.ToSuper from self) w1)
-          (λ target w1. then_do (all_evaluated D all w1) (λ given w2. give (sent D wanted target selector given w2))))
+    sends_is receiver selector all s w target_is arguments =
+        after_known (Gets wanted receiver selector s) (λ target. put target s) (end s) _ (received D receiver w) _ _ (gets wanted receiver selector s w) target_is (λ target w1 to.
+        rw to.0 (passed all (SendsMessage wanted (message_to receiver selector) (number_count all) (object_count all)) (end s) (put target s) w1 _ (arguments (put target s) w1)
+        (λ given w2 e. on_pushed (number_count all) (object_count all) given (put target s) w2 (λ values below. message_sent D wanted (message_to receiver selector) values below w2) e.0 e.1
+        ∙ to.1 given w2 ∙ leaves s (sent D wanted target selector given w2))))
 
   -- ---- `new`, after the class that gets it
 
@@ -130,22 +107,13 @@ module _ (D : Deeper) (bound place : ℕ) where
   abbrev found_from : Option ℕ → Option ℕ
   found_from class = lookup D.classes class signs.Class new_selector 0 0 gives.Object
 
-  -- where the program finds out whether there is such a method
-  chosen_by_test : (b : Bool) (x y : Outcome Way) → meaning.chosen (is_zero (one_if b)) x y ≡ (if b then x else y)
-  chosen_by_test true x y = refl
-  chosen_by_test false x y = refl
-
   new_tested : (class : ℤ) (s : Operands) (w : World) → run (Then (One (Finds new_selector)) (Fork (SendsMessage gives.Object (ToClass new_selector) 0 0) Making)) (push class s) w ≡ left_by (beside s) (new_sent D None class w)
-  new_tested class s w =
-      chosen_by_test (is_some (found_from (class_at class))) (run (SendsMessage gives.Object (ToClass new_selector) 0 0) (push class s) w) (run Making (push class s) w)
-      ∙ new_by (found_from (class_at class)) (ToClass new_selector) class s w refl
+  new_tested class s w = let e = new_by (found_from (class_at class)) (ToClass new_selector) class s w refl in grind (arith, e)
 
   -- ---- conversions
 
   narrow_is : (known kind : Kind) (v : ℤ) (s : Operands) (w : World) → IsOf known v → run (narrow_block known kind) (push v s) w ≡ Done (above s (converted kind v)) w
-  narrow_is known kind v s w g = by_test (λ b. run (if b then Idle else One (Narrow kind)) (push v s) w ≡ Done (above s (converted kind v)) w) (is_within known kind)
-      (λ e. ap (λ x. Done (above s x) w) (sym (within_keeps known kind v e g)))
-      (λ e. refl)
+  narrow_is known kind v s w g = grind (arith, within_keeps known kind v)
 
   -- ---- updates
 
@@ -187,9 +155,7 @@ module _ (D : Deeper) (bound place : ℕ) where
   -- a field that is set gives what it is set to
   set_gives : (class : ℕ) (found : Option Object) (new : ℤ) (t : Operands) (go : Object → World) (w : World) → pushes t (in_object D class found (λ o. Done new (go o)) w) ≡ left_by (λ _. On (push new t)) (in_object D class found (λ o. Done new (go o)) w)
   set_gives class None new t go w = refl
-  set_gives class (Some o) new t go w = by_test (λ b. pushes t (if b then Done new (go o) else Faulted FieldClass w) ≡ left_by (λ _. On (push new t)) (if b then Done new (go o) else Faulted FieldClass w)) (descends D.classes (Some o.class) class)
-      (λ e. refl)
-      (λ e. refl)
+  set_gives class (Some o) new t go w = grind arith
 
   field_stores : (moment : Moment) (old : ℤ) (r class index : ℕ) (s : Operands) → Stores (One (SetField class index)) (kept_below moment old (name r s)) (kept_below moment old s) (field_set D r class index)
   field_stores Before old r class index s new w = set_gives class (object_at w.objects r) new (push old s) _ w
@@ -204,7 +170,7 @@ module _ (D : Deeper) (bound place : ℕ) where
         after (λ v. push v (push x s)) (above s) _ (evaluated D b w1) _ _ (value_is b (push x s) w1) (λ y w2. refl))
     value_is (Choice c a b) s w = after (λ v. push v s) (above s) _ (evaluated D c w) _ _ (value_is c s w) (λ x w1.
         let rest : Operands = record { numbers = s.numbers; names = s.names } in
-        chosen_by (above s) (is_zero x) _ _ (evaluated D a w1) (evaluated D b w1) (value_is a rest w1) (value_is b rest w1))
+        either (λ v w2. Done (above s v) w2) (is_zero x) _ _ (evaluated D a w1) (evaluated D b w1) (value_is a rest w1) (value_is b rest w1))
     value_is (Converted kind a) s w = after_known (IsOf (known_kind a)) (λ v. push v s) (above s) _ (evaluated D a w) _ _ (known_good D a w) (value_is a s w) (λ x w1 g. narrow_is (known_kind a) kind x s w1 g)
     value_is (Read i) s w = same_depth (length s.numbers) _ _
     value_is (Assigned i a) s w = after (λ v. push v s) (above s) _ (evaluated D a w) _ _ (value_is a s w) (λ x w1. same_depth (length s.numbers) _ _)
@@ -215,10 +181,7 @@ module _ (D : Deeper) (bound place : ℕ) where
         ap (λ x. and_then x (run (update_block moment (value_block (suc (below_new moment depth)) a) operator computed kept store))) (same_depth depth (Done (On (push old s)) w) (Done Lost w))
         ∙ update_is moment operator computed kept old a store s s w (λ new w1. Done new (holds i new w1)) (λ s1. value_is a s1 w) (variable_stores moment old i s)
     value_is (Invoked f all) s w = call_is gives.Number above number_given number_left f all s w (arguments_is all s w)
-    value_is (Sent (ClassValue a) selector all) s w = to_class gives.Number above number_given number_left selector all (λ s1 w1. arguments_is all s1 w1) a s w (value_is a s w)
-    value_is (Sent (ClassSuper from) selector all) s w = to_super_class gives.Number above number_given number_left selector all (λ s1 w1. arguments_is all s1 w1) from s w
-    value_is (Sent (ObjectValue a) selector all) s w = to_object gives.Number above number_given number_left selector all (λ s1 w1. arguments_is all s1 w1) a s w (reference_is a s w)
-    value_is (Sent (ObjectSuper a from) selector all) s w = to_super gives.Number above number_given number_left selector all (λ s1 w1. arguments_is all s1 w1) a from s w (reference_is a s w)
+    value_is (Sent receiver selector all) s w = sends_is gives.Number above number_given number_left receiver selector all s w (receiver_is receiver s w) (arguments_is all)
     value_is (Field a class index) s w = after (λ r. name r s) (above s) _ (referred D a w) _ _ (reference_is a s w) (λ r w1. refl)
     value_is (FieldAssigned a class index b) s w = after (λ r. name r s) (above s) _ (referred D a w) _ _ (reference_is a s w) (λ r w1.
         after (λ v. push v (name r s)) (above s) _ (evaluated D b w1) _ _ (value_is b (name r s) w1) (λ v w2. refl))
@@ -233,7 +196,7 @@ module _ (D : Deeper) (bound place : ℕ) where
     pub reference_is : (a : Reference) (s : Operands) (w : World) → run (reference_block (length s.numbers) a) s w ≡ left_by (beside s) (referred D a w)
     reference_is (Chosen c a b) s w = after (λ v. push v s) (beside s) _ (evaluated D c w) _ _ (value_is c s w) (λ x w1.
         let rest : Operands = record { numbers = s.numbers; names = s.names } in
-        chosen_by (beside s) (is_zero x) _ _ (referred D a w1) (referred D b w1) (reference_is a rest w1) (reference_is b rest w1))
+        either (λ r w2. Done (beside s r) w2) (is_zero x) _ _ (referred D a w1) (referred D b w1) (reference_is a rest w1) (reference_is b rest w1))
     reference_is (Stored i a) s w = after (λ r. name r s) (beside s) _ (referred D a w) _ _ (reference_is a s w) (λ r w1. held r s (assigned D i r w1))
     reference_is (ObjectField a class index) s w = after (λ r. name r s) (beside s) _ (referred D a w) _ _ (reference_is a s w) (λ r w1. refl)
     reference_is (ObjectFieldStored a class index b) s w = after (λ r. name r s) (beside s) _ (referred D a w) _ _ (reference_is a s w) (λ r w1.
@@ -243,13 +206,16 @@ module _ (D : Deeper) (bound place : ℕ) where
     reference_is (New None (Number (pos c))) s w = new_by (found_from (Some c)) (ToClass new_selector) (pos c) s w refl
     reference_is (New None a) s w = after (λ v. push v s) (beside s) (run (value_block (length s.numbers) a) s w) (evaluated D a w) (run (Then (One (Finds new_selector)) (Fork (SendsMessage gives.Object (ToClass new_selector) 0 0) Making))) (λ class w1. new_sent D None class w1) (value_is a s w) (λ class w1. new_tested class s w1)
     reference_is (ObjectInvoked f all) s w = call_is gives.Object beside object_given object_left f all s w (arguments_is all s w)
-    reference_is (ObjectSent (ClassValue a) selector all) s w = to_class gives.Object beside object_given object_left selector all (λ s1 w1. arguments_is all s1 w1) a s w (value_is a s w)
-    reference_is (ObjectSent (ClassSuper from) selector all) s w = to_super_class gives.Object beside object_given object_left selector all (λ s1 w1. arguments_is all s1 w1) from s w
-    reference_is (ObjectSent (ObjectValue a) selector all) s w = to_object gives.Object beside object_given object_left selector all (λ s1 w1. arguments_is all s1 w1) a s w (reference_is a s w)
-    reference_is (ObjectSent (ObjectSuper a from) selector all) s w = to_super gives.Object beside object_given object_left selector all (λ s1 w1. arguments_is all s1 w1) a from s w (reference_is a s w)
+    reference_is (ObjectSent receiver selector all) s w = sends_is gives.Object beside object_given object_left receiver selector all s w (receiver_is receiver s w) (arguments_is all)
     reference_is _ s w = refl
+
+    receiver_is : (receiver : Receiver) (s : Operands) (w : World) → run (receiver_block (length s.numbers) receiver) s w ≡ left_by (λ target. On (put target s)) (received D receiver w)
+    receiver_is (ClassValue a) s w = value_is a s w ∙ then_twice (evaluated D a w) (λ class w1. Done (meaning.ToClass (class_at class) class) w1) _
+    receiver_is (ClassSuper from) s w = same_depth (length s.numbers) _ _
+    receiver_is (ObjectValue a) s w = reference_is a s w ∙ then_twice (referred D a w) (λ self w1. Done (meaning.ToObject self) w1) _
+    receiver_is (ObjectSuper a from) s w = reference_is a s w ∙ then_twice (referred D a w) (λ self w1. Done (meaning.ToSuper from self) w1) _
 
     pub arguments_is : (all : Arguments) (s : Operands) (w : World) → run (arguments_block (length s.numbers) all) s w ≡ left_by (all_above s) (all_evaluated D all w)
     arguments_is no_arguments s w = refl
-    arguments_is (number_argument a others) s w = after (λ v. push v s) (all_above s) _ (evaluated D a w) _ _ (value_is a s w) (λ x w1. arguments_is others (push x s) w1 ∙ with_number x s (all_evaluated D others w1))
-    arguments_is (object_argument a others) s w = after (λ r. name r s) (all_above s) _ (referred D a w) _ _ (reference_is a s w) (λ r w1. arguments_is others (name r s) w1 ∙ with_object r s (all_evaluated D others w1))
+    arguments_is (number_argument a others) s w = after (λ v. push v s) (all_above s) _ (evaluated D a w) _ _ (value_is a s w) (λ x w1. arguments_is others (push x s) w1 ∙ then_twice (all_evaluated D others w1) (λ given w2. Done (and_number x given) w2) _)
+    arguments_is (object_argument a others) s w = after (λ r. name r s) (all_above s) _ (referred D a w) _ _ (reference_is a s w) (λ r w1. arguments_is others (name r s) w1 ∙ then_twice (all_evaluated D others w1) (λ given w2. Done (and_object r given) w2) _)

@@ -1,44 +1,34 @@
 -- An expression whose number nobody uses does what the one does that gives another number.
 use Rattle.std.proofs.Common.{◌≡◌, ℕ, ℤ, refl, sym, ap, ◌∙◌, zero, suc, Bool, true, false, List, [], Some}
-use Rattle.arc_ast.specs.declared.tree.BinaryOperator.{BinaryOperator}
-use Rattle.arc_ast.specs.declared.tree.Kind.{Kind}
 use Rattle.arc_ast.specs.declared.tree.Moment.{Moment}
 use Rattle.arc_ast.specs.declared.tree.Moment.TheVariants.{Before, After}
-use Rattle.arc_spec.specs.declared.location.Location.{Location}
 use Rattle.arc_spec.specs.Resolved.{Value, Reference, Updated, FieldUpdated, Command, Sequence, Evaluate, EvaluateReference, Begin, Give, Choose, Repeat, Commands, no_commands, and_command}
-use Rattle.arc_spec.specs.World.{World, Outcome, Done, Finished, finished, then_do, Faulted, Cut}
-use Rattle.arc_spec.specs.Meaning.{Deeper, Normal, held_at, holds, updated, field_read, field_set, all_dropped, evaluated, referred, whole, Flow, Broken, Continued, Returned, given, chosen, if_normal, in_turn, after_body, turns, looped, normally, assigned, variables_dropped, scope_left, whole_reference, begun, result_place, executed, all_executed}
-use Rattle.arc_lower.specs.Lowered.{Block, Idle, One, Clear, Then, Quit, Advance, nothing_given, loop_block, whole_block, whole_reference_block, begin_block, answer_block, command_block, commands_block, body_block}
+use Rattle.arc_spec.specs.World.{World, Outcome, Done, Finished, finished, then_do, Cut}
+use Rattle.arc_spec.specs.Meaning.{Deeper, Normal, held_at, updated, field_read, field_set, all_dropped, evaluated, referred, whole, Flow, Broken, Continued, Returned, given, chosen, if_normal, in_turn, after_body, turns, looped, normally, assigned, variables_dropped, scope_left, whole_reference, begun, result_place, executed, all_executed}
+use Rattle.arc_lower.specs.Lowered.{Block, Idle, One, Clear, Assign, Answer, Full, reference_block, Then, Quit, Advance, nothing_given, loop_block, whole_block, whole_reference_block, begin_block, answer_block, command_block, commands_block, body_block}
 use Rattle.arc_lower.specs.Size.{unused, does_nothing}
 use Rattle.arc_spec.specs.Number.{is_zero}
 use Rattle.arc_spec.specs.declared.location.Location.TheVariants.{Local}
 use Rattle.arc_spec.specs.Resolved as resolved
 use Rattle.arc_code.specs.declared.instr.Op.TheVariants.{Forget}
-use Rattle.arc_lower.proofs.Shaping.{Operands, push, name, Way, On, Out, left_by, on_way, and_then, passes_by, after_turn, on_test, only_on, block_turns, block, then_twice}
+use Rattle.arc_lower.proofs.Shaping.{Operands, push, name, Way, On, Out, left_by, on_way, and_then, passes_by, after_turn, on_test, only_on, block_turns, block, then_twice, parts, either}
 use Rattle.arc_lower.proofs.Evaluating.{above, value_is, reference_is}
 
 -- how a part ends, without its value
 abbrev ended : {A : Type 0} → Outcome A → Outcome Finished
 ended o = then_do o (λ _ w. Done finished w)
 
-ended_by : {A B : Type 0} (o : Outcome A) (go : A → World → Outcome B) (end : A → World → Outcome Finished) → ((a : A) (w : World) → ended (go a w) ≡ end a w) → ended (then_do o go) ≡ then_do o end
-ended_by (Done a w) go end h = h a w
-ended_by _ go end h = refl
+ended_same : {A B : Type 0} (o : Outcome A) (go on : A → World → Outcome B) → ((a : A) (w : World) → ended (go a w) ≡ ended (on a w)) → ended (then_do o go) ≡ ended (then_do o on)
+ended_same (Done a w) go on h = h a w
+ended_same _ go on h = refl
 
 module _ (D : Deeper) where
-  updated_ends : (moment : Moment) (i : Location) (operator : BinaryOperator) (computed kept : Kind) (a : Value) (w : World)
-      → ended (evaluated D (Updated moment i operator computed kept a) w) ≡ then_do (evaluated D a w) (λ x w1. then_do (updated operator computed kept (held_at i w) x w1) (λ new w2. Done finished (holds i new w2)))
-  updated_ends moment i operator computed kept a w = ended_by (evaluated D a w) _ _ (λ x w1. ended_by (updated operator computed kept (held_at i w) x w1) _ _ (λ new w2. refl))
-
-  field_updated_ends : (moment : Moment) (a : Reference) (class index : ℕ) (operator : BinaryOperator) (computed kept : Kind) (b : Value) (w : World)
-      → ended (evaluated D (FieldUpdated moment a class index operator computed kept b) w)
-      ≡ then_do (referred D a w) (λ r w1. then_do (field_read D r class index w1) (λ old w2. then_do (evaluated D b w2) (λ x w3. then_do (updated operator computed kept old x w3) (λ new w4. ended (field_set D r class index new w4)))))
-  field_updated_ends moment a class index operator computed kept b w =
-      ended_by (referred D a w) _ _ (λ r w1. ended_by (field_read D r class index w1) _ _ (λ old w2. ended_by (evaluated D b w2) _ _ (λ x w3. ended_by (updated operator computed kept old x w3) _ _ (λ new w4. ended_by (field_set D r class index new w4) _ _ (λ v w5. refl)))))
-
   unused_ends : (a : Value) (w : World) → ended (evaluated D (unused a) w) ≡ ended (evaluated D a w)
-  unused_ends (Updated moment i operator computed kept a) w = updated_ends After i operator computed kept a w ∙ sym (updated_ends moment i operator computed kept a w)
-  unused_ends (FieldUpdated moment a class index operator computed kept b) w = field_updated_ends After a class index operator computed kept b w ∙ sym (field_updated_ends moment a class index operator computed kept b w)
+  unused_ends (Updated moment i operator computed kept a) w =
+      ended_same (evaluated D a w) _ _ (λ x w1. ended_same (updated operator computed kept (held_at i w) x w1) _ _ (λ new w2. refl))
+  unused_ends (FieldUpdated moment a class index operator computed kept b) w =
+      ended_same (referred D a w) _ _ (λ r w1. ended_same (field_read D r class index w1) _ _ (λ old w2. ended_same (evaluated D b w2) _ _ (λ x w3.
+      ended_same (updated operator computed kept old x w3) _ _ (λ new w4. ended_same (field_set D r class index new w4) _ _ (λ v w5. refl)))))
   unused_ends _ w = refl
 
   -- the temporaries are dropped after either
@@ -58,22 +48,6 @@ module _ (D : Deeper) where
 abbrev pub calm : List ℕ → Operands
 calm names = record { numbers = []; names = names }
 
--- ---- what is left by one end or another
-
--- one part after another
-onward : {A B : Type 0} (exit : A → Operands) (end : B → World → Outcome Way) (x : Outcome Way) (o : Outcome A) (k : Operands → World → Outcome Way) (go : A → World → Outcome B) → x ≡ left_by (λ a. On (exit a)) o → ((a : A) (w : World) → k (exit a) w ≡ then_do (go a w) end) → and_then x k ≡ then_do (then_do o go) end
-onward exit end x (Done a w) k go e h = ap (λ y. and_then y k) e ∙ h a w
-onward exit end x _ k go e h = ap (λ y. and_then y k) e
-
--- a part of which each end is known
-parts : {A B : Type 0} (end : A → World → Outcome Way) (last : B → World → Outcome Way) (x : Outcome Way) (o : Outcome A) (k : Way → World → Outcome Way) (go : A → World → Outcome B) → x ≡ then_do o end → ((a : A) (w : World) → then_do (end a w) k ≡ then_do (go a w) last) → then_do x k ≡ then_do (then_do o go) last
-parts end last x (Done a w) k go e h = ap (λ y. then_do y k) e ∙ h a w
-parts end last x _ k go e h = ap (λ y. then_do y k) e
-
-either : {A : Type 0} (end : A → World → Outcome Way) (b : Bool) (x y : Outcome Way) (m n : Outcome A) → x ≡ then_do m end → y ≡ then_do n end → chosen b x y ≡ then_do (chosen b m n) end
-either end false x y m n d e = d
-either end true x y m n d e = e
-
 module _ (D : Deeper) (bound : ℕ) where
   abbrev run : Block → Operands → World → Outcome Way
   run = block D bound 0 true
@@ -84,12 +58,10 @@ module _ (D : Deeper) (bound : ℕ) where
 
   -- a full-expression, what is done with its value, and the end of its temporaries
   full : {A B C : Type 0} (exit : A → Operands) (out : B → Operands) (end : C → Way) (x : Outcome Way) (o : Outcome A) (k : Operands → World → Outcome Way) (go : A → World → Outcome B) (rest : B → World → Outcome C) → x ≡ left_by (λ a. On (exit a)) o → ((a : A) (w : World) → k (exit a) w ≡ left_by (λ b. On (out b)) (go a w)) → ((b : B) (w : World) → passes_by (out b) (all_dropped D w) ≡ left_by end (rest b w)) → then_do (and_then x k) (only_on (λ s w. passes_by s (all_dropped D w))) ≡ left_by end (then_do o (λ a w. then_do (go a w) rest))
-  full exit out end x (Done a w) k go rest e h d = ap (λ y. then_do (and_then y k) (only_on (λ s w. passes_by s (all_dropped D w)))) e ∙ parts (λ b w1. Done (On (out b)) w1) (λ c w1. Done (end c) w1) (k (exit a) w) (go a w) _ rest (h a w) d
-  full exit out end x (Faulted f w) k go rest e h d = ap (λ y. then_do (and_then y k) (only_on (λ s w. passes_by s (all_dropped D w)))) e
-  full exit out end x (Cut w) k go rest e h d = ap (λ y. then_do (and_then y k) (only_on (λ s w. passes_by s (all_dropped D w)))) e
-
-  drops_is : (v : ℤ) (s : Operands) (o : Outcome Finished) → passes_by (push v s) o ≡ left_by (above D bound 0 s) (then_do o (λ _ w. Done v w))
-  drops_is v s o = then_twice o (λ _ w. Done v w) _
+  full exit out end x o k go rest e h d =
+      let drops : Way → World → Outcome Way = only_on (λ s w. passes_by s (all_dropped D w)) in
+      sym (then_twice x (on_way k) drops) ∙ parts (λ a w. Done (On (exit a)) w) (λ c w. Done (end c) w) x o (λ way w. then_do (on_way k way w) drops) _ e
+      (λ a w. parts (λ b w1. Done (On (out b)) w1) (λ c w1. Done (end c) w1) (k (exit a) w) (go a w) drops rest (h a w) d)
 
   forgotten : (place r : ℕ) (s : Operands) (o : Outcome Finished) → and_then (passes_by (name r s) o) (inside place (One Forget)) ≡ passes_by s o
   forgotten place r s o = sym (then_twice o (λ _ w. Done (On (name r s)) w) _)
@@ -97,23 +69,27 @@ module _ (D : Deeper) (bound : ℕ) where
   whole_is : (a : Value) (names : List ℕ) (w : World) → run (whole_block a) (calm names) w ≡ left_by (above D bound 0 (calm names)) (whole D a w)
   whole_is a names w =
       let s = calm names in
-      full (λ v. push v s) (λ v. push v s) (above D bound 0 s) _ (evaluated D a w) _ (λ v w1. Done v w1) _ (value_is D bound (result_place w) a s w) (λ v w1. refl) (λ v w1. drops_is v s (all_dropped D w1))
+      full (λ v. push v s) (λ v. push v s) (above D bound 0 s) _ (evaluated D a w) _ (λ v w1. Done v w1) _ (value_is D bound (result_place w) a s w) (λ v w1. refl) (λ v w1. then_twice (all_dropped D w1) (λ _ w2. Done v w2) _)
+
+  -- a full-expression that gives a reference
+  reference_full : (a : Reference) (last : Block) (names : List ℕ) (w : World) (go : ℕ → World → Outcome Finished)
+      → ((r : ℕ) (w1 : World) → inside (result_place w) last (name r (calm names)) w1 ≡ passes_by (calm names) (go r w1))
+      → run (Full (reference_block 0 a) last) (calm names) w ≡ passes_by (calm names) (then_do (referred D a w) (λ r w1. then_do (go r w1) (λ _ w2. all_dropped D w2)))
+  reference_full a last names w go h =
+      let s = calm names in
+      full (λ r. name r s) (λ (done : Finished). s) (λ (done : Finished). On s) _ (referred D a w) _ go _ (reference_is D bound (result_place w) a s w) h (λ done w1. refl)
 
   whole_reference_is : (a : Reference) (names : List ℕ) (w : World) → run (whole_reference_block a) (calm names) w ≡ passes_by (calm names) (whole_reference D a w)
-  whole_reference_is a names w =
-      let s = calm names in
-      full (λ r. name r s) (λ (done : Finished). s) (λ (done : Finished). On s) _ (referred D a w) _ (λ r w1. Done finished w1) _ (reference_is D bound (result_place w) a s w) (λ r w1. refl) (λ done w1. refl)
+  whole_reference_is a names w = reference_full a (One Forget) names w (λ r w1. Done finished w1) (λ r w1. refl)
 
   begin_is : (i : ℕ) (a : Reference) (names : List ℕ) (w : World) → run (begin_block i a) (calm names) w ≡ passes_by (calm names) (begun D i a w)
   begin_is i a names w =
-      let s = calm names in
-      full (λ r. name r s) (λ (done : Finished). s) (λ (done : Finished). On s) _ (referred D a w) _ (λ r w1. assigned D (Local i) r w1) _ (reference_is D bound (result_place w) a s w) (λ r w1. forgotten (result_place w) r s (assigned D (Local i) r w1)) (λ done w1. refl)
+      reference_full a (Then (Assign (Local i)) (One Forget)) names w (assigned D (Local i)) (λ r w1. forgotten (result_place w) r (calm names) (assigned D (Local i) r w1))
 
   answer_is : (a : Reference) (names : List ℕ) (w : World) → run (answer_block a) (calm names) w ≡ passes_by (calm names) (begun D (result_place w) a w)
   answer_is a names w =
-      let s = calm names in
-      let place = result_place w in
-      full (λ r. name r s) (λ (done : Finished). s) (λ (done : Finished). On s) _ (referred D a w) _ (λ r w1. assigned D (Local place) r w1) _ (reference_is D bound place a s w) (λ r w1. forgotten place r s (assigned D (Local place) r w1)) (λ done w1. refl)
+      let i = result_place w in
+      reference_full a (Then Answer (One Forget)) names w (assigned D (Local i)) (λ r w1. forgotten i r (calm names) (assigned D (Local i) r w1))
 
   module _ (exit : ℕ) (names : List ℕ) where
     abbrev s : Operands
@@ -134,27 +110,19 @@ module _ (D : Deeper) (bound : ℕ) where
     normal_is breaks continues o = then_twice o (λ _ w. Done Normal w) (ends breaks continues)
 
     cleared_stops : (first count : ℕ) (b : Block) → Stops b → Stops (Then (Clear first count) b)
-    cleared_stops first count b stops w k = by (variables_dropped D first count w)
-      where
-        by : (o : Outcome Finished) → and_then (and_then (passes_by s o) (run b)) k ≡ and_then (passes_by s o) (run b)
-        by (Done done w1) = stops w1 k
-        by _ = refl
-
-    -- what a block goes on with, once its variables are emptied
-    cleared_then : (breaks continues b : Block) (flow : Flow) → ((w : World) → run b s w ≡ ends breaks continues flow w)
-        → (o : Outcome Finished) → and_then (passes_by s o) (run b) ≡ then_do (then_do o (λ _ w. Done flow w)) (ends breaks continues)
-    cleared_then breaks continues b flow e (Done done w) = e w
-    cleared_then breaks continues b flow e _ = refl
+    cleared_stops first count b stops w k =
+        sym (then_twice (passes_by s (variables_dropped D first count w)) (on_way (run b)) (on_way k))
+        ∙ parts (λ (done : Finished) w1. Done (On s) w1) (on_way (run b)) _ (variables_dropped D first count w) _ (λ done w1. Done (On s) w1) refl (λ done w1. stops w1 k)
 
     -- a block that is left empties its variables
     scope_is : (first count : ℕ) (breaks continues : Block) → Stops breaks → Stops continues → (flow : Flow) (w : World) → and_then (ends (Then (Clear first count) breaks) (Then (Clear first count) continues) flow w) (run (Clear first count)) ≡ then_do (scope_left D first count flow w) (ends breaks continues)
     scope_is first count breaks continues quits turns Normal w = normal_is breaks continues (variables_dropped D first count w)
     scope_is first count breaks continues quits turns Broken w =
         cleared_stops first count breaks quits w (run (Clear first count))
-        ∙ cleared_then breaks continues breaks Broken (λ w1. refl) (variables_dropped D first count w)
+        ∙ parts (λ (done : Finished) w1. Done (On s) w1) (ends breaks continues) _ (variables_dropped D first count w) _ (λ done w1. Done Broken w1) refl (λ done w1. refl)
     scope_is first count breaks continues quits turns Continued w =
         cleared_stops first count continues turns w (run (Clear first count))
-        ∙ cleared_then breaks continues continues Continued (λ w1. refl) (variables_dropped D first count w)
+        ∙ parts (λ (done : Finished) w1. Done (On s) w1) (ends breaks continues) _ (variables_dropped D first count w) _ (λ done w1. Done Continued w1) refl (λ done w1. refl)
     scope_is first count breaks continues quits turns (Returned v) w = refl
 
     -- one statement after another
@@ -183,7 +151,7 @@ module _ (D : Deeper) (bound : ℕ) where
       out = ends breaks continues
 
       test_is : (go : Operands → World → Outcome Way) (meant : World → Outcome Flow) → ((w : World) → go s w ≡ then_do (meant w) out) → (w : World) → and_then (test s w) (on_test go) ≡ then_do (then_do (test' w) (λ v w1. chosen (is_zero v) (meant w1) (Done Normal w1))) out
-      test_is go meant h w = onward (λ v. push v s) out (test s w) (test' w) (on_test go) _ (tests w) (λ v w1. either out (is_zero v) (go s w1) (Done (On s) w1) (meant w1) (Done Normal w1) (h w1) refl)
+      test_is go meant h w = parts (λ v w1. Done (On (push v s)) w1) out (test s w) (test' w) (on_way (on_test go)) _ (tests w) (λ v w1. either out (is_zero v) (go s w1) (Done (On s) w1) (meant w1) (Done Normal w1) (h w1) refl)
 
       module _ (step' : World → Outcome Flow) (steps : (w : World) → step s w ≡ then_do (step' w) out) where
         turns_is : (n : ℕ) (w : World) → and_then (test s w) (on_test (block_turns n step test body)) ≡ then_do (turns n test' step' body' w) out
@@ -199,8 +167,6 @@ module _ (D : Deeper) (bound : ℕ) where
     -- a statement that does nothing
     nothing_is : (c : Command) (w : World) → does_nothing c ≡ true → executed D bound c w ≡ Done Normal w
     nothing_is (Sequence first zero no_commands) w e = refl
-    nothing_is (Sequence first zero (and_command c others)) w e = cc
-    nothing_is (Sequence first (suc n) all) w e = cc
     nothing_is _ w e = cc
 
     -- a loop, with or without a step
@@ -216,12 +182,12 @@ module _ (D : Deeper) (bound : ℕ) where
           let clear = λ (b : Block). Then (Clear first count) b in
           parts (ends (clear breaks) (clear continues)) (ends breaks continues) _ (all_executed D bound all w) _ _ (commands_is (clear breaks) (clear continues) (cleared_stops first count breaks quits) (cleared_stops first count continues turns) all w) (scope_is first count breaks continues quits turns)
       command_is breaks continues quits turns (Evaluate a) w =
-          onward (λ v. push v s) (ends breaks continues) _ (whole D (unused a) w) _ _ (whole_is (unused a) names w) (λ v w1. refl) ∙ ap (λ o. then_do o (ends breaks continues)) (unused_is D a w)
+          parts (λ v w1. Done (On (push v s)) w1) (ends breaks continues) _ (whole D (unused a) w) _ _ (whole_is (unused a) names w) (λ v w1. refl) ∙ ap (λ o. then_do o (ends breaks continues)) (unused_is D a w)
       command_is breaks continues quits turns (EvaluateReference a) w = whole_reference_is a names w ∙ normal_is breaks continues (whole_reference D a w)
       command_is breaks continues quits turns (Begin i a) w = begin_is i a names w ∙ normal_is breaks continues (begun D i a w)
-      command_is breaks continues quits turns (resolved.Return (Some a)) w = onward (λ v. push v s) (ends breaks continues) _ (whole D a w) _ _ (whole_is a names w) (λ v w1. refl)
-      command_is breaks continues quits turns (Give a) w = onward (λ (done : Finished). s) (ends breaks continues) _ (begun D (result_place w) a w) _ _ (answer_is a names w) (λ done w1. refl)
-      command_is breaks continues quits turns (Choose test a b) w = onward (λ v. push v s) (ends breaks continues) _ (whole D test w) _ _ (whole_is test names w) (λ v w1.
+      command_is breaks continues quits turns (resolved.Return (Some a)) w = parts (λ v w1. Done (On (push v s)) w1) (ends breaks continues) _ (whole D a w) _ _ (whole_is a names w) (λ v w1. refl)
+      command_is breaks continues quits turns (Give a) w = parts (λ (done : Finished) w1. Done (On s) w1) (ends breaks continues) _ (begun D (result_place w) a w) _ _ (answer_is a names w) (λ done w1. refl)
+      command_is breaks continues quits turns (Choose test a b) w = parts (λ v w1. Done (On (push v s)) w1) (ends breaks continues) _ (whole D test w) _ _ (whole_is test names w) (λ v w1.
           either (ends breaks continues) (is_zero v) _ _ _ _ (command_is breaks continues quits turns a w1) (command_is breaks continues quits turns b w1))
       command_is breaks continues quits turns (Repeat moment test step body) w = repeat_is moment breaks continues quits turns test step body (command_is breaks continues quits turns step) (command_is Quit Advance (λ w1 k. refl) (λ w1 k. refl) body) w (does_nothing step) refl
       command_is breaks continues quits turns _ w = refl

@@ -1,5 +1,5 @@
 -- What each form of expression and of statement needs and leaves.
-use Rattle.std.proofs.Common.{◌≡◌, ℕ, suc, ◌+◌, ◌-◌, ◌≤◌, Bool, true, false, if◌then◌else◌, List, Some, None, refl, sym, subst, arith, pos, [], ◌∷◌, Option, is_some}
+use Rattle.std.proofs.Common.{◌≡◌, ℕ, suc, ◌+◌, ◌-◌, ◌≤◌, Bool, true, false, if◌then◌else◌, List, Some, None, refl, subst, arith, pos, [], ◌∷◌, Option, is_some}
 use Rattle.std.specs.List.{list_any}
 use Rattle.arc_ast.specs.declared.tree.BinaryOperator.{BinaryOperator}
 use Rattle.arc_ast.specs.declared.tree.Kind.{Kind}
@@ -10,7 +10,6 @@ use Rattle.arc_spec.specs.Resolved.{Value, Number, ReadByte, Print, Applied, Com
 use Rattle.arc_spec.specs.Resolved as resolved
 use Rattle.arc_spec.specs.declared.class.Gives.{Gives}
 use Rattle.arc_spec.specs.declared.class.Gives.TheVariants as gives
-use Rattle.arc_spec.specs.Classes.{new_selector}
 use Rattle.arc_code.specs.declared.instr.Op.{Op}
 use Rattle.arc_code.specs.declared.instr.Op.TheVariants.{Narrow, Forget}
 use Rattle.arc_code.specs.declared.effect.Height.{Height}
@@ -18,7 +17,7 @@ use Rattle.arc_code.specs.Effects.{as_number, as_object, operation_effect}
 use Rattle.arc_lower.specs.Known.{is_within, combined_kind, known_kind}
 use Rattle.arc_lower.specs.declared.frame.Turn.{Turn}
 use Rattle.arc_lower.specs.declared.frame.Scope.{Scope}
-use Rattle.arc_lower.specs.Lowered.{forget_orders, print_orders, order_takes, Inside, Block, Idle, One, Clear, Calls, SendsMessage, Making, IfNew, Answer, ToClass, message_to, below_arguments, new_block, receiver_block, answer_block, Then, Fork, Quit, Advance, Full, Assign, flat, old_block, given_block, below_new, narrow_block, update_block, value_block, reference_block, arguments_block, whole_block, whole_reference_block, begin_block, nothing_given, loop_block, command_block, commands_block, Surroundings, within_scopes, leaving, breaking, continuing}
+use Rattle.arc_lower.specs.Lowered.{forget_orders, print_orders, order_takes, Inside, Block, Idle, One, Clear, Calls, SendsMessage, Making, IfNew, Answer, message_to, below_arguments, new_block, receiver_block, Then, Fork, Quit, Advance, Full, Assign, flat, old_block, given_block, below_new, narrow_block, update_block, value_block, reference_block, arguments_block, whole_block, whole_reference_block, nothing_given, command_block, commands_block, Surroundings, within_scopes, leaving, breaking, continuing}
 use Rattle.arc_lower.specs.Size.{number_count, object_count, has_new, unused, does_nothing}
 use Rattle.arc_lower.specs.Heights.{height, between, walk, last_walk}
 use Rattle.arc_lower.specs.Lowered.{whole_orders, whole_reference_orders}
@@ -38,6 +37,9 @@ module _ (P : Program) (r s slots names exit d : ℕ) (room : names ≤ d + s) w
 
   pub plain : {a b c n m : ℕ} {x : Block} → Within (height a b c d) x (height n m c d) → Comes a b c x n m
   plain {c = c} t = record { more = c; most = omega arith; types = t }
+
+  more_by : {a b c n m : ℕ} {x : Block} (k : ℕ) → Within (height a b c d) x (height n m (c + k) d) → Comes a b c x n m
+  more_by {c = c} k t = record { more = c + k; most = omega arith; types = t }
 
   pub op : {a b c n m : ℕ} (o : Op) → Reaches o (height (a + r) b c (d + s)) → a - (operation_effect o).numbers_taken + (operation_effect o).numbers_given ≡ n → b - (operation_effect o).names_taken + (operation_effect o).names_given ≡ m → (operation_effect o).variables ≡ 0 → Comes a b c (One o) n m
   op {c = c} {n = n} {m = m} o reaches numbers references none =
@@ -69,34 +71,29 @@ module _ (P : Program) (r s slots names exit d : ℕ) (room : names ≤ d + s) w
   receiver_lies _ depth a h = omega (arith, h)
 
   message_sent : (g : Gives) (receiver : Receiver) (selector n m a b c : ℕ) → Comes (n + below_arguments receiver a) (m + with_object receiver b) c (SendsMessage g (message_to receiver selector) n m) (as_number g + a) (as_object g + b)
-  message_sent g (ClassValue v) selector n m a b c = record { more = c + as_object g; most = omega arith; types = search (arith, heights_same) }
-  message_sent g _ selector n m a b c = record { more = c + as_object g; most = omega arith; types = search (arith, heights_same) }
-
-  called : (g : Gives) (f n m a b c : ℕ) → Comes (n + a) (m + b) c (Calls g f n m) (as_number g + a) (as_object g + b)
-  called g f n m a b c = record { more = c + as_object g; most = omega arith; types = call_types P r s g b c d f n m a }
-
-  -- the root's `new` does the same with the class on top as a message to it
-  made_types : (a b c : ℕ) → Comes (suc a) b c Making a (suc b)
-  made_types a b c = record { more = c + 1; most = omega arith; types = search (arith, heights_same) }
-
-  reported_types : (a b c : ℕ) → Comes (suc a) b c (SendsMessage gives.Object (ToClass new_selector) 0 0) a (suc b)
-  reported_types a b c = record { more = c + 1; most = omega arith; types = search (arith, heights_same) }
-
-  if_new : (class : ℕ) (x y : Block) (a b c n m : ℕ) → Comes a b c x n m → Comes a b c y n m → Comes a b c (IfNew class x y) n m
-  if_new class x y a b c n m first other = either (has_new P class) refl
-    where
-      either : (t : Bool) → has_new P class ≡ t → Comes a b c (IfNew class x y) n m
-      either true e = record { more = first.more; most = first.most; types = subst (λ t. ByTest t (Within (height a b c d) x (height n m first.more d)) (Within (height a b c d) y (height n m first.more d))) (sym e) first.types }
-      either false e = record { more = other.more; most = other.most; types = subst (λ t. ByTest t (Within (height a b c d) x (height n m other.more d)) (Within (height a b c d) y (height n m other.more d))) (sym e) other.types }
-
-  new_types : (from : Option ℕ) (e : Value) (a b c : ℕ) → Comes (suc a) b c (new_block from e) a (suc b)
-  new_types (Some from) e a b c =
-      if_new from _ Making (suc a) b c a (suc b) (record { more = c + 1; most = omega arith; types = search (arith, heights_same) }) (made_types a b c)
-  new_types None (Number (pos n)) a b c = if_new n _ Making (suc a) b c a (suc b) (reported_types a b c) (made_types a b c)
-  new_types None _ a b c = next {n = suc (suc a)} {m = b} (search (arith, op)) (λ t. choice (reported_types a b t) (λ q. made_types a b q))
+  message_sent g (ClassValue v) selector n m a b c = more_by (as_object g) (search (arith, heights_same))
+  message_sent g _ selector n m a b c = more_by (as_object g) (search (arith, heights_same))
 
   ends_with : {a b c n m u v : ℕ} {x : Block} → n ≡ u → m ≡ v → Comes a b c x n m → Comes a b c x u v
   ends_with {a = a} {b = b} {c = c} {n = n} {m = m} {u = u} {v = v} {x = x} e f first = subst (λ k. Comes a b c x u k) f (subst (λ k. Comes a b c x k m) e first)
+
+  called : (g : Gives) (f n m a b c : ℕ) {u v : ℕ} → as_number g + a ≡ u → as_object g + b ≡ v → Comes (n + a) (m + b) c (Calls g f n m) u v
+  called g f n m a b c number object = ends_with number object (more_by (as_object g) (call_types P r s g b c d f n m a))
+
+  sent_types : (g : Gives) (receiver : Receiver) (selector n m a b c : ℕ) {x y : Block} {u v : ℕ} → as_number g + a ≡ u → as_object g + b ≡ v → Comes a b c x (below_arguments receiver a) (with_object receiver b)
+      → ((t : ℕ) → Comes (below_arguments receiver a) (with_object receiver b) t y (n + below_arguments receiver a) (m + with_object receiver b))
+      → Comes a b c (Then x (Then y (SendsMessage g (message_to receiver selector) n m))) u v
+  sent_types g receiver selector n m a b c number object first others = ends_with number object (next first (λ t. next (others t) (λ q. message_sent g receiver selector n m a b q)))
+
+  -- a message `new` to the class on top, or what the root's `new` does
+  new_by : (class : ℕ) (x : Block) (a b c : ℕ) → Within (height (suc a) b c d) x (height a (suc b) (c + 1) d) → Comes (suc a) b c (IfNew class x Making) a (suc b)
+  new_by class x a b c first =
+      more_by 1 (by_test (λ t. ByTest t (Within (height (suc a) b c d) x (height a (suc b) (c + 1) d)) (Within (height (suc a) b c d) Making (height a (suc b) (c + 1) d))) (has_new P class) (λ _. first) (λ _. search (arith, heights_same)))
+
+  new_types : (from : Option ℕ) (e : Value) (a b c : ℕ) → Comes (suc a) b c (new_block from e) a (suc b)
+  new_types (Some from) e a b c = new_by from _ a b c (search (arith, heights_same))
+  new_types None (Number (pos n)) a b c = new_by n _ a b c (search (arith, heights_same))
+  new_types None _ a b c = next {n = suc (suc a)} {m = b} (search (arith, op)) (λ t. choice (more_by 1 (search (arith, heights_same))) (λ q. more_by 1 (search (arith, heights_same))))
 
   old_types : (moment : Moment) (a b c : ℕ) → Comes (suc a) b c (old_block moment) (suc (below_new moment a)) b
   old_types Before a b c = search (arith, op)
@@ -132,7 +129,7 @@ module _ (P : Program) (r s slots names exit d : ℕ) (room : names ≤ d + s) w
     value_types (Print pieces arguments) depth a b c h =
         let n = number_count arguments in
         let m = object_count arguments in
-        next (arguments_type arguments depth a b c h) (λ t. plain (types_then P r s (height (n + a) (m + b) t d) (forget_orders m) (height (n + a) b t d) (print_orders pieces n) (height (suc a) b t d) (forgets_type P r s m (n + a) b t d) (print_types P r s b t d pieces n a)))
+        next (arguments_type arguments depth a b c h) (λ t. plain (types_then P r s _ (forget_orders m) _ (print_orders pieces n) _ (forgets_type P r s m (n + a) b t d) (print_types P r s b t d pieces n a)))
     value_types (Applied operator kind v) depth a b c h = next (value_types v depth a b c h) (λ t. search (arith, op))
     value_types (Combined operator kind v u) depth a b c h =
         next (value_types v depth a b c h) (λ t. next (value_types u (suc depth) (suc a) b t (omega (arith, h))) (λ q. search (arith, op)))
@@ -144,12 +141,9 @@ module _ (P : Program) (r s slots names exit d : ℕ) (room : names ≤ d + s) w
         let lies = lies_below moment depth a h in
         next (plain (get_types P r s b c d slots depth i a h)) (λ t. update_types moment operator computed kept _ _ a b t b (λ q. value_types v (suc (below_new moment depth)) (suc (below_new moment a)) b q (omega (arith, lies))) (λ q. plain (set_types P r s b q d slots (below_new moment depth) i (below_new moment a) lies)))
     value_types (Invoked f arguments) depth a b c h =
-        ends_with {n = as_number gives.Number + a} {m = as_object gives.Number + b} (omega arith) (omega arith) (next (arguments_type arguments depth a b c h) (λ t. called gives.Number f (number_count arguments) (object_count arguments) a b t))
-    value_types (Sent receiver selector arguments) depth a b c h =
-        let n = below_arguments receiver a in
-        let m = with_object receiver b in
-        ends_with {n = as_number gives.Number + a} {m = as_object gives.Number + b} (omega arith) (omega arith)
-        (next {n = n} {m = m} (receiver_types receiver depth a b c h) (λ t. next (arguments_type arguments (below_arguments receiver depth) n m t (receiver_lies receiver depth a h)) (λ q. message_sent gives.Number receiver selector (number_count arguments) (object_count arguments) a b q)))
+        next (arguments_type arguments depth a b c h) (λ t. called gives.Number f (number_count arguments) (object_count arguments) a b t (omega arith) (omega arith))
+    value_types (Sent receiver selector arguments) depth a b c h = sent_types gives.Number receiver selector (number_count arguments) (object_count arguments) a b c (omega arith) (omega arith)
+        (receiver_types receiver depth a b c h) (λ t. arguments_type arguments (below_arguments receiver depth) _ _ t (receiver_lies receiver depth a h))
     value_types (Field v class index) depth a b c h = next (reference_types v depth a b c h) (λ t. search (arith, op))
     value_types (FieldAssigned v class index u) depth a b c h =
         next (reference_types v depth a b c h) (λ t. next (value_types u depth a (suc b) t h) (λ q. search (arith, op)))
@@ -165,7 +159,7 @@ module _ (P : Program) (r s slots names exit d : ℕ) (room : names ≤ d + s) w
     pub reference_types : (e : Reference) (depth a b c : ℕ) → depth + slots ≤ a + r → Comes a b c (reference_block depth e) a (suc b)
     reference_types resolved.Nil depth a b c h = search (arith, op)
     reference_types Itself depth a b c h = search (arith, op)
-    reference_types (Variable i) depth a b c h = record { more = c + 1; most = omega arith; types = read_types P r s names i a b c d room }
+    reference_types (Variable i) depth a b c h = more_by 1 (read_types P r s names i a b c d room)
     reference_types (Chosen v u w) depth a b c h = next (value_types v depth a b c h) (λ t. choice (reference_types u depth a b t h) (λ q. reference_types w depth a b q h))
     reference_types (Stored i v) depth a b c h =
         next (reference_types v depth a b c h) (λ t. next (plain (store_types P r s names a (suc b) t d room i (omega arith))) (λ q. search (arith, op)))
@@ -177,12 +171,9 @@ module _ (P : Program) (r s slots names exit d : ℕ) (room : names ≤ d + s) w
     reference_types (Made v) depth a b c h = next (value_types v depth a b c h) (λ t. search (arith, op))
     reference_types (New from v) depth a b c h = next (value_types v depth a b c h) (λ t. new_types from v a b t)
     reference_types (ObjectInvoked f arguments) depth a b c h =
-        ends_with {n = as_number gives.Object + a} {m = as_object gives.Object + b} (omega arith) (omega arith) (next (arguments_type arguments depth a b c h) (λ t. called gives.Object f (number_count arguments) (object_count arguments) a b t))
-    reference_types (ObjectSent receiver selector arguments) depth a b c h =
-        let n = below_arguments receiver a in
-        let m = with_object receiver b in
-        ends_with {n = as_number gives.Object + a} {m = as_object gives.Object + b} (omega arith) (omega arith)
-        (next {n = n} {m = m} (receiver_types receiver depth a b c h) (λ t. next (arguments_type arguments (below_arguments receiver depth) n m t (receiver_lies receiver depth a h)) (λ q. message_sent gives.Object receiver selector (number_count arguments) (object_count arguments) a b q)))
+        next (arguments_type arguments depth a b c h) (λ t. called gives.Object f (number_count arguments) (object_count arguments) a b t (omega arith) (omega arith))
+    reference_types (ObjectSent receiver selector arguments) depth a b c h = sent_types gives.Object receiver selector (number_count arguments) (object_count arguments) a b c (omega arith) (omega arith)
+        (receiver_types receiver depth a b c h) (λ t. arguments_type arguments (below_arguments receiver depth) _ _ t (receiver_lies receiver depth a h))
 
     -- what gets a message is one operand more, or one reference more
     receiver_types : (e : Receiver) (depth a b c : ℕ) → depth + slots ≤ a + r → Comes a b c (receiver_block depth e) (below_arguments e a) (with_object e b)
@@ -200,7 +191,7 @@ module _ (P : Program) (r s slots names exit d : ℕ) (room : names ≤ d + s) w
 
   -- ---- full-expressions, which end without temporaries
 
-  full : (looping statement : Bool) (a n m u : ℕ) (x y : Block) → Comes a 0 0 x n m → ((t : ℕ) → Within (height n m t d) y (height u 0 t d)) → BlockTypes P r s slots names exit looping statement (height a 0 0 d) (Full x y) (height u 0 0 d)
+  pub full : (looping statement : Bool) (a n m u : ℕ) (x y : Block) → Comes a 0 0 x n m → ((t : ℕ) → Within (height n m t d) y (height u 0 t d)) → BlockTypes P r s slots names exit looping statement (height a 0 0 d) (Full x y) (height u 0 0 d)
   full looping statement a n m u x y first others =
       let t = first.more in (
         height n m t d,
@@ -216,16 +207,6 @@ module _ (P : Program) (r s slots names exit d : ℕ) (room : names ≤ d + s) w
   pub whole_reference_types : (looping statement : Bool) (e : Reference) (a : ℕ) → slots ≤ a + r → BlockTypes P r s slots names exit looping statement (height a 0 0 d) (whole_reference_block e) (height a 0 0 d)
   whole_reference_types looping statement e a h =
       full looping statement a a 1 a (reference_block 0 e) (One Forget) (reference_types e 0 a 0 0 (omega (arith, h))) (λ t. search (arith, heights_same))
-
-  pub begin_types : (looping statement : Bool) (i : ℕ) (e : Reference) (a : ℕ) → slots ≤ a + r → BlockTypes P r s slots names exit looping statement (height a 0 0 d) (begin_block i e) (height a 0 0 d)
-  begin_types looping statement i e a h =
-      full looping statement a a 1 a (reference_block 0 e) (Then (Assign (Local i)) (One Forget)) (reference_types e 0 a 0 0 (omega (arith, h)))
-      (λ t. (height a 1 t d, store_types P r s names a 1 t d room (Local i) (omega arith), search (arith, heights_same)))
-
-  pub answer_types : (looping statement : Bool) (e : Reference) (a : ℕ) → slots ≤ a + r → BlockTypes P r s slots names exit looping statement (height a 0 0 d) (answer_block e) (height a 0 0 d)
-  answer_types looping statement e a h =
-      full looping statement a a 1 a (reference_block 0 e) (Then Answer (One Forget)) (reference_types e 0 a 0 0 (omega (arith, h)))
-      (λ t. (height a 1 t d, store_types P r s names a 1 t d room (Local (names - 1)) (omega arith), search (arith, heights_same)))
 
 pub whole_ends : (P : Program) (base : Height) (pending : List Height) (slots names : ℕ) (e : Value) (a b : ℕ) → last_walk P base (walk (between a b) pending) (whole_orders P slots names e) ≡ walk (between (suc a) b) pending
 whole_ends P base pending slots names e a b = within_ends P slots names slots names 0 base (whole_block e) (between a b) (between (suc a) b) pending (whole_types P slots names slots names 0 b (omega arith) false false e a (omega arith))
@@ -255,12 +236,6 @@ module _ (P : Program) (slots names exit : ℕ) where
     pub clear_types : (first count : ℕ) → Statement base (Clear first count) base
     clear_types first count = all_empty_type P 0 0 names slots 0 0 names (omega arith) first count
 
-    loop_types : (moment : Moment) (b : Bool) (step x body : Block) → Statement base step base → Statement base x test → BlockTypes P 0 0 slots names exit true true base body base → Statement base (loop_block moment b step x body) base
-    loop_types Before true step x body s t u = (refl, refl, refl, t, u, refl)
-    loop_types Before false step x body s t u = (refl, refl, s, t, u, refl)
-    loop_types After true step x body s t u = (refl, refl, refl, t, u, refl)
-    loop_types After false step x body s t u = (refl, refl, s, t, u, refl)
-
   mutual
     pub command_types : (looping : Bool) (breaks continues : Block) → Statement looping base breaks base → Statement looping base continues base → (c : Command) → Statement looping base (command_block exit breaks continues c) base
     command_types l b n t u (Sequence first count all) =
@@ -268,14 +243,20 @@ module _ (P : Program) (slots names exit : ℕ) where
         (base, commands_type l (Then (Clear first count) b) (Then (Clear first count) n) (base, clear, t) (base, clear, u) all, clear)
     command_types l b n t u (Evaluate a) = (test, test_types l (unused a), search (arith, heights_same))
     command_types l b n t u (EvaluateReference a) = whole_reference_types P 0 0 slots names exit names (omega arith) l true a slots (omega arith)
-    command_types l b n t u (Begin i a) = begin_types P 0 0 slots names exit names (omega arith) l true i a slots (omega arith)
-    command_types l b n t u (Give a) = (base, answer_types P 0 0 slots names exit names (omega arith) l true a slots (omega arith), nothing_types l)
+    command_types l b n t u (Begin i a) = full P 0 0 slots names exit names (omega arith) l true slots slots 1 slots (reference_block 0 a) (Then (Assign (Local i)) (One Forget)) (reference_types P 0 0 slots names exit names (omega arith) a 0 slots 0 0 (omega arith))
+        (λ t. (height slots 1 t names, store_types P 0 0 names slots 1 t names (omega arith) (Local i) (omega arith), search (arith, heights_same)))
+    command_types l b n t u (Give a) =
+        let given = full P 0 0 slots names exit names (omega arith) l true slots slots 1 slots (reference_block 0 a) (Then Answer (One Forget)) (reference_types P 0 0 slots names exit names (omega arith) a 0 slots 0 0 (omega arith))
+        (λ t. (height slots 1 t names, store_types P 0 0 names slots 1 t names (omega arith) (Local (names - 1)) (omega arith), search (arith, heights_same))) in
+        (base, given, nothing_types l)
     command_types l b n t u (resolved.Return None) = nothing_types l
     command_types l b n t u (resolved.Return (Some a)) = (test, test_types l a, (refl, refl, refl, refl))
     command_types l b n t u (Choose v x y) =
         let forks : Forks P test base 0 base = record { some = omega arith; left = search (arith, heights_same); first = omega arith; next = omega arith } in
         (test, test_types l v, (base, 0, forks, refl, command_types l b n t u x, command_types l b n t u y))
-    command_types l b n t u (Repeat moment v step body) = loop_types l moment (does_nothing step) (command_block exit b n step) (whole_block v) (command_block exit Quit Advance body) (command_types l b n t u step) (test_types l v) (command_types true Quit Advance (refl, refl, refl, refl) (refl, refl, refl, refl) body)
+    command_types l b n t u (Repeat moment v step body) =
+        let stepped = by_test (λ b1. Statement l base (if b1 then Idle else command_block exit b n step) base) (does_nothing step) (λ _. refl) (λ _. command_types l b n t u step) in
+        (refl, refl, stepped, test_types l v, command_types true Quit Advance (refl, refl, refl, refl) (refl, refl, refl, refl) body, refl)
     command_types l b n t u Break = t
     command_types l b n t u Continue = u
 

@@ -1,6 +1,8 @@
 -- The heights of a lowered program, and what its functions give, fit its actions.
-use Rattle.std.proofs.Common.{◌≡◌, ℕ, zero, suc, ◌+◌, ◌-◌, ◌≤◌, List, [], ◌∷◌, ◌++◌, length, get_or, Some, refl, sym, ap, ◌∙◌, subst, arith, slice_get}
-use Rattle.std.proofs.lemmas.Option.{get_or_from_slice_get}
+use Rattle.std.proofs.Common.{◌≡◌, ℕ, zero, suc, ◌+◌, ◌-◌, ◌≤◌, List, [], ◌∷◌, length, map, get_or, Some, refl, sym, ap, ◌∙◌, subst, arith, slice_get}
+use Rattle.std.specs.Option.{option_map}
+use Rattle.std.proofs.lemmas.List.{map-append}
+use Rattle.std.proofs.lemmas.Option.{get_or_from_slice_get, slice_get-map}
 use Rattle.arc_spec.specs.declared.class.Gives.{Gives}
 use Rattle.arc_spec.specs.declared.class.Method.{Method}
 use Rattle.arc_spec.specs.Classes.{Class, lookup}
@@ -38,44 +40,34 @@ none_greater (h ∷ hs) most none (suc pc) low = none_greater hs (highest most h
 -- ---- heights with what functions give
 
 abbrev firsts : List (Height × Gives) → List Height
-firsts [] = []
-firsts (m ∷ others) = m.0 ∷ firsts others
-
-firsts_append : (a b : List (Height × Gives)) → firsts (a ++ b) ≡ firsts a ++ firsts b
-firsts_append [] b = refl
-firsts_append (m ∷ a) b = ap (λ l. m.0 ∷ l) (firsts_append a b)
+firsts = map (λ (m : Height × Gives). m.0)
 
 firsts_in : (given : Gives) (hs : List Height) → firsts (in_function given hs) ≡ hs
 firsts_in given [] = refl
 firsts_in given (h ∷ hs) = ap (λ l. h ∷ l) (firsts_in given hs)
 
-first_there : (ms : List (Height × Gives)) (pc : ℕ) (m : Height × Gives) → slice_get ms pc ≡ Some m → slice_get (firsts ms) pc ≡ Some m.0
-first_there [] pc m e = cc
-first_there (n ∷ ms) zero m e = ap (λ (x : Height × Gives). Some x.0) (some_same n m e)
-first_there (n ∷ ms) (suc pc) m e = first_there ms pc m e
-
 module _ (R : resolved.Program) where
   functions_firsts : (fs : List Function) (place : ℕ) → firsts (functions_marks R place fs) ≡ functions_heights R place fs
   functions_firsts [] place = refl
-  functions_firsts (f ∷ fs) place = simp (firsts_append, firsts_in, functions_firsts fs (place + length (function_orders R place f)))
+  functions_firsts (f ∷ fs) place = simp (map-append, firsts_in, functions_firsts fs (place + length (function_orders R place f)))
 
   methods_firsts : (ms : List Method) → firsts (methods_marks R (entries_of R) ms) ≡ methods_heights R (entries_of R) ms
   methods_firsts [] = refl
-  methods_firsts (m ∷ ms) = simp (firsts_append, firsts_in, methods_firsts ms)
+  methods_firsts (m ∷ ms) = simp (map-append, firsts_in, methods_firsts ms)
 
   classes_firsts : (cs : List Class) → firsts (classes_marks R (entries_of R) cs) ≡ classes_heights R (entries_of R) cs
   classes_firsts [] = refl
-  classes_firsts (c ∷ cs) = simp (firsts_append, firsts_in, methods_firsts, classes_firsts cs)
+  classes_firsts (c ∷ cs) = simp (map-append, firsts_in, methods_firsts, classes_firsts cs)
 
   marks_firsts : firsts (lowered_marks R) ≡ lowered_heights R
-  marks_firsts = simp (firsts_append, firsts_in, functions_firsts, classes_firsts)
+  marks_firsts = simp (map-append, firsts_in, functions_firsts, classes_firsts)
 
 -- ---- the program
 
 module _ (p : Program) (R : resolved.Program) where
   there : (pc : ℕ) (h : Height) (given : Gives) → slice_get (table R) pc ≡ Some (h, given) → height_at R pc ≡ h
   there pc h given e = get_or_from_slice_get (lowered_heights R) pc h no_height
-      (ap (λ l. slice_get l pc) (sym (marks_firsts R)) ∙ first_there (table R) pc (h, given) e)
+      (ap (λ l. slice_get l pc) (sym (marks_firsts R)) ∙ slice_get-map (λ (m : Height × Gives). m.0) (table R) pc ∙ ap (option_map (λ (m : Height × Gives). m.0)) e)
 
   gives_there : (pc : ℕ) (h : Height) (given : Gives) → slice_get (table R) pc ≡ Some (h, given) → result_at R pc ≡ given
   gives_there pc h given e = ap (λ (m : Height × Gives). m.1) (get_or_from_slice_get (table R) pc (h, given) no_mark e)
@@ -84,16 +76,12 @@ module _ (p : Program) (R : resolved.Program) where
   within : (given : Gives) (pc to : ℕ) (h g : Height) (e : Effect) → slice_get (table R) pc ≡ Some (h, given) → slice_get (table R) to ≡ Some (g, given) → FitsBetween h g e → FitsBetween (height_at R pc) (height_at R to) e
   within given pc to h g e now next f = rw (there pc h given now, there to g given next) f
 
-  -- a number or a reference is after what gives one
-  given_there : (given wanted : Gives) (pc : ℕ) (g : Height) → slice_get (table R) pc ≡ Some (g, given) → as_number wanted ≤ g.numbers → as_object wanted ≤ g.names → (as_number wanted ≤ (height_at R pc).numbers) × (as_object wanted ≤ (height_at R pc).names)
-  given_there given wanted pc g next number object = rw (there pc g given next) (number, object)
-
   module _ (calls : (wanted : Gives) (f : ℕ) → IsCalled R wanted f → Goes R (all R) (table R) wanted (entry p f) (height (slots_of R wanted f) (parameters_of R wanted f) 0 0)) (given : Gives) where
     message_fits : (wanted : Gives) (taken names pc : ℕ) (h : Height) → slice_get (table R) pc ≡ Some (h, given)
         → slice_get (table R) (pc + 1) ≡ Some (height (h.numbers - taken + as_number wanted) (h.names - names + as_object wanted) (h.temporaries + as_object wanted) (h.variables + 0), given)
         → FitsBetween (height_at R pc) (height_at R (pc + 1)) (giving wanted taken names) × ((as_number wanted ≤ (height_at R (pc + 1)).numbers) × (as_object wanted ≤ (height_at R (pc + 1)).names))
     message_fits wanted taken names pc h now next =
-        (within given pc (pc + 1) h _ (giving wanted taken names) now next (search arith), given_there given wanted (pc + 1) _ next (omega arith) (omega arith))
+        (within given pc (pc + 1) h _ (giving wanted taken names) now next (search arith), rw (there (pc + 1) _ given next) (omega arith, omega arith))
 
     order_fits : (pc : ℕ) (h : Height) (x : Order) → slice_get (table R) pc ≡ Some (h, given) → Steps R (all R) (table R) given h pc x → FitsAt (bare p) (height_at R) pc x
     order_fits pc h (Jump to) now s = within given pc (lands pc to) h _ _ now s.2.0.height (search arith)
@@ -142,11 +130,6 @@ module _ (p : Program) (R : resolved.Program) where
   action_gives (Plain o) pc h = h
   action_gives _ pc h = h
 
-  order_at : (xs : List Action) (pc : ℕ) (x : Action) → slice_get xs pc ≡ Some x → slice_get (orders xs) pc ≡ Some (order x)
-  order_at [] pc x e = cc
-  order_at (y ∷ xs) zero x e = ap (λ a. Some (order a)) (some_same y x e)
-  order_at (y ∷ xs) (suc pc) x e = order_at xs pc x e
-
   module _ (is : orders p.actions ≡ lowered R) (entries : p.entries ≡ entries_of R) where
     -- a function is entered with its variables
     pub entry_goes : (wanted : Gives) (f : ℕ) → IsCalled R wanted f → Goes R (all R) (table R) wanted (entry p f) (height (slots_of R wanted f) (parameters_of R wanted f) 0 0)
@@ -164,10 +147,10 @@ module _ (p : Program) (R : resolved.Program) where
     pub heights_fit : p.classes ≡ classes_linked R → HeightsFit (linked p) (height_at R) (result_at R) (greatest_height R).numbers (greatest_height R).names (places_in (greatest_height R))
     heights_fit classes = record {
       at = λ pc x e.
-          let s = steps_at R pc (order x) (subst (λ l. slice_get l pc ≡ Some (order x)) is (order_at p.actions pc x e)) in
+          let s = steps_at R pc (order x) (subst (λ l. slice_get l pc ≡ Some (order x)) is (slice_get-map order p.actions pc ∙ ap (option_map order) e)) in
           action_fits x pc (order_fits entry_goes s.0.1 pc s.0.0 (order x) s.1 s.2);
       results = λ pc x e.
-          let s = steps_at R pc (order x) (subst (λ l. slice_get l pc ≡ Some (order x)) is (order_at p.actions pc x e)) in
+          let s = steps_at R pc (order x) (subst (λ l. slice_get l pc ≡ Some (order x)) is (slice_get-map order p.actions pc ∙ ap (option_map order) e)) in
           action_gives x pc (order_gives entry_goes s.0.1 pc s.0.0 s.1 (order x) s.2);
       methods = λ from sign selector takes objects wanted to e.
           let found = methods_go R from sign selector takes objects wanted to (subst (λ cs. lookup cs from sign selector takes objects wanted ≡ Some to) classes e) in

@@ -2,21 +2,21 @@
 use Rattle.std.proofs.Common.{inl, ◌≡◌, ℕ, zero, suc, ◌+◌, ◌≤◌, ℤ, Bool, true, false, not, ◌&&◌, nat_eq, nat_lt, if◌then◌else◌, List, [], ◌∷◌, ◌++◌, length, Option, Some, None, slice_get, slice_set, refl, sym, ap, ◌∙◌, subst, arith, length-append}
 use Rattle.std.proofs.lemmas.Bool.{ltb-true, ltb-false}
 use Rattle.std.proofs.lemmas.List.{length-set, get_or_past, set_past}
-use Rattle.std.proofs.lemmas.Option.{get_or_from_slice_get, none-some, slice_get-get_or}
+use Rattle.std.proofs.lemmas.Option.{get_or_from_slice_get, slice_get-get_or, slice_get_cases}
 use Rattle.arc_spec.specs.declared.event.Event.{Event}
-use Rattle.arc_spec.specs.declared.location.Location.TheVariants.{Local, Global}
+use Rattle.arc_spec.specs.declared.location.Location.TheVariants.{Local}
 use Rattle.arc_spec.specs.Objects.{Object, Dying, object_at, with_object, in_phase, is_live, names}
 use Rattle.arc_spec.specs.World as world
 use Rattle.arc_spec.specs.World.{World, Outcome, Done, finished, Finished, then_do, places, stacked, with_temporaries, with_strong, stores, name_at}
-use Rattle.arc_spec.specs.Meaning.{Deeper, released, field_stores, temporaries_dropped, second_dropped, all_dropped, assigned, variables_dropped}
-use Rattle.arc_spec.specs.Holding.{Held, Frame, holders, is_there, on_object, on_named, with_things, with_variables, with_strong_globals, with_strong_field, on_place, raised, lowered, lets_go}
-use Rattle.arc_spec.specs.Stepping.{Next, Goes, Stuck, Reached, only_if}
+use Rattle.arc_spec.specs.Meaning.{Deeper, released, temporaries_dropped, second_dropped, all_dropped, assigned, variables_dropped}
+use Rattle.arc_spec.specs.Holding.{Held, Frame, holders, is_there, on_object, on_named, with_things, with_variables, on_place, raised, lowered, lets_go}
+use Rattle.arc_spec.specs.Stepping.{Next, Stuck, Reached, only_if}
 use Rattle.arc_code.specs.Instructions as instructions
 use Rattle.arc_ir.specs.Acting.{Program, State, has_level, begins_end, releases}
 use Rattle.arc_code.specs.declared.instr.Instr.TheVariants.{DropAll, Settle, Empty}
 use Rattle.arc_lower.specs.Order.{Order}
 use Rattle.arc_lower.specs.Lowered.{empty_orders, all_empty_orders}
-use Rattle.arc_lower.proofs.CountsPlaces.{tally_same, holders_head, last_one, raised_count, lowered_count, variable_moves, global_moves, field_moves, second_moves}
+use Rattle.arc_lower.proofs.CountsPlaces.{tally_same, holders_head, last_one, raised_count, lowered_count, variable_moves, second_moves}
 use Rattle.arc_lower.proofs.Leading.{leads_same, running, Follows, After, after, ends, on, quietly, steps, next, better}
 use Rattle.arc_lower.proofs.Cases.{by_test}
 use Rattle.arc_lower.proofs.Doing.{moves, at, counting, held_of, bare, HasAt, has_front, has_back}
@@ -82,9 +82,7 @@ module _ {p : Program} {bound : ℕ} {A : Type 0} {i : List ℕ} {t : List Event
   after_named (suc k) h go = after_object (object_at h.objects (suc k)) (λ ob e is. go)
 
 past_end : (names : List ℕ) (i : ℕ) → slice_get names i ≡ None → length names ≤ i
-past_end [] i e = omega arith
-past_end (q ∷ names) zero e = absurd (none-some q (sym e))
-past_end (q ∷ names) (suc i) e = omega (arith, past_end names i e)
+past_end names i e = grind (arith, slice_get_cases names i)
 
 module _ {p : Program} {bound : ℕ} (D : Deeper) {w : World} {A : Type 0} {end : A → World → Reached State → Type 0}
     (meant : Outcome Finished → Outcome A) where
@@ -116,14 +114,11 @@ module _ {p : Program} {bound : ℕ} (D : Deeper) {w : World} {A : Type 0} {end 
       → After p bound none w.input w.trace end (meant (Done finished w))
       → ((old : ℕ) → slice_get places' i ≡ Some old → After p bound (go old) w.input w.trace end (meant (released D old (with (slice_set places' i r)))))
       → After p bound (on_place (slice_get places' i) none go) w.input w.trace end (meant (released D (name_at places' i) (with (slice_set places' i r))))
-  after_place places' i r {none} {go} with is stay release =
-      let changed = with (slice_set places' i r) in
+  after_place places' i r with is stay release =
       by_place (slice_get places' i) (λ e.
       let le = past_end places' i e in
-      subst (λ q. After p bound none w.input w.trace end (meant (released D q changed))) (sym (get_or_past places' i 0 le))
-      (subst (λ x. After p bound none w.input w.trace end (meant (Done finished x))) (sym (ap with (set_past places' i r le) ∙ is)) stay))
-      (λ old found. subst (λ q. After p bound (go old) w.input w.trace end (meant (released D q changed)))
-      (sym (get_or_from_slice_get places' i old 0 found)) (release old found))
+      rw (get_or_past places' i 0 le, ap with (set_past places' i r le) ∙ is) stay)
+      (λ old found. rw (get_or_from_slice_get places' i old 0 found) (release old found))
 
 -- variables that are emptied, from the first one on, the last one first
 abbrev pub empties : (first count : ℕ) → List ℕ → List ℕ
@@ -153,14 +148,11 @@ module _ (p : Program) (frames : List Frame) (bound : ℕ) (rs : List ℕ) (D : 
         (λ done w1 to m. (m.0 ∙ rw (← m.1.frame, ← m.1.waiting), m.1));
   }
 
-  kept_at : (stack : List ℤ) (w : World) (pc : ℕ) (c : ℕ → ℕ) → Dropping stack pc (Goes (at frames pc stack (counting rs w c)) []) w w (Done finished w)
-  kept_at stack w pc c = quietly (ends (refl, kept_same w))
-
   -- a place names this no more
-  release_runs : (r : ℕ) (c : ℕ → ℕ) (h0 : Held) (stack : List ℤ) (w : World) (pc : ℕ) → ((k : ℕ) → c (suc k) ≡ holders (suc k) (r ∷ places w))
+  pub release_runs : (r : ℕ) (c : ℕ → ℕ) (h0 : Held) (stack : List ℤ) (w : World) (pc : ℕ) → ((k : ℕ) → c (suc k) ≡ holders (suc k) (r ∷ places w))
       → Dropping stack (pc + 1) (releases p (at frames pc stack h0) r (counting rs w c)) w w (released D r w)
   release_runs r c h0 stack w pc count =
-      after_let_go D (λ o. o) rs w.frame w.waiting r c _ _ count (λ less _. kept_at stack w (pc + 1) less)
+      after_let_go D (λ o. o) rs w.frame w.waiting r c _ _ count (λ less _. quietly (ends (refl, kept_same w)))
       (λ k ob less found. own_ends k ob less h0 stack w pc (pc + 1) found)
 
   -- ---- temporaries
@@ -224,25 +216,10 @@ module _ (p : Program) (frames : List Frame) (bound : ℕ) (rs : List ℕ) (D : 
       (raised r (with_variables (held_of rs w) (slice_set w.frame.strong i r)))) w (stores (Local i) r w) (released D old (stores (Local i) r w))
   changes_runs i r old stack w pc found = release_runs old (raised r (held_of rs w)).counts (held_of rs w) stack (stores (Local i) r w) pc (λ k. raised_count r (held_of rs w) (suc k) ∙ sym (variable_moves (suc k) (held_of rs w) i old r found))
 
-  -- a variable of the whole program takes this
-  pub global_runs : (i r old : ℕ) (stack : List ℤ) (w : World) (pc : ℕ) → slice_get w.strong_globals i ≡ Some old
-      → Dropping stack (pc + 1) (releases p (at frames pc stack (held_of rs w)) old
-      (raised r (with_strong_globals (held_of rs w) (slice_set w.strong_globals i r)))) w (stores (Global i) r w) (released D old (stores (Global i) r w))
-  global_runs i r old stack w pc found = release_runs old (raised r (held_of rs w)).counts (held_of rs w) stack (stores (Global i) r w) pc (λ k. raised_count r (held_of rs w) (suc k) ∙ sym (global_moves (suc k) (held_of rs w) i old r found))
-
-  -- a field of an object that is there takes this
-  pub strong_field_runs : (j : ℕ) (ob : Object) (index r old : ℕ) (h0 : Held) (stack : List ℤ) (w : World) (pc : ℕ) → object_at w.objects (suc j) ≡ Some ob → is_there ob.phase ≡ true → slice_get ob.strong index ≡ Some old
-      → Dropping stack (pc + 1) (releases p (at frames pc stack h0) old (raised r (with_strong_field (held_of rs w) (suc j) ob index r))) w
-      (field_stores (suc j) ob index r w) (released D old (field_stores (suc j) ob index r w))
-  strong_field_runs j ob index r old h0 stack w pc found is named =
-      release_runs old (raised r (held_of rs w)).counts h0 stack (field_stores (suc j) ob index r w) pc
-      (λ k. raised_count r (held_of rs w) (suc k) ∙ sym (field_moves (suc k) (held_of rs w) j ob index old r found is named))
-
   empty_runs : (count i : ℕ) (stack : List ℤ) (w : World) (pc : ℕ) → length w.frame.strong ≡ count → HasAt p pc (empty_orders count i)
       → Drops stack pc (pc + length (empty_orders count i)) w (stores (Local i) 0 w) (assigned D (Local i) 0 w)
-  empty_runs count i stack w pc size =
-      let Does : List Order → Type 0 = λ xs. HasAt p pc xs → Drops stack pc (pc + length xs) w (stores (Local i) 0 w) (assigned D (Local i) 0 w) in
-      subst (λ m. Does (empty_orders m i)) size (by_test (λ b. Does (if b then Empty i ∷ [] else [])) (nat_lt i (length w.frame.strong))
+  empty_runs count i stack w pc size = rw (← size)
+      (by_test (λ b. HasAt p pc (if b then Empty i ∷ [] else []) → Drops stack pc (pc + length {A = Order} (if b then Empty i ∷ [] else [])) w (stores (Local i) 0 w) (assigned D (Local i) 0 w)) (nat_lt i (length w.frame.strong))
       (λ e has. let found = slice_get-get_or w.frame.strong i 0 (ltb-true i (length w.frame.strong) e) in steps (Empty i) has.0
       (rw found (changes_runs i 0 (name_at w.frame.strong i) stack w pc found)))
       (λ e has. no_variable i 0 stack w pc (ltb-false i (length w.frame.strong) e)))

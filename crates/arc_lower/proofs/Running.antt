@@ -1,6 +1,6 @@
 -- Steps do what blocks mean.
 use Rattle.std.proofs.Common.{◌≡◌, ℕ, zero, suc, ◌+◌, ◌-◌, ◌≤◌, ℤ, pos, Bool, true, false, not, ◌&&◌, is_some, nat_eq, nat_lt, if◌then◌else◌, inr, List, [], ◌∷◌, ◌++◌, length, drop, Option, Some, None, slice_get, slice_set, refl, sym, ap, ◌∙◌, subst, arith, length-append}
-use Rattle.std.proofs.lemmas.Bool.{ltb-true, ltb-false, eqb-true, and_parts, false≢true}
+use Rattle.std.proofs.lemmas.Bool.{ltb-true, ltb-false, eqb-true, and_parts, not-true, false≢true}
 use Rattle.std.proofs.lemmas.List.{length-set, get_or_past, set_past, set-get_or}
 use Rattle.arc_ast.specs.declared.tree.Sign.{Sign}
 use Rattle.arc_ast.specs.declared.tree.Sign.TheVariants as signs
@@ -15,7 +15,7 @@ use Rattle.arc_spec.specs.Resolved as resolved
 use Rattle.arc_spec.specs.declared.location.Location.{Location}
 use Rattle.arc_spec.specs.declared.location.Location.TheVariants.{Local, Global}
 use Rattle.arc_spec.specs.Resolved.{Piece}
-use Rattle.arc_spec.specs.Meaning.{Deeper, held_at, holds, chosen, temporaries_dropped, released, and_number, field_stores, dispatched, finds, gives_object, runs_found, class_in, sent, sent_from, object_given, next_object, made, made_new, second_dropped, result_place, in_object, formatted, byte_count, or_fault, assigned, all_dropped}
+use Rattle.arc_spec.specs.Meaning.{Deeper, held_at, holds, chosen, temporaries_dropped, released, and_number, field_stores, dispatched, finds, gives_object, runs_found, class_in, sent, sent_from, next_object, made, made_new, second_dropped, result_place, in_object, formatted, byte_count, or_fault, assigned, all_dropped}
 use Rattle.arc_spec.specs.World as world
 use Rattle.arc_spec.specs.World.{World, Outcome, Done, Faulted, Finished, then_do, Given, nothing_given, prints, next_number, with_objects, with_temporaries, local_at, name_at, named_at, with_strong_globals, takes, stores, padded}
 use Rattle.arc_spec.specs.Holding.{Frame, is_there, on_field, with_strong_field, on_place, raised}
@@ -37,12 +37,13 @@ use Rattle.arc_lower.specs.Size.{has_new}
 use Rattle.std.specs.List.{list_any}
 use Rattle.std.proofs.lemmas.Option.{get_or_from_slice_get, slice_get-get_or}
 use Rattle.arc_lower.proofs.Leading.{Leads, leads_trans, leads_step, running, Follows, After, ends, leads, on, fewer, faults, quietly, steps, steps_more, next, further_on, shows_nothing, Crosses, one_crosses, then_crosses, no_crosses}
+use Rattle.arc_lower.proofs.CountsPlaces.{raised_count, global_moves, field_moves}
 use Rattle.arc_lower.proofs.Cases.{by_test}
 use Rattle.arc_lower.proofs.Doing.{fresh, recount, moves, at, counting, held_of, bare, does, HasAt, has_front, has_back}
-use Rattle.arc_lower.proofs.Stacking.{onto, Peels, peels_onto, drop_onto, without_below, get_onto, get_local, set_local, get_below, set_below, print_passes, forgets_shift, passing_leads}
-use Rattle.arc_lower.proofs.Releasing.{Kept, kept_same, Ends, Stays, after_place, after_object, after_named, global_runs, strong_field_runs, emptied, empties, empties_by, dropped_runs, settled_runs, no_variable, changes_runs}
+use Rattle.arc_lower.proofs.Stacking.{onto, onto_front, drop_onto, without_below, get_onto, get_local, set_local, get_below, set_below, print_passes, forgets_shift, passing_leads}
+use Rattle.arc_lower.proofs.Releasing.{Kept, kept_same, Ends, Stays, after_place, after_object, after_named, release_runs, emptied, empties, empties_by, dropped_runs, settled_runs, no_variable, changes_runs}
 use Rattle.arc_lower.proofs.Shaping.{Operands, operands, push, name, Way, On, Out, Quits, Turns, Lost, left_by, on_way, and_then, only_on, after_turn, on_test, top_of, taken_of, on_given, pushes, answers_left, passes_by, operation, message_sent, block_turns, loop_entered, block, then_twice}
-use Rattle.arc_lower.proofs.Quiet.{takes_none, quiet_flat}
+use Rattle.arc_lower.proofs.Quiet.{takes_none, quiet_flat, enter_length}
 use Rattle.std.specs.Prelude.{drop}
 
 -- after a call, with its number on top, or with its object, which the last reference names and the last temporary
@@ -61,10 +62,6 @@ answered D wanted (Some f) self given w = D.call wanted f self given w
 dispatched_answers : (D : Deeper) (wanted : Gives) (found : Option ℕ) (class : ℤ) (given : Given) (w : World) → answered D wanted found 0 (and_number class given) w ≡ dispatched D wanted found class given w
 dispatched_answers D wanted None class given w = refl
 dispatched_answers D wanted (Some f) class given w = refl
-
--- what follows an object that is given
-object_then : {B : Type 0} (o : Outcome world.Answer) (go : ℕ → World → Outcome B) → then_do o (λ a w. go a.object (takes a.object w)) ≡ then_do (object_given o) go
-object_then o go = then_twice o (λ a w. Done a.object (takes a.object w)) go
 
 -- nothing lies on others
 pub onto_none : {A : Type 0} (values rest : List A) → length values ≡ 0 → onto values rest ≡ rest
@@ -92,10 +89,9 @@ pub same_put : (objects : List Object) (k : ℕ) (o : Object) → slice_get obje
 same_put objects k o e = ap (slice_set objects k) (sym (get_or_from_slice_get objects k o o e)) ∙ set-get_or objects k o
 
 -- so many numbers are taken
-taken_peels : {S : Type 0} → (n : ℕ) (stack rest : List ℤ) (go : List ℤ → Next S) → Peels n stack rest → taken n stack go ≡ go rest
-taken_peels zero stack rest go h = ap go h
-taken_peels (suc n) [] rest go h = absurd h
-taken_peels (suc n) (v ∷ stack) rest go h = taken_peels n stack rest go h
+taken_front : {S : Type 0} → (front rest : List ℤ) (go : List ℤ → Next S) → taken (length front) (front ++ rest) go ≡ go rest
+taken_front [] rest go = refl
+taken_front (v ∷ front) rest go = taken_front front rest go
 
 -- the running function, with so many variables of each kind, its `self`, and the places of those that wait
 pub record IsFramed (slots names self : ℕ) (waiting : List ℕ) (locals' : List ℤ) (strong' : List ℕ) (self' : ℕ) (waiting' : List ℕ) : Type 0 where
@@ -204,11 +200,6 @@ module _ (p : Program) (frames : List Frame) (bound : ℕ) (R : resolved.Program
         rw (deep.same_fields class) (still (taken_good free (next_object w)
         (with_objects w (w.objects ++ new_object class (field_counts (slice_get D.classes class)) ∷ [])) g))
 
-    by_descent : {A : Type 0} (b : Bool) (pc : ℕ) (way : A → Way) (w : World) (next : Next State) (go : Outcome A) → Steps next w pc (left_by way go)
-        → Steps (if b then next else Faults FieldClass) w pc (left_by way (if b then go else Faulted FieldClass w))
-    by_descent true pc way w next go h = h
-    by_descent false pc way w next go h = faults
-
     -- a field of an object
     field_runs : {A : Type 0} (class r pc : ℕ) (rs : List ℕ) (way : A → Way) (w : World) {next : Object → Next State} (go : Object → Outcome A)
         → ((k : ℕ) (o : Object) → r ≡ suc k → object_at w.objects (suc k) ≡ Some o → is_there o.phase ≡ true → Steps (next o) w pc (left_by way (go o)))
@@ -216,7 +207,8 @@ module _ (p : Program) (frames : List Frame) (bound : ℕ) (R : resolved.Program
     field_runs class zero pc rs way w go h = faults
     field_runs class (suc k) pc rs way w {next} go h =
         after_object (object_at w.objects (suc k)) (λ o found is. rw (found, deep.same_descent (Some o.class) class)
-        (by_descent (descends D.classes (Some o.class) class) pc way w (next o) (go o) (h k o refl found is)))
+        (by_test (λ b. Steps (if b then next o else Faults FieldClass) w pc (left_by way (if b then go o else Faulted FieldClass w)))
+        (descends D.classes (Some o.class) class) (λ e. h k o refl found is) (λ e. faults)))
 
     operation_runs : (o : Op) (pc : ℕ) (numbers : List ℤ) (rs : List ℕ) (w : World) → (calm ≡ true → takes_none R (One o) ≡ true) → Good calm w
         → Steps (does p (Plain o) (state pc (operands numbers rs) w)) w (pc + 1) (operation D o (operands numbers rs) w)
@@ -322,7 +314,7 @@ module _ (p : Program) (frames : List Frame) (bound : ℕ) (R : resolved.Program
         → Comes (passed pc given s w) (pc + length (forget_orders m ++ print_orders pieces n))
         (Done (On (push (byte_count (formatted pieces given.numbers)) s)) (prints (formatted pieces given.numbers) w))
     format_runs pieces pc n m given s w e f g = rw (← e, ← f) (λ has.
-        leads ((then_crosses (forgets_shift p frames _ w (length given.objects) _ s.names (peels_onto given.objects s.names))
+        leads ((then_crosses (forgets_shift p frames _ w given.objects s.names)
         (print_passes p frames s.names pieces given.numbers (s.numbers ++ vars w) w)).leads pc has) (here g))
 
     calls_run : (wanted : Gives) (f pc n m : ℕ) (given : Given) (s : Operands) (w : World) → length given.numbers ≡ n → length given.objects ≡ m
@@ -347,15 +339,6 @@ module _ (p : Program) (frames : List Frame) (bound : ℕ) (R : resolved.Program
     at_once_runs gives.Number object pc all before stack rs w = quietly (ends (refl, kept_same w))
     at_once_runs gives.Object object pc all before stack rs w = after_named object _ (quietly (ends (refl, kept_same w)))
 
-    -- what gets a message lies below its arguments
-    receiver_goes : (objects rest : List ℕ) (r : ℕ) (go : ℕ → List ℕ → Next State)
-        → instructions.on_receiver (length objects) (onto objects (r ∷ rest)) go ≡ go r (onto objects rest)
-    receiver_goes objects rest r go = rw (get_onto objects rest r) (ap (go r) (without_below objects rest r))
-
-    -- the class of what gets a message
-    class_found : (w : World) (r k : ℕ) (o : Object) → r ≡ suc k → object_at w.objects (suc k) ≡ Some o → class_in (object_at w.objects r) ≡ Some o.class
-    class_found w r k o e found = rw (e, found)
-
     -- what gets a message, and its arguments, are taken, and it comes back after it
     module _ (wanted : Gives) (selector pc : ℕ) (given : Given) (stack : List ℤ) (rs : List ℕ) (w : World) where
       abbrev Comes_back : Next State → Outcome world.Answer → Type 0
@@ -376,9 +359,7 @@ module _ (p : Program) (frames : List Frame) (bound : ℕ) (R : resolved.Program
           (lookup p.classes from signs.Class selector values references wanted))
           (dispatched D wanted (finds D wanted from signs.Class selector given) class given w)
       to_class from class =
-          let next = answers (at frames pc (onto given.numbers (class ∷ stack)) (held_of (onto given.objects rs) w)) 0
-          (lookup p.classes from signs.Class selector values references wanted) in
-          subst (λ o. Comes_back next o) (dispatched_answers D wanted (lookup D.classes from signs.Class selector values references wanted) class given w)
+          rw (← dispatched_answers D wanted (lookup D.classes from signs.Class selector values references wanted) class given w)
           (deep.says signs.Class from selector values references wanted 0 (and_number class given) stack rs w pc refl refl)
 
       nil_runs : (names : List ℕ)
@@ -386,7 +367,7 @@ module _ (p : Program) (frames : List Frame) (bound : ℕ) (R : resolved.Program
           (drop references (onto given.objects rs)))) (Done (gives_object 0) w)
       nil_runs names =
           let gives : List ℤ → Next State = λ rest. instructions.gives_at_once (bare p) (before names) wanted 0 rest rs in
-          rw (drop_onto given.objects rs, taken_peels values _ stack gives (peels_onto given.numbers stack))
+          rw (drop_onto given.objects rs, onto_front (λ n list. taken n list gives ≡ gives stack) given.numbers stack (λ front. taken_front front stack gives))
           (at_once_runs wanted 0 pc (onto given.numbers stack) names stack rs w)
 
       -- the root's own `init` gives the object
@@ -397,11 +378,8 @@ module _ (p : Program) (frames : List Frame) (bound : ℕ) (R : resolved.Program
       root_runs object names true e =
           let few = nat_eq references 0 && same_gives wanted gives.Object in
           let counts = and_parts (nat_eq values 0) few (and_parts (nat_eq selector init_selector) (nat_eq values 0 && few) e).1 in
-          subst (λ l. Comes_back (instructions.gives_at_once (bare p) (before names) wanted object l (onto given.objects rs)) _)
-          (sym (onto_none given.numbers stack (eqb-true values 0 counts.0)))
-          (subst (λ l. Comes_back (instructions.gives_at_once (bare p) (before names) wanted object stack l) _)
-          (sym (onto_none given.objects rs (eqb-true references 0 (and_parts (nat_eq references 0) (same_gives wanted gives.Object) counts.1).0)))
-          (at_once_runs wanted object pc (onto given.numbers stack) names stack rs w))
+          let none = (and_parts (nat_eq references 0) (same_gives wanted gives.Object) counts.1).0 in
+          rw (onto_none given.numbers stack (eqb-true values 0 counts.0), onto_none given.objects rs (eqb-true references 0 none)) (at_once_runs wanted object pc stack names stack rs w)
 
       -- a message to an object, by what it finds
       found_runs : (object : ℕ) (stands meant : Option ℕ) → is_some stands ≡ is_some meant
@@ -430,9 +408,7 @@ module _ (p : Program) (frames : List Frame) (bound : ℕ) (R : resolved.Program
           (λ q rest. sends p (before (onto given.objects (r ∷ rs))) wanted class_of q selector values references rest))
           (sent_from D wanted from r selector given w)
       to_object class_of from r same =
-          subst (λ n. Comes_back n (sent_from D wanted from r selector given w))
-          (sym (receiver_goes given.objects rs r (λ q rest. sends p (before (onto given.objects (r ∷ rs))) wanted class_of q selector values references rest)))
-          (sends_run class_of from r (onto given.objects (r ∷ rs)) same)
+          rw (get_onto given.objects rs r, without_below given.objects rs r) (sends_run class_of from r (onto given.objects (r ∷ rs)) same)
 
     returned_there : {next : Next State} {i : List ℕ} {t : List Event} (wanted : Gives) (pc : ℕ) (s : Operands) (w : World) {o : Outcome world.Answer}
         → (calm ≡ true → same_gives wanted gives.Number ≡ true) → Good calm w
@@ -452,7 +428,7 @@ module _ (p : Program) (frames : List Frame) (bound : ℕ) (R : resolved.Program
         returned_there wanted pc (operands numbers rs) w free g (to_class wanted selector pc given (numbers ++ vars w) rs w (Some from) class)
     finds_run wanted (ToObject selector) pc given numbers (r ∷ rs) w free g =
         returned_there wanted pc (operands numbers rs) w free g (to_object wanted selector pc given (numbers ++ vars w) rs w (λ o. o.class)
-        (class_in (object_at w.objects r)) r (class_found w r))
+        (class_in (object_at w.objects r)) r (λ k o e found. rw (e, found)))
     finds_run wanted (ToSuper from selector) pc given numbers (r ∷ rs) w free g =
         returned_there wanted pc (operands numbers rs) w free g (to_object wanted selector pc given (numbers ++ vars w) rs w (λ o. from) (Some from) r
         (λ k o e found. refl))
@@ -469,15 +445,6 @@ module _ (p : Program) (frames : List Frame) (bound : ℕ) (R : resolved.Program
       abbrev Made_at : ℕ → Operands → ℕ → World → Reached State → Type 0
       Made_at q s r w to = (to ≡ standing q (name r s) w) × Good calm w
 
-      -- the temporary of what was made is dropped after what `init` gives
-      settling : (pc r : ℕ) (s : Operands) (w : World) (a : world.Answer) (ts : List ℕ) → Good calm w → w.frame.temporaries ≡ r ∷ ts → HasAt p pc (Settle ∷ [])
-          → Follows p bound (standing pc (name a.object s) (takes a.object w)) (Made_at (pc + 1) s)
-          (then_do (second_dropped D (takes a.object w).frame.temporaries (takes a.object w)) (λ _ w2. Done a.object w2))
-      settling pc r s w a ts g these has =
-          next (settled_runs p frames bound (a.object ∷ s.names) D deep.ends a.object r ts (s.numbers ++ vars w) (takes a.object w) pc
-          (ap (λ l. a.object ∷ l) these) has)
-          (λ done w2 to m. ends (m.0 ∙ rw m.1.frame, kept_good calm (with_temporaries w (a.object ∷ ts)) w2 (g.0, λ e. absurd (false≢true (free e))) m.1))
-
       -- the made object gets `init`
       initializing : (class pc : ℕ) (s : Operands) (w : World) → Good calm w → HasAt p pc (SendTo init_selector 0 0 gives.Object ∷ Settle ∷ [])
           → Follows p bound (standing pc (name (next_object w) s) (with_new class w)) (Made_at (pc + 1 + 1) s) (made_new D (Some class) w)
@@ -486,11 +453,14 @@ module _ (p : Program) (frames : List Frame) (bound : ℕ) (R : resolved.Program
           let w1 = with_new class w in
           let init = sent D gives.Object (Rattle.arc_spec.specs.Meaning.ToObject r) init_selector nothing_given w1 in
           let rest : ℕ → World → Outcome ℕ = λ a w3. then_do (second_dropped D w3.frame.temporaries w3) (λ _ w4. Done a w4) in
-          subst (Follows p bound (standing pc (name r s) w1) (Made_at (pc + 1 + 1) s)) (object_then init rest)
+          subst (Follows p bound (standing pc (name r s) w1) (Made_at (pc + 1 + 1) s)) (then_twice init (λ a w2. Done a.object (takes a.object w2)) rest)
           (next (steps (SendTo init_selector 0 0 gives.Object) has.0 (to_object gives.Object init_selector pc nothing_given (s.numbers ++ vars w1) s.names w1
-          (λ o. o.class) (class_in (object_at w1.objects r)) r (class_found w1 r)))
-          (λ a w2 to m. on (m.0 ∙ rw m.1.frame) (settling (pc + 1) r s w2 a w.frame.temporaries
-          (kept_good calm w1 w2 (g.0, λ e. absurd (false≢true (free e))) m.1) (ap (λ (f : world.Frame). f.temporaries) m.1.frame) has.1)))
+          (λ o. o.class) (class_in (object_at w1.objects r)) r (λ k o e found. ap class_in (ap (object_at w1.objects) e ∙ found))))
+          (λ a w2 to m. on (m.0 ∙ rw m.1.frame) (
+          let g2 = kept_good calm w1 w2 (g.0, λ e. absurd (false≢true (free e))) m.1 in
+          let these = ap (λ (f : world.Frame). a.object ∷ f.temporaries) m.1.frame in
+          next (settled_runs p frames bound (a.object ∷ s.names) D deep.ends a.object r w.frame.temporaries (s.numbers ++ vars w2) (takes a.object w2) (pc + 1) these has.1)
+          (λ done w3 to3 n. ends (n.0 ∙ rw n.1.frame, kept_good calm (with_temporaries w2 (a.object ∷ w.frame.temporaries)) w3 (g2.0, λ e. absurd (false≢true (free e))) n.1)))))
 
       makes_new : (found : Option ℕ) (pc : ℕ) (v : ℤ) (s : Operands) (w : World) → Good calm w
           → HasAt p (pc + 1) (SendTo init_selector 0 0 gives.Object ∷ Settle ∷ [])
@@ -531,7 +501,10 @@ module _ (p : Program) (frames : List Frame) (bound : ℕ) (R : resolved.Program
     assign_runs (Global i) pc numbers (r ∷ rs) w g =
         λ has. stayed (operands numbers (r ∷ rs)) (stores (Global i) r w) g (steps (StoreGlobal i) has.0 (after_named r _
         (after_place D (λ o. o) w.strong_globals i r (with_strong_globals w) refl (quietly (ends (refl, record { frame = refl; waiting = refl })))
-        (λ old found. global_runs p frames bound (r ∷ rs) D deep.ends i r old (numbers ++ vars w) w pc found))))
+        (λ old found.
+        let h = held_of (r ∷ rs) w in
+        release_runs p frames bound (r ∷ rs) D deep.ends old (raised r h).counts h (numbers ++ vars w) (stores (Global i) r w) pc
+        (λ k. raised_count r h (suc k) ∙ sym (global_moves (suc k) h i old r found))))))
     assign_runs (Local i) pc numbers (r ∷ rs) w g =
         let s : Operands = operands numbers (r ∷ rs) in
         let put : Bool → List Order = λ b. if b then StoreStrong i ∷ [] else [] in
@@ -555,8 +528,9 @@ module _ (p : Program) (frames : List Frame) (bound : ℕ) (R : resolved.Program
     field_stored false x r index pc before s w k o e found is g = rw e
         (after_place D (passes_by (name r s)) o.strong index r (λ l. with_objects w (slice_set w.objects k (with_strong_fields o l)))
         (ap (with_objects w) (same_put w.objects k o found)) (still g) (λ old named.
-        let dropping = strong_field_runs p frames bound (r ∷ s.names) D deep.ends k o index r old (held_of before w)
-        (s.numbers ++ vars w) w pc found is named in
+        let h = held_of (r ∷ s.names) w in
+        let dropping = release_runs p frames bound (r ∷ s.names) D deep.ends old (raised r h).counts (held_of before w) (s.numbers ++ vars w) (field_stores (suc k) o index r w) pc
+        (λ j. raised_count r h (suc j) ∙ sym (field_moves (suc j) h k o index old r found is named)) in
         record { follows = stayed (name r s) (field_stores (suc k) o index r w) g dropping.follows }))
 
     assign_field_runs : (class index pc : ℕ) (numbers : List ℤ) (rs : List ℕ) (w : World) → Good calm w → HasAt p pc (StoreField class index ∷ [])
@@ -566,14 +540,6 @@ module _ (p : Program) (frames : List Frame) (bound : ℕ) (R : resolved.Program
         (λ k o e found is.
         field_stored (is_emptying o.phase) x r index pc (r ∷ x ∷ rs) (operands numbers rs) w k o e found is g)))
     assign_field_runs class index pc numbers _ w g has = lost
-
-    load_runs : (depth : ℕ) (i : Location) (pc : ℕ) (s : Operands) (w : World) → Good calm w → HasAt p pc (get_orders slots depth i)
-        → Comes (standing pc s w) (pc + length (get_orders slots depth i)) (block D bound 0 false (Load depth i) s w)
-    load_runs depth i pc s w g has =
-        by_test (λ b. Comes (standing pc s w) (pc + length (get_orders slots depth i)) (if b then Done (On (push (held_at i w) s)) w else Done Lost w))
-        (nat_eq depth (length s.numbers))
-        (λ e. passing pc s w g has (loading i s w depth g.0.locals (eqb-true depth (length s.numbers) e)))
-        (λ e. lost)
 
     store_runs : (depth : ℕ) (i : Location) (pc : ℕ) (numbers : List ℤ) (rs : List ℕ) (w : World) → Good calm w → HasAt p pc (set_orders slots depth i)
         → Comes (standing pc (operands numbers rs) w) (pc + length (set_orders slots depth i)) (block D bound 0 false (Store depth i) (operands numbers rs) w)
@@ -710,11 +676,6 @@ module _ (p : Program) (frames : List Frame) (bound : ℕ) (R : resolved.Program
       rw e (subst (λ o. Goes_on turn true (standing pc s w) pc (passes_by s o)) (sym (ap (λ ts. temporaries_dropped D ts w) (g.1 refl)))
       (here (g.0, λ x. g.1 refl)))
 
-  -- where the orders of the first part take none, there is none after it
-  not_some : (some : Bool) → not some ≡ true → some ≡ false
-  not_some true e = absurd (false≢true e)
-  not_some false e = refl
-
   -- what stands between statements knows its place and the loop in whose body it stands, and what stands in an expression the loop alone
   abbrev pub Stands : (between : Bool) → Spot → ℕ → Turn → Type 0
   Stands true e pc turn = e ≡ Between pc turn
@@ -729,18 +690,6 @@ module _ (p : Program) (frames : List Frame) (bound : ℕ) (R : resolved.Program
   turn_is true pc turn e h = ap turn_at h
   turn_is false pc turn e h = h
 
-  entered_size : (entry : Entry) (n m : ℕ) → length (enter_orders entry n m) ≡ enter_size entry
-  entered_size AtStep n m = refl
-  entered_size _ n m = refl
-
-  -- one of two blocks
-  either_runs : {turn : Turn} {calm : Bool} (pc : ℕ) {from : Reached State} (t : Bool) (xs ys : List Order) {x y : Outcome Way} (m n : Bool)
-      → (calm ≡ true → (if t then m else n) ≡ true) → HasAt p pc (if t then xs else ys)
-      → ((calm ≡ true → m ≡ true) → HasAt p pc xs → Goes_on turn calm from (pc + length xs) x) → ((calm ≡ true → n ≡ true) → HasAt p pc ys → Goes_on turn calm from (pc + length ys) y)
-      → Goes_on turn calm from (pc + length (if t then xs else ys)) (if t then x else y)
-  either_runs pc true xs ys m n free has h k = h free has
-  either_runs pc false xs ys m n free has h k = k free has
-
   pub block_follows : {turn : Turn} {calm : Bool} (place : ℕ) (e : Spot) (m : Bool) → (m ≡ true → calm ≡ true) → (m ≡ false → place ≡ names - 1) → (b : Block)
       → (calm ≡ true → takes_none R b ≡ true)
       → (pc : ℕ) → Stands m e pc turn → (s : Operands) (w : World) → Good calm w → HasAt p pc (actions e b)
@@ -748,7 +697,11 @@ module _ (p : Program) (frames : List Frame) (bound : ℕ) (R : resolved.Program
   block_follows place e m h placed Idle free pc stands s w g has = let same : pc + 0 ≡ pc = omega arith in rw same (here g)
   block_follows {turn} {calm} place e m h placed (One o) free pc stands s w g has =
       steps (Plain o) has.0 (operation_runs turn calm o pc s.numbers s.names w free g)
-  block_follows {turn} {calm} place e m h placed (Load depth i) free pc stands s w g has = load_runs turn calm depth i pc s w g has
+  block_follows {turn} {calm} place e m h placed (Load depth i) free pc stands s w g has =
+      by_test (λ b. Goes_on turn calm (standing pc s w) (pc + length (get_orders slots depth i)) (if b then Done (On (push (held_at i w) s)) w else Done Lost w))
+      (nat_eq depth (length s.numbers))
+      (λ t. passing turn calm pc s w g has (loading turn calm i s w depth g.0.locals (eqb-true depth (length s.numbers) t)))
+      (λ t. lost)
   block_follows {turn} {calm} place e m h placed (Store depth i) free pc stands s w g has = store_runs turn calm depth i pc s.numbers s.names w g has
   block_follows {turn} {calm} place e m h placed (Read i) free pc stands s w g has = read_runs turn calm i pc s w free g has
   block_follows {turn} {calm} place e m h placed (Assign i) free pc stands s w g has = assign_runs turn calm i pc s.numbers s.names w g has
@@ -769,12 +722,11 @@ module _ (p : Program) (frames : List Frame) (bound : ℕ) (R : resolved.Program
       subst (λ classes. Goes_on turn calm (standing pc s w) (pc + length (actions e (IfNew class a b)))
       (if is_some (lookup classes (Some class) signs.Class new_selector 0 0 gives.Object) then block D bound place m a s w else block D bound place m b s w))
       (sym deep.same_classes)
-      (either_runs pc (has_new R class) (actions e a) (actions e b) (takes_none R a) (takes_none R b) free has
-      (λ free1 has1. block_follows place e m h placed a free1 pc stands s w g has1)
-      (λ free1 has1. block_follows place e m h placed b free1 pc stands s w g has1))
+      (by_test (λ t. (calm ≡ true → (if t then takes_none R a else takes_none R b) ≡ true) → HasAt p pc (if t then actions e a else actions e b)
+      → Goes_on turn calm (standing pc s w) (pc + length (if t then actions e a else actions e b)) (if t then block D bound place m a s w else block D bound place m b s w)) (has_new R class)
+      (λ _ free1. block_follows place e m h placed a free1 pc stands s w g) (λ _ free1. block_follows place e m h placed b free1 pc stands s w g) free has)
   block_follows {turn} {calm} place e false h placed Answer free pc stands s w g has =
       rw (placed refl) (assign_runs turn calm (Local (names - 1)) pc s.numbers s.names w g has)
-  block_follows place e true h placed Answer free pc stands s w g has = lost
   block_follows {turn} place e m h placed (Then a b) free pc stands s w g has =
       let xs = actions e a in
       let ys = actions (past (length xs) e) b in
@@ -800,7 +752,6 @@ module _ (p : Program) (frames : List Frame) (bound : ℕ) (R : resolved.Program
       (has_front p one xs (Jump (Skip (length ys)) ∷ ys) has.1)))
       (λ v rest. block_follows place e2 m h placed b (λ x. (and_parts _ _ (free x)).1) two
       (past_stands m 1 (one + length xs) turn (past (length xs) e1) (past_stands m (length xs) one turn e1 at1)) rest w g after_one.1)))
-  block_follows place e false h placed (Loop entry step test body) free pc stands s w g has = lost
   block_follows {turn} {calm} place e true h placed (Loop entry step test body) free pc stands s w g has =
       let e0 = past (enter_size entry) e in
       let first = pc + enter_size entry in
@@ -822,8 +773,8 @@ module _ (p : Program) (frames : List Frame) (bound : ℕ) (R : resolved.Program
       let rest = JumpZero out ∷ (xs ++ last) in
       let there : lands q out ≡ q1 + 1 = omega arith in
       let home : lands q1 back ≡ first = omega arith in
-      let size : pc + length (enters ++ (zs ++ (ts ++ rest))) ≡ q1 + 1 = omega (arith, length-append {A = Order}, entered_size entry (length zs) (length ts)) in
-      let has_turn = subst (λ n. HasAt p (pc + n) (zs ++ (ts ++ rest))) (entered_size entry (length zs) (length ts)) (has_back p pc enters (zs ++ (ts ++ rest)) has) in
+      let size : pc + length (enters ++ (zs ++ (ts ++ rest))) ≡ q1 + 1 = omega (arith, length-append {A = Order}, enter_length entry (length zs) (length ts)) in
+      let has_turn = subst (λ n. HasAt p (pc + n) (zs ++ (ts ++ rest))) (enter_length entry (length zs) (length ts)) (has_back p pc enters (zs ++ (ts ++ rest)) has) in
       let has_test = has_back p first zs (ts ++ rest) has_turn in
       let has_out = has_back p second ts rest has_test in
       rw size (entering turn inner calm first second q (q1 + 1) q1 out back (block D bound place true step) (block D bound place true test)
@@ -839,7 +790,6 @@ module _ (p : Program) (frames : List Frame) (bound : ℕ) (R : resolved.Program
       (ends (ap (λ (t : Turn). standing t.out (push (pos 0) s) w) (turn_is m pc turn e stands), g))))
   block_follows {turn} place e m h placed Advance free pc stands s w g has =
       leads (moving (At (turn_at e).begin) s w has) (ends (ap (λ (t : Turn). standing t.begin s w) (turn_is m pc turn e stands), g))
-  block_follows place e false h placed (Full a b) free pc stands s w g has = lost
   block_follows {calm = false} place e true h placed (Full a b) free pc stands s w g has = absurd (false≢true (h refl))
   block_follows {turn} {calm = true} place e true h placed (Full a b) free pc stands s w g has =
       let xs = actions Inside a in
@@ -852,7 +802,7 @@ module _ (p : Program) (frames : List Frame) (bound : ℕ) (R : resolved.Program
       let place1 = result_place w in
       let inside = λ (x : false ≡ true). absurd (false≢true x) in
       let placed1 = λ (x : false ≡ false). ap (λ n. n - 1) g.0.strong in
-      let quiet = λ (x : not some ≡ true). quiet_flat R slots names a (not_some some x) in
+      let quiet = λ (x : not some ≡ true). quiet_flat R slots names a (not-true some x) in
       rw size (full_way
       (then_way (block_follows {turn = no_turn} {calm = not some} place1 Inside false inside placed1 a quiet pc refl s w (g.0, λ x. g.1 refl)
       (has_front p pc xs (ys ++ zs) has))
@@ -860,3 +810,4 @@ module _ (p : Program) (frames : List Frame) (bound : ℕ) (R : resolved.Program
       (has_front p q ys zs after_first)))
       (λ s1 w1 g1. drops_by some (q + length ys) s1 w1 g1 (has_back p q ys zs after_first)))
   block_follows place e m h placed (Leave exit) free pc stands s w g has = leads (moving (At exit) s w has) (ends (refl, (g.0, λ x. absurd (false≢true x))))
+  block_follows place e m h placed _ free pc stands s w g has = lost

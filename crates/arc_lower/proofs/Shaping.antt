@@ -195,13 +195,17 @@ then_twice _ f g = refl
 
 -- ---- one block after another
 
-pub after : {A B : Type 0} (exit : A → Operands) (end : B → Way) (x : Outcome Way) (o : Outcome A) (k : Operands → World → Outcome Way) (go : A → World → Outcome B) → x ≡ left_by (λ a. On (exit a)) o → ((a : A) (w : World) → k (exit a) w ≡ left_by end (go a w)) → and_then x k ≡ left_by end (then_do o go)
-after exit end x (Done a w) k go e h = ap (λ y. and_then y k) e ∙ h a w
-after exit end x _ k go e h = ap (λ y. and_then y k) e
+-- by what follows each of its ends
+pub parts : {A B : Type 0} (end : A → World → Outcome Way) (last : B → World → Outcome Way) (x : Outcome Way) (o : Outcome A) (k : Way → World → Outcome Way) (go : A → World → Outcome B) → x ≡ then_do o end → ((a : A) (w : World) → then_do (end a w) k ≡ then_do (go a w) last) → then_do x k ≡ then_do (then_do o go) last
+parts end last x (Done a w) k go e h = ap (λ y. then_do y k) e ∙ h a w
+parts end last x _ k go e h = ap (λ y. then_do y k) e
 
-pub chosen_by : {B : Type 0} (end : B → Way) (b : Bool) (x y : Outcome Way) (m n : Outcome B) → x ≡ left_by end m → y ≡ left_by end n → chosen b x y ≡ left_by end (chosen b m n)
-chosen_by end false x y m n d e = d
-chosen_by end true x y m n d e = e
+pub after : {A B : Type 0} (exit : A → Operands) (end : B → Way) (x : Outcome Way) (o : Outcome A) (k : Operands → World → Outcome Way) (go : A → World → Outcome B) → x ≡ left_by (λ a. On (exit a)) o → ((a : A) (w : World) → k (exit a) w ≡ left_by end (go a w)) → and_then x k ≡ left_by end (then_do o go)
+after exit end x o k go e h = parts (λ a w. Done (On (exit a)) w) (λ b w. Done (end b) w) x o (on_way k) go e h
+
+pub either : {A : Type 0} (end : A → World → Outcome Way) (b : Bool) (x y : Outcome Way) (m n : Outcome A) → x ≡ then_do m end → y ≡ then_do n end → chosen b x y ≡ then_do (chosen b m n) end
+either end false x y m n d e = d
+either end true x y m n d e = e
 
 -- as many operands as there are
 pub same_depth : {A : Type 0} (n : ℕ) (x y : A) → (if nat_eq n n then x else y) ≡ x

@@ -1,6 +1,6 @@
 -- Values that lie on a stack, the first one deepest, and references, the same.
 use Rattle.std.proofs.Common.{◌^◌, ◌%◌, ◌≡◌, ℕ, zero, suc, ◌+◌, ℤ, pos, List, [], ◌∷◌, ◌++◌, length, take, drop, map, Some, refl, sym, ap, ◌∙◌, arith, append_assoc, length-append, slice_get, slice_set, ◌-◌, ◌/◌, subst}
-use Rattle.std.proofs.lemmas.List.{append-nil, map-append, take-append-drop}
+use Rattle.std.proofs.lemmas.List.{set-append_right, append-nil, map-append, take-append-drop}
 use Rattle.std.proofs.Math.Seq.{take-append_seam, drop-append_seam}
 use Rattle.std.proofs.Math.Nat.{mod-add-mod, mod-mod}
 use Rattle.std.specs.Int.{w32, cast_signed}
@@ -60,26 +60,9 @@ get_below (v ∷ operands) stack n =
 
 pub set_below : {A : Type 0} (operands stack : List A) (n : ℕ) (u : A)
     → slice_set (operands ++ stack) (length operands + n) u ≡ operands ++ slice_set stack n u
-set_below [] stack n u = let e : 0 + n ≡ n = omega arith in ap (λ m. slice_set stack m u) e
-set_below (v ∷ operands) stack n u =
-    let e : length (v ∷ operands) + n ≡ suc (length operands + n) = omega arith in
-    ap (λ m. slice_set (v ∷ operands ++ stack) m u) e ∙ ap (λ l. v ∷ l) (set_below operands stack n u)
-
--- the stack without so many numbers
-abbrev pub Peels : {A : Type 0} → ℕ → List A → List A → Type 0
-Peels zero stack rest = stack ≡ rest
-Peels (suc n) [] rest = ⊥
-Peels (suc n) (v ∷ stack) rest = Peels n stack rest
-
-peels_more : {A : Type 0} (n : ℕ) (stack : List A) (v : A) (rest : List A) → Peels n stack (v ∷ rest) → Peels (suc n) stack rest
-peels_more zero [] v rest h = cc
-peels_more zero (u ∷ stack) v rest h = cc
-peels_more (suc n) [] v rest h = h
-peels_more (suc n) (u ∷ stack) v rest h = peels_more n stack v rest h
-
-pub peels_onto : {A : Type 0} (values stack : List A) → Peels (length values) (onto values stack) stack
-peels_onto [] stack = refl
-peels_onto (v ∷ values) stack = peels_more (length values) (onto values (v ∷ stack)) v stack (peels_onto values (v ∷ stack))
+set_below operands stack n u =
+    let e : length operands + n - length operands ≡ n = omega arith in
+    set-append_right operands stack (length operands) (length operands + n) u refl (omega arith) ∙ ap (λ m. operands ++ slice_set stack m u) e
 
 -- the count of n bytes, as it is kept while a format is printed
 abbrev pub kept : ℕ → ℤ
@@ -108,11 +91,13 @@ front_of (v ∷ values) =
       size = omega (arith, length-append deep.front (v ∷ []), deep.size);
     }
 
+-- what holds of so many on others holds of these
+pub onto_front : {A : Type 0} (Q : ℕ → List A → Type 0) (values rest : List A) → ((front : List A) → Q (length front) (front ++ rest)) → Q (length values) (onto values rest)
+onto_front Q values rest h = let f = front_of values in rw (f.is rest, ← f.size) (h f.front)
+
 -- those that lie below
 pub drop_onto : {A : Type 0} (values rest : List A) → drop (length values) (onto values rest) ≡ rest
-drop_onto values rest =
-    let f = front_of values in
-    rw (f.is rest, ← f.size) (drop-append_seam f.front rest)
+drop_onto values rest = onto_front (λ n list. drop n list ≡ rest) values rest (λ front. drop-append_seam front rest)
 
 pub after_one : {A : Type 0} (xs ys : List A) (x : A) → drop (suc (length xs)) (xs ++ x ∷ ys) ≡ ys
 after_one [] ys x = refl
@@ -180,16 +165,18 @@ module _ (p : Program) (frames : List Frame) (rs : List ℕ) where
       (format_passes others left (v ∷ stack) (n + 1) (prints bytes w))
   format_passes (_ ∷ others) [] stack n w = format_passes others [] stack n w
 
-  pops_pass : (n : ℕ) (stack rest : List ℤ) (w : World) → Peels n stack rest → Passes (pop_orders n) stack w rest w
-  pops_pass zero stack rest w h = rw h no_crosses
-  pops_pass (suc n) [] rest w h = absurd h
-  pops_pass (suc n) (v ∷ stack) rest w h = then_crosses (one_crosses (λ pc. shows_nothing)) (pops_pass n stack rest w h)
+  pops_front : (front rest : List ℤ) (w : World) → Passes (pop_orders (length front)) (front ++ rest) w rest w
+  pops_front [] rest w = no_crosses
+  pops_front (v ∷ front) rest w = then_crosses (one_crosses (λ pc. shows_nothing)) (pops_front front rest w)
+
+  pops_pass : (w : World) (values rest : List ℤ) → Passes (pop_orders (length values)) (onto values rest) w rest w
+  pops_pass w values rest = onto_front (λ n stack. Passes (pop_orders n) stack w rest w) values rest (λ front. pops_front front rest w)
 
   pub keeps_pass : (values stack : List ℤ) (c : ℤ) (w : World) → Passes (keep_orders (length values)) (c ∷ onto values stack) w (c ∷ stack) w
   keeps_pass [] stack c w = no_crosses
   keeps_pass (v ∷ values) stack c w =
       then_crosses (one_crosses (λ pc. rw (get_onto values stack v, set_onto values stack v c) shows_nothing))
-      (pops_pass (length values) (onto values (c ∷ stack)) (c ∷ stack) w (peels_onto values (c ∷ stack)))
+      (pops_pass w values (c ∷ stack))
 
   pub print_passes : (pieces : List Piece) (values stack : List ℤ) (w : World)
       → Passes (print_orders pieces (length values)) (onto values stack) w (byte_count (formatted pieces values) ∷ stack) (prints (formatted pieces values) w)
@@ -204,18 +191,18 @@ module _ (p : Program) (frames : List Frame) (rs : List ℕ) where
 
 module _ {A : Type 0} (none : A) (Crossed : List Order → List A → List A → Type 0) (takes gives : ℕ → List Order)
     (both : (xs ys : List Order) (a b c : List A) → Crossed xs a b → Crossed ys b c → Crossed (xs ++ ys) a c)
-    (taken : (n : ℕ) (list rest : List A) → Peels n list rest → Crossed (takes n) list rest)
+    (taken : (values rest : List A) → Crossed (takes (length values)) (onto values rest) rest)
     (given_more : (n : ℕ) (list : List A) → Crossed (gives n) list (onto (padded none n []) list)) where
   fits_by : (slots : ℕ) (given list : List A) (m n : ℕ) → m ≡ length given - slots → n ≡ slots - length given
       → Crossed (takes m ++ gives n) (onto given list) (onto (padded none slots given) list)
   fits_by zero given list m n e f =
       let all : m ≡ length given = omega arith in
       let nothing : n ≡ 0 = omega arith in
-      rw (all, nothing) (both _ _ _ _ _ (taken (length given) (onto given list) list (peels_onto given list)) (given_more 0 list))
+      rw (all, nothing) (both _ _ _ _ _ (taken given list) (given_more 0 list))
   fits_by (suc k) [] list m n e f =
       let nothing : m ≡ 0 = omega arith in
       let all : n ≡ suc k = omega arith in
-      rw (nothing, all) (both _ _ _ _ _ (taken 0 list list refl) (given_more (suc k) list))
+      rw (nothing, all) (both _ _ _ _ _ (taken [] list) (given_more (suc k) list))
   fits_by (suc k) (v ∷ given) list m n e f = fits_by k given (v ∷ list) m n (omega arith) (omega arith)
 
 module _ (p : Program) (frames : List Frame) where
@@ -227,10 +214,12 @@ module _ (p : Program) (frames : List Frame) where
   abbrev Shifts : (stack : List ℤ) → World → List Order → (rs rs' : List ℕ) → Type 0
   Shifts stack w xs rs rs' = Crosses p frames xs rs stack w rs' stack w
 
-  pub forgets_shift : (stack : List ℤ) (w : World) (n : ℕ) (rs rest : List ℕ) → Peels n rs rest → Shifts stack w (forget_orders n) rs rest
-  forgets_shift stack w zero rs rest h = rw h no_crosses
-  forgets_shift stack w (suc n) [] rest h = absurd h
-  forgets_shift stack w (suc n) (r ∷ rs) rest h = then_crosses (one_crosses (λ pc. shows_nothing)) (forgets_shift stack w n rs rest h)
+  forgets_front : (stack : List ℤ) (w : World) (front rest : List ℕ) → Shifts stack w (forget_orders (length front)) (front ++ rest) rest
+  forgets_front stack w [] rest = no_crosses
+  forgets_front stack w (r ∷ front) rest = then_crosses (one_crosses (λ pc. shows_nothing)) (forgets_front stack w front rest)
+
+  pub forgets_shift : (stack : List ℤ) (w : World) (objects rest : List ℕ) → Shifts stack w (forget_orders (length objects)) (onto objects rest) rest
+  forgets_shift stack w objects rest = onto_front (λ n names. Shifts stack w (forget_orders n) names rest) objects rest (λ front. forgets_front stack w front rest)
 
   nils_shift : (stack : List ℤ) (w : World) (n : ℕ) (rs : List ℕ) → Shifts stack w (nil_orders n) rs (onto (padded 0 n []) rs)
   nils_shift stack w zero rs = no_crosses
@@ -242,7 +231,7 @@ module _ (p : Program) (frames : List Frame) where
   passing_leads slots parameters n m given stack rs w pc e f =
       let names = onto given.objects rs in
       let numbers = fits_by (pos 0) (λ xs a b. Passes p frames names xs a w b w) pop_orders zero_orders (λ xs ys a b c. then_crosses)
-      (λ k list rest. pops_pass p frames names k list rest w) (zeros_pass names w) slots given.numbers stack (n - slots) (slots - n) in
+      (pops_pass p frames names w) (zeros_pass names w) slots given.numbers stack (n - slots) (slots - n) in
       let objects = fits_by 0 (Shifts (onto (padded (pos 0) slots given.numbers) stack) w) forget_orders nil_orders (λ xs ys a b c. then_crosses)
       (forgets_shift _ w) (nils_shift _ w) parameters given.objects rs (m - parameters) (parameters - m) in
       (then_crosses (numbers (ap (λ k. k - slots) (sym e)) (ap (λ k. slots - k) (sym e)))

@@ -1,5 +1,5 @@
 -- Where orders stand with their heights, each has what it needs, and goes on where the heights are those that it leaves.
-use Rattle.std.proofs.Common.{◌≡◌, ◌⊎◌, inl, inr, ℕ, zero, suc, ◌+◌, ◌<◌, ◌≤◌, Bool, true, false, if◌then◌else◌, List, [], ◌∷◌, ◌++◌, length, drop, Option, Some, None, slice_get, refl, sym, ap, ◌∙◌, subst, arith, length-append, pos}
+use Rattle.std.proofs.Common.{◌≡◌, ◌⊎◌, inl, inr, ℕ, zero, suc, ◌+◌, ◌<◌, ◌≤◌, Bool, true, false, if◌then◌else◌, List, [], ◌∷◌, ◌++◌, length, drop, get_or, Option, Some, None, slice_get, refl, sym, ap, ◌∙◌, subst, arith, length-append, pos}
 use Rattle.std.proofs.lemmas.Bool.{true≢false}
 use Rattle.arc_spec.specs.Resolved as resolved
 use Rattle.arc_spec.specs.declared.class.Gives.{Gives}
@@ -9,16 +9,18 @@ use Rattle.arc_code.specs.declared.effect.Height.{Height}
 use Rattle.arc_code.specs.Effects.{as_object}
 use Rattle.arc_code.specs.declared.instr.Op.TheVariants.{Num, Pop, Set, Alloc}
 use Rattle.arc_code.specs.declared.instr.Instr.TheVariants.{Plain, Jump, JumpZero, SendTo, Settle, Give, Return, Empty, EndStep}
+use Rattle.arc_ir.specs.declared.action.Target.{Target}
 use Rattle.arc_ir.specs.declared.action.Target.TheVariants.{Skip, Back, At}
 use Rattle.arc_ir.specs.Acting.{lands}
 use Rattle.arc_lower.specs.Order.{Order}
 use Rattle.arc_lower.specs.Lowered.{drop_orders, Entry, AtStep, AtTest, AtBody, enter_orders, enter_size, Spot, Inside, Between, past, turn_at, body_spot, Block, Making, IfNew, Then, Fork, Loop, Quit, Advance, Full, Leave, flat}
 use Rattle.arc_lower.specs.Size.{has_new}
 use Rattle.arc_lower.specs.declared.frame.Turn.{Turn}
-use Rattle.arc_lower.specs.Heights.{between, next_height, Walk, walk, next_walk, walk_heights, last_walk, in_function}
+use Rattle.arc_lower.specs.Heights.{between, next_height, Walk, walk, other_part, next_walk, walk_heights, last_walk, in_function}
 use Rattle.arc_lower.proofs.Doing.{Each, each_then, each_from}
-use Rattle.arc_lower.proofs.Typing.{alike_same, tested, over_none, Reaches, Needs, Types, next_same, with_temporaries, ByTest, BlockTypes}
-use Rattle.arc_lower.proofs.HeightsEnd.{chosen_same, AllBase, entered, enter_keeps, enter_ends, Keeps, keeps_on, keeps_test, keeps_rest, part_same, block_ends}
+use Rattle.arc_lower.proofs.Typing.{heights_same, alike_same, tested, over_none, Reaches, Needs, Types, types_last, next_same, with_temporaries, Leaves as IsBetween, ByTest, BlockTypes}
+use Rattle.arc_lower.proofs.Cases.{by_test}
+use Rattle.arc_lower.proofs.Quiet.{enter_length}
 
 pub some_same : {A : Type 0} (a b : A) → Some a ≡ Some b → a ≡ b
 some_same a b e = cc
@@ -91,13 +93,8 @@ IsBefore (Empties i) = Unit {0}
 IsBefore _ = ⊥
 
 needs_ordinary : (P : resolved.Program) (x : Order) (h : Height) → Needs P x h → Ordinary (role x)
-needs_ordinary P Return h needs = needs
-needs_ordinary P EndStep h needs = needs
-needs_ordinary P Give h needs = needs
-needs_ordinary P Settle h needs = needs
-needs_ordinary P (Plain Pop) h needs = tt
 needs_ordinary P (Plain (Set depth)) h needs = tt
-needs_ordinary P _ h needs = tt
+needs_ordinary P _ h needs = search arith
 
 module _ (R : resolved.Program) (all : List Order) (table : List (Height × Gives)) where
   abbrev pub role_at : ℕ → Role
@@ -193,13 +190,7 @@ module _ (R : resolved.Program) (all : List Order) (table : List (Height × Give
     order_steps (Plain o) pc h needs goes = (needs, (goes.0, λ k c. inr (goes.1 k c)), inl goes.2)
     order_steps (SendTo selector takes objects wanted) pc h needs goes = (needs, (goes.0, goes.1), inl goes.2)
     order_steps (Empty i) pc h needs goes = (needs, goes.0, λ k c. let le = goes.1 k c in inr (omega (arith, le)), goes.2)
-    order_steps (Jump to) pc h needs goes = absurd needs
-    order_steps (JumpZero to) pc h needs goes = absurd needs
-    order_steps Return pc h needs goes = absurd needs
-    order_steps EndStep pc h needs goes = absurd needs
-    order_steps Give pc h needs goes = absurd needs
-    order_steps Settle pc h needs goes = absurd needs
-    order_steps _ pc h needs goes = (needs, goes)
+    order_steps _ pc h needs goes = search arith
 
     module _ (base : Height) where
       -- orders with their heights
@@ -222,10 +213,8 @@ module _ (R : resolved.Program) (all : List Order) (table : List (Height × Give
           subst (λ n. Row n (last_walk R base (next_walk R base x w) xs) ys) e (row_back (pc + 1) (next_walk R base x w) xs ys f.2)
 
       variables_same : (x : Order) (w : Walk) → IsBefore (role x) → (next_walk R base x w).height.variables ≡ w.height.variables
-      variables_same (Plain Pop) w before = omega arith
       variables_same (Plain (Set depth)) w before = omega arith
-      variables_same (Empty i) w before = omega arith
-      variables_same _ w before = absurd before
+      variables_same _ w before = grind arith
 
       -- an order that keeps its place in a function, before one to which a run may go
       goes_before : (pc : ℕ) (w : Walk) (x : Order) → Ordinary (role x) → slice_get table pc ≡ Some (w.height, given) → slice_get all pc ≡ Some x
@@ -294,9 +283,9 @@ module _ (R : resolved.Program) (all : List Order) (table : List (Height × Give
           by (Plain (Set depth)) keeps needs there = (needs, (there.0, λ k c. inl (again k (there.1 k c) c)), inl there.2)
           by _ keeps needs there = absurd (cc)
 
-    -- ---- blocks, in a function that is left from a place
+    -- ---- blocks, in a function that is left from a place, below which so many numbers and variables more lie
 
-    module _ (slots names exit : ℕ) where
+    module _ (r s slots names exit : ℕ) where
       abbrev base : Height
       base = between slots names
 
@@ -306,47 +295,130 @@ module _ (R : resolved.Program) (all : List Order) (table : List (Height × Give
       abbrev orders : Spot → Block → List Order
       orders e x = flat R slots names e x
 
-      abbrev Block_types : (looping statement : Bool) → Height → Block → Height → Type 0
-      Block_types = BlockTypes R 0 0 slots names exit
+      -- what stands after a choice stands between two statements
+      chosen_same : (to : Target) → next_height R (JumpZero to) test ≡ base
+      chosen_same to = search (arith, heights_same)
 
-      enter_length : (entry : Entry) (n m : ℕ) → length (enter_orders entry n m) ≡ enter_size entry
-      enter_length AtStep n m = refl
-      enter_length _ n m = refl
+      -- the parts that tests may lead to all stand between statements
+      abbrev AllBase : List Height → Type 0
+      AllBase [] = Unit {0}
+      AllBase (h ∷ others) = (h ≡ base) × AllBase others
 
-      -- what stands after the jump by which a loop is entered
-      enter_row : (entry : Entry) (n m pc : ℕ) (pending : List Height) (xs : List Order) → AllBase R 0 0 slots names exit pending → Row base pc (walk base pending) (enter_orders entry n m ++ xs) → Row base (pc + enter_size entry) (walk base (entered R 0 0 slots names exit base entry pending)) xs
-      enter_row entry n m pc pending xs all f =
-          subst (λ k. Row base (pc + k) (walk base (entered R 0 0 slots names exit base entry pending)) xs) (enter_length entry n m)
-          (subst (λ w. Row base (pc + length (enter_orders entry n m)) w xs) (enter_ends R 0 0 slots names exit base entry n m pending refl all) (row_back base pc (walk base pending) (enter_orders entry n m) xs f))
+      rest_base : (pending : List Height) → AllBase pending → AllBase (drop 1 pending)
+      rest_base [] all = tt
+      rest_base (h ∷ others) all = all.1
 
-      -- that jump leads to the test or to the body
-      enter_steps : (entry : Entry) (n m pc : ℕ) (pending : List Height) (xs : List Order) → Goes given (pc + enter_size entry) base → Goes given (pc + enter_size entry + n) base → Goes given (pc + enter_size entry + n + m + 1) base → Row base pc (walk base pending) (enter_orders entry n m ++ xs) → AllStep (pc + enter_size entry) xs → Goes given pc base × AllStep pc (enter_orders entry n m ++ xs)
-      enter_steps AtStep n m pc pending xs stepped tested turned f steps = let e : pc + 0 ≡ pc = omega arith in (subst (λ q. Goes given q base) e stepped, subst (λ q. AllStep q xs) e steps)
-      enter_steps AtTest n m pc pending xs stepped tested turned f steps = (opens_goes pc base (Jump (Skip n)) refl f.0 f.1, (((base, given), f.0, (0, omega arith, tested)), steps))
-      enter_steps AtBody n m pc pending xs stepped tested turned f steps =
-          let e : pc + 1 + n + m + 1 ≡ pc + 1 + (n + m + 1) = omega arith in
-          (opens_goes pc base (Jump (Skip (n + m + 1))) refl f.0 f.1, (((base, given), f.0, (0, omega arith, subst (λ q. Goes given q base) e turned)), steps))
+      -- where a loop goes on with its next turn, and where it is left
+      abbrev Ways : (looping : Bool) → Turn → Type 0
+      Ways looping turn = looping ≡ true → Goes given turn.out test × Goes given turn.begin base
 
-      module _ (leaves : Goes given exit test) where
-        abbrev Keeps_on : (statement : Bool) → (before after : List Height) → Type 0
-        Keeps_on = Keeps R 0 0 slots names exit base
+      -- nothing more lies below, and a run may go where the function is left
+      abbrev Alone : Type 0
+      Alone = (r ≡ 0) × (s ≡ 0) × Goes given exit test
 
-        -- what stands after a block
-        later : (e : Spot) (looping statement : Bool) (x : Block) (h g : Height) (pc : ℕ) (pending : List Height) (ys : List Order) → Keeps_on statement pending pending → Block_types looping statement h x g → Row base pc (walk h pending) (orders e x ++ ys) → (after : List Height) × Keeps_on statement pending after × Row base (pc + length (orders e x)) (walk g after) ys
-        later e looping statement x h g pc pending ys keeps t f =
-            let ends = block_ends R 0 0 slots names exit base e looping statement x h g pending keeps t in
-            (ends.0, ends.2, subst (λ w. Row base (pc + length (orders e x)) w ys) ends.1 (row_back base pc (walk h pending) (orders e x) ys f))
+      module _ (from : Height) where
+        abbrev Rows : ℕ → Height → List Height → List Order → Type 0
+        Rows pc h pending xs = Row from pc (walk h pending) xs
 
-        -- where a loop goes on with its next turn, and where it is left
-        abbrev Ways : (looping : Bool) → Turn → Type 0
-        Ways looping turn = looping ≡ true → Goes given turn.out test × Goes given turn.begin base
+        first_base : (pending : List Height) → from ≡ base → AllBase pending → get_or pending 0 from ≡ base
+        first_base [] same all = same
+        first_base (h ∷ others) same all = all.0
 
-        -- a run may go where a block begins, if it may go where the block ends, and each of its orders has what it needs
-        pub block_steps : (e : Spot) (turn : Turn) (looping statement : Bool) (x : Block) (h g : Height) (pc : ℕ) (pending : List Height) → (statement ≡ true → e ≡ Between pc turn) → Ways looping turn → Keeps_on statement pending pending → Block_types looping statement h x g → Row base pc (walk h pending) (orders e x) → Goes given (pc + length (orders e x)) g → Goes given pc h × AllStep pc (orders e x)
-        block_steps e turn l statement Making h g pc pending here ways keeps t f end =
+        -- an expression keeps them as they are; between statements they all stand between statements, as does what follows where there are none
+        abbrev pub Keeps : (statement : Bool) → (before after : List Height) → Type 0
+        Keeps true before after = (from ≡ base) × AllBase before × AllBase after
+        Keeps false before after = before ≡ after
+
+        keeps_on : (statement : Bool) (before after : List Height) → Keeps statement before after → Keeps statement after after
+        keeps_on true before after keeps = (keeps.0, keeps.2, keeps.2)
+        keeps_on false before after keeps = refl
+
+        keeps_then : (statement : Bool) (before after last : List Height) → Keeps statement before after → Keeps statement after last → Keeps statement before last
+        keeps_then true before after last first next = (first.0, first.1, next.2)
+        keeps_then false before after last first next = first ∙ next
+
+        -- a test leads to one more, and the jump after its first part to that
+        keeps_test : (statement : Bool) (i : Height) (before : List Height) → IsBetween R r s slots names exit statement i → Keeps statement before before → Keeps statement (i ∷ before) (i ∷ before)
+        keeps_test true i before leaves keeps = (keeps.0, (leaves, keeps.1), (leaves, keeps.1))
+        keeps_test false i before leaves keeps = refl
+
+        keeps_rest : (statement : Bool) (i : Height) (before after : List Height) → Keeps statement before before → Keeps statement (i ∷ before) after → Keeps statement before (drop 1 after)
+        keeps_rest true i before after first keeps = (keeps.0, first.1, rest_base after keeps.2)
+        keeps_rest false i before after first keeps = ap (drop 1) keeps
+
+        part_same : (statement : Bool) (i h : Height) (before after : List Height) → IsBetween R r s slots names exit statement i → Keeps statement (i ∷ before) after → other_part from (walk h after) ≡ with_temporaries i h.temporaries
+        part_same true i h before after leaves keeps = ap (λ g. with_temporaries g h.temporaries) (first_base after keeps.0 keeps.2 ∙ sym leaves)
+        part_same false i h before after leaves keeps = ap (λ l. with_temporaries (get_or l 0 from) h.temporaries) (sym keeps)
+
+        -- ---- orders, one part after another
+
+        walk_then : (w : Walk) (xs ys : List Order) {v : Walk} → last_walk R from w xs ≡ v → last_walk R from w (xs ++ ys) ≡ last_walk R from v ys
+        walk_then w [] ys is = ap (λ v. last_walk R from v ys) is
+        walk_then w (x ∷ xs) ys is = walk_then (next_walk R from x w) xs ys is
+
+        rows_then : (pc : ℕ) (w : Walk) (xs ys : List Order) {v : Walk} → last_walk R from w xs ≡ v → Row from pc w (xs ++ ys) → Row from pc w xs × Row from (pc + length xs) v ys
+        rows_then pc w xs ys is f = (row_front from pc w xs ys f, subst (λ v. Row from (pc + length xs) v ys) is (row_back from pc w xs ys f))
+
+        typed : (pc : ℕ) (h : Height) (pending : List Height) (xs : List Order) (g : Height) → Alone → Types R r s h xs g → Rows pc h pending xs → Goes given (pc + length xs) g → Goes given pc h × AllStep pc xs
+        typed pc h pending xs g alone t = typed_steps from pc h pending xs g (subst (λ n. Types R n 0 h xs g) alone.0 (subst (λ n. Types R r n h xs g) alone.1 t))
+
+        -- a jump between statements, to what may be there
+        jumps : (pc : ℕ) (i : Height) (pending : List Height) (to : Target) (xs : List Order) → Rows pc i pending (Jump to ∷ xs) → Goes given (lands pc to) i → Goes given pc i × StepsAt pc (Jump to)
+        jumps pc i pending to xs f goes = (opens_goes pc i (Jump to) refl f.0 f.1, ((i, given), f.0, (i.temporaries, omega arith, goes)))
+
+        jumped : (pending : List Height) → from ≡ base → AllBase pending → walk (with_temporaries (get_or pending 0 from) 0) (drop 1 pending) ≡ walk base (drop 1 pending)
+        jumped pending same all = ap (λ n. walk (with_temporaries n 0) (drop 1 pending)) (first_base pending same all)
+
+        -- the parts after the jump by which a loop is entered, which leads to its step, its test or its body
+        abbrev entered : Entry → List Height → List Height
+        entered AtStep pending = pending
+        entered _ pending = drop 1 pending
+
+        enter_base : (entry : Entry) (pending : List Height) → AllBase pending → AllBase (entered entry pending)
+        enter_base AtStep pending base_all = base_all
+        enter_base _ pending base_all = rest_base pending base_all
+
+        enter_walks : (entry : Entry) (n m : ℕ) (pending : List Height) → from ≡ base → AllBase pending → last_walk R from (walk base pending) (enter_orders entry n m) ≡ walk base (entered entry pending)
+        enter_walks AtStep n m pending same base_all = refl
+        enter_walks _ n m pending same base_all = jumped pending same base_all
+
+        enter_steps : (entry : Entry) (n m pc : ℕ) (pending : List Height) → Goes given (pc + length (enter_orders entry n m)) base → Goes given (pc + length (enter_orders entry n m) + n) base
+            → Goes given (pc + length (enter_orders entry n m) + n + m + 1) base → Rows pc base pending (enter_orders entry n m) → Goes given pc base × AllStep pc (enter_orders entry n m)
+        enter_steps AtStep n m pc pending stepped tested turned f = let e : pc + 0 ≡ pc = omega arith in (subst (λ q. Goes given q base) e stepped, tt)
+        enter_steps AtTest n m pc pending stepped tested turned f = let one = jumps pc base pending (Skip n) [] f tested in (one.0, (one.1, tt))
+        enter_steps AtBody n m pc pending stepped tested turned f =
+            let one = jumps pc base pending (Skip (n + m + 1)) [] f (subst (λ q. Goes given q base) (omega arith) turned) in (one.0, (one.1, tt))
+
+        -- ---- blocks
+
+        -- where a walk over the orders of a block ends; and a run may go where the block begins, if it may go where it ends, and each order has what it needs
+        pub record Walks (e : Spot) (looping statement : Bool) (pending : List Height) (h : Height) (xs : List Order) (g : Height) : Type 0 where
+          pub after : List Height
+          pub is : last_walk R from (walk h pending) xs ≡ walk g after
+          pub keeps : Keeps statement pending after
+          pub go : (pc : ℕ) (turn : Turn) → Alone → (statement ≡ true → e ≡ Between pc turn) → Ways looping turn → Rows pc h pending xs → Goes given (pc + length xs) g → Goes given pc h × AllStep pc xs
+
+        walked : {e : Spot} {looping statement : Bool} {pending : List Height} {h : Height} {xs : List Order} {g : Height} (after : List Height) → last_walk R from (walk h pending) xs ≡ walk g after → Keeps statement pending after
+            → ((pc : ℕ) (turn : Turn) → Alone → (statement ≡ true → e ≡ Between pc turn) → Ways looping turn → Rows pc h pending xs → Goes given (pc + length xs) g → Goes given pc h × AllStep pc xs)
+            → Walks e looping statement pending h xs g
+        walked after is keeps go = record { after = after; is = is; keeps = keeps; go = go }
+
+        -- what goes on elsewhere, at the height of a statement or of a test
+        elsewhere : {e : Spot} {looping statement : Bool} {pending : List Height} {h i : Height} {xs : List Order} {g : Height} → Keeps statement pending pending → statement ≡ true → h ≡ i → g ≡ base
+            → last_walk R from (walk i pending) xs ≡ walk (with_temporaries (get_or pending 0 from) 0) (drop 1 pending)
+            → ((pc : ℕ) (turn : Turn) → Goes given exit test → e ≡ Between pc turn → Ways looping turn → Rows pc i pending xs → Goes given pc i × AllStep pc xs)
+            → Walks e looping statement pending h xs g
+        elsewhere {pending} keeps is_statement begins ends is go =
+            let all_base : Keeps true pending pending = subst (λ b. Keeps b pending pending) is_statement keeps in
+            rw (is_statement, begins, ends) (walked (drop 1 pending) (is ∙ jumped pending all_base.0 all_base.1) (all_base.0, all_base.1, rest_base pending all_base.1)
+            (λ pc turn alone here ways f end. go pc turn alone.2 (here refl) ways f))
+
+        pub block_walks : (e : Spot) (looping statement : Bool) (x : Block) (h g : Height) (pending : List Height) → Keeps statement pending pending → BlockTypes R r s slots names exit looping statement h x g → Walks e looping statement pending h (orders e x) g
+        block_walks e l statement Making h g pending keeps t =
             let one = next_height R (Plain Alloc) h in
             let message : Order = SendTo init_selector 0 0 gives.Object in
             let two = next_height R message one in
+            walked pending (ap (λ n. walk n pending) t.1) keeps (λ pc turn alone here ways f end.
             let size : pc + 3 ≡ pc + 1 + 1 + 1 = omega arith in
             let sent : role_at (pc + 1) ≡ Messages = ap role_of f.2.1 in
             let at_message : Stands given (pc + 1) one = record { height = f.2.0; order = message; is = f.2.1; no_end = λ end. cc } in
@@ -356,25 +428,23 @@ module _ (R : resolved.Program) (all : List Order) (table : List (Height × Give
                 ((h, given), f.0, (omega (arith, t.0), (at_message, λ k c. absurd (inside_clears (pc + 1) Messages tt sent k c)), inr (refl, λ s. cc))),
                 (((one, given), f.2.0, ((omega arith, omega arith), (at_settle, λ k c. absurd (inside_clears (pc + 1 + 1) Settles tt (ap role_of f.2.2.1) k c)), inr (refl, refl, refl, f.2.2.1))), (((two, given), f.2.2.0, subst (Goes given (pc + 1 + 1 + 1)) (sym t.1) (subst (λ n. Goes given n g) size end)), tt)),
               ),
-            )
-        block_steps e turn l statement (IfNew class x y) h g pc pending here ways keeps t f end = either (has_new R class) (block_steps e turn l statement x h g pc pending here ways keeps) (block_steps e turn l statement y h g pc pending here ways keeps) t f end
-          where
-            either : (b : Bool) → (Block_types l statement h x g → Row base pc (walk h pending) (orders e x) → Goes given (pc + length (orders e x)) g → Goes given pc h × AllStep pc (orders e x))
-                → (Block_types l statement h y g → Row base pc (walk h pending) (orders e y) → Goes given (pc + length (orders e y)) g → Goes given pc h × AllStep pc (orders e y))
-                → ByTest b (Block_types l statement h x g) (Block_types l statement h y g) → Row base pc (walk h pending) (if b then orders e x else orders e y) → Goes given (pc + length (if b then orders e x else orders e y)) g
-                → Goes given pc h × AllStep pc (if b then orders e x else orders e y)
-            either true first second u = first u
-            either false first second u = second u
-        block_steps e turn l statement (Then x y) h g pc pending here ways keeps t f end =
+            ))
+        block_walks e l statement (IfNew class x y) h g pending keeps t =
+            by_test (λ b. ByTest b (BlockTypes R r s slots names exit l statement h x g) (BlockTypes R r s slots names exit l statement h y g) → Walks e l statement pending h (if b then orders e x else orders e y) g) (has_new R class)
+            (λ _. block_walks e l statement x h g pending keeps) (λ _. block_walks e l statement y h g pending keeps) t
+        block_walks e l statement (Then x y) h g pending keeps t =
             let xs = orders e x in
             let next = past (length xs) e in
             let ys = orders next y in
+            let one = block_walks e l statement x h t.0 pending keeps t.1 in
+            let two = block_walks next l statement y t.0 g one.after (keeps_on statement pending one.after one.keeps) t.2 in
+            walked two.after (walk_then (walk h pending) xs ys one.is ∙ two.is) (keeps_then statement pending one.after two.after one.keeps two.keeps) (λ pc turn alone here ways f end.
             let size : pc + length (xs ++ ys) ≡ pc + length xs + length ys = omega (arith, length-append xs ys) in
-            let after = later e l statement x h t.0 pc pending ys keeps t.1 f in
-            let second = block_steps next turn l statement y t.0 g (pc + length xs) after.0 (λ s. ap (past (length xs)) (here s)) ways (keeps_on R 0 0 slots names exit base statement pending after.0 after.1) t.2 after.2 (subst (λ n. Goes given n g) size end) in
-            let first = block_steps e turn l statement x h t.0 pc pending here ways keeps t.1 (row_front base pc (walk h pending) xs ys f) second.0 in
-            (first.0, step_then pc xs ys first.1 second.1)
-        block_steps e turn l statement (Fork x y) h g pc pending here ways keeps t f end =
+            let rows = rows_then pc (walk h pending) xs ys one.is f in
+            let second = two.go (pc + length xs) turn alone (λ s. ap (past (length xs)) (here s)) ways rows.1 (subst (λ n. Goes given n g) size end) in
+            let first = one.go pc turn alone here ways rows.0 second.0 in
+            (first.0, step_then pc xs ys first.1 second.1))
+        block_walks e l statement (Fork x y) h g pending keeps t =
             let inner = past 1 e in
             let xs = orders inner x in
             let other = past 1 (past (length xs) inner) in
@@ -383,91 +453,97 @@ module _ (R : resolved.Program) (all : List Order) (table : List (Height × Give
             let m = with_temporaries g t.1 in
             let j = with_temporaries i t.1 in
             let to = Skip (suc (length xs)) in
-            let one = pc + 1 in
-            let two = one + length xs + 1 in
             let over : Order = Jump (Skip (length ys)) in
-            let rest = over ∷ ys in
-            let there : two ≡ lands pc to = omega arith in
-            let size : pc + length (orders e (Fork x y)) ≡ two + length ys = omega (arith, length-append xs rest) in
+            let rest : List Order = over ∷ ys in
+            let one = block_walks inner l statement x i m (i ∷ pending) (keeps_test statement i pending t.3 keeps) t.4 in
+            let others = drop 1 one.after in
+            let left = keeps_rest statement i pending one.after keeps one.keeps in
+            let part = part_same statement i m pending one.after t.3 one.keeps in
+            let two = block_walks other l statement y j g others (keeps_on statement pending others left) t.5 in
+            let is = ap (λ n. last_walk R from (walk n (n ∷ pending)) (xs ++ rest)) t.2.left ∙ walk_then (walk i (i ∷ pending)) xs rest one.is ∙ ap (λ n. last_walk R from (walk n others) ys) part ∙ two.is in
+            walked two.after is (keeps_then statement pending others two.after left two.keeps) (λ pc turn alone here ways f end.
+            let q = pc + 1 in
+            let behind = q + length xs + 1 in
+            let there : behind ≡ lands pc to = omega arith in
+            let size : pc + length (orders e (Fork x y)) ≡ behind + length ys = omega (arith, length-append xs rest) in
             let last = subst (λ n. Goes given n g) size end in
-            let more = keeps_test R 0 0 slots names exit base statement i pending t.3 keeps in
-            let inside = subst (λ n. Row base one (walk n (n ∷ pending)) (xs ++ rest)) t.2.left f.2 in
-            let after = later inner l statement x i m one (i ∷ pending) rest more t.4 inside in
-            let others = drop 1 after.0 in
-            let kept = keeps_on R 0 0 slots names exit base statement pending others (keeps_rest R 0 0 slots names exit base statement i pending after.0 keeps after.1) in
-            let part = subst (λ n. Row base two (walk n others) ys) (part_same R 0 0 slots names exit base statement i m pending after.0 t.3 after.1) after.2.2 in
-            let second = block_steps other turn l statement y j g two others (λ s. ap (λ e. past 1 (past (length xs) (past 1 e))) (here s)) ways kept t.5 part last in
-            let first = block_steps inner turn l statement x i m one (i ∷ pending) (λ s. ap (past 1) (here s)) ways more t.4 (row_front base one (walk i (i ∷ pending)) xs rest inside) (opens_goes (one + length xs) m over refl after.2.0 after.2.1) in
-            let chosen = subst (λ n. Goes given one n × Leads given (lands pc to) n) (sym t.2.left) (first.0, (t.1, t.2.first, subst (λ q. Goes given q j) there second.0)) in (
+            let rows = rows_then q (walk i (i ∷ pending)) xs rest one.is (subst (λ n. Rows q n (n ∷ pending) (xs ++ rest)) t.2.left f.2) in
+            let second = two.go behind turn alone (λ s. ap (λ e. past 1 (past (length xs) (past 1 e))) (here s)) ways (subst (λ n. Rows behind n others ys) part rows.1.2) last in
+            let first = one.go q turn alone (λ s. ap (past 1) (here s)) ways rows.0 (opens_goes (q + length xs) m over refl rows.1.0 rows.1.1) in
+            let chosen = subst (λ n. Goes given q n × Leads given (lands pc to) n) (sym t.2.left) (first.0, (t.1, t.2.first, subst (λ q. Goes given q j) there second.0)) in (
               opens_goes pc h (JumpZero to) refl f.0 f.1,
-              (((h, given), f.0, (t.2.some, chosen.0, chosen.1)), step_then one xs rest first.1 (((m, given), after.2.0, (g.temporaries, t.2.next, last)), second.1)),
-            )
-        block_steps e turn l true (Loop entry z x y) h g pc pending here ways keeps t f end =
+              (((h, given), f.0, (t.2.some, chosen.0, chosen.1)), step_then q xs rest first.1 (((m, given), rows.1.0, (g.temporaries, t.2.next, last)), second.1)),
+            ))
+        block_walks e l true (Loop entry z x y) h g pending keeps t =
             let begin = past (enter_size entry) e in
             let zs = orders begin z in
             let at_test = past (length zs) begin in
             let ts = orders at_test x in
             let at_body = body_spot (length zs) (length ts) begin in
             let xs = orders at_body y in
-            let to = Skip (suc (length xs)) in
-            let first = pc + enter_size entry in
+            let out = Skip (suc (length xs)) in
+            let back = Back (suc (length zs + length ts + length xs)) in
+            let again : List Order = Jump back ∷ [] in
+            let rest : List Order = JumpZero out ∷ (xs ++ again) in
+            let enter = enter_orders entry (length zs) (length ts) in
+            let others = entered entry pending in
+            let based = enter_base entry pending keeps.1 in
+            let enters = enter_walks entry (length zs) (length ts) pending keeps.0 keeps.1 in
+            let none = block_walks begin l true z base base others (keeps.0, based, based) t.2 in
+            let one = block_walks at_test l true x base test none.after (keeps.0, none.keeps.2, none.keeps.2) t.3 in
+            let two = block_walks at_body true true y base base (base ∷ one.after) (keeps.0, (refl, one.keeps.2), (refl, one.keeps.2)) t.4 in
+            let less = chosen_same out in
+            let is = walk_then (walk base pending) enter (zs ++ (ts ++ rest)) enters ∙ walk_then (walk base others) zs (ts ++ rest) none.is ∙ walk_then (walk base none.after) ts rest one.is ∙ ap (λ n. last_walk R from (walk n (n ∷ one.after)) (xs ++ again)) less ∙ walk_then (walk base (base ∷ one.after)) xs again two.is ∙ jumped two.after keeps.0 two.keeps.2 in
+            rw (t.1, t.5) (walked (drop 1 two.after) is (keeps.0, keeps.1, rest_base two.after two.keeps.2) (λ pc turn alone here ways f end.
+            let first = pc + length enter in
             let q0 = first + length zs in
             let q = q0 + length ts in
-            let one = q + 1 in
-            let behind = one + length xs + 1 in
-            let back_to = Back (suc (length zs + length ts + length xs)) in
-            let again : List Order = Jump back_to ∷ [] in
-            let out : Order = JumpZero to in
-            let rest : List Order = out ∷ (xs ++ again) in
-            let enter = enter_orders entry (length zs) (length ts) in
-            let there : behind ≡ lands q to = omega arith in
-            let home : first ≡ lands (one + length xs) back_to = omega arith in
-            let size : pc + length (orders e (Loop entry z x y)) ≡ behind = omega (arith, length-append enter (zs ++ (ts ++ rest)), enter_length entry (length zs) (length ts), length-append zs (ts ++ rest), length-append ts rest, length-append xs again) in
-            let last = subst (Goes given behind) t.5 (subst (λ n. Goes given n g) size end) in
-            let start = subst (λ n. Row base pc (walk n pending) (enter ++ (zs ++ (ts ++ rest)))) t.1 f in
-            let others = entered R 0 0 slots names exit base entry pending in
-            let kept = enter_keeps R 0 0 slots names exit base entry pending refl keeps.1 in
-            let turned = enter_row entry (length zs) (length ts) pc pending (zs ++ (ts ++ rest)) keeps.1 start in
-            let stepped = later begin l true z base base first others (ts ++ rest) kept t.2 turned in
-            let more = keeps_on R 0 0 slots names exit base true others stepped.0 stepped.1 in
-            let chosen = later at_test l true x base test q0 stepped.0 rest more t.3 stepped.2 in
-            let less = chosen_same R 0 0 slots names exit to in
-            let most = keeps_test R 0 0 slots names exit base true base chosen.0 refl (keeps_on R 0 0 slots names exit base true stepped.0 chosen.0 chosen.1) in
-            let inside = subst (λ n. Row base one (walk n (n ∷ chosen.0)) (xs ++ again)) less chosen.2.2 in
-            let after = later at_body true true y base base one (base ∷ chosen.0) again most t.4 inside in
-            let goes_out = opens_goes q test out refl chosen.2.0 chosen.2.1 in
-            let tests = block_steps at_test turn l true x base test q0 stepped.0 (λ s. ap (λ e. past (length zs) (past (enter_size entry) e)) (here s)) ways more t.3 (row_front base q0 (walk base stepped.0) ts rest stepped.2) goes_out in
-            let steps = block_steps begin turn l true z base base first others (λ s. ap (past (enter_size entry)) (here s)) ways kept t.2 (row_front base first (walk base others) zs (ts ++ rest) turned) tests.0 in
-            let inner : Turn = record { begin = first; out = q } in
-            let turns = block_steps at_body inner true true y base base one (base ∷ chosen.0) (λ s. ap (λ e. body_spot (length zs) (length ts) (past (enter_size entry) e)) (here s)) (λ s. (goes_out, steps.0)) most t.4 (row_front base one (walk base (base ∷ chosen.0)) xs again inside) (opens_goes (one + length xs) base (Jump back_to) refl after.2.0 after.2.1) in
-            let both = subst (λ n. Goes given one n × Leads given (lands q to) n) (sym less) (turns.0, (0, omega arith, subst (λ n. Goes given n base) there last)) in
-            let whole = enter_steps entry (length zs) (length ts) pc pending (zs ++ (ts ++ rest)) steps.0 tests.0 turns.0 start (step_then first zs (ts ++ rest) steps.1 (step_then q0 ts rest tests.1 (
-              ((test, given), chosen.2.0, (omega arith, both.0, both.1)),
-              step_then one xs again turns.1 (((base, given), after.2.0, (0, omega arith, subst (λ n. Goes given n base) home steps.0)), tt),
-            ))) in
-            (subst (Goes given pc) (sym t.1) whole.0, whole.1)
-        block_steps e turn l true Quit h g pc pending here ways keeps t f end =
-            let goes = subst (λ n. Goes given n test) (sym (ap (λ e. (turn_at e).out) (here refl))) (ways t.1).0 in
+            let p = q + 1 in
+            let behind = p + length xs + 1 in
+            let there : behind ≡ lands q out = omega arith in
+            let home : first ≡ lands (p + length xs) back = omega arith in
+            let size : pc + length (enter ++ (zs ++ (ts ++ rest))) ≡ behind = omega (arith, length-append {A = Order}) in
+            let at : begin ≡ Between first turn = ap (past (enter_size entry)) (here refl) ∙ ap (λ n. Between (pc + n) turn) (sym (enter_length entry (length zs) (length ts))) in
+            let entering = rows_then pc (walk base pending) enter (zs ++ (ts ++ rest)) enters f in
+            let stepped = rows_then first (walk base others) zs (ts ++ rest) none.is entering.1 in
+            let chosen = rows_then q0 (walk base none.after) ts rest one.is stepped.1 in
+            let turned = rows_then p (walk base (base ∷ one.after)) xs again two.is (subst (λ n. Rows p n (n ∷ one.after) (xs ++ again)) less chosen.1.2) in
+            let goes_out = opens_goes q test (JumpZero out) refl chosen.1.0 chosen.1.1 in
+            let tests = one.go q0 turn alone (λ s. ap (past (length zs)) at) ways chosen.0 goes_out in
+            let steps = none.go first turn alone (λ s. at) ways stepped.0 tests.0 in
+            let over = jumps (p + length xs) base two.after back [] turned.1 (subst (λ n. Goes given n base) home steps.0) in
+            let turns = two.go p (record { begin = first; out = q }) alone (λ s. ap (body_spot (length zs) (length ts)) at) (λ s. (goes_out, steps.0)) turned.0 over.0 in
+            let both = subst (λ n. Goes given p n × Leads given (lands q out) n) (sym less) (turns.0, (0, omega arith, subst (λ n. Goes given n base) (size ∙ there) end)) in
+            let begun = enter_steps entry (length zs) (length ts) pc pending steps.0 tests.0 turns.0 entering.0 in
+            (begun.0, step_then pc enter (zs ++ (ts ++ rest)) begun.1 (step_then first zs (ts ++ rest) steps.1 (step_then q0 ts rest tests.1 (((test, given), chosen.1.0, (omega arith, both.0, both.1)), step_then p xs again turns.1 (over.1, tt)))))))
+        block_walks e l statement Quit h g pending keeps t = elsewhere keeps t.0 t.2 t.3 refl (λ pc turn leaves here ways f.
             let up : next_height R (Plain (Num (pos 0))) base ≡ test = alike_same _ _ (omega arith) in
-            let next = opens_goes (pc + 1) _ (Jump (At (turn_at e).out)) refl f.2.0 f.2.1 in
-            (opens_goes pc h (Plain (Num (pos 0))) refl f.0 f.1, (((h, given), f.0, (omega arith, (next.0, λ k c. inr (next.1 k c)), inl next.2)), (((next_height R (Plain (Num (pos 0))) h, given), f.2.0, subst (λ n. Leads given (turn_at e).out n) (sym (ap (next_height R (Plain (Num (pos 0)))) t.2 ∙ up)) (0, omega arith, goes)), tt)))
-        block_steps e turn l true Advance h g pc pending here ways keeps t f end =
-            let goes = subst (λ n. Goes given n base) (sym (ap (λ e. (turn_at e).begin) (here refl))) (ways t.1).1 in
-            (opens_goes pc h (Jump (At (turn_at e).begin)) refl f.0 f.1, (((h, given), f.0, subst (λ n. Leads given (turn_at e).begin n) (sym t.2) (0, omega arith, goes)), tt))
-        block_steps e turn l true (Leave to) h g pc pending here ways keeps t f end = (opens_goes pc h (Jump (At to)) refl f.0 f.1, (((h, given), f.0, subst (λ n. Leads given to n) (sym t.2) (0, omega arith, subst (λ q. Goes given q test) (sym t.1) leaves)), tt))
-        block_steps e turn l false (Loop entry z x y) h g pc pending here ways keeps t f end = absurd (true≢false (sym t.0))
-        block_steps e turn l false Quit h g pc pending here ways keeps t f end = absurd (true≢false (sym t.0))
-        block_steps e turn l false Advance h g pc pending here ways keeps t f end = absurd (true≢false (sym t.0))
-        block_steps e turn l false (Leave to) h g pc pending here ways keeps t f end = absurd (true≢false (sym t.0))
-        block_steps e turn l statement (Full x y) h g pc pending here ways keeps t f end =
+            let goes = subst (λ e. Goes given (turn_at e).out test) (sym here) (ways t.1).0 in
+            let next = jumps (pc + 1) _ pending (At (turn_at e).out) [] f.2 (subst (Goes given (turn_at e).out) (sym up) goes) in
+            (opens_goes pc base (Plain (Num (pos 0))) refl f.0 f.1, (((base, given), f.0, (omega arith, (next.0.0, λ k c. inr (next.0.1 k c)), inl next.0.2)), (next.1, tt))))
+        block_walks e l statement Advance h g pending keeps t = elsewhere keeps t.0 t.2 t.3 refl (λ pc turn leaves here ways f.
+            let next = jumps pc base pending (At (turn_at e).begin) [] f (subst (λ e. Goes given (turn_at e).begin base) (sym here) (ways t.1).1) in (next.0, (next.1, tt)))
+        block_walks e l statement (Leave to) h g pending keeps t = elsewhere keeps t.0 t.2 t.3 refl (λ pc turn leaves here ways f.
+            let next = jumps pc test pending (At to) [] f (subst (λ q. Goes given q test) (sym t.1) leaves) in (next.0, (next.1, tt)))
+        block_walks e l false (Loop entry z x y) h g pending keeps t = absurd (true≢false (sym t.0))
+        block_walks e l statement (Full x y) h g pending keeps t =
             let xs = orders Inside x in
             let ys = orders Inside y in
             let ds = drop_orders xs in
-            let size : pc + length (xs ++ (ys ++ ds)) ≡ pc + length xs + length ys + length ds = omega (arith, length-append xs (ys ++ ds), length-append ys ds) in
-            let one = later Inside false false x h t.0 pc pending (ys ++ ds) refl t.2 f in
-            let two = later Inside false false y t.0 t.1 (pc + length xs) one.0 ds refl t.3 one.2 in
-            let third = typed_steps base (pc + length xs + length ys) t.1 two.0 ds g t.4 two.2 (subst (λ n. Goes given n g) size end) in
-            let second = block_steps Inside turn false false y t.0 t.1 (pc + length xs) one.0 (λ s. absurd (true≢false (sym s))) (λ s. absurd (true≢false (sym s))) refl t.3 (row_front base (pc + length xs) (walk t.0 one.0) ys ds one.2) third.0 in
-            let first = block_steps Inside turn false false x h t.0 pc pending (λ s. absurd (true≢false (sym s))) (λ s. absurd (true≢false (sym s))) refl t.2 (row_front base pc (walk h pending) xs (ys ++ ds) f) second.0 in
-            (first.0, step_then pc xs (ys ++ ds) first.1 (step_then (pc + length xs) ys ds second.1 third.1))
-        block_steps e turn l statement x h g pc pending here ways keeps t f end = typed_steps base pc h pending (orders e x) g t f end
+            let one = block_walks Inside false false x h t.0 pending refl t.2 in
+            let two = block_walks Inside false false y t.0 t.1 one.after refl t.3 in
+            let is = walk_then (walk h pending) xs (ys ++ ds) one.is ∙ walk_then (walk t.0 one.after) ys ds two.is ∙ types_last R r s from t.1 two.after ds g t.4 in
+            walked two.after is (subst (Keeps statement pending) (one.keeps ∙ two.keeps) keeps) (λ pc turn alone here ways f end.
+            let q = pc + length xs in
+            let size : pc + length (xs ++ (ys ++ ds)) ≡ q + length ys + length ds = omega (arith, length-append xs (ys ++ ds), length-append ys ds) in
+            let rows = rows_then pc (walk h pending) xs (ys ++ ds) one.is f in
+            let others = rows_then q (walk t.0 one.after) ys ds two.is rows.1 in
+            let third = typed (q + length ys) t.1 two.after ds g alone t.4 others.1 (subst (λ n. Goes given n g) size end) in
+            let second = two.go q turn alone (λ s. cc) (λ s. cc) others.0 third.0 in
+            let first = one.go pc turn alone (λ s. cc) (λ s. cc) rows.0 second.0 in
+            (first.0, step_then pc xs (ys ++ ds) first.1 (step_then q ys ds second.1 third.1)))
+        block_walks e l statement x h g pending keeps t = walked pending (types_last R r s from h pending (orders e x) g t) keeps (λ pc turn alone here ways. typed pc h pending (orders e x) g alone t)
+
+    -- the same where nothing lies below
+    pub block_steps : (slots names exit : ℕ) → Goes given exit (tested slots names) → (e : Spot) (turn : Turn) (looping statement : Bool) (x : Block) (h g : Height) (pc : ℕ) (pending : List Height) → (statement ≡ true → e ≡ Between pc turn) → Ways 0 0 slots names exit looping turn → Keeps 0 0 slots names exit (between slots names) statement pending pending → BlockTypes R 0 0 slots names exit looping statement h x g → Row (between slots names) pc (walk h pending) (flat R slots names e x) → Goes given (pc + length (flat R slots names e x)) g → Goes given pc h × AllStep pc (flat R slots names e x)
+    block_steps slots names exit leaves e turn looping statement x h g pc pending here ways keeps t = (block_walks 0 0 slots names exit (between slots names) e looping statement x h g pending keeps t).go pc turn (refl, refl, leaves) here ways

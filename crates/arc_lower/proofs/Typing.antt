@@ -1,6 +1,6 @@
 -- Orders that go on with the next one each: how many numbers, references, temporaries and variables there are after
 -- them, where each of them has as many as it needs.
-use Rattle.std.proofs.Common.{◌≡◌, ℕ, zero, suc, pred, ◌+◌, ◌-◌, ◌/◌, ◌<◌, ◌≤◌, Bool, true, false, if◌then◌else◌, nat_lt, List, [], ◌∷◌, ◌++◌, length, take, drop, refl, sym, ap, ◌∙◌, subst, arith, pos}
+use Rattle.std.proofs.Common.{◌≡◌, ℕ, zero, suc, pred, ◌+◌, ◌-◌, ◌/◌, ◌<◌, ◌≤◌, Bool, true, false, if◌then◌else◌, List, [], ◌∷◌, ◌++◌, length, take, drop, refl, sym, ap, ◌∙◌, subst, arith, pos}
 use Rattle.std.proofs.lemmas.Bool.{ltb-true}
 use Rattle.arc_code.specs.declared.code.TheConstants.{MOST_TEXT}
 use Rattle.arc_ast.specs.declared.tree.Kind.TheVariants as k
@@ -14,8 +14,8 @@ use Rattle.arc_spec.specs.Resolved.{Piece, Bytes, Decimal, Character, Function, 
 use Rattle.arc_spec.specs.Meaning.{function_at}
 use Rattle.arc_code.specs.declared.instr.Op.{Op}
 use Rattle.arc_code.specs.declared.instr.Op.TheVariants as ops
-use Rattle.arc_code.specs.declared.instr.Op.TheVariants.{Num, Narrow, Pop, Get, Set, PrintNum, PrintByte, Declare, Nil, ReadRef, Hold, Alloc}
-use Rattle.arc_code.specs.declared.instr.Instr.TheVariants.{Plain, PrintText, Jump, JumpZero, Call, Send, SendSuper, SendTo, SendToSuper, StoreStrong, StoreGlobal, StoreField, Empty, DropAll, Settle, Give, Return}
+use Rattle.arc_code.specs.declared.instr.Op.TheVariants.{Num, Narrow, Pop, Get, Set, PrintNum, PrintByte, Declare, ReadRef, Alloc}
+use Rattle.arc_code.specs.declared.instr.Instr.TheVariants.{Plain, PrintText, Jump, JumpZero, Call, Send, SendSuper, SendTo, SendToSuper, StoreStrong, StoreGlobal, StoreField, Empty, DropAll, Settle}
 use Rattle.arc_code.specs.declared.effect.Effect.{Effect}
 use Rattle.arc_code.specs.declared.effect.Height.{Height}
 use Rattle.arc_code.specs.Effects.{on_numbers, as_number, as_object, operation_effect, passes}
@@ -26,7 +26,6 @@ use Rattle.arc_lower.specs.Size.{object_parameters, has_new}
 use Rattle.arc_lower.specs.Heights.{height, between, after_effect, next_height, Walk, walk, next_walk, last_walk}
 use Rattle.arc_lower.proofs.Callees.{with_functions}
 use Rattle.arc_lower.proofs.Linking.{out_of_list}
-use Rattle.arc_lower.proofs.Cases.{by_test}
 
 -- ---- the function that is called
 
@@ -45,15 +44,12 @@ abbrev pub IsCalled : Program → Gives → ℕ → Type 0
 IsCalled P wanted f = number_of P wanted f ≡ f
 
 pub number_there : (P : Program) (wanted : Gives) (f : ℕ) → IsCalled P wanted (number_of P wanted f)
-number_there P wanted f = by_test (λ b. IsCalled P wanted (if b then f else number_of_nothing P wanted)) (gives_at P wanted f)
-    (λ e. ap (λ c. if c then f else number_of_nothing P wanted) e)
-    (λ e. let n = number_of_nothing P wanted in ap (λ c. if c then n else n) (none_gives P wanted P.functions n (past_all P wanted)))
+number_there P wanted f = let n = number_of_nothing P wanted in grind (arith, none_gives P wanted P.functions n (past_all P wanted))
 
 -- a function that there isn't is as the one that is called for it
 pub function_same : (P : Program) (wanted : Gives) (f : ℕ) → function_at P wanted (number_of P wanted f) ≡ function_at P wanted f
-function_same P wanted f = by_test (λ b. function_at P wanted (if b then f else number_of_nothing P wanted) ≡ function_at P wanted f) (gives_at P wanted f) (λ e. refl) (λ e.
-    let n = number_of_nothing P wanted in
-    sym (out_of_list P wanted P.functions n (none_gives P wanted P.functions n (past_all P wanted))) ∙ out_of_list P wanted P.functions f e)
+function_same P wanted f = let n = number_of_nothing P wanted in
+    grind (arith, out_of_list P wanted P.functions n (none_gives P wanted P.functions n (past_all P wanted)), out_of_list P wanted P.functions f)
 
 pub slots_same : (P : Program) (wanted : Gives) (f : ℕ) → slots_of P wanted (number_of P wanted f) ≡ slots_of P wanted f
 slots_same P wanted f = ap (λ (g : Function). g.slots) (function_same P wanted f)
@@ -103,10 +99,7 @@ Reaches o h = lacking (operation_effect o) h ≡ 0
 
 pub enough : (o : Op) (h : Height) → Reaches o h → lacking (operation_effect o) h ≡ 0
 enough (Get depth) h reaches = omega arith
-enough (Set depth) h reaches = omega (arith, reaches)
-enough (ReadRef i) h reaches = omega arith
-enough Declare h reaches = omega arith
-enough _ h reaches = reaches
+enough _ h reaches = omega (arith, reaches)
 
 module _ (P : Program) where
   -- the same of an order that goes on with the next one; no reference outlives the temporaries
@@ -127,11 +120,7 @@ module _ (P : Program) where
 
 pub next_same : (P : Program) (base : Height) (x : Order) (w : Walk) (u : Height) → Needs P x u → next_walk P base x w ≡ walk (next_height P x w.height) w.pending
 next_same P base (Jump to) w u needs = absurd needs
-next_same P base (JumpZero to) w u needs = absurd needs
-next_same P base Return w u needs = absurd needs
-next_same P base Give w u needs = absurd needs
-next_same P base Settle w u needs = absurd needs
-next_same P base _ w u needs = refl
+next_same P base _ w u needs = search arith
 
 module _ (P : Program) (r s : ℕ) where
   -- from one height, below which so many numbers and variables more lie, these orders come to the other, and each has what it needs
@@ -217,19 +206,12 @@ module _ (P : Program) (r s : ℕ) where
 
     pub get_types : (slots depth : ℕ) (i : Location) (a : ℕ) → depth + slots ≤ a + r → Counts a (get_orders slots depth i) (suc a)
     get_types slots depth (Global i) a h = one 0 1 a (ops.GetGlobal i) (suc a) refl (omega arith) (omega arith)
-    get_types slots depth (Local i) a h = by_test (λ t. Counts a (if t then Plain (Get (depth + (slots - suc i))) ∷ [] else Plain (Num (pos 0)) ∷ []) (suc a)) (nat_lt i slots)
-        (λ e. let lt = ltb-true i slots e in one 0 1 a (Get (depth + (slots - suc i))) (suc a) refl (omega (arith, lt, h)) (omega arith))
-        (λ e. one 0 1 a (Num (pos 0)) (suc a) refl (omega arith) (omega arith))
+    get_types slots depth (Local i) a h = grind (arith, ltb-true i slots, heights_same)
 
     pub set_types : (slots depth : ℕ) (i : Location) (a : ℕ) → depth + slots ≤ a + r → Counts (suc a) (set_orders slots depth i) (suc a)
     set_types slots depth (Global i) a h =
         op 0 1 (suc a) (Get 0) (Plain (ops.SetGlobal i) ∷ []) (suc (suc a)) (suc a) refl (omega arith) (omega arith) (one 1 0 (suc (suc a)) (ops.SetGlobal i) (suc a) refl (omega arith) (omega arith))
-    set_types slots depth (Local i) a h = by_test (λ t. Counts (suc a) (if t then Plain (Get 0) ∷ Plain (Set (suc depth + (slots - suc i))) ∷ [] else []) (suc a)) (nat_lt i slots)
-        (λ e.
-        let lt = ltb-true i slots e in
-        let set = suc depth + (slots - suc i) in
-        op 0 1 (suc a) (Get 0) (Plain (Set set) ∷ []) (suc (suc a)) (suc a) refl (omega arith) (omega arith) (one 1 0 (suc (suc a)) (Set set) (suc a) refl (omega (arith, lt, h)) (omega arith)))
-        (λ e. refl)
+    set_types slots depth (Local i) a h = grind (arith, ltb-true i slots, heights_same)
 
   -- ---- references, and calls
 
@@ -245,30 +227,22 @@ module _ (P : Program) (r s : ℕ) where
       → Types (height a (objects + b) c d) (fit_object_orders objects parameters) (height a (parameters + b) c d)
   fit_objects_type objects parameters a b c d =
       let rest = objects + b - (objects - parameters) in
-      types_then (height a (objects + b) c d) (forget_orders (objects - parameters)) (height a rest c d) (nil_orders (parameters - objects))
-      (height a (parameters + b) c d)
+      types_then _ (forget_orders (objects - parameters)) (height a rest c d) (nil_orders (parameters - objects)) _
       (types_at _ _ _ _ _ (forgets_type (objects - parameters) a rest c d) (omega arith) (omega arith))
       (types_at _ _ _ _ _ (nils_type (parameters - objects) a rest c d) (omega arith) (omega arith))
 
   -- so many numbers and references become what a function takes
   pub passing_types : (wanted : Gives) (f values objects a b c d : ℕ) → Types (height (values + a) (objects + b) c d) (passing_orders P wanted f values objects) (height (slots_of P wanted f + a) (parameters_of P wanted f + b) c d)
   passing_types wanted f values objects a b c d =
-      let slots = slots_of P wanted f in
-      let parameters = parameters_of P wanted f in
-      types_then (height (values + a) (objects + b) c d) (fit_orders values slots) (height (slots + a) (objects + b) c d) (fit_object_orders objects parameters) (height (slots + a) (parameters + b) c d)
-      (fit_types (objects + b) c d values slots a)
-      (fit_objects_type objects parameters (slots + a) b c d)
+      types_then _ (fit_orders values (slots_of P wanted f)) _ (fit_object_orders objects (parameters_of P wanted f)) _
+      (fit_types (objects + b) c d values (slots_of P wanted f) a) (fit_objects_type objects (parameters_of P wanted f) (slots_of P wanted f + a) b c d)
 
   -- a call leaves a number, or a reference and a temporary
   pub call_types : (wanted : Gives) (b c d f values objects a : ℕ) → Types (height (values + a) (objects + b) c d) (call_orders P wanted f values objects) (height (as_number wanted + a) (as_object wanted + b) (c + as_object wanted) d)
   call_types wanted b c d f values objects a =
       let same = slots_same P wanted f in
       let other = parameters_same P wanted f in
-      let slots = slots_of P wanted f in
-      let parameters = parameters_of P wanted f in
-      let end = height (as_number wanted + a) (as_object wanted + b) (c + as_object wanted) d in
-      types_then (height (values + a) (objects + b) c d) (passing_orders P wanted f values objects) (height (slots + a) (parameters + b) c d) (Call (number_of P wanted f) wanted ∷ []) end
-      (passing_types wanted f values objects a b c d)
+      types_then _ (passing_orders P wanted f values objects) _ (Call (number_of P wanted f) wanted ∷ []) _ (passing_types wanted f values objects a b c d)
       ((omega (arith, same), number_there P wanted f, omega (arith, other)), alike_same _ _ (omega (arith, same, other)))
 
   -- ---- variables that name objects
@@ -282,9 +256,7 @@ module _ (P : Program) (r s : ℕ) where
     stays = height a b c d
 
     empty_types : (i : ℕ) → Types stays (empty_orders names i) stays
-    empty_types i = by_test (λ t. Types stays (if t then Empty i ∷ [] else []) stays) (nat_lt i names)
-        (λ e. let lt = ltb-true i names e in (omega (arith, lt, room), alike_same _ _ (omega arith)))
-        (λ e. refl)
+    empty_types i = grind (arith, ltb-true i names, heights_same)
 
     pub all_empty_type : (first count : ℕ) → Types stays (all_empty_orders names first count) stays
     all_empty_type first zero = refl
@@ -292,9 +264,7 @@ module _ (P : Program) (r s : ℕ) where
 
     pub store_types : (i : Location) → 1 ≤ b → Types stays (store_orders names i) stays
     store_types (Global i) some = (some, alike_same _ _ (omega (arith, some)))
-    store_types (Local i) some = by_test (λ t. Types stays (if t then StoreStrong i ∷ [] else []) stays) (nat_lt i names)
-        (λ e. let lt = ltb-true i names e in ((some, omega (arith, lt, room)), alike_same _ _ (omega (arith, some))))
-        (λ e. refl)
+    store_types (Local i) some = grind (arith, ltb-true i names, heights_same)
 
   -- so many variables, from the first one on, take what the last references name
   pub take_types : (first n a b c d : ℕ) → n ≤ d + s - first → Types (height a (n + b) c d) (take_orders first n) (height a b c d)
@@ -312,9 +282,7 @@ module _ (P : Program) (r s : ℕ) where
 
   pub read_types : (names : ℕ) (i : Location) (a b c d : ℕ) → names ≤ d + s → Types (height a b c d) (read_orders names i) (height a (suc b) (c + 1) d)
   read_types names (Global i) a b c d room = (omega arith, alike_same _ _ (omega arith))
-  read_types names (Local i) a b c d room = by_test (λ t. Types (height a b c d) (if t then Plain (ReadRef i) ∷ [] else Plain Nil ∷ Plain Hold ∷ []) (height a (suc b) (c + 1) d)) (nat_lt i names)
-      (λ e. let lt = ltb-true i names e in (omega (arith, lt, room), alike_same _ _ (omega arith)))
-      (λ e. (omega arith, (omega arith, alike_same _ _ (omega arith))))
+  read_types names (Local i) a b c d room = grind (arith, ltb-true i names, heights_same)
 
   pub drop_types : (takes : Bool) (a c d : ℕ) → (takes ≡ false → c ≡ 0) → Types (height a 0 c d) (if takes then DropAll ∷ [] else []) (height a 0 0 d)
   drop_types true a c d none = (refl, refl)
