@@ -2,7 +2,8 @@
 -- numbers, references and places as the heights of a program say.
 use Rattle.std.proofs.Common.{◌≡◌, ◌⊎◌, inl, inr, ℕ, zero, suc, ◌+◌, ◌-◌, ◌<◌, ◌≤◌, ℤ, pos, Bool, true, false, ◌&&◌, nat_eq, if◌then◌else◌, List, [], ◌∷◌, ◌++◌, length, take, drop, Option, Some, None, ⊎_elim, refl, sym, ap, ◌∙◌, subst, arith, append_assoc, length-append, length-drop, slice_get, slice_set}
 use Rattle.std.proofs.Math.Seq.{take-append_seam, drop-append_seam}
-use Rattle.std.proofs.lemmas.Bool.{and_parts, eqb-true, cases_eq}
+use Rattle.std.proofs.lemmas.Bool.{and_parts, eqb-true}
+use Rattle.std.proofs.lemmas.Bool.Decides.{nat_tests}
 use Rattle.std.proofs.lemmas.List.{length-set, nil_from_length, take-append-drop, length-take-le}
 use Rattle.std.proofs.lemmas.Option.{slice_get_within}
 use Rattle.arc_ast.specs.declared.tree.Sign.{Sign}
@@ -17,7 +18,7 @@ use Rattle.arc_spec.specs.Number.{combined, counted, is_zero}
 use Rattle.arc_spec.specs.Objects.{Object, Dying, Emptying, Gone, nils, object_at, with_object, with_fields, with_strong_fields, in_phase, is_live, is_emptying, fields_of}
 use Rattle.arc_spec.specs.Resolved as resolved
 use Rattle.arc_spec.specs.Holding.{Held, Frame, Calling, Ending, Clearing, Waiter, waiter_of, Counted, holders, is_there, stacked, with_strong_globals, with_strong_field, on_place, turned_in, with_temporaries, with_variables, with_names, with_things, lowered, raised, named, taken_by, on_named, on_field, declares, lets_go, resumed, all_nil, on_left, on_last, on_result, given_back, with_field}
-use Rattle.arc_spec.specs.Stepping.{Next, Goes, Asks, Faults, Stuck, Along, Safe, Sound, on_top, on_found, only_if}
+use Rattle.arc_spec.specs.Stepping.{Next, Goes, Faults, Along, Safe, Sound, on_top, on_found, only_if}
 use Rattle.arc_ir.specs.Acting.{Program, State, lands, start, step, entry, keeps, goes, or_fault, has_level, enters, answers, taken, sends, allocates, operates, begins_end, releases, runs_dealloc, clears, after_deallocs, clears_next, ends_class, end_goes_on, leaves}
 use Rattle.arc_code.specs.declared.effect.Height.{Height}
 use Rattle.arc_code.specs.declared.instr.Op.{Op}
@@ -32,10 +33,10 @@ use Rattle.arc_lower.specs.Order.{Order, order, orders}
 use Rattle.arc_lower.specs.Lowered.{slots_of, parameters_of, entries_of, end_step_of, lowered as lowered_orders, classes_linked}
 use Rattle.arc_lower.specs.Heights.{height, next_height}
 use Rattle.arc_lower.proofs.Cases.{by_test}
-use Rattle.arc_lower.proofs.CountsPlaces.{seam, IsThere, AllThere, place_there, name_there, object_goes, named_goes, set_here, set_same, set_other, holders_head, nils_holders, holders_append, all_holders, live_there, there_fields}
-use Rattle.arc_lower.proofs.CountsKept.{Sane, Drops, gains, sane_moved, sane_start, sane_declare, fits_at, sane_counted, named_there, fields_there, sane_store, sane_store_global, sane_store_field, sane_drop, sane_settle, drops_there, sane_nil, sane_last, sane_other, sane_make, sane_field, sane_empty, sane_gone}
+use Rattle.arc_lower.proofs.CountsPlaces.{seam, variable_moves, global_moves, second_moves, IsThere, AllThere, place_there, name_there, object_goes, named_goes, set_here, set_same, set_other, holders_head, nils_holders, holders_append, there_fields}
+use Rattle.arc_lower.proofs.CountsKept.{Sane, Drops, gains, sane_moved, fits_at, sane_counted, named_there, fields_there, sane_store_field, drops_there, sane_last, lowers, sane_make, sane_turned}
 use Rattle.arc_lower.proofs.Doing.{at, resumed_as, bare, does, executes_at}
-use Rattle.arc_lower.proofs.Standing.{no_nil, ending, AllDying, IsDying, NilBut, Alive, nil_alive, ends_there, ending_alive, IsHeld, last_held, held_there, held_within, made_dying, changed_dying, IsApart, live_apart, apart_dying, stored_far, fields_far, one_nil, no_field, nil_named, all_in_order}
+use Rattle.arc_lower.proofs.Standing.{ending, AllDying, IsDying, NilBut, Alive, ends_there, IsHeld, last_held, held_there, held_within, made_dying, changed_dying, IsApart, live_apart, apart_dying, one_nil, no_field, nil_named, all_in_order}
 use Rattle.arc_lower.proofs.Typing.{Reaches, enough, IsCalled}
 use Rattle.arc_lower.proofs.Stacking.{after_one}
 use Rattle.arc_lower.proofs.Stepping.{some_same, Stays, Ends, role, role_of, Clears, inside_clears, Stands, Quiet, Free, calm_free, Onward, Steps}
@@ -53,10 +54,7 @@ shut_end : (mine : Gives) (variables : List ℕ) (n : ℕ) → length variables 
 shut_end mine variables n le i k above lt named = omega (arith, le, above, lt)
 
 shut_set : (mine : Gives) (n : ℕ) (variables : List ℕ) → Shut mine (suc n) variables → Shut mine n (slice_set variables n 0)
-shut_set mine n variables h i k above lt named = ⊎_elim
-    (λ same. absurd (omega (arith, set_same variables n 0 (suc k) (subst (λ j. slice_get (slice_set variables n 0) j ≡ Some (suc k)) same named))))
-    (λ ne. h i k (omega (arith, above, ne)) (omega (arith, lt, length-set variables n 0)) (sym (set_other variables n i 0 ne) ∙ named))
-    (cases_eq i n)
+shut_set mine n variables h i k above lt named = grind (arith, length-set variables n 0, set_same variables n 0 (suc k), set_other variables n i 0, h i k)
 
 -- all but the last one are nil, which names an object
 last_there : (variables : List ℕ) → 1 ≤ length variables → Shut gives.Object 0 variables → (n : ℕ) × (r : ℕ) × (variables ≡ nils n ++ r ∷ [])
@@ -84,16 +82,14 @@ AllHeld [] temporaries = Unit {0}
 AllHeld (r ∷ rest) temporaries = IsHeld r temporaries × AllHeld rest temporaries
 
 one_more : (q r : ℕ) (temporaries : List ℕ) → IsHeld r temporaries → IsHeld r (q ∷ temporaries)
-one_more q zero temporaries h = tt
-one_more q (suc k) temporaries h = omega (arith, holders_head (suc k) q temporaries, h)
+one_more q r temporaries h = grind arith
+
+all_map : (a b : List ℕ) → ((r : ℕ) → IsHeld r a → IsHeld r b) → (own : List ℕ) → AllHeld own a → AllHeld own b
+all_map a b f [] h = tt
+all_map a b f (r ∷ own) h = (f r h.0, all_map a b f own h.1)
 
 all_more : (q : ℕ) (own temporaries : List ℕ) → AllHeld own temporaries → AllHeld own (q ∷ temporaries)
-all_more q [] temporaries h = tt
-all_more q (r ∷ own) temporaries h = (one_more q r temporaries h.0, all_more q own temporaries h.1)
-
-all_within : (temporaries strong waiting own : List ℕ) → AllHeld own (temporaries ++ waiting) → AllHeld own ((temporaries ++ strong) ++ waiting)
-all_within temporaries strong waiting [] h = tt
-all_within temporaries strong waiting (r ∷ own) h = (held_within temporaries strong waiting r h.0, all_within temporaries strong waiting own h.1)
+all_more q own temporaries = all_map _ _ (λ r. one_more q r temporaries) own
 
 held_split : (first rest temporaries : List ℕ) → AllHeld (first ++ rest) temporaries → AllHeld first temporaries × AllHeld rest temporaries
 held_split [] rest temporaries h = (tt, h)
@@ -123,10 +119,7 @@ first_of [] some = absurd (omega (arith, some))
 first_of (r ∷ rest) some = (r, rest, refl)
 
 along_map : {S : Type 0} (P Q : S → Type 0) → ((s : S) → P s → Q s) → (next : Next S) → Along P next → Along Q next
-along_map P Q f (Goes s events) p = f s p
-along_map P Q f (Asks go) p = λ answer. f (go answer) (p answer)
-along_map P Q f Stuck p = p
-along_map P Q f _ p = tt
+along_map P Q f next p = grind (arith, f, p)
 
 -- ---- the places of a function that waits
 
@@ -147,20 +140,15 @@ resumes_again w h s = resumed_as w h s.temporaries s.variables s.waiting s.is s.
 
 -- the function that is left has no temporary, and its variables are nil
 again_sane : {classes : List Class} (w : Waiter) (h : Held) (s : Splits w h.places) → h.temporaries ≡ [] → NilBut [] h.variables → Sane classes h → Sane classes (again w s h)
-again_sane w h s none nil sane = sane_moved (λ k.
-    let h1 = again w s h in
-    omega (arith, ap (holders (suc k)) s.is, holders_append (suc k) (s.temporaries ++ s.variables) s.waiting, holders_append (suc k) s.temporaries s.variables, all_holders (suc k) h1, all_holders (suc k) h, nil_named h.variables nil k, ap (holders (suc k)) none)) sane
+again_sane w h s none nil sane = sane_moved (λ k. grind (arith, holders_append, s.is, nil_named h.variables nil k)) sane
 
 -- the function that is left has no temporary, and of its variables the last one alone names something: that is a temporary of the one that runs again
 given_sane : {classes : List Class} (w : Waiter) (h : Held) (s : Splits w h.places) (n r : ℕ) → h.temporaries ≡ [] → h.variables ≡ nils n ++ r ∷ []
     → Sane classes h → Sane classes (given_back r (again w s (with_variables h [])))
-given_sane w h s n r none last sane =
-    let h1 = given_back r (again w s (with_variables h [])) in
-    sane_moved (λ k.
-    omega (arith, ap (holders (suc k)) s.is, holders_append (suc k) (s.temporaries ++ s.variables) s.waiting, holders_append (suc k) s.temporaries s.variables, all_holders (suc k) h1, all_holders (suc k) h, ap (holders (suc k)) last, holders_append (suc k) (nils n) (r ∷ []), nils_holders k n, holders_head (suc k) r s.temporaries, holders_head (suc k) r [], ap (holders (suc k)) none)) sane
+given_sane w h s n r none last sane = sane_moved (λ k. grind (arith, holders_append, s.is, nils_holders k n)) sane
 
 left_sane : {classes : List Class} (h : Held) → h.temporaries ≡ [] → NilBut [] h.variables → Sane classes h → Sane classes (with_variables h [])
-left_sane h none nil sane = sane_moved (λ k. omega (arith, all_holders (suc k) (with_variables h []), all_holders (suc k) h, nil_named h.variables nil k)) sane
+left_sane h none nil sane = sane_moved (λ k. omega (arith, holders_append, nil_named h.variables nil k)) sane
 
 module _ (p : Program) (R : resolved.Program) where
   -- in a function that gives this
@@ -298,7 +286,7 @@ module _ (p : Program) (R : resolved.Program) where
   -- a place that named this is dropped
   lets_go_leads : (r : ℕ) (held : Held) (stays : Held → Next State) (ends : (o class : ℕ) → Held → Next State) → Drops p.classes r held → (Sane p.classes (lowered r held) → Leads (stays (lowered r held)))
       → ((k : ℕ) (ob : Object) → r ≡ suc k → object_at held.objects (suc k) ≡ Some ob → is_live (Some ob) ≡ true → Leads (ends (suc k) ob.class (with_things (lowered (suc k) held) (with_object held.objects (suc k) (in_phase Dying ob))))) → Leads (lets_go r held stays ends)
-  lets_go_leads zero held stays ends drops h e = h (sane_nil held drops)
+  lets_go_leads zero held stays ends drops h e = h (lowers 0 held refl drops)
   lets_go_leads (suc k) held stays ends drops h e =
       let there = drops_there (suc k) held drops in
       let ob = there.0 in
@@ -306,7 +294,7 @@ module _ (p : Program) (R : resolved.Program) where
       subst Leads (sym (object_goes (object_at held.objects (suc k)) ob (λ x. go x (is_live (Some x) && nat_eq (held.counts (suc k)) 1)) there.1 there.2))
       (by_test (λ b. Leads (go ob b)) (is_live (Some ob) && nat_eq (held.counts (suc k)) 1)
       (λ t. e k ob refl there.1 (and_parts (is_live (Some ob)) (nat_eq (held.counts (suc k)) 1) t).0)
-      (λ t. h (sane_other held k ob there.1 t drops)))
+      (λ t. h (lowers (suc k) held (ap (λ o. is_live o && nat_eq (held.counts (suc k)) 1) there.1 ∙ t) drops)))
 
   last_leads : (n r : ℕ) (temporaries : List ℕ) (held : Held) (go : ℕ → Held → Next State) → temporaries ≡ [] → held.variables ≡ nils n ++ r ∷ []
       → Leads (go r (with_variables held [])) → Leads (on_result temporaries held go)
@@ -356,9 +344,9 @@ module _ (p : Program) (R : resolved.Program) where
       let begun : IsDying objects (suc k) None = (in_phase Dying ob, set_here held.objects k (in_phase Dying ob) ob found, refl) in
       let apart = live_apart held.objects k ob (ending frames) found live dying in
       let still : AllDying objects (ending frames) = apart_dying held.objects k (in_phase Dying ob) (ending frames) apart dying in (
-        inr (record { at_end = refl; is_ending = tt; none = refl; empty = refl; alive = ending_alive frames to (waiter_of held) (suc k) (Some ob.class) (length p.classes) (stacked held) }, waits apart),
+        inr (record { at_end = refl; is_ending = tt; none = refl; empty = refl; alive = λ objects there ends. ends.0 }, waits apart),
         (begun, still),
-        sane_last held k ob found (live_there ob live) drops,
+        sane_last held k ob found (grind arith) drops,
       )
 
   -- ---- one step of a function
@@ -421,7 +409,7 @@ module _ (p : Program) (R : resolved.Program) where
         let n = length stack - passed in
         let splits : Splits w (stacked held) = splits_as held in
         let home1 = subst (λ l. Comes_back wanted mine (pc + 1) held.self frames n below rest deeper held.temporaries held.variables l) (sym there) (subst (λ x. Comes_back wanted mine (pc + 1) x frames n below rest deeper held.temporaries held.variables waiting) (sym same) home) in
-        let held_there = subst (λ l. AllHeld given ((held.temporaries ++ held.variables) ++ l)) (sym there) (all_within held.temporaries held.variables waiting given keeps) in (
+        let held_there = subst (λ l. AllHeld given ((held.temporaries ++ held.variables) ++ l)) (sym there) (all_map _ _ (held_within held.temporaries held.variables waiting) given keeps) in (
           inl (
             wanted,
             n,
@@ -444,9 +432,9 @@ module _ (p : Program) (R : resolved.Program) where
     drops_lead [] pc h stack before held is stands free g nil count size few many o = go_on (pc + 1) (record h { temporaries = 0 }) g stack held [] count size (let none = ap length is in omega (arith, none)) many o
     drops_lead (r ∷ others) pc h stack before held is stands free g nil count size few many o =
         let held1 = with_temporaries held others in
-        lets_go_leads r held1 _ _ (sane_drop held r others is o.sane)
+        lets_go_leads r held1 _ _ (sane_moved (λ k. grind (arith, holders_append)) o.sane)
         (λ sane. drops_lead others pc h stack before (lowered r held1) refl stands free g nil count size (omega (arith, few)) many (record { is = o.is; places = o.places; itself = o.itself; keeps = tt; dying = o.dying; sane = sane }))
-        (λ k ob e found live. begins_leads (has_level (at frames pc stack before)) k pc pc ob stack before held1 o.itself o.places found live o.dying (subst (λ q. Drops p.classes q held1) e (sane_drop held r others is o.sane))
+        (λ k ob e found live. begins_leads (has_level (at frames pc stack before)) k pc pc ob stack before held1 o.itself o.places found live o.dying (subst (λ q. Drops p.classes q held1) e (sane_moved (λ k. grind (arith, holders_append)) o.sane))
         (back pc h stands (length stack) held.names [] held1 o.is nil (inl free) count size (omega (arith, few)) many tt))
 
     -- ---- one order
@@ -460,11 +448,11 @@ module _ (p : Program) (R : resolved.Program) where
 
       self_there : IsThere held.objects held.self
       self_there = subst (IsThere held.objects) (sym o.itself)
-          (alive held.objects (subst (AllThere held.objects) o.places (named_there held held.places (λ k some. omega (arith, all_holders (suc k) held, some)) o.sane)) (ends_there held.objects frames o.dying))
+          (alive held.objects (subst (AllThere held.objects) o.places (named_there held held.places (λ k some. omega (arith, holders_append, some)) o.sane)) (ends_there held.objects frames o.dying))
 
       is_held : (r : ℕ) → IsHeld r (held.temporaries ++ waiting) → IsThere held.objects r
       is_held r h = held_there held.objects held.temporaries held.variables waiting r h
-          (subst (λ l. AllThere held.objects ((held.temporaries ++ held.variables) ++ l)) o.places (named_there held (stacked held) (λ k some. omega (arith, all_holders (suc k) held, holders_append, some)) o.sane))
+          (subst (λ l. AllThere held.objects ((held.temporaries ++ held.variables) ++ l)) o.places (named_there held (stacked held) (λ k some. omega (arith, holders_append, some)) o.sane))
 
       held_alive : (r : ℕ) → IsHeld r (held.temporaries ++ waiting) → Alive frames (stacked held) r
       held_alive r e objects there ends = held_there objects held.temporaries held.variables waiting r e (subst (λ l. AllThere objects ((held.temporaries ++ held.variables) ++ l)) o.places there)
@@ -542,7 +530,7 @@ module _ (p : Program) (R : resolved.Program) where
       operation_keeps GetChar needs = λ answer. stays _ _ refl tt
       operation_keeps Declare needs = subst (λ l. Along (Kept Declare) (declares l held (keeps s stack))) (sym (nil_from_length held.temporaries (omega (arith, few, needs)))) (record {
         own1 = own;
-        owns = record { is = o.is; places = o.places; itself = o.itself; keeps = o.keeps; dying = o.dying; sane = sane_declare held o.sane };
+        owns = record { is = o.is; places = o.places; itself = o.itself; keeps = o.keeps; dying = o.dying; sane = sane_moved (λ k. grind (arith, nat_tests, holders_append)) (gains 0 tt o.sane) };
         variables = refl;
         made = tt;
       })
@@ -551,9 +539,9 @@ module _ (p : Program) (R : resolved.Program) where
       operation_keeps (ReadRef i) needs = found_leads _ held.variables i _ (omega (arith, many, needs)) (λ r found.
           reads _ r held.names own o.is
           (place_there held.objects i r held.variables found
-          (named_there held held.variables (λ k some. omega (arith, all_holders (suc k) held, some)) o.sane)) o.keeps refl tt)
+          (named_there held held.variables (λ k some. omega (arith, holders_append, some)) o.sane)) o.keeps refl tt)
       operation_keeps (ReadGlobal i) needs = reads _ (name_at held.strong_globals i) held.names own o.is
-          (name_there held.objects held.strong_globals i (named_there held held.strong_globals (λ k some. omega (arith, all_holders (suc k) held, some)) o.sane)) o.keeps refl tt
+          (name_there held.objects held.strong_globals i (named_there held held.strong_globals (λ k some. omega (arith, holders_append, some)) o.sane)) o.keeps refl tt
       operation_keeps (ReadField class index) needs = last_leads_on _ _ (omega (arith, needs)) (λ r rest _ now kept. field_leads _ class r held _ (is_held r now) (λ j ob _ found there.
           reads _ (name_at ob.strong index) (rest ++ deeper) rest refl (name_there held.objects ob.strong index (fields_there held j ob found there o.sane)) kept refl tt))
       operation_keeps Hold needs = last_leads_on _ _ (omega (arith, needs)) (λ r rest _ now kept. named_leads _ r held _ (is_held r now) (takes _ r held.names own o.is (is_held r now) (all_more r own (held.temporaries ++ waiting) o.keeps) refl tt))
@@ -564,8 +552,8 @@ module _ (p : Program) (R : resolved.Program) where
       operation_keeps (GetField class index) needs = last_leads_on _ _ (omega (arith, needs)) (λ r rest _ now kept. field_leads _ class r held _ (is_held r now) (λ j ob _ _ _. refers _ _ _ rest refl kept refl tt))
       operation_keeps (SetField class index) needs = last_leads_on _ _ (omega (arith, needs)) (λ r rest _ now kept. top_leads _ stack _ (omega (arith, count, needs)) (λ v _ _. field_leads _ class r held _ (is_held r now) (λ j ob same found _.
           let fields = slice_set ob.fields index v in
-          let set : Sane p.classes (with_field held r ob index v) = subst (λ q. Sane p.classes (with_things held (with_object held.objects q (with_fields ob fields)))) (sym same) (sane_field held j ob fields found o.sane) in
-          let dying = subst (λ q. AllDying (with_object held.objects q (with_fields ob fields)) (ending frames)) (sym same) (changed_dying held.objects j (with_fields ob fields) (ending frames) (fields_far held.objects j ob fields found) o.dying) in
+          let set : Sane p.classes (with_field held r ob index v) = subst (λ q. Sane p.classes (with_things held (with_object held.objects q (with_fields ob fields)))) (sym same) (sane_turned held j ob (with_fields ob fields) found (λ k. refl) (λ f. record { there = f.there; held = f.held; sized = f.sized }) o.sane) in
+          let dying = subst (λ q. AllDying (with_object held.objects q (with_fields ob fields)) (ending frames)) (sym same) (changed_dying held.objects j ob (with_fields ob fields) (ending frames) found (λ fields far. grind arith) o.dying) in
           record { own1 = rest; owns = record { is = refl; places = o.places; itself = o.itself; keeps = kept; dying = dying; sane = set }; variables = refl; made = tt })))
       operation_keeps Differ needs = last_leads_on _ _ (omega (arith, needs)) (λ r rest e now kept. reference_leads _ rest deeper (held.temporaries ++ waiting) (rest ++ deeper) _ refl (omega (arith, needs, e, size)) kept (λ q others _ also below1.
           named_leads _ r held _ (is_held r now) (named_leads _ q held _ (is_held q also) (refers _ _ _ others refl below1 refl tt))))
@@ -734,7 +722,7 @@ module _ (p : Program) (R : resolved.Program) where
           let part = passed objects (omega (arith, needs.1)) in
           answers_lead (lookup p.classes from signs.Class selector takes objects wanted) wanted 0 (suc takes) pc part.first (part.rest ++ deeper) stack held
           (λ to f. subst (λ n. Goes_to wanted to (height (suc takes) n 0 0)) (sym part.taken) (finds from signs.Class selector takes objects wanted to f))
-          (omega (arith, count, needs.0)) part.names_are part.held_first (nil_alive frames (stacked held)) o.itself o.places o.dying o.sane
+          (omega (arith, count, needs.0)) part.names_are part.held_first (λ objects there ends. tt) o.itself o.places o.dying o.sane
           (home wanted x (length stack - suc takes) part.rest (g.0, g.1) (always_ready wanted part.rest g.2) part.held_rest (omega (arith, count, needs.0, a))
           (omega (arith, size, part.left, needs.1, b)) c d)
 
@@ -767,7 +755,7 @@ module _ (p : Program) (R : resolved.Program) where
           (λ old named.
           let strong = slice_set ob.strong index r in
           let held2 = raised r (with_strong_field held1 (suc j) ob index r) in
-          let dying1 = changed_dying held.objects j (with_strong_fields ob strong) (ending frames) (stored_far held.objects j ob strong found e) o.dying in
+          let dying1 = changed_dying held.objects j ob (with_strong_fields ob strong) (ending frames) found (λ fields far. grind arith) o.dying in
           subst (λ k. Leads (releases p s old (raised r (with_strong_field held1 k ob index r)))) (sym same)
           (releases_lead old pc stack held held2 own1 refl o.places o.itself kept dying1 (sane_store_field held1 j ob index old r found is_there_now named there o.sane)
           (back (pc + 1) x g.0 (length stack) (own1 ++ deeper) own1 held1 refl (goes_nil (pc + 1) x g.1 held.variables (omega (arith, many, d))) (inl g.2) a b (omega (arith, few, c)) (omega (arith, many, d)) kept)))
@@ -793,7 +781,7 @@ module _ (p : Program) (R : resolved.Program) where
           let part = passed n st.0.2 in
           enters_lead (has_level s) wanted (entry p f) 0 (slots_of R wanted f) pc part.first (part.rest ++ deeper) stack held
           (subst (λ m. Goes_to wanted (entry p f) (height (slots_of R wanted f) m 0 0)) (sym part.taken) (calls wanted f st.0.1))
-          (omega (arith, count, st.0.0)) part.names_are part.held_first (nil_alive frames (stacked held)) o.itself o.places o.dying o.sane
+          (omega (arith, count, st.0.0)) part.names_are part.held_first (λ objects there ends. tt) o.itself o.places o.dying o.sane
           (home wanted x (length stack - slots_of R wanted f) part.rest (st.1.0, st.1.1) (always_ready wanted part.rest st.1.2) part.held_rest
           (omega (arith, count, st.0.0)) (omega (arith, size, part.left)) (omega arith) (omega arith))
       order_leads (Send selector takes objects wanted) is stands no_end nil ready st = found_leads Good stack takes _ (omega (arith, count, st.0.0)) (λ class _. class_reported wanted (class_at class) selector takes objects (next_height R (Send selector takes objects wanted) h) st.0 st.1 (omega arith) (omega arith) (omega arith) (omega arith))
@@ -807,7 +795,7 @@ module _ (p : Program) (R : resolved.Program) where
           (let held1 = raised r (with_variables held (slice_set held.variables i r)) in
           let long = length-set held.variables i r in
           let every : length held1.variables ≡ (next_height R (StoreStrong i) h).variables = omega (arith, many, long) in
-          releases_lead old pc stack held held1 own o.is o.places o.itself o.keeps o.dying (sane_store held i old r found (is_held r now) o.sane)
+          releases_lead old pc stack held held1 own o.is o.places o.itself o.keeps o.dying (sane_moved (λ k. omega (arith, holders_head, variable_moves (suc k) held i old r found)) (gains r (is_held r now) o.sane))
           (back (pc + 1) (next_height R (StoreStrong i) h) st.1.0 (length stack) held.names own held1 o.is (goes_nil (pc + 1) (next_height R (StoreStrong i) h) st.1.1 held1.variables every) (inl st.1.2) (omega (arith, count)) (omega (arith, size, st.0.0)) (omega (arith, few)) every o.keeps))))
       order_leads (StoreGlobal i) is stands no_end nil ready st =
           let x = next_height R (StoreGlobal i) h in
@@ -815,7 +803,7 @@ module _ (p : Program) (R : resolved.Program) where
           (λ none. go_on (pc + 1) x st.1 stack held own (omega (arith, count)) (omega (arith, size, st.0)) (omega (arith, few)) (omega (arith, many)) o)
           (λ old found.
           let held1 = raised r (with_strong_globals held (slice_set held.strong_globals i r)) in
-          releases_lead old pc stack held held1 own o.is o.places o.itself o.keeps o.dying (sane_store_global held i old r found (is_held r now) o.sane)
+          releases_lead old pc stack held held1 own o.is o.places o.itself o.keeps o.dying (sane_moved (λ k. omega (arith, holders_head, global_moves (suc k) held i old r found)) (gains r (is_held r now) o.sane))
           (back (pc + 1) x st.1.0 (length stack) held.names own held o.is (goes_nil (pc + 1) x st.1.1 held.variables (omega (arith, many))) (inl st.1.2) (omega (arith, count)) (omega (arith, size, st.0)) (omega (arith, few)) (omega (arith, many)) o.keeps))))
       order_leads (StoreField class index) is stands no_end nil ready st =
           let x = next_height R (StoreField class index) h in
@@ -825,7 +813,7 @@ module _ (p : Program) (R : resolved.Program) where
       order_leads (Empty i) is stands no_end nil ready st = found_leads Good held.variables i _ (omega (arith, many, st.0)) (λ r found.
           let held1 = raised 0 (with_variables held (slice_set held.variables i 0)) in
           let long = length-set held.variables i 0 in
-          releases_lead r pc stack held held1 own o.is o.places o.itself o.keeps o.dying (sane_store held i r 0 found tt o.sane)
+          releases_lead r pc stack held held1 own o.is o.places o.itself o.keeps o.dying (sane_moved (λ k. omega (arith, holders_head, variable_moves (suc k) held i r 0 found)) (gains 0 tt o.sane))
           (back (pc + 1) (next_height R (Empty i) h) st.1 (length stack) held.names own held1 o.is (λ k c. ⊎_elim (λ same. nil_from k (subst (λ j. Clear j (pc + 1)) same c) same) (λ le. shut_end mine held1.variables k (omega (arith, many, long, le))) (st.2 k c)) (inl st.3) (omega (arith, count)) (omega (arith, size)) (omega (arith, few)) (omega (arith, many, long)) o.keeps))
         where
           nil_from : (k : ℕ) → Clear i (pc + 1) → k ≡ i → Shut mine k (slice_set held.variables i 0)
@@ -849,7 +837,7 @@ module _ (p : Program) (R : resolved.Program) where
               let names_size = ap length m.names_are in
               let places_size = ap length m.places_are in
               subst (λ l. Leads (instructions.settles (bare p) s l)) (sym m.places_are)
-              (releases_lead m.made pc stack held held1 own1 is1 o.places o.itself keeps1 o.dying (sane_settle held m.given m.made m.others m.places_are o.sane)
+              (releases_lead m.made pc stack held held1 own1 is1 o.places o.itself keeps1 o.dying (sane_moved (λ k. second_moves (suc k) held m.given m.made m.others m.places_are) o.sane)
               (back (pc + 1) x g.0 (length stack) held.names own1 held1 is1 (goes_nil (pc + 1) x g.1 held.variables (omega (arith, many))) (inl g.2) (omega (arith, count)) (omega (arith, size, names_size)) (omega (arith, few, places_size)) (omega (arith, many)) keeps1))
       order_leads Give is stands no_end nil ready st =
           let none = nil_from_length held.temporaries (omega (arith, few, st.2)) in
@@ -899,7 +887,7 @@ module _ (p : Program) (R : resolved.Program) where
           let gone_is : turned_in Gone held.objects (suc k) ≡ objects = rw found refl in
           let h1 = with_things held objects in
           let split = later.1 in
-          let sane1 = again_sane w h1 split none no_variables (sane_gone held k ob found none_named e sane) in
+          let sane1 = again_sane w h1 split none no_variables (sane_turned held k ob x found (λ i. sym (none_named i)) (λ f. record { there = λ some. absurd (omega (arith, eqb-true (held.counts (suc k)) 0 e)); held = λ live. cc; sized = f.sized }) sane) in
           left_leads held.temporaries held _ none no_variables
           (subst (λ l. Good (at others back stack (resumed w (with_things (with_variables held []) l)))) (sym gone_is)
           (subst (λ q. Good (at others back stack q)) (sym (resumes_again w (with_variables h1 []) split)) (later.2, still x, sane1)))
@@ -913,7 +901,7 @@ module _ (p : Program) (R : resolved.Program) where
           let x = in_phase Emptying ob in
           let turned_is : turned_in Emptying held.objects (suc k) ≡ slice_set held.objects k x = rw found refl in
           subst (λ l. Good (at (Clearing back w (suc k) (index ∷ order) ∷ others) p.end_step stack (with_things held l))) (sym turned_is)
-          (inr (ends_again _ tt alive, later), ((x, set_here held.objects k x ob found, (refl, but)), still x), sane_empty held k ob found (ap is_there phase) sane)
+          (inr (ends_again _ tt alive, later), ((x, set_here held.objects k x ob found, (refl, but)), still x), sane_turned held k ob x found (λ i. grind arith) (λ f. record { there = λ some. refl; held = λ live. cc; sized = f.sized }) sane)
 
       after_lead : (frames : List Frame) → IsDying held.objects (suc k) None → Leads (after_deallocs p (at frames p.end_step stack held) back w (suc k) others)
       after_lead frames dies =
@@ -972,8 +960,8 @@ module _ (p : Program) (R : resolved.Program) where
         class_leads i (Some d) left e = dealloc_leads d.dealloc d.superclass left (λ to f. dealloc_goes R i d to (ap (λ cs. slice_get cs i) (sym classes) ∙ e) f)
 
     goes_on_leads : (frames : List Frame) → IsEnding frames → Alive frames held.places held.self → Waits gives.Number frames (length stack) held.names held.places → AllDying held.objects (ending frames) → Leads (end_goes_on p (at frames p.end_step stack held) frames)
-    goes_on_leads (Ending back w zero next left ∷ others) is alive waits dying = absurd (no_nil held.objects None dying.0)
-    goes_on_leads (Clearing back w zero fields ∷ others) is alive waits dying = absurd (no_nil held.objects (Some fields) dying.0)
+    goes_on_leads (Ending back w zero next left ∷ others) is alive waits dying = cc
+    goes_on_leads (Clearing back w zero fields ∷ others) is alive waits dying = cc
     goes_on_leads (Ending back w (suc k) None left ∷ others) is alive waits dying = after_lead back w k others alive dying.1 waits (Ending back w (suc k) None left ∷ others) dying.0
     goes_on_leads (Ending back w (suc k) (Some c) zero ∷ others) is alive waits dying = after_lead back w k others alive dying.1 waits (Ending back w (suc k) (Some c) zero ∷ others) dying.0
     goes_on_leads (Ending back w (suc k) (Some c) (suc left) ∷ others) is alive waits dying = class_leads back w k others alive dying.1 waits dying.0 _ c (slice_get p.classes c) left refl
@@ -1019,9 +1007,9 @@ module _ (p : Program) (R : resolved.Program) where
 
     pub start_good : Good (start p)
     start_good = (
-      inl (gives.Number, 0, [], record { high = height 0 0 0 0; stands = (start_goes R).0; count = refl; own = []; is = refl; size = refl; few = omega arith; many = refl; held = tt; nil = λ k c. shut_end gives.Number [] k (omega arith); ready = inl (start_goes R).2; alive = nil_alive [] []; running = tt }, tt),
+      inl (gives.Number, 0, [], record { high = height 0 0 0 0; stands = (start_goes R).0; count = refl; own = []; is = refl; size = refl; few = omega arith; many = refl; held = tt; nil = λ k c. shut_end gives.Number [] k (omega arith); ready = inl (start_goes R).2; alive = λ objects there ends. tt; running = tt }, tt),
       tt,
-      sane_start p.strong_globals,
+      record { counted = λ k. grind (arith, holders_append, nils_holders k p.strong_globals); right = λ k. refl },
     )
 
     -- the actions of a lowered program are never stuck, and their counts are right
