@@ -10,14 +10,14 @@ use Rattle.arc_ast.specs.declared.tree.Sign.{Sign}
 use Rattle.arc_ast.specs.declared.tree.Sign.TheVariants as signs
 use Rattle.arc_spec.specs.declared.class.Gives.{Gives}
 use Rattle.arc_spec.specs.declared.class.Gives.TheVariants as gives
-use Rattle.arc_spec.specs.Classes.{Class, class_at, lookup, is_root_init, same_gives, init_selector, descends, field_order}
+use Rattle.arc_spec.specs.Classes.{Class, class_at, lookup, is_root_init, descends, field_order}
 use Rattle.arc_spec.specs.World.{name_at}
 use Rattle.arc_spec.specs.declared.event.Fault.TheVariants.{FieldClass, Resurrected, Unrecognized}
 use Rattle.arc_spec.specs.Meaning.{chosen}
-use Rattle.arc_spec.specs.Number.{combined, counted, is_zero}
+use Rattle.arc_spec.specs.Number.{counted, is_zero}
 use Rattle.arc_spec.specs.Objects.{Object, Dying, Emptying, Gone, nils, object_at, with_object, with_fields, with_strong_fields, in_phase, is_live, is_emptying, fields_of}
 use Rattle.arc_spec.specs.Resolved as resolved
-use Rattle.arc_spec.specs.Holding.{Held, Frame, Calling, Ending, Clearing, Waiter, waiter_of, Counted, holders, is_there, stacked, with_strong_globals, with_strong_field, on_place, turned_in, with_temporaries, with_variables, with_names, with_things, lowered, raised, named, taken_by, on_named, on_field, declares, lets_go, resumed, all_nil, on_left, on_last, on_result, given_back, with_field}
+use Rattle.arc_spec.specs.Holding.{Held, all_places, Frame, Calling, Ending, Clearing, Waiter, waiter_of, Counted, holders, is_there, stacked, with_strong_globals, with_strong_field, on_place, turned_in, with_temporaries, with_variables, with_names, with_things, lowered, raised, named, taken_by, on_named, on_field, declares, lets_go, resumed, all_nil, on_left, on_last, on_result, given_back, with_field}
 use Rattle.arc_spec.specs.Stepping.{Next, Goes, Faults, Along, Safe, Sound, on_top, on_found, only_if}
 use Rattle.arc_ir.specs.Acting.{Program, State, lands, start, step, entry, keeps, goes, or_fault, has_level, enters, answers, taken, sends, allocates, operates, begins_end, releases, runs_dealloc, clears, after_deallocs, clears_next, ends_class, end_goes_on, leaves}
 use Rattle.arc_code.specs.declared.effect.Height.{Height}
@@ -25,16 +25,16 @@ use Rattle.arc_code.specs.declared.instr.Op.{Op}
 use Rattle.arc_code.specs.declared.instr.Op.TheVariants as ops
 use Rattle.arc_code.specs.declared.instr.Op.TheVariants.{Num, Bin, Un, Narrow, Pop, Get, Set, PrintNum, PrintByte, GetChar, Declare, Nil, ReadSelf, ReadRef, ReadGlobal, ReadField, Hold, Forget, Alloc, Finds, GetField, SetField, Differ, IsObject}
 use Rattle.arc_code.specs.declared.instr.Instr.TheVariants.{Plain, PrintText, Jump, JumpZero, Call, Send, SendSuper, SendTo, SendToSuper, StoreStrong, StoreGlobal, StoreField, Empty, DropAll, Settle, Give, Return, EndStep}
-use Rattle.arc_code.specs.Effects.{passes, as_number, as_object, operation_effect, Follows}
+use Rattle.arc_code.specs.Effects.{passes, as_object, giving, operation_effect, Follows}
 use Rattle.arc_code.proofs.EffectsFollowed.{operation_follows}
 use Rattle.arc_code.proofs.Outcomes.{along_both}
 use Rattle.arc_code.specs.Instructions as instructions
 use Rattle.arc_lower.specs.Order.{Order, order, orders}
 use Rattle.arc_lower.specs.Lowered.{slots_of, parameters_of, entries_of, end_step_of, lowered as lowered_orders, classes_linked}
-use Rattle.arc_lower.specs.Heights.{height, next_height}
+use Rattle.arc_lower.specs.Heights.{height, after_effect, next_height}
 use Rattle.arc_lower.proofs.Cases.{by_test}
-use Rattle.arc_lower.proofs.CountsPlaces.{seam, variable_moves, global_moves, second_moves, IsThere, AllThere, place_there, name_there, object_goes, named_goes, set_here, set_same, set_other, holders_head, nils_holders, holders_append, there_fields}
-use Rattle.arc_lower.proofs.CountsKept.{Sane, Drops, gains, sane_moved, fits_at, sane_counted, named_there, fields_there, sane_store_field, drops_there, sane_last, lowers, sane_make, sane_turned}
+use Rattle.arc_lower.proofs.CountsPlaces.{seam, variable_moves, global_moves, second_moves, IsThere, place_there, name_there, object_goes, named_goes, set_here, set_same, set_other, holders_head, nils_holders, holders_append, there_fields}
+use Rattle.arc_lower.proofs.CountsKept.{Keeps, Sane, Drops, gains, sane_moved, fits_at, sane_counted, named_there, fields_there, sane_store_field, drops_there, sane_last, lowers, sane_make, sane_turned}
 use Rattle.arc_lower.proofs.Doing.{at, resumed_as, bare, does, executes_at}
 use Rattle.arc_lower.proofs.Standing.{ending, AllDying, IsDying, NilBut, Alive, ends_there, IsHeld, last_held, held_there, held_within, made_dying, changed_dying, IsApart, live_apart, apart_dying, one_nil, no_field, nil_named, all_in_order}
 use Rattle.arc_lower.proofs.Typing.{Reaches, enough, IsCalled}
@@ -91,6 +91,19 @@ all_map a b f (r ∷ own) h = (f r h.0, all_map a b f own h.1)
 all_more : (q : ℕ) (own temporaries : List ℕ) → AllHeld own temporaries → AllHeld own (q ∷ temporaries)
 all_more q own temporaries = all_map _ _ (λ r. one_more q r temporaries) own
 
+-- so many numbers, or these references, once what is wanted of a call is there
+abbrev pub with_number : Gives → ℕ → ℕ
+with_number gives.Number n = suc n
+with_number gives.Object n = n
+
+abbrev pub with_object_of : Gives → (r : ℕ) → List ℕ → List ℕ
+with_object_of gives.Number r own = own
+with_object_of gives.Object r own = r ∷ own
+
+given_held : (wanted : Gives) (r : ℕ) (own temporaries waiting : List ℕ) → AllHeld own (temporaries ++ waiting) → AllHeld (with_object_of wanted r own) (with_object_of wanted r temporaries ++ waiting)
+given_held gives.Number r own temporaries waiting h = h
+given_held gives.Object r own temporaries waiting h = (last_held r (temporaries ++ waiting), all_more r own (temporaries ++ waiting) h)
+
 held_split : (first rest temporaries : List ℕ) → AllHeld (first ++ rest) temporaries → AllHeld first temporaries × AllHeld rest temporaries
 held_split [] rest temporaries h = (tt, h)
 held_split (r ∷ first) rest temporaries h = let deep = held_split first rest temporaries h.1 in ((h.0, deep.0), deep.1)
@@ -113,6 +126,9 @@ record Initialized (own temporaries waiting : List ℕ) : Type 0 where
   names_are : own ≡ given ∷ rest
   places_are : temporaries ≡ given ∷ made ∷ others
   kept : AllHeld rest (others ++ waiting)
+
+root_takes : (selector takes objects : ℕ) (wanted : Gives) → is_root_init selector takes objects wanted ≡ true → (takes ≡ 0) × (objects ≡ 0)
+root_takes selector takes objects wanted e = grind (arith, nat_tests)
 
 first_of : (own : List ℕ) → 1 ≤ length own → (r : ℕ) × (rest : List ℕ) × (own ≡ r ∷ rest)
 first_of [] some = absurd (omega (arith, some))
@@ -204,8 +220,8 @@ module _ (p : Program) (R : resolved.Program) where
 
   -- the same once what is wanted of a call is there: one number more, or an object, which is the last reference and the last temporary
   abbrev pub Comes_back : (wanted mine : Gives) (back self : ℕ) (others : List Frame) (numbers below : ℕ) (names deeper temporaries variables waiting : List ℕ) → Type 0
-  Comes_back gives.Number mine back self others numbers below names deeper temporaries variables waiting = Resumes mine back self others (numbers + 1) below names deeper temporaries variables waiting
-  Comes_back gives.Object mine back self others numbers below names deeper temporaries variables waiting = (r : ℕ) → Resumes mine back self others numbers below (r ∷ names) deeper (r ∷ temporaries) variables waiting
+  Comes_back wanted mine back self others numbers below names deeper temporaries variables waiting =
+      (r : ℕ) → Resumes mine back self others (with_number wanted numbers) below (with_object_of wanted r names) deeper (with_object_of wanted r temporaries) variables waiting
 
   -- only of a function that gives a number
   abbrev pub Numbers : Gives → Type 0 → Type 0
@@ -310,8 +326,7 @@ module _ (p : Program) (R : resolved.Program) where
   leaves_lead [] pc v stack rest held waits alive size none nil dying sane running = tt
   leaves_lead (Calling back w ∷ others) pc v stack rest held waits alive size none nil dying sane running =
       let s = waits.3 in
-      let more : length rest + 1 ≡ length stack = omega (arith, size) in
-      let resumes = subst (λ n. Resumes waits.0 back w.self others n waits.1 held.names waits.2 s.temporaries s.variables s.waiting) more waits.4 in
+      let resumes = subst (λ n. Resumes waits.0 back w.self others n waits.1 held.names waits.2 s.temporaries s.variables s.waiting) (sym size) (waits.4 0) in
       subst (λ h1. Good (at others back stack h1)) (sym (resumes_again w (with_variables held []) s))
       (inl (waits.0, waits.1, waits.2, resumes, waits.5), dying, again_sane w held s none nil sane)
   leaves_lead (Ending back w o next left ∷ others) pc v stack rest held waits alive size none nil dying sane running =
@@ -351,115 +366,85 @@ module _ (p : Program) (R : resolved.Program) where
 
   -- ---- one step of a function
 
-  module _ (mine : Gives) (frames : List Frame) (below : ℕ) (deeper waiting : List ℕ) (self : ℕ) (alive : Alive frames waiting self) (waits : Waits mine frames below deeper waiting) (running : Runs frames) where
-    -- these are the references of the running function
-    record Owns (own : List ℕ) (held : Held) : Type 0 where
+  module _ (mine : Gives) (frames : List Frame) (below : ℕ) (deeper : List ℕ) (running : Runs frames) where
+    -- these are the references of the running function; what these places named is dropped
+    record Owns (dropped own : List ℕ) (held : Held) : Type 0 where
       is : held.names ≡ own ++ deeper
-      places : held.places ≡ waiting
-      itself : held.self ≡ self
-      keeps : AllHeld own (held.temporaries ++ waiting)
+      keeps : AllHeld own (held.temporaries ++ held.places)
+      alive : Alive frames held.places held.self
+      waits : Waits mine frames below deeper held.places
       dying : AllDying held.objects (ending frames)
-      sane : Sane p.classes held
+      sane : Keeps p.classes (dropped ++ all_places held) held.counts held.objects
 
     -- a function to which the run comes back
-    abbrev Back : ℕ → ℕ → List ℕ → Held → Type 0
-    Back to numbers names held = Resumes mine to self frames numbers below names deeper held.temporaries held.variables waiting
+    abbrev Back : ℕ → ℕ → Held → Type 0
+    Back to numbers held = Resumes mine to held.self frames numbers below held.names deeper held.temporaries held.variables held.places
 
-    back : (to : ℕ) (h : Height) → Stands R (all R) (table R) mine to h → (numbers : ℕ) (names own : List ℕ) (held : Held) → names ≡ own ++ deeper → ((k : ℕ) → Clear k to → Shut mine k held.variables) → Ready to own held.temporaries waiting → numbers ≡ h.numbers + below → length own ≡ h.names → length held.temporaries ≤ h.temporaries → length held.variables ≡ h.variables → AllHeld own (held.temporaries ++ waiting) → Back to numbers names held
-    back to h stands numbers names own held is nil ready count size few many keeps = record { high = h; stands = stands; count = count; own = own; is = is; size = size; few = few; many = many; held = keeps; nil = nil; ready = ready; alive = alive; running = running }
+    back : {dropped own : List ℕ} {held : Held} (to : ℕ) (h : Height) → Stands R (all R) (table R) mine to h → (numbers : ℕ) → Owns dropped own held → ((k : ℕ) → Clear k to → Shut mine k held.variables) → Ready to own held.temporaries held.places → numbers ≡ h.numbers + below → length own ≡ h.names → length held.temporaries ≤ h.temporaries → length held.variables ≡ h.variables → Back to numbers held
+    back {own = own} to h stands numbers o nil ready count size few many = record { high = h; stands = stands; count = count; own = own; is = o.is; size = size; few = few; many = many; held = o.keeps; nil = nil; ready = ready; alive = o.alive; running = running }
 
     goes_nil : (to : ℕ) (h : Height) → ((k : ℕ) → Clear k to → h.variables ≤ k + as_object mine) → (variables : List ℕ) → length variables ≡ h.variables → (k : ℕ) → Clear k to → Shut mine k variables
     goes_nil to h g variables many k c = let le = g k c in shut_end mine variables k (omega (arith, many, le))
 
-    run_on : (to : ℕ) (stack : List ℤ) (held : Held) (own : List ℕ) → Owns own held → Back to (length stack) held.names held → Good (at frames to stack held)
-    run_on to stack held own o b = (inl (mine, below, deeper, home, subst (Waits mine frames below deeper) (sym o.places) waits), o.dying, o.sane)
-      where
-        home : Resumes mine to held.self frames (length stack) below held.names deeper held.temporaries held.variables held.places
-        home = subst (λ l. Resumes mine to held.self frames (length stack) below held.names deeper held.temporaries held.variables l) (sym o.places)
-            (subst (λ x. Resumes mine to x frames (length stack) below held.names deeper held.temporaries held.variables waiting) (sym o.itself) b)
+    -- the same with any variables
+    back_any : {dropped own : List ℕ} {held : Held} (to : ℕ) (h : Height) → Goes_to mine to h → (numbers : ℕ) → Owns dropped own held → numbers ≡ h.numbers + below → length own ≡ h.names → length held.temporaries ≤ h.temporaries → length held.variables ≡ h.variables → Back to numbers held
+    back_any {held = held} to h g numbers o count size few many = back to h g.0 numbers o (goes_nil to h g.1 held.variables many) (inl g.2) count size few many
 
-    go_on : (to : ℕ) (h : Height) → Goes_to mine to h → (stack : List ℤ) (held : Held) (own : List ℕ) → length stack ≡ h.numbers + below → length own ≡ h.names → length held.temporaries ≤ h.temporaries → length held.variables ≡ h.variables → Owns own held → Good (at frames to stack held)
-    go_on to h g stack held own count size few many o = run_on to stack held own o (back to h g.0 (length stack) held.names own held o.is (goes_nil to h g.1 held.variables many) (inl g.2) count size few many o.keeps)
+    run_on : {own : List ℕ} (to : ℕ) (stack : List ℤ) (held : Held) → Owns [] own held → Back to (length stack) held → Good (at frames to stack held)
+    run_on to stack held o b = (inl (mine, below, deeper, b, o.waits), o.dying, o.sane)
+
+    go_on : {own : List ℕ} (to : ℕ) (h : Height) → Goes_to mine to h → (stack : List ℤ) (held : Held) → Owns [] own held → length stack ≡ h.numbers + below → length own ≡ h.names → length held.temporaries ≤ h.temporaries → length held.variables ≡ h.variables → Good (at frames to stack held)
+    go_on to h g stack held o count size few many = run_on to stack held o (back_any to h g (length stack) o count size few many)
 
     -- ---- what begins the end of an object, or calls
 
-    begins_leads : (b : Bool) (k to pc : ℕ) (ob : Object) (stack : List ℤ) (before held : Held) → held.self ≡ self → held.places ≡ waiting → object_at held.objects (suc k) ≡ Some ob → is_live (Some ob) ≡ true → AllDying held.objects (ending frames) → Drops p.classes (suc k) held → Back to (length stack) held.names held → Leads (begins_end p (at frames pc stack before) to (suc k) ob.class (with_things (lowered (suc k) held) (with_object held.objects (suc k) (in_phase Dying ob))) b)
-    begins_leads b k to pc ob stack before held same there found live dying drops home =
-        let w : Waiter = waiter_of held in
-        let splits : Splits w (stacked held) = splits_as held in
-        let home1 = subst (λ l. Resumes mine to held.self frames (length stack) below held.names deeper held.temporaries held.variables l) (sym there) (subst (λ x. Resumes mine to x frames (length stack) below held.names deeper held.temporaries held.variables waiting) (sym same) home) in
-        begins_lead frames b k to pc ob stack before held found live dying drops (λ apart. (apart, splits, inl (mine, below, deeper, home1, subst (Waits mine frames below deeper) (sym there) waits)))
+    -- a place that named this is dropped, after which the run goes on, or comes back
+    drops_leads : {own : List ℕ} (r to pc : ℕ) (stack : List ℤ) (before held : Held) (stays : Held → Next State) → Owns (r ∷ []) own held → Back to (length stack) held → (Owns [] own (lowered r held) → Leads (stays (lowered r held)))
+        → Leads (lets_go r held stays (λ o class h. begins_end p (at frames pc stack before) to o class h (has_level (at frames pc stack before))))
+    drops_leads r to pc stack before held stays o home on = lets_go_leads r held stays _ o.sane
+        (λ sane. on (record { is = o.is; keeps = o.keeps; alive = o.alive; waits = o.waits; dying = o.dying; sane = sane }))
+        (λ k ob e found live. begins_lead frames (has_level (at frames pc stack before)) k to pc ob stack before held found live o.dying (subst (λ q. Drops p.classes q held) e o.sane)
+        (λ apart. (apart, splits_as held, inl (mine, below, deeper, home, o.waits))))
 
     -- a place that named this names another, or nil
-    releases_lead : (r pc : ℕ) (stack : List ℤ) (before held : Held) (own : List ℕ) → held.names ≡ own ++ deeper → held.places ≡ waiting → held.self ≡ self → AllHeld own (held.temporaries ++ waiting) → AllDying held.objects (ending frames) → Drops p.classes r held → Back (pc + 1) (length stack) held.names held → Leads (releases p (at frames pc stack before) r held)
-    releases_lead r pc stack before held own is places same keeps dying drops home = lets_go_leads r held _ _ drops
-        (λ sane. run_on (pc + 1) stack (lowered r held) own (record { is = is; places = places; itself = same; keeps = keeps; dying = dying; sane = sane }) home)
-        (λ k ob e found live. begins_leads (has_level (at frames pc stack before)) k (pc + 1) pc ob stack before held same places found live dying (subst (λ q. Drops p.classes q held) e drops) home)
-
-    -- where the running function goes on after a call that takes so many numbers and the references before these
-    abbrev Home : (wanted : Gives) → ℕ → (numbers : ℕ) → List ℕ → Held → Type 0
-    Home wanted pc numbers rest held = Comes_back wanted mine (pc + 1) self frames numbers below rest deeper held.temporaries held.variables waiting
-
-    -- what is entered has so many numbers, which lie on the stack, and these references
-    enters_lead : (b : Bool) (wanted : Gives) (to self1 passed pc : ℕ) (given rest : List ℕ) (stack : List ℤ) (held : Held) → Goes_to wanted to (height passed (length given) 0 0) → passed ≤ length stack → held.names ≡ given ++ rest → AllHeld given (held.temporaries ++ waiting) → Alive frames (stacked held) self1 → held.self ≡ self → held.places ≡ waiting → AllDying held.objects (ending frames) → Sane p.classes held → Home wanted pc (length stack - passed) rest held
-        → Leads (enters (at frames pc stack held) to self1 b)
-    enters_lead false wanted to self1 passed pc given rest stack held g le is keeps living same there dying sane home = tt
-    enters_lead true wanted to self1 passed pc given rest stack held g le is keeps living same there dying sane home =
-        let w : Waiter = waiter_of held in
-        let n = length stack - passed in
-        let splits : Splits w (stacked held) = splits_as held in
-        let home1 = subst (λ l. Comes_back wanted mine (pc + 1) held.self frames n below rest deeper held.temporaries held.variables l) (sym there) (subst (λ x. Comes_back wanted mine (pc + 1) x frames n below rest deeper held.temporaries held.variables waiting) (sym same) home) in
-        let held_there = subst (λ l. AllHeld given ((held.temporaries ++ held.variables) ++ l)) (sym there) (all_map _ _ (held_within held.temporaries held.variables waiting) given keeps) in (
-          inl (
-            wanted,
-            n,
-            rest,
-            record { high = height passed (length given) 0 0; stands = g.0; count = omega (arith, le); own = given; is = is; size = refl; few = omega arith; many = refl; held = held_there; nil = λ k c. shut_end wanted [] k (omega arith); ready = inl g.2; alive = living; running = tt },
-            (mine, below, deeper, splits, home1, subst (Waits mine frames below deeper) (sym there) waits),
-          ),
-          dying,
-          sane,
-        )
-
-    answers_lead : (found : Option ℕ) (wanted : Gives) (self1 passed pc : ℕ) (given rest : List ℕ) (stack : List ℤ) (held : Held) → ((to : ℕ) → found ≡ Some to → Goes_to wanted to (height passed (length given) 0 0)) → passed ≤ length stack → held.names ≡ given ++ rest → AllHeld given (held.temporaries ++ waiting) → Alive frames (stacked held) self1 → held.self ≡ self → held.places ≡ waiting → AllDying held.objects (ending frames) → Sane p.classes held → Home wanted pc (length stack - passed) rest held
-        → Leads (answers (at frames pc stack held) self1 found)
-    answers_lead None wanted self1 passed pc given rest stack held begins le is keeps living same there dying sane home = tt
-    answers_lead (Some to) wanted self1 passed pc given rest stack held begins le is keeps living same there dying sane home = enters_lead (has_level (at frames pc stack held)) wanted to self1 passed pc given rest stack held (begins to refl) le is keeps living same there dying sane home
+    releases_lead : {own : List ℕ} (r pc : ℕ) (stack : List ℤ) (before held : Held) → Owns (r ∷ []) own held → Back (pc + 1) (length stack) held → Leads (releases p (at frames pc stack before) r held)
+    releases_lead r pc stack before held o home = drops_leads r (pc + 1) pc stack before held _ o home (λ o1. run_on (pc + 1) stack (lowered r held) o1 home)
 
     -- the temporaries are dropped, where there is no reference
-    drops_lead : (temporaries : List ℕ) (pc : ℕ) (h : Height) (stack : List ℤ) (before held : Held) → held.temporaries ≡ temporaries → Stands R (all R) (table R) mine pc h → Is_free pc → Goes_to mine (pc + 1) (record h { temporaries = 0 }) → ((k : ℕ) → Clear k pc → Shut mine k held.variables) → length stack ≡ h.numbers + below → 0 ≡ h.names → length temporaries ≤ h.temporaries → length held.variables ≡ h.variables → Owns [] held
+    drops_lead : (temporaries : List ℕ) (pc : ℕ) (h : Height) (stack : List ℤ) (before held : Held) → held.temporaries ≡ temporaries → Stands R (all R) (table R) mine pc h → Is_free pc → Goes_to mine (pc + 1) (record h { temporaries = 0 }) → ((k : ℕ) → Clear k pc → Shut mine k held.variables) → length stack ≡ h.numbers + below → 0 ≡ h.names → length temporaries ≤ h.temporaries → length held.variables ≡ h.variables → Owns [] [] held
         → Leads (instructions.drops_all (bare p) (at frames pc stack before) temporaries held)
-    drops_lead [] pc h stack before held is stands free g nil count size few many o = go_on (pc + 1) (record h { temporaries = 0 }) g stack held [] count size (let none = ap length is in omega (arith, none)) many o
+    drops_lead [] pc h stack before held is stands free g nil count size few many o = go_on (pc + 1) (record h { temporaries = 0 }) g stack held o count size (let none = ap length is in omega (arith, none)) many
     drops_lead (r ∷ others) pc h stack before held is stands free g nil count size few many o =
-        let held1 = with_temporaries held others in
-        lets_go_leads r held1 _ _ (sane_moved (λ k. grind (arith, holders_append)) o.sane)
-        (λ sane. drops_lead others pc h stack before (lowered r held1) refl stands free g nil count size (omega (arith, few)) many (record { is = o.is; places = o.places; itself = o.itself; keeps = tt; dying = o.dying; sane = sane }))
-        (λ k ob e found live. begins_leads (has_level (at frames pc stack before)) k pc pc ob stack before held1 o.itself o.places found live o.dying (subst (λ q. Drops p.classes q held1) e (sane_moved (λ k. grind (arith, holders_append)) o.sane))
-        (back pc h stands (length stack) held.names [] held1 o.is nil (inl free) count size (omega (arith, few)) many tt))
+        let o1 : Owns (r ∷ []) [] (with_temporaries held others) = record { is = o.is; keeps = tt; alive = o.alive; waits = o.waits; dying = o.dying; sane = sane_moved (λ k. grind (arith, holders_append)) o.sane } in
+        drops_leads r pc pc stack before (with_temporaries held others) _ o1 (back pc h stands (length stack) o1 nil (inl free) count size (omega (arith, few)) many)
+        (drops_lead others pc h stack before (lowered r (with_temporaries held others)) refl stands free g nil count size (omega (arith, few)) many)
 
     -- ---- one order
 
-    module _ (classes : p.classes ≡ classes_linked R) (calls : (wanted : Gives) (f : ℕ) → IsCalled R wanted f → Goes_to wanted (entry p f) (height (slots_of R wanted f) (parameters_of R wanted f) 0 0)) (pc : ℕ) (h : Height) (stack : List ℤ) (held : Held) (own : List ℕ) (count : length stack ≡ h.numbers + below) (size : length own ≡ h.names) (few : length held.temporaries ≤ h.temporaries) (many : length held.variables ≡ h.variables) (o : Owns own held) where
+    module _ (classes : p.classes ≡ classes_linked R) (calls : (wanted : Gives) (f : ℕ) → IsCalled R wanted f → Goes_to wanted (entry p f) (height (slots_of R wanted f) (parameters_of R wanted f) 0 0)) (pc : ℕ) (h : Height) (stack : List ℤ) (held : Held) (own : List ℕ) (count : length stack ≡ h.numbers + below) (size : length own ≡ h.names) (few : length held.temporaries ≤ h.temporaries) (many : length held.variables ≡ h.variables) (o : Owns [] own held) where
       abbrev s : State
       s = at frames pc stack held
+
+      -- what temporaries and the places of those that wait name
+      abbrev stays_held : List ℕ
+      stays_held = held.temporaries ++ held.places
 
       finds : (from : Option ℕ) (sign : Sign) (selector takes objects : ℕ) (wanted : Gives) (to : ℕ) → lookup p.classes from sign selector takes objects wanted ≡ Some to → Goes_to wanted to (height (passes sign takes) objects 0 0)
       finds from sign selector takes objects wanted to e = methods_go R from sign selector takes objects wanted to (subst (λ cs. lookup cs from sign selector takes objects wanted ≡ Some to) classes e)
 
       self_there : IsThere held.objects held.self
-      self_there = subst (IsThere held.objects) (sym o.itself)
-          (alive held.objects (subst (AllThere held.objects) o.places (named_there held held.places (λ k some. omega (arith, holders_append, some)) o.sane)) (ends_there held.objects frames o.dying))
+      self_there = o.alive held.objects (named_there held held.places (λ k some. omega (arith, holders_append, some)) o.sane) (ends_there held.objects frames o.dying)
 
-      is_held : (r : ℕ) → IsHeld r (held.temporaries ++ waiting) → IsThere held.objects r
-      is_held r h = held_there held.objects held.temporaries held.variables waiting r h
-          (subst (λ l. AllThere held.objects ((held.temporaries ++ held.variables) ++ l)) o.places (named_there held (stacked held) (λ k some. omega (arith, holders_append, some)) o.sane))
+      is_held : (r : ℕ) → IsHeld r stays_held → IsThere held.objects r
+      is_held r h = held_there held.objects held.temporaries held.variables held.places r h (named_there held (stacked held) (λ k some. omega (arith, holders_append, some)) o.sane)
 
-      held_alive : (r : ℕ) → IsHeld r (held.temporaries ++ waiting) → Alive frames (stacked held) r
-      held_alive r e objects there ends = held_there objects held.temporaries held.variables waiting r e (subst (λ l. AllThere objects ((held.temporaries ++ held.variables) ++ l)) o.places there)
+      -- the same references, or others, where other things are the same
+      owns : {own1 : List ℕ} (names1 : List ℕ) → names1 ≡ own1 ++ deeper → AllHeld own1 stays_held → Owns [] own1 (with_names held names1)
+      owns names1 is keeps = record { is = is; keeps = keeps; alive = o.alive; waits = o.waits; dying = o.dying; sane = o.sane }
 
       -- the last reference, which is held, and the others
-      last_leads_on : (P : State → Type 0) (go : ℕ → List ℕ → Next State) → 1 ≤ h.names → ((r : ℕ) (rest : List ℕ) → length own ≡ suc (length rest) → IsHeld r (held.temporaries ++ waiting) → AllHeld rest (held.temporaries ++ waiting) → Along P (go r (rest ++ deeper))) → Along P (on_top held.names go)
-      last_leads_on P go some = reference_leads P own deeper (held.temporaries ++ waiting) held.names go o.is (omega (arith, some, size)) o.keeps
+      last_leads_on : (P : State → Type 0) (go : ℕ → List ℕ → Next State) → 1 ≤ h.names → ((r : ℕ) (rest : List ℕ) → length own ≡ suc (length rest) → IsHeld r stays_held → AllHeld rest stays_held → Along P (go r (rest ++ deeper))) → Along P (on_top held.names go)
+      last_leads_on P go some = reference_leads P own deeper stays_held held.names go o.is (omega (arith, some, size)) o.keeps
 
       -- the variables once an operation is done
       abbrev declared : Op → List ℕ → List ℕ
@@ -468,32 +453,32 @@ module _ (p : Program) (R : resolved.Program) where
 
       -- an object that it makes is the last reference, and the last temporary
       abbrev IsMade : Op → (own1 temporaries1 : List ℕ) → Type 0
-      IsMade Alloc own1 temporaries1 = Made own1 temporaries1 waiting
+      IsMade Alloc own1 temporaries1 = Made own1 temporaries1 held.places
       IsMade _ own1 temporaries1 = Unit {0}
 
       -- what an operation leaves; how much that is the table of effects says
       record Kept (x : Op) (t : State) : Type 0 where
         own1 : List ℕ
-        owns : Owns own1 t.held
+        owns1 : Owns [] own1 t.held
         variables : t.held.variables ≡ declared x held.variables
         made : IsMade x own1 t.held.temporaries
 
       -- the references stay
       stays : (x : Op) (stack1 : List ℤ) → declared x held.variables ≡ held.variables → IsMade x own held.temporaries → Kept x (at frames (pc + 1) stack1 held)
-      stays x stack1 same made = record { own1 = own; owns = o; variables = sym same; made = made }
+      stays x stack1 same made = record { own1 = own; owns1 = o; variables = sym same; made = made }
 
       -- there are these
-      refers : (x : Op) (stack1 : List ℤ) (names1 own1 : List ℕ) → names1 ≡ own1 ++ deeper → AllHeld own1 (held.temporaries ++ waiting) → declared x held.variables ≡ held.variables → IsMade x own1 held.temporaries → Kept x (at frames (pc + 1) stack1 (with_names held names1))
-      refers x stack1 names1 own1 is keeps same made = record { own1 = own1; owns = record { is = is; places = o.places; itself = o.itself; keeps = keeps; dying = o.dying; sane = o.sane }; variables = sym same; made = made }
+      refers : (x : Op) (stack1 : List ℤ) (names1 own1 : List ℕ) → AllHeld own1 stays_held → names1 ≡ own1 ++ deeper → declared x held.variables ≡ held.variables → IsMade x own1 held.temporaries → Kept x (at frames (pc + 1) stack1 (with_names held names1))
+      refers x stack1 names1 own1 keeps is same made = record { own1 = own1; owns1 = owns names1 is keeps; variables = sym same; made = made }
 
       -- and a temporary takes this
-      takes : (x : Op) (r : ℕ) (names1 own1 : List ℕ) → names1 ≡ own1 ++ deeper → IsThere held.objects r → AllHeld own1 (r ∷ (held.temporaries ++ waiting)) → declared x held.variables ≡ held.variables → IsMade x own1 (r ∷ held.temporaries) → Kept x (at frames (pc + 1) stack (taken_by r (with_names held names1)))
-      takes x r names1 own1 is there keeps same made = record { own1 = own1; owns = record { is = is; places = o.places; itself = o.itself; keeps = keeps; dying = o.dying; sane = gains r there o.sane }; variables = sym same; made = made }
+      takes : (x : Op) (r : ℕ) (names1 own1 : List ℕ) → AllHeld own1 (r ∷ stays_held) → names1 ≡ own1 ++ deeper → IsThere held.objects r → declared x held.variables ≡ held.variables → IsMade x own1 (r ∷ held.temporaries) → Kept x (at frames (pc + 1) stack (taken_by r (with_names held names1)))
+      takes x r names1 own1 keeps is there same made = record { own1 = own1; owns1 = record { is = is; keeps = keeps; alive = o.alive; waits = o.waits; dying = o.dying; sane = gains r there o.sane }; variables = sym same; made = made }
 
       -- which is the last reference, above these
-      reads : (x : Op) (r : ℕ) (names1 own1 : List ℕ) → names1 ≡ own1 ++ deeper → IsThere held.objects r → AllHeld own1 (held.temporaries ++ waiting) → declared x held.variables ≡ held.variables → IsMade x (r ∷ own1) (r ∷ held.temporaries)
+      reads : (x : Op) (r : ℕ) (names1 own1 : List ℕ) → AllHeld own1 stays_held → names1 ≡ own1 ++ deeper → IsThere held.objects r → declared x held.variables ≡ held.variables → IsMade x (r ∷ own1) (r ∷ held.temporaries)
           → Along (Kept x) (on_named r (with_names held (r ∷ names1)) (Goes (at frames (pc + 1) stack (taken_by r (with_names held (r ∷ names1)))) []))
-      reads x r names1 own1 is there keeps same made = named_leads (Kept x) r (with_names held (r ∷ names1)) _ there (takes x r (r ∷ names1) (r ∷ own1) (ap (λ l. r ∷ l) is) there (last_held r (held.temporaries ++ waiting), all_more r own1 (held.temporaries ++ waiting) keeps) same made)
+      reads x r names1 own1 keeps is there same made = named_leads (Kept x) r (with_names held (r ∷ names1)) _ there (takes x r (r ∷ names1) (r ∷ own1) (last_held r stays_held, all_more r own1 stays_held keeps) (ap (λ l. r ∷ l) is) there same made)
 
       or_fault_leads : (x : Op) (v : Option ℤ) (rest : List ℤ) → declared x held.variables ≡ held.variables → IsMade x own held.temporaries → Along (Kept x) (or_fault v s rest)
       or_fault_leads x None rest same made = tt
@@ -505,61 +490,53 @@ module _ (p : Program) (R : resolved.Program) where
           let r = suc (length held.objects) in
           record {
             own1 = r ∷ own;
-            owns = record { is = ap (λ l. r ∷ l) o.is; places = o.places; itself = o.itself; keeps = (last_held r (held.temporaries ++ waiting), all_more r own (held.temporaries ++ waiting) o.keeps); dying = made_dying held.objects _ (ending frames) o.dying; sane = sane_make held c o.sane };
+            owns1 = record { is = ap (λ l. r ∷ l) o.is; keeps = (last_held r stays_held, all_more r own stays_held o.keeps); alive = o.alive; waits = o.waits; dying = made_dying held.objects _ (ending frames) o.dying; sane = sane_make held c o.sane };
             variables = refl;
             made = record { made = r; rest = own; others = held.temporaries; names_are = refl; places_are = refl; kept = o.keeps };
           }
 
+      -- an operation on numbers that is made of these needs no line
+      ruleset keeping = (top_leads, or_fault_leads, made_leads, stays)
+
       operation_keeps : (x : Op) → Reaches x h → Along (Kept x) (operates p.classes x s)
       operation_keeps (Num n) needs = stays _ _ refl tt
-      operation_keeps (Bin operator kind) needs = top_leads _ stack _ (omega (arith, count, needs)) (λ y rest e. top_leads _ rest _ (omega (arith, count, needs, e)) (λ x others _. or_fault_leads _ (combined operator kind x y) others refl tt))
-      operation_keeps (Un operator kind) needs = top_leads _ stack _ (omega (arith, count, needs)) (λ x rest _. stays _ _ refl tt)
-      operation_keeps (Narrow kind) needs = top_leads _ stack _ (omega (arith, count, needs)) (λ x rest _. stays _ _ refl tt)
-      operation_keeps Pop needs = top_leads _ stack _ (omega (arith, count, needs)) (λ x rest _. stays _ _ refl tt)
       operation_keeps (Get depth) needs = found_leads _ stack depth _ (omega (arith, count, needs)) (λ v _. stays _ _ refl tt)
       operation_keeps (Set depth) needs = top_leads _ stack _ (omega (arith, count, needs)) (λ v rest e. found_leads _ rest depth _ (omega (arith, count, needs, e)) (λ u _. stays _ _ refl tt))
-      operation_keeps (ops.GetGlobal i) needs = stays _ _ refl tt
       operation_keeps (ops.SetGlobal i) needs = top_leads _ stack _ (omega (arith, count, needs)) (λ v rest _. record {
         own1 = own;
-        owns = record { is = o.is; places = o.places; itself = o.itself; keeps = o.keeps; dying = o.dying; sane = o.sane };
+        owns1 = record { is = o.is; keeps = o.keeps; alive = o.alive; waits = o.waits; dying = o.dying; sane = o.sane };
         variables = refl;
         made = tt;
       })
-      operation_keeps PrintNum needs = top_leads _ stack _ (omega (arith, count, needs)) (λ v rest e. top_leads _ rest _ (omega (arith, count, needs, e)) (λ c others _. stays _ _ refl tt))
-      operation_keeps PrintByte needs = top_leads _ stack _ (omega (arith, count, needs)) (λ v rest e. top_leads _ rest _ (omega (arith, count, needs, e)) (λ c others _. stays _ _ refl tt))
-      operation_keeps GetChar needs = λ answer. stays _ _ refl tt
       operation_keeps Declare needs = subst (λ l. Along (Kept Declare) (declares l held (keeps s stack))) (sym (nil_from_length held.temporaries (omega (arith, few, needs)))) (record {
         own1 = own;
-        owns = record { is = o.is; places = o.places; itself = o.itself; keeps = o.keeps; dying = o.dying; sane = sane_moved (λ k. grind (arith, nat_tests, holders_append)) (gains 0 tt o.sane) };
+        owns1 = record { is = o.is; keeps = o.keeps; alive = o.alive; waits = o.waits; dying = o.dying; sane = sane_moved (λ k. grind (arith, nat_tests, holders_append)) (gains 0 tt o.sane) };
         variables = refl;
         made = tt;
       })
-      operation_keeps Nil needs = refers _ _ _ (0 ∷ own) (ap (λ l. 0 ∷ l) o.is) (tt, o.keeps) refl tt
-      operation_keeps ReadSelf needs = reads _ held.self held.names own o.is self_there o.keeps refl tt
+      operation_keeps Nil needs = refers _ _ _ (0 ∷ own) (tt, o.keeps) (ap (λ l. 0 ∷ l) o.is) refl tt
+      operation_keeps ReadSelf needs = reads _ held.self held.names own o.keeps o.is self_there refl tt
       operation_keeps (ReadRef i) needs = found_leads _ held.variables i _ (omega (arith, many, needs)) (λ r found.
-          reads _ r held.names own o.is
-          (place_there held.objects i r held.variables found
-          (named_there held held.variables (λ k some. omega (arith, holders_append, some)) o.sane)) o.keeps refl tt)
-      operation_keeps (ReadGlobal i) needs = reads _ (name_at held.strong_globals i) held.names own o.is
-          (name_there held.objects held.strong_globals i (named_there held held.strong_globals (λ k some. omega (arith, holders_append, some)) o.sane)) o.keeps refl tt
+          reads _ r held.names own o.keeps o.is (place_there held.objects i r held.variables found (named_there held held.variables (λ k some. omega (arith, holders_append, some)) o.sane)) refl tt)
+      operation_keeps (ReadGlobal i) needs = reads _ (name_at held.strong_globals i) held.names own o.keeps o.is
+          (name_there held.objects held.strong_globals i (named_there held held.strong_globals (λ k some. omega (arith, holders_append, some)) o.sane)) refl tt
       operation_keeps (ReadField class index) needs = last_leads_on _ _ (omega (arith, needs)) (λ r rest _ now kept. field_leads _ class r held _ (is_held r now) (λ j ob _ found there.
-          reads _ (name_at ob.strong index) (rest ++ deeper) rest refl (name_there held.objects ob.strong index (fields_there held j ob found there o.sane)) kept refl tt))
-      operation_keeps Hold needs = last_leads_on _ _ (omega (arith, needs)) (λ r rest _ now kept. named_leads _ r held _ (is_held r now) (takes _ r held.names own o.is (is_held r now) (all_more r own (held.temporaries ++ waiting) o.keeps) refl tt))
-      operation_keeps ops.Again needs = last_leads_on _ _ (omega (arith, needs)) (λ r rest _ now kept. refers _ _ _ (r ∷ own) (ap (λ l. r ∷ l) o.is) (now, o.keeps) refl tt)
-      operation_keeps Forget needs = last_leads_on _ _ (omega (arith, needs)) (λ r rest _ now kept. refers _ _ _ rest refl kept refl tt)
-      operation_keeps Alloc needs = top_leads _ stack _ (omega (arith, count, needs)) (λ v rest _. made_leads (class_at v) rest)
-      operation_keeps (Finds selector) needs = top_leads _ stack _ (omega (arith, count, needs)) (λ v rest _. stays _ _ refl tt)
-      operation_keeps (GetField class index) needs = last_leads_on _ _ (omega (arith, needs)) (λ r rest _ now kept. field_leads _ class r held _ (is_held r now) (λ j ob _ _ _. refers _ _ _ rest refl kept refl tt))
+          reads _ (name_at ob.strong index) (rest ++ deeper) rest kept refl (name_there held.objects ob.strong index (fields_there held j ob found there o.sane)) refl tt))
+      operation_keeps Hold needs = last_leads_on _ _ (omega (arith, needs)) (λ r rest _ now kept. named_leads _ r held _ (is_held r now) (takes _ r held.names own (all_more r own stays_held o.keeps) o.is (is_held r now) refl tt))
+      operation_keeps ops.Again needs = last_leads_on _ _ (omega (arith, needs)) (λ r rest _ now kept. refers _ _ _ (r ∷ own) (now, o.keeps) (ap (λ l. r ∷ l) o.is) refl tt)
+      operation_keeps Forget needs = last_leads_on _ _ (omega (arith, needs)) (λ r rest _ now kept. refers _ _ _ rest kept refl refl tt)
+      operation_keeps (GetField class index) needs = last_leads_on _ _ (omega (arith, needs)) (λ r rest _ now kept. field_leads _ class r held _ (is_held r now) (λ j ob _ _ _. refers _ _ _ rest kept refl refl tt))
+      operation_keeps Differ needs = last_leads_on _ _ (omega (arith, needs)) (λ r rest e now kept. reference_leads _ rest deeper stays_held (rest ++ deeper) _ refl (omega (arith, needs, e, size)) kept (λ q others _ also below1.
+          named_leads _ r held _ (is_held r now) (named_leads _ q held _ (is_held q also) (refers _ _ _ others below1 refl refl tt))))
+      operation_keeps IsObject needs = last_leads_on _ _ (omega (arith, needs)) (λ r rest _ now kept. named_leads _ r held _ (is_held r now) (refers _ _ _ rest kept refl refl tt))
       operation_keeps (SetField class index) needs = last_leads_on _ _ (omega (arith, needs)) (λ r rest _ now kept. top_leads _ stack _ (omega (arith, count, needs)) (λ v _ _. field_leads _ class r held _ (is_held r now) (λ j ob same found _.
           let fields = slice_set ob.fields index v in
           let set : Sane p.classes (with_field held r ob index v) = subst (λ q. Sane p.classes (with_things held (with_object held.objects q (with_fields ob fields)))) (sym same) (sane_turned held j ob (with_fields ob fields) found (λ k. refl) (λ f. record { there = f.there; held = f.held; sized = f.sized }) o.sane) in
           let dying = subst (λ q. AllDying (with_object held.objects q (with_fields ob fields)) (ending frames)) (sym same) (changed_dying held.objects j ob (with_fields ob fields) (ending frames) found (λ fields far. grind arith) o.dying) in
-          record { own1 = rest; owns = record { is = refl; places = o.places; itself = o.itself; keeps = kept; dying = dying; sane = set }; variables = refl; made = tt })))
-      operation_keeps Differ needs = last_leads_on _ _ (omega (arith, needs)) (λ r rest e now kept. reference_leads _ rest deeper (held.temporaries ++ waiting) (rest ++ deeper) _ refl (omega (arith, needs, e, size)) kept (λ q others _ also below1.
-          named_leads _ r held _ (is_held r now) (named_leads _ q held _ (is_held q also) (refers _ _ _ others refl below1 refl tt))))
-      operation_keeps IsObject needs = last_leads_on _ _ (omega (arith, needs)) (λ r rest _ now kept. named_leads _ r held _ (is_held r now) (refers _ _ _ rest refl kept refl tt))
+          record { own1 = rest; owns1 = record { is = refl; keeps = kept; alive = o.alive; waits = o.waits; dying = dying; sane = set }; variables = refl; made = tt })))
+      operation_keeps _ needs = search (arith, keeping) depth 8
 
-      ready_after : (x : Op) (own1 temporaries1 : List ℕ) → IsMade x own1 temporaries1 → Is_free (pc + 1) ⊎ ((x ≡ Alloc) × Quiet R (all R) (table R) (pc + 1)) → Ready (pc + 1) own1 temporaries1 waiting
+      ready_after : (x : Op) (own1 temporaries1 : List ℕ) → IsMade x own1 temporaries1 → Is_free (pc + 1) ⊎ ((x ≡ Alloc) × Quiet R (all R) (table R) (pc + 1)) → Ready (pc + 1) own1 temporaries1 held.places
       ready_after x own1 temporaries1 made (inl free) = inl free
       ready_after Alloc own1 temporaries1 made (inr quiet) = inr (inl (quiet.1, made))
       ready_after _ own1 temporaries1 made (inr (same, quiet)) = cc
@@ -571,86 +548,93 @@ module _ (p : Program) (R : resolved.Program) where
       operation_leads : (x : Op) → slice_get (all R) pc ≡ Some (Plain x) → (nil : (k : ℕ) → Clear k pc → Shut mine k held.variables) → Reaches x h → Onward R (all R) (table R) mine pc (pc + 1) (next_height R (Plain x) h) → Is_free (pc + 1) ⊎ ((x ≡ Alloc) × Quiet R (all R) (table R) (pc + 1)) → Leads (operates p.classes x s)
       operation_leads x is nil needs g free = along_both (Kept x) (Follows (operation_effect x) s) Good (λ t kept f.
           let none = enough x h needs in
-          let names_now = ap length kept.owns.is in
+          let names_now = ap length kept.owns1.is in
           let names_then = ap length o.is in
           let long = length-append kept.own1 deeper in
           let longer = length-append own deeper in
           subst (λ fs. Good (at fs t.at t.stack t.held)) (sym f.frames) (subst (λ n. Good (at frames n t.stack t.held)) (sym f.at)
-          (run_on (pc + 1) t.stack t.held kept.own1 kept.owns
-          (back (pc + 1) (next_height R (Plain x) h) g.0 (length t.stack) t.held.names kept.own1 t.held kept.owns.is
+          (run_on (pc + 1) t.stack t.held kept.owns1
+          (back (pc + 1) (next_height R (Plain x) h) g.0 (length t.stack) kept.owns1
           (λ k c. ⊎_elim (λ before. subst (Shut mine k) (sym kept.variables) (shut_before x is k before (nil k before))) (λ le. shut_end mine t.held.variables k (omega (arith, f.variables, many, le))) (g.1 k c))
-          (ready_after x kept.own1 t.held.temporaries kept.made free) (omega (arith, count, none, f.numbers)) (omega (arith, size, none, f.names, names_now, names_then, long, longer)) (omega (arith, few, f.temporaries)) (omega (arith, many, f.variables)) kept.owns.keeps))))
+          (subst (Ready (pc + 1) kept.own1 t.held.temporaries) (sym f.places) (ready_after x kept.own1 t.held.temporaries kept.made free)) (omega (arith, count, none, f.numbers)) (omega (arith, size, none, f.names, names_now, names_then, long, longer)) (omega (arith, few, f.temporaries)) (omega (arith, many, f.variables))))))
           (operates p.classes x s) (operation_keeps x needs) (operation_follows p.classes s x)
 
-      -- where a run stands after a call
-      abbrev After_call : Height → Type 0
-      After_call x = Stands R (all R) (table R) mine (pc + 1) x × ((k : ℕ) → Clear k (pc + 1) → x.variables ≤ k + as_object mine)
+      -- where a run stands after a call that takes so many numbers and references
+      abbrev After_call : (wanted : Gives) → (taken objects : ℕ) → Type 0
+      After_call wanted taken objects =
+          let x = after_effect h (giving wanted taken objects) in
+          Stands R (all R) (table R) mine (pc + 1) x × ((k : ℕ) → Clear k (pc + 1) → x.variables ≤ k + as_object mine)
+
+      -- where the running function goes on after a call that takes so many numbers and the references before these
+      abbrev Home : (wanted : Gives) → (numbers : ℕ) → List ℕ → Type 0
+      Home wanted numbers rest = Comes_back wanted mine (pc + 1) held.self frames numbers below (rest ++ deeper) deeper held.temporaries held.variables held.places
 
       -- what is there after a call that takes the references before these
       abbrev Ready_after : (wanted : Gives) → (rest : List ℕ) → Type 0
-      Ready_after gives.Number rest = Ready (pc + 1) rest held.temporaries waiting
-      Ready_after gives.Object rest = (r : ℕ) → Ready (pc + 1) (r ∷ rest) (r ∷ held.temporaries) waiting
-
-      always_ready : (wanted : Gives) (rest : List ℕ) → Is_free (pc + 1) → Ready_after wanted rest
-      always_ready gives.Number rest f = inl f
-      always_ready gives.Object rest f = λ r. inl f
+      Ready_after wanted rest = (r : ℕ) → Ready (pc + 1) (with_object_of wanted r rest) (with_object_of wanted r held.temporaries) held.places
 
       -- where a call comes back, with these references
-      home : (wanted : Gives) (x : Height) (n : ℕ) (rest : List ℕ) → After_call x → Ready_after wanted rest → AllHeld rest (held.temporaries ++ waiting) → n + as_number wanted ≡ x.numbers + below → length rest + as_object wanted ≡ x.names → x.temporaries ≡ h.temporaries + as_object wanted → x.variables ≡ h.variables → Home wanted pc n (rest ++ deeper) held
-      home gives.Number x n rest g ready keeps count1 size1 b c = back (pc + 1) x g.0 (n + 1) (rest ++ deeper) rest held refl (goes_nil (pc + 1) x g.1 held.variables (omega (arith, many, c))) ready count1 (omega (arith, size1)) (omega (arith, few, b)) (omega (arith, many, c)) keeps
-      home gives.Object x n rest g ready keeps count1 size1 b c = λ r. record {
-        high = x;
+      home : (wanted : Gives) (taken objects n : ℕ) (rest : List ℕ) → (taken ≤ h.numbers) × (objects ≤ h.names) → After_call wanted taken objects → Ready_after wanted rest → AllHeld rest stays_held → length stack ≡ taken + n → length own ≡ objects + length rest → Home wanted n rest
+      home wanted taken objects n rest needs g ready keeps numbers names = λ r. record {
+        high = after_effect h (giving wanted taken objects);
         stands = g.0;
-        count = omega (arith, count1);
-        own = r ∷ rest;
-        is = refl;
-        size = omega (arith, size1);
-        few = omega (arith, few, b);
-        many = omega (arith, many, c);
-        held = (last_held r (held.temporaries ++ waiting), all_more r rest (held.temporaries ++ waiting) keeps);
-        nil = goes_nil (pc + 1) x g.1 held.variables (omega (arith, many, c));
+        count = grind arith;
+        own = with_object_of wanted r rest;
+        is = grind arith;
+        size = grind arith;
+        few = grind arith;
+        many = omega arith;
+        held = given_held wanted r rest held.temporaries held.places keeps;
+        nil = goes_nil (pc + 1) (after_effect h (giving wanted taken objects)) g.1 held.variables (omega arith);
         ready = ready r;
-        alive = alive;
+        alive = o.alive;
         running = running;
       }
 
+      -- what is found is entered with so many numbers, which lie on the stack, and these references
+      answers_lead : (found : Option ℕ) (wanted : Gives) (self1 taken objects : ℕ) (given rest names1 : List ℕ) → names1 ≡ given ++ (rest ++ deeper) → length given ≡ objects → ((to : ℕ) → found ≡ Some to → Goes_to wanted to (height taken objects 0 0)) → taken ≤ length stack → AllHeld given stays_held → Alive frames (stacked held) self1 → Home wanted (length stack - taken) rest
+          → Leads (answers (at frames pc stack (with_names held names1)) self1 found)
+      answers_lead None wanted self1 taken objects given rest names1 is some begins le keeps living home1 = tt
+      answers_lead (Some to) wanted self1 taken objects given rest names1 is some begins le keeps living home1 =
+          let st = at frames pc stack (with_names held names1) in
+          let g = begins to refl in
+          by_test (λ b. Leads (enters st to self1 b)) (has_level st) (λ _. (
+            inl (
+              wanted,
+              length stack - taken,
+              rest ++ deeper,
+              record { high = height taken objects 0 0; stands = g.0; count = omega (arith, le); own = given; is = is; size = some; few = omega arith; many = refl; held = all_map _ _ (held_within held.temporaries held.variables held.places) given keeps; nil = λ k c. shut_end wanted [] k (omega arith); ready = inl g.2; alive = living; running = tt },
+              (mine, below, deeper, splits_as held, home1, o.waits),
+            ),
+            o.dying,
+            o.sane,
+          )) (λ _. tt)
+
       -- what is wanted is given without a call
-      at_once_leads : (wanted : Gives) (object : ℕ) (stack0 stack1 : List ℤ) (names0 rest : List ℕ) → Home wanted pc (length stack1) (rest ++ deeper) held → IsThere held.objects object → AllHeld rest (held.temporaries ++ waiting) → Leads (instructions.gives_at_once (bare p) (at frames pc stack0 (with_names held names0)) wanted object stack1 (rest ++ deeper))
-      at_once_leads gives.Number object stack0 stack1 names0 rest home1 there kept =
-          let more : length stack1 + 1 ≡ length (pos 0 ∷ stack1) = omega arith in
-          run_on (pc + 1) (pos 0 ∷ stack1) (with_names held (rest ++ deeper)) rest
-          (record { is = refl; places = o.places; itself = o.itself; keeps = kept; dying = o.dying; sane = o.sane })
-          (subst (λ n. Resumes mine (pc + 1) self frames n below (rest ++ deeper) deeper held.temporaries held.variables waiting) more home1)
-      at_once_leads gives.Object object stack0 stack1 names0 rest home1 there kept =
-          let names1 = object ∷ (rest ++ deeper) in
-          named_leads Good object (with_names held names1) _ there
-          (run_on (pc + 1) stack1 (taken_by object (with_names held names1)) (object ∷ rest)
-          (record { is = refl; places = o.places; itself = o.itself; keeps = (last_held object (held.temporaries ++ waiting), all_more object rest (held.temporaries ++ waiting) kept); dying = o.dying; sane = gains object there o.sane })
-          (home1 object))
+      at_once_leads : (wanted : Gives) (object : ℕ) (stack0 stack1 : List ℤ) (names0 rest : List ℕ) → Home wanted (length stack1) rest → IsThere held.objects object → AllHeld rest stays_held → Leads (instructions.gives_at_once (bare p) (at frames pc stack0 (with_names held names0)) wanted object stack1 (rest ++ deeper))
+      at_once_leads gives.Number object stack0 stack1 names0 rest home1 there kept = run_on (pc + 1) (pos 0 ∷ stack1) (with_names held (rest ++ deeper)) (owns (rest ++ deeper) refl kept) (home1 object)
+      at_once_leads gives.Object object stack0 stack1 names0 rest home1 there kept = named_leads Good object (with_names held (object ∷ (rest ++ deeper))) _ there
+          (run_on {own = object ∷ rest} (pc + 1) stack1 (taken_by object (with_names held (object ∷ (rest ++ deeper))))
+          (record { is = refl; keeps = given_held gives.Object object rest held.temporaries held.places kept; alive = o.alive; waits = o.waits; dying = o.dying; sane = gains object there o.sane }) (home1 object))
 
       -- the root's own `init` takes no argument
-      root_leads : (wanted : Gives) (selector takes objects object : ℕ) (given rest : List ℕ) (b : Bool) → is_root_init selector takes objects wanted ≡ b → length given ≡ objects → Home wanted pc (length stack - takes) (rest ++ deeper) held → IsThere held.objects object → AllHeld rest (held.temporaries ++ waiting)
+      root_leads : (wanted : Gives) (selector takes objects object : ℕ) (given rest : List ℕ) (b : Bool) → is_root_init selector takes objects wanted ≡ b → length given ≡ objects → Home wanted (length stack - takes) rest → IsThere held.objects object → AllHeld rest stays_held
           → Leads (if b then instructions.gives_at_once (bare p) (at frames pc stack (with_names held (given ++ (rest ++ deeper)))) wanted object stack (given ++ (rest ++ deeper)) else Faults Unrecognized)
       root_leads wanted selector takes objects object given rest false e some home1 there kept = tt
       root_leads wanted selector takes objects object given rest true e some home1 there kept =
-          let few1 = nat_eq objects 0 && same_gives wanted gives.Object in
-          let parts = and_parts (nat_eq takes 0) few1 (and_parts (nat_eq selector init_selector) (nat_eq takes 0 && few1) e).1 in
-          let no_numbers = eqb-true takes 0 parts.0 in
-          let no_objects = eqb-true objects 0 (and_parts (nat_eq objects 0) (same_gives wanted gives.Object) parts.1).0 in
-          let none : given ≡ [] = nil_from_length given (omega (arith, some, no_objects)) in
-          let same : given ++ (rest ++ deeper) ≡ rest ++ deeper = ap (λ l. l ++ (rest ++ deeper)) none in
-          let all_left : length stack - takes ≡ length stack = omega (arith, no_numbers) in
-          subst (λ l. Leads (instructions.gives_at_once (bare p) (at frames pc stack (with_names held (given ++ (rest ++ deeper)))) wanted object stack l)) (sym same)
-          (at_once_leads wanted object stack stack (given ++ (rest ++ deeper)) rest (subst (λ n. Home wanted pc n (rest ++ deeper) held) all_left home1) there kept)
+          let none = root_takes selector takes objects wanted e in
+          let same : given ≡ [] = nil_from_length given (omega (arith, some, none.1)) in
+          let all_left : length stack - takes ≡ length stack = omega (arith, none.0) in
+          subst (λ l. Leads (instructions.gives_at_once (bare p) (at frames pc stack (with_names held (given ++ (rest ++ deeper)))) wanted object stack (l ++ (rest ++ deeper)))) (sym same)
+          (at_once_leads wanted object stack stack (given ++ (rest ++ deeper)) rest (subst (λ n. Home wanted n rest) all_left home1) there kept)
 
       -- a message to an object, by what it finds
-      object_answers_lead : (found : Option ℕ) (wanted : Gives) (selector takes objects object : ℕ) (given rest : List ℕ) → ((to : ℕ) → found ≡ Some to → Goes_to wanted to (height takes (length given) 0 0)) → takes ≤ length stack → length given ≡ objects → AllHeld given (held.temporaries ++ waiting) → IsHeld object (held.temporaries ++ waiting) → AllHeld rest (held.temporaries ++ waiting) → Home wanted pc (length stack - takes) (rest ++ deeper) held
+      object_answers_lead : (found : Option ℕ) (wanted : Gives) (selector takes objects object : ℕ) (given rest : List ℕ) → ((to : ℕ) → found ≡ Some to → Goes_to wanted to (height takes objects 0 0)) → takes ≤ length stack → length given ≡ objects → AllHeld given stays_held → IsHeld object stays_held → AllHeld rest stays_held → Home wanted (length stack - takes) rest
           → Leads (instructions.answers_object (bare p) (at frames pc stack (with_names held (given ++ (rest ++ deeper)))) wanted object selector takes objects found)
       object_answers_lead None wanted selector takes objects object given rest begins le some kept_first kept kept_rest home1 =
           root_leads wanted selector takes objects object given rest (is_root_init selector takes objects wanted) refl some home1 (is_held object kept) kept_rest
       object_answers_lead (Some to) wanted selector takes objects object given rest begins le some kept_first kept kept_rest home1 =
-          let held1 = with_names held (given ++ (rest ++ deeper)) in
-          enters_lead (has_level (at frames pc stack held1)) wanted to object takes pc given (rest ++ deeper) stack held1 (begins to refl) le refl kept_first (held_alive object kept) o.itself o.places o.dying o.sane home1
+          answers_lead (Some to) wanted object takes objects given rest (given ++ (rest ++ deeper)) refl some begins le kept_first (λ things there ends. held_there things held.temporaries held.variables held.places object kept there) home1
 
       -- the last so many of its references, which are passed, and those below
       record Passed (n : ℕ) : Type 0 where
@@ -660,185 +644,169 @@ module _ (p : Program) (R : resolved.Program) where
         taken : length first ≡ n
         left : length own ≡ n + length rest
         names_are : held.names ≡ first ++ (rest ++ deeper)
-        held_first : AllHeld first (held.temporaries ++ waiting)
-        held_rest : AllHeld rest (held.temporaries ++ waiting)
+        held_first : AllHeld first stays_held
+        held_rest : AllHeld rest stays_held
 
       passed : (n : ℕ) → n ≤ h.names → Passed n
       passed n le =
-          let first = take n own in
-          let rest = drop n own in
-          let is : own ≡ first ++ rest = sym (take-append-drop n own) in
-          let kept = held_split first rest (held.temporaries ++ waiting) (subst (λ l. AllHeld l (held.temporaries ++ waiting)) is o.keeps) in
+          let is : own ≡ take n own ++ drop n own = sym (take-append-drop n own) in
+          let kept = held_split (take n own) (drop n own) stays_held (subst (λ l. AllHeld l stays_held) is o.keeps) in
           record {
-            first = first;
-            rest = rest;
+            first = take n own;
+            rest = drop n own;
             is = is;
             taken = length-take-le n own (omega (arith, le, size));
             left = omega (arith, le, size, length-drop n own);
-            names_are = o.is ∙ ap (λ l. l ++ deeper) is ∙ append_assoc first rest deeper;
+            names_are = o.is ∙ ap (λ l. l ++ deeper) is ∙ append_assoc (take n own) (drop n own) deeper;
             held_first = kept.0;
             held_rest = kept.1;
           }
 
       -- a message to the object of the reference below its arguments
-      message_sent : (wanted : Gives) (from : Object → ℕ) (r : ℕ) (given rest : List ℕ) (selector takes objects : ℕ) (x : Height) → length own ≡ objects + suc (length rest) → length given ≡ objects
-          → AllHeld given (held.temporaries ++ waiting) → IsHeld r (held.temporaries ++ waiting) → AllHeld rest (held.temporaries ++ waiting)
-          → takes ≤ h.numbers → After_call x → Ready_after wanted rest
-          → x.numbers ≡ h.numbers - takes + as_number wanted → x.names + suc objects ≡ h.names + as_object wanted
-          → x.temporaries ≡ h.temporaries + as_object wanted → x.variables ≡ h.variables
+      message_sent : (wanted : Gives) (from : Object → ℕ) (r : ℕ) (given rest : List ℕ) (selector takes objects : ℕ) → length own ≡ suc objects + length rest → length given ≡ objects
+          → AllHeld given stays_held → IsHeld r stays_held → AllHeld rest stays_held
+          → (takes ≤ h.numbers) × (suc objects ≤ h.names) → After_call wanted takes (suc objects) → Ready_after wanted rest
           → Leads (sends p s wanted from r selector takes objects (given ++ (rest ++ deeper)))
-      message_sent wanted from zero given rest selector takes objects x e some kept_first kept kept_rest le g ready a b c d =
+      message_sent wanted from zero given rest selector takes objects e some kept_first kept kept_rest needs g ready =
           let names_is : drop objects (given ++ (rest ++ deeper)) ≡ rest ++ deeper = ap (λ n. drop n (given ++ (rest ++ deeper))) (sym some) ∙ drop-append_seam given (rest ++ deeper) in
-          taken_leads takes stack _ (omega (arith, count, le)) (λ numbers m.
+          taken_leads takes stack _ (omega (arith, count, needs.0)) (λ numbers m.
           subst (λ l. Leads (instructions.gives_at_once (bare p) s wanted 0 numbers l)) (sym names_is)
-          (at_once_leads wanted 0 stack numbers held.names rest (home wanted x (length numbers) rest g ready kept_rest (omega (arith, count, le, m, a)) (omega (arith, size, e, b)) c d) tt kept_rest))
-      message_sent wanted from (suc j) given rest selector takes objects x e some kept_first kept kept_rest le g ready a b c d =
+          (at_once_leads wanted 0 stack numbers held.names rest (home wanted takes (suc objects) (length numbers) rest needs g ready kept_rest m e) tt kept_rest))
+      message_sent wanted from (suc j) given rest selector takes objects e some kept_first kept kept_rest needs g ready =
           let there = is_held (suc j) kept in
           let found : Object → Option ℕ = λ ob. lookup p.classes (Some (from ob)) signs.Instance selector takes objects wanted in
           let st = at frames pc stack (with_names held (given ++ (rest ++ deeper))) in
           subst Leads (sym (object_goes (object_at held.objects (suc j)) there.0 (λ ob. instructions.answers_object (bare p) st wanted (suc j) selector takes objects (found ob)) there.1 there.2))
-          (object_answers_lead (found there.0) wanted selector takes objects (suc j) given rest
-          (λ to f. subst (λ n. Goes_to wanted to (height takes n 0 0)) (sym some) (finds (Some (from there.0)) signs.Instance selector takes objects wanted to f))
-          (omega (arith, count, le)) some kept_first kept kept_rest
-          (home wanted x (length stack - takes) rest g ready kept_rest (omega (arith, count, le, a)) (omega (arith, size, e, b)) c d))
+          (object_answers_lead (found there.0) wanted selector takes objects (suc j) given rest (finds (Some (from there.0)) signs.Instance selector takes objects wanted)
+          (omega (arith, count, needs.0)) some kept_first kept kept_rest
+          (home wanted takes (suc objects) (length stack - takes) rest needs g ready kept_rest (omega (arith, count, needs.0)) e))
 
       -- a message to an object, with what gets it below its arguments
-      message_leads : (wanted : Gives) (from : Object → ℕ) (selector takes objects : ℕ) (x : Height) → (takes ≤ h.numbers) × (suc objects ≤ h.names) → After_call x → ((given rest : List ℕ) (r : ℕ) → own ≡ given ++ r ∷ rest → length given ≡ objects → Ready_after wanted rest) → x.numbers ≡ h.numbers - takes + as_number wanted → x.names ≡ h.names - suc objects + as_object wanted → x.temporaries ≡ h.temporaries + as_object wanted → x.variables ≡ h.variables
+      message_leads : (wanted : Gives) (from : Object → ℕ) (selector takes objects : ℕ) → (takes ≤ h.numbers) × (suc objects ≤ h.names) → After_call wanted takes (suc objects) → ((given rest : List ℕ) (r : ℕ) → own ≡ given ++ r ∷ rest → length given ≡ objects → Ready_after wanted rest)
           → Leads (instructions.on_receiver objects held.names (λ r rest. sends p s wanted from r selector takes objects rest))
-      message_leads wanted from selector takes objects x needs g ready a b c d =
+      message_leads wanted from selector takes objects needs g ready =
           let part = passed objects (omega (arith, needs.1)) in
           let f = first_of part.rest (omega (arith, needs.1, size, part.left)) in
-          let below = subst (λ l. AllHeld l (held.temporaries ++ waiting)) f.2 part.held_rest in
+          let below1 = subst (λ l. AllHeld l stays_held) f.2 part.held_rest in
           let names_is : held.names ≡ part.first ++ f.0 ∷ (f.1 ++ deeper) = part.names_are ∙ ap (λ l. part.first ++ (l ++ deeper)) f.2 in
+          let size_is = ap length f.2 in
           subst (λ l. Leads (instructions.on_receiver objects l (λ r rest. sends p s wanted from r selector takes objects rest))) (sym names_is)
           (subst Leads (sym (receiver_goes objects part.first (f.1 ++ deeper) f.0 (λ r rest. sends p s wanted from r selector takes objects rest) part.taken))
-          (message_sent wanted from f.0 part.first f.1 selector takes objects x
-          (part.left ∙ ap (λ l. objects + length l) f.2) part.taken part.held_first below.0 below.1 needs.0 g
-          (ready part.first f.1 f.0 (part.is ∙ ap (λ l. part.first ++ l) f.2) part.taken) a (omega (arith, b, needs.1)) c d))
+          (message_sent wanted from f.0 part.first f.1 selector takes objects (omega (arith, part.left, size_is)) part.taken part.held_first below1.0 below1.1 needs g
+          (ready part.first f.1 f.0 (part.is ∙ ap (λ l. part.first ++ l) f.2) part.taken)))
 
-      class_reported : (wanted : Gives) (from : Option ℕ) (selector takes objects : ℕ) (x : Height) → (suc takes ≤ h.numbers) × (objects ≤ h.names) → Goes_to mine (pc + 1) x → x.numbers ≡ h.numbers - suc takes + as_number wanted → x.names ≡ h.names - objects + as_object wanted → x.temporaries ≡ h.temporaries + as_object wanted → x.variables ≡ h.variables
+      class_reported : (wanted : Gives) (from : Option ℕ) (selector takes objects : ℕ) → (suc takes ≤ h.numbers) × (objects ≤ h.names) → Goes_to mine (pc + 1) (after_effect h (giving wanted (suc takes) objects))
           → Leads (answers s 0 (lookup p.classes from signs.Class selector takes objects wanted))
-      class_reported wanted from selector takes objects x needs g a b c d =
-          let part = passed objects (omega (arith, needs.1)) in
-          answers_lead (lookup p.classes from signs.Class selector takes objects wanted) wanted 0 (suc takes) pc part.first (part.rest ++ deeper) stack held
-          (λ to f. subst (λ n. Goes_to wanted to (height (suc takes) n 0 0)) (sym part.taken) (finds from signs.Class selector takes objects wanted to f))
-          (omega (arith, count, needs.0)) part.names_are part.held_first (λ objects there ends. tt) o.itself o.places o.dying o.sane
-          (home wanted x (length stack - suc takes) part.rest (g.0, g.1) (always_ready wanted part.rest g.2) part.held_rest (omega (arith, count, needs.0, a))
-          (omega (arith, size, part.left, needs.1, b)) c d)
+      class_reported wanted from selector takes objects needs g =
+          let part = passed objects needs.1 in
+          answers_lead (lookup p.classes from signs.Class selector takes objects wanted) wanted 0 (suc takes) objects part.first part.rest held.names part.names_are part.taken (finds from signs.Class selector takes objects wanted)
+          (omega (arith, count, needs.0)) part.held_first (λ things there ends. tt)
+          (home wanted (suc takes) objects (length stack - suc takes) part.rest needs (g.0, g.1) (λ r. inl g.2) part.held_rest (omega (arith, count, needs.0)) part.left)
 
       -- after a message to a made object what `init` gives is there, and elsewhere nothing matters
-      init_ready : (wanted : Gives) (selector takes objects : ℕ) → slice_get (all R) pc ≡ Some (SendTo selector takes objects wanted) → Ready pc own held.temporaries waiting
+      init_ready : (wanted : Gives) (selector takes objects : ℕ) → slice_get (all R) pc ≡ Some (SendTo selector takes objects wanted) → Ready pc own held.temporaries held.places
           → Is_free (pc + 1) ⊎ ((takes ≡ 0) × (objects ≡ 0) × (wanted ≡ gives.Object) × (slice_get (all R) (pc + 1) ≡ Some Settle))
           → (given rest : List ℕ) (r : ℕ) → own ≡ given ++ r ∷ rest → length given ≡ objects → Ready_after wanted rest
-      init_ready wanted selector takes objects is ready (inl f) given rest r e some = always_ready wanted rest f
-      init_ready wanted selector takes objects is ready (inr q) given rest r e some =
-          subst (λ g. Ready_after g rest) (sym q.2) (⊎_elim
-          (λ (f : Is_free pc). absurd (f.1 (ap role_of is) (ap role_of q.3)))
-          (λ more. ⊎_elim
-          (λ made.
+      init_ready wanted selector takes objects is ready (inl f) given rest r e some = λ r1. inl f
+      init_ready wanted selector takes objects is (inl f) (inr q) given rest r e some = absurd (f.1 (ap role_of is) (ap role_of q.3))
+      init_ready wanted selector takes objects is (inr (inr over)) (inr q) given rest r e some = absurd (cc)
+      init_ready wanted selector takes objects is (inr (inl made)) (inr q) given rest r e some =
           let m = made.1 in
           let none : given ≡ [] = nil_from_length given (omega (arith, some, q.1)) in
           let names_same : r ∷ rest ≡ m.made ∷ m.rest = ap (λ l. l ++ r ∷ rest) (sym none) ∙ sym e ∙ m.names_are in
           let rest_same : m.rest ≡ rest = cc in
-          λ r1. inr (inr (q.3, record { given = r1; made = m.made; rest = rest; others = m.others; names_are = refl; places_are = ap (λ l. r1 ∷ l) m.places_are; kept = subst (λ l. AllHeld l (m.others ++ waiting)) rest_same m.kept })))
-          (λ over. absurd (cc)) more) ready)
+          subst (λ g. Ready_after g rest) (sym q.2)
+          (λ r1. inr (inr (q.3, record { given = r1; made = m.made; rest = rest; others = m.others; names_are = refl; places_are = ap (λ l. r1 ∷ l) m.places_are; kept = subst (λ l. AllHeld l (m.others ++ held.places)) rest_same m.kept })))
 
       -- a field of an object takes what a reference names
-      stored : (b : Bool) (j : ℕ) (ob : Object) {q : ℕ} → q ≡ suc j → object_at held.objects (suc j) ≡ Some ob → is_there ob.phase ≡ true → (index r : ℕ) → IsThere held.objects r → (own1 : List ℕ) → AllHeld own1 (held.temporaries ++ waiting) → (x : Height) → Goes_to mine (pc + 1) x
+      stored : (b : Bool) (j : ℕ) (ob : Object) {q : ℕ} → q ≡ suc j → object_at held.objects (suc j) ≡ Some ob → is_there ob.phase ≡ true → (index r : ℕ) → IsThere held.objects r → (own1 : List ℕ) → AllHeld own1 stays_held → (x : Height) → Goes_to mine (pc + 1) x
           → length stack ≡ x.numbers + below → length own1 ≡ x.names → x.temporaries ≡ h.temporaries → x.variables ≡ h.variables → is_emptying ob.phase ≡ b
           → Leads (if b then Faults Resurrected else on_place (slice_get ob.strong index) (keeps s stack (with_names held (own1 ++ deeper))) (λ old. releases p s old (raised r (with_strong_field (with_names held (own1 ++ deeper)) q ob index r))))
       stored true j ob same found is_there_now index r there own1 kept x g a b c d e = tt
       stored false j ob {q} same found is_there_now index r there own1 kept x g a b c d e =
           let held1 = with_names held (own1 ++ deeper) in
           place_leads (slice_get ob.strong index) _ _
-          (λ none. go_on (pc + 1) x g stack held1 own1 a b (omega (arith, few, c)) (omega (arith, many, d)) (record { is = refl; places = o.places; itself = o.itself; keeps = kept; dying = o.dying; sane = o.sane }))
+          (λ none. go_on (pc + 1) x g stack held1 (owns (own1 ++ deeper) refl kept) a b (omega (arith, few, c)) (omega (arith, many, d)))
           (λ old named.
           let strong = slice_set ob.strong index r in
-          let held2 = raised r (with_strong_field held1 (suc j) ob index r) in
           let dying1 = changed_dying held.objects j ob (with_strong_fields ob strong) (ending frames) found (λ fields far. grind arith) o.dying in
+          let o1 : Owns (old ∷ []) own1 (raised r (with_strong_field held1 (suc j) ob index r)) = record { is = refl; keeps = kept; alive = o.alive; waits = o.waits; dying = dying1; sane = sane_store_field held1 j ob index old r found is_there_now named there o.sane } in
           subst (λ k. Leads (releases p s old (raised r (with_strong_field held1 k ob index r)))) (sym same)
-          (releases_lead old pc stack held held2 own1 refl o.places o.itself kept dying1 (sane_store_field held1 j ob index old r found is_there_now named there o.sane)
-          (back (pc + 1) x g.0 (length stack) (own1 ++ deeper) own1 held1 refl (goes_nil (pc + 1) x g.1 held.variables (omega (arith, many, d))) (inl g.2) a b (omega (arith, few, c)) (omega (arith, many, d)) kept)))
+          (releases_lead old pc stack held _ o1 (back_any (pc + 1) x g (length stack) o1 a b (omega (arith, few, c)) (omega (arith, many, d)))))
 
       -- what waits, once there is nothing left of the running function
       left_waits : (g : Gives) → mine ≡ g → (rest : List ℤ) → below ≡ length rest → h.names ≡ 0 → Waits g frames (length rest) held.names held.places
       left_waits g same rest e no_names =
           let none = nil_from_length own (omega (arith, size, no_names)) in
-          subst (λ n. Waits g frames n held.names held.places) e (subst (λ l. Waits g frames below l held.places) (sym (o.is ∙ ap (λ l. l ++ deeper) none))
-          (subst (λ m. Waits m frames below deeper held.places) same (subst (Waits mine frames below deeper) (sym o.places) waits)))
+          subst (λ n. Waits g frames n held.names held.places) e (subst (λ l. Waits g frames below l held.places) (sym (o.is ∙ ap (λ l. l ++ deeper) none)) (subst (λ m. Waits m frames below deeper held.places) same o.waits))
 
-      order_leads : (x : Order) → slice_get (all R) pc ≡ Some x → Stands R (all R) (table R) mine pc h → (role x ≡ Ends → ⊥) → (nil : (k : ℕ) → Clear k pc → Shut mine k held.variables) → Ready pc own held.temporaries waiting → Steps R (all R) (table R) mine h pc x → Leads (does p x s)
+      order_leads : (x : Order) → slice_get (all R) pc ≡ Some x → Stands R (all R) (table R) mine pc h → (role x ≡ Ends → ⊥) → (nil : (k : ℕ) → Clear k pc → Shut mine k held.variables) → Ready pc own held.temporaries held.places → Steps R (all R) (table R) mine h pc x → Leads (does p x s)
       order_leads (Plain x) is stands no_end nil ready st = operation_leads x is nil st.0 st.1 st.2
-      order_leads (PrintText bytes) is stands no_end nil ready st = top_leads Good stack _ (omega (arith, count, st.0)) (λ c rest e. go_on (pc + 1) _ st.1 (counted c bytes ∷ rest) held own (omega (arith, count, st.0, e)) (omega (arith, size)) (omega (arith, few)) (omega (arith, many)) o)
-      order_leads (Jump to) is stands no_end nil ready st = go_on (lands pc to) _ st.2 stack held own count size (omega (arith, few, st.1)) many o
+      order_leads (PrintText bytes) is stands no_end nil ready st = top_leads Good stack _ (omega (arith, count, st.0)) (λ c rest e. go_on (pc + 1) _ st.1 (counted c bytes ∷ rest) held o (omega (arith, count, st.0, e)) (omega (arith, size)) (omega (arith, few)) (omega (arith, many)))
+      order_leads (Jump to) is stands no_end nil ready st = go_on (lands pc to) _ st.2 stack held o count size (omega (arith, few, st.1)) many
       order_leads (JumpZero to) is stands no_end nil ready st = top_leads Good stack _ (omega (arith, count, st.0)) (λ v rest e.
           by_test (λ b. Leads (chosen b (goes s rest) (Goes (at frames (lands pc to) rest held) []))) (is_zero v)
-          (λ _. go_on (lands pc to) _ st.2.2 rest held own (omega (arith, count, st.0, e)) (omega (arith, size)) (omega (arith, few, st.2.1)) (omega (arith, many)) o)
-          (λ _. go_on (pc + 1) _ st.1 rest held own (omega (arith, count, st.0, e)) (omega (arith, size)) (omega (arith, few)) (omega (arith, many)) o))
+          (λ _. go_on (lands pc to) _ st.2.2 rest held o (omega (arith, count, st.0, e)) (omega (arith, size)) (omega (arith, few, st.2.1)) (omega (arith, many)))
+          (λ _. go_on (pc + 1) _ st.1 rest held o (omega (arith, count, st.0, e)) (omega (arith, size)) (omega (arith, few)) (omega (arith, many))))
       order_leads (Call f wanted) is stands no_end nil ready st =
-          let n = parameters_of R wanted f in
-          let x = next_height R (Call f wanted) h in
-          let part = passed n st.0.2 in
-          enters_lead (has_level s) wanted (entry p f) 0 (slots_of R wanted f) pc part.first (part.rest ++ deeper) stack held
-          (subst (λ m. Goes_to wanted (entry p f) (height (slots_of R wanted f) m 0 0)) (sym part.taken) (calls wanted f st.0.1))
-          (omega (arith, count, st.0.0)) part.names_are part.held_first (λ objects there ends. tt) o.itself o.places o.dying o.sane
-          (home wanted x (length stack - slots_of R wanted f) part.rest (st.1.0, st.1.1) (always_ready wanted part.rest st.1.2) part.held_rest
-          (omega (arith, count, st.0.0)) (omega (arith, size, part.left)) (omega arith) (omega arith))
-      order_leads (Send selector takes objects wanted) is stands no_end nil ready st = found_leads Good stack takes _ (omega (arith, count, st.0.0)) (λ class _. class_reported wanted (class_at class) selector takes objects (next_height R (Send selector takes objects wanted) h) st.0 st.1 (omega arith) (omega arith) (omega arith) (omega arith))
-      order_leads (SendSuper from selector takes objects wanted) is stands no_end nil ready st = class_reported wanted (Some from) selector takes objects (next_height R (SendSuper from selector takes objects wanted) h) st.0 st.1 (omega arith) (omega arith) (omega arith) (omega arith)
-      order_leads (SendTo selector takes objects wanted) is stands no_end nil ready st =
-          message_leads wanted (λ ob. ob.class) selector takes objects (next_height R (SendTo selector takes objects wanted) h) st.0 st.1 (init_ready wanted selector takes objects is ready st.2) (omega arith) (omega arith) (omega arith) (omega arith)
+          let part = passed (parameters_of R wanted f) st.0.2 in
+          let called = λ (to : ℕ) (e : Some (entry p f) ≡ Some to). subst (λ n. Goes_to wanted n (height (slots_of R wanted f) (parameters_of R wanted f) 0 0)) (some_same (entry p f) to e) (calls wanted f st.0.1) in
+          answers_lead (Some (entry p f)) wanted 0 (slots_of R wanted f) (parameters_of R wanted f) part.first part.rest held.names part.names_are part.taken called
+          (omega (arith, count, st.0.0)) part.held_first (λ things there ends. tt)
+          (home wanted (slots_of R wanted f) (parameters_of R wanted f) (length stack - slots_of R wanted f) part.rest (st.0.0, st.0.2) (st.1.0, st.1.1) (λ r. inl st.1.2) part.held_rest (omega (arith, count, st.0.0)) part.left)
+      order_leads (Send selector takes objects wanted) is stands no_end nil ready st = found_leads Good stack takes _ (omega (arith, count, st.0.0)) (λ class _. class_reported wanted (class_at class) selector takes objects st.0 st.1)
+      order_leads (SendSuper from selector takes objects wanted) is stands no_end nil ready st = class_reported wanted (Some from) selector takes objects st.0 st.1
+      order_leads (SendTo selector takes objects wanted) is stands no_end nil ready st = message_leads wanted (λ ob. ob.class) selector takes objects st.0 st.1 (init_ready wanted selector takes objects is ready st.2)
       order_leads (SendToSuper from selector takes objects wanted) is stands no_end nil ready st =
-          message_leads wanted (λ ob. from) selector takes objects (next_height R (SendToSuper from selector takes objects wanted) h) st.0 (st.1.0, st.1.1) (λ given rest r e some. always_ready wanted rest st.1.2) (omega arith) (omega arith) (omega arith) (omega arith)
+          message_leads wanted (λ ob. from) selector takes objects st.0 (st.1.0, st.1.1) (λ given rest r e some r1. inl st.1.2)
       order_leads (StoreStrong i) is stands no_end nil ready st =
           last_leads_on Good _ st.0.0 (λ r rest _ now _. found_leads Good held.variables i _ (omega (arith, many, st.0.1)) (λ old found. named_leads Good r held _ (is_held r now)
-          (let held1 = raised r (with_variables held (slice_set held.variables i r)) in
-          let long = length-set held.variables i r in
-          let every : length held1.variables ≡ (next_height R (StoreStrong i) h).variables = omega (arith, many, long) in
-          releases_lead old pc stack held held1 own o.is o.places o.itself o.keeps o.dying (sane_moved (λ k. omega (arith, holders_head, variable_moves (suc k) held i old r found)) (gains r (is_held r now) o.sane))
-          (back (pc + 1) (next_height R (StoreStrong i) h) st.1.0 (length stack) held.names own held1 o.is (goes_nil (pc + 1) (next_height R (StoreStrong i) h) st.1.1 held1.variables every) (inl st.1.2) (omega (arith, count)) (omega (arith, size, st.0.0)) (omega (arith, few)) every o.keeps))))
+          (let long = length-set held.variables i r in
+          let o1 : Owns (old ∷ []) own (raised r (with_variables held (slice_set held.variables i r))) = record { is = o.is; keeps = o.keeps; alive = o.alive; waits = o.waits; dying = o.dying; sane = sane_moved (λ k. omega (arith, holders_head, variable_moves (suc k) held i old r found)) (gains r (is_held r now) o.sane) } in
+          releases_lead old pc stack held _ o1 (back_any (pc + 1) (next_height R (StoreStrong i) h) st.1 (length stack) o1 (omega (arith, count)) (omega (arith, size, st.0.0)) (omega (arith, few)) (omega (arith, many, long))))))
       order_leads (StoreGlobal i) is stands no_end nil ready st =
           let x = next_height R (StoreGlobal i) h in
           last_leads_on Good _ st.0 (λ r rest _ now _. named_leads Good r held _ (is_held r now) (place_leads (slice_get held.strong_globals i) _ _
-          (λ none. go_on (pc + 1) x st.1 stack held own (omega (arith, count)) (omega (arith, size, st.0)) (omega (arith, few)) (omega (arith, many)) o)
+          (λ none. go_on (pc + 1) x st.1 stack held o (omega (arith, count)) (omega (arith, size, st.0)) (omega (arith, few)) (omega (arith, many)))
           (λ old found.
-          let held1 = raised r (with_strong_globals held (slice_set held.strong_globals i r)) in
-          releases_lead old pc stack held held1 own o.is o.places o.itself o.keeps o.dying (sane_moved (λ k. omega (arith, holders_head, global_moves (suc k) held i old r found)) (gains r (is_held r now) o.sane))
-          (back (pc + 1) x st.1.0 (length stack) held.names own held o.is (goes_nil (pc + 1) x st.1.1 held.variables (omega (arith, many))) (inl st.1.2) (omega (arith, count)) (omega (arith, size, st.0)) (omega (arith, few)) (omega (arith, many)) o.keeps))))
+          let o1 : Owns (old ∷ []) own (raised r (with_strong_globals held (slice_set held.strong_globals i r))) = record { is = o.is; keeps = o.keeps; alive = o.alive; waits = o.waits; dying = o.dying; sane = sane_moved (λ k. omega (arith, holders_head, global_moves (suc k) held i old r found)) (gains r (is_held r now) o.sane) } in
+          releases_lead old pc stack held _ o1 (back_any (pc + 1) x st.1 (length stack) o1 (omega (arith, count)) (omega (arith, size, st.0)) (omega (arith, few)) (omega (arith, many))))))
       order_leads (StoreField class index) is stands no_end nil ready st =
           let x = next_height R (StoreField class index) h in
-          last_leads_on Good _ (omega (arith, st.0)) (λ r rest e now kept. reference_leads Good rest deeper (held.temporaries ++ waiting) (rest ++ deeper) _ refl (omega (arith, st.0, size, e)) kept (λ q others f also below1.
+          last_leads_on Good _ (omega (arith, st.0)) (λ r rest e now kept. reference_leads Good rest deeper stays_held (rest ++ deeper) _ refl (omega (arith, st.0, size, e)) kept (λ q others f also below1.
           named_leads Good r held _ (is_held r now) (field_leads Good class q held _ (is_held q also) (λ j ob same found there.
           stored (is_emptying ob.phase) j ob same found there index r (is_held r now) (r ∷ others) (now, below1) x st.1 (omega (arith, count)) (omega (arith, size, st.0, e, f)) (omega arith) (omega arith) refl))))
       order_leads (Empty i) is stands no_end nil ready st = found_leads Good held.variables i _ (omega (arith, many, st.0)) (λ r found.
-          let held1 = raised 0 (with_variables held (slice_set held.variables i 0)) in
           let long = length-set held.variables i 0 in
-          releases_lead r pc stack held held1 own o.is o.places o.itself o.keeps o.dying (sane_moved (λ k. omega (arith, holders_head, variable_moves (suc k) held i r 0 found)) (gains 0 tt o.sane))
-          (back (pc + 1) (next_height R (Empty i) h) st.1 (length stack) held.names own held1 o.is (λ k c. ⊎_elim (λ same. nil_from k (subst (λ j. Clear j (pc + 1)) same c) same) (λ le. shut_end mine held1.variables k (omega (arith, many, long, le))) (st.2 k c)) (inl st.3) (omega (arith, count)) (omega (arith, size)) (omega (arith, few)) (omega (arith, many, long)) o.keeps))
+          let o1 : Owns (r ∷ []) own (raised 0 (with_variables held (slice_set held.variables i 0))) = record { is = o.is; keeps = o.keeps; alive = o.alive; waits = o.waits; dying = o.dying; sane = sane_moved (λ k. omega (arith, holders_head, variable_moves (suc k) held i r 0 found)) (gains 0 tt o.sane) } in
+          releases_lead r pc stack held _ o1
+          (back (pc + 1) (next_height R (Empty i) h) st.1 (length stack) o1 (λ k c. ⊎_elim (λ same. nil_from k (subst (λ j. Clear j (pc + 1)) same c) same) (λ le. shut_end mine (slice_set held.variables i 0) k (omega (arith, many, long, le))) (st.2 k c)) (inl st.3) (omega (arith, count)) (omega (arith, size)) (omega (arith, few)) (omega (arith, many, long))))
         where
           nil_from : (k : ℕ) → Clear i (pc + 1) → k ≡ i → Shut mine k (slice_set held.variables i 0)
           nil_from k c same = subst (λ j. Shut mine j (slice_set held.variables i 0)) (sym same) (shut_set mine i held.variables (nil (suc i) (ap role_of is, c)))
       order_leads DropAll is stands no_end nil ready st =
           let none = nil_from_length own (omega (arith, size, st.0)) in
           let free = calm_free R (all R) (table R) pc Stays tt (ap role_of is) in
-          drops_lead held.temporaries pc h stack held held refl stands free st.1 nil count (omega (arith, st.0)) few many (subst (λ l. Owns l held) none o)
+          drops_lead held.temporaries pc h stack held held refl stands free st.1 nil count (omega (arith, st.0)) few many (subst (λ l. Owns [] l held) none o)
       order_leads Settle is stands no_end nil ready st = ⊎_elim
           (λ (f : Is_free pc). absurd (f.0 (ap role_of is)))
           (λ more. ⊎_elim (λ made. absurd (made.0 (ap role_of is))) (λ over. settles_lead over.1 st) more)
           ready
         where
-          settles_lead : Initialized own held.temporaries waiting → Goes_to mine (pc + 1) (next_height R Settle h) → Leads (does p Settle s)
+          settles_lead : Initialized own held.temporaries held.places → Goes_to mine (pc + 1) (next_height R Settle h) → Leads (does p Settle s)
           settles_lead m g =
-              let held1 = with_temporaries held (m.given ∷ m.others) in
-              let own1 = m.given ∷ m.rest in
-              let is1 : held.names ≡ own1 ++ deeper = o.is ∙ ap (λ l. l ++ deeper) m.names_are in
-              let keeps1 : AllHeld own1 (held1.temporaries ++ waiting) = (last_held m.given (m.others ++ waiting), all_more m.given m.rest (m.others ++ waiting) m.kept) in
-              let x = next_height R Settle h in
+              let o1 : Owns (m.made ∷ []) (m.given ∷ m.rest) (with_temporaries held (m.given ∷ m.others)) = record {
+                is = o.is ∙ ap (λ l. l ++ deeper) m.names_are;
+                keeps = (last_held m.given (m.others ++ held.places), all_more m.given m.rest (m.others ++ held.places) m.kept);
+                alive = o.alive;
+                waits = o.waits;
+                dying = o.dying;
+                sane = sane_moved (λ k. second_moves (suc k) held m.given m.made m.others m.places_are) o.sane;
+              } in
               let names_size = ap length m.names_are in
               let places_size = ap length m.places_are in
               subst (λ l. Leads (instructions.settles (bare p) s l)) (sym m.places_are)
-              (releases_lead m.made pc stack held held1 own1 is1 o.places o.itself keeps1 o.dying (sane_moved (λ k. second_moves (suc k) held m.given m.made m.others m.places_are) o.sane)
-              (back (pc + 1) x g.0 (length stack) held.names own1 held1 is1 (goes_nil (pc + 1) x g.1 held.variables (omega (arith, many))) (inl g.2) (omega (arith, count)) (omega (arith, size, names_size)) (omega (arith, few, places_size)) (omega (arith, many)) keeps1))
+              (releases_lead m.made pc stack held _ o1 (back_any (pc + 1) (next_height R Settle h) g (length stack) o1 (omega (arith, count)) (omega (arith, size, names_size)) (omega (arith, few, places_size)) (omega (arith, many))))
       order_leads Give is stands no_end nil ready st =
           let none = nil_from_length held.temporaries (omega (arith, few, st.2)) in
           let clears : Clear 0 pc = (0, ap role_of is) in
@@ -852,8 +820,7 @@ module _ (p : Program) (R : resolved.Program) where
           let shut = subst (λ g. Shut g 0 held.variables) st.3 (nil 0 clears) in
           let empty : NilBut [] held.variables = λ i k named. shut i k (omega arith) (omega (arith, slice_get_within held.variables i (suc k) named)) named in
           top_leads Good stack _ (omega (arith, count, st.0)) (λ v rest e. left_leads held.temporaries held _ none empty
-          (leaves_lead frames pc v stack rest held (left_waits gives.Number st.3 rest (omega (arith, count, st.0, e)) st.1)
-          (subst (λ l. Alive frames l held.self) (sym o.places) (subst (Alive frames waiting) (sym o.itself) alive)) e none empty o.dying o.sane running))
+          (leaves_lead frames pc v stack rest held (left_waits gives.Number st.3 rest (omega (arith, count, st.0, e)) st.1) o.alive e none empty o.dying o.sane running))
       order_leads EndStep is stands no_end nil ready st = absurd (no_end refl)
 
   -- ---- the end of an object
@@ -988,8 +955,8 @@ module _ (p : Program) (R : resolved.Program) where
         let same : st.0 ≡ mark = some_same st.0 mark (sym st.1 ∙ r.stands.height) in
         let steps = subst (λ (m : Height × Gives). Steps R (all R) (table R) m.1 m.0 s.at x) same st.2 in
         subst Leads (sym (step_does s x r.stands.is))
-        (order_leads mine s.frames below deeper s.held.places s.held.self r.alive waits r.running classes (λ wanted g called. entry_goes p R is entries wanted g called) s.at r.high s.stack s.held r.own r.count r.size r.few r.many
-        (record { is = r.is; places = refl; itself = refl; keeps = r.held; dying = dying; sane = sane }) x r.stands.is r.stands r.stands.no_end r.nil r.ready steps)
+        (order_leads mine s.frames below deeper r.running classes (λ wanted g called. entry_goes p R is entries wanted g called) s.at r.high s.stack s.held r.own r.count r.size r.few r.many
+        (record { is = r.is; keeps = r.held; alive = r.alive; waits = waits; dying = dying; sane = sane }) x r.stands.is r.stands r.stands.no_end r.nil r.ready steps)
 
     end_leads : (s : State) → EndsAgain s.at s.held.self s.frames s.held.temporaries s.held.variables s.held.places
         → Waits gives.Number s.frames (length s.stack) s.held.names s.held.places
