@@ -17,7 +17,7 @@ use Rattle.arc_spec.specs.Meaning.{chosen}
 use Rattle.arc_spec.specs.Number.{counted, is_zero}
 use Rattle.arc_spec.specs.Objects.{Object, Dying, Emptying, Gone, nils, object_at, with_object, with_fields, with_strong_fields, in_phase, is_live, is_emptying, fields_of}
 use Rattle.arc_spec.specs.Resolved as resolved
-use Rattle.arc_spec.specs.Holding.{Held, all_places, Frame, Calling, Ending, Clearing, Waiter, waiter_of, Counted, holders, is_there, stacked, with_strong_globals, with_strong_field, on_place, turned_in, with_temporaries, with_variables, with_names, with_things, lowered, raised, named, taken_by, on_named, on_field, declares, lets_go, resumed, all_nil, on_left, on_last, on_result, given_back, with_field}
+use Rattle.arc_spec.specs.Holding.{Held, all_places, Frame, Calling, Ending, Clearing, Waiter, waiter_of, Counted, holders, is_there, stacked, with_strong_globals, with_strong_field, on_place, turned_in, with_temporaries, with_variables, with_names, with_things, lowered, raised, named, taken_by, on_named, on_field, declares, lets_go, makes, resumed, all_nil, on_left, on_last, on_result, given_back, with_field}
 use Rattle.arc_spec.specs.Stepping.{Next, Goes, Faults, Along, Safe, Sound, on_top, on_found, only_if}
 use Rattle.arc_ir.specs.Acting.{Program, State, lands, start, step, entry, keeps, goes, or_fault, has_level, enters, answers, taken, sends, allocates, operates, begins_end, releases, runs_dealloc, clears, after_deallocs, clears_next, ends_class, end_goes_on, leaves}
 use Rattle.arc_code.specs.declared.effect.Height.{Height}
@@ -33,7 +33,7 @@ use Rattle.arc_lower.specs.Order.{Order, order, orders}
 use Rattle.arc_lower.specs.Lowered.{slots_of, parameters_of, entries_of, end_step_of, lowered as lowered_orders, classes_linked}
 use Rattle.arc_lower.specs.Heights.{height, after_effect, next_height}
 use Rattle.arc_lower.proofs.Cases.{by_test}
-use Rattle.arc_lower.proofs.CountsPlaces.{seam, variable_moves, global_moves, second_moves, IsThere, place_there, name_there, object_goes, named_goes, set_here, set_same, set_other, holders_head, nils_holders, holders_append, there_fields}
+use Rattle.arc_lower.proofs.CountsPlaces.{seam, variable_moves, global_moves, second_moves, IsThere, place_there, name_there, object_goes, set_here, set_same, set_other, holders_head, nils_holders, holders_append, there_fields}
 use Rattle.arc_lower.proofs.CountsKept.{Keeps, Sane, Drops, gains, sane_moved, fits_at, sane_counted, named_there, fields_there, sane_store_field, drops_there, sane_last, lowers, sane_make, sane_turned}
 use Rattle.arc_lower.proofs.Doing.{at, resumed_as, bare, does, executes_at}
 use Rattle.arc_lower.proofs.Standing.{ending, AllDying, IsDying, NilBut, Alive, ends_there, IsHeld, last_held, held_there, held_within, made_dying, changed_dying, IsApart, live_apart, apart_dying, one_nil, no_field, nil_named, all_in_order}
@@ -158,14 +158,6 @@ resumes_again w h s = resumed_as w h s.temporaries s.variables s.waiting s.is s.
 again_sane : {classes : List Class} (w : Waiter) (h : Held) (s : Splits w h.places) → h.temporaries ≡ [] → NilBut [] h.variables → Sane classes h → Sane classes (again w s h)
 again_sane w h s none nil sane = sane_moved (λ k. grind (arith, holders_append, s.is, nil_named h.variables nil k)) sane
 
--- the function that is left has no temporary, and of its variables the last one alone names something: that is a temporary of the one that runs again
-given_sane : {classes : List Class} (w : Waiter) (h : Held) (s : Splits w h.places) (n r : ℕ) → h.temporaries ≡ [] → h.variables ≡ nils n ++ r ∷ []
-    → Sane classes h → Sane classes (given_back r (again w s (with_variables h [])))
-given_sane w h s n r none last sane = sane_moved (λ k. grind (arith, holders_append, s.is, nils_holders k n)) sane
-
-left_sane : {classes : List Class} (h : Held) → h.temporaries ≡ [] → NilBut [] h.variables → Sane classes h → Sane classes (with_variables h [])
-left_sane h none nil sane = sane_moved (λ k. omega (arith, holders_append, nil_named h.variables nil k)) sane
-
 module _ (p : Program) (R : resolved.Program) where
   -- in a function that gives this
   abbrev Goes_to : Gives → ℕ → Height → Type 0
@@ -260,8 +252,7 @@ module _ (p : Program) (R : resolved.Program) where
   -- a fact of each state to which a step leads that isn't missing
   module _ (P : State → Type 0) where
     top_leads : (stack : List ℤ) (go : ℤ → List ℤ → Next State) → 1 ≤ length stack → ((v : ℤ) (rest : List ℤ) → length stack ≡ suc (length rest) → Along P (go v rest)) → Along P (on_top stack go)
-    top_leads [] go some h = absurd (omega (arith, some))
-    top_leads (v ∷ rest) go some h = h v rest refl
+    top_leads stack go some h = grind (arith, h)
 
     found_leads : {A : Type 0} (list : List A) (i : ℕ) (go : A → Next State) → i < length list → ((a : A) → slice_get list i ≡ Some a → Along P (go a)) → Along P (on_found (slice_get list i) go)
     found_leads [] i go lt h = absurd (omega (arith, lt))
@@ -269,7 +260,7 @@ module _ (p : Program) (R : resolved.Program) where
     found_leads (a ∷ list) (suc i) go lt h = found_leads list i go (omega (arith, lt)) h
 
     named_leads : (r : ℕ) (held : Held) (next : Next State) → IsThere held.objects r → Along P next → Along P (on_named r held next)
-    named_leads r held next there h = subst (Along P) (sym (named_goes r held next there)) h
+    named_leads r held next there h = grind arith
 
     field_leads : (class r : ℕ) (held : Held) (go : Object → Next State) → IsThere held.objects r → ((j : ℕ) (o : Object) → r ≡ suc j → object_at held.objects (suc j) ≡ Some o → is_there o.phase ≡ true → Along P (go o)) → Along P (on_field p.classes class r held go)
     field_leads class zero held go there h = tt
@@ -292,12 +283,10 @@ module _ (p : Program) (R : resolved.Program) where
   taken_leads (suc takes) (v ∷ rest) go le h = taken_leads takes rest go (omega (arith, le)) (λ rest1 e. h rest1 (omega (arith, e)))
 
   place_leads : (found : Option ℕ) (none : Next State) (go : ℕ → Next State) → (found ≡ None → Leads none) → ((old : ℕ) → found ≡ Some old → Leads (go old)) → Leads (on_place found none go)
-  place_leads None none go h g = h refl
-  place_leads (Some old) none go h g = g old refl
+  place_leads found none go h g = grind (arith, g)
 
   left_leads : (temporaries : List ℕ) (held : Held) (go : Held → Next State) → temporaries ≡ [] → NilBut [] held.variables → Leads (go (with_variables held [])) → Leads (on_left temporaries held go)
-  left_leads [] held go none nil h = subst (λ b. Leads (only_if b (go (with_variables held [])))) (sym (nil_seen held.variables nil)) h
-  left_leads (r ∷ others) held go none nil h = cc
+  left_leads temporaries held go none nil h = grind (arith, nil_seen held.variables nil)
 
   -- a place that named this is dropped
   lets_go_leads : (r : ℕ) (held : Held) (stays : Held → Next State) (ends : (o class : ℕ) → Held → Next State) → Drops p.classes r held → (Sane p.classes (lowered r held) → Leads (stays (lowered r held)))
@@ -330,7 +319,7 @@ module _ (p : Program) (R : resolved.Program) where
       subst (λ h1. Good (at others back stack h1)) (sym (resumes_again w (with_variables held []) s))
       (inl (waits.0, waits.1, waits.2, resumes, waits.5), dying, again_sane w held s none nil sane)
   leaves_lead (Ending back w o next left ∷ others) pc v stack rest held waits alive size none nil dying sane running =
-      (inr (record { at_end = refl; is_ending = tt; none = none; empty = refl; alive = alive }, waits), dying, left_sane held none nil sane)
+      (inr (record { at_end = refl; is_ending = tt; none = none; empty = refl; alive = alive }, waits), dying, sane_moved (λ k. omega (arith, holders_append, nil_named held.variables nil k)) sane)
   leaves_lead (Clearing back w o fields ∷ others) pc v stack rest held waits alive size none nil dying sane running = absurd running
 
   -- one that gives an object, which was called
@@ -340,7 +329,7 @@ module _ (p : Program) (R : resolved.Program) where
   hands_lead (Calling back w ∷ others) pc n r stack rest held waits none last dying sane =
       let s = waits.3 in
       subst (λ h1. Good (at others back rest (given_back r h1))) (sym (resumes_again w (with_variables held []) s))
-      (inl (waits.0, waits.1, waits.2, waits.4 r, waits.5), dying, given_sane w held s n r none last sane)
+      (inl (waits.0, waits.1, waits.2, waits.4 r, waits.5), dying, sane_moved (λ k. grind (arith, holders_append, s.is, nils_holders k n)) sane)
   hands_lead _ pc n r stack rest held waits none last dying sane = absurd waits
 
   -- ---- ends that begin
@@ -463,17 +452,17 @@ module _ (p : Program) (R : resolved.Program) where
         variables : t.held.variables ≡ declared x held.variables
         made : IsMade x own1 t.held.temporaries
 
-      -- the references stay
-      stays : (x : Op) (stack1 : List ℤ) → declared x held.variables ≡ held.variables → IsMade x own held.temporaries → Kept x (at frames (pc + 1) stack1 held)
-      stays x stack1 same made = record { own1 = own; owns1 = o; variables = sym same; made = made }
+      -- of these references, with these things
+      stays : (x : Op) (stack1 : List ℤ) (held1 : Held) (own1 : List ℕ) → Owns [] own1 held1 → held1.variables ≡ declared x held.variables → IsMade x own1 held1.temporaries → Kept x (at frames (pc + 1) stack1 held1)
+      stays x stack1 held1 own1 o1 same made = record { own1 = own1; owns1 = o1; variables = same; made = made }
 
       -- there are these
       refers : (x : Op) (stack1 : List ℤ) (names1 own1 : List ℕ) → AllHeld own1 stays_held → names1 ≡ own1 ++ deeper → declared x held.variables ≡ held.variables → IsMade x own1 held.temporaries → Kept x (at frames (pc + 1) stack1 (with_names held names1))
-      refers x stack1 names1 own1 keeps is same made = record { own1 = own1; owns1 = owns names1 is keeps; variables = sym same; made = made }
+      refers x stack1 names1 own1 keeps is same made = stays x stack1 _ own1 (owns names1 is keeps) (sym same) made
 
       -- and a temporary takes this
       takes : (x : Op) (r : ℕ) (names1 own1 : List ℕ) → AllHeld own1 (r ∷ stays_held) → names1 ≡ own1 ++ deeper → IsThere held.objects r → declared x held.variables ≡ held.variables → IsMade x own1 (r ∷ held.temporaries) → Kept x (at frames (pc + 1) stack (taken_by r (with_names held names1)))
-      takes x r names1 own1 keeps is there same made = record { own1 = own1; owns1 = record { is = is; keeps = keeps; alive = o.alive; waits = o.waits; dying = o.dying; sane = gains r there o.sane }; variables = sym same; made = made }
+      takes x r names1 own1 keeps is there same made = stays x stack _ own1 (record { is = is; keeps = keeps; alive = o.alive; waits = o.waits; dying = o.dying; sane = gains r there o.sane }) (sym same) made
 
       -- which is the last reference, above these
       reads : (x : Op) (r : ℕ) (names1 own1 : List ℕ) → AllHeld own1 stays_held → names1 ≡ own1 ++ deeper → IsThere held.objects r → declared x held.variables ≡ held.variables → IsMade x (r ∷ own1) (r ∷ held.temporaries)
@@ -482,38 +471,26 @@ module _ (p : Program) (R : resolved.Program) where
 
       or_fault_leads : (x : Op) (v : Option ℤ) (rest : List ℤ) → declared x held.variables ≡ held.variables → IsMade x own held.temporaries → Along (Kept x) (or_fault v s rest)
       or_fault_leads x None rest same made = tt
-      or_fault_leads x (Some v) rest same made = stays x (v ∷ rest) same made
+      or_fault_leads x (Some v) rest same made = stays x (v ∷ rest) held own o (sym same) made
 
       made_leads : (found : Option ℕ) (rest : List ℤ) → Along (Kept Alloc) (allocates p.classes s rest found)
       made_leads None rest = tt
       made_leads (Some c) rest =
           let r = suc (length held.objects) in
-          record {
-            own1 = r ∷ own;
-            owns1 = record { is = ap (λ l. r ∷ l) o.is; keeps = (last_held r stays_held, all_more r own stays_held o.keeps); alive = o.alive; waits = o.waits; dying = made_dying held.objects _ (ending frames) o.dying; sane = sane_make held c o.sane };
-            variables = refl;
-            made = record { made = r; rest = own; others = held.temporaries; names_are = refl; places_are = refl; kept = o.keeps };
-          }
+          let o1 : Owns [] (r ∷ own) (makes p.classes c held) = record { is = ap (λ l. r ∷ l) o.is; keeps = (last_held r stays_held, all_more r own stays_held o.keeps); alive = o.alive; waits = o.waits; dying = made_dying held.objects _ (ending frames) o.dying; sane = sane_make held c o.sane } in
+          stays Alloc rest _ (r ∷ own) o1 refl (record { made = r; rest = own; others = held.temporaries; names_are = refl; places_are = refl; kept = o.keeps })
 
       -- an operation on numbers that is made of these needs no line
       ruleset keeping = (top_leads, or_fault_leads, made_leads, stays)
 
       operation_keeps : (x : Op) → Reaches x h → Along (Kept x) (operates p.classes x s)
-      operation_keeps (Num n) needs = stays _ _ refl tt
-      operation_keeps (Get depth) needs = found_leads _ stack depth _ (omega (arith, count, needs)) (λ v _. stays _ _ refl tt)
-      operation_keeps (Set depth) needs = top_leads _ stack _ (omega (arith, count, needs)) (λ v rest e. found_leads _ rest depth _ (omega (arith, count, needs, e)) (λ u _. stays _ _ refl tt))
-      operation_keeps (ops.SetGlobal i) needs = top_leads _ stack _ (omega (arith, count, needs)) (λ v rest _. record {
-        own1 = own;
-        owns1 = record { is = o.is; keeps = o.keeps; alive = o.alive; waits = o.waits; dying = o.dying; sane = o.sane };
-        variables = refl;
-        made = tt;
-      })
-      operation_keeps Declare needs = subst (λ l. Along (Kept Declare) (declares l held (keeps s stack))) (sym (nil_from_length held.temporaries (omega (arith, few, needs)))) (record {
-        own1 = own;
-        owns1 = record { is = o.is; keeps = o.keeps; alive = o.alive; waits = o.waits; dying = o.dying; sane = sane_moved (λ k. grind (arith, nat_tests, holders_append)) (gains 0 tt o.sane) };
-        variables = refl;
-        made = tt;
-      })
+      operation_keeps (Num n) needs = stays _ _ held own o refl tt
+      operation_keeps (Get depth) needs = found_leads _ stack depth _ (omega (arith, count, needs)) (λ v _. stays _ _ held own o refl tt)
+      operation_keeps (Set depth) needs = top_leads _ stack _ (omega (arith, count, needs)) (λ v rest e. found_leads _ rest depth _ (omega (arith, count, needs, e)) (λ u _. stays _ _ held own o refl tt))
+      operation_keeps (ops.SetGlobal i) needs = top_leads _ stack _ (omega (arith, count, needs)) (λ v rest _.
+          stays _ rest _ own (record { is = o.is; keeps = o.keeps; alive = o.alive; waits = o.waits; dying = o.dying; sane = o.sane }) refl tt)
+      operation_keeps Declare needs = subst (λ l. Along (Kept Declare) (declares l held (keeps s stack))) (sym (nil_from_length held.temporaries (omega (arith, few, needs))))
+          (stays _ stack _ own (record { is = o.is; keeps = o.keeps; alive = o.alive; waits = o.waits; dying = o.dying; sane = sane_moved (λ k. grind (arith, nat_tests, holders_append)) (gains 0 tt o.sane) }) refl tt)
       operation_keeps Nil needs = refers _ _ _ (0 ∷ own) (tt, o.keeps) (ap (λ l. 0 ∷ l) o.is) refl tt
       operation_keeps ReadSelf needs = reads _ held.self held.names own o.keeps o.is self_there refl tt
       operation_keeps (ReadRef i) needs = found_leads _ held.variables i _ (omega (arith, many, needs)) (λ r found.
@@ -533,7 +510,7 @@ module _ (p : Program) (R : resolved.Program) where
           let fields = slice_set ob.fields index v in
           let set : Sane p.classes (with_field held r ob index v) = subst (λ q. Sane p.classes (with_things held (with_object held.objects q (with_fields ob fields)))) (sym same) (sane_turned held j ob (with_fields ob fields) found (λ k. refl) (λ f. record { there = f.there; held = f.held; sized = f.sized }) o.sane) in
           let dying = subst (λ q. AllDying (with_object held.objects q (with_fields ob fields)) (ending frames)) (sym same) (changed_dying held.objects j ob (with_fields ob fields) (ending frames) found (λ fields far. grind arith) o.dying) in
-          record { own1 = rest; owns1 = record { is = refl; keeps = kept; alive = o.alive; waits = o.waits; dying = dying; sane = set }; variables = refl; made = tt })))
+          stays _ stack _ rest (record { is = refl; keeps = kept; alive = o.alive; waits = o.waits; dying = dying; sane = set }) refl tt)))
       operation_keeps _ needs = search (arith, keeping) depth 8
 
       ready_after : (x : Op) (own1 temporaries1 : List ℕ) → IsMade x own1 temporaries1 → Is_free (pc + 1) ⊎ ((x ≡ Alloc) × Quiet R (all R) (table R) (pc + 1)) → Ready (pc + 1) own1 temporaries1 held.places
@@ -598,17 +575,8 @@ module _ (p : Program) (R : resolved.Program) where
       answers_lead (Some to) wanted self1 taken objects given rest names1 is some begins le keeps living home1 =
           let st = at frames pc stack (with_names held names1) in
           let g = begins to refl in
-          by_test (λ b. Leads (enters st to self1 b)) (has_level st) (λ _. (
-            inl (
-              wanted,
-              length stack - taken,
-              rest ++ deeper,
-              record { high = height taken objects 0 0; stands = g.0; count = omega (arith, le); own = given; is = is; size = some; few = omega arith; many = refl; held = all_map _ _ (held_within held.temporaries held.variables held.places) given keeps; nil = λ k c. shut_end wanted [] k (omega arith); ready = inl g.2; alive = living; running = tt },
-              (mine, below, deeper, splits_as held, home1, o.waits),
-            ),
-            o.dying,
-            o.sane,
-          )) (λ _. tt)
+          let entered : Resumes wanted to self1 (Calling (pc + 1) (waiter_of held) ∷ frames) (length stack) (length stack - taken) names1 (rest ++ deeper) [] [] (stacked held) = record { high = height taken objects 0 0; stands = g.0; count = omega (arith, le); own = given; is = is; size = some; few = omega arith; many = refl; held = all_map _ _ (held_within held.temporaries held.variables held.places) given keeps; nil = λ k c. shut_end wanted [] k (omega arith); ready = inl g.2; alive = living; running = tt } in
+          by_test (λ b. Leads (enters st to self1 b)) (has_level st) (λ _. (inl (wanted, length stack - taken, rest ++ deeper, entered, (mine, below, deeper, splits_as held, home1, o.waits)), o.dying, o.sane)) (λ _. tt)
 
       -- what is wanted is given without a call
       at_once_leads : (wanted : Gives) (object : ℕ) (stack0 stack1 : List ℤ) (names0 rest : List ℕ) → Home wanted (length stack1) rest → IsThere held.objects object → AllHeld rest stays_held → Leads (instructions.gives_at_once (bare p) (at frames pc stack0 (with_names held names0)) wanted object stack1 (rest ++ deeper))
@@ -637,30 +605,11 @@ module _ (p : Program) (R : resolved.Program) where
           answers_lead (Some to) wanted object takes objects given rest (given ++ (rest ++ deeper)) refl some begins le kept_first (λ things there ends. held_there things held.temporaries held.variables held.places object kept there) home1
 
       -- the last so many of its references, which are passed, and those below
-      record Passed (n : ℕ) : Type 0 where
-        first : List ℕ
-        rest : List ℕ
-        is : own ≡ first ++ rest
-        taken : length first ≡ n
-        left : length own ≡ n + length rest
-        names_are : held.names ≡ first ++ (rest ++ deeper)
-        held_first : AllHeld first stays_held
-        held_rest : AllHeld rest stays_held
-
-      passed : (n : ℕ) → n ≤ h.names → Passed n
+      passed : (n : ℕ) → n ≤ h.names → (length (take n own) ≡ n) × (length own ≡ n + length (drop n own)) × (held.names ≡ take n own ++ (drop n own ++ deeper)) × AllHeld (take n own) stays_held × AllHeld (drop n own) stays_held
       passed n le =
           let is : own ≡ take n own ++ drop n own = sym (take-append-drop n own) in
           let kept = held_split (take n own) (drop n own) stays_held (subst (λ l. AllHeld l stays_held) is o.keeps) in
-          record {
-            first = take n own;
-            rest = drop n own;
-            is = is;
-            taken = length-take-le n own (omega (arith, le, size));
-            left = omega (arith, le, size, length-drop n own);
-            names_are = o.is ∙ ap (λ l. l ++ deeper) is ∙ append_assoc (take n own) (drop n own) deeper;
-            held_first = kept.0;
-            held_rest = kept.1;
-          }
+          (length-take-le n own (omega (arith, le, size)), omega (arith, le, size, length-drop n own), o.is ∙ ap (λ l. l ++ deeper) is ∙ append_assoc (take n own) (drop n own) deeper, kept.0, kept.1)
 
       -- a message to the object of the reference below its arguments
       message_sent : (wanted : Gives) (from : Object → ℕ) (r : ℕ) (given rest : List ℕ) (selector takes objects : ℕ) → length own ≡ suc objects + length rest → length given ≡ objects
@@ -685,23 +634,24 @@ module _ (p : Program) (R : resolved.Program) where
       message_leads : (wanted : Gives) (from : Object → ℕ) (selector takes objects : ℕ) → (takes ≤ h.numbers) × (suc objects ≤ h.names) → After_call wanted takes (suc objects) → ((given rest : List ℕ) (r : ℕ) → own ≡ given ++ r ∷ rest → length given ≡ objects → Ready_after wanted rest)
           → Leads (instructions.on_receiver objects held.names (λ r rest. sends p s wanted from r selector takes objects rest))
       message_leads wanted from selector takes objects needs g ready =
+          let first = take objects own in
           let part = passed objects (omega (arith, needs.1)) in
-          let f = first_of part.rest (omega (arith, needs.1, size, part.left)) in
-          let below1 = subst (λ l. AllHeld l stays_held) f.2 part.held_rest in
-          let names_is : held.names ≡ part.first ++ f.0 ∷ (f.1 ++ deeper) = part.names_are ∙ ap (λ l. part.first ++ (l ++ deeper)) f.2 in
+          let f = first_of (drop objects own) (omega (arith, needs.1, size, part.1)) in
+          let below1 = subst (λ l. AllHeld l stays_held) f.2 part.4 in
+          let names_is : held.names ≡ first ++ f.0 ∷ (f.1 ++ deeper) = part.2 ∙ ap (λ l. first ++ (l ++ deeper)) f.2 in
           let size_is = ap length f.2 in
           subst (λ l. Leads (instructions.on_receiver objects l (λ r rest. sends p s wanted from r selector takes objects rest))) (sym names_is)
-          (subst Leads (sym (receiver_goes objects part.first (f.1 ++ deeper) f.0 (λ r rest. sends p s wanted from r selector takes objects rest) part.taken))
-          (message_sent wanted from f.0 part.first f.1 selector takes objects (omega (arith, part.left, size_is)) part.taken part.held_first below1.0 below1.1 needs g
-          (ready part.first f.1 f.0 (part.is ∙ ap (λ l. part.first ++ l) f.2) part.taken)))
+          (subst Leads (sym (receiver_goes objects first (f.1 ++ deeper) f.0 (λ r rest. sends p s wanted from r selector takes objects rest) part.0))
+          (message_sent wanted from f.0 first f.1 selector takes objects (omega (arith, part.1, size_is)) part.0 part.3 below1.0 below1.1 needs g
+          (ready first f.1 f.0 (sym (take-append-drop objects own) ∙ ap (λ l. first ++ l) f.2) part.0)))
 
       class_reported : (wanted : Gives) (from : Option ℕ) (selector takes objects : ℕ) → (suc takes ≤ h.numbers) × (objects ≤ h.names) → Goes_to mine (pc + 1) (after_effect h (giving wanted (suc takes) objects))
           → Leads (answers s 0 (lookup p.classes from signs.Class selector takes objects wanted))
       class_reported wanted from selector takes objects needs g =
           let part = passed objects needs.1 in
-          answers_lead (lookup p.classes from signs.Class selector takes objects wanted) wanted 0 (suc takes) objects part.first part.rest held.names part.names_are part.taken (finds from signs.Class selector takes objects wanted)
-          (omega (arith, count, needs.0)) part.held_first (λ things there ends. tt)
-          (home wanted (suc takes) objects (length stack - suc takes) part.rest needs (g.0, g.1) (λ r. inl g.2) part.held_rest (omega (arith, count, needs.0)) part.left)
+          answers_lead (lookup p.classes from signs.Class selector takes objects wanted) wanted 0 (suc takes) objects (take objects own) (drop objects own) held.names part.2 part.0 (finds from signs.Class selector takes objects wanted)
+          (omega (arith, count, needs.0)) part.3 (λ things there ends. tt)
+          (home wanted (suc takes) objects (length stack - suc takes) (drop objects own) needs (g.0, g.1) (λ r. inl g.2) part.4 (omega (arith, count, needs.0)) part.1)
 
       -- after a message to a made object what `init` gives is there, and elsewhere nothing matters
       init_ready : (wanted : Gives) (selector takes objects : ℕ) → slice_get (all R) pc ≡ Some (SendTo selector takes objects wanted) → Ready pc own held.temporaries held.places
@@ -749,11 +699,12 @@ module _ (p : Program) (R : resolved.Program) where
           (λ _. go_on (lands pc to) _ st.2.2 rest held o (omega (arith, count, st.0, e)) (omega (arith, size)) (omega (arith, few, st.2.1)) (omega (arith, many)))
           (λ _. go_on (pc + 1) _ st.1 rest held o (omega (arith, count, st.0, e)) (omega (arith, size)) (omega (arith, few)) (omega (arith, many))))
       order_leads (Call f wanted) is stands no_end nil ready st =
-          let part = passed (parameters_of R wanted f) st.0.2 in
-          let called = λ (to : ℕ) (e : Some (entry p f) ≡ Some to). subst (λ n. Goes_to wanted n (height (slots_of R wanted f) (parameters_of R wanted f) 0 0)) (some_same (entry p f) to e) (calls wanted f st.0.1) in
-          answers_lead (Some (entry p f)) wanted 0 (slots_of R wanted f) (parameters_of R wanted f) part.first part.rest held.names part.names_are part.taken called
-          (omega (arith, count, st.0.0)) part.held_first (λ things there ends. tt)
-          (home wanted (slots_of R wanted f) (parameters_of R wanted f) (length stack - slots_of R wanted f) part.rest (st.0.0, st.0.2) (st.1.0, st.1.1) (λ r. inl st.1.2) part.held_rest (omega (arith, count, st.0.0)) part.left)
+          let slots = slots_of R wanted f in
+          let n = parameters_of R wanted f in
+          let part = passed n st.0.2 in
+          let called = λ (to : ℕ) (e : Some (entry p f) ≡ Some to). subst (λ q. Goes_to wanted q (height slots n 0 0)) (some_same (entry p f) to e) (calls wanted f st.0.1) in
+          answers_lead (Some (entry p f)) wanted 0 slots n (take n own) (drop n own) held.names part.2 part.0 called (omega (arith, count, st.0.0)) part.3 (λ things there ends. tt)
+          (home wanted slots n (length stack - slots) (drop n own) (st.0.0, st.0.2) (st.1.0, st.1.1) (λ r. inl st.1.2) part.4 (omega (arith, count, st.0.0)) part.1)
       order_leads (Send selector takes objects wanted) is stands no_end nil ready st = found_leads Good stack takes _ (omega (arith, count, st.0.0)) (λ class _. class_reported wanted (class_at class) selector takes objects st.0 st.1)
       order_leads (SendSuper from selector takes objects wanted) is stands no_end nil ready st = class_reported wanted (Some from) selector takes objects st.0 st.1
       order_leads (SendTo selector takes objects wanted) is stands no_end nil ready st = message_leads wanted (λ ob. ob.class) selector takes objects st.0 st.1 (init_ready wanted selector takes objects is ready st.2)
@@ -844,17 +795,17 @@ module _ (p : Program) (R : resolved.Program) where
       still x = apart_dying held.objects k x (ending others) later.0 dying
 
       -- an object is gone, whose fields name nothing
-      ends_lead : (b : Bool) (ob : Object) → object_at held.objects (suc k) ≡ Some ob → ((i : ℕ) → holders (suc i) (fields_of ob) ≡ 0)
+      ends_lead : (b : Bool) (ob : Object) → object_at held.objects (suc k) ≡ Some ob → is_there ob.phase ≡ true → NilBut [] ob.strong
           → nat_eq (held.counts (suc k)) 0 ≡ b
           → Leads (if b then on_left held.temporaries held (λ h. Goes (record { at = back; stack = stack; frames = others; held = resumed w (with_things h (turned_in Gone h.objects (suc k))) }) []) else Faults Resurrected)
-      ends_lead false ob found none_named e = tt
-      ends_lead true ob found none_named e =
+      ends_lead false ob found there but e = tt
+      ends_lead true ob found there but e =
           let x = in_phase Gone ob in
           let objects = slice_set held.objects k x in
           let gone_is : turned_in Gone held.objects (suc k) ≡ objects = rw found refl in
           let h1 = with_things held objects in
           let split = later.1 in
-          let sane1 = again_sane w h1 split none no_variables (sane_turned held k ob x found (λ i. sym (none_named i)) (λ f. record { there = λ some. absurd (omega (arith, eqb-true (held.counts (suc k)) 0 e)); held = λ live. cc; sized = f.sized }) sane) in
+          let sane1 = again_sane w h1 split none no_variables (sane_turned held k ob x found (λ i. sym (ap (holders (suc i)) (there_fields ob there) ∙ nil_named ob.strong but i)) (λ f. record { there = λ some. absurd (omega (arith, eqb-true (held.counts (suc k)) 0 e)); held = λ live. cc; sized = f.sized }) sane) in
           left_leads held.temporaries held _ none no_variables
           (subst (λ l. Good (at others back stack (resumed w (with_things (with_variables held []) l)))) (sym gone_is)
           (subst (λ q. Good (at others back stack q)) (sym (resumes_again w (with_variables h1 []) split)) (later.2, still x, sane1)))
@@ -862,8 +813,7 @@ module _ (p : Program) (R : resolved.Program) where
       -- the deallocs of an object are done: its fields are destroyed, and then it is gone
       clears_lead : (frames : List Frame) (order : List ℕ) (ob : Object) → object_at held.objects (suc k) ≡ Some ob → ob.phase ≡ Dying → NilBut order ob.strong
           → Leads (clears p (at frames p.end_step stack held) back w (suc k) order others)
-      clears_lead frames [] ob found phase but =
-          ends_lead (nat_eq (held.counts (suc k)) 0) ob found (λ i. ap (holders (suc i)) (there_fields ob (ap is_there phase)) ∙ nil_named ob.strong but i) refl
+      clears_lead frames [] ob found phase but = ends_lead (nat_eq (held.counts (suc k)) 0) ob found (ap is_there phase) but refl
       clears_lead frames (index ∷ order) ob found phase but =
           let x = in_phase Emptying ob in
           let turned_is : turned_in Emptying held.objects (suc k) ≡ slice_set held.objects k x = rw found refl in
@@ -909,17 +859,9 @@ module _ (p : Program) (R : resolved.Program) where
         dealloc_leads (Some to) next left goes =
             let g = goes to refl in
             let few = ap length none in
-            let many = ap length empty in (
-              inl (
-                gives.Number,
-                length stack,
-                held.names,
-                record { high = height 0 0 0 0; stands = g.0; count = omega arith; own = []; is = refl; size = refl; few = omega (arith, few); many = many; held = tt; nil = λ i c. shut_end gives.Number held.variables i (omega (arith, many)); ready = inl g.2; alive = alive; running = tt },
-                later,
-              ),
-              (dies, dying),
-              sane,
-            )
+            let many = ap length empty in
+            let entered : Resumes gives.Number to held.self (Ending back w (suc k) next left ∷ others) (length stack) (length stack) held.names held.names held.temporaries held.variables held.places = record { high = height 0 0 0 0; stands = g.0; count = omega arith; own = []; is = refl; size = refl; few = omega (arith, few); many = many; held = tt; nil = λ i c. shut_end gives.Number held.variables i (omega (arith, many)); ready = inl g.2; alive = alive; running = tt } in
+            (inl (gives.Number, length stack, held.names, entered, later), (dies, dying), sane)
 
         class_leads : (i : ℕ) (c : Option Class) (left : ℕ) → slice_get p.classes i ≡ c
             → Leads (ends_class p (at frames p.end_step stack held) back w (suc k) c left others)
@@ -933,9 +875,7 @@ module _ (p : Program) (R : resolved.Program) where
     goes_on_leads (Ending back w (suc k) (Some c) zero ∷ others) is alive waits dying = after_lead back w k others alive dying.1 waits (Ending back w (suc k) (Some c) zero ∷ others) dying.0
     goes_on_leads (Ending back w (suc k) (Some c) (suc left) ∷ others) is alive waits dying = class_leads back w k others alive dying.1 waits dying.0 _ c (slice_get p.classes c) left refl
     goes_on_leads (Clearing back w (suc k) [] ∷ others) is alive waits dying =
-        let ob = dying.0.0 in
-        let named : (i : ℕ) → holders (suc i) (fields_of ob) ≡ 0 = λ i. ap (holders (suc i)) (there_fields ob (ap is_there dying.0.2.0)) ∙ nil_named ob.strong dying.0.2.1 i in
-        ends_lead back w k others alive dying.1 waits (nat_eq (held.counts (suc k)) 0) ob dying.0.1 named refl
+        ends_lead back w k others alive dying.1 waits (nat_eq (held.counts (suc k)) 0) dying.0.0 dying.0.1 (ap is_there dying.0.2.0) dying.0.2.1 refl
     goes_on_leads (Clearing back w (suc k) (index ∷ fields) ∷ others) is alive waits dying = next_lead back w k others alive dying.1 waits index fields dying.0
     goes_on_leads _ is alive waits dying = absurd is
 
