@@ -90,10 +90,7 @@ module _ {classes : List Class} where
       → Keeps classes places1 counts (slice_set objects j x)
   changes {counts = counts} {objects = objects} j o x found same fits c = record {
     counted = λ k. c.counted k ∙ sym (same k);
-    right = λ k. ⊎_elim
-        (λ e. subst (λ i. Right classes (counts (suc i)) (slice_get (slice_set objects j x) i)) (sym e) (subst (Right classes (counts (suc j))) (sym (set_here objects j x o found)) (fits (fits_at j o found c))))
-        (λ ne. subst (Right classes (counts (suc k))) (sym (set_other objects j k x ne)) (c.right k))
-        (cases_eq k j);
+    right = λ k. grind (arith, c.right k, c.right j, fits, set_here objects j x o, set_other objects j k x);
   }
 
   -- a field names another object, and what it named is dropped

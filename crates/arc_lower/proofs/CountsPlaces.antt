@@ -134,14 +134,3 @@ pub get_other : {A : Type 0} (all : List A) (k : ℕ) (x : A) → (k ≡ length 
 get_other [] k x ne = grind arith
 get_other (b ∷ all) zero x ne = refl
 get_other (b ∷ all) (suc k) x ne = get_other all k x (λ h. ne (ap suc h))
-
--- ---- steps
-
--- an object that isn't gone is used
-pub object_goes : {S : Type 0} (found : Option Object) (o : Object) (go : Object → Next S) → found ≡ Some o → is_there o.phase ≡ true → on_object found go ≡ go o
-object_goes found o go e there = ap (λ f. on_object f go) e ∙ ap (λ b. only_if b (go o)) there
-
--- what is there can be used, and can be held
-pub named_goes : {S : Type 0} (r : ℕ) (h : Held) (next : Next S) → IsThere h.objects r → on_named r h next ≡ next
-named_goes zero h next there = refl
-named_goes (suc k) h next there = object_goes (object_at h.objects (suc k)) there.0 (λ _. next) there.1 there.2

@@ -17,7 +17,7 @@ use Rattle.arc_spec.specs.Meaning.{chosen}
 use Rattle.arc_spec.specs.Number.{counted, is_zero}
 use Rattle.arc_spec.specs.Objects.{Object, Dying, Emptying, Gone, nils, object_at, with_object, with_fields, with_strong_fields, in_phase, is_live, is_emptying, fields_of}
 use Rattle.arc_spec.specs.Resolved as resolved
-use Rattle.arc_spec.specs.Holding.{Held, all_places, Frame, Calling, Ending, Clearing, Waiter, waiter_of, Counted, holders, is_there, stacked, with_strong_globals, with_strong_field, on_place, turned_in, with_temporaries, with_variables, with_names, with_things, lowered, raised, named, taken_by, on_named, on_field, declares, lets_go, makes, resumed, all_nil, on_left, on_last, on_result, given_back, with_field}
+use Rattle.arc_spec.specs.Holding.{Held, all_places, Frame, Calling, Ending, Clearing, Waiter, waiter_of, Counted, holders, is_there, stacked, with_strong_globals, with_strong_field, on_place, turned_in, with_temporaries, with_variables, with_names, with_things, lowered, raised, named, taken_by, on_named, on_field, declares, lets_go, on_object, makes, resumed, all_nil, on_left, on_last, on_result, given_back, with_field}
 use Rattle.arc_spec.specs.Stepping.{Next, Goes, Faults, Along, Safe, Sound, on_top, on_found, only_if}
 use Rattle.arc_ir.specs.Acting.{Program, State, lands, start, step, entry, keeps, goes, or_fault, has_level, enters, answers, taken, sends, allocates, operates, begins_end, releases, runs_dealloc, clears, after_deallocs, clears_next, ends_class, end_goes_on, leaves}
 use Rattle.arc_code.specs.declared.effect.Height.{Height}
@@ -33,7 +33,7 @@ use Rattle.arc_lower.specs.Order.{Order, order, orders}
 use Rattle.arc_lower.specs.Lowered.{slots_of, parameters_of, entries_of, end_step_of, lowered as lowered_orders, classes_linked}
 use Rattle.arc_lower.specs.Heights.{height, after_effect, next_height}
 use Rattle.arc_lower.proofs.Cases.{by_test}
-use Rattle.arc_lower.proofs.CountsPlaces.{seam, variable_moves, global_moves, second_moves, IsThere, place_there, name_there, object_goes, set_here, set_same, set_other, holders_head, nils_holders, holders_append, there_fields}
+use Rattle.arc_lower.proofs.CountsPlaces.{seam, variable_moves, global_moves, second_moves, IsThere, place_there, name_there, set_here, set_same, set_other, holders_head, nils_holders, holders_append, there_fields}
 use Rattle.arc_lower.proofs.CountsKept.{Keeps, Sane, Drops, gains, sane_moved, fits_at, sane_counted, named_there, fields_there, sane_store_field, drops_there, sane_last, lowers, sane_make, sane_turned}
 use Rattle.arc_lower.proofs.Doing.{at, resumed_as, bare, does, executes_at}
 use Rattle.arc_lower.proofs.Standing.{ending, AllDying, IsDying, NilBut, Alive, ends_there, IsHeld, last_held, held_there, held_within, made_dying, changed_dying, IsApart, live_apart, apart_dying, one_nil, no_field, nil_named, all_in_order}
@@ -262,11 +262,12 @@ module _ (p : Program) (R : resolved.Program) where
     named_leads : (r : ℕ) (held : Held) (next : Next State) → IsThere held.objects r → Along P next → Along P (on_named r held next)
     named_leads r held next there h = grind arith
 
+    object_leads : (found : Option Object) (o : Object) (go : Object → Next State) → found ≡ Some o → is_there o.phase ≡ true → Along P (go o) → Along P (on_object found go)
+    object_leads found o go is there h = grind arith
+
     field_leads : (class r : ℕ) (held : Held) (go : Object → Next State) → IsThere held.objects r → ((j : ℕ) (o : Object) → r ≡ suc j → object_at held.objects (suc j) ≡ Some o → is_there o.phase ≡ true → Along P (go o)) → Along P (on_field p.classes class r held go)
     field_leads class zero held go there h = tt
-    field_leads class (suc j) held go there h =
-        let o = there.0 in
-        subst (Along P) (sym (object_goes (object_at held.objects (suc j)) o (λ x. if descends p.classes (Some x.class) class then go x else Faults FieldClass) there.1 there.2))
+    field_leads class (suc j) held go there h = let o = there.0 in object_leads (object_at held.objects (suc j)) o _ there.1 there.2
         (by_test (λ b. Along P (if b then go o else Faults FieldClass)) (descends p.classes (Some o.class) class) (λ e. h j o refl there.1 there.2) (λ e. tt))
 
     -- the last of these references, which are the first of all
@@ -295,9 +296,8 @@ module _ (p : Program) (R : resolved.Program) where
   lets_go_leads (suc k) held stays ends drops h e =
       let there = drops_there (suc k) held drops in
       let ob = there.0 in
-      let go : Object → Bool → Next State = λ x b. if b then ends (suc k) x.class (with_things (lowered (suc k) held) (with_object held.objects (suc k) (in_phase Dying x))) else stays (lowered (suc k) held) in
-      subst Leads (sym (object_goes (object_at held.objects (suc k)) ob (λ x. go x (is_live (Some x) && nat_eq (held.counts (suc k)) 1)) there.1 there.2))
-      (by_test (λ b. Leads (go ob b)) (is_live (Some ob) && nat_eq (held.counts (suc k)) 1)
+      object_leads Good (object_at held.objects (suc k)) ob _ there.1 there.2
+      (by_test (λ b. Leads (if b then ends (suc k) ob.class (with_things (lowered (suc k) held) (with_object held.objects (suc k) (in_phase Dying ob))) else stays (lowered (suc k) held))) (is_live (Some ob) && nat_eq (held.counts (suc k)) 1)
       (λ t. e k ob refl there.1 (and_parts (is_live (Some ob)) (nat_eq (held.counts (suc k)) 1) t).0)
       (λ t. h (lowers (suc k) held (ap (λ o. is_live o && nat_eq (held.counts (suc k)) 1) there.1 ∙ t) drops)))
 
@@ -585,22 +585,17 @@ module _ (p : Program) (R : resolved.Program) where
           (run_on {own = object ∷ rest} (pc + 1) stack1 (taken_by object (with_names held (object ∷ (rest ++ deeper))))
           (record { is = refl; keeps = given_held gives.Object object rest held.temporaries held.places kept; alive = o.alive; waits = o.waits; dying = o.dying; sane = gains object there o.sane }) (home1 object))
 
-      -- the root's own `init` takes no argument
-      root_leads : (wanted : Gives) (selector takes objects object : ℕ) (given rest : List ℕ) (b : Bool) → is_root_init selector takes objects wanted ≡ b → length given ≡ objects → Home wanted (length stack - takes) rest → IsThere held.objects object → AllHeld rest stays_held
-          → Leads (if b then instructions.gives_at_once (bare p) (at frames pc stack (with_names held (given ++ (rest ++ deeper)))) wanted object stack (given ++ (rest ++ deeper)) else Faults Unrecognized)
-      root_leads wanted selector takes objects object given rest false e some home1 there kept = tt
-      root_leads wanted selector takes objects object given rest true e some home1 there kept =
+      -- a message to an object, by what it finds; the root's own `init` takes no argument
+      object_answers_lead : (found : Option ℕ) (wanted : Gives) (selector takes objects object : ℕ) (given rest : List ℕ) → ((to : ℕ) → found ≡ Some to → Goes_to wanted to (height takes objects 0 0)) → takes ≤ length stack → length given ≡ objects → AllHeld given stays_held → IsHeld object stays_held → AllHeld rest stays_held → Home wanted (length stack - takes) rest
+          → Leads (instructions.answers_object (bare p) (at frames pc stack (with_names held (given ++ (rest ++ deeper)))) wanted object selector takes objects found)
+      object_answers_lead None wanted selector takes objects object given rest begins le some kept_first kept kept_rest home1 =
+          by_test (λ b. Leads (if b then instructions.gives_at_once (bare p) (at frames pc stack (with_names held (given ++ (rest ++ deeper)))) wanted object stack (given ++ (rest ++ deeper)) else Faults Unrecognized)) (is_root_init selector takes objects wanted)
+          (λ e.
           let none = root_takes selector takes objects wanted e in
           let same : given ≡ [] = nil_from_length given (omega (arith, some, none.1)) in
           let all_left : length stack - takes ≡ length stack = omega (arith, none.0) in
           subst (λ l. Leads (instructions.gives_at_once (bare p) (at frames pc stack (with_names held (given ++ (rest ++ deeper)))) wanted object stack (l ++ (rest ++ deeper)))) (sym same)
-          (at_once_leads wanted object stack stack (given ++ (rest ++ deeper)) rest (subst (λ n. Home wanted n rest) all_left home1) there kept)
-
-      -- a message to an object, by what it finds
-      object_answers_lead : (found : Option ℕ) (wanted : Gives) (selector takes objects object : ℕ) (given rest : List ℕ) → ((to : ℕ) → found ≡ Some to → Goes_to wanted to (height takes objects 0 0)) → takes ≤ length stack → length given ≡ objects → AllHeld given stays_held → IsHeld object stays_held → AllHeld rest stays_held → Home wanted (length stack - takes) rest
-          → Leads (instructions.answers_object (bare p) (at frames pc stack (with_names held (given ++ (rest ++ deeper)))) wanted object selector takes objects found)
-      object_answers_lead None wanted selector takes objects object given rest begins le some kept_first kept kept_rest home1 =
-          root_leads wanted selector takes objects object given rest (is_root_init selector takes objects wanted) refl some home1 (is_held object kept) kept_rest
+          (at_once_leads wanted object stack stack (given ++ (rest ++ deeper)) rest (subst (λ n. Home wanted n rest) all_left home1) (is_held object kept) kept_rest)) (λ e. tt)
       object_answers_lead (Some to) wanted selector takes objects object given rest begins le some kept_first kept kept_rest home1 =
           answers_lead (Some to) wanted object takes objects given rest (given ++ (rest ++ deeper)) refl some begins le kept_first (λ things there ends. held_there things held.temporaries held.variables held.places object kept there) home1
 
@@ -623,10 +618,8 @@ module _ (p : Program) (R : resolved.Program) where
           (at_once_leads wanted 0 stack numbers held.names rest (home wanted takes (suc objects) (length numbers) rest needs g ready kept_rest m e) tt kept_rest))
       message_sent wanted from (suc j) given rest selector takes objects e some kept_first kept kept_rest needs g ready =
           let there = is_held (suc j) kept in
-          let found : Object → Option ℕ = λ ob. lookup p.classes (Some (from ob)) signs.Instance selector takes objects wanted in
-          let st = at frames pc stack (with_names held (given ++ (rest ++ deeper))) in
-          subst Leads (sym (object_goes (object_at held.objects (suc j)) there.0 (λ ob. instructions.answers_object (bare p) st wanted (suc j) selector takes objects (found ob)) there.1 there.2))
-          (object_answers_lead (found there.0) wanted selector takes objects (suc j) given rest (finds (Some (from there.0)) signs.Instance selector takes objects wanted)
+          object_leads Good (object_at held.objects (suc j)) there.0 _ there.1 there.2
+          (object_answers_lead (lookup p.classes (Some (from there.0)) signs.Instance selector takes objects wanted) wanted selector takes objects (suc j) given rest (finds (Some (from there.0)) signs.Instance selector takes objects wanted)
           (omega (arith, count, needs.0)) some kept_first kept kept_rest
           (home wanted takes (suc objects) (length stack - takes) rest needs g ready kept_rest (omega (arith, count, needs.0)) e))
 
@@ -821,9 +814,7 @@ module _ (p : Program) (R : resolved.Program) where
           (inr (ends_again _ tt alive, later), ((x, set_here held.objects k x ob found, (refl, but)), still x), sane_turned held k ob x found (λ i. grind arith) (λ f. record { there = λ some. refl; held = λ live. cc; sized = f.sized }) sane)
 
       after_lead : (frames : List Frame) → IsDying held.objects (suc k) None → Leads (after_deallocs p (at frames p.end_step stack held) back w (suc k) others)
-      after_lead frames dies =
-          let ob = dies.0 in
-          subst Leads (sym (object_goes (slice_get held.objects k) ob (λ x. clears p (at frames p.end_step stack held) back w (suc k) (field_order p.classes x.class) others) dies.1 (ap is_there dies.2)))
+      after_lead frames dies = let ob = dies.0 in object_leads Good (slice_get held.objects k) ob _ dies.1 (ap is_there dies.2)
           (clears_lead frames (field_order p.classes ob.class) ob dies.1 dies.2 (all_in_order p.classes ob ((fits_at k ob dies.1 sane).sized)))
 
       -- the next field lets go of what it names
@@ -832,12 +823,8 @@ module _ (p : Program) (R : resolved.Program) where
       next_lead index fields dies =
           let ob = dies.0 in
           let frames : List Frame = Clearing back w (suc k) fields ∷ others in
-          let s = at frames p.end_step stack held in
           let there_now = ap is_there dies.2.0 in
-          let stays : Held → Next State = λ h. Goes (at frames p.end_step stack h) [] in
-          let ends : ℕ → ℕ → Held → Next State = λ other class h. begins_end p s p.end_step other class h (has_level s) in
-          let go : Object → Next State = λ x. on_place (slice_get x.strong index) (stays held) (λ old. lets_go old (raised 0 (with_strong_field held (suc k) x index 0)) stays ends) in
-          subst Leads (sym (object_goes (slice_get held.objects k) ob go dies.1 there_now))
+          object_leads Good (slice_get held.objects k) ob _ dies.1 there_now
           (place_leads (slice_get ob.strong index) _ _
           (λ absent. (inr (ends_again _ tt alive, later), ((ob, dies.1, (dies.2.0, no_field index fields ob.strong absent dies.2.1)), dying), sane))
           (λ old named.
@@ -845,10 +832,10 @@ module _ (p : Program) (R : resolved.Program) where
           let held1 = raised 0 (with_strong_field held (suc k) ob index 0) in
           let drops = sane_store_field held k ob index old 0 dies.1 there_now named tt sane in
           let dying1 : AllDying held1.objects (ending frames) = ((x, set_here held.objects k x ob dies.1, (dies.2.0, one_nil index fields ob.strong dies.2.1)), still x) in
-          lets_go_leads old held1 stays ends drops
+          lets_go_leads old held1 _ _ drops
           (λ sane1. (inr (ends_again _ tt alive, later), dying1, sane1))
           (λ j other e found live.
-          begins_lead frames (has_level s) j p.end_step p.end_step other stack held held1 found live dying1 (subst (λ q. Drops p.classes q held1) e drops)
+          begins_lead frames (has_level (at frames p.end_step stack held)) j p.end_step p.end_step other stack held held1 found live dying1 (subst (λ q. Drops p.classes q held1) e drops)
           (λ apart. (apart, splits_as held1, inr (ends_again _ tt alive, later))))))
 
       -- its next dealloc, of which what ends is as far as before
