@@ -2,7 +2,7 @@
 use Rattle.std.proofs.Common.{◌≡◌, ℕ, zero, suc, ◌<◌, true, false, ◌&&◌, nat_eq, if◌then◌else◌, List, [], ◌∷◌, length, Option, Some, None, slice_get, slice_set, refl, sym, ap, ◌∙◌, subst, ⊎_elim, arith}
 use Rattle.std.proofs.lemmas.Bool.{cases_eq}
 use Rattle.std.proofs.lemmas.Bool.Decides.{nat_tests}
-use Rattle.std.proofs.lemmas.List.{length-set}
+use Rattle.std.proofs.lemmas.List.{length-set, length-replicate}
 use Rattle.arc_spec.specs.Classes.{Class, field_counts, strong_count}
 use Rattle.arc_spec.specs.Objects.{Object, Live, Dying, Gone, nils, object_at, with_object, in_phase, with_strong_fields, is_live, is_there, new_object, fields_of}
 use Rattle.arc_spec.specs.Holding.{Held, Counted, holders, all_places, with_things, raised, lowered, makes}
@@ -34,10 +34,6 @@ Sane classes h = Keeps classes (all_places h) h.counts h.objects
 -- the same but for a place that named this, and is dropped
 abbrev pub Drops : List Class → ℕ → Held → Type 0
 Drops classes r h = Keeps classes (r ∷ all_places h) h.counts h.objects
-
-nils_length : (n : ℕ) → length (nils n) ≡ n
-nils_length zero = refl
-nils_length (suc n) = ap suc (nils_length n)
 
 right_there : (classes : List Class) (n : ℕ) (found : Option Object) → Right classes n found → 0 < n → (o : Object) × (found ≡ Some o) × (is_there o.phase ≡ true)
 right_there classes n None right some = absurd (omega (arith, right, some))
@@ -113,7 +109,7 @@ module _ {classes : List Class} where
       record {
         counted = λ k. grind (arith, nat_tests, holders_append, fields_made (suc k) h.objects x, nils_holders k n, c.counted k);
         right = λ k. ⊎_elim
-            (λ same. grind (arith, nat_tests, nils_length n, seam h.objects [] x))
+            (λ same. grind (arith, nat_tests, length-replicate {A = ℕ} n 0, seam h.objects [] x))
             (λ ne. grind (arith, nat_tests, get_other h.objects k x ne, c.right k))
             (cases_eq k (length h.objects));
       }

@@ -36,7 +36,7 @@ use Rattle.arc_lower.proofs.Cases.{by_test}
 use Rattle.arc_lower.proofs.CountsPlaces.{seam, variable_moves, global_moves, second_moves, IsThere, place_there, name_there, set_here, set_same, set_other, holders_head, nils_holders, holders_append, there_fields}
 use Rattle.arc_lower.proofs.CountsKept.{Keeps, Sane, Drops, gains, sane_moved, fits_at, sane_counted, named_there, fields_there, sane_store_field, drops_there, sane_last, lowers, sane_make, sane_turned}
 use Rattle.arc_lower.proofs.Doing.{at, resumed_as, bare, does, executes_at}
-use Rattle.arc_lower.proofs.Standing.{ending, AllDying, IsDying, NilBut, Alive, ends_there, IsHeld, last_held, held_there, held_within, made_dying, changed_dying, IsApart, live_apart, apart_dying, one_nil, no_field, nil_named, all_in_order}
+use Rattle.arc_lower.proofs.Standing.{ending, AllDying, IsDying, NilBut, Alive, ends_there, IsHeld, AllHeld, held_there, made_dying, changed_dying, IsApart, live_apart, apart_dying, one_nil, no_field, nil_named, all_in_order}
 use Rattle.arc_lower.proofs.Typing.{Reaches, enough, IsCalled}
 use Rattle.arc_lower.proofs.Stacking.{after_one}
 use Rattle.arc_lower.proofs.Stepping.{some_same, Stays, Ends, role, role_of, Clears, inside_clears, Stands, Quiet, Free, calm_free, Onward, Steps}
@@ -56,40 +56,12 @@ shut_end mine variables n le i k above lt named = omega (arith, le, above, lt)
 shut_set : (mine : Gives) (n : ℕ) (variables : List ℕ) → Shut mine (suc n) variables → Shut mine n (slice_set variables n 0)
 shut_set mine n variables h i k above lt named = grind (arith, length-set variables n 0, set_same variables n 0 (suc k), set_other variables n i 0, h i k)
 
--- all but the last one are nil, which names an object
-last_there : (variables : List ℕ) → 1 ≤ length variables → Shut gives.Object 0 variables → (n : ℕ) × (r : ℕ) × (variables ≡ nils n ++ r ∷ [])
-last_there [] some h = absurd (omega (arith, some))
-last_there (r ∷ []) some h = (0, r, refl)
-last_there (suc k ∷ q ∷ rest) some h = absurd (h 0 k (omega arith) (omega arith) refl)
-last_there (zero ∷ q ∷ rest) some h =
-    let deep = last_there (q ∷ rest) (omega arith) (λ i k above lt. h (suc i) k (omega arith) (omega (arith, lt))) in
-    (suc deep.0, deep.1, ap (λ l. 0 ∷ l) deep.2)
-
-last_goes : {S : Type 0} (n r : ℕ) (go : ℕ → Next S) → on_last (nils n ++ r ∷ []) go ≡ go r
-last_goes zero r go = refl
-last_goes (suc zero) r go = refl
-last_goes (suc (suc n)) r go = last_goes (suc n) r go
-
 nil_seen : (variables : List ℕ) → NilBut [] variables → all_nil variables ≡ true
 nil_seen [] nil = refl
 nil_seen (zero ∷ rest) nil = nil_seen rest (λ i. nil (suc i))
 nil_seen (suc k ∷ rest) nil = absurd (nil 0 k refl)
 
 -- ---- references, each of which a temporary holds, or which are nil
-
-abbrev AllHeld : List ℕ → List ℕ → Type 0
-AllHeld [] temporaries = Unit {0}
-AllHeld (r ∷ rest) temporaries = IsHeld r temporaries × AllHeld rest temporaries
-
-one_more : (q r : ℕ) (temporaries : List ℕ) → IsHeld r temporaries → IsHeld r (q ∷ temporaries)
-one_more q r temporaries h = grind arith
-
-all_map : (a b : List ℕ) → ((r : ℕ) → IsHeld r a → IsHeld r b) → (own : List ℕ) → AllHeld own a → AllHeld own b
-all_map a b f [] h = tt
-all_map a b f (r ∷ own) h = (f r h.0, all_map a b f own h.1)
-
-all_more : (q : ℕ) (own temporaries : List ℕ) → AllHeld own temporaries → AllHeld own (q ∷ temporaries)
-all_more q own temporaries = all_map _ _ (λ r. one_more q r temporaries) own
 
 -- so many numbers, or these references, once what is wanted of a call is there
 abbrev pub with_number : Gives → ℕ → ℕ
@@ -101,12 +73,7 @@ with_object_of gives.Number r own = own
 with_object_of gives.Object r own = r ∷ own
 
 given_held : (wanted : Gives) (r : ℕ) (own temporaries waiting : List ℕ) → AllHeld own (temporaries ++ waiting) → AllHeld (with_object_of wanted r own) (with_object_of wanted r temporaries ++ waiting)
-given_held gives.Number r own temporaries waiting h = h
-given_held gives.Object r own temporaries waiting h = (last_held r (temporaries ++ waiting), all_more r own (temporaries ++ waiting) h)
-
-held_split : (first rest temporaries : List ℕ) → AllHeld (first ++ rest) temporaries → AllHeld first temporaries × AllHeld rest temporaries
-held_split [] rest temporaries h = (tt, h)
-held_split (r ∷ first) rest temporaries h = let deep = held_split first rest temporaries h.1 in ((h.0, deep.0), deep.1)
+given_held wanted r own temporaries waiting h k some = grind (arith, h k)
 
 -- an object was made, which the last reference names and the last temporary holds; the others hold the other references
 record Made (own temporaries waiting : List ℕ) : Type 0 where
@@ -126,9 +93,6 @@ record Initialized (own temporaries waiting : List ℕ) : Type 0 where
   names_are : own ≡ given ∷ rest
   places_are : temporaries ≡ given ∷ made ∷ others
   kept : AllHeld rest (others ++ waiting)
-
-root_takes : (selector takes objects : ℕ) (wanted : Gives) → is_root_init selector takes objects wanted ≡ true → (takes ≡ 0) × (objects ≡ 0)
-root_takes selector takes objects wanted e = grind (arith, nat_tests)
 
 first_of : (own : List ℕ) → 1 ≤ length own → (r : ℕ) × (rest : List ℕ) × (own ≡ r ∷ rest)
 first_of [] some = absurd (omega (arith, some))
@@ -273,7 +237,7 @@ module _ (p : Program) (R : resolved.Program) where
     -- the last of these references, which are the first of all
     reference_leads : (own deeper places names : List ℕ) (go : ℕ → List ℕ → Next State) → names ≡ own ++ deeper → 1 ≤ length own → AllHeld own places → ((r : ℕ) (rest : List ℕ) → length own ≡ suc (length rest) → IsHeld r places → AllHeld rest places → Along P (go r (rest ++ deeper))) → Along P (on_top names go)
     reference_leads [] deeper places names go is some keeps h = absurd (omega (arith, some))
-    reference_leads (r ∷ own) deeper places names go is some keeps h = subst (λ l. Along P (on_top l go)) (sym is) (h r own refl keeps.0 keeps.1)
+    reference_leads (r ∷ own) deeper places names go is some keeps h = subst (λ l. Along P (on_top l go)) (sym is) (h r own refl (λ k some. keeps k (grind arith)) (λ k some. keeps k (grind arith)))
 
   receiver_goes : (objects : ℕ) (given rest : List ℕ) (r : ℕ) (go : ℕ → List ℕ → Next State) → length given ≡ objects → instructions.on_receiver objects (given ++ r ∷ rest) go ≡ go r (given ++ rest)
   receiver_goes objects given rest r go some = rw (← some) (simp (seam, take-append_seam, after_one))
@@ -301,11 +265,12 @@ module _ (p : Program) (R : resolved.Program) where
       (λ t. e k ob refl there.1 (and_parts (is_live (Some ob)) (nat_eq (held.counts (suc k)) 1) t).0)
       (λ t. h (lowers (suc k) held (ap (λ o. is_live o && nat_eq (held.counts (suc k)) 1) there.1 ∙ t) drops)))
 
-  last_leads : (n r : ℕ) (temporaries : List ℕ) (held : Held) (go : ℕ → Held → Next State) → temporaries ≡ [] → held.variables ≡ nils n ++ r ∷ []
-      → Leads (go r (with_variables held [])) → Leads (on_result temporaries held go)
-  last_leads n r [] held go none last h =
-      subst Leads (sym (ap (λ l. on_last l (λ q. go q (with_variables held []))) last ∙ last_goes n r (λ q. go q (with_variables held [])))) h
-  last_leads n r (q ∷ others) held go none last h = cc
+  -- all variables but the last one are nil
+  last_leads : (variables : List ℕ) (go : ℕ → Next State) → 1 ≤ length variables → Shut gives.Object 0 variables → ((r : ℕ) → ((k : ℕ) → holders (suc k) variables ≡ holders (suc k) (r ∷ [])) → Leads (go r)) → Leads (on_last variables go)
+  last_leads [] go some shut h = absurd (omega arith)
+  last_leads (r ∷ []) go some shut h = h r (λ k. refl)
+  last_leads (suc k ∷ q ∷ rest) go some shut h = absurd (shut 0 k (omega arith) (omega arith) refl)
+  last_leads (zero ∷ q ∷ rest) go some shut h = last_leads (q ∷ rest) go (omega arith) (λ i k above lt. shut (suc i) k (omega arith) (omega (arith, lt))) (λ r is. h r (λ k. grind (arith, nat_tests, is k)))
 
   -- a function is left that gives a number
   leaves_lead : (frames : List Frame) (pc : ℕ) (v : ℤ) (stack rest : List ℤ) (held : Held) → Waits gives.Number frames (length rest) held.names held.places
@@ -323,14 +288,14 @@ module _ (p : Program) (R : resolved.Program) where
   leaves_lead (Clearing back w o fields ∷ others) pc v stack rest held waits alive size none nil dying sane running = absurd running
 
   -- one that gives an object, which was called
-  hands_lead : (frames : List Frame) (pc n r : ℕ) (stack rest : List ℤ) (held : Held) → Waits gives.Object frames (length rest) held.names held.places
-      → held.temporaries ≡ [] → held.variables ≡ nils n ++ r ∷ [] → AllDying held.objects (ending frames) → Sane p.classes held
+  hands_lead : (frames : List Frame) (pc r : ℕ) (stack rest : List ℤ) (held : Held) → Waits gives.Object frames (length rest) held.names held.places
+      → held.temporaries ≡ [] → ((k : ℕ) → holders (suc k) held.variables ≡ holders (suc k) (r ∷ [])) → AllDying held.objects (ending frames) → Sane p.classes held
       → Leads (instructions.hands_over (bare p) (at frames pc stack held) frames r rest (with_variables held []))
-  hands_lead (Calling back w ∷ others) pc n r stack rest held waits none last dying sane =
+  hands_lead (Calling back w ∷ others) pc r stack rest held waits none last dying sane =
       let s = waits.3 in
       subst (λ h1. Good (at others back rest (given_back r h1))) (sym (resumes_again w (with_variables held []) s))
-      (inl (waits.0, waits.1, waits.2, waits.4 r, waits.5), dying, sane_moved (λ k. grind (arith, holders_append, s.is, nils_holders k n)) sane)
-  hands_lead _ pc n r stack rest held waits none last dying sane = absurd waits
+      (inl (waits.0, waits.1, waits.2, waits.4 r, waits.5), dying, sane_moved (λ k. grind (arith, holders_append, s.is, last k)) sane)
+  hands_lead _ pc r stack rest held waits none last dying sane = absurd waits
 
   -- ---- ends that begin
 
@@ -404,7 +369,7 @@ module _ (p : Program) (R : resolved.Program) where
         → Leads (instructions.drops_all (bare p) (at frames pc stack before) temporaries held)
     drops_lead [] pc h stack before held is stands free g nil count size few many o = go_on (pc + 1) (record h { temporaries = 0 }) g stack held o count size (let none = ap length is in omega (arith, none)) many
     drops_lead (r ∷ others) pc h stack before held is stands free g nil count size few many o =
-        let o1 : Owns (r ∷ []) [] (with_temporaries held others) = record { is = o.is; keeps = tt; alive = o.alive; waits = o.waits; dying = o.dying; sane = sane_moved (λ k. grind (arith, holders_append)) o.sane } in
+        let o1 : Owns (r ∷ []) [] (with_temporaries held others) = record { is = o.is; keeps = λ k some. omega arith; alive = o.alive; waits = o.waits; dying = o.dying; sane = sane_moved (λ k. grind (arith, holders_append)) o.sane } in
         drops_leads r pc pc stack before (with_temporaries held others) _ o1 (back pc h stands (length stack) o1 nil (inl free) count size (omega (arith, few)) many)
         (drops_lead others pc h stack before (lowered r (with_temporaries held others)) refl stands free g nil count size (omega (arith, few)) many)
 
@@ -467,7 +432,7 @@ module _ (p : Program) (R : resolved.Program) where
       -- which is the last reference, above these
       reads : (x : Op) (r : ℕ) (names1 own1 : List ℕ) → AllHeld own1 stays_held → names1 ≡ own1 ++ deeper → IsThere held.objects r → declared x held.variables ≡ held.variables → IsMade x (r ∷ own1) (r ∷ held.temporaries)
           → Along (Kept x) (on_named r (with_names held (r ∷ names1)) (Goes (at frames (pc + 1) stack (taken_by r (with_names held (r ∷ names1)))) []))
-      reads x r names1 own1 keeps is there same made = named_leads (Kept x) r (with_names held (r ∷ names1)) _ there (takes x r (r ∷ names1) (r ∷ own1) (last_held r stays_held, all_more r own1 stays_held keeps) (ap (λ l. r ∷ l) is) there same made)
+      reads x r names1 own1 keeps is there same made = named_leads (Kept x) r (with_names held (r ∷ names1)) _ there (takes x r (r ∷ names1) (r ∷ own1) (λ k some. grind (arith, keeps k)) (ap (λ l. r ∷ l) is) there same made)
 
       or_fault_leads : (x : Op) (v : Option ℤ) (rest : List ℤ) → declared x held.variables ≡ held.variables → IsMade x own held.temporaries → Along (Kept x) (or_fault v s rest)
       or_fault_leads x None rest same made = tt
@@ -477,7 +442,7 @@ module _ (p : Program) (R : resolved.Program) where
       made_leads None rest = tt
       made_leads (Some c) rest =
           let r = suc (length held.objects) in
-          let o1 : Owns [] (r ∷ own) (makes p.classes c held) = record { is = ap (λ l. r ∷ l) o.is; keeps = (last_held r stays_held, all_more r own stays_held o.keeps); alive = o.alive; waits = o.waits; dying = made_dying held.objects _ (ending frames) o.dying; sane = sane_make held c o.sane } in
+          let o1 : Owns [] (r ∷ own) (makes p.classes c held) = record { is = ap (λ l. r ∷ l) o.is; keeps = λ k some. grind (arith, o.keeps k); alive = o.alive; waits = o.waits; dying = made_dying held.objects _ (ending frames) o.dying; sane = sane_make held c o.sane } in
           stays Alloc rest _ (r ∷ own) o1 refl (record { made = r; rest = own; others = held.temporaries; names_are = refl; places_are = refl; kept = o.keeps })
 
       -- an operation on numbers that is made of these needs no line
@@ -491,7 +456,7 @@ module _ (p : Program) (R : resolved.Program) where
           stays _ rest _ own (record { is = o.is; keeps = o.keeps; alive = o.alive; waits = o.waits; dying = o.dying; sane = o.sane }) refl tt)
       operation_keeps Declare needs = subst (λ l. Along (Kept Declare) (declares l held (keeps s stack))) (sym (nil_from_length held.temporaries (omega (arith, few, needs))))
           (stays _ stack _ own (record { is = o.is; keeps = o.keeps; alive = o.alive; waits = o.waits; dying = o.dying; sane = sane_moved (λ k. grind (arith, nat_tests, holders_append)) (gains 0 tt o.sane) }) refl tt)
-      operation_keeps Nil needs = refers _ _ _ (0 ∷ own) (tt, o.keeps) (ap (λ l. 0 ∷ l) o.is) refl tt
+      operation_keeps Nil needs = refers _ _ _ (0 ∷ own) (λ k some. grind (arith, nat_tests, o.keeps k)) (ap (λ l. 0 ∷ l) o.is) refl tt
       operation_keeps ReadSelf needs = reads _ held.self held.names own o.keeps o.is self_there refl tt
       operation_keeps (ReadRef i) needs = found_leads _ held.variables i _ (omega (arith, many, needs)) (λ r found.
           reads _ r held.names own o.keeps o.is (place_there held.objects i r held.variables found (named_there held held.variables (λ k some. omega (arith, holders_append, some)) o.sane)) refl tt)
@@ -499,8 +464,8 @@ module _ (p : Program) (R : resolved.Program) where
           (name_there held.objects held.strong_globals i (named_there held held.strong_globals (λ k some. omega (arith, holders_append, some)) o.sane)) refl tt
       operation_keeps (ReadField class index) needs = last_leads_on _ _ (omega (arith, needs)) (λ r rest _ now kept. field_leads _ class r held _ (is_held r now) (λ j ob _ found there.
           reads _ (name_at ob.strong index) (rest ++ deeper) rest kept refl (name_there held.objects ob.strong index (fields_there held j ob found there o.sane)) refl tt))
-      operation_keeps Hold needs = last_leads_on _ _ (omega (arith, needs)) (λ r rest _ now kept. named_leads _ r held _ (is_held r now) (takes _ r held.names own (all_more r own stays_held o.keeps) o.is (is_held r now) refl tt))
-      operation_keeps ops.Again needs = last_leads_on _ _ (omega (arith, needs)) (λ r rest _ now kept. refers _ _ _ (r ∷ own) (now, o.keeps) (ap (λ l. r ∷ l) o.is) refl tt)
+      operation_keeps Hold needs = last_leads_on _ _ (omega (arith, needs)) (λ r rest _ now kept. named_leads _ r held _ (is_held r now) (takes _ r held.names own (λ k some. grind (arith, o.keeps k)) o.is (is_held r now) refl tt))
+      operation_keeps ops.Again needs = last_leads_on _ _ (omega (arith, needs)) (λ r rest _ now kept. refers _ _ _ (r ∷ own) (λ k some. grind (arith, now k, o.keeps k)) (ap (λ l. r ∷ l) o.is) refl tt)
       operation_keeps Forget needs = last_leads_on _ _ (omega (arith, needs)) (λ r rest _ now kept. refers _ _ _ rest kept refl refl tt)
       operation_keeps (GetField class index) needs = last_leads_on _ _ (omega (arith, needs)) (λ r rest _ now kept. field_leads _ class r held _ (is_held r now) (λ j ob _ _ _. refers _ _ _ rest kept refl refl tt))
       operation_keeps Differ needs = last_leads_on _ _ (omega (arith, needs)) (λ r rest e now kept. reference_leads _ rest deeper stays_held (rest ++ deeper) _ refl (omega (arith, needs, e, size)) kept (λ q others _ also below1.
@@ -575,7 +540,7 @@ module _ (p : Program) (R : resolved.Program) where
       answers_lead (Some to) wanted self1 taken objects given rest names1 is some begins le keeps living home1 =
           let st = at frames pc stack (with_names held names1) in
           let g = begins to refl in
-          let entered : Resumes wanted to self1 (Calling (pc + 1) (waiter_of held) ∷ frames) (length stack) (length stack - taken) names1 (rest ++ deeper) [] [] (stacked held) = record { high = height taken objects 0 0; stands = g.0; count = omega (arith, le); own = given; is = is; size = some; few = omega arith; many = refl; held = all_map _ _ (held_within held.temporaries held.variables held.places) given keeps; nil = λ k c. shut_end wanted [] k (omega arith); ready = inl g.2; alive = living; running = tt } in
+          let entered : Resumes wanted to self1 (Calling (pc + 1) (waiter_of held) ∷ frames) (length stack) (length stack - taken) names1 (rest ++ deeper) [] [] (stacked held) = record { high = height taken objects 0 0; stands = g.0; count = omega (arith, le); own = given; is = is; size = some; few = omega arith; many = refl; held = λ k some. grind (arith, holders_append, keeps k); nil = λ k c. shut_end wanted [] k (omega arith); ready = inl g.2; alive = living; running = tt } in
           by_test (λ b. Leads (enters st to self1 b)) (has_level st) (λ _. (inl (wanted, length stack - taken, rest ++ deeper, entered, (mine, below, deeper, splits_as held, home1, o.waits)), o.dying, o.sane)) (λ _. tt)
 
       -- what is wanted is given without a call
@@ -591,7 +556,7 @@ module _ (p : Program) (R : resolved.Program) where
       object_answers_lead None wanted selector takes objects object given rest begins le some kept_first kept kept_rest home1 =
           by_test (λ b. Leads (if b then instructions.gives_at_once (bare p) (at frames pc stack (with_names held (given ++ (rest ++ deeper)))) wanted object stack (given ++ (rest ++ deeper)) else Faults Unrecognized)) (is_root_init selector takes objects wanted)
           (λ e.
-          let none = root_takes selector takes objects wanted e in
+          let none : (takes ≡ 0) × (objects ≡ 0) = grind (arith, nat_tests, e) in
           let same : given ≡ [] = nil_from_length given (omega (arith, some, none.1)) in
           let all_left : length stack - takes ≡ length stack = omega (arith, none.0) in
           subst (λ l. Leads (instructions.gives_at_once (bare p) (at frames pc stack (with_names held (given ++ (rest ++ deeper)))) wanted object stack (l ++ (rest ++ deeper)))) (sym same)
@@ -603,8 +568,8 @@ module _ (p : Program) (R : resolved.Program) where
       passed : (n : ℕ) → n ≤ h.names → (length (take n own) ≡ n) × (length own ≡ n + length (drop n own)) × (held.names ≡ take n own ++ (drop n own ++ deeper)) × AllHeld (take n own) stays_held × AllHeld (drop n own) stays_held
       passed n le =
           let is : own ≡ take n own ++ drop n own = sym (take-append-drop n own) in
-          let kept = held_split (take n own) (drop n own) stays_held (subst (λ l. AllHeld l stays_held) is o.keeps) in
-          (length-take-le n own (omega (arith, le, size)), omega (arith, le, size, length-drop n own), o.is ∙ ap (λ l. l ++ deeper) is ∙ append_assoc (take n own) (drop n own) deeper, kept.0, kept.1)
+          let kept = subst (λ l. AllHeld l stays_held) is o.keeps in
+          (length-take-le n own (omega (arith, le, size)), omega (arith, le, size, length-drop n own), o.is ∙ ap (λ l. l ++ deeper) is ∙ append_assoc (take n own) (drop n own) deeper, λ k some. kept k (omega (arith, holders_append)), λ k some. kept k (omega (arith, holders_append)))
 
       -- a message to the object of the reference below its arguments
       message_sent : (wanted : Gives) (from : Object → ℕ) (r : ℕ) (given rest : List ℕ) (selector takes objects : ℕ) → length own ≡ suc objects + length rest → length given ≡ objects
@@ -635,7 +600,7 @@ module _ (p : Program) (R : resolved.Program) where
           let size_is = ap length f.2 in
           subst (λ l. Leads (instructions.on_receiver objects l (λ r rest. sends p s wanted from r selector takes objects rest))) (sym names_is)
           (subst Leads (sym (receiver_goes objects first (f.1 ++ deeper) f.0 (λ r rest. sends p s wanted from r selector takes objects rest) part.0))
-          (message_sent wanted from f.0 first f.1 selector takes objects (omega (arith, part.1, size_is)) part.0 part.3 below1.0 below1.1 needs g
+          (message_sent wanted from f.0 first f.1 selector takes objects (omega (arith, part.1, size_is)) part.0 part.3 (λ k some. below1 k (grind arith)) (λ k some. below1 k (grind arith)) needs g
           (ready first f.1 f.0 (sym (take-append-drop objects own) ∙ ap (λ l. first ++ l) f.2) part.0)))
 
       class_reported : (wanted : Gives) (from : Option ℕ) (selector takes objects : ℕ) → (suc takes ≤ h.numbers) × (objects ≤ h.names) → Goes_to mine (pc + 1) (after_effect h (giving wanted (suc takes) objects))
@@ -719,7 +684,7 @@ module _ (p : Program) (R : resolved.Program) where
           let x = next_height R (StoreField class index) h in
           last_leads_on Good _ (omega (arith, st.0)) (λ r rest e now kept. reference_leads Good rest deeper stays_held (rest ++ deeper) _ refl (omega (arith, st.0, size, e)) kept (λ q others f also below1.
           named_leads Good r held _ (is_held r now) (field_leads Good class q held _ (is_held q also) (λ j ob same found there.
-          stored (is_emptying ob.phase) j ob same found there index r (is_held r now) (r ∷ others) (now, below1) x st.1 (omega (arith, count)) (omega (arith, size, st.0, e, f)) (omega arith) (omega arith) refl))))
+          stored (is_emptying ob.phase) j ob same found there index r (is_held r now) (r ∷ others) (λ k some. grind (arith, now k, below1 k)) x st.1 (omega (arith, count)) (omega (arith, size, st.0, e, f)) (omega arith) (omega arith) refl))))
       order_leads (Empty i) is stands no_end nil ready st = found_leads Good held.variables i _ (omega (arith, many, st.0)) (λ r found.
           let long = length-set held.variables i 0 in
           let o1 : Owns (r ∷ []) own (raised 0 (with_variables held (slice_set held.variables i 0))) = record { is = o.is; keeps = o.keeps; alive = o.alive; waits = o.waits; dying = o.dying; sane = sane_moved (λ k. omega (arith, holders_head, variable_moves (suc k) held i r 0 found)) (gains 0 tt o.sane) } in
@@ -741,7 +706,7 @@ module _ (p : Program) (R : resolved.Program) where
           settles_lead m g =
               let o1 : Owns (m.made ∷ []) (m.given ∷ m.rest) (with_temporaries held (m.given ∷ m.others)) = record {
                 is = o.is ∙ ap (λ l. l ++ deeper) m.names_are;
-                keeps = (last_held m.given (m.others ++ held.places), all_more m.given m.rest (m.others ++ held.places) m.kept);
+                keeps = λ k some. grind (arith, m.kept k);
                 alive = o.alive;
                 waits = o.waits;
                 dying = o.dying;
@@ -755,9 +720,8 @@ module _ (p : Program) (R : resolved.Program) where
           let none = nil_from_length held.temporaries (omega (arith, few, st.2)) in
           let clears : Clear 0 pc = (0, ap role_of is) in
           let shut = subst (λ g. Shut g 0 held.variables) st.3 (nil 0 clears) in
-          let last = last_there held.variables (omega (arith, many, st.4)) shut in
-          top_leads Good stack _ (omega (arith, count, st.0)) (λ v rest e. last_leads last.0 last.1 held.temporaries held _ none last.2
-          (hands_lead frames pc last.0 last.1 stack rest held (left_waits gives.Object st.3 rest (omega (arith, count, st.0, e)) st.1) none last.2 o.dying o.sane))
+          top_leads Good stack _ (omega (arith, count, st.0)) (λ v rest e. subst (λ l. Leads (on_result l held (λ r. instructions.hands_over (bare p) s frames r rest))) (sym none) (last_leads held.variables _ (omega (arith, many, st.4)) shut (λ r last.
+          hands_lead frames pc r stack rest held (left_waits gives.Object st.3 rest (omega (arith, count, st.0, e)) st.1) none last o.dying o.sane)))
       order_leads Return is stands no_end nil ready st =
           let none = nil_from_length held.temporaries (omega (arith, few, st.2)) in
           let clears : Clear 0 pc = (0, ap role_of is) in
@@ -847,7 +811,7 @@ module _ (p : Program) (R : resolved.Program) where
             let g = goes to refl in
             let few = ap length none in
             let many = ap length empty in
-            let entered : Resumes gives.Number to held.self (Ending back w (suc k) next left ∷ others) (length stack) (length stack) held.names held.names held.temporaries held.variables held.places = record { high = height 0 0 0 0; stands = g.0; count = omega arith; own = []; is = refl; size = refl; few = omega (arith, few); many = many; held = tt; nil = λ i c. shut_end gives.Number held.variables i (omega (arith, many)); ready = inl g.2; alive = alive; running = tt } in
+            let entered : Resumes gives.Number to held.self (Ending back w (suc k) next left ∷ others) (length stack) (length stack) held.names held.names held.temporaries held.variables held.places = record { high = height 0 0 0 0; stands = g.0; count = omega arith; own = []; is = refl; size = refl; few = omega (arith, few); many = many; held = λ k some. omega arith; nil = λ i c. shut_end gives.Number held.variables i (omega (arith, many)); ready = inl g.2; alive = alive; running = tt } in
             (inl (gives.Number, length stack, held.names, entered, later), (dies, dying), sane)
 
         class_leads : (i : ℕ) (c : Option Class) (left : ℕ) → slice_get p.classes i ≡ c
@@ -858,9 +822,8 @@ module _ (p : Program) (R : resolved.Program) where
     goes_on_leads : (frames : List Frame) → IsEnding frames → Alive frames held.places held.self → Waits gives.Number frames (length stack) held.names held.places → AllDying held.objects (ending frames) → Leads (end_goes_on p (at frames p.end_step stack held) frames)
     goes_on_leads (Ending back w zero next left ∷ others) is alive waits dying = cc
     goes_on_leads (Clearing back w zero fields ∷ others) is alive waits dying = cc
-    goes_on_leads (Ending back w (suc k) None left ∷ others) is alive waits dying = after_lead back w k others alive dying.1 waits (Ending back w (suc k) None left ∷ others) dying.0
-    goes_on_leads (Ending back w (suc k) (Some c) zero ∷ others) is alive waits dying = after_lead back w k others alive dying.1 waits (Ending back w (suc k) (Some c) zero ∷ others) dying.0
     goes_on_leads (Ending back w (suc k) (Some c) (suc left) ∷ others) is alive waits dying = class_leads back w k others alive dying.1 waits dying.0 _ c (slice_get p.classes c) left refl
+    goes_on_leads (Ending back w (suc k) next left ∷ others) is alive waits dying = after_lead back w k others alive dying.1 waits (Ending back w (suc k) next left ∷ others) dying.0
     goes_on_leads (Clearing back w (suc k) [] ∷ others) is alive waits dying =
         ends_lead back w k others alive dying.1 waits (nat_eq (held.counts (suc k)) 0) dying.0.0 dying.0.1 (ap is_there dying.0.2.0) dying.0.2.1 refl
     goes_on_leads (Clearing back w (suc k) (index ∷ fields) ∷ others) is alive waits dying = next_lead back w k others alive dying.1 waits index fields dying.0
@@ -901,7 +864,7 @@ module _ (p : Program) (R : resolved.Program) where
 
     pub start_good : Good (start p)
     start_good = (
-      inl (gives.Number, 0, [], record { high = height 0 0 0 0; stands = (start_goes R).0; count = refl; own = []; is = refl; size = refl; few = omega arith; many = refl; held = tt; nil = λ k c. shut_end gives.Number [] k (omega arith); ready = inl (start_goes R).2; alive = λ objects there ends. tt; running = tt }, tt),
+      inl (gives.Number, 0, [], record { high = height 0 0 0 0; stands = (start_goes R).0; count = refl; own = []; is = refl; size = refl; few = omega arith; many = refl; held = λ k some. omega arith; nil = λ k c. shut_end gives.Number [] k (omega arith); ready = inl (start_goes R).2; alive = λ objects there ends. tt; running = tt }, tt),
       tt,
       record { counted = λ k. grind (arith, holders_append, nils_holders k p.strong_globals); right = λ k. refl },
     )

@@ -6,7 +6,7 @@ use Rattle.std.proofs.lemmas.Option.{slice_get_within}
 use Rattle.arc_spec.specs.Classes.{Class, lesser, numbers_from, order_of_fields, strong_count, strong_counts, ancestry, superclasses, above_class, field_order}
 use Rattle.arc_spec.specs.Objects.{Object, Dying, Emptying, object_at, is_live}
 use Rattle.arc_spec.specs.Holding.{Frame, Calling, Ending, Clearing, holders}
-use Rattle.arc_lower.proofs.CountsPlaces.{holders_append, IsThere, AllThere, set_other, set_same, set_here, get_other}
+use Rattle.arc_lower.proofs.CountsPlaces.{holders_append, place_there, IsThere, AllThere, set_other, set_same, set_here, get_other}
 
 -- an end that is running: of this object, and which fields are still to be destroyed, where they are being
 pub record End : Type 0 where
@@ -59,23 +59,16 @@ Alive frames held o = (objects : List Object) → AllThere objects held → Ends
 pub ends_there : (objects : List Object) (frames : List Frame) → AllDying objects (ending frames) → EndsThere objects frames
 ends_there objects frames = ends_map _ _ (λ e d. grind arith) (ending frames)
 
--- nil, or what one of these names
-abbrev pub IsHeld : ℕ → List ℕ → Type 0
-IsHeld zero temporaries = Unit {0}
-IsHeld (suc k) temporaries = 0 < holders (suc k) temporaries
+-- what these references name one of those places names
+abbrev pub AllHeld : (own places : List ℕ) → Type 0
+AllHeld own places = (k : ℕ) → 0 < holders (suc k) own → 0 < holders (suc k) places
 
--- the last one holds what it names
-pub last_held : (r : ℕ) (others : List ℕ) → IsHeld r (r ∷ others)
-last_held r others = grind (arith, nat_tests)
+abbrev pub IsHeld : ℕ → List ℕ → Type 0
+IsHeld r = AllHeld (r ∷ [])
 
 -- what a temporary of the running function holds, or a place of one that waits, is there
 pub held_there : (objects : List Object) (temporaries strong waiting : List ℕ) (r : ℕ) → IsHeld r (temporaries ++ waiting) → AllThere objects ((temporaries ++ strong) ++ waiting) → IsThere objects r
-held_there objects temporaries strong waiting zero h there = tt
-held_there objects temporaries strong waiting (suc k) h there = there k (omega (arith, holders_append, h))
-
--- and is held once a function is called
-pub held_within : (temporaries strong waiting : List ℕ) (r : ℕ) → IsHeld r (temporaries ++ waiting) → IsHeld r ((temporaries ++ strong) ++ waiting)
-held_within temporaries strong waiting r h = grind (arith, holders_append)
+held_there objects temporaries strong waiting r h there = place_there objects 0 r (r ∷ []) refl (λ k some. there k (grind (arith, holders_append, h k)))
 
 -- ---- objects that are ending
 
