@@ -94,10 +94,6 @@ record Initialized (own temporaries waiting : List ℕ) : Type 0 where
   places_are : temporaries ≡ given ∷ made ∷ others
   kept : AllHeld rest (others ++ waiting)
 
-first_of : (own : List ℕ) → 1 ≤ length own → (r : ℕ) × (rest : List ℕ) × (own ≡ r ∷ rest)
-first_of [] some = absurd (omega (arith, some))
-first_of (r ∷ rest) some = (r, rest, refl)
-
 along_map : {S : Type 0} (P Q : S → Type 0) → ((s : S) → P s → Q s) → (next : Next S) → Along P next → Along Q next
 along_map P Q f next p = grind (arith, f, p)
 
@@ -239,8 +235,11 @@ module _ (p : Program) (R : resolved.Program) where
     reference_leads [] deeper places names go is some keeps h = absurd (omega (arith, some))
     reference_leads (r ∷ own) deeper places names go is some keeps h = subst (λ l. Along P (on_top l go)) (sym is) (h r own refl (λ k some. keeps k (grind arith)) (λ k some. keeps k (grind arith)))
 
-  receiver_goes : (objects : ℕ) (given rest : List ℕ) (r : ℕ) (go : ℕ → List ℕ → Next State) → length given ≡ objects → instructions.on_receiver objects (given ++ r ∷ rest) go ≡ go r (given ++ rest)
-  receiver_goes objects given rest r go some = rw (← some) (simp (seam, take-append_seam, after_one))
+  -- the reference below so many others of these
+  receiver_leads : (n : ℕ) (own deeper : List ℕ) (go : ℕ → List ℕ → Next State) → suc n ≤ length own → ((given rest : List ℕ) (r : ℕ) → own ≡ given ++ r ∷ rest → length given ≡ n → Leads (go r (given ++ (rest ++ deeper)))) → Leads (instructions.on_receiver n (own ++ deeper) go)
+  receiver_leads n [] deeper go some h = absurd (omega arith)
+  receiver_leads zero (r ∷ own) deeper go some h = h [] own r refl refl
+  receiver_leads (suc n) (a ∷ own) deeper go some h = receiver_leads n own deeper (λ r rest. go r (a ∷ rest)) (omega arith) (λ given rest r e f. h (a ∷ given) rest r (ap (λ l. a ∷ l) e) (ap suc f))
 
   taken_leads : (takes : ℕ) (stack : List ℤ) (go : List ℤ → Next State) → takes ≤ length stack → ((rest : List ℤ) → length stack ≡ takes + length rest → Leads (go rest)) → Leads (taken takes stack go)
   taken_leads zero stack go le h = h stack (omega arith)
@@ -592,16 +591,12 @@ module _ (p : Program) (R : resolved.Program) where
       message_leads : (wanted : Gives) (from : Object → ℕ) (selector takes objects : ℕ) → (takes ≤ h.numbers) × (suc objects ≤ h.names) → After_call wanted takes (suc objects) → ((given rest : List ℕ) (r : ℕ) → own ≡ given ++ r ∷ rest → length given ≡ objects → Ready_after wanted rest)
           → Leads (instructions.on_receiver objects held.names (λ r rest. sends p s wanted from r selector takes objects rest))
       message_leads wanted from selector takes objects needs g ready =
-          let first = take objects own in
-          let part = passed objects (omega (arith, needs.1)) in
-          let f = first_of (drop objects own) (omega (arith, needs.1, size, part.1)) in
-          let below1 = subst (λ l. AllHeld l stays_held) f.2 part.4 in
-          let names_is : held.names ≡ first ++ f.0 ∷ (f.1 ++ deeper) = part.2 ∙ ap (λ l. first ++ (l ++ deeper)) f.2 in
-          let size_is = ap length f.2 in
-          subst (λ l. Leads (instructions.on_receiver objects l (λ r rest. sends p s wanted from r selector takes objects rest))) (sym names_is)
-          (subst Leads (sym (receiver_goes objects first (f.1 ++ deeper) f.0 (λ r rest. sends p s wanted from r selector takes objects rest) part.0))
-          (message_sent wanted from f.0 first f.1 selector takes objects (omega (arith, part.1, size_is)) part.0 part.3 (λ k some. below1 k (grind arith)) (λ k some. below1 k (grind arith)) needs g
-          (ready first f.1 f.0 (sym (take-append-drop objects own) ∙ ap (λ l. first ++ l) f.2) part.0)))
+          subst (λ l. Leads (instructions.on_receiver objects l (λ r rest. sends p s wanted from r selector takes objects rest))) (sym o.is)
+          (receiver_leads objects own deeper (λ r. sends p s wanted from r selector takes objects) (omega (arith, needs.1, size)) (λ given rest r e some.
+          let names = ap length e in
+          let kept = subst (λ l. AllHeld l stays_held) e o.keeps in
+          message_sent wanted from r given rest selector takes objects (omega (arith, length-append {A = ℕ}, names, some)) some
+          (λ k now. kept k (omega (arith, holders_append))) (λ k now. kept k (grind (arith, holders_append))) (λ k now. kept k (grind (arith, holders_append))) needs g (ready given rest r e some)))
 
       class_reported : (wanted : Gives) (from : Option ℕ) (selector takes objects : ℕ) → (suc takes ≤ h.numbers) × (objects ≤ h.names) → Goes_to mine (pc + 1) (after_effect h (giving wanted (suc takes) objects))
           → Leads (answers s 0 (lookup p.classes from signs.Class selector takes objects wanted))
@@ -835,10 +830,8 @@ module _ (p : Program) (R : resolved.Program) where
     step_does : (s : State) (x : Order) → slice_get (lowered_orders R) s.at ≡ Some x → step p s ≡ does p x s
     step_does s x e = executes_at p p.actions s.at x s (ap (λ l. slice_get l s.at) is ∙ e)
 
-    function_leads : (s : State) (mine : Gives) (below : ℕ) (deeper : List ℕ)
-        → Resumes mine s.at s.held.self s.frames (length s.stack) below s.held.names deeper s.held.temporaries s.held.variables s.held.places
-        → Waits mine s.frames below deeper s.held.places → AllDying s.held.objects (ending s.frames) → Sane p.classes s.held → Leads (step p s)
-    function_leads s mine below deeper r waits dying sane =
+    pub step_leads : (s : State) → Good s → Leads (step p s)
+    step_leads s (inl (mine, below, deeper, r, waits), dying, sane) =
         let x = r.stands.order in
         let st = steps_at R s.at x r.stands.is in
         let mark : Height × Gives = (r.high, mine) in
@@ -847,16 +840,9 @@ module _ (p : Program) (R : resolved.Program) where
         subst Leads (sym (step_does s x r.stands.is))
         (order_leads mine s.frames below deeper r.running classes (λ wanted g called. entry_goes p R is entries wanted g called) s.at r.high s.stack s.held r.own r.count r.size r.few r.many
         (record { is = r.is; keeps = r.held; alive = r.alive; waits = waits; dying = dying; sane = sane }) x r.stands.is r.stands r.stands.no_end r.nil r.ready steps)
-
-    end_leads : (s : State) → EndsAgain s.at s.held.self s.frames s.held.temporaries s.held.variables s.held.places
-        → Waits gives.Number s.frames (length s.stack) s.held.names s.held.places
-        → AllDying s.held.objects (ending s.frames) → Sane p.classes s.held → Leads (step p s)
-    end_leads s f waits dying sane =
+    step_leads s (inr (f, waits), dying, sane) =
         let e : slice_get (lowered_orders R) s.at ≡ Some EndStep = ap (slice_get (lowered_orders R)) (f.at_end ∙ end) ∙ end_is R in
         subst Leads (sym (step_does s EndStep e)) (subst (λ pc. Leads (end_goes_on p (at s.frames pc s.stack s.held) s.frames)) (sym f.at_end) (goes_on_leads classes s.stack s.held f.none f.empty sane s.frames f.is_ending f.alive waits dying))
-
-    pub step_leads : (s : State) → Good s → Leads (step p s)
-    step_leads s good = ⊎_elim (λ f. function_leads s f.0 f.1 f.2 f.3 f.4 good.1 good.2) (λ f. end_leads s f.0 f.1 good.1 good.2) good.0
 
     safe : (n : ℕ) (s : State) → Good s → Safe (step p) (λ t. Counted t.held) n s
     safe zero s good = sane_counted s.held good.2
