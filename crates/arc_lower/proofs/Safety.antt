@@ -35,7 +35,7 @@ use Rattle.arc_lower.specs.Heights.{height, after_effect, next_height}
 use Rattle.arc_lower.proofs.Cases.{by_test}
 use Rattle.arc_lower.proofs.CountsPlaces.{seam, variable_moves, global_moves, second_moves, IsThere, place_there, name_there, set_here, set_same, set_other, holders_head, nils_holders, holders_append, there_fields}
 use Rattle.arc_lower.proofs.CountsKept.{Keeps, Sane, Drops, gains, sane_moved, fits_at, sane_counted, named_there, fields_there, sane_store_field, drops_there, sane_last, lowers, sane_make, sane_turned}
-use Rattle.arc_lower.proofs.Doing.{at, resumed_as, bare, does, executes_at}
+use Rattle.arc_lower.proofs.Doing.{at, bare, does, executes_at}
 use Rattle.arc_lower.proofs.Standing.{ending, AllDying, IsDying, NilBut, Alive, ends_there, IsHeld, AllHeld, held_there, made_dying, changed_dying, IsApart, live_apart, apart_dying, one_nil, no_field, nil_named, all_in_order}
 use Rattle.arc_lower.proofs.Typing.{Reaches, enough, IsCalled}
 use Rattle.arc_lower.proofs.Stacking.{after_one}
@@ -76,47 +76,29 @@ given_held : (wanted : Gives) (r : ℕ) (own temporaries waiting : List ℕ) →
 given_held wanted r own temporaries waiting h k some = grind (arith, h k)
 
 -- an object was made, which the last reference names and the last temporary holds; the others hold the other references
-record Made (own temporaries waiting : List ℕ) : Type 0 where
-  made : ℕ
-  rest : List ℕ
-  others : List ℕ
-  names_are : own ≡ made ∷ rest
-  places_are : temporaries ≡ made ∷ others
-  kept : AllHeld rest (others ++ waiting)
+abbrev Made : (own temporaries waiting : List ℕ) → Type 0
+Made own temporaries waiting = (made : ℕ) × (rest : List ℕ) × (others : List ℕ) × (own ≡ made ∷ rest) × (temporaries ≡ made ∷ others) × AllHeld rest (others ++ waiting)
 
 -- what its `init` gives is there before it
-record Initialized (own temporaries waiting : List ℕ) : Type 0 where
-  given : ℕ
-  made : ℕ
-  rest : List ℕ
-  others : List ℕ
-  names_are : own ≡ given ∷ rest
-  places_are : temporaries ≡ given ∷ made ∷ others
-  kept : AllHeld rest (others ++ waiting)
+abbrev Initialized : (own temporaries waiting : List ℕ) → Type 0
+Initialized own temporaries waiting = (given : ℕ) × (made : ℕ) × (rest : List ℕ) × (others : List ℕ) × (own ≡ given ∷ rest) × (temporaries ≡ given ∷ made ∷ others) × AllHeld rest (others ++ waiting)
 
 along_map : {S : Type 0} (P Q : S → Type 0) → ((s : S) → P s → Q s) → (next : Next S) → Along P next → Along Q next
 along_map P Q f next p = grind (arith, f, p)
 
 -- ---- the places of a function that waits
 
-pub record Splits (w : Waiter) (places : List ℕ) : Type 0 where
-  temporaries : List ℕ
-  variables : List ℕ
-  waiting : List ℕ
-  is : places ≡ (temporaries ++ variables) ++ waiting
-  first : w.temporaries ≡ length temporaries
-  next : w.variables ≡ length variables
+-- what runs again has its own places
+as_waits : (P : (temporaries variables waiting : List ℕ) → Type 0) (h : Held) → P h.temporaries h.variables h.places
+    → P (take (length h.temporaries) (stacked h)) (take (length h.variables) (drop (length h.temporaries) (stacked h))) (drop (length h.variables) (drop (length h.temporaries) (stacked h)))
+as_waits P h own = simp (append_assoc, take-append_seam, drop-append_seam) own
 
--- what runs again
-abbrev again : {places : List ℕ} (w : Waiter) → Splits w places → Held → Held
-again w s h = record h { temporaries = s.temporaries; variables = s.variables; self = w.self; places = s.waiting }
-
-resumes_again : (w : Waiter) (h : Held) (s : Splits w h.places) → resumed w h ≡ again w s h
-resumes_again w h s = resumed_as w h s.temporaries s.variables s.waiting s.is s.first s.next
+resumed_holders : (k : ℕ) (w : Waiter) (h : Held) → holders k (resumed w h).temporaries + holders k (resumed w h).variables + holders k (resumed w h).places ≡ holders k h.places
+resumed_holders k w h = omega (arith, holders_append, ap (holders k) (take-append-drop w.temporaries h.places), ap (holders k) (take-append-drop w.variables (drop w.temporaries h.places)))
 
 -- the function that is left has no temporary, and its variables are nil
-again_sane : {classes : List Class} (w : Waiter) (h : Held) (s : Splits w h.places) → h.temporaries ≡ [] → NilBut [] h.variables → Sane classes h → Sane classes (again w s h)
-again_sane w h s none nil sane = sane_moved (λ k. grind (arith, holders_append, s.is, nil_named h.variables nil k)) sane
+again_sane : {classes : List Class} (w : Waiter) (h : Held) → h.temporaries ≡ [] → NilBut [] h.variables → Sane classes h → Sane classes (resumed w h)
+again_sane w h none nil sane = sane_moved (λ k. grind (arith, holders_append, resumed_holders (suc k) w h, nil_named h.variables nil k)) sane
 
 module _ (p : Program) (R : resolved.Program) where
   -- in a function that gives this
@@ -191,13 +173,14 @@ module _ (p : Program) (R : resolved.Program) where
   abbrev pub Interrupted : (Below : Gives → ℕ → (names places : List ℕ) → Type 0) → (back : ℕ) → Waiter → (o : ℕ) → List Frame → ℕ → (names places : List ℕ)
       → Type 0
   Interrupted Below back w o others n names places =
-      IsApart o (ending others) × (s : Splits w places) × GoesOn Below back w.self others n names s.temporaries s.variables s.waiting
+      IsApart o (ending others) × GoesOn Below back w.self others n names (take w.temporaries places) (take w.variables (drop w.temporaries places)) (drop w.variables (drop w.temporaries places))
 
   -- so many numbers, and these references and places, wait for a function that gives this; what a call gives isn't there yet
   abbrev pub Waits : Gives → List Frame → ℕ → (names places : List ℕ) → Type 0
   Waits given [] n names places = Numbers given (Unit {0})
   Waits given (Calling back w ∷ others) n names places =
-      (mine : Gives) × (below : ℕ) × (deeper : List ℕ) × (s : Splits w places) × Comes_back given mine back w.self others n below names deeper s.temporaries s.variables s.waiting × Waits mine others below deeper s.waiting
+      (mine : Gives) × (below : ℕ) × (deeper : List ℕ) × Comes_back given mine back w.self others n below names deeper (take w.temporaries places) (take w.variables (drop w.temporaries places)) (drop w.variables (drop w.temporaries places))
+      × Waits mine others below deeper (drop w.variables (drop w.temporaries places))
   Waits given (Ending back w o next left ∷ others) n names places = Numbers given (Interrupted (λ g. Waits g others) back w o others n names places)
   Waits given (Clearing back w o fields ∷ others) n names places = Numbers given (Interrupted (λ g. Waits g others) back w o others n names places)
 
@@ -278,10 +261,9 @@ module _ (p : Program) (R : resolved.Program) where
       → Leads (leaves p (at frames pc stack held) frames v rest (with_variables held []))
   leaves_lead [] pc v stack rest held waits alive size none nil dying sane running = tt
   leaves_lead (Calling back w ∷ others) pc v stack rest held waits alive size none nil dying sane running =
-      let s = waits.3 in
-      let resumes = subst (λ n. Resumes waits.0 back w.self others n waits.1 held.names waits.2 s.temporaries s.variables s.waiting) (sym size) (waits.4 0) in
-      subst (λ h1. Good (at others back stack h1)) (sym (resumes_again w (with_variables held []) s))
-      (inl (waits.0, waits.1, waits.2, resumes, waits.5), dying, again_sane w held s none nil sane)
+      let h1 = resumed w held in
+      let resumes = subst (λ n. Resumes waits.0 back w.self others n waits.1 held.names waits.2 h1.temporaries h1.variables h1.places) (sym size) (waits.3 0) in
+      (inl (waits.0, waits.1, waits.2, resumes, waits.4), dying, again_sane w held none nil sane)
   leaves_lead (Ending back w o next left ∷ others) pc v stack rest held waits alive size none nil dying sane running =
       (inr (record { at_end = refl; is_ending = tt; none = none; empty = refl; alive = alive }, waits), dying, sane_moved (λ k. omega (arith, holders_append, nil_named held.variables nil k)) sane)
   leaves_lead (Clearing back w o fields ∷ others) pc v stack rest held waits alive size none nil dying sane running = absurd running
@@ -291,19 +273,14 @@ module _ (p : Program) (R : resolved.Program) where
       → held.temporaries ≡ [] → ((k : ℕ) → holders (suc k) held.variables ≡ holders (suc k) (r ∷ [])) → AllDying held.objects (ending frames) → Sane p.classes held
       → Leads (instructions.hands_over (bare p) (at frames pc stack held) frames r rest (with_variables held []))
   hands_lead (Calling back w ∷ others) pc r stack rest held waits none last dying sane =
-      let s = waits.3 in
-      subst (λ h1. Good (at others back rest (given_back r h1))) (sym (resumes_again w (with_variables held []) s))
-      (inl (waits.0, waits.1, waits.2, waits.4 r, waits.5), dying, sane_moved (λ k. grind (arith, holders_append, s.is, last k)) sane)
+      (inl (waits.0, waits.1, waits.2, waits.3 r, waits.4), dying, sane_moved (λ k. grind (arith, holders_append, resumed_holders (suc k) w held, last k)) sane)
   hands_lead _ pc r stack rest held waits none last dying sane = absurd waits
 
   -- ---- ends that begin
 
-  abbrev splits_as : (held : Held) → Splits (waiter_of held) (stacked held)
-  splits_as held = record { temporaries = held.temporaries; variables = held.variables; waiting = held.places; is = refl; first = refl; next = refl }
-
   -- what was dropped ends, and what runs waits
   begins_lead : (frames : List Frame) (b : Bool) (k to pc : ℕ) (ob : Object) (stack : List ℤ) (before held : Held) → object_at held.objects (suc k) ≡ Some ob → is_live (Some ob) ≡ true → AllDying held.objects (ending frames) → Drops p.classes (suc k) held
-      → (IsApart (suc k) (ending frames) → Waits gives.Number (Ending to (waiter_of held) (suc k) (Some ob.class) (length p.classes) ∷ frames) (length stack) held.names (stacked held))
+      → GoesOn (λ g. Waits g frames) to held.self frames (length stack) held.names held.temporaries held.variables held.places
       → Leads (begins_end p (at frames pc stack before) to (suc k) ob.class (with_things (lowered (suc k) held) (with_object held.objects (suc k) (in_phase Dying ob))) b)
   begins_lead frames false k to pc ob stack before held found live dying drops waits = tt
   begins_lead frames true k to pc ob stack before held found live dying drops waits =
@@ -312,7 +289,7 @@ module _ (p : Program) (R : resolved.Program) where
       let begun : IsDying objects (suc k) None = (in_phase Dying ob, set_here held.objects k (in_phase Dying ob) ob found, refl) in
       let apart = live_apart held.objects k ob (ending frames) found live dying in
       let still : AllDying objects (ending frames) = apart_dying held.objects k (in_phase Dying ob) (ending frames) apart dying in (
-        inr (record { at_end = refl; is_ending = tt; none = refl; empty = refl; alive = λ objects there ends. ends.0 }, waits apart),
+        inr (record { at_end = refl; is_ending = tt; none = refl; empty = refl; alive = λ objects there ends. ends.0 }, (apart, as_waits (GoesOn (λ g. Waits g frames) to held.self frames (length stack) held.names) held waits)),
         (begun, still),
         sane_last held k ob found (grind arith) drops,
       )
@@ -357,7 +334,7 @@ module _ (p : Program) (R : resolved.Program) where
     drops_leads r to pc stack before held stays o home on = lets_go_leads r held stays _ o.sane
         (λ sane. on (record { is = o.is; keeps = o.keeps; alive = o.alive; waits = o.waits; dying = o.dying; sane = sane }))
         (λ k ob e found live. begins_lead frames (has_level (at frames pc stack before)) k to pc ob stack before held found live o.dying (subst (λ q. Drops p.classes q held) e o.sane)
-        (λ apart. (apart, splits_as held, inl (mine, below, deeper, home, o.waits))))
+        (inl (mine, below, deeper, home, o.waits)))
 
     -- a place that named this names another, or nil
     releases_lead : {own : List ℕ} (r pc : ℕ) (stack : List ℤ) (before held : Held) → Owns (r ∷ []) own held → Back (pc + 1) (length stack) held → Leads (releases p (at frames pc stack before) r held)
@@ -442,7 +419,7 @@ module _ (p : Program) (R : resolved.Program) where
       made_leads (Some c) rest =
           let r = suc (length held.objects) in
           let o1 : Owns [] (r ∷ own) (makes p.classes c held) = record { is = ap (λ l. r ∷ l) o.is; keeps = λ k some. grind (arith, o.keeps k); alive = o.alive; waits = o.waits; dying = made_dying held.objects _ (ending frames) o.dying; sane = sane_make held c o.sane } in
-          stays Alloc rest _ (r ∷ own) o1 refl (record { made = r; rest = own; others = held.temporaries; names_are = refl; places_are = refl; kept = o.keeps })
+          stays Alloc rest _ (r ∷ own) o1 refl (r, own, held.temporaries, refl, refl, o.keeps)
 
       -- an operation on numbers that is made of these needs no line
       ruleset keeping = (top_leads, or_fault_leads, made_leads, stays)
@@ -540,7 +517,8 @@ module _ (p : Program) (R : resolved.Program) where
           let st = at frames pc stack (with_names held names1) in
           let g = begins to refl in
           let entered : Resumes wanted to self1 (Calling (pc + 1) (waiter_of held) ∷ frames) (length stack) (length stack - taken) names1 (rest ++ deeper) [] [] (stacked held) = record { high = height taken objects 0 0; stands = g.0; count = omega (arith, le); own = given; is = is; size = some; few = omega arith; many = refl; held = λ k some. grind (arith, holders_append, keeps k); nil = λ k c. shut_end wanted [] k (omega arith); ready = inl g.2; alive = living; running = tt } in
-          by_test (λ b. Leads (enters st to self1 b)) (has_level st) (λ _. (inl (wanted, length stack - taken, rest ++ deeper, entered, (mine, below, deeper, splits_as held, home1, o.waits)), o.dying, o.sane)) (λ _. tt)
+          let home2 = as_waits (λ t v w. Comes_back wanted mine (pc + 1) held.self frames (length stack - taken) below (rest ++ deeper) deeper t v w × Waits mine frames below deeper w) held (home1, o.waits) in
+          by_test (λ b. Leads (enters st to self1 b)) (has_level st) (λ _. (inl (wanted, length stack - taken, rest ++ deeper, entered, (mine, below, deeper, home2.0, home2.1)), o.dying, o.sane)) (λ _. tt)
 
       -- what is wanted is given without a call
       at_once_leads : (wanted : Gives) (object : ℕ) (stack0 stack1 : List ℤ) (names0 rest : List ℕ) → Home wanted (length stack1) rest → IsThere held.objects object → AllHeld rest stays_held → Leads (instructions.gives_at_once (bare p) (at frames pc stack0 (with_names held names0)) wanted object stack1 (rest ++ deeper))
@@ -616,10 +594,10 @@ module _ (p : Program) (R : resolved.Program) where
       init_ready wanted selector takes objects is (inr (inl made)) (inr q) given rest r e some =
           let m = made.1 in
           let none : given ≡ [] = nil_from_length given (omega (arith, some, q.1)) in
-          let names_same : r ∷ rest ≡ m.made ∷ m.rest = ap (λ l. l ++ r ∷ rest) (sym none) ∙ sym e ∙ m.names_are in
-          let rest_same : m.rest ≡ rest = cc in
+          let names_same : r ∷ rest ≡ m.0 ∷ m.1 = ap (λ l. l ++ r ∷ rest) (sym none) ∙ sym e ∙ m.3 in
+          let rest_same : m.1 ≡ rest = cc in
           subst (λ g. Ready_after g rest) (sym q.2)
-          (λ r1. inr (inr (q.3, record { given = r1; made = m.made; rest = rest; others = m.others; names_are = refl; places_are = ap (λ l. r1 ∷ l) m.places_are; kept = subst (λ l. AllHeld l (m.others ++ held.places)) rest_same m.kept })))
+          (λ r1. inr (inr (q.3, (r1, m.0, rest, m.2, refl, ap (λ l. r1 ∷ l) m.4, subst (λ l. AllHeld l (m.2 ++ held.places)) rest_same m.5))))
 
       -- a field of an object takes what a reference names
       stored : (b : Bool) (j : ℕ) (ob : Object) {q : ℕ} → q ≡ suc j → object_at held.objects (suc j) ≡ Some ob → is_there ob.phase ≡ true → (index r : ℕ) → IsThere held.objects r → (own1 : List ℕ) → AllHeld own1 stays_held → (x : Height) → Goes_to mine (pc + 1) x
@@ -699,18 +677,18 @@ module _ (p : Program) (R : resolved.Program) where
         where
           settles_lead : Initialized own held.temporaries held.places → Goes_to mine (pc + 1) (next_height R Settle h) → Leads (does p Settle s)
           settles_lead m g =
-              let o1 : Owns (m.made ∷ []) (m.given ∷ m.rest) (with_temporaries held (m.given ∷ m.others)) = record {
-                is = o.is ∙ ap (λ l. l ++ deeper) m.names_are;
-                keeps = λ k some. grind (arith, m.kept k);
+              let o1 : Owns (m.1 ∷ []) (m.0 ∷ m.2) (with_temporaries held (m.0 ∷ m.3)) = record {
+                is = o.is ∙ ap (λ l. l ++ deeper) m.4;
+                keeps = λ k some. grind (arith, m.6 k);
                 alive = o.alive;
                 waits = o.waits;
                 dying = o.dying;
-                sane = sane_moved (λ k. second_moves (suc k) held m.given m.made m.others m.places_are) o.sane;
+                sane = sane_moved (λ k. second_moves (suc k) held m.0 m.1 m.3 m.5) o.sane;
               } in
-              let names_size = ap length m.names_are in
-              let places_size = ap length m.places_are in
-              subst (λ l. Leads (instructions.settles (bare p) s l)) (sym m.places_are)
-              (releases_lead m.made pc stack held _ o1 (back_any (pc + 1) (next_height R Settle h) g (length stack) o1 (omega (arith, count)) (omega (arith, size, names_size)) (omega (arith, few, places_size)) (omega (arith, many))))
+              let names_size = ap length m.4 in
+              let places_size = ap length m.5 in
+              subst (λ l. Leads (instructions.settles (bare p) s l)) (sym m.5)
+              (releases_lead m.1 pc stack held _ o1 (back_any (pc + 1) (next_height R Settle h) g (length stack) o1 (omega (arith, count)) (omega (arith, size, names_size)) (omega (arith, few, places_size)) (omega (arith, many))))
       order_leads Give is stands no_end nil ready st =
           let none = nil_from_length held.temporaries (omega (arith, few, st.2)) in
           let clears : Clear 0 pc = (0, ap role_of is) in
@@ -756,11 +734,9 @@ module _ (p : Program) (R : resolved.Program) where
           let objects = slice_set held.objects k x in
           let gone_is : turned_in Gone held.objects (suc k) ≡ objects = rw found refl in
           let h1 = with_things held objects in
-          let split = later.1 in
-          let sane1 = again_sane w h1 split none no_variables (sane_turned held k ob x found (λ i. sym (ap (holders (suc i)) (there_fields ob there) ∙ nil_named ob.strong but i)) (λ f. record { there = λ some. absurd (omega (arith, eqb-true (held.counts (suc k)) 0 e)); held = λ live. cc; sized = f.sized }) sane) in
+          let sane1 = again_sane w h1 none no_variables (sane_turned held k ob x found (λ i. sym (ap (holders (suc i)) (there_fields ob there) ∙ nil_named ob.strong but i)) (λ f. record { there = λ some. absurd (omega (arith, eqb-true (held.counts (suc k)) 0 e)); held = λ live. cc; sized = f.sized }) sane) in
           left_leads held.temporaries held _ none no_variables
-          (subst (λ l. Good (at others back stack (resumed w (with_things (with_variables held []) l)))) (sym gone_is)
-          (subst (λ q. Good (at others back stack q)) (sym (resumes_again w (with_variables h1 []) split)) (later.2, still x, sane1)))
+          (subst (λ l. Good (at others back stack (resumed w (with_things (with_variables held []) l)))) (sym gone_is) (later.1, still x, sane1))
 
       -- the deallocs of an object are done: its fields are destroyed, and then it is gone
       clears_lead : (frames : List Frame) (order : List ℕ) (ob : Object) → object_at held.objects (suc k) ≡ Some ob → ob.phase ≡ Dying → NilBut order ob.strong
@@ -795,7 +771,7 @@ module _ (p : Program) (R : resolved.Program) where
           (λ sane1. (inr (ends_again _ tt alive, later), dying1, sane1))
           (λ j other e found live.
           begins_lead frames (has_level (at frames p.end_step stack held)) j p.end_step p.end_step other stack held held1 found live dying1 (subst (λ q. Drops p.classes q held1) e drops)
-          (λ apart. (apart, splits_as held1, inr (ends_again _ tt alive, later))))))
+          (inr (ends_again _ tt alive, later)))))
 
       -- its next dealloc, of which what ends is as far as before
       module _ (dies : IsDying held.objects (suc k) None) (frames : List Frame) where
