@@ -1,10 +1,10 @@
 -- Wherever objects and places change, the counts are right, what a place names is there, and each object has the fields of its class.
-use Rattle.std.proofs.Common.{◌≡◌, ℕ, zero, suc, ◌<◌, true, false, ◌&&◌, nat_eq, if◌then◌else◌, List, [], ◌∷◌, length, Option, Some, None, slice_get, slice_set, refl, sym, ap, ◌∙◌, subst, ⊎_elim, arith}
+use Rattle.std.proofs.Common.{◌≡◌, ℕ, zero, suc, ◌<◌, true, false, ◌&&◌, nat_eq, if◌then◌else◌, List, [], ◌∷◌, length, Option, Some, None, slice_get, slice_set, refl, sym, ◌∙◌, subst, ⊎_elim, arith}
 use Rattle.std.proofs.lemmas.Bool.{cases_eq}
 use Rattle.std.proofs.lemmas.Bool.Decides.{nat_tests}
 use Rattle.std.proofs.lemmas.List.{length-set, length-replicate}
 use Rattle.arc_spec.specs.Classes.{Class, field_counts, strong_count}
-use Rattle.arc_spec.specs.Objects.{Object, Live, Dying, Gone, nils, object_at, with_object, in_phase, with_strong_fields, is_live, is_there, new_object, fields_of}
+use Rattle.arc_spec.specs.Objects.{Object, Live, Dying, Gone, object_at, with_object, in_phase, with_strong_fields, is_live, is_there, new_object, fields_of}
 use Rattle.arc_spec.specs.Holding.{Held, Counted, holders, all_places, with_things, raised, lowered, makes}
 use Rattle.arc_lower.proofs.CountsPlaces.{holders_head, holders_append, fields_set, fields_made, nils_holders, field_moves, IsThere, AllThere, set_here, set_other, seam, get_other}
 

@@ -1,10 +1,9 @@
 -- How many places name an object, and how many after a place or an object is changed.
-use Rattle.std.proofs.Common.{◌≡◌, ℕ, zero, suc, ◌+◌, ◌-◌, true, not, nat_eq, nat_lt, if◌then◌else◌, List, [], ◌∷◌, ◌++◌, length, Some, slice_get, slice_set, refl, ap, ◌∙◌, arith, ◌<◌, Option}
+use Rattle.std.proofs.Common.{◌≡◌, ℕ, zero, suc, ◌+◌, ◌-◌, true, not, nat_eq, nat_lt, if◌then◌else◌, List, [], ◌∷◌, ◌++◌, length, Some, slice_get, slice_set, refl, ap, arith, ◌<◌}
 use Rattle.std.proofs.lemmas.Bool.Decides.{nat_tests}
 use Rattle.arc_spec.specs.Objects.{Object, nils, names, with_strong_fields, is_there, fields_of, field_places, object_at}
-use Rattle.arc_spec.specs.Holding.{Held, holders, all_places, with_temporaries, with_variables, with_things, with_strong_globals, raised, lowered, on_object, on_named}
+use Rattle.arc_spec.specs.Holding.{Held, holders, all_places, with_temporaries, with_variables, with_things, with_strong_globals, raised, lowered}
 use Rattle.arc_spec.specs.World.{name_at}
-use Rattle.arc_spec.specs.Stepping.{Next, only_if}
 
 -- 1 where the two are one object, else 0
 abbrev pub tally : (k o : ℕ) → ℕ
