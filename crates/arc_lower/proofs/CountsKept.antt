@@ -50,18 +50,13 @@ module _ {classes : List Class} where
 
   -- ---- what places name
 
-  -- what these places name is there, such as variables, or the places of those that wait
-  pub named_there : (h : Held) (places : List ℕ) → ((k : ℕ) → 0 < holders (suc k) places → 0 < holders (suc k) (all_places h)) → Sane classes h → AllThere h.objects places
-  named_there h places few c k some = right_there classes (h.counts (suc k)) (slice_get h.objects k) (c.right k) (omega (arith, few k some, c.counted k))
+  -- what these places name is there
+  pub keeps_there : {places : List ℕ} {counts : ℕ → ℕ} {objects : List Object} → Keeps classes places counts objects → AllThere objects places
+  keeps_there {counts = counts} {objects = objects} c k some = right_there classes (counts (suc k)) (slice_get objects k) (c.right k) (omega (arith, some, c.counted k))
 
   -- what the fields of an object name is there
   pub fields_there : (h : Held) (j : ℕ) (o : Object) → object_at h.objects (suc j) ≡ Some o → is_there o.phase ≡ true → Sane classes h → AllThere h.objects o.strong
-  fields_there h j o found there = named_there h o.strong (λ k some. grind (arith, holders_append, fields_set (suc k) h.objects j o (in_phase Gone o) found))
-
-  -- what is dropped is there
-  pub drops_there : (r : ℕ) (h : Held) → Drops classes r h → IsThere h.objects r
-  drops_there zero h c = tt
-  drops_there (suc k) h c = right_there classes (h.counts (suc k)) (slice_get h.objects k) (c.right k) (grind (arith, nat_tests, c.counted k))
+  fields_there h j o found there c k some = keeps_there c k (grind (arith, holders_append, fields_set (suc k) h.objects j o (in_phase Gone o) found))
 
   -- ---- places, where no object changes
 

@@ -34,7 +34,7 @@ use Rattle.arc_lower.specs.Lowered.{slots_of, parameters_of, entries_of, end_ste
 use Rattle.arc_lower.specs.Heights.{height, after_effect, next_height}
 use Rattle.arc_lower.proofs.Cases.{by_test}
 use Rattle.arc_lower.proofs.CountsPlaces.{variable_moves, global_moves, second_moves, IsThere, place_there, name_there, set_here, set_same, set_other, holders_head, nils_holders, holders_append, there_fields}
-use Rattle.arc_lower.proofs.CountsKept.{Keeps, Sane, Drops, gains, sane_moved, fits_at, sane_counted, named_there, fields_there, sane_store_field, drops_there, sane_last, lowers, sane_make, sane_turned}
+use Rattle.arc_lower.proofs.CountsKept.{Keeps, Sane, Drops, gains, sane_moved, fits_at, sane_counted, keeps_there, fields_there, sane_store_field, sane_last, lowers, sane_make, sane_turned}
 use Rattle.arc_lower.proofs.Doing.{at, bare, does, executes_at}
 use Rattle.arc_lower.proofs.Standing.{ending, AllDying, IsDying, NilBut, Alive, ends_there, IsHeld, AllHeld, held_there, made_dying, changed_dying, IsApart, live_apart, apart_dying, one_nil, no_field, nil_named, all_in_order}
 use Rattle.arc_lower.proofs.Typing.{Reaches, enough, IsCalled}
@@ -58,7 +58,7 @@ shut_set mine n variables h i k above lt named = grind (arith, length-set variab
 nil_seen : (variables : List ℕ) → NilBut [] variables → all_nil variables ≡ true
 nil_seen [] nil = refl
 nil_seen (zero ∷ rest) nil = nil_seen rest (λ i. nil (suc i))
-nil_seen (suc k ∷ rest) nil = absurd (nil 0 k refl)
+nil_seen (suc k ∷ rest) nil = absurd (omega (arith, nil 0 k refl))
 
 -- ---- references, each of which a temporary holds, or which are nil
 
@@ -239,7 +239,7 @@ module _ (p : Program) (R : resolved.Program) where
       → ((k : ℕ) (ob : Object) → r ≡ suc k → object_at held.objects (suc k) ≡ Some ob → is_live (Some ob) ≡ true → Leads (ends (suc k) ob.class (with_things (lowered (suc k) held) (with_object held.objects (suc k) (in_phase Dying ob))))) → Leads (lets_go r held stays ends)
   lets_go_leads zero held stays ends drops h e = h (lowers 0 held refl drops)
   lets_go_leads (suc k) held stays ends drops h e =
-      let there = drops_there (suc k) held drops in
+      let there = keeps_there drops k (grind (arith, nat_tests)) in
       let ob = there.0 in
       object_leads Good (object_at held.objects (suc k)) ob _ there.1 there.2
       (by_test (λ b. Leads (if b then ends (suc k) ob.class (with_things (lowered (suc k) held) (with_object held.objects (suc k) (in_phase Dying ob))) else stays (lowered (suc k) held))) (is_live (Some ob) && nat_eq (held.counts (suc k)) 1)
@@ -362,10 +362,10 @@ module _ (p : Program) (R : resolved.Program) where
       finds from sign selector takes objects wanted to e = methods_go R from sign selector takes objects wanted to (subst (λ cs. lookup cs from sign selector takes objects wanted ≡ Some to) classes e)
 
       self_there : IsThere held.objects held.self
-      self_there = o.alive held.objects (named_there held held.places (λ k some. omega (arith, holders_append, some)) o.sane) (ends_there held.objects frames o.dying)
+      self_there = o.alive held.objects (λ k some. keeps_there {places = all_places held} o.sane k (omega (arith, holders_append, some))) (ends_there held.objects frames o.dying)
 
       is_held : (r : ℕ) → IsHeld r stays_held → IsThere held.objects r
-      is_held r h = held_there held.objects held.temporaries held.variables held.places r h (named_there held (stacked held) (λ k some. omega (arith, holders_append, some)) o.sane)
+      is_held r h = held_there held.objects held.temporaries held.variables held.places r h (λ k some. keeps_there {places = all_places held} o.sane k (omega (arith, holders_append, some)))
 
       -- the same references, or others, where other things are the same
       owns : {own1 : List ℕ} (names1 : List ℕ) → names1 ≡ own1 ++ deeper → AllHeld own1 stays_held → Owns [] own1 (with_names held names1)
@@ -434,9 +434,9 @@ module _ (p : Program) (R : resolved.Program) where
       operation_keeps Nil needs = refers _ _ _ (0 ∷ own) (λ k some. grind (arith, nat_tests, o.keeps k)) (ap (λ l. 0 ∷ l) o.is) refl tt
       operation_keeps ReadSelf needs = reads _ held.self held.names own o.keeps o.is self_there refl tt
       operation_keeps (ReadRef i) needs = found_leads _ held.variables i _ (omega (arith, many, needs)) (λ r found.
-          reads _ r held.names own o.keeps o.is (place_there held.objects i r held.variables found (named_there held held.variables (λ k some. omega (arith, holders_append, some)) o.sane)) refl tt)
+          reads _ r held.names own o.keeps o.is (place_there held.objects i r held.variables found (λ k some. keeps_there {places = all_places held} o.sane k (omega (arith, holders_append, some)))) refl tt)
       operation_keeps (ReadGlobal i) needs = reads _ (name_at held.strong_globals i) held.names own o.keeps o.is
-          (name_there held.objects held.strong_globals i (named_there held held.strong_globals (λ k some. omega (arith, holders_append, some)) o.sane)) refl tt
+          (name_there held.objects held.strong_globals i (λ k some. keeps_there {places = all_places held} o.sane k (omega (arith, holders_append, some)))) refl tt
       operation_keeps (ReadField class index) needs = last_leads_on _ _ (omega (arith, needs)) (λ r rest _ now kept. field_leads _ class r held _ (is_held r now) (λ j ob _ found there.
           reads _ (name_at ob.strong index) (rest ++ deeper) rest kept refl (name_there held.objects ob.strong index (fields_there held j ob found there o.sane)) refl tt))
       operation_keeps Hold needs = last_leads_on _ _ (omega (arith, needs)) (λ r rest _ now kept. named_leads _ r held _ (is_held r now) (takes _ r held.names own (λ k some. grind (arith, o.keeps k)) o.is (is_held r now) refl tt))
@@ -698,7 +698,7 @@ module _ (p : Program) (R : resolved.Program) where
           let none = nil_from_length held.temporaries (omega (arith, few, st.2)) in
           let clears : Clear 0 pc = (0, ap role_of is) in
           let shut = subst (λ g. Shut g 0 held.variables) st.3 (nil 0 clears) in
-          let empty : NilBut [] held.variables = λ i k named. shut i k (omega arith) (omega (arith, slice_get_within held.variables i (suc k) named)) named in
+          let empty : NilBut [] held.variables = λ i k named. absurd (shut i k (omega arith) (omega (arith, slice_get_within held.variables i (suc k) named)) named) in
           top_leads Good stack _ (omega (arith, count, st.0)) (λ v rest e. left_leads held.temporaries held _ none empty
           (leaves_lead frames pc v stack rest held (left_waits gives.Number st.3 rest (omega (arith, count, st.0, e)) st.1) o.alive e none empty o.dying o.sane running))
       order_leads EndStep is stands no_end nil ready st = absurd (no_end refl)

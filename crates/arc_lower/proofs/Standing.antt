@@ -20,13 +20,9 @@ ending (Calling back waits ∷ others) = ending others
 ending (Ending back waits o next left ∷ others) = record { object = o; fields = None } ∷ ending others
 ending (Clearing back waits o fields ∷ others) = record { object = o; fields = Some fields } ∷ ending others
 
-abbrev pub IsOneOf : ℕ → List ℕ → Type 0
-IsOneOf i [] = ⊥
-IsOneOf i (j ∷ others) = (i ≡ j) ⊎ IsOneOf i others
-
 -- all fields but these name nothing
 abbrev pub NilBut : (fields strong : List ℕ) → Type 0
-NilBut fields strong = (i k : ℕ) → slice_get strong i ≡ Some (suc k) → IsOneOf i fields
+NilBut fields strong = (i k : ℕ) → slice_get strong i ≡ Some (suc k) → 0 < holders i fields
 
 -- how far an object is on its way whose end is running
 abbrev pub IsAsFar : Option (List ℕ) → Object → Type 0
@@ -109,33 +105,29 @@ live_apart objects k ob all found live = ends_map _ _ (λ e d same. let far = as
 
 -- one field more names nothing
 pub one_nil : (index : ℕ) (fields strong : List ℕ) → NilBut (index ∷ fields) strong → NilBut fields (slice_set strong index 0)
-one_nil index fields strong but i k named = grind (arith, but i k, set_same strong index 0 (suc k), set_other strong index i 0)
+one_nil index fields strong but i k named = grind (arith, nat_tests, but i k, set_same strong index 0 (suc k), set_other strong index i 0)
 
 -- where that field isn't there
 pub no_field : (index : ℕ) (fields strong : List ℕ) → slice_get strong index ≡ None → NilBut (index ∷ fields) strong → NilBut fields strong
-no_field index fields strong none but i k named = grind (arith, but i k)
+no_field index fields strong none but i k named = grind (arith, nat_tests, but i k)
 
 -- fields that all are nil name nothing
 pub nil_named : (strong : List ℕ) → NilBut [] strong → (k : ℕ) → holders (suc k) strong ≡ 0
 nil_named [] but k = refl
 nil_named (zero ∷ strong) but k = grind (arith, nat_tests, nil_named strong (λ i. but (suc i)) k)
-nil_named (suc j ∷ strong) but k = absurd (but 0 j refl)
+nil_named (suc j ∷ strong) but k = absurd (omega (arith, but 0 j refl))
 
 -- ---- all fields are destroyed
 
-pub in_numbers : (i first count : ℕ) → first ≤ i → i < first + count → IsOneOf i (numbers_from first count)
+in_numbers : (i first count : ℕ) → first ≤ i → i < first + count → 0 < holders i (numbers_from first count)
 in_numbers i first zero le lt = absurd (omega arith)
-in_numbers i first (suc n) le lt = grind (arith, in_numbers i (suc first) n)
+in_numbers i first (suc n) le lt = grind (arith, nat_tests, in_numbers i (suc first) n)
 
-pub in_append : (i : ℕ) (a b : List ℕ) → IsOneOf i a ⊎ IsOneOf i b → IsOneOf i (a ++ b)
-in_append i [] b one = grind arith
-in_append i (j ∷ a) b one = grind (arith, in_append i a b)
-
-in_order : (above : List ℕ) (i count : ℕ) → i < count → IsOneOf i (order_of_fields count above)
+in_order : (above : List ℕ) (i count : ℕ) → i < count → 0 < holders i (order_of_fields count above)
 in_order [] i count lt = in_numbers i 0 count (omega arith) (omega arith)
 in_order (n ∷ above) i count lt =
     let least = lesser n count in
-    in_append i (numbers_from least (count - least)) (order_of_fields least above) (grind (arith, in_order above i least, in_numbers i least (count - least)))
+    grind (arith, holders_append, in_order above i least, in_numbers i least (count - least))
 
 -- the order of an object's fields has all of them
 pub all_in_order : (classes : List Class) (ob : Object) → length ob.strong ≡ strong_count (slice_get classes ob.class) → NilBut (field_order classes ob.class) ob.strong

@@ -1,10 +1,11 @@
 -- A step shows the same and leads to the same, whatever is counted for nil, where each count is the number of places.
 use Rattle.std.proofs.Common.{◌≡◌, ℕ, zero, suc, ◌-◌, Bool, nat_eq, if◌then◌else◌, ℤ, List, [], ◌∷◌, Option, Some, slice_get, slice_set, refl, ap, ◌∙◌, ◌≤◌, sym, subst, arith}
+use Rattle.arc_spec.specs.declared.event.Fault.TheVariants.{FieldClass}
 use Rattle.arc_spec.specs.declared.class.Gives.{Gives}
 use Rattle.arc_spec.specs.declared.class.Gives.TheVariants as gives
 use Rattle.arc_spec.specs.Classes.{descends, field_order}
 use Rattle.arc_spec.specs.Objects.{Object, object_at}
-use Rattle.arc_spec.specs.Stepping.{Next, on_top, on_found, Reached, Running, Wedged, Along, follow, further, after_steps}
+use Rattle.arc_spec.specs.Stepping.{Next, Faults, on_top, on_found, Reached, Running, Wedged, Along, follow, further, after_steps}
 use Rattle.arc_spec.specs.Holding.{Held, Frame, Ending, Clearing, Waiter, with_strong_globals, on_place, Counted, with_temporaries, with_variables, on_object, on_named, on_last, on_field, with_names, stores_field, raised}
 use Rattle.arc_ir.specs.Acting.{Action, linked, Program, State, keeps, answers, taken, sends, releases, drops_all, clears, after_deallocs, end_goes_on, executes, IsSound, start, step, seen}
 use Rattle.arc_code.specs.Instructions as instructions
@@ -12,6 +13,7 @@ use Rattle.arc_code.specs.declared.instr.Op.{Op}
 use Rattle.arc_code.specs.declared.instr.Op.TheVariants.{Num}
 use Rattle.arc_code.specs.Instructions.{operates}
 use Rattle.arc_code.specs.declared.instr.Instr.TheVariants.{Plain, StoreStrong, StoreGlobal, DropAll, Give, EndStep}
+use Rattle.arc_lower.proofs.Cases.{by_test}
 use Rattle.arc_lower.proofs.Standing.{ending, AllDying}
 use Rattle.arc_lower.proofs.Doing.{fresh, recount, moves}
 use Rattle.arc_spec.specs.Resolved as resolved
@@ -46,9 +48,6 @@ object_agrees found go go' h = grind (arith, h)
 place_agrees : (found : Option ℕ) (none none' : Next State) (go go' : ℕ → Next State) → Agree none none' → ((old : ℕ) → Agree (go old) (go' old)) → Agree (on_place found none go) (on_place found none' go')
 place_agrees found none none' go go' same h = grind (arith, h)
 
-if_agrees : (b : Bool) (x y x' y' : Next State) → Agree x x' → Agree y y' → Agree (if b then x else y) (if b then x' else y')
-if_agrees b x y x' y' h g = grind arith
-
 taken_agrees : (n : ℕ) (stack : List ℤ) (go go' : List ℤ → Next State) → ((rest : List ℤ) → Agree (go rest) (go' rest)) → Agree (taken n stack go) (taken n stack go')
 taken_agrees zero stack go go' h = h stack
 taken_agrees (suc n) [] go go' h = refl
@@ -71,8 +70,7 @@ module _ (p : Program) (s : State) (right : Counted s.held) where
   object_answers_agree wanted self selector takes objects names found = grind arith
 
   sends_agree : (wanted : Gives) (from : Object → ℕ) (self selector takes objects : ℕ) (names : List ℕ) → Agree (sends p s wanted from self selector takes objects names) (sends p t wanted from self selector takes objects names)
-  sends_agree gives.Number from zero selector takes objects names = taken_agrees takes s.stack _ _ (λ rest. refl)
-  sends_agree gives.Object from zero selector takes objects names = taken_agrees takes s.stack _ _ (λ rest. refl)
+  sends_agree wanted from zero selector takes objects names = taken_agrees takes s.stack _ _ (λ rest. grind arith)
   sends_agree wanted from (suc k) selector takes objects names = object_agrees (object_at s.held.objects (suc k)) _ _ (λ o. object_answers_agree wanted (suc k) selector takes objects names _)
 
   -- the temporaries are dropped, with counts that are the same but for nil
@@ -88,7 +86,8 @@ module _ (p : Program) (s : State) (right : Counted s.held) where
 
   field_agrees : (class r : ℕ) (go go' : Object → Next State) → ((o : Object) → Agree (go o) (go' o)) → Agree (on_field p.classes class r s.held go) (on_field p.classes class r t.held go')
   field_agrees class zero go go' h = refl
-  field_agrees class (suc k) go go' h = object_agrees (object_at s.held.objects (suc k)) _ _ (λ o. if_agrees (descends p.classes (Some o.class) class) _ _ _ _ (h o) refl)
+  field_agrees class (suc k) go go' h = object_agrees (object_at s.held.objects (suc k)) _ _ (λ o.
+      by_test (λ b. Agree (if b then go o else Faults FieldClass) (if b then go' o else Faults FieldClass)) (descends p.classes (Some o.class) class) (λ _. h o) (λ _. refl))
 
   -- a field of an object is set
   stores_agree : (r x index : ℕ) (names : List ℕ) (o : Object) → Agree (stores_field x o index r (with_names s.held names) (keeps s s.stack) (instructions.ends_after (linked p) s)) (stores_field x o index r (with_names t.held names) (keeps t t.stack) (instructions.ends_after (linked p) t))
