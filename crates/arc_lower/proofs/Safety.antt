@@ -240,11 +240,7 @@ module _ (p : Program) (R : resolved.Program) where
   lets_go_leads zero held stays ends drops h e = h (lowers 0 held refl drops)
   lets_go_leads (suc k) held stays ends drops h e =
       let there = keeps_there drops k (grind (arith, nat_tests)) in
-      let ob = there.0 in
-      object_leads Good (object_at held.objects (suc k)) ob _ there.1 there.2
-      (by_test (λ b. Leads (if b then ends (suc k) ob.class (with_things (lowered (suc k) held) (with_object held.objects (suc k) (in_phase Dying ob))) else stays (lowered (suc k) held))) (is_live (Some ob) && nat_eq (held.counts (suc k)) 1)
-      (λ t. e k ob refl there.1 (and_parts (is_live (Some ob)) (nat_eq (held.counts (suc k)) 1) t).0)
-      (λ t. h (lowers (suc k) held (ap (λ o. is_live o && nat_eq (held.counts (suc k)) 1) there.1 ∙ t) drops)))
+      grind (arith, e k, λ (more : (is_live (object_at held.objects (suc k)) && nat_eq (held.counts (suc k)) 1) ≡ false). h (lowers (suc k) held more drops))
 
   -- all variables but the last one are nil
   last_leads : (variables : List ℕ) (go : ℕ → Next State) → 1 ≤ length variables → Shut gives.Object 0 variables → ((r : ℕ) → ((k : ℕ) → holders (suc k) variables ≡ holders (suc k) (r ∷ [])) → Leads (go r)) → Leads (on_last variables go)
@@ -454,9 +450,7 @@ module _ (p : Program) (R : resolved.Program) where
       operation_keeps _ needs = search (arith, keeping) depth 8
 
       ready_after : (x : Op) (own1 temporaries1 : List ℕ) → IsMade x own1 temporaries1 → Is_free (pc + 1) ⊎ ((x ≡ Alloc) × Quiet R (all R) (table R) (pc + 1)) → Ready (pc + 1) own1 temporaries1 held.places
-      ready_after x own1 temporaries1 made (inl free) = inl free
-      ready_after Alloc own1 temporaries1 made (inr quiet) = inr (inl (quiet.1, made))
-      ready_after _ own1 temporaries1 made (inr (same, quiet)) = cc
+      ready_after x own1 temporaries1 made free = grind arith
 
       shut_before : (x : Op) → slice_get (all R) pc ≡ Some (Plain x) → (k : ℕ) → Clear k pc → Shut mine k held.variables → Shut mine k (declared x held.variables)
       shut_before Declare is k before shut = absurd (inside_clears R (all R) (table R) pc Stays tt (ap role_of is) k before)
@@ -465,15 +459,11 @@ module _ (p : Program) (R : resolved.Program) where
       operation_leads : (x : Op) → slice_get (all R) pc ≡ Some (Plain x) → (nil : (k : ℕ) → Clear k pc → Shut mine k held.variables) → Reaches x h → Onward R (all R) (table R) mine pc (pc + 1) (next_height R (Plain x) h) → Is_free (pc + 1) ⊎ ((x ≡ Alloc) × Quiet R (all R) (table R) (pc + 1)) → Leads (operates p.classes x s)
       operation_leads x is nil needs g free = along_both (Kept x) (Follows (operation_effect x) s) Good (λ t kept f.
           let none = enough x h needs in
-          let names_now = ap length kept.owns1.is in
-          let names_then = ap length o.is in
-          let long = length-append kept.own1 deeper in
-          let longer = length-append own deeper in
           subst (λ fs. Good (at fs t.at t.stack t.held)) (sym f.frames) (subst (λ n. Good (at frames n t.stack t.held)) (sym f.at)
           (run_on (pc + 1) t.stack t.held kept.owns1
           (back (pc + 1) (next_height R (Plain x) h) g.0 (length t.stack) kept.owns1
           (λ k c. ⊎_elim (λ before. subst (Shut mine k) (sym kept.variables) (shut_before x is k before (nil k before))) (λ le. shut_end mine t.held.variables k (omega (arith, f.variables, many, le))) (g.1 k c))
-          (subst (Ready (pc + 1) kept.own1 t.held.temporaries) (sym f.places) (ready_after x kept.own1 t.held.temporaries kept.made free)) (omega (arith, count, none, f.numbers)) (omega (arith, size, none, f.names, names_now, names_then, long, longer)) (omega (arith, few, f.temporaries)) (omega (arith, many, f.variables))))))
+          (subst (Ready (pc + 1) kept.own1 t.held.temporaries) (sym f.places) (ready_after x kept.own1 t.held.temporaries kept.made free)) (omega (arith, count, none, f.numbers)) (omega (arith, size, none, f.names, ap length kept.owns1.is, ap length o.is, length-append {A = ℕ})) (omega (arith, few, f.temporaries)) (omega (arith, many, f.variables))))))
           (operates p.classes x s) (operation_keeps x needs) (operation_follows p.classes s x)
 
       -- where a run stands after a call that takes so many numbers and references
@@ -661,43 +651,29 @@ module _ (p : Program) (R : resolved.Program) where
           let long = length-set held.variables i 0 in
           let o1 : Owns (r ∷ []) own (raised 0 (with_variables held (slice_set held.variables i 0))) = record { is = o.is; keeps = o.keeps; alive = o.alive; waits = o.waits; dying = o.dying; sane = sane_moved (λ k. omega (arith, holders_head, variable_moves (suc k) held i r 0 found)) (gains 0 tt o.sane) } in
           releases_lead r pc stack held _ o1
-          (back (pc + 1) (next_height R (Empty i) h) st.1 (length stack) o1 (λ k c. ⊎_elim (λ same. nil_from k (subst (λ j. Clear j (pc + 1)) same c) same) (λ le. shut_end mine (slice_set held.variables i 0) k (omega (arith, many, long, le))) (st.2 k c)) (inl st.3) (omega (arith, count)) (omega (arith, size)) (omega (arith, few)) (omega (arith, many, long))))
-        where
-          nil_from : (k : ℕ) → Clear i (pc + 1) → k ≡ i → Shut mine k (slice_set held.variables i 0)
-          nil_from k c same = subst (λ j. Shut mine j (slice_set held.variables i 0)) (sym same) (shut_set mine i held.variables (nil (suc i) (ap role_of is, c)))
+          (back (pc + 1) (next_height R (Empty i) h) st.1 (length stack) o1 (λ k c. ⊎_elim (λ same. subst (λ j. Shut mine j (slice_set held.variables i 0)) (sym same) (shut_set mine i held.variables (nil (suc i) (ap role_of is, subst (λ j. Clear j (pc + 1)) same c)))) (λ le. shut_end mine (slice_set held.variables i 0) k (omega (arith, many, long, le))) (st.2 k c)) (inl st.3) (omega (arith, count)) (omega (arith, size)) (omega (arith, few)) (omega (arith, many, long))))
       order_leads DropAll is stands no_end nil ready st =
           let none = nil_from_length own (omega (arith, size, st.0)) in
           let free = calm_free R (all R) (table R) pc Stays tt (ap role_of is) in
           drops_lead held.temporaries pc h stack held held refl stands free st.1 nil count (omega (arith, st.0)) few many (subst (λ l. Owns [] l held) none o)
-      order_leads Settle is stands no_end nil ready st = ⊎_elim
-          (λ (f : Is_free pc). absurd (f.0 (ap role_of is)))
-          (λ more. ⊎_elim (λ made. absurd (made.0 (ap role_of is))) (λ over. settles_lead over.1 st) more)
-          ready
-        where
-          settles_lead : Initialized own held.temporaries held.places → Goes_to mine (pc + 1) (next_height R Settle h) → Leads (does p Settle s)
-          settles_lead m g =
-              let o1 : Owns (m.1 ∷ []) (m.0 ∷ m.2) (with_temporaries held (m.0 ∷ m.3)) = record {
-                is = o.is ∙ ap (λ l. l ++ deeper) m.4;
-                keeps = λ k some. grind (arith, m.6 k);
-                alive = o.alive;
-                waits = o.waits;
-                dying = o.dying;
-                sane = sane_moved (λ k. second_moves (suc k) held m.0 m.1 m.3 m.5) o.sane;
-              } in
-              let names_size = ap length m.4 in
-              let places_size = ap length m.5 in
-              subst (λ l. Leads (instructions.settles (bare p) s l)) (sym m.5)
-              (releases_lead m.1 pc stack held _ o1 (back_any (pc + 1) (next_height R Settle h) g (length stack) o1 (omega (arith, count)) (omega (arith, size, names_size)) (omega (arith, few, places_size)) (omega (arith, many))))
+      order_leads Settle is stands no_end nil (inl free) st = absurd (free.0 (ap role_of is))
+      order_leads Settle is stands no_end nil (inr (inl made)) st = absurd (made.0 (ap role_of is))
+      order_leads Settle is stands no_end nil (inr (inr over)) st =
+          let m = over.1 in
+          let sane1 = sane_moved (λ k. second_moves (suc k) held m.0 m.1 m.3 m.5) o.sane in
+          let o1 : Owns (m.1 ∷ []) (m.0 ∷ m.2) (with_temporaries held (m.0 ∷ m.3)) = record { is = o.is ∙ ap (λ l. l ++ deeper) m.4; keeps = λ k some. grind (arith, m.6 k); alive = o.alive; waits = o.waits; dying = o.dying; sane = sane1 } in
+          let names_size = ap length m.4 in
+          let places_size = ap length m.5 in
+          subst (λ l. Leads (instructions.settles (bare p) s l)) (sym m.5)
+          (releases_lead m.1 pc stack held _ o1 (back_any (pc + 1) (next_height R Settle h) st (length stack) o1 (omega (arith, count)) (omega (arith, size, names_size)) (omega (arith, few, places_size)) (omega (arith, many))))
       order_leads Give is stands no_end nil ready st =
           let none = nil_from_length held.temporaries (omega (arith, few, st.2)) in
-          let clears : Clear 0 pc = (0, ap role_of is) in
-          let shut = subst (λ g. Shut g 0 held.variables) st.3 (nil 0 clears) in
+          let shut = subst (λ g. Shut g 0 held.variables) st.3 (nil 0 (0, ap role_of is)) in
           top_leads Good stack _ (omega (arith, count, st.0)) (λ v rest e. subst (λ l. Leads (on_result l held (λ r. instructions.hands_over (bare p) s frames r rest))) (sym none) (last_leads held.variables _ (omega (arith, many, st.4)) shut (λ r last.
           hands_lead frames pc r stack rest held (left_waits gives.Object st.3 rest (omega (arith, count, st.0, e)) st.1) none last o.dying o.sane)))
       order_leads Return is stands no_end nil ready st =
           let none = nil_from_length held.temporaries (omega (arith, few, st.2)) in
-          let clears : Clear 0 pc = (0, ap role_of is) in
-          let shut = subst (λ g. Shut g 0 held.variables) st.3 (nil 0 clears) in
+          let shut = subst (λ g. Shut g 0 held.variables) st.3 (nil 0 (0, ap role_of is)) in
           let empty : NilBut [] held.variables = λ i k named. absurd (shut i k (omega arith) (omega (arith, slice_get_within held.variables i (suc k) named)) named) in
           top_leads Good stack _ (omega (arith, count, st.0)) (λ v rest e. left_leads held.temporaries held _ none empty
           (leaves_lead frames pc v stack rest held (left_waits gives.Number st.3 rest (omega (arith, count, st.0, e)) st.1) o.alive e none empty o.dying o.sane running))
