@@ -35,10 +35,6 @@ Sane classes h = Keeps classes (all_places h) h.counts h.objects
 abbrev pub Drops : List Class → ℕ → Held → Type 0
 Drops classes r h = Keeps classes (r ∷ all_places h) h.counts h.objects
 
-right_there : (classes : List Class) (n : ℕ) (found : Option Object) → Right classes n found → 0 < n → (o : Object) × (found ≡ Some o) × (is_there o.phase ≡ true)
-right_there classes n None right some = absurd (omega (arith, right, some))
-right_there classes n (Some o) right some = (o, refl, right.there some)
-
 module _ {classes : List Class} where
   -- what is found fits its count
   pub fits_at : {places : List ℕ} {counts : ℕ → ℕ} {objects : List Object} (k : ℕ) (o : Object) → slice_get objects k ≡ Some o
@@ -52,7 +48,7 @@ module _ {classes : List Class} where
 
   -- what these places name is there
   pub keeps_there : {places : List ℕ} {counts : ℕ → ℕ} {objects : List Object} → Keeps classes places counts objects → AllThere objects places
-  keeps_there {counts = counts} {objects = objects} c k some = right_there classes (counts (suc k)) (slice_get objects k) (c.right k) (omega (arith, some, c.counted k))
+  keeps_there c k some = grind (arith, c.counted k, c.right k)
 
   -- what the fields of an object name is there
   pub fields_there : (h : Held) (j : ℕ) (o : Object) → object_at h.objects (suc j) ≡ Some o → is_there o.phase ≡ true → Sane classes h → AllThere h.objects o.strong

@@ -5,7 +5,7 @@ use Rattle.std.proofs.Math.Seq.{take-append_seam, drop-append_seam}
 use Rattle.std.proofs.lemmas.Bool.{and_parts, eqb-true}
 use Rattle.std.proofs.lemmas.Bool.Decides.{nat_tests}
 use Rattle.std.proofs.lemmas.List.{length-set, nil_from_length, take-append-drop, length-take-le}
-use Rattle.std.proofs.lemmas.Option.{slice_get_within}
+use Rattle.std.proofs.lemmas.Option.{slice_get_within, slice_get_cases}
 use Rattle.arc_ast.specs.declared.tree.Sign.{Sign}
 use Rattle.arc_ast.specs.declared.tree.Sign.TheVariants as signs
 use Rattle.arc_spec.specs.declared.class.Gives.{Gives}
@@ -197,9 +197,7 @@ module _ (p : Program) (R : resolved.Program) where
     top_leads stack go some h = grind (arith, h)
 
     found_leads : {A : Type 0} (list : List A) (i : ℕ) (go : A → Next State) → i < length list → ((a : A) → slice_get list i ≡ Some a → Along P (go a)) → Along P (on_found (slice_get list i) go)
-    found_leads [] i go lt h = absurd (omega (arith, lt))
-    found_leads (a ∷ list) zero go lt h = h a refl
-    found_leads (a ∷ list) (suc i) go lt h = found_leads list i go (omega (arith, lt)) h
+    found_leads list i go lt h = grind (arith, h, slice_get_cases list i)
 
     named_leads : (r : ℕ) (held : Held) (next : Next State) → IsThere held.objects r → Along P next → Along P (on_named r held next)
     named_leads r held next there h = grind arith
@@ -280,14 +278,12 @@ module _ (p : Program) (R : resolved.Program) where
   begins_lead frames false k to pc ob stack before held found live dying drops waits = tt
   begins_lead frames true k to pc ob stack before held found live dying drops waits =
       let objects = with_object held.objects (suc k) (in_phase Dying ob) in
-      let h1 = with_things (lowered (suc k) held) objects in
+      let w = waiter_of held in
+      let again : EndsAgain p.end_step (suc k) (Ending to w (suc k) (Some ob.class) (length p.classes) ∷ frames) [] [] (stacked held) = record { at_end = refl; is_ending = tt; none = refl; empty = refl; alive = λ objects there ends. ends.0 } in
       let begun : IsDying objects (suc k) None = (in_phase Dying ob, set_here held.objects k (in_phase Dying ob) ob found, refl) in
       let apart = live_apart held.objects k ob (ending frames) found live dying in
-      let still : AllDying objects (ending frames) = apart_dying held.objects k (in_phase Dying ob) (ending frames) apart dying in (
-        inr (record { at_end = refl; is_ending = tt; none = refl; empty = refl; alive = λ objects there ends. ends.0 }, (apart, as_waits (GoesOn (λ g. Waits g frames) to held.self frames (length stack) held.names) held waits)),
-        (begun, still),
-        sane_last held k ob found (grind arith) drops,
-      )
+      let below = as_waits (GoesOn (λ g. Waits g frames) to held.self frames (length stack) held.names) held waits in
+      (inr (again, (apart, below)), (begun, apart_dying held.objects k (in_phase Dying ob) (ending frames) apart dying), sane_last held k ob found (grind arith) drops)
 
   -- ---- one step of a function
 
