@@ -99,10 +99,7 @@ module _ {classes : List Class} where
       let x = new_object class (field_counts (slice_get classes class)) in
       record {
         counted = λ k. grind (arith, nat_tests, holders_append, fields_made (suc k) h.objects x, nils_holders k n, c.counted k);
-        right = λ k. ⊎_elim
-            (λ same. grind (arith, nat_tests, length-replicate {A = ℕ} n 0, seam h.objects [] x))
-            (λ ne. grind (arith, nat_tests, get_other h.objects k x ne, c.right k))
-            (cases_eq k (length h.objects));
+        right = λ k. grind (arith, nat_tests, length-replicate {A = ℕ} n 0, seam h.objects [] x, get_other h.objects k x, c.right k);
       }
 
   -- ---- a place that was dropped is counted no more

@@ -74,11 +74,7 @@ made_dying objects x = ends_map _ _ (λ e d. (d.0, grind (arith, get_other objec
 
 -- an object is changed, which ends nowhere, or is afterwards as far as before
 changed_dies : (objects : List Object) (k : ℕ) (x : Object) (o : ℕ) (fields : Option (List ℕ)) → (o ≡ suc k → IsAsFar fields x) → IsDying objects o fields → IsDying (slice_set objects k x) o fields
-changed_dies objects k x zero fields still d = cc
-changed_dies objects k x (suc j) fields still d = ⊎_elim
-    (λ same. (x, grind (arith, set_here objects k x d.0), still (ap suc same)))
-    (λ ne. (d.0, set_other objects k j x ne ∙ d.1, d.2))
-    (cases_eq j k)
+changed_dies objects k x o fields still d = grind (arith, nat_tests, still, set_here objects k x d.0, set_other objects k (o - 1) x)
 
 -- this object isn't one of these
 abbrev pub IsApart : ℕ → List End → Type 0
