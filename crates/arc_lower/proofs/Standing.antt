@@ -1,6 +1,5 @@
 -- What a running program keeps: what places name is there, and an object whose end is running stays as it is.
-use Rattle.std.proofs.Common.{◌≡◌, ◌⊎◌, ℕ, zero, suc, ◌+◌, ◌-◌, ◌<◌, ◌≤◌, true, List, [], ◌∷◌, ◌++◌, length, Option, Some, None, ⊎_elim, slice_get, slice_set, refl, ap, ◌∙◌, subst, arith}
-use Rattle.std.proofs.lemmas.Bool.{cases_eq}
+use Rattle.std.proofs.Common.{◌≡◌, ℕ, zero, suc, ◌+◌, ◌-◌, ◌<◌, ◌≤◌, true, List, [], ◌∷◌, ◌++◌, length, Option, Some, None, slice_get, slice_set, refl, subst, arith}
 use Rattle.std.proofs.lemmas.Bool.Decides.{nat_tests}
 use Rattle.std.proofs.lemmas.Option.{slice_get_within}
 use Rattle.arc_spec.specs.Classes.{Class, lesser, numbers_from, order_of_fields, strong_count, strong_counts, ancestry, superclasses, above_class, field_order}
@@ -84,18 +83,14 @@ pub apart_dying : (objects : List Object) (k : ℕ) (x : Object) (all : List End
 apart_dying objects k x [] apart d = tt
 apart_dying objects k x (e ∷ others) apart d = (changed_dies objects k x e.object e.fields (λ same. absurd (apart.0 same)) d.0, apart_dying objects k x others apart.1 d.1)
 
--- an object that is found is as far as the end that is running
-as_far : (objects : List Object) (k : ℕ) (ob : Object) → object_at objects (suc k) ≡ Some ob → (o : ℕ) (fields : Option (List ℕ)) → o ≡ suc k → IsDying objects o fields
-    → IsAsFar fields ob
-as_far objects k ob found o fields e d = let same : d.0 ≡ ob = grind arith in subst (IsAsFar fields) same d.2
-
+-- an object that is found is changed, which is as far as before
 pub changed_dying : (objects : List Object) (k : ℕ) (ob x : Object) (all : List End) → object_at objects (suc k) ≡ Some ob → ((fields : Option (List ℕ)) → IsAsFar fields ob → IsAsFar fields x) → AllDying objects all → AllDying (slice_set objects k x) all
 changed_dying objects k ob x all found still =
-    ends_map _ _ (λ e d. changed_dies objects k x e.object e.fields (λ same. still e.fields (as_far objects k ob found e.object e.fields same d)) d) all
+    ends_map _ _ (λ e d. changed_dies objects k x e.object e.fields (λ same. still e.fields (let is : d.0 ≡ ob = grind arith in subst (IsAsFar e.fields) is d.2)) d) all
 
 -- what isn't ending yet is none of those that are
 pub live_apart : (objects : List Object) (k : ℕ) (ob : Object) (all : List End) → object_at objects (suc k) ≡ Some ob → is_live (Some ob) ≡ true → AllDying objects all → IsApart (suc k) all
-live_apart objects k ob all found live = ends_map _ _ (λ e d same. let far = as_far objects k ob found e.object e.fields same d in grind arith) all
+live_apart objects k ob all found live = ends_map _ _ (λ e d same. grind (arith, d.2)) all
 
 -- ---- fields that are destroyed
 

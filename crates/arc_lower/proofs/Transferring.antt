@@ -1,8 +1,7 @@
 -- A step shows the same and leads to the same, whatever is counted for nil, where each count is the number of places.
-use Rattle.std.proofs.Common.{◌≡◌, ℕ, zero, suc, ◌-◌, Bool, nat_eq, if◌then◌else◌, ℤ, List, [], ◌∷◌, Option, Some, slice_get, slice_set, refl, ap, ◌∙◌, ◌≤◌, sym, subst, arith}
+use Rattle.std.proofs.Common.{◌≡◌, ℕ, zero, suc, ◌-◌, nat_eq, if◌then◌else◌, ℤ, List, [], ◌∷◌, Option, Some, slice_get, slice_set, refl, ap, ◌∙◌, ◌≤◌, sym, subst, arith}
 use Rattle.arc_spec.specs.declared.event.Fault.TheVariants.{FieldClass}
 use Rattle.arc_spec.specs.declared.class.Gives.{Gives}
-use Rattle.arc_spec.specs.declared.class.Gives.TheVariants as gives
 use Rattle.arc_spec.specs.Classes.{descends, field_order}
 use Rattle.arc_spec.specs.Objects.{Object, object_at}
 use Rattle.arc_spec.specs.Stepping.{Next, Faults, on_top, on_found, Reached, Running, Wedged, Along, follow, further, after_steps}
