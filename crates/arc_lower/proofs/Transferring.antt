@@ -128,7 +128,7 @@ module _ (p : Program) (s : State) (right : Counted s.held) where
   acts_agree (Some (StoreGlobal i)) dying = top_agrees s.held.names _ _ (λ r rest. named_agrees r s.held t.held.counts _ _ (place_agrees (slice_get s.held.strong_globals i) _ _ _ _ refl (λ old.
       releases_agree r old (with_strong_globals s.held (slice_set s.held.strong_globals i r)))))
   acts_agree (Some Give) dying = grind (arith, last_agrees)
-  acts_agree _ dying = first_of (grind (arith, right.counted), search agrees depth 8)
+  acts_agree _ dying = first_of (search agrees depth 8, grind (arith, right.counted))
 
 -- ---- No run of a program has more numbers, references and places than the heights of its actions say; with room for these it is sound.
 
