@@ -681,16 +681,12 @@ module _ (p : Program) (R : resolved.Program) where
     no_variables : NilBut [] held.variables
     no_variables = subst (NilBut []) (sym empty) (λ i k e. cc)
 
-    -- what waits for the end of this object
-    abbrev Later : (back : ℕ) → Waiter → ℕ → List Frame → Type 0
-    Later back w o others = Interrupted (λ g. Waits g others) back w o others (length stack) held.names held.places
-
     -- it goes on
     ends_again : (frames : List Frame) → IsEnding frames → Alive frames held.places held.self
         → EndsAgain p.end_step held.self frames held.temporaries held.variables held.places
     ends_again frames is alive = record { at_end = refl; is_ending = is; none = none; empty = empty; alive = alive }
 
-    module _ (back : ℕ) (w : Waiter) (k : ℕ) (others : List Frame) (alive : Alive (Ending back w (suc k) None 0 ∷ others) held.places held.self) (dying : AllDying held.objects (ending others)) (later : Later back w (suc k) others) where
+    module _ (back : ℕ) (w : Waiter) (k : ℕ) (others : List Frame) (alive : Alive (Ending back w (suc k) None 0 ∷ others) held.places held.self) (dying : AllDying held.objects (ending others)) (later : Interrupted (λ g. Waits g others) back w (suc k) others (length stack) held.names held.places) where
       -- what else ends is as far as before once the object is changed
       still : (x : Object) → AllDying (slice_set held.objects k x) (ending others)
       still x = apart_dying held.objects k x (ending others) later.0 dying
