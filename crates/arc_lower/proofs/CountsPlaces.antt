@@ -1,106 +1,62 @@
 -- How many places name an object, and how many after a place or an object is changed.
-use Rattle.std.proofs.Common.{◌≡◌, ℕ, zero, suc, ◌+◌, ◌-◌, Bool, true, false, not, ◌||◌, nat_eq, nat_lt, if◌then◌else◌, List, [], ◌∷◌, ◌++◌, length, Some, slice_get, slice_set, refl, sym, ap, ◌∙◌, arith, ◌<◌, Option}
-use Rattle.std.proofs.Math.Dec.{eqb-suc-zero}
-use Rattle.std.proofs.lemmas.Bool.{eq-eqb, ne_eqb, lt-ltb}
+use Rattle.std.proofs.Common.{◌≡◌, ℕ, zero, suc, ◌+◌, ◌-◌, true, not, nat_eq, nat_lt, if◌then◌else◌, List, [], ◌∷◌, ◌++◌, length, Some, slice_get, slice_set, refl, ap, arith, ◌<◌}
 use Rattle.std.proofs.lemmas.Bool.Decides.{nat_tests}
-use Rattle.arc_spec.specs.Objects.{Object, Phase, Gone, nils, names, in_phase, with_strong_fields, is_live, is_there, fields_of, field_places, object_at}
-use Rattle.arc_spec.specs.Holding.{Held, holders, all_places, with_temporaries, with_variables, with_things, with_strong_globals, raised, lowered, on_object, on_named}
+use Rattle.arc_spec.specs.Objects.{Object, nils, names, with_strong_fields, is_there, fields_of, field_places, object_at}
+use Rattle.arc_spec.specs.Holding.{Held, holders, all_places, with_temporaries, with_variables, with_things, with_strong_globals, raised, lowered}
 use Rattle.arc_spec.specs.World.{name_at}
-use Rattle.arc_spec.specs.Stepping.{Next, only_if}
 
 -- 1 where the two are one object, else 0
 abbrev pub tally : (k o : ℕ) → ℕ
 tally k o = if nat_eq k o then 1 else 0
 
-pub one_more_if : (b : Bool) (n : ℕ) → (if b then suc n else n) ≡ (if b then 1 else 0) + n
-one_more_if true n = omega arith
-one_more_if false n = omega arith
-
-pub one_less_if : (b : Bool) (n : ℕ) → (if b then n - 1 else n) ≡ n - (if b then 1 else 0)
-one_less_if true n = omega arith
-one_less_if false n = omega arith
-
-pub tally_nil : (k : ℕ) → tally (suc k) 0 ≡ 0
-tally_nil k = ap (λ b. if b then 1 else 0) (eqb-suc-zero k)
-
 pub tally_same : (k : ℕ) → tally k k ≡ 1
-tally_same k = ap (λ b. if b then 1 else 0) (eq-eqb k k refl)
-
-pub tally_other : (k o : ℕ) → (k ≡ o → ⊥) → tally k o ≡ 0
-tally_other k o ne = ap (λ b. if b then 1 else 0) (ne_eqb k o ne)
+tally_same k = grind (arith, nat_tests)
 
 pub holders_head : (k o : ℕ) (places : List ℕ) → holders k (o ∷ places) ≡ tally k o + holders k places
-holders_head k o places = one_more_if (nat_eq k o) (holders k places)
+holders_head k o places = grind arith
 
 pub holders_append : (k : ℕ) (first next : List ℕ) → holders k (first ++ next) ≡ holders k first + holders k next
 holders_append k [] next = omega arith
-holders_append k (p ∷ first) next = omega (arith, holders_head k p (first ++ next), holders_head k p first, holders_append k first next)
-
--- nil is no holder
-pub holders_nil : (k : ℕ) (places : List ℕ) → holders (suc k) (0 ∷ places) ≡ holders (suc k) places
-holders_nil k places = omega (arith, holders_head (suc k) 0 places, tally_nil k)
+holders_append k (p ∷ first) next = grind (arith, holders_append k first next)
 
 -- a place that names another object: one less for the old one, and one more for the new one
 pub holders_set : (k depth old r : ℕ) (places : List ℕ) → slice_get places depth ≡ Some old → tally k old + holders k (slice_set places depth r) ≡ tally k r + holders k places
 holders_set k depth old r [] e = cc
-holders_set k zero old r (p ∷ places) e =
-    let same : p ≡ old = cc in
-    omega (arith, holders_head k r places, holders_head k p places, ap (tally k) same)
-holders_set k (suc depth) old r (p ∷ places) e = omega (arith, holders_set k depth old r places e, holders_head k p (slice_set places depth r), holders_head k p places)
-
-names_if : (b t : Bool) (n : ℕ) → t ≡ nat_lt 0 n → (b || t) ≡ nat_lt 0 (if b then suc n else n)
-names_if true t n e = sym (lt-ltb 0 (suc n) (omega arith))
-names_if false t n e = e
+holders_set k zero old r (p ∷ places) e = grind arith
+holders_set k (suc depth) old r (p ∷ places) e = grind (arith, holders_set k depth old r places e)
 
 -- an object is named where it has a holder
-pub names_holders : (o : ℕ) (places : List ℕ) → names o places ≡ nat_lt 0 (holders o places)
+names_holders : (o : ℕ) (places : List ℕ) → names o places ≡ nat_lt 0 (holders o places)
 names_holders o [] = refl
-names_holders o (p ∷ places) = names_if (nat_eq o p) (names o places) (holders o places) (names_holders o places)
-
-one_left : (n : ℕ) → nat_eq (suc n) 1 ≡ not (nat_lt 0 n)
-one_left n = grind (arith, nat_tests)
-
-none_left : (n : ℕ) → nat_eq n 0 ≡ not (nat_lt 0 n)
-none_left n = grind (arith, nat_tests)
+names_holders o (p ∷ places) = grind (arith, nat_tests, names_holders o places)
 
 -- a count of 1 more than the places is 1 where no place names the object
 pub last_one : (o count : ℕ) (places : List ℕ) → count ≡ suc (holders o places) → nat_eq count 1 ≡ not (names o places)
-last_one o count places e = ap (λ n. nat_eq n 1) e ∙ one_left (holders o places) ∙ sym (ap not (names_holders o places))
+last_one o count places e = grind (arith, nat_tests, names_holders o places)
 
 -- a count of the places is 0 where no place names the object
 pub no_one : (o count : ℕ) (places : List ℕ) → count ≡ holders o places → nat_eq count 0 ≡ not (names o places)
-no_one o count places e = ap (λ n. nat_eq n 0) e ∙ none_left (holders o places) ∙ sym (ap not (names_holders o places))
+no_one o count places e = grind (arith, nat_tests, names_holders o places)
 
 -- ---- all places
 
 pub raised_count : (o : ℕ) (h : Held) (k : ℕ) → (raised o h).counts k ≡ tally k o + h.counts k
-raised_count o h k = one_more_if (nat_eq k o) (h.counts k)
+raised_count o h k = grind arith
 
 pub lowered_count : (o : ℕ) (h : Held) (k : ℕ) → (lowered o h).counts k ≡ h.counts k - tally k o
-lowered_count o h k = one_less_if (nat_eq k o) (h.counts k)
-
--- how many of all places name an object
-pub all_holders : (k : ℕ) (h : Held) → holders k (all_places h) ≡ holders k h.temporaries + holders k h.variables + holders k h.places + holders k h.strong_globals + holders k (field_places h.objects)
-all_holders k h = omega (arith, holders_append)
+lowered_count o h k = grind arith
 
 -- ---- fields
 
 -- what an object has that is there
 pub there_fields : (o : Object) → is_there o.phase ≡ true → fields_of o ≡ o.strong
-there_fields o there = ap (λ b. if b then o.strong else []) there
-
-pub live_there : (o : Object) → is_live (Some o) ≡ true → is_there o.phase ≡ true
-live_there o live = by o.phase live
-  where
-    by : (phase : Phase) → is_live (Some (in_phase phase o)) ≡ true → is_there phase ≡ true
-    by Gone h = h
-    by _ h = refl
+there_fields o there = grind arith
 
 -- one object is changed
 pub fields_set : (k : ℕ) (objects : List Object) (j : ℕ) (old x : Object) → slice_get objects j ≡ Some old
     → holders k (fields_of old) + holders k (field_places (slice_set objects j x)) ≡ holders k (fields_of x) + holders k (field_places objects)
 fields_set k [] j old x e = cc
-fields_set k (a ∷ objects) zero old x e = let same : a ≡ old = cc in omega (arith, holders_append, ap (λ o. holders k (fields_of o)) same)
+fields_set k (a ∷ objects) zero old x e = grind (arith, holders_append)
 fields_set k (a ∷ objects) (suc j) old x e = omega (arith, holders_append, fields_set k objects j old x e)
 
 -- one object more
@@ -110,47 +66,27 @@ fields_made k (a ∷ objects) x = omega (arith, holders_append, fields_made k ob
 
 pub nils_holders : (k n : ℕ) → holders (suc k) (nils n) ≡ 0
 nils_holders k zero = refl
-nils_holders k (suc n) = omega (arith, holders_nil k (nils n), nils_holders k n)
-
--- an object is changed whose fields name the same
-pub same_fields : (k : ℕ) (h : Held) (j : ℕ) (old x : Object) → slice_get h.objects j ≡ Some old → fields_of x ≡ fields_of old
-    → holders k (all_places (with_things h (slice_set h.objects j x))) ≡ holders k (all_places h)
-same_fields k h j old x found same = omega (arith, all_holders k h, all_holders k (with_things h (slice_set h.objects j x)), fields_set k h.objects j old x found, ap (holders k) same)
+nils_holders k (suc n) = grind (arith, nat_tests, nils_holders k n)
 
 -- ---- a place names another object, or is dropped
 
 -- a variable
 pub variable_moves : (k : ℕ) (h : Held) (i old r : ℕ) → slice_get h.variables i ≡ Some old → holders k (old ∷ all_places (with_variables h (slice_set h.variables i r))) ≡ tally k r + holders k (all_places h)
-variable_moves k h i old r found =
-    let h1 = with_variables h (slice_set h.variables i r) in
-    omega (arith, holders_head k old (all_places h1), all_holders k h1, all_holders k h, holders_set k i old r h.variables found)
+variable_moves k h i old r found = omega (arith, holders_append, holders_head, holders_set k i old r h.variables found)
 
 -- a variable of the whole program
 pub global_moves : (k : ℕ) (h : Held) (i old r : ℕ) → slice_get h.strong_globals i ≡ Some old → holders k (old ∷ all_places (with_strong_globals h (slice_set h.strong_globals i r))) ≡ tally k r + holders k (all_places h)
-global_moves k h i old r found =
-    let h1 = with_strong_globals h (slice_set h.strong_globals i r) in
-    omega (arith, holders_head k old (all_places h1), all_holders k h1, all_holders k h, holders_set k i old r h.strong_globals found)
+global_moves k h i old r found = omega (arith, holders_append, holders_head, holders_set k i old r h.strong_globals found)
 
 -- a field of an object that is there
 pub field_moves : (k : ℕ) (h : Held) (j : ℕ) (o : Object) (index old r : ℕ) → slice_get h.objects j ≡ Some o → is_there o.phase ≡ true → slice_get o.strong index ≡ Some old
     → holders k (old ∷ all_places (with_things h (slice_set h.objects j (with_strong_fields o (slice_set o.strong index r))))) ≡ tally k r + holders k (all_places h)
 field_moves k h j o index old r found there named =
-    let x = with_strong_fields o (slice_set o.strong index r) in
-    let h1 = with_things h (slice_set h.objects j x) in
-    let before = ap (holders k) (there_fields o there) in
-    let after = ap (holders k) (there_fields x there) in
-    omega (arith, holders_head k old (all_places h1), all_holders k h1, all_holders k h, fields_set k h.objects j o x found, before, after, holders_set k index old r o.strong named)
+    grind (arith, holders_append, fields_set k h.objects j o (with_strong_fields o (slice_set o.strong index r)) found, holders_set k index old r o.strong named)
 
--- the last temporary, and the one before it
-pub last_moves : (k : ℕ) (h : Held) (r : ℕ) (others : List ℕ) → h.temporaries ≡ r ∷ others → holders k (r ∷ all_places (with_temporaries h others)) ≡ holders k (all_places h)
-last_moves k h r others e =
-    let h1 = with_temporaries h others in
-    omega (arith, holders_head k r (all_places h1), all_holders k h1, all_holders k h, ap (holders k) e, holders_head k r others)
-
+-- the temporary before the last one
 pub second_moves : (k : ℕ) (h : Held) (x r : ℕ) (others : List ℕ) → h.temporaries ≡ x ∷ r ∷ others → holders k (r ∷ all_places (with_temporaries h (x ∷ others))) ≡ holders k (all_places h)
-second_moves k h x r others e =
-    let h1 = with_temporaries h (x ∷ others) in
-    omega (arith, holders_head k r (all_places h1), all_holders k h1, all_holders k h, ap (holders k) e, holders_head k x (r ∷ others), holders_head k r others, holders_head k x others)
+second_moves k h x r others e = grind (arith, holders_append)
 
 -- ---- What a place names is nil or an object that isn't gone.
 
@@ -166,13 +102,12 @@ AllThere objects places = (k : ℕ) → 0 < holders (suc k) places → IsThere o
 -- what a place names
 pub place_there : (objects : List Object) (depth r : ℕ) (places : List ℕ) → slice_get places depth ≡ Some r → AllThere objects places → IsThere objects r
 place_there objects depth zero places found all = tt
-place_there objects depth (suc k) places found all =
-    all k (omega (arith, holders_set (suc k) depth (suc k) 0 places found, tally_nil k, tally_same (suc k)))
+place_there objects depth (suc k) places found all = all k (grind (arith, nat_tests, holders_set (suc k) depth (suc k) 0 places found))
 
 pub name_there : (objects : List Object) (places : List ℕ) (i : ℕ) → AllThere objects places → IsThere objects (name_at places i)
 name_there objects [] i all = tt
 name_there objects (r ∷ places) zero all = place_there objects 0 r (r ∷ places) refl all
-name_there objects (r ∷ places) (suc i) all = name_there objects places i (λ k some. all k (omega (arith, holders_head (suc k) r places, some)))
+name_there objects (r ∷ places) (suc i) all = name_there objects places i (λ k some. all k (grind arith))
 
 -- ---- lists of which one element is changed, or that have one more
 
@@ -195,18 +130,6 @@ seam [] later x = refl
 seam (b ∷ before) later x = seam before later x
 
 pub get_other : {A : Type 0} (all : List A) (k : ℕ) (x : A) → (k ≡ length all → ⊥) → slice_get (all ++ x ∷ []) k ≡ slice_get all k
-get_other [] zero x ne = absurd (ne refl)
-get_other [] (suc k) x ne = refl
+get_other [] k x ne = grind arith
 get_other (b ∷ all) zero x ne = refl
 get_other (b ∷ all) (suc k) x ne = get_other all k x (λ h. ne (ap suc h))
-
--- ---- steps
-
--- an object that isn't gone is used
-pub object_goes : {S : Type 0} (found : Option Object) (o : Object) (go : Object → Next S) → found ≡ Some o → is_there o.phase ≡ true → on_object found go ≡ go o
-object_goes found o go e there = ap (λ f. on_object f go) e ∙ ap (λ b. only_if b (go o)) there
-
--- what is there can be used, and can be held
-pub named_goes : {S : Type 0} (r : ℕ) (h : Held) (next : Next S) → IsThere h.objects r → on_named r h next ≡ next
-named_goes zero h next there = refl
-named_goes (suc k) h next there = object_goes (object_at h.objects (suc k)) there.0 (λ _. next) there.1 there.2
