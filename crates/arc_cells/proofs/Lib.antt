@@ -1,6 +1,6 @@
-pub mod Alterations
-pub mod Making
-pub mod Patterning
-pub mod Piles
-pub mod Rows
-pub mod Spanning
+pub mod BlockChanges
+pub mod NewObjectBlock
+pub mod InstructionShapes
+pub mod StackTopFirst
+pub mod LookupRowsCorrect
+pub mod SubclassRangesSound

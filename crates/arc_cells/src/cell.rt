@@ -3,7 +3,7 @@
 ghost use Rattle.std.specs.Prelude.{◌≡◌, ◌+◌, ◌-◌, ◌^◌, ◌<◌, ◌≤◌, Some, IsNone, IsTrue, ◌↔◌, length, get_or};
 ghost use Rattle.std.specs.Int.{w64, cast_signed};
 ghost use Rattle.arc_cells.specs.Cells.{Cell, IsCell, HasField, Becomes, Makes, with_count, with_phase, with_value, with_word, first_cell, fresh_cell};
-ghost use Rattle.arc_cells.specs.Refusing.{Refuses};
+ghost use Rattle.arc_cells.specs.BlockRefusal.{Refuses};
 ghost use Rattle.arc_cells.specs.declared.cell.TheConstants.{MOST_FIELDS};
 
 use arc_heap::store::{Ref, Store};

@@ -5,12 +5,12 @@ ghost use Rattle.arc_spec.specs.Classes.{classes_of};
 ghost use Rattle.arc_spec.specs.Objects.{nils};
 ghost use Rattle.arc_spec.specs.Statics.{first_statics};
 ghost use Rattle.arc_spec.specs.declared.limits.TheConstants.{MOST_LEVELS};
-ghost use Rattle.arc_code.specs.Running.{program_of};
+ghost use Rattle.arc_code.specs.CodeSteps.{program_of};
 ghost use Rattle.arc_cells.specs.declared.waiting.Waiting.{Waiting};
 ghost use Rattle.arc_cells.specs.declared.waiting.Waiting.TheVariants as waits;
 ghost use Rattle.arc_cells.specs.Cells.{Cell, IsCell, HasField, with_count, with_phase, with_value, with_word};
-ghost use Rattle.arc_cells.specs.Refusing.{Refuses};
-ghost use Rattle.arc_cells.specs.Standing.{NamesBlock, Alters, IsLast, NewIn, Turns, no_objects, memory_of, with_places, with_names, with_frames, with_globals, with_strong_globals, order_at, orders_of, items_of, next_in, taking, dropping, declaring, undeclaring, words_of, entering, resuming, settling, handing_over};
+ghost use Rattle.arc_cells.specs.BlockRefusal.{Refuses};
+ghost use Rattle.arc_cells.specs.Representation.{NamesBlock, Alters, IsLast, NewIn, Turns, no_objects, memory_of, with_places, with_names, with_frames, with_globals, with_strong_globals, order_at, orders_of, items_of, next_in, taking, dropping, declaring, undeclaring, words_of, entering, resuming, settling, handing_over};
 ghost use Rattle.arc_cells.specs.Words.{Took, empty};
 ghost use Rattle.arc_cells.specs.declared.cell.TheConstants.{MOST_FIELDS};
 
@@ -51,7 +51,7 @@ pub struct Objects<S: Store + Drop> {
 impl<S: Store + Drop> Model for Objects<S> {
     ghost use Rattle.std.specs.Prelude.{◌≤◌, map};
     ghost use Rattle.arc_spec.specs.declared.limits.TheConstants.{MOST_LEVELS};
-    ghost use Rattle.arc_cells.specs.Standing.{Parts, items_of};
+    ghost use Rattle.arc_cells.specs.Representation.{Parts, items_of};
 
     ghost Value = { Parts S };
 

@@ -1,7 +1,7 @@
 //! The order in which the fields of the objects of each class are destroyed that name objects.
 ghost use Rattle.std.specs.Prelude.{◌≡◌, map, IfOk};
 ghost use Rattle.arc_spec.specs.Classes.{classes_of};
-ghost use Rattle.arc_cells.specs.Standing.{items_of, orders_of};
+ghost use Rattle.arc_cells.specs.Representation.{items_of, orders_of};
 
 use arc_spec::class::Class;
 use arc_spec::event::NoMemory;

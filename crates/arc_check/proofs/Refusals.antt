@@ -1,7 +1,7 @@
 -- From what is reported of a source to an answer.
 use Rattle.std.proofs.Common.{◌≡◌, List, [], Option, Some, None, option_map, sym, ap, ◌∙◌}
-use Rattle.arc_class.specs.Broken.{Broken, first}
-use Rattle.arc_class.proofs.Firsts.{none_broken}
+use Rattle.arc_class.specs.BrokenRules.{Broken, first}
+use Rattle.arc_class.proofs.FirstBrokenRule.{none_broken}
 use Rattle.arc_fault.specs.declared.check.CheckFault.{CheckFault}
 use Rattle.arc_fault.specs.declared.check.CheckFault.TheVariants as f
 use Rattle.arc_judge.specs.Fault.{reported, Refuses}

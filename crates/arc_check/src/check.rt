@@ -4,7 +4,7 @@ ghost use Rattle.arc_ast.specs.Tree.{unit_tree};
 ghost use Rattle.arc_class.specs.Table.{IsTableOf};
 ghost use Rattle.arc_checked.specs.Checked.{program_of};
 ghost use Rattle.arc_judge.specs.Fault.{Refuses};
-ghost use Rattle.arc_resolve.specs.Resolving.{resolved_unit};
+ghost use Rattle.arc_resolve.specs.SourceResolution.{resolved_unit};
 ghost use Rattle.arc_judge.specs.Rules.{broken_unit};
 
 use arc_ast::tree::TranslationUnit;

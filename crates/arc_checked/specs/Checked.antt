@@ -16,7 +16,7 @@ use Rattle.arc_checked.specs.declared.program.CheckedFunction.{CheckedFunction}
 use Rattle.arc_checked.specs.declared.program.Checked.{Checked}
 use Rattle.arc_spec.specs.Classes.{classes_of}
 use Rattle.arc_spec.specs.Resolved as resolved
-use Rattle.arc_spec.specs.Resolved.{Number, ReadByte, Print, Applied, Combined, Choice, Converted, Read, Assigned, Updated, Invoked, Sent, ClassValue, ClassSuper, ObjectValue, ObjectSuper, Field, FieldAssigned, FieldUpdated, Differ, IsObject, Nil, Itself, Variable, Chosen, Stored, ObjectField, ObjectFieldStored, Made, New, ObjectInvoked, ObjectSent, no_arguments, number_argument, object_argument, Sequence, Evaluate, EvaluateReference, Begin, Return, Give, Choose, Repeat, Break, Continue, no_commands, and_command, Bytes, Decimal, Character}
+use Rattle.arc_spec.specs.Resolved.{Number, ReadByte, Print, Unary, Binary, Conditional, Convert, Read, AssignNumber, Update, Call, Send, ClassValue, ClassSuper, ObjectValue, ObjectSuper, GetField, SetField, UpdateField, NotSame, IsObject, Nil, Itself, Variable, ObjectConditional, AssignObject, GetObjectField, SetObjectField, Alloc, New, ObjectCall, ObjectSend, no_arguments, number_argument, object_argument, Sequence, Evaluate, EvaluateReference, InitVariable, Return, Give, If, While, Break, Continue, no_commands, and_command, Bytes, Decimal, Character}
 
 abbrev pub piece : Piece → resolved.Piece
 piece (p.Bytes bytes) = Bytes bytes.items
@@ -32,33 +32,33 @@ abbrev mutual
   value (v.Number n) = Number n
   value v.ReadByte = ReadByte
   value (v.Print' all shape arguments) = Print (pieces all.items) (row_arguments arguments)
-  value (v.Applied' operator kind q a) = Applied operator kind (value a)
-  value (v.Combined' operator kind q a r b) = Combined operator kind (value a) (value b)
-  value (v.Choice' q c r a s b) = Choice (value c) (value a) (value b)
-  value (v.Converted' kind q a) = Converted kind (value a)
+  value (v.Unary' operator kind q a) = Unary operator kind (value a)
+  value (v.Binary' operator kind q a r b) = Binary operator kind (value a) (value b)
+  value (v.Conditional' q c r a s b) = Conditional (value c) (value a) (value b)
+  value (v.Convert' kind q a) = Convert kind (value a)
   value (v.Read i) = Read i
-  value (v.Assigned' i q a) = Assigned i (value a)
-  value (v.Updated' moment i operator computed kept q a) = Updated moment i operator computed kept (value a)
-  value (v.Invoked' f shape arguments) = Invoked f (row_arguments arguments)
-  value (v.Sent' q a selector shape arguments) = Sent (receiver a) selector (row_arguments arguments)
-  value (v.Field' q a class index) = Field (reference a) class index
-  value (v.FieldAssigned' q a class index s b) = FieldAssigned (reference a) class index (value b)
-  value (v.FieldUpdated' moment q a class index operator computed kept s b) = FieldUpdated moment (reference a) class index operator computed kept (value b)
-  value (v.Differ' q a s b) = Differ (reference a) (reference b)
+  value (v.AssignNumber' i q a) = AssignNumber i (value a)
+  value (v.Update' moment i operator computed kept q a) = Update moment i operator computed kept (value a)
+  value (v.Call' f shape arguments) = Call f (row_arguments arguments)
+  value (v.Send' q a selector shape arguments) = Send (receiver a) selector (row_arguments arguments)
+  value (v.GetField' q a class index) = GetField (reference a) class index
+  value (v.SetField' q a class index s b) = SetField (reference a) class index (value b)
+  value (v.UpdateField' moment q a class index operator computed kept s b) = UpdateField moment (reference a) class index operator computed kept (value b)
+  value (v.NotSame' q a s b) = NotSame (reference a) (reference b)
   value (v.IsObject' q a) = IsObject (reference a)
 
   pub reference : Reference → resolved.Reference
   reference r.Nil = Nil
   reference r.Itself = Itself
   reference (r.Variable i) = Variable i
-  reference (r.Chosen' q c r a s b) = Chosen (value c) (reference a) (reference b)
-  reference (r.Stored' i q a) = Stored i (reference a)
-  reference (r.ObjectField' q a class index) = ObjectField (reference a) class index
-  reference (r.ObjectFieldStored' q a class index s b) = ObjectFieldStored (reference a) class index (reference b)
-  reference (r.Made' q a) = Made (value a)
+  reference (r.ObjectConditional' q c r a s b) = ObjectConditional (value c) (reference a) (reference b)
+  reference (r.AssignObject' i q a) = AssignObject i (reference a)
+  reference (r.GetObjectField' q a class index) = GetObjectField (reference a) class index
+  reference (r.SetObjectField' q a class index s b) = SetObjectField (reference a) class index (reference b)
+  reference (r.Alloc' q a) = Alloc (value a)
   reference (r.New' from q a) = New from (value a)
-  reference (r.ObjectInvoked' f shape arguments) = ObjectInvoked f (row_arguments arguments)
-  reference (r.ObjectSent' q a selector shape arguments) = ObjectSent (receiver a) selector (row_arguments arguments)
+  reference (r.ObjectCall' f shape arguments) = ObjectCall f (row_arguments arguments)
+  reference (r.ObjectSend' q a selector shape arguments) = ObjectSend (receiver a) selector (row_arguments arguments)
 
   pub receiver : Receiver → resolved.Receiver
   receiver (rc.ClassValue' q a) = ClassValue (value a)
@@ -84,11 +84,11 @@ abbrev mutual
   command (c.Sequence' first count shape all) = Sequence first count (row_commands all)
   command (c.Evaluate a) = Evaluate (value a)
   command (c.EvaluateReference a) = EvaluateReference (reference a)
-  command (c.Begin i a) = Begin i (reference a)
+  command (c.InitVariable i a) = InitVariable i (reference a)
   command (c.Return a) = Return (option_map value a)
   command (c.Give a) = Give (reference a)
-  command (c.Choose' test q a r b) = Choose (value test) (command a) (command b)
-  command (c.Repeat' moment test q a r b) = Repeat moment (value test) (command a) (command b)
+  command (c.If' test q a r b) = If (value test) (command a) (command b)
+  command (c.While' moment test q a r b) = While moment (value test) (command a) (command b)
   command c.Break = Break
   command c.Continue = Continue
 

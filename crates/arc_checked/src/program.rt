@@ -25,31 +25,31 @@ pub enum Value {
     ReadByte,
     /// A call of `printf`, with its format and the values after it.
     Print(Vec<Piece>, Vec<Argument>),
-    Applied(UnaryOperator, Kind, Box<Value>),
-    Combined(BinaryOperator, Kind, Box<Value>, Box<Value>),
+    Unary(UnaryOperator, Kind, Box<Value>),
+    Binary(BinaryOperator, Kind, Box<Value>, Box<Value>),
     /// The first of two values where the test is other than 0, else the second.
-    Choice(Box<Value>, Box<Value>, Box<Value>),
-    Converted(Kind, Box<Value>),
+    Conditional(Box<Value>, Box<Value>, Box<Value>),
+    Convert(Kind, Box<Value>),
     /// What a variable holds.
     Read(Location),
-    Assigned(Location, Box<Value>),
+    AssignNumber(Location, Box<Value>),
     /// An update of such a variable: what it gives, the variable, the operator, the kind in which it computes and
     /// that of the variable, and the right operand.
-    Updated(Moment, Location, BinaryOperator, Kind, Kind, Box<Value>),
+    Update(Moment, Location, BinaryOperator, Kind, Kind, Box<Value>),
     /// A call of the function with this number.
-    Invoked(usize, Vec<Argument>),
+    Call(usize, Vec<Argument>),
     /// A message: what gets it, the selector's number, and the arguments.
-    Sent(Box<Receiver>, usize, Vec<Argument>),
+    Send(Box<Receiver>, usize, Vec<Argument>),
     /// A field that holds a number: the object, the class whose own field it is, and the field's number in the
     /// objects.
-    Field(Box<Reference>, usize, usize),
+    GetField(Box<Reference>, usize, usize),
     /// The same, and what is assigned to the field.
-    FieldAssigned(Box<Reference>, usize, usize, Box<Value>),
+    SetField(Box<Reference>, usize, usize, Box<Value>),
     /// An update of a field: what it gives, the object, the class and the field's number, the operator, the kind in
     /// which it computes and that of the field, and the right operand.
-    FieldUpdated(Moment, Box<Reference>, usize, usize, BinaryOperator, Kind, Kind, Box<Value>),
+    UpdateField(Moment, Box<Reference>, usize, usize, BinaryOperator, Kind, Kind, Box<Value>),
     /// 1 where the two differ, else 0.
-    Differ(Box<Reference>, Box<Reference>),
+    NotSame(Box<Reference>, Box<Reference>),
     /// 1 where it isn't nil, else 0.
     IsObject(Box<Reference>),
 }
@@ -64,23 +64,23 @@ pub enum Reference {
     /// A variable that names objects, by its number among these.
     Variable(Location),
     /// The first of two objects where the test is other than 0, else the second.
-    Chosen(Box<Value>, Box<Reference>, Box<Reference>),
+    ObjectConditional(Box<Value>, Box<Reference>, Box<Reference>),
     /// An assignment to such a variable.
-    Stored(Location, Box<Reference>),
+    AssignObject(Location, Box<Reference>),
     /// A field that names an object: the object that has it, the class whose own field it is, and its number in
     /// the objects among the fields that name objects.
-    ObjectField(Box<Reference>, usize, usize),
+    GetObjectField(Box<Reference>, usize, usize),
     /// The same, and what is assigned to the field.
-    ObjectFieldStored(Box<Reference>, usize, usize, Box<Reference>),
+    SetObjectField(Box<Reference>, usize, usize, Box<Reference>),
     /// `alloc`: what gives the class's number.
-    Made(Box<Value>),
+    Alloc(Box<Value>),
     /// `new`: the class from which its method is looked up, where that isn't the class that gets it, and what gives
     /// that one's number.
     New(Option<usize>, Box<Value>),
     /// A call of the function with this number.
-    ObjectInvoked(usize, Vec<Argument>),
+    ObjectCall(usize, Vec<Argument>),
     /// A message: what gets it, the selector's number, and the arguments.
-    ObjectSent(Box<Receiver>, usize, Vec<Argument>),
+    ObjectSend(Box<Receiver>, usize, Vec<Argument>),
 }
 
 /// What gets a message.
@@ -115,15 +115,15 @@ pub enum Command {
     Evaluate(Value),
     EvaluateReference(Reference),
     /// What a variable names first.
-    Begin(usize, Reference),
+    InitVariable(usize, Reference),
     Return(Option<Value>),
     /// Returns an object or nil.
     Give(Reference),
     /// The first where the value isn't 0, else the second.
-    Choose(Value, Box<Command>, Box<Command>),
+    If(Value, Box<Command>, Box<Command>),
     /// Again and again, while the value, which is asked for before or after each turn, isn't 0: the body, which is the
     /// last one, and then the step.
-    Repeat(Moment, Value, Box<Command>, Box<Command>),
+    While(Moment, Value, Box<Command>, Box<Command>),
     Break,
     Continue,
 }

@@ -9,7 +9,7 @@ use Rattle.std.proofs.lemmas.List.{append-nil, length-map}
 use Rattle.std.proofs.lemmas.List.Concat.{flat_map-append}
 use Rattle.std.proofs.lemmas.Option.{slice_get-map, slice_get_within, none-some}
 use Rattle.std.specs.List.{flat_map}
-use Rattle.arc_class.specs.ByName.{Named}
+use Rattle.arc_class.specs.NameMaps.{Named}
 use Rattle.std.specs.Str.{bytes_eq}
 use Rattle.arc_ast.specs.Tree.{FieldTree, InterfaceTree, UnitTree}
 use Rattle.arc_spec.specs.Classes.{and_above, ancestry, ancestry_within, first_that_has}
@@ -25,9 +25,9 @@ use Rattle.arc_class.specs.private.Entries.{FieldsTree, fields_tree, root_fields
 use Rattle.arc_class.specs.Fields.{ClassField, fields_declared, own_fields, owned, if_before, earlier_superclasses_from, earlier_superclasses, own_class_fields, inherited_by, fields, all_fields_from, inherited, sorts_of_fields, written_sorts, field_after, numbered, own_field, known_field, field_sort}
 use Rattle.arc_spec.specs.Sorts.{none_counted, with_one, with_all, counts}
 use Rattle.arc_class.specs.Table.{at_name, own_field_in, own_place_in, superclass_of_fields, field_among, place_among, list_of, list_at, list_among}
-use Rattle.arc_class.proofs.Parts.{kept_none}
-use Rattle.arc_class.proofs.Sorts.{counts_of_class, counts_of_parts}
-use Rattle.arc_class.proofs.Leasts.{nothing_least}
+use Rattle.arc_class.proofs.TablePartsGrow.{kept_none}
+use Rattle.arc_class.proofs.SortCountSums.{counts_of_class, counts_of_parts}
+use Rattle.arc_class.proofs.LeastPlace.{nothing_least}
 
 -- ---- the superclasses that stand before their classes
 

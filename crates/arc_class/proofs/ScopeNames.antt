@@ -6,13 +6,13 @@ use Rattle.std.specs.Str.{bytes_eq}
 use Rattle.arc_ast.specs.declared.tree.Stmt.{Stmt}
 use Rattle.arc_ast.specs.declared.tree.Variable.{Variable}
 use Rattle.arc_ast.specs.Tree.{VariableTree, variable_trees, stmt_tree, stmt_trees}
-use Rattle.arc_class.specs.Broken.{Broken, broken_if, first, earlier_of}
-use Rattle.arc_class.specs.ByName.{Named}
+use Rattle.arc_class.specs.BrokenRules.{Broken, broken_if, first, earlier_of}
+use Rattle.arc_class.specs.NameMaps.{Named}
 use Rattle.arc_class.specs.SiteRules.{declared_in, all_declared, repeated}
 use Rattle.arc_class.specs.private.Scopes.{and_name, no_name, names_with, holds}
 use Rattle.arc_class.specs.Table.{at_name}
-use Rattle.arc_class.proofs.Firsts.{first_turn}
-use Rattle.arc_class.proofs.Lists.{drop_turn}
+use Rattle.arc_class.proofs.FirstBrokenRule.{first_turn}
+use Rattle.arc_class.proofs.ListSuffixes.{drop_turn}
 
 added : (b : Bool) (o : Option (Unit {0})) → is_some (cond b (Some tt) o) ≡ (b || is_some o)
 added true o = refl

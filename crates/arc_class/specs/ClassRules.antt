@@ -5,16 +5,16 @@ use Rattle.std.specs.Option.{option_map_or}
 use Rattle.std.specs.Str.{bytes_eq}
 use Rattle.arc_class.specs.declared.classes.TheConstants.{MOST_FIELDS}
 use Rattle.arc_ast.specs.Tree.{HeadTree, MethodTree, FieldTree, InterfaceTree, ImplementationTree, UnitTree}
-use Rattle.arc_sites.specs.Finding.{violations_of}
+use Rattle.arc_sites.specs.FoundViolations.{violations_of}
 use Rattle.arc_sites.specs.Sites.{unit_sites}
 use Rattle.arc_spec.specs.Classes.{ancestry}
-use Rattle.arc_class.specs.Broken.{Broken, broken_if}
+use Rattle.arc_class.specs.BrokenRules.{Broken, broken_if}
 use Rattle.arc_class.specs.Classes.{is_root, interface_number, class_number, first_head}
 use Rattle.arc_class.specs.Fields.{own_fields, fields_declared, if_before, earlier_superclasses, fields}
 use Rattle.arc_class.specs.Globals.{known_global, variable_before}
-use Rattle.arc_class.specs.Functions.{is_library, duplicate, missing_main}
-use Rattle.arc_class.specs.Broken.{in_order}
-use Rattle.arc_class.specs.Names.{first_named, number_of, is_main}
+use Rattle.arc_class.specs.FunctionRules.{is_library, duplicate, missing_main}
+use Rattle.arc_class.specs.BrokenRules.{in_order}
+use Rattle.arc_class.specs.FunctionNames.{first_named, number_of, is_main}
 use Rattle.arc_class.specs.SiteRules.{stands_before, violations}
 
 -- ---- methods

@@ -15,7 +15,7 @@ use Rattle.arc_spec.specs.Families.{method_family, gives_related, is_object}
 use Rattle.arc_spec.specs.declared.class.Gives.{Gives}
 use Rattle.arc_spec.specs.declared.class.Gives.TheVariants.{Number}
 use Rattle.arc_spec.specs.Classes.{same_sign, gives_of, ancestry, first_that_has}
-use Rattle.arc_class.specs.Names.{has_body, first_named, parameter_kinds}
+use Rattle.arc_class.specs.FunctionNames.{has_body, first_named, parameter_kinds}
 
 -- the one root class, which is built in (this project's own choice)
 abbrev pub is_root : List ℕ → Bool

@@ -1,8 +1,8 @@
--- What an answer that is no table says.
+-- The violation that a fault reports, which is answered instead of a table.
 use Rattle.std.specs.Prelude.{◌≡◌, List, Some}
 use Rattle.arc_fault.specs.declared.class.ClassFault.{ClassFault}
 use Rattle.arc_fault.specs.declared.class.ClassFault.TheVariants as f
-use Rattle.arc_class.specs.Broken.{Broken, first}
+use Rattle.arc_class.specs.BrokenRules.{Broken, first}
 use Rattle.arc_fault.specs.Class.{report}
 
 -- the broken rule that a fault reports

@@ -1,5 +1,5 @@
 -- What tables, maps and lists have at names and numbers.
-pub use Rattle.arc_class.specs.ByName.{Named, at_name}
+pub use Rattle.arc_class.specs.NameMaps.{Named, at_name}
 use Rattle.std.specs.Prelude.{ℕ, zero, suc, ◌+◌, Bool, false, List, [], ◌∷◌, map, slice_get, nat_lt, codes, Option, Some, None, option_map, Vec, if◌then◌else◌}
 use Rattle.std.specs.Global.{Global}
 use Rattle.std.specs.Str.{bytes_eq}
@@ -23,7 +23,7 @@ use Rattle.arc_class.specs.declared.table.Sel.{Sel}
 use Rattle.arc_class.specs.declared.table.MethodResult.{MethodResult}
 use Rattle.arc_class.specs.Classes.{is_root, result_of, is_related, built_in_result, built_in_given}
 use Rattle.arc_class.specs.Fields.{ClassField}
-use Rattle.arc_class.specs.Running.{classes}
+use Rattle.arc_class.specs.RuntimeClasses.{classes}
 
 -- the numbers that stand for classes, selectors and methods
 abbrev pub number_of_class : ClassId → ℕ

@@ -8,7 +8,7 @@ use Rattle.arc_class.specs.declared.owners.Map.{Map}
 use Rattle.arc_class.specs.declared.owners.Maps.{Maps}
 use Rattle.arc_class.specs.declared.owners.Owners.{Owners}
 use Rattle.arc_class.specs.Classes.{number_among}
-use Rattle.arc_class.specs.Numbered.{at_number, IsWithin}
+use Rattle.arc_class.specs.NumberMaps.{at_number, IsWithin}
 use Rattle.arc_class.specs.Lookups.{head_at, superclass_of_entry, own_result_in, superclass_of_fields, own_field_in, names_of}
 use Rattle.std.specs.Option.{option_or}
 

@@ -12,11 +12,11 @@ use Rattle.arc_ast.specs.Tree.{TypeTree, ResultTree, Call, Cast, VariableTree, S
 use Rattle.arc_sites.specs.Sites.{Enclosing, Node, Value, Statement, Body, Function, Global, Field, Declared, Defined, named_parameters}
 use Rattle.arc_spec.specs.Classes.{same_sign}
 use Rattle.arc_class.specs.declared.table.Declared as table
-use Rattle.arc_class.specs.Broken.{Broken, broken_if}
+use Rattle.arc_class.specs.BrokenRules.{Broken, broken_if}
 use Rattle.arc_class.specs.Classes.{is_root, class_number, first_head, result_of, built_in_result, declared, defined}
-use Rattle.arc_class.specs.Functions.{is_library, same_kind, same_kinds}
+use Rattle.arc_class.specs.FunctionRules.{is_library, same_kind, same_kinds}
 use Rattle.arc_class.specs.Globals.{known_global, variable_before}
-use Rattle.arc_class.specs.Names.{known, first_named, parameter_kinds, listed_kinds}
+use Rattle.arc_class.specs.FunctionNames.{known, first_named, parameter_kinds, listed_kinds}
 
 -- ---- names
 

@@ -19,12 +19,12 @@ use Rattle.arc_class.specs.declared.table.Declared.{Declared}
 use Rattle.arc_class.specs.declared.table.FoundField.{FoundField}
 use Rattle.arc_class.specs.declared.table.MethodResult.{MethodResult}
 use Rattle.arc_class.specs.declared.table.Variable.{Variable}
-use Rattle.arc_class.specs.Kept.{function_kept, head_in}
+use Rattle.arc_class.specs.KeptNames.{function_kept, head_in}
 use Rattle.arc_class.specs.Classes.{kinds_passed, selector_gives, and_name, class_number, superclass, built_in_result, result_of, counting_result, counting_given, known_result, any_result, class_of_result, selector_number, function_count}
 use Rattle.arc_class.specs.Fields.{ClassField, fields, known_field}
 use Rattle.arc_class.specs.Globals.{known_global}
-use Rattle.arc_class.specs.Names.{known, parameter_kinds, listed_kinds, kinds_of_parameters, number_of, is_main}
-use Rattle.arc_class.specs.Running.{classes}
+use Rattle.arc_class.specs.FunctionNames.{known, parameter_kinds, listed_kinds, kinds_of_parameters, number_of, is_main}
+use Rattle.arc_class.specs.RuntimeClasses.{classes}
 use Rattle.arc_spec.specs.Sorts.{counts_of_kinds}
 
 -- what a table knows of the functions of a name

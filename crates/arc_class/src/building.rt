@@ -3,17 +3,17 @@ ghost use Rattle.std.specs.Prelude.{◌≡◌, ◌<◌, ◌+◌, [], ◌∷◌, 
 ghost use Rattle.arc_ast.specs.declared.tree.Sign.{Sign};
 ghost use Rattle.arc_ast.specs.Tree.{UnitTree, unit_tree, head_tree, head_trees, method_trees, interface_trees, implementation_trees, interface_tree};
 ghost use Rattle.arc_spec.specs.Classes.{class_of, classes_of};
-ghost use Rattle.arc_class.specs.ByName.{Named};
+ghost use Rattle.arc_class.specs.NameMaps.{Named};
 ghost use Rattle.arc_class.specs.Classes as classes;
 ghost use Rattle.arc_class.specs.Classes.{heads, first_head, with_selectors, defined_selectors, standing_before, standing_after, selectors_in_order, and_name, selectors, number_among, defined_by, own_heads};
 ghost use Rattle.arc_fault.specs.declared.class.ClassFault.TheVariants.{Memory};
 ghost use Rattle.arc_class.specs.private.Entries.{entry_tree, root_entry, class_entry, fields_tree, all_class_fields};
-ghost use Rattle.arc_class.specs.private.Parts.{ArePartsOf};
-ghost use Rattle.arc_class.specs.Kept.{head_in, Knows};
+ghost use Rattle.arc_class.specs.private.TableParts.{ArePartsOf};
+ghost use Rattle.arc_class.specs.KeptNames.{head_in, Knows};
 ghost use Rattle.arc_class.specs.Owners.{FindsMethods};
 ghost use Rattle.arc_ast.specs.declared.tree.Sign.TheVariants as signs;
-ghost use Rattle.arc_class.specs.Running as running;
-ghost use Rattle.arc_class.specs.Running.{method_made, with_method, methods_from, dealloc_from, class_with};
+ghost use Rattle.arc_class.specs.RuntimeClasses as running;
+ghost use Rattle.arc_class.specs.RuntimeClasses.{method_made, with_method, methods_from, dealloc_from, class_with};
 ghost use Rattle.arc_class.specs.declared.table.Place.{Place};
 ghost use Rattle.arc_class.specs.Table.{names_of, list_of, built_in_from};
 

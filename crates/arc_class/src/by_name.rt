@@ -3,7 +3,7 @@
 ghost use Rattle.std.specs.Prelude.{◌≡◌, ◌<◌, [], ℕ, List, length, Some, IfOk, OnOk};
 ghost use Rattle.std.specs.Map.{update};
 ghost use Rattle.std.specs.Str.{bytes_eq};
-ghost use Rattle.arc_class.specs.ByName.{at_name, name_hash, part_of, all_parts, IsPlaced};
+ghost use Rattle.arc_class.specs.NameMaps.{at_name, name_hash, part_of, all_parts, IsPlaced};
 
 use std::alloc::{AllocError, Global};
 use std::collections::BTreeMap;
@@ -17,7 +17,7 @@ pub struct ByName<'a, V> {
 }
 
 impl<'a, V> Model for ByName<'a, V> {
-    ghost use Rattle.arc_class.specs.ByName.{Named, all_parts, IsPlaced};
+    ghost use Rattle.arc_class.specs.NameMaps.{Named, all_parts, IsPlaced};
 
     ghost Value = { Named V };
 

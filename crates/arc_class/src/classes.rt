@@ -1,17 +1,17 @@
 //! The rules for classes.
 ghost use Rattle.std.specs.Prelude.{◌≡◌, ◌≤◌, ◌||◌, List, ℕ, [], ◌++◌, length, map, option_map, is_some, IfOk};
 ghost use Rattle.arc_ast.specs.Tree.{InterfaceTree, ImplementationTree, unit_tree, function_tree, global_tree, interface_tree, implementation_tree};
-ghost use Rattle.arc_class.specs.Broken.{first};
+ghost use Rattle.arc_class.specs.BrokenRules.{first};
 ghost use Rattle.arc_class.specs.ClassRules as rules;
 ghost use Rattle.arc_class.specs.ClassRules.{broken_names, broken_members, broken_interface, broken_own_names, broken_own_fields, broken_implementation};
-ghost use Rattle.arc_class.specs.Broken.{in_order};
+ghost use Rattle.arc_class.specs.BrokenRules.{in_order};
 ghost use Rattle.arc_class.specs.SiteRules as site_rules;
 ghost use Rattle.arc_class.specs.Classes as classes;
 ghost use Rattle.arc_class.specs.Classes.{interface_number};
 ghost use Rattle.arc_class.specs.private.Entries.{fields_tree, all_class_fields};
 ghost use Rattle.arc_class.specs.Fault.{reported};
 ghost use Rattle.arc_class.specs.Globals.{variable_before};
-ghost use Rattle.arc_class.specs.Kept.{Knows, place_before};
+ghost use Rattle.arc_class.specs.KeptNames.{Knows, place_before};
 ghost use Rattle.arc_class.specs.Owners.{FindsFields};
 ghost use Rattle.arc_class.specs.private.Scopes.{holds};
 

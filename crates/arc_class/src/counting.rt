@@ -1,7 +1,7 @@
 //! How many of each sort a source declares.
 ghost use Rattle.std.specs.Prelude.{◌≡◌, IfOk, IfErr};
 ghost use Rattle.arc_ast.specs.Tree.{parameter_trees};
-ghost use Rattle.arc_class.specs.Names.{parameter_kinds};
+ghost use Rattle.arc_class.specs.FunctionNames.{parameter_kinds};
 ghost use Rattle.arc_fault.specs.declared.class.ClassFault.TheVariants.{Memory};
 ghost use Rattle.arc_spec.specs.Sorts as sorts;
 

@@ -1,6 +1,6 @@
 //! Why a source has no table.
 ghost use Rattle.std.specs.Prelude.{◌≡◌, option_map};
-ghost use Rattle.arc_class.specs.Broken.{broken_if, first};
+ghost use Rattle.arc_class.specs.BrokenRules.{broken_if, first};
 ghost use Rattle.arc_fault.specs.Class.{report};
 ghost use Rattle.arc_class.specs.Fault.{reported};
 

@@ -1,7 +1,7 @@
 //! The fields of objects.
 ghost use Rattle.std.specs.Prelude.{◌≡◌, ℕ, List, [], ◌++◌, length, map, option_map, slice_get, suc, IfOk, IfErr, OnOk};
 ghost use Rattle.arc_ast.specs.Tree.{UnitTree, FieldTree, InterfaceTree, unit_tree, interface_tree, field_tree as written_field, field_trees};
-ghost use Rattle.arc_class.specs.Broken.{first};
+ghost use Rattle.arc_class.specs.BrokenRules.{first};
 ghost use Rattle.arc_class.specs.Classes.{class_number};
 ghost use Rattle.arc_class.specs.ClassRules as rules;
 ghost use Rattle.arc_class.specs.ClassRules.{broken_field, broken_fields, broken_pair};
@@ -10,7 +10,7 @@ ghost use Rattle.arc_class.specs.private.Entries.{own_trees, fields_tree, root_f
 ghost use Rattle.arc_class.specs.Fault.{reported};
 ghost use Rattle.arc_class.specs.Fields as specs;
 ghost use Rattle.arc_class.specs.Fields.{numbered, field_after, field_sort, written_sorts, owned, fields_declared, all_fields_from};
-ghost use Rattle.arc_class.specs.Kept.{Knows};
+ghost use Rattle.arc_class.specs.KeptNames.{Knows};
 ghost use Rattle.arc_class.specs.Lookups.{at_name, class_number_in, own_field_in, own_place_in, field_among, place_among, field_tree, list_of, list_among, number_of_class, least_of};
 ghost use Rattle.arc_class.specs.Owners.{FindsFields};
 ghost use Rattle.arc_spec.specs.Sorts.{with_all};

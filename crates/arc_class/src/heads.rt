@@ -3,7 +3,7 @@ ghost use Rattle.std.specs.Prelude.{◌≡◌, ℕ, List, [], ◌∷◌, None, I
 ghost use Rattle.arc_ast.specs.declared.tree.Sign.{Sign};
 ghost use Rattle.arc_ast.specs.Tree.{head_tree, head_trees, method_trees};
 ghost use Rattle.arc_class.specs.Classes.{heads, first_head, is_related};
-ghost use Rattle.arc_class.specs.Kept.{one_at, head_in};
+ghost use Rattle.arc_class.specs.KeptNames.{one_at, head_in};
 ghost use Rattle.arc_class.specs.Table.{at_name, head_at};
 ghost use Rattle.std.specs.Option.{option_or};
 

@@ -7,10 +7,10 @@ ghost use Rattle.arc_class.specs.Classes as classes;
 ghost use Rattle.arc_class.specs.Classes.{class_number, first_head, declared, defined, implemented_before};
 ghost use Rattle.arc_fault.specs.declared.class.ClassFault.TheVariants.{Memory};
 ghost use Rattle.arc_class.specs.Globals.{known_global, variable_after};
-ghost use Rattle.arc_class.specs.Kept.{head_in, function_kept, places, implemented_in, Knows};
-ghost use Rattle.arc_class.specs.Names as names;
-ghost use Rattle.arc_class.specs.Names.{first_named};
-ghost use Rattle.arc_class.specs.Running.{implemented};
+ghost use Rattle.arc_class.specs.KeptNames.{head_in, function_kept, places, implemented_in, Knows};
+ghost use Rattle.arc_class.specs.FunctionNames as names;
+ghost use Rattle.arc_class.specs.FunctionNames.{first_named};
+ghost use Rattle.arc_class.specs.RuntimeClasses.{implemented};
 ghost use Rattle.arc_class.specs.Table.{at_name, class_number_in};
 
 use crate::by_name::ByName;

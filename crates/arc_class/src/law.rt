@@ -1,6 +1,6 @@
 //! What follows from the definitions. Nothing here is run.
 ghost use Rattle.std.specs.Prelude.{◌≡◌, List, [], Some, None};
-ghost use Rattle.arc_class.specs.Broken.{Broken, first, IsFirst};
+ghost use Rattle.arc_class.specs.BrokenRules.{Broken, first, IsFirst};
 
 /// Of the rules that are broken one is reported, and none of the others comes before it.
 pub fn first_is_reported()

@@ -4,10 +4,10 @@ ghost use Rattle.arc_ast.specs.declared.tree.Kind.{Kind};
 ghost use Rattle.arc_ast.specs.Tree.{function_tree, function_trees, parameter_trees, parameters_tree};
 ghost use Rattle.arc_sites.specs.Sites.{named_parameters};
 ghost use Rattle.arc_class.specs.Fault.{reported};
-ghost use Rattle.arc_class.specs.Functions as rules;
-ghost use Rattle.arc_class.specs.private.Look.{Sums, IsMore, joined, fault_with, main_with};
-ghost use Rattle.arc_class.specs.Names as names;
-ghost use Rattle.arc_class.specs.Names.{parameter_kinds};
+ghost use Rattle.arc_class.specs.FunctionRules as rules;
+ghost use Rattle.arc_class.specs.private.FunctionSummary.{Sums, IsMore, joined, fault_with, main_with};
+ghost use Rattle.arc_class.specs.FunctionNames as names;
+ghost use Rattle.arc_class.specs.FunctionNames.{parameter_kinds};
 
 use crate::table::{Declared, Known, Signature, at_name};
 use arc_ast::tree::{Function, Kind, Parameter, Parameters};

@@ -2,12 +2,12 @@
 ghost use Rattle.std.specs.Prelude.{◌≡◌, List, ℕ, [], is_some, option_map, IfOk};
 ghost use Rattle.arc_ast.specs.declared.tree.Sign.{Sign};
 ghost use Rattle.arc_ast.specs.Tree.{HeadTree, unit_tree, head_tree, method_trees};
-ghost use Rattle.arc_class.specs.Broken.{broken_if, first};
+ghost use Rattle.arc_class.specs.BrokenRules.{broken_if, first};
 ghost use Rattle.arc_class.specs.ClassRules.{broken_methods};
 ghost use Rattle.arc_class.specs.SiteRules as rules;
 ghost use Rattle.arc_class.specs.Classes.{first_head};
 ghost use Rattle.arc_class.specs.Fault.{reported};
-ghost use Rattle.arc_class.specs.Kept.{head_in, Knows};
+ghost use Rattle.arc_class.specs.KeptNames.{head_in, Knows};
 
 use crate::fault::fault_if;
 use crate::heads::Heads;

@@ -1,8 +1,8 @@
 //! Maps from numbers to numbers, which share their parts.
 ghost use Rattle.std.specs.Prelude.{◌≡◌, ◌<◌, ◌≤◌, ◌^◌, ℕ, nat_le, IfOk, IfErr};
 ghost use Rattle.arc_fault.specs.declared.class.ClassFault.TheVariants.{Memory};
-ghost use Rattle.arc_class.specs.Numbered as specs;
-ghost use Rattle.arc_class.specs.Numbered.{at_number, IsWithin, Puts};
+ghost use Rattle.arc_class.specs.NumberMaps as specs;
+ghost use Rattle.arc_class.specs.NumberMaps.{at_number, IsWithin, Puts};
 
 use arc_fault::class::ClassFault;
 

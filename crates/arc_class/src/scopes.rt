@@ -1,7 +1,7 @@
 //! The names that stand in a scope.
 ghost use Rattle.std.specs.Prelude.{◌≡◌, ◌++◌, false, map, option_map, IfOk, OnOk};
 ghost use Rattle.arc_ast.specs.Tree.{variable_trees, parameter_trees, stmt_tree, stmt_trees};
-ghost use Rattle.arc_class.specs.Broken.{broken_if, first};
+ghost use Rattle.arc_class.specs.BrokenRules.{broken_if, first};
 ghost use Rattle.arc_class.specs.Fault.{reported};
 ghost use Rattle.arc_class.specs.SiteRules.{as_variable, declared_in, all_declared, repeated};
 ghost use Rattle.arc_class.specs.private.Scopes.{and_name, names_with, holds};

@@ -1,13 +1,13 @@
 //! The rules that a site of a source breaks by itself.
 ghost use Rattle.std.specs.Prelude.{◌≡◌, ◌++◌, option_map, IfOk};
 ghost use Rattle.arc_ast.specs.Tree.{expr_tree, stmt_tree, function_tree, global_tree, head_tree, unit_tree};
-ghost use Rattle.arc_class.specs.Broken.{first};
+ghost use Rattle.arc_class.specs.BrokenRules.{first};
 ghost use Rattle.arc_class.specs.Fault.{reported};
-ghost use Rattle.arc_class.specs.Kept.{Knows};
-ghost use Rattle.arc_class.specs.Names.{known};
+ghost use Rattle.arc_class.specs.KeptNames.{Knows};
+ghost use Rattle.arc_class.specs.FunctionNames.{known};
 ghost use Rattle.arc_class.specs.SiteRules as rules;
 ghost use Rattle.arc_class.specs.SiteRules.{violations};
-ghost use Rattle.arc_sites.specs.Finding.{node_of, violations_of};
+ghost use Rattle.arc_sites.specs.FoundViolations.{node_of, violations_of};
 ghost use Rattle.arc_sites.specs.Sites as sites;
 ghost use Rattle.arc_sites.specs.Sites.{InSource, unit_sites};
 

@@ -1,9 +1,9 @@
 //! The classes that types name.
 ghost use Rattle.std.specs.Prelude.{◌≡◌, flat_map, map, option_map};
 ghost use Rattle.arc_ast.specs.Tree.{type_tree, result_tree, parameter_trees, unit_tree};
-ghost use Rattle.arc_class.specs.Broken.{first};
+ghost use Rattle.arc_class.specs.BrokenRules.{first};
 ghost use Rattle.arc_class.specs.Fault.{reported};
-ghost use Rattle.arc_class.specs.Kept.{Knows};
+ghost use Rattle.arc_class.specs.KeptNames.{Knows};
 ghost use Rattle.arc_class.specs.SiteRules.{unknown_class, result_types, signature_types};
 
 use crate::fault::fault_if;

@@ -2,12 +2,12 @@
 use Rattle.std.proofs.Common.{◌≡◌, ℕ, suc, ◌+◌, ℤ, List, ◌∷◌, length, Option, Some, None, refl, ap, arith}
 use Rattle.std.proofs.lemmas.List.{length-set}
 use Rattle.arc_spec.specs.Classes.{Class}
-use Rattle.arc_spec.specs.Holding.{Held}
+use Rattle.arc_spec.specs.HolderCounts.{Heap}
 use Rattle.arc_code.specs.declared.instr.Op.{Op}
 use Rattle.arc_code.specs.declared.instr.Op.TheVariants.{ReadField, Alloc}
 use Rattle.arc_code.specs.Instructions.{State, or_fault, allocates, operates}
 use Rattle.arc_code.specs.Effects.{Effect, of_names, on_numbers, on_names, operation_effect, Follows, After}
-use Rattle.arc_code.proofs.Outcomes.{top_after, found_after, reference_after, named_after, field_after, declares_after}
+use Rattle.arc_code.proofs.StepOutcomes.{top_after, found_after, reference_after, named_after, field_after, declares_after}
 
 module _ (classes : List Class) (s : State) where
   -- a state that follows an effect
@@ -15,11 +15,11 @@ module _ (classes : List Class) (s : State) where
   By e = Follows e s
 
   -- after the operation, with this stack, these objects and these places
-  abbrev after : List ℤ → Held → State
+  abbrev after : List ℤ → Heap → State
   after stack held = record { at = s.at + 1; stack = stack; frames = s.frames; held = held }
 
   -- so many numbers and references were taken, and numbers given
-  gives : (taken given names : ℕ) (stack : List ℤ) (held : Held) → length stack + taken ≡ length s.stack + given → length held.names + names ≡ length s.held.names
+  gives : (taken given names : ℕ) (stack : List ℤ) (held : Heap) → length stack + taken ≡ length s.stack + given → length held.names + names ≡ length s.held.names
       → held.temporaries ≡ s.held.temporaries → held.variables ≡ s.held.variables → held.places ≡ s.held.places → By (of_names taken given names) (after stack held)
   gives taken given names stack held n r t v p = record {
     numbers = n;
@@ -36,7 +36,7 @@ module _ (classes : List Class) (s : State) where
   counts taken given stack n = gives taken given 0 stack s.held n (omega arith) refl refl refl
 
   -- so many references were taken, others given, and so many temporaries more hold objects
-  refers : (taken given more : ℕ) (held : Held) → length held.names + taken ≡ length s.held.names + given → length held.temporaries ≡ length s.held.temporaries + more
+  refers : (taken given more : ℕ) (held : Heap) → length held.names + taken ≡ length s.held.names + given → length held.temporaries ≡ length s.held.temporaries + more
       → held.variables ≡ s.held.variables → held.places ≡ s.held.places → By (on_names taken given more) (after s.stack held)
   refers taken given more held r t v p = record { numbers = refl; names = r; temporaries = t; variables = omega (arith, ap length v); places = p; at = refl; frames = refl }
 

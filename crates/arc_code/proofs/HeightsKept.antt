@@ -12,13 +12,13 @@ use Rattle.arc_spec.specs.Classes.{Class, class_at, lookup, same_gives, init_sel
 use Rattle.arc_spec.specs.Objects.{Object, object_at}
 use Rattle.arc_spec.specs.Number.{is_zero}
 use Rattle.arc_spec.specs.declared.limits.TheConstants.{MOST_LEVELS}
-use Rattle.arc_spec.specs.Stepping.{Next, Goes, Asks, Faults, Safe, Sound, Reached, Running, follow, further, after_steps}
-use Rattle.arc_spec.specs.Holding.{Held, Frame, Calling, Ending, Clearing, Waiter, Counted, stacked, with_temporaries, with_names, raised, lowered, resumed, with_strong_field, stores_field}
+use Rattle.arc_spec.specs.SmallSteps.{Next, Goes, Asks, Faults, Safe, Sound, Reached, Running, follow, further, after_steps}
+use Rattle.arc_spec.specs.HolderCounts.{Heap, ReturnFrame, Calling, Ending, Clearing, Waiter, CountsAreExact, stacked, with_temporaries, with_names, raised, lowered, resumed, with_strong_field, stores_field}
 use Rattle.arc_code.specs.declared.instr.Instr.{Instr}
 use Rattle.arc_code.specs.declared.instr.Instr.TheVariants.{Plain, PrintText, Jump, JumpZero, Call, Send, SendSuper, SendTo, SendToSuper, StoreStrong, StoreGlobal, StoreField, Empty, DropAll, Settle, Give, Return, EndStep}
 use Rattle.arc_code.specs.Instructions.{Program, State, start, moved, keeps, has_level, enters, answers, operates, gives_at_once, answers_object, sends, begins_end, ends_after, releases, settles, drops_all, ends_object, runs_dealloc, clears, after_deallocs, ends_class, clears_next, end_goes_on, leaves, hands_over, executes, step, Fits, IsSound}
 use Rattle.arc_code.specs.Effects.{Effect, Height, on_numbers, as_number, as_object, giving, operation_effect, no_height, FitsBetween, FitsCall, SameResult, Follows, After, HeightsFit, FitsAt, GivesAt, room_for, HasAtMost, NeverHasMore}
-use Rattle.arc_code.proofs.Outcomes.{along_both, after_map, top_after, taken_after, found_after, chosen_after, if_after, object_after, named_after, reference_after, field_after, left_after, result_after, lets_go_after, place_after, receiver_after, dying_in, stores_after, clears_after}
+use Rattle.arc_code.proofs.StepOutcomes.{along_both, after_map, top_after, taken_after, found_after, chosen_after, if_after, object_after, named_after, reference_after, field_after, left_after, result_after, lets_go_after, place_after, receiver_after, dying_in, stores_after, clears_after}
 use Rattle.arc_code.proofs.EffectsFollowed.{operation_follows}
 
 times_more : (n m : ℕ) → suc n * m ≡ m + n * m
@@ -30,32 +30,32 @@ root_init_takes selector takes objects g e =
     let parts = and_parts (nat_eq takes 0) (nat_eq objects 0 && same_gives g gives.Object) (and_parts (nat_eq selector init_selector) _ e).1 in
     (eqb-true takes 0 parts.0, eqb-true objects 0 (and_parts (nat_eq objects 0) (same_gives g gives.Object) parts.1).0)
 
-all_length : (h : Held) → length (stacked h) ≡ length h.temporaries + length h.variables + length h.places
+all_length : (h : Heap) → length (stacked h) ≡ length h.temporaries + length h.variables + length h.places
 all_length h = omega (arith, length-append (h.temporaries ++ h.variables) h.places, length-append h.temporaries h.variables)
 
 module _ {J F T : Type 0} (p : Program J F T) (height : ℕ → Height) (result : ℕ → Gives) (most_numbers most_names most_places : ℕ) (fits : HeightsFit p height result most_numbers most_names most_places) where
   -- where a function that waits goes on
-  abbrev back_of : Frame → ℕ
+  abbrev back_of : ReturnFrame → ℕ
   back_of (Calling back w) = back
   back_of (Ending back w o next left) = back
   back_of (Clearing back w o fields) = back
 
   -- The numbers, references and places of what waits. A call gives a number or an object, which isn't there yet: what the function gives that the first of them waits
   -- for.
-  abbrev numbers_of : Gives → Frame → ℕ
+  abbrev numbers_of : Gives → ReturnFrame → ℕ
   numbers_of g (Calling back w) = (height back).numbers - as_number g
   numbers_of g x = (height (back_of x)).numbers
 
-  abbrev names_of : Gives → Frame → ℕ
+  abbrev names_of : Gives → ReturnFrame → ℕ
   names_of g (Calling back w) = (height back).names - as_object g
   names_of g x = (height (back_of x)).names
 
-  abbrev places_of : Gives → Frame → ℕ
+  abbrev places_of : Gives → ReturnFrame → ℕ
   places_of g (Calling back w) = w.temporaries + w.variables
   places_of g (Ending back w o next left) = w.temporaries + w.variables
   places_of g (Clearing back w o fields) = w.temporaries + w.variables
 
-  abbrev waiting : (Gives → Frame → ℕ) → Gives → List Frame → ℕ
+  abbrev waiting : (Gives → ReturnFrame → ℕ) → Gives → List ReturnFrame → ℕ
   waiting f g [] = 0
   waiting f g (x ∷ others) = f g x + waiting f (result (back_of x)) others
 
@@ -63,17 +63,17 @@ module _ {J F T : Type 0} (p : Program J F T) (height : ℕ → Height) (result 
   abbrev GoesOn : ℕ → Height → Waiter → Type 0
   GoesOn more h w = (w.temporaries + more ≤ h.temporaries) × (w.variables ≤ h.variables)
 
-  abbrev Waits : Gives → Frame → Type 0
+  abbrev Waits : Gives → ReturnFrame → Type 0
   Waits g (Calling back w) = GoesOn (as_object g) (height back) w × (as_number g ≤ (height back).numbers) × (as_object g ≤ (height back).names)
   Waits g (Ending back w o next left) = GoesOn 0 (height back) w
   Waits g (Clearing back w o fields) = GoesOn 0 (height back) w
 
-  abbrev AllWait : Gives → List Frame → Type 0
+  abbrev AllWait : Gives → List ReturnFrame → Type 0
   AllWait g [] = Unit {0}
   AllWait g (x ∷ others) = Waits g x × AllWait (result (back_of x)) others
 
   -- the running function, which gives this, has no more than this height above what waits
-  abbrev Above : Height → Gives → List Frame → List ℤ → Held → Type 0
+  abbrev Above : Height → Gives → List ReturnFrame → List ℤ → Heap → Type 0
   Above h g frames stack held =
       (length stack ≤ h.numbers + waiting numbers_of g frames) × (length held.names ≤ h.names + waiting names_of g frames) × (length held.temporaries ≤ h.temporaries) × (length held.variables ≤ h.variables)
       × (length held.places ≤ waiting places_of g frames)
@@ -92,7 +92,7 @@ module _ {J F T : Type 0} (p : Program J F T) (height : ℕ → Height) (result 
   here s g e above levels waits = record { above = rw e above; levels = levels; waits = rw e waits }
 
   -- what a function that waited has when it runs again
-  resumed_above : (h : Height) (g : Gives) (w : Waiter) (held : Held) (stack : List ℤ) (others : List Frame) → length stack ≤ h.numbers + waiting numbers_of g others → length held.names ≤ h.names + waiting names_of g others
+  resumed_above : (h : Height) (g : Gives) (w : Waiter) (held : Heap) (stack : List ℤ) (others : List ReturnFrame) → length stack ≤ h.numbers + waiting numbers_of g others → length held.names ≤ h.names + waiting names_of g others
       → length held.places ≤ w.temporaries + w.variables + waiting places_of g others → GoesOn 0 h w → Above h g others stack (resumed w held)
   resumed_above h g w held stack others n r l goes = search (arith, length-take {A = ℕ}, length-drop {A = ℕ})
 
@@ -166,7 +166,7 @@ module _ {J F T : Type 0} (p : Program J F T) (height : ℕ → Height) (result 
         (λ to found. fits.methods (Some (from o)) signs.Instance selector takes objects g to found))
 
     -- the end of an object begins, after which the function goes on here
-    begins_end_within : (back o class : ℕ) (h : Held) (b : Bool) → has_level s ≡ b → Above (height back) (result back) s.frames s.stack h → AllWait (result back) s.frames → After Within (begins_end p s back o class h b)
+    begins_end_within : (back o class : ℕ) (h : Heap) (b : Bool) → has_level s ≡ b → Above (height back) (result back) s.frames s.stack h → AllWait (result back) s.frames → After Within (begins_end p s back o class h b)
     begins_end_within back o class h false is a waits = tt
     begins_end_within back o class h true is a waits =
         let l = all_length h in
@@ -174,11 +174,11 @@ module _ {J F T : Type 0} (p : Program J F T) (height : ℕ → Height) (result 
 
     module _ (same : SameResult p result s.at (s.at + 1)) where
       -- a place lets go of what it named
-      releases_within : (r : ℕ) (h : Held) → Above (height (s.at + 1)) (result (s.at + 1)) s.frames s.stack h → After Within (releases p s r h)
+      releases_within : (r : ℕ) (h : Heap) → Above (height (s.at + 1)) (result (s.at + 1)) s.frames s.stack h → After Within (releases p s r h)
       releases_within r h a = lets_go_after Within r h _ _ (record { above = a; levels = w.levels; waits = waits_at (s.at + 1) same }) (λ o. begins_end_within (s.at + 1) r o.class _ (has_level s) refl a (waits_at (s.at + 1) same))
 
       -- a field of an object takes another
-      stores_within : (r : ℕ) (o : Object) (index value : ℕ) (h : Held) → Above (height (s.at + 1)) (result (s.at + 1)) s.frames s.stack h → After Within (stores_field r o index value h (keeps s s.stack) (ends_after p s))
+      stores_within : (r : ℕ) (o : Object) (index value : ℕ) (h : Heap) → Above (height (s.at + 1)) (result (s.at + 1)) s.frames s.stack h → After Within (stores_field r o index value h (keeps s s.stack) (ends_after p s))
       stores_within r o index value h a =
           let waits = waits_at (s.at + 1) same in
           stores_after Within r o index value h (keeps s s.stack) (ends_after p s) (record { above = a; levels = w.levels; waits = waits }) (λ old. record { above = a; levels = w.levels; waits = waits })
@@ -193,7 +193,7 @@ module _ {J F T : Type 0} (p : Program J F T) (height : ℕ → Height) (result 
       settles_within _ is fit = tt
 
       -- the temporaries are dropped
-      drops_within : (temporaries : List ℕ) (h : Held) → h.temporaries ≡ temporaries → Above (height s.at) (result s.at) s.frames s.stack h → FitsBetween (record (height s.at) { temporaries = 0 }) (height (s.at + 1)) (on_numbers 0 0) → After Within (drops_all p s temporaries h)
+      drops_within : (temporaries : List ℕ) (h : Heap) → h.temporaries ≡ temporaries → Above (height s.at) (result s.at) s.frames s.stack h → FitsBetween (record (height s.at) { temporaries = 0 }) (height (s.at + 1)) (on_numbers 0 0) → After Within (drops_all p s temporaries h)
       drops_within [] h is above fit =
           let a : Above (height s.at) (result (s.at + 1)) s.frames s.stack h = rw same above in
           let none = ap length is in
@@ -209,34 +209,34 @@ module _ {J F T : Type 0} (p : Program J F T) (height : ℕ → Height) (result 
 
   -- what an end or a return does, where nothing of the running function is left
   module _ (s : State) where
-    abbrev Stands : List Frame → Type 0
+    abbrev Stands : List ReturnFrame → Type 0
     Stands frames = Above no_height (result s.at) frames s.stack s.held × (length frames ≤ MOST_LEVELS) × AllWait (result s.at) frames
 
-    ends_object_within : (back : ℕ) (w : Waiter) (o : ℕ) (others : List Frame) → Stands (Ending back w o None 0 ∷ others) → After Within (ends_object s back w o others)
+    ends_object_within : (back : ℕ) (w : Waiter) (o : ℕ) (others : List ReturnFrame) → Stands (Ending back w o None 0 ∷ others) → After Within (ends_object s back w o others)
     ends_object_within back w o others h = if_after Within (nat_eq (s.held.counts o) 0) _ _
         (left_after Within s.held.temporaries s.held _ (λ _. record { above = resumed_above (height back) (result back) w s.held s.stack others (omega (arith, h.0.0)) (omega (arith, h.0.1)) (omega (arith, h.0.4)) h.2.0; levels = omega (arith, h.1); waits = h.2.1 })) tt
 
-    runs_dealloc_within : (to : Option ℕ) (back : ℕ) (w : Waiter) (o : ℕ) (next : Option ℕ) (left : ℕ) (others : List Frame) → Stands (Ending back w o None 0 ∷ others) → After Within (runs_dealloc to s (Ending back w o next left ∷ others))
+    runs_dealloc_within : (to : Option ℕ) (back : ℕ) (w : Waiter) (o : ℕ) (next : Option ℕ) (left : ℕ) (others : List ReturnFrame) → Stands (Ending back w o None 0 ∷ others) → After Within (runs_dealloc to s (Ending back w o next left ∷ others))
     runs_dealloc_within None back w o next left others h = record { above = search arith; levels = h.1; waits = h.2 }
     runs_dealloc_within (Some to) back w o next left others h = record { above = search arith; levels = h.1; waits = h.2 }
 
     -- at no more than nothing
-    stands_within : (frames : List Frame) → Stands frames → Within (record s { frames = frames })
+    stands_within : (frames : List ReturnFrame) → Stands frames → Within (record s { frames = frames })
     stands_within frames h = record { above = search arith; levels = h.1; waits = h.2 }
 
-    clears_all_within : (back : ℕ) (w : Waiter) (o : ℕ) (fields : List ℕ) (others : List Frame) → Stands (Ending back w o None 0 ∷ others) → After Within (clears p s back w o fields others)
+    clears_all_within : (back : ℕ) (w : Waiter) (o : ℕ) (fields : List ℕ) (others : List ReturnFrame) → Stands (Ending back w o None 0 ∷ others) → After Within (clears p s back w o fields others)
     clears_all_within back w o [] others h = ends_object_within back w o others h
     clears_all_within back w o (index ∷ fields) others h =
         record { above = search arith; levels = h.1; waits = h.2 }
 
-    after_deallocs_within : (back : ℕ) (w : Waiter) (o : ℕ) (others : List Frame) → Stands (Ending back w o None 0 ∷ others) → After Within (after_deallocs p s back w o others)
+    after_deallocs_within : (back : ℕ) (w : Waiter) (o : ℕ) (others : List ReturnFrame) → Stands (Ending back w o None 0 ∷ others) → After Within (after_deallocs p s back w o others)
     after_deallocs_within back w o others h = object_after Within (object_at s.held.objects o) _ (λ ob. clears_all_within back w o (field_order p.classes ob.class) others h)
 
-    ends_class_within : (back : ℕ) (w : Waiter) (o : ℕ) (class : Option Class) (left : ℕ) (others : List Frame) → Stands (Ending back w o None 0 ∷ others) → After Within (ends_class p s back w o class left others)
+    ends_class_within : (back : ℕ) (w : Waiter) (o : ℕ) (class : Option Class) (left : ℕ) (others : List ReturnFrame) → Stands (Ending back w o None 0 ∷ others) → After Within (ends_class p s back w o class left others)
     ends_class_within back w o None left others h = after_deallocs_within back w o others h
     ends_class_within back w o (Some c) left others h = runs_dealloc_within c.dealloc back w o c.superclass left others h
 
-    end_goes_on_within : (frames : List Frame) → Stands frames → After Within (end_goes_on p s frames)
+    end_goes_on_within : (frames : List ReturnFrame) → Stands frames → After Within (end_goes_on p s frames)
     end_goes_on_within (Ending back w o (Some c) (suc left) ∷ others) h = ends_class_within back w o (slice_get p.classes c) left others h
     end_goes_on_within (Ending back w o _ left ∷ others) h = after_deallocs_within back w o others h
     end_goes_on_within (Clearing back w o [] ∷ others) h = ends_object_within back w o others h
@@ -245,7 +245,7 @@ module _ {J F T : Type 0} (p : Program J F T) (height : ℕ → Height) (result 
         clears_within (record s { frames = Clearing back w o fields ∷ others }) within o index within.above
     end_goes_on_within _ h = tt
 
-    leaves_within : (frames : List Frame) (v : ℤ) (rest : List ℤ) → Within (record s { frames = frames }) → length s.stack ≡ suc (length rest) → s.held.temporaries ≡ [] → FitsBetween (record (height s.at) { variables = 0 }) no_height (on_numbers 1 0)
+    leaves_within : (frames : List ReturnFrame) (v : ℤ) (rest : List ℤ) → Within (record s { frames = frames }) → length s.stack ≡ suc (length rest) → s.held.temporaries ≡ [] → FitsBetween (record (height s.at) { variables = 0 }) no_height (on_numbers 1 0)
         → result s.at ≡ gives.Number → After Within (leaves p (record s { frames = frames }) frames v rest (record s.held { variables = [] }))
     leaves_within (Calling back w ∷ others) v rest within e none fit given =
         let a = rw given at within.above in
@@ -257,7 +257,7 @@ module _ {J F T : Type 0} (p : Program J F T) (height : ℕ → Height) (result 
         record { above = search arith; levels = within.levels; waits = within.waits }
     leaves_within _ v rest within e none fit given = tt
 
-    hands_over_within : (frames : List Frame) (r : ℕ) (rest : List ℤ) → Within (record s { frames = frames }) → length s.stack ≡ suc (length rest) → FitsBetween (record (height s.at) { variables = 0 }) no_height (on_numbers 1 0)
+    hands_over_within : (frames : List ReturnFrame) (r : ℕ) (rest : List ℤ) → Within (record s { frames = frames }) → length s.stack ≡ suc (length rest) → FitsBetween (record (height s.at) { variables = 0 }) no_height (on_numbers 1 0)
         → result s.at ≡ gives.Object → After Within (hands_over p (record s { frames = frames }) frames r rest (record s.held { variables = [] }))
     hands_over_within (Calling back w ∷ others) r rest within e fit given =
         let a = rw given at within.above in
@@ -317,25 +317,25 @@ module _ {J F T : Type 0} (p : Program J F T) (height : ℕ → Height) (result 
 
   -- ---- the room
 
-  waiting_most : (f : Gives → Frame → ℕ) (most : ℕ) → ((g : Gives) (x : Frame) → Waits g x → f g x ≤ most) → (g : Gives) (frames : List Frame) → AllWait g frames → waiting f g frames ≤ length frames * most
+  waiting_most : (f : Gives → ReturnFrame → ℕ) (most : ℕ) → ((g : Gives) (x : ReturnFrame) → Waits g x → f g x ≤ most) → (g : Gives) (frames : List ReturnFrame) → AllWait g frames → waiting f g frames ≤ length frames * most
   waiting_most f most each g [] waits = omega arith
   waiting_most f most each g (x ∷ others) waits = omega (arith, each g x waits.0, waiting_most f most each (result (back_of x)) others waits.1, times_more (length others) most)
 
-  numbers_few : (g : Gives) (x : Frame) → Waits g x → numbers_of g x ≤ most_numbers
+  numbers_few : (g : Gives) (x : ReturnFrame) → Waits g x → numbers_of g x ≤ most_numbers
   numbers_few g (Calling back w) waits = omega (arith, fits.numbers_most back)
   numbers_few g x waits = fits.numbers_most (back_of x)
 
-  names_few : (g : Gives) (x : Frame) → Waits g x → names_of g x ≤ most_names
+  names_few : (g : Gives) (x : ReturnFrame) → Waits g x → names_of g x ≤ most_names
   names_few g (Calling back w) waits = omega (arith, fits.names_most back)
   names_few g x waits = fits.names_most (back_of x)
 
-  places_few : (g : Gives) (x : Frame) → Waits g x → places_of g x ≤ most_places
+  places_few : (g : Gives) (x : ReturnFrame) → Waits g x → places_of g x ≤ most_places
   places_few g (Calling back w) waits = omega (arith, waits.0.0, waits.0.1, fits.places_most back)
   places_few g x waits = omega (arith, waits.0, waits.1, fits.places_most (back_of x))
 
   -- all levels together have no more than the room
   module _ (s : State) (w : Within s) where
-    together : (f : Gives → Frame → ℕ) (most own : ℕ) → ((g : Gives) (x : Frame) → Waits g x → f g x ≤ most) → own ≤ most → own + waiting f (result s.at) s.frames ≤ room_for most
+    together : (f : Gives → ReturnFrame → ℕ) (most own : ℕ) → ((g : Gives) (x : ReturnFrame) → Waits g x → f g x ≤ most) → own ≤ most → own + waiting f (result s.at) s.frames ≤ room_for most
     together f most own each few = omega (arith, few, waiting_most f most each (result s.at) s.frames w.waits, mul-le-mul_right most w.levels, times_more MOST_LEVELS most)
 
     room_suffices : (length s.stack ≤ room_for most_numbers) × (length s.held.names ≤ room_for most_names) × (length (stacked s.held) ≤ room_for most_places)
@@ -376,12 +376,12 @@ module _ {J F T : Type 0} (p : Program J F T) (height : ℕ → Height) (result 
   -- ---- soundness
 
   module _ (numbers_room : room_for most_numbers ≤ p.room) (names_room : room_for most_names ≤ p.names) (places_room : room_for most_places ≤ p.places) where
-    safe_within : (n : ℕ) (s : State) → Within s → Safe (step p) (λ t. Counted t.held) n s → Safe (step p) (Fits p) n s
+    safe_within : (n : ℕ) (s : State) → Within s → Safe (step p) (λ t. CountsAreExact t.held) n s → Safe (step p) (Fits p) n s
     safe_within zero s w counts =
         let few = room_suffices s w in
         record { numbers = omega arith; names = omega arith; places = omega arith; counts = counts }
-    safe_within (suc n) s w safe = along_both (Safe (step p) (λ t. Counted t.held) n) Within (Safe (step p) (Fits p) n) (λ t counts within. safe_within n t within counts) (step p s) safe (step_within s w)
+    safe_within (suc n) s w safe = along_both (Safe (step p) (λ t. CountsAreExact t.held) n) Within (Safe (step p) (Fits p) n) (λ t counts within. safe_within n t within counts) (step p s) safe (step_within s w)
 
     -- a program that never is stuck, and whose counts are right, is sound with the room that its heights ask for
-    pub sound_with_room : Sound (step p) (λ t. Counted t.held) (start p) → IsSound p
+    pub sound_with_room : Sound (step p) (λ t. CountsAreExact t.held) (start p) → IsSound p
     sound_with_room sound = record { safe = λ n. safe_within n (start p) start_within (sound.safe n) }

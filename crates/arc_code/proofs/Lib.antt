@@ -1,7 +1,7 @@
-pub mod Parts
-pub mod Listed
-pub mod Renamed
-pub mod Outcomes
+pub mod WritesCompose
+pub mod ListingGrows
+pub mod RenamingKeepsSteps
+pub mod StepOutcomes
 pub mod EffectsFollowed
 pub mod HeightsKept
-pub mod Taken
+pub mod PartialWrites

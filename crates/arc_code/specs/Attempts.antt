@@ -4,7 +4,7 @@ use Rattle.std.specs.Prelude.{◌≡◌, ◌⊎◌, ℕ, zero, suc, ◌+◌, ◌
 use Rattle.arc_code.specs.declared.counted.TheConstants.{RETRIES}
 use Rattle.arc_code.specs.declared.device.Attempt.{Attempt}
 use Rattle.arc_code.specs.declared.device.Attempt.TheVariants.{Done, Interrupted}
-use Rattle.arc_code.specs.Calls.{IsUndone}
+use Rattle.arc_code.specs.DeviceCalls.{IsUndone}
 
 -- so many calls in a row were interrupted
 abbrev pub Interruptions : {T A : Type 0} → (call : T → Attempt A → T → Type 0) → ℕ → (old new : T) → Type 0

@@ -14,10 +14,10 @@ use Rattle.arc_spec.specs.declared.class.Gives.TheVariants as gives
 use Rattle.arc_spec.specs.contracts.class.Gives as results
 use Rattle.arc_code.specs.declared.effect.Effect.{Effect}
 use Rattle.arc_code.specs.declared.instr.Op.{Op}
-use Rattle.arc_code.specs.declared.instr.Op.TheVariants.{Num, Bin, Un, Narrow, Pop, Get, Set, GetGlobal, SetGlobal, PrintNum, PrintByte, GetChar, Declare, Nil, ReadSelf, ReadRef, ReadGlobal, ReadField, Hold, Again, Forget, Alloc, Finds, GetField, SetField, Differ, IsObject}
+use Rattle.arc_code.specs.declared.instr.Op.TheVariants.{Num, Bin, Un, Narrow, Pop, Get, Set, GetGlobal, SetGlobal, PrintNum, PrintByte, GetChar, Declare, Nil, ReadSelf, ReadRef, ReadGlobal, ReadField, Hold, Again, Forget, Alloc, Finds, GetField, SetField, NotSame, IsObject}
 use Rattle.arc_code.specs.declared.instr.Instr.{Instr}
 use Rattle.arc_code.specs.declared.instr.Instr.TheVariants.{Plain, PrintText, Jump, JumpZero, Call, Send, SendSuper, SendTo, SendToSuper, StoreStrong, StoreGlobal, StoreField, Empty, DropAll, Settle, Give, Return, EndStep}
-use Rattle.arc_code.specs.Running.{Instruction}
+use Rattle.arc_code.specs.CodeSteps.{Instruction}
 
 -- a space, and a number
 abbrev pub operand : ℕ → List ℕ
@@ -84,7 +84,7 @@ op_parts Alloc = (codes "Alloc", [])
 op_parts (Finds selector) = (codes "Finds", operand selector)
 op_parts (GetField class index) = (codes "GetField", operand class ++ operand index)
 op_parts (SetField class index) = (codes "SetField", operand class ++ operand index)
-op_parts Differ = (codes "Differ", [])
+op_parts NotSame = (codes "NotSame", [])
 op_parts IsObject = (codes "IsObject", [])
 
 -- what an operation takes and gives
@@ -114,7 +114,7 @@ operation_effect Alloc = record (on_names 0 1 1) { numbers_taken = 1 }
 operation_effect (Finds selector) = on_numbers 1 2
 operation_effect (GetField class index) = of_names 0 1 1
 operation_effect (SetField class index) = of_names 1 1 1
-operation_effect Differ = of_names 0 1 2
+operation_effect NotSame = of_names 0 1 2
 operation_effect IsObject = of_names 0 1 1
 
 -- ---- instructions

@@ -1,11 +1,11 @@
 pub mod Attempts
-pub mod Calls
+pub mod DeviceCalls
 pub mod Instructions
 pub mod InstructionTable
 pub mod Effects
-pub mod Renaming
-pub mod Running
-pub mod Counting
-pub mod Faulty
-pub mod Written
+pub mod InstructionRenaming
+pub mod CodeSteps
+pub mod CountedDevices
+pub mod DeviceFaults
+pub mod WrittenBytes
 pub mod Listing

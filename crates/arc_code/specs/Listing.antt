@@ -3,7 +3,7 @@ use Rattle.std.specs.Prelude.{ℕ, suc, List, [], ◌∷◌, ◌++◌, codes, de
 use Rattle.std.specs.Fmt.{signed_decimal}
 use Rattle.arc_code.specs.declared.instr.Operands.{Operands}
 use Rattle.arc_code.specs.declared.instr.Operands.TheVariants.{Nothing, Signed, One, Two, Four, Five}
-use Rattle.arc_code.specs.Running.{Instruction}
+use Rattle.arc_code.specs.CodeSteps.{Instruction}
 use Rattle.arc_code.specs.InstructionTable.{operand, parts}
 
 -- the instruction with this number

@@ -3,8 +3,8 @@
 ghost use Rattle.std.specs.Prelude.{◌≡◌, ◌+◌, ◌-◌, ◌^◌, ◌<◌, ◌≤◌, false, length, take, IsTrue, IfOk, IfErr, OnOk, OnErr};
 ghost use Rattle.std.specs.Io.KnownBytes.{Appends, Keeps};
 ghost use Rattle.arc_code.specs.Attempts.{Tried, Fails, FailsToWrite, Took, TookPart};
-ghost use Rattle.arc_code.specs.Calls.{Gives, Takes};
-ghost use Rattle.arc_code.specs.Counting.{failures_of, inner_of, has_ended, fresh, left_in, held_by, Answers};
+ghost use Rattle.arc_code.specs.DeviceCalls.{Gives, Takes};
+ghost use Rattle.arc_code.specs.CountedDevices.{failures_of, inner_of, has_ended, fresh, left_in, held_by, Answers};
 
 use crate::device::{Attempt, Input, Output};
 

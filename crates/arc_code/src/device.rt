@@ -1,7 +1,7 @@
 //! Devices, which are read and written: what one call of them answers.
 ghost use Rattle.std.specs.Prelude.{◌≡◌, ◌↔◌, ℕ, List, Option};
 ghost use Rattle.std.specs.Io.KnownBytes.{Keeps};
-ghost use Rattle.arc_code.specs.Calls.{Gives, Takes, IsUndone};
+ghost use Rattle.arc_code.specs.DeviceCalls.{Gives, Takes, IsUndone};
 
 use std::io::{ErrorKind, Read, Write};
 

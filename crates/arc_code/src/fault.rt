@@ -1,6 +1,6 @@
 //! The numbers and the names of faulty devices.
 ghost use Rattle.std.specs.Prelude.{◌≡◌};
-ghost use Rattle.arc_code.specs.Faulty.{report};
+ghost use Rattle.arc_code.specs.DeviceFaults.{report};
 
 use crate::code::IoFault;
 

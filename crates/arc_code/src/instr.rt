@@ -76,7 +76,7 @@ pub enum Op {
     /// first, and then the field's number.
     SetField(usize, usize),
     /// Takes the last two references, and puts 1 on the stack where they differ, and else 0.
-    Differ,
+    NotSame,
     /// Takes the last reference, and puts 1 on the stack where it isn't nil, and else 0.
     IsObject,
 }
@@ -190,7 +190,7 @@ impl Op {
             Op::Finds(selector) => ("Finds", Operands::One(selector as u64)),
             Op::GetField(class, index) => ("GetField", Operands::Two(class as u64, index as u64)),
             Op::SetField(class, index) => ("SetField", Operands::Two(class as u64, index as u64)),
-            Op::Differ => ("Differ", Operands::Nothing),
+            Op::NotSame => ("NotSame", Operands::Nothing),
             Op::IsObject => ("IsObject", Operands::Nothing),
         }
     }
@@ -220,7 +220,7 @@ impl Op {
             },
             Op::GetField(_, _) | Op::IsObject => of_names(0, 1, 1),
             Op::SetField(_, _) => of_names(1, 1, 1),
-            Op::Differ => of_names(0, 1, 2),
+            Op::NotSame => of_names(0, 1, 2),
         }
     }
 }

@@ -2,8 +2,8 @@
 ghost use Rattle.std.specs.Prelude.{◌≡◌, ◌-◌, ◌^◌, ◌<◌, ◌++◌, codes, decimal};
 ghost use Rattle.std.specs.Fmt.{signed_decimal};
 ghost use Rattle.arc_code.specs.Attempts.{HasFailedToWrite};
-ghost use Rattle.arc_code.specs.Counting.{failures_of, inner_of, held_by};
-ghost use Rattle.arc_code.specs.Written.{Written};
+ghost use Rattle.arc_code.specs.CountedDevices.{failures_of, inner_of, held_by};
+ghost use Rattle.arc_code.specs.WrittenBytes.{Written};
 ghost use Rattle.arc_code.specs.InstructionTable.{operand};
 ghost use Rattle.arc_code.specs.Listing.{line, listing, operands_text};
 

@@ -1,4 +1,4 @@
--- What an answer that is no code says.
+-- The number and the name of a fault, which is answered where there is no code.
 use Rattle.std.specs.Prelude.{ℕ, List, codes}
 use Rattle.arc_emit.specs.declared.fault.EmitFault.{EmitFault}
 use Rattle.arc_emit.specs.declared.fault.EmitFault.TheVariants as fault

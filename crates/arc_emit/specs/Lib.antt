@@ -1,2 +1,2 @@
-pub mod Emitted
+pub mod EmittedCode
 pub mod Faults

@@ -1,10 +1,10 @@
 //! Writes actions as instructions, one for each.
 ghost use Rattle.std.specs.Prelude.{◌≡◌, ◌<◌, ◌≤◌, length, IfOk, IfErr, IsErrOf};
-ghost use Rattle.arc_spec.specs.Correct.{Refines, Steady};
-ghost use Rattle.arc_ir.specs.Acting as acting;
-ghost use Rattle.arc_code.specs.Running as running;
-ghost use Rattle.arc_code.specs.Running.{program_of};
-ghost use Rattle.arc_emit.specs.Emitted.{code_of, IsLarge};
+ghost use Rattle.arc_spec.specs.Correctness.{Refines, Steady};
+ghost use Rattle.arc_ir.specs.ActionSteps as acting;
+ghost use Rattle.arc_code.specs.CodeSteps as running;
+ghost use Rattle.arc_code.specs.CodeSteps.{program_of};
+ghost use Rattle.arc_emit.specs.EmittedCode.{code_of, IsLarge};
 
 use crate::classes::copy_classes;
 use crate::fault::EmitFault;

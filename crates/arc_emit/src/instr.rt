@@ -1,8 +1,8 @@
 //! The instruction of one action, and its text.
 ghost use Rattle.std.specs.Prelude.{◌≡◌, ◌≤◌, ◌++◌, length, OnOk};
 ghost use Rattle.arc_code.specs.declared.code.TheConstants.{MOST_TEXT};
-ghost use Rattle.arc_ir.specs.Acting.{program_of, lands, entry};
-ghost use Rattle.arc_emit.specs.Emitted.{instr_of, text_of};
+ghost use Rattle.arc_ir.specs.ActionSteps.{program_of, lands, entry};
+ghost use Rattle.arc_emit.specs.EmittedCode.{instr_of, text_of};
 
 use arc_code::code::{Instruction, Piece};
 use arc_code::instr::Instr;

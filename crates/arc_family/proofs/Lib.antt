@@ -1,2 +1,2 @@
-pub mod Both
-pub mod Classes
+pub mod FirstViolation
+pub mod SuperclassesAgree

@@ -1,4 +1,4 @@
--- What an answer that is no program says.
+-- The violation that a fault reports, which is answered instead of a program.
 use Rattle.std.specs.Prelude.{◌≡◌, List, Some}
 use Rattle.arc_fault.specs.declared.own.OwnFault.{OwnFault}
 use Rattle.arc_fault.specs.Own.{report}

@@ -1,4 +1,4 @@
 pub mod Rules
 pub mod Fault
-pub mod Methods
+pub mod KnownFamilies
 pub mod private

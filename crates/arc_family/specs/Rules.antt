@@ -22,7 +22,7 @@ use Rattle.std.specs.List.{list_any}
 use Rattle.std.specs.Bool.{nat_eq}
 use Rattle.arc_sites.specs.Sites.{Enclosing, InMethod, InInterface, Node, Value, Variable, Function, Global, Field, Declared, Defined, named_parameters, unit_sites}
 use Rattle.arc_sites.specs.Messages.{Message, sends, is_itself, is_to_itself}
-use Rattle.arc_sites.specs.Finding.{violations_of}
+use Rattle.arc_sites.specs.FoundViolations.{violations_of}
 
 -- the family of a method
 abbrev pub head_family : HeadTree → Family

@@ -1,6 +1,6 @@
 //! What the definitions say of known methods. Nothing here is run.
 ghost use Rattle.std.specs.Prelude.{◌≡◌, [], ◌∷◌, ◌++◌, codes};
-ghost use Rattle.arc_family.specs.Methods.{of_instance_method, of_class_method, of_int_method, of_void_method};
+ghost use Rattle.arc_family.specs.KnownFamilies.{of_instance_method, of_class_method, of_int_method, of_void_method};
 ghost use Rattle.arc_spec.specs.declared.signature.Family.TheVariants as family;
 
 /// Methods have the families that the language's rules give them.

@@ -6,10 +6,10 @@ ghost use Rattle.arc_ast.specs.Types.{type_kind};
 ghost use Rattle.arc_class.specs.Table.{IsTableOf, number_of_class};
 ghost use Rattle.arc_sites.specs.Sites as sites;
 ghost use Rattle.arc_sites.specs.Violations.{first, at_if, violates};
-ghost use Rattle.arc_sites.specs.Finding.{enclosing_of, node_of, message_of};
+ghost use Rattle.arc_sites.specs.FoundViolations.{enclosing_of, node_of, message_of};
 ghost use Rattle.arc_family.specs.Rules as rules;
 ghost use Rattle.arc_family.specs.Fault.{reported};
-ghost use Rattle.arc_family.specs.private.Asked.{is_plain, is_unasked};
+ghost use Rattle.arc_family.specs.private.UnaskedNodes.{is_plain, is_unasked};
 
 use arc_ast::tree::{
     Expr, Kind, MethodHead, Parameter, Qualifiers, ResultType, Sign, TranslationUnit, TypeName,
@@ -74,7 +74,7 @@ fn is_unasked(node: Node) -> bool
 
 /// The first rule that a site breaks.
 #[inline(never)]
-#[tactic(auto, using(crate::proofs::Both::both))]
+#[tactic(auto, using(crate::proofs::FirstViolation::both))]
 fn first_broken(table: &ClassTable, enclosing: Enclosing, node: Node) -> Option<OwnFault>
     ensures { (u : UnitTree) → IsTableOf u table.now → option_map reported result ≡ first (rules.violations u (enclosing_of enclosing.entry) (node_of node.entry)) }
 {

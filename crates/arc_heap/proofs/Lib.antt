@@ -1,3 +1,3 @@
-pub mod Changed
-pub mod Segments
-pub mod Rows
+pub mod BlockUpdate
+pub mod WordSegments
+pub mod BlockRowUpdate

@@ -1,4 +1,4 @@
 pub mod Blocks
 pub mod Sizes
 pub mod Stock
-pub mod Plain
+pub mod BlockLayout

@@ -2,7 +2,7 @@
 ghost use Rattle.std.specs.Prelude.{◌≡◌, ℕ, ◌+◌, ◌<◌, ◌≤◌, ◌⊎◌, List, Option, Some, None, true, length, get_or, replicate, IfSome, IsNone};
 ghost use Rattle.arc_heap.specs.Blocks.{no_blocks, with_block};
 ghost use Rattle.arc_heap.specs.Sizes.{size_of};
-ghost use Rattle.arc_heap.specs.Plain.{blocks_in, mark_at};
+ghost use Rattle.arc_heap.specs.BlockLayout.{blocks_in, mark_at};
 ghost use Rattle.arc_heap.specs.declared.mark.Mark.TheVariants.{Free};
 
 use crate::class::{class_for, words_in};
@@ -31,7 +31,7 @@ pub struct PlainStore {
 impl Model for PlainStore {
     ghost use Rattle.std.specs.Prelude.{List, ℕ, length};
     ghost use Rattle.arc_heap.specs.declared.mark.Mark.{Mark};
-    ghost use Rattle.arc_heap.specs.Plain.{IsArranged};
+    ghost use Rattle.arc_heap.specs.BlockLayout.{IsArranged};
 
     ghost Value = { List Mark × List ℕ };
 
@@ -76,7 +76,7 @@ fn clear_row(words: &mut [u64], from: usize)
 
 impl PlainStore {
     /// A store with no blocks, which takes no memory.
-    #[tactic(auto, unfolding(crate::specs::Plain::blocks_in))]
+    #[tactic(auto, unfolding(crate::specs::BlockLayout::blocks_in))]
     pub fn new(alloc: Global) -> PlainStore
         ensures { blocks_in result.0 result.1 ≡ no_blocks }
     {

@@ -1,1 +1,1 @@
-pub mod Acting
+pub mod ActionSteps

@@ -1,7 +1,7 @@
-mod Counting
-mod Judgements
-mod Walks
-mod Statements
-mod Methods
-mod Globals
-mod Reporting
+mod TakenObjectCounts
+mod ExpressionViolations
+mod DeclarationViolations
+mod StatementViolations
+mod MethodViolations
+mod GlobalViolations
+mod SourceViolations

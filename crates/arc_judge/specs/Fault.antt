@@ -1,6 +1,6 @@
--- What an answer that is no checked program says.
+-- The violation that a fault reports, which is answered instead of a checked program.
 use Rattle.std.specs.Prelude.{◌≡◌, List, Some}
-use Rattle.arc_class.specs.Broken.{Broken, first}
+use Rattle.arc_class.specs.BrokenRules.{Broken, first}
 use Rattle.arc_fault.specs.declared.check.CheckFault.{CheckFault}
 use Rattle.arc_fault.specs.declared.check.CheckFault.TheVariants as f
 use Rattle.arc_fault.specs.Check.{report}

@@ -13,8 +13,8 @@ use Rattle.arc_ast.specs.Types as types
 use Rattle.arc_ast.specs.Tree.{TypeTree, ExprTree, ExprTrees, Integer, Text, Paren, Call, Nil, Itself, Name, Unary, Cast, Binary, Conditional, Arrow, Assign, Update, Send, SendSuper, no_exprs, and_expr, place, VariableTree, StmtTree, StmtTrees, Block, Empty, Simple, Return, Variables, If, IfElse, While, For, Break, Continue, no_stmts, and_stmt, ParameterTree, FunctionTree, GlobalTree, HeadTree, MethodTree, UnitTree}
 use Rattle.arc_ast.specs.declared.tree.Constant.{Constant}
 use Rattle.arc_ast.specs.declared.tree.Constant.TheVariants as constants
-use Rattle.arc_class.specs.Broken.{broken_if, Broken}
-use Rattle.arc_class.specs.Functions.{same_kind}
+use Rattle.arc_class.specs.BrokenRules.{broken_if, Broken}
+use Rattle.arc_class.specs.FunctionRules.{same_kind}
 use Rattle.arc_sites.specs.Sites.{named_parameters}
 use Rattle.arc_class.specs.declared.table.FoundField.{FoundField}
 use Rattle.arc_sites.specs.Violations.{violates}
@@ -24,9 +24,9 @@ use Rattle.arc_scope.specs.declared.callee.Callee.{Callee}
 use Rattle.arc_scope.specs.declared.callee.Callee.TheVariants.{Printf, GetChar, Defined, Unknown}
 use Rattle.arc_scope.specs.Formats.{wanted, fits}
 use Rattle.arc_scope.specs.Kinds.{literal_kind, is_number, wider, is_object}
-use Rattle.arc_scope.specs.Passing.{first_wanted, wanted_by, receiver_sign}
+use Rattle.arc_scope.specs.ParameterKinds.{first_wanted, wanted_by, receiver_sign}
 use Rattle.arc_scope.specs.Scopes.{Known, Local, Scope, has_place, declare, with_parameters, leave, scope_after, outermost, variable, callee, result_kind, is_printf, own_class, own_field, is_visible, itself_in, class_receiver, kind_given, sent_result, super_result, class_of, of_method}
-use Rattle.arc_scope.specs.Known.{known_of}
+use Rattle.arc_scope.specs.KnownNames.{known_of}
 use Rattle.arc_scope.specs.Scopes as scopes
 
 -- whether an expression is a text, which one in parentheses is not

@@ -1,2 +1,2 @@
 -- The vocabulary of private functions: no contract of a public call speaks of it.
-pub mod Judging
+pub mod ExpressionJudgements

@@ -3,8 +3,8 @@ ghost use Rattle.std.specs.Prelude.{◌≡◌, true, false, [], ◌++◌, IfOk, 
 ghost use Rattle.std.specs.Option.{option_map_or};
 ghost use Rattle.std.specs.List.{flat_map};
 ghost use Rattle.arc_ast.specs.Tree.{expr_tree, type_tree, variable_trees, parameter_trees, stmt_tree, stmt_trees, function_tree, function_trees};
-ghost use Rattle.arc_class.specs.Functions.{same_kind};
-ghost use Rattle.arc_class.specs.Broken.{broken_if, first};
+ghost use Rattle.arc_class.specs.FunctionRules.{same_kind};
+ghost use Rattle.arc_class.specs.BrokenRules.{broken_if, first};
 ghost use Rattle.arc_class.specs.declared.table.ClassTable.{ClassTable};
 ghost use Rattle.arc_judge.specs.Fault.{reported};
 ghost use Rattle.arc_judge.specs.Rules.{broken_clauses, broken_test, broken_whole, broken_initial, broken_variables, broken_parameters, broken_result, broken_stmt, broken_stmts, broken_body, broken_function};

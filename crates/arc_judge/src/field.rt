@@ -1,6 +1,6 @@
 //! The kinds of fields that are named, and the rules that are broken by naming one.
 ghost use Rattle.std.specs.Prelude.{◌≡◌, option_map};
-ghost use Rattle.arc_class.specs.Broken.{first};
+ghost use Rattle.arc_class.specs.BrokenRules.{first};
 ghost use Rattle.arc_judge.specs.Fault.{reported};
 ghost use Rattle.arc_judge.specs.Rules as rules;
 ghost use Rattle.arc_scope.specs.Views.{seen};

@@ -1,7 +1,7 @@
 //! The rule for what global variables hold first.
 ghost use Rattle.std.specs.Prelude.{◌≡◌, flat_map, option_map};
 ghost use Rattle.arc_ast.specs.Tree.{global_tree, global_trees};
-ghost use Rattle.arc_class.specs.Broken.{first};
+ghost use Rattle.arc_class.specs.BrokenRules.{first};
 ghost use Rattle.arc_judge.specs.Fault.{reported};
 ghost use Rattle.arc_judge.specs.Rules as rules;
 ghost use Rattle.arc_judge.specs.Rules.{need_of};

@@ -3,12 +3,12 @@ ghost use Rattle.std.specs.Prelude.{◌≡◌, ℕ, List, None, Some, not, is_no
 ghost use Rattle.arc_ast.specs.declared.tree.Kind.{Kind};
 ghost use Rattle.arc_ast.specs.Tree as tree;
 ghost use Rattle.arc_ast.specs.Tree.{Arrow, Assign, Cast, Conditional, Itself, Name, Send, SendSuper, Update, expr_tree, expr_trees, type_tree};
-ghost use Rattle.arc_class.specs.Broken.{broken_if, earlier_of, first};
+ghost use Rattle.arc_class.specs.BrokenRules.{broken_if, earlier_of, first};
 ghost use Rattle.arc_class.specs.declared.table.ClassTable.{ClassTable};
 ghost use Rattle.arc_class.specs.Table.{number_of_class};
 ghost use Rattle.arc_judge.specs.Fault.{reported};
 ghost use Rattle.arc_scope.specs.Formats.{wanted};
-ghost use Rattle.arc_judge.specs.private.Judging.{Judges, JudgesAll, JudgesCall, broken_field, counted};
+ghost use Rattle.arc_judge.specs.private.ExpressionJudgements.{Judges, JudgesAll, JudgesCall, broken_field, counted};
 ghost use Rattle.arc_judge.specs.Rules as rules;
 ghost use Rattle.arc_ast.specs.Operators.{sort_of};
 ghost use Rattle.arc_ast.specs.declared.tree.Moment.{Moment};

@@ -2,11 +2,11 @@
 ghost use Rattle.std.specs.Prelude.{◌≡◌, IfOk, option_map};
 ghost use Rattle.std.specs.List.{flat_map};
 ghost use Rattle.arc_ast.specs.Tree.{head_tree, head_trees, method_tree, method_trees, interface_trees, implementation_trees};
-ghost use Rattle.arc_class.specs.Broken.{first};
+ghost use Rattle.arc_class.specs.BrokenRules.{first};
 ghost use Rattle.arc_class.specs.Table.{number_of_class};
 ghost use Rattle.arc_judge.specs.Fault.{reported};
 ghost use Rattle.arc_judge.specs.Rules.{broken_head, broken_method};
-ghost use Rattle.arc_judge.specs.private.Judging.{broken_interface, broken_implementation};
+ghost use Rattle.arc_judge.specs.private.ExpressionJudgements.{broken_interface, broken_implementation};
 ghost use Rattle.arc_scope.specs.Views.{known_in};
 
 use crate::body::{count_fault, inside};

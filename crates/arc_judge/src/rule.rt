@@ -2,14 +2,14 @@
 ghost use Rattle.std.specs.Prelude.{◌≡◌, option_map};
 ghost use Rattle.arc_ast.specs.Tree as tree;
 ghost use Rattle.arc_ast.specs.Tree.{expr_tree};
-ghost use Rattle.arc_class.specs.Broken.{first};
+ghost use Rattle.arc_class.specs.BrokenRules.{first};
 ghost use Rattle.arc_class.specs.declared.table.ClassTable.{ClassTable};
 ghost use Rattle.arc_judge.specs.Fault.{reported};
 ghost use Rattle.arc_judge.specs.Rules as rules;
 ghost use Rattle.arc_judge.specs.Rules.{is_updatable, no_right, number_kind, unary_kind, unmet};
 ghost use Rattle.arc_scope.specs.Views.{seen};
 ghost use Rattle.arc_judge.specs.Rules.{ANumber, AValue, AnObject, left_need, operand_need};
-ghost use Rattle.arc_judge.specs.private.Judging.{broken_at, other_rule};
+ghost use Rattle.arc_judge.specs.private.ExpressionJudgements.{broken_at, other_rule};
 
 use arc_ast::tree::{Expr, Kind, Moment, OperatorSort, UnaryOperator};
 use arc_fault::check::CheckFault;

@@ -1,8 +1,8 @@
 //! How many objects a full-expression takes.
 ghost use Rattle.std.specs.Prelude.{◌≡◌, option_map};
-ghost use Rattle.arc_class.specs.Broken.{first};
+ghost use Rattle.arc_class.specs.BrokenRules.{first};
 ghost use Rattle.arc_judge.specs.Fault.{reported};
-ghost use Rattle.arc_judge.specs.private.Judging.{counted, none_counted, one_counted};
+ghost use Rattle.arc_judge.specs.private.ExpressionJudgements.{counted, none_counted, one_counted};
 ghost use Rattle.arc_judge.specs.Rules.{place_if};
 ghost use Rattle.arc_sites.specs.Violations.{violates};
 

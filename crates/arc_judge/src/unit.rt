@@ -1,7 +1,7 @@
 //! Finds the first rule that is broken in a source.
 ghost use Rattle.std.specs.Prelude.{◌≡◌, IfOk, option_map};
 ghost use Rattle.arc_ast.specs.Tree.{unit_tree};
-ghost use Rattle.arc_class.specs.Broken.{first};
+ghost use Rattle.arc_class.specs.BrokenRules.{first};
 ghost use Rattle.arc_class.specs.Table.{IsTableOf};
 ghost use Rattle.arc_judge.specs.Fault.{reported};
 ghost use Rattle.arc_judge.specs.Rules.{broken_unit};

@@ -2,9 +2,9 @@
 ghost use Rattle.std.specs.Prelude.{◌≡◌, ◌++◌, Some, option_map};
 ghost use Rattle.arc_ast.specs.Tree as tree;
 ghost use Rattle.arc_ast.specs.Tree.{expr_tree, type_tree};
-ghost use Rattle.arc_class.specs.Broken.{first};
+ghost use Rattle.arc_class.specs.BrokenRules.{first};
 ghost use Rattle.arc_judge.specs.Fault.{reported};
-ghost use Rattle.arc_judge.specs.private.Judging.{JudgesWhole};
+ghost use Rattle.arc_judge.specs.private.ExpressionJudgements.{JudgesWhole};
 ghost use Rattle.arc_judge.specs.Rules as rules;
 ghost use Rattle.arc_scope.specs.Views.{seen};
 

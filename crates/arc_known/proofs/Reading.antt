@@ -20,11 +20,11 @@ use Rattle.arc_parse.proofs.Unit.{within, refused as unfit, too_deep_at}
 use Rattle.arc_sites.specs.declared.violation.Violation.{Violation}
 use Rattle.arc_class.specs.ClassRules.{broken}
 use Rattle.arc_judge.specs.Rules.{broken_unit}
-use Rattle.arc_resolve.specs.Resolving.{resolved_unit}
+use Rattle.arc_resolve.specs.SourceResolution.{resolved_unit}
 use Rattle.arc_family.specs.Rules as ownership
 use Rattle.arc_spec.specs.Families.{without_underscores, first_component, begins_with_word}
 use Rattle.arc_spec.specs.declared.event.Event.{Event}
-use Rattle.arc_spec.specs.Correct.{Sight, Stop, meaning_seen}
+use Rattle.arc_spec.specs.Correctness.{Observation, Stop, meaning_seen}
 use Rattle.arc_spec.specs.Meaning.{mean}
 use Rattle.arc_source.specs.Accepted.{Spelled}
 use Rattle.arc_known.specs.Known.{HasTrace, IsRefused, in_tokens, in_tree, in_depth, in_rules, reported}
@@ -64,15 +64,15 @@ spelled source tree short e = from_found (found_in (suc (length source)) 0 true 
         record { tokens = ts; cut = (leb-true (length source) MOST_BYTES short, cuts (suc (length source)) 0 true source ts None k); spelled = within ts tree whole.0 whole.1 }
 
 -- what is seen of a tree's meaning, where it breaks no rule
-abbrev pub unless_broken : (declared checked owned : List Violation) → Sight → Option Sight
+abbrev pub unless_broken : (declared checked owned : List Violation) → Observation → Option Observation
 unless_broken [] [] [] seen = Some seen
 unless_broken _ _ _ seen = None
 
-abbrev pub seen_in : (input : List ℕ) (turns : ℕ) → Option UnitTree → Option Sight
+abbrev pub seen_in : (input : List ℕ) (turns : ℕ) → Option UnitTree → Option Observation
 seen_in input turns None = None
 seen_in input turns (Some tree) = unless_broken (broken tree) (broken_unit tree) (ownership.broken tree) (meaning_seen (mean (resolved_unit tree) input turns))
 
-unbroken : (a b c : List Violation) (seen s : Sight) → unless_broken a b c seen ≡ Some s → (a ≡ []) × (b ≡ []) × (c ≡ []) × (seen ≡ s)
+unbroken : (a b c : List Violation) (seen s : Observation) → unless_broken a b c seen ≡ Some s → (a ≡ []) × (b ≡ []) × (c ≡ []) × (seen ≡ s)
 unbroken [] [] [] seen s e = let same : seen ≡ s = cc in (refl, refl, refl, same)
 unbroken [] [] (x ∷ c) seen s e = cc
 unbroken [] (x ∷ b) c seen s e = cc

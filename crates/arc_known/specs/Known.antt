@@ -10,13 +10,13 @@ use Rattle.arc_fault.specs.declared.parse.ParseFault.TheVariants.{Unexpected, To
 use Rattle.arc_fault.specs.Parse.{report}
 use Rattle.arc_parse.specs.Refusal.{FitsNoneAt, TooDeepAt}
 use Rattle.arc_sites.specs.declared.violation.Violation.{Violation}
-use Rattle.arc_class.specs.Broken.{first}
+use Rattle.arc_class.specs.BrokenRules.{first}
 use Rattle.std.specs.Option.{option_or}
 use Rattle.arc_class.specs.ClassRules.{broken}
 use Rattle.arc_judge.specs.Rules.{broken_unit}
 use Rattle.arc_family.specs.Rules as ownership
 use Rattle.arc_spec.specs.declared.event.Event.{Event}
-use Rattle.arc_spec.specs.Correct.{Stop}
+use Rattle.arc_spec.specs.Correctness.{Stop}
 use Rattle.arc_source.specs.Accepted.{Spelled, Accepted, meant}
 
 -- The source is a program, and with so many turns of each loop its meaning on this input shows these events, and then stops so.

@@ -1,6 +1,6 @@
 //! What the definitions say of known sources, from their bytes on: tokens, tree, rules and meaning. Nothing here is run.
 ghost use Rattle.std.specs.Prelude.{ℕ, ℤ, pos, negsuc, List, [], codes};
-ghost use Rattle.arc_spec.specs.Correct.{Ends, Faults};
+ghost use Rattle.arc_spec.specs.Correctness.{Ends, Faults};
 ghost use Rattle.arc_spec.specs.declared.event.Fault.TheVariants.{Arithmetic, Unrecognized, NilField, FieldClass, Depth};
 ghost use Rattle.arc_known.specs.Known.{HasTrace, IsRefused};
 ghost use Rattle.arc_known.specs.Programs as program;

@@ -4,8 +4,8 @@ use Rattle.std.proofs.lemmas.Bool.Decides.{nat_tests}
 use Rattle.std.proofs.lemmas.List.{length-set, length-replicate}
 use Rattle.arc_spec.specs.Classes.{Class, field_counts, strong_count}
 use Rattle.arc_spec.specs.Objects.{Object, Live, Dying, Gone, object_at, with_object, in_phase, with_strong_fields, is_live, is_there, new_object, fields_of}
-use Rattle.arc_spec.specs.Holding.{Held, Counted, holders, all_places, with_things, raised, lowered, makes}
-use Rattle.arc_lower.proofs.CountsPlaces.{holders_head, holders_append, fields_set, fields_made, nils_holders, field_moves, IsThere, AllThere, set_here, set_other, seam, get_other}
+use Rattle.arc_spec.specs.HolderCounts.{Heap, CountsAreExact, holders, all_places, with_things, raised, lowered, makes}
+use Rattle.arc_lower.proofs.PlaceCounts.{holders_head, holders_append, fields_set, fields_made, nils_holders, field_moves, IsThere, AllThere, set_here, set_other, seam, get_other}
 
 -- ---- objects and their counts
 
@@ -27,11 +27,11 @@ pub record Keeps (classes : List Class) (places : List ℕ) (counts : ℕ → �
   pub right : (k : ℕ) → Right classes (counts (suc k)) (slice_get objects k)
 
 -- The counts are right, what a place names is there, and each object has its fields. References and numbers don't matter.
-abbrev pub Sane : List Class → Held → Type 0
+abbrev pub Sane : List Class → Heap → Type 0
 Sane classes h = Keeps classes (all_places h) h.counts h.objects
 
 -- the same but for a place that named this, and is dropped
-abbrev pub Drops : List Class → ℕ → Held → Type 0
+abbrev pub Drops : List Class → ℕ → Heap → Type 0
 Drops classes r h = Keeps classes (r ∷ all_places h) h.counts h.objects
 
 module _ {classes : List Class} where
@@ -40,7 +40,7 @@ module _ {classes : List Class} where
       → Keeps classes places counts objects → Fits classes (counts (suc k)) o
   fits_at {counts = counts} k o found c = subst (Right classes (counts (suc k))) found (c.right k)
 
-  pub sane_counted : (h : Held) → Sane classes h → Counted h
+  pub sane_counted : (h : Heap) → Sane classes h → CountsAreExact h
   sane_counted h c = record { counted = c.counted; held = λ k o found. (fits_at k o found c).held }
 
   -- ---- what places name
@@ -50,7 +50,7 @@ module _ {classes : List Class} where
   keeps_there c k some = grind (arith, c.counted k, c.right k)
 
   -- what the fields of an object name is there
-  pub fields_there : (h : Held) (j : ℕ) (o : Object) → object_at h.objects (suc j) ≡ Some o → is_there o.phase ≡ true → Sane classes h → AllThere h.objects o.strong
+  pub fields_there : (h : Heap) (j : ℕ) (o : Object) → object_at h.objects (suc j) ≡ Some o → is_there o.phase ≡ true → Sane classes h → AllThere h.objects o.strong
   fields_there h j o found there c k some = keeps_there c k (grind (arith, holders_append, fields_set (suc k) h.objects j o (in_phase Gone o) found))
 
   -- ---- places, where no object changes
@@ -80,19 +80,19 @@ module _ {classes : List Class} where
   }
 
   -- a field names another object, and what it named is dropped
-  pub sane_store_field : (h : Held) (j : ℕ) (o : Object) (index old r : ℕ) → object_at h.objects (suc j) ≡ Some o → is_there o.phase ≡ true → slice_get o.strong index ≡ Some old → IsThere h.objects r → Sane classes h
+  pub sane_store_field : (h : Heap) (j : ℕ) (o : Object) (index old r : ℕ) → object_at h.objects (suc j) ≡ Some o → is_there o.phase ≡ true → slice_get o.strong index ≡ Some old → IsThere h.objects r → Sane classes h
       → Drops classes old (raised r (with_things h (with_object h.objects (suc j) (with_strong_fields o (slice_set o.strong index r)))))
   sane_store_field h j o index old r found is_there_now named there c =
       changes j o (with_strong_fields o (slice_set o.strong index r)) found (λ k. field_moves (suc k) h j o index old r found is_there_now named ∙ sym (holders_head (suc k) r (all_places h)))
       (λ f. record { there = f.there; held = f.held; sized = length-set o.strong index r ∙ f.sized }) (gains r there c)
 
   -- an object is changed whose fields name the same
-  pub sane_turned : (h : Held) (j : ℕ) (o x : Object) → slice_get h.objects j ≡ Some o → ((k : ℕ) → holders (suc k) (fields_of x) ≡ holders (suc k) (fields_of o))
+  pub sane_turned : (h : Heap) (j : ℕ) (o x : Object) → slice_get h.objects j ≡ Some o → ((k : ℕ) → holders (suc k) (fields_of x) ≡ holders (suc k) (fields_of o))
       → (Fits classes (h.counts (suc j)) o → Fits classes (h.counts (suc j)) x) → Sane classes h → Sane classes (with_things h (slice_set h.objects j x))
   sane_turned h j o x found same = changes j o x found (λ k. omega (arith, holders_append, same k, fields_set (suc k) h.objects j o x found))
 
   -- an object is made, and a place takes it
-  pub sane_make : (h : Held) (class : ℕ) → Sane classes h → Sane classes (makes classes class h)
+  pub sane_make : (h : Heap) (class : ℕ) → Sane classes h → Sane classes (makes classes class h)
   sane_make h class c =
       let n = strong_count (slice_get classes class) in
       let x = new_object class (field_counts (slice_get classes class)) in
@@ -104,14 +104,14 @@ module _ {classes : List Class} where
   -- ---- a place that was dropped is counted no more
 
   -- it isn't the last place of an object whose dealloc hasn't begun
-  pub lowers : (r : ℕ) (h : Held) → (is_live (object_at h.objects r) && nat_eq (h.counts r) 1) ≡ false → Drops classes r h → Sane classes (lowered r h)
+  pub lowers : (r : ℕ) (h : Heap) → (is_live (object_at h.objects r) && nat_eq (h.counts r) 1) ≡ false → Drops classes r h → Sane classes (lowered r h)
   lowers r h more c = record {
     counted = λ k. grind (arith, c.counted k);
     right = λ k. grind (arith, nat_tests, c.right k, c.counted k);
   }
 
   -- it is, and the end of that object begins
-  pub sane_last : (h : Held) (r : ℕ) (o : Object) → object_at h.objects (suc r) ≡ Some o → is_there o.phase ≡ true → Drops classes (suc r) h → Sane classes (with_things (lowered (suc r) h) (with_object h.objects (suc r) (in_phase Dying o)))
+  pub sane_last : (h : Heap) (r : ℕ) (o : Object) → object_at h.objects (suc r) ≡ Some o → is_there o.phase ≡ true → Drops classes (suc r) h → Sane classes (with_things (lowered (suc r) h) (with_object h.objects (suc r) (in_phase Dying o)))
   sane_last h r o found there c =
       let x = in_phase Dying o in
       lowers (suc r) (with_things h (slice_set h.objects r x)) (let here = set_here h.objects r x o found in cc)

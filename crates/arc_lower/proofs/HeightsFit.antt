@@ -13,15 +13,15 @@ use Rattle.arc_code.specs.declared.instr.Instr.TheVariants.{Plain, Jump, JumpZer
 use Rattle.arc_code.specs.declared.effect.Effect.{Effect}
 use Rattle.arc_code.specs.declared.effect.Height.{Height}
 use Rattle.arc_code.specs.Effects.{as_number, as_object, giving, no_height, FitsBetween, FitsAt, SameResult, GivesAt, HeightsFit, passes}
-use Rattle.arc_ir.specs.Acting.{Action, Program, lands, entry, linked}
-use Rattle.arc_lower.specs.Order.{Order, order, orders}
-use Rattle.arc_lower.specs.Lowered.{number_of, slots_of, parameters_of, function_orders, entries_of, lowered, classes_linked}
+use Rattle.arc_ir.specs.ActionSteps.{Action, Program, lands, entry, linked}
+use Rattle.arc_lower.specs.PlainActions.{PlainAction, plain_action, plain_actions}
+use Rattle.arc_lower.specs.Lowered.{number_of, slots_of, parameters_of, function_actions, entries_of, lowered, classes_linked}
 use Rattle.arc_lower.specs.Heights.{height, highest, greatest, functions_heights, methods_heights, classes_heights, lowered_heights, greatest_height, places_in, height_at, in_function, functions_marks, methods_marks, classes_marks, lowered_marks, no_mark, result_at}
-use Rattle.arc_lower.proofs.Doing.{bare}
-use Rattle.arc_lower.proofs.Linking.{function_gives}
-use Rattle.arc_lower.proofs.Typing.{IsCalled}
-use Rattle.arc_lower.proofs.Stepping.{some_same, Goes, Steps}
-use Rattle.arc_lower.proofs.Programs.{all, table, Entered, entered_at, methods_go, steps_at}
+use Rattle.arc_lower.proofs.RecountedSteps.{bare}
+use Rattle.arc_lower.proofs.StubLookup.{function_gives}
+use Rattle.arc_lower.proofs.StackEffect.{IsCalled}
+use Rattle.arc_lower.proofs.StepHeights.{some_same, Goes, Steps}
+use Rattle.arc_lower.proofs.ProgramHeights.{all, table, Entered, entered_at, methods_go, steps_at}
 
 -- ---- the greatest
 
@@ -49,7 +49,7 @@ firsts_in given (h ∷ hs) = ap (λ l. h ∷ l) (firsts_in given hs)
 module _ (R : resolved.Program) where
   functions_firsts : (fs : List Function) (place : ℕ) → firsts (functions_marks R place fs) ≡ functions_heights R place fs
   functions_firsts [] place = refl
-  functions_firsts (f ∷ fs) place = simp (map-append, firsts_in, functions_firsts fs (place + length (function_orders R place f)))
+  functions_firsts (f ∷ fs) place = simp (map-append, firsts_in, functions_firsts fs (place + length (function_actions R place f)))
 
   methods_firsts : (ms : List Method) → firsts (methods_marks R (entries_of R) ms) ≡ methods_heights R (entries_of R) ms
   methods_firsts [] = refl
@@ -83,54 +83,54 @@ module _ (p : Program) (R : resolved.Program) where
     message_fits wanted taken names pc h now next =
         (within given pc (pc + 1) h _ (giving wanted taken names) now next (search arith), rw (there (pc + 1) _ given next) (omega arith, omega arith))
 
-    order_fits : (pc : ℕ) (h : Height) (x : Order) → slice_get (table R) pc ≡ Some (h, given) → Steps R (all R) (table R) given h pc x → FitsAt (bare p) (height_at R) pc x
-    order_fits pc h (Jump to) now s = within given pc (lands pc to) h _ _ now s.2.0.height (search arith)
-    order_fits pc h (JumpZero to) now s =
+    plain_action_fits : (pc : ℕ) (h : Height) (x : PlainAction) → slice_get (table R) pc ≡ Some (h, given) → Steps R (all R) (table R) given h pc x → FitsAt (bare p) (height_at R) pc x
+    plain_action_fits pc h (Jump to) now s = within given pc (lands pc to) h _ _ now s.2.0.height (search arith)
+    plain_action_fits pc h (JumpZero to) now s =
         (within given pc (pc + 1) h _ _ now s.1.0.height (search arith), within given pc (lands pc to) h _ _ now s.2.2.0.height (search arith))
-    order_fits pc h (Call f wanted) now s = λ to found.
+    plain_action_fits pc h (Call f wanted) now s = λ to found.
         let begun : height_at R (entry p f) ≡ height (slots_of R wanted f) (parameters_of R wanted f) 0 0 = there (entry p f) _ wanted
         (calls wanted f s.0.1).0.height in
         let same = ap (height_at R) (sym (some_same (entry p f) to found)) ∙ begun in
         rw same (message_fits wanted (slots_of R wanted f) (parameters_of R wanted f) pc h now s.1.0.height)
-    order_fits pc h (Send selector takes objects wanted) now s = message_fits wanted (suc takes) objects pc h now s.1.0.height
-    order_fits pc h (SendSuper from selector takes objects wanted) now s = message_fits wanted (suc takes) objects pc h now s.1.0.height
-    order_fits pc h (SendTo selector takes objects wanted) now s = message_fits wanted takes (suc objects) pc h now s.1.0.height
-    order_fits pc h (SendToSuper from selector takes objects wanted) now s = message_fits wanted takes (suc objects) pc h now s.1.0.height
-    order_fits pc h (Empty i) now s = within given pc (pc + 1) h _ _ now s.1.height (search arith)
-    order_fits pc h DropAll now s = rw (there pc h given now, there (pc + 1) (height h.numbers h.names 0 h.variables) given s.1.0.height) (search arith)
-    order_fits pc h Settle now s =
+    plain_action_fits pc h (Send selector takes objects wanted) now s = message_fits wanted (suc takes) objects pc h now s.1.0.height
+    plain_action_fits pc h (SendSuper from selector takes objects wanted) now s = message_fits wanted (suc takes) objects pc h now s.1.0.height
+    plain_action_fits pc h (SendTo selector takes objects wanted) now s = message_fits wanted takes (suc objects) pc h now s.1.0.height
+    plain_action_fits pc h (SendToSuper from selector takes objects wanted) now s = message_fits wanted takes (suc objects) pc h now s.1.0.height
+    plain_action_fits pc h (Empty i) now s = within given pc (pc + 1) h _ _ now s.1.height (search arith)
+    plain_action_fits pc h DropAll now s = rw (there pc h given now, there (pc + 1) (height h.numbers h.names 0 h.variables) given s.1.0.height) (search arith)
+    plain_action_fits pc h Settle now s =
         rw (there pc h given now, there (pc + 1) (height h.numbers h.names (h.temporaries - 1) h.variables) given s.0.height) (search arith)
-    order_fits pc h EndStep now s = rw (there pc h given now) (search arith)
-    order_fits pc h Give now s = rw (there pc h given now) (search arith)
-    order_fits pc h Return now s = rw (there pc h given now) (search arith)
-    order_fits pc h _ now s = within given pc (pc + 1) h _ _ now s.1.0.height (search arith)
+    plain_action_fits pc h EndStep now s = rw (there pc h given now) (search arith)
+    plain_action_fits pc h Give now s = rw (there pc h given now) (search arith)
+    plain_action_fits pc h Return now s = rw (there pc h given now) (search arith)
+    plain_action_fits pc h _ now s = within given pc (pc + 1) h _ _ now s.1.0.height (search arith)
 
     -- a run stays in its function
     module _ (pc : ℕ) (h : Height) (now : slice_get (table R) pc ≡ Some (h, given)) where
       same_at : (to : ℕ) (g : Height) → slice_get (table R) to ≡ Some (g, given) → SameResult (bare p) (result_at R) pc to
       same_at to g next = gives_there to g given next ∙ sym (gives_there pc h given now)
 
-      order_gives : (x : Order) → Steps R (all R) (table R) given h pc x → GivesAt (bare p) (result_at R) pc x
-      order_gives (Jump to) s = same_at (lands pc to) _ s.2.0.height
-      order_gives (JumpZero to) s = (same_at (pc + 1) _ s.1.0.height, same_at (lands pc to) _ s.2.2.0.height)
-      order_gives (Call f wanted) s = (same_at (pc + 1) _ s.1.0.height, λ to found. ap (result_at R) (sym (some_same (entry p f) to found)) ∙ gives_there (entry p f) _ wanted (calls wanted f s.0.1).0.height)
-      order_gives (Empty i) s = same_at (pc + 1) _ s.1.height
-      order_gives Settle s = same_at (pc + 1) _ s.0.height
-      order_gives Give s = gives_there pc h given now ∙ s.3
-      order_gives Return s = gives_there pc h given now ∙ s.3
-      order_gives EndStep s = tt
-      order_gives _ s = same_at (pc + 1) _ s.1.0.height
+      plain_action_gives : (x : PlainAction) → Steps R (all R) (table R) given h pc x → GivesAt (bare p) (result_at R) pc x
+      plain_action_gives (Jump to) s = same_at (lands pc to) _ s.2.0.height
+      plain_action_gives (JumpZero to) s = (same_at (pc + 1) _ s.1.0.height, same_at (lands pc to) _ s.2.2.0.height)
+      plain_action_gives (Call f wanted) s = (same_at (pc + 1) _ s.1.0.height, λ to found. ap (result_at R) (sym (some_same (entry p f) to found)) ∙ gives_there (entry p f) _ wanted (calls wanted f s.0.1).0.height)
+      plain_action_gives (Empty i) s = same_at (pc + 1) _ s.1.height
+      plain_action_gives Settle s = same_at (pc + 1) _ s.0.height
+      plain_action_gives Give s = gives_there pc h given now ∙ s.3
+      plain_action_gives Return s = gives_there pc h given now ∙ s.3
+      plain_action_gives EndStep s = tt
+      plain_action_gives _ s = same_at (pc + 1) _ s.1.0.height
 
-  -- an action fits where its order does
-  action_fits : (x : Action) (pc : ℕ) → FitsAt (bare p) (height_at R) pc (order x) → FitsAt (linked p) (height_at R) pc x
+  -- an action fits wherever the bytes of its text lie
+  action_fits : (x : Action) (pc : ℕ) → FitsAt (bare p) (height_at R) pc (plain_action x) → FitsAt (linked p) (height_at R) pc x
   action_fits (Plain o) pc h = h
   action_fits _ pc h = h
 
-  action_gives : (x : Action) (pc : ℕ) → GivesAt (bare p) (result_at R) pc (order x) → GivesAt (linked p) (result_at R) pc x
+  action_gives : (x : Action) (pc : ℕ) → GivesAt (bare p) (result_at R) pc (plain_action x) → GivesAt (linked p) (result_at R) pc x
   action_gives (Plain o) pc h = h
   action_gives _ pc h = h
 
-  module _ (is : orders p.actions ≡ lowered R) (entries : p.entries ≡ entries_of R) where
+  module _ (is : plain_actions p.actions ≡ lowered R) (entries : p.entries ≡ entries_of R) where
     -- a function is entered with its variables
     pub entry_goes : (wanted : Gives) (f : ℕ) → IsCalled R wanted f → Goes R (all R) (table R) wanted (entry p f) (height (slots_of R wanted f) (parameters_of R wanted f) 0 0)
     entry_goes wanted f same =
@@ -147,11 +147,11 @@ module _ (p : Program) (R : resolved.Program) where
     pub heights_fit : p.classes ≡ classes_linked R → HeightsFit (linked p) (height_at R) (result_at R) (greatest_height R).numbers (greatest_height R).names (places_in (greatest_height R))
     heights_fit classes = record {
       at = λ pc x e.
-          let s = steps_at R pc (order x) (subst (λ l. slice_get l pc ≡ Some (order x)) is (slice_get-map order p.actions pc ∙ ap (option_map order) e)) in
-          action_fits x pc (order_fits entry_goes s.0.1 pc s.0.0 (order x) s.1 s.2);
+          let s = steps_at R pc (plain_action x) (subst (λ l. slice_get l pc ≡ Some (plain_action x)) is (slice_get-map plain_action p.actions pc ∙ ap (option_map plain_action) e)) in
+          action_fits x pc (plain_action_fits entry_goes s.0.1 pc s.0.0 (plain_action x) s.1 s.2);
       results = λ pc x e.
-          let s = steps_at R pc (order x) (subst (λ l. slice_get l pc ≡ Some (order x)) is (slice_get-map order p.actions pc ∙ ap (option_map order) e)) in
-          action_gives x pc (order_gives entry_goes s.0.1 pc s.0.0 s.1 (order x) s.2);
+          let s = steps_at R pc (plain_action x) (subst (λ l. slice_get l pc ≡ Some (plain_action x)) is (slice_get-map plain_action p.actions pc ∙ ap (option_map plain_action) e)) in
+          action_gives x pc (plain_action_gives entry_goes s.0.1 pc s.0.0 s.1 (plain_action x) s.2);
       methods = λ from sign selector takes objects wanted to e.
           let found = methods_go R from sign selector takes objects wanted to (subst (λ cs. lookup cs from sign selector takes objects wanted ≡ Some to) classes e) in
           let same = there to (height (passes sign takes) objects 0 0) wanted found.0.height in

@@ -11,8 +11,8 @@ use Rattle.arc_code.specs.declared.instr.Instr.TheVariants.{Jump, JumpZero, Call
 use Rattle.arc_code.specs.declared.effect.Effect.{Effect}
 use Rattle.arc_code.specs.declared.effect.Height.{Height}
 use Rattle.arc_code.specs.Effects.{effect, giving, passes, no_height, room_for}
-use Rattle.arc_lower.specs.Order.{Order}
-use Rattle.arc_lower.specs.Lowered.{all_functions, slots_of, parameters_of, start_orders, leave_orders, entry_of, body_orders, function_orders, stub_orders, entries_of}
+use Rattle.arc_lower.specs.PlainActions.{PlainAction}
+use Rattle.arc_lower.specs.Lowered.{all_functions, slots_of, parameters_of, start_actions, leave_actions, entry_of, body_actions, function_actions, stub_actions, entries_of}
 use Rattle.arc_lower.specs.Size.{object_parameters}
 
 abbrev pub height : (numbers names temporaries variables : ℕ) → Height
@@ -26,7 +26,7 @@ abbrev pub highest : Height → Height → Height
 highest a b = height (max a.numbers b.numbers) (max a.names b.names) (max a.temporaries b.temporaries) (max a.variables b.variables)
 
 -- what an action takes and gives; a call takes the variables of the function that hold numbers, and the references of its parameters
-abbrev pub effect_in : Program → Order → Effect
+abbrev pub effect_in : Program → PlainAction → Effect
 effect_in P (Call f wanted) = giving wanted (slots_of P wanted f) (parameters_of P wanted f)
 effect_in P x = effect x
 
@@ -36,7 +36,7 @@ after_effect h e =
     height (h.numbers - e.numbers_taken + e.numbers_given) (h.names - e.names_taken + e.names_given) (h.temporaries + e.temporaries) (h.variables + e.variables)
 
 -- the height after an action that goes on with the next one
-abbrev pub next_height : Program → Order → Height → Height
+abbrev pub next_height : Program → PlainAction → Height → Height
 next_height P DropAll h = record h { temporaries = 0 }
 next_height P Settle h = record h { temporaries = h.temporaries - 1 }
 next_height P x h = after_effect h (effect_in P x)
@@ -55,7 +55,7 @@ abbrev pub other_part : (base : Height) → Walk → Height
 other_part base w = record (get_or w.pending 0 base) { temporaries = w.height.temporaries }
 
 -- The walk before the next action, in a function that has so much between two statements. What stands after a return is another part of the program.
-abbrev pub next_walk : Program → (base : Height) → Order → Walk → Walk
+abbrev pub next_walk : Program → (base : Height) → PlainAction → Walk → Walk
 next_walk P base (Jump to) w = walk (other_part base w) (drop 1 w.pending)
 next_walk P base (JumpZero to) w = let h = next_height P (JumpZero to) w.height in walk h (h ∷ w.pending)
 next_walk P base Return w = walk (record base { variables = 0 }) w.pending
@@ -63,20 +63,20 @@ next_walk P base Give w = walk (record base { variables = 0 }) w.pending
 next_walk P base x w = walk (next_height P x w.height) w.pending
 
 -- the walk after all of these actions
-abbrev pub last_walk : Program → (base : Height) → Walk → List Order → Walk
+abbrev pub last_walk : Program → (base : Height) → Walk → List PlainAction → Walk
 last_walk P base w [] = w
 last_walk P base w (x ∷ xs) = last_walk P base (next_walk P base x w) xs
 
 -- the heights before each of them
-abbrev pub walk_heights : Program → (base : Height) → Walk → List Order → List Height
+abbrev pub walk_heights : Program → (base : Height) → Walk → List PlainAction → List Height
 walk_heights P base w [] = []
 walk_heights P base w (x ∷ xs) = w.height ∷ walk_heights P base (next_walk P base x w) xs
 
 -- the same where the first is at this height, after no test
-abbrev pub heights : Program → (base : Height) → Height → List Order → List Height
+abbrev pub heights : Program → (base : Height) → Height → List PlainAction → List Height
 heights P base h xs = walk_heights P base (walk h []) xs
 
-abbrev pub last_height : Program → (base : Height) → Height → List Order → Height
+abbrev pub last_height : Program → (base : Height) → Height → List PlainAction → Height
 last_height P base h xs = (last_walk P base (walk h []) xs).height
 
 -- the greatest of them, or this one, where it is greater
@@ -90,21 +90,21 @@ raised hs None = None
 raised hs (Some most) = Some (greatest hs most)
 
 abbrev pub start_heights : Program → List Height
-start_heights P = heights P no_height no_height (start_orders P)
+start_heights P = heights P no_height no_height (start_actions P)
 
 -- a function is left with its result above its variables, and entered with the references of its parameters
 abbrev pub function_heights : Program → (place : ℕ) → Function → List Height
 function_heights P place f =
     let base = between f.slots (function_places f) in
-    heights P base (between (suc f.slots) (function_places f)) (leave_orders f)
-    ++ heights P base (height f.slots (object_parameters f) 0 0) (body_orders P place (entry_of place f) f)
+    heights P base (between (suc f.slots) (function_places f)) (leave_actions f)
+    ++ heights P base (height f.slots (object_parameters f) 0 0) (body_actions P place (entry_of place f) f)
 
 abbrev pub functions_heights : Program → (place : ℕ) → List Function → List Height
 functions_heights P place [] = []
-functions_heights P place (f ∷ others) = function_heights P place f ++ functions_heights P (place + length (function_orders P place f)) others
+functions_heights P place (f ∷ others) = function_heights P place f ++ functions_heights P (place + length (function_actions P place f)) others
 
 abbrev pub stub_heights : Program → (entries : List ℕ) → (wanted : Gives) → (values objects f : ℕ) → List Height
-stub_heights P entries wanted values objects f = heights P no_height (height values objects 0 0) (stub_orders P entries wanted values objects f)
+stub_heights P entries wanted values objects f = heights P no_height (height values objects 0 0) (stub_actions P entries wanted values objects f)
 
 abbrev pub methods_heights : Program → (entries : List ℕ) → List Method → List Height
 methods_heights P entries [] = []
@@ -123,7 +123,7 @@ classes_heights P entries (c ∷ others) = class_heights P entries c ++ classes_
 
 -- the heights of all actions of a program, in their order
 abbrev pub lowered_heights : Program → List Height
-lowered_heights P = (start_heights P ++ functions_heights P (length (start_orders P)) (all_functions P)) ++ classes_heights P (entries_of P) P.classes
+lowered_heights P = (start_heights P ++ functions_heights P (length (start_actions P)) (all_functions P)) ++ classes_heights P (entries_of P) P.classes
 
 -- the greatest number of numbers, of references, of temporaries and of variables, that a function has
 abbrev pub greatest_height : Program → Height
@@ -156,7 +156,7 @@ in_function given (h ∷ others) = (h, given) ∷ in_function given others
 
 abbrev pub functions_marks : Program → (place : ℕ) → List Function → List (Height × Gives)
 functions_marks P place [] = []
-functions_marks P place (f ∷ others) = in_function f.gives (function_heights P place f) ++ functions_marks P (place + length (function_orders P place f)) others
+functions_marks P place (f ∷ others) = in_function f.gives (function_heights P place f) ++ functions_marks P (place + length (function_actions P place f)) others
 
 abbrev pub methods_marks : Program → (entries : List ℕ) → List Method → List (Height × Gives)
 methods_marks P entries [] = []
@@ -172,7 +172,7 @@ classes_marks P entries (c ∷ others) = class_marks P entries c ++ classes_mark
 -- the heights of all actions of a program, each with what the function gives in which the action stands
 abbrev pub lowered_marks : Program → List (Height × Gives)
 lowered_marks P =
-    (in_function gives.Number (start_heights P) ++ functions_marks P (length (start_orders P)) (all_functions P)) ++ classes_marks P (entries_of P) P.classes
+    (in_function gives.Number (start_heights P) ++ functions_marks P (length (start_actions P)) (all_functions P)) ++ classes_marks P (entries_of P) P.classes
 
 abbrev pub no_mark : Height × Gives
 no_mark = (no_height, gives.Number)

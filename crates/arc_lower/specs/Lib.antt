@@ -1,7 +1,7 @@
-pub mod Order
-pub mod Known
+pub mod PlainActions
+pub mod KnownKinds
 pub mod Size
 pub mod Lowered
 pub mod Heights
-pub mod Promise
+pub mod LoweringContract
 pub mod private

@@ -8,7 +8,7 @@ use Rattle.arc_ast.specs.declared.tree.Moment.TheVariants.{Before, After}
 use Rattle.arc_ast.specs.declared.tree.Sign.TheVariants as signs
 use Rattle.arc_spec.specs.declared.location.Location.{Location}
 use Rattle.arc_spec.specs.declared.location.Location.TheVariants.{Local, Global}
-use Rattle.arc_spec.specs.Resolved.{Piece, Bytes, Value, Number, ReadByte, Print, Applied, Combined, Choice, Converted, Read, Assigned, Updated, Invoked, Sent, Receiver, ClassValue, ClassSuper, ObjectValue, ObjectSuper, Field, FieldAssigned, FieldUpdated, Differ, IsObject, Reference, Nil, Itself, Variable, Chosen, Stored, ObjectField, ObjectFieldStored, Made, New, ObjectInvoked, ObjectSent, Arguments, no_arguments, number_argument, object_argument, Command, Sequence, Evaluate, EvaluateReference, Begin, Return, Give, Choose, Repeat, Break, Continue, Commands, no_commands, and_command, Function, Program}
+use Rattle.arc_spec.specs.Resolved.{Piece, Bytes, Value, Number, ReadByte, Print, Unary, Binary, Conditional, Convert, Read, AssignNumber, Update, Call, Send, Receiver, ClassValue, ClassSuper, ObjectValue, ObjectSuper, GetField, SetField, UpdateField, NotSame, IsObject, Reference, Nil, Itself, Variable, ObjectConditional, AssignObject, GetObjectField, SetObjectField, Alloc, New, ObjectCall, ObjectSend, Arguments, no_arguments, number_argument, object_argument, Command, Sequence, Evaluate, EvaluateReference, InitVariable, Return, Give, If, While, Break, Continue, Commands, no_commands, and_command, Function, Program}
 use Rattle.arc_spec.specs.declared.class.Method.{Method}
 use Rattle.arc_spec.specs.declared.class.Gives.{Gives}
 use Rattle.arc_spec.specs.declared.class.Gives.TheVariants as gives
@@ -16,7 +16,7 @@ use Rattle.arc_spec.specs.Classes.{Class, lookup, lesser, new_selector}
 use Rattle.arc_spec.specs.Meaning.{function_at, function_places}
 use Rattle.arc_code.specs.declared.code.TheConstants.{MOST_TEXT}
 use Rattle.arc_code.specs.Effects.{passes}
-use Rattle.arc_lower.specs.Known.{is_within, combined_kind, known_kind}
+use Rattle.arc_lower.specs.KnownKinds.{is_within, binary_kind, known_kind}
 
 -- of how many actions a part of an expression is, and whether it takes an object: a temporary holds that to the end of the full-expression
 pub record Size : Type 0 where
@@ -106,20 +106,20 @@ new_size P None a = 7
 abbrev mutual
   pub value_size : Program → Function → Value → Size
   value_size P f (Print pieces given) = arguments_size P f given and plain (print_size pieces (number_count given) (object_count given))
-  value_size P f (Applied operator kind a) = value_size P f a and plain 1
-  value_size P f (Combined operator kind a b) = value_size P f a and value_size P f b and plain 1
-  value_size P f (Choice c a b) = value_size P f c and value_size P f a and value_size P f b and plain 2
-  value_size P f (Converted kind a) = value_size P f a and plain (conversion_size (known_kind a) kind)
-  value_size P f (Assigned i a) = value_size P f a and plain (by_variable i f.slots 2 0)
-  value_size P f (Updated moment i operator computed kept a) =
-      value_size P f a and plain (2 + copy_size moment + conversion_size (combined_kind operator computed) kept + by_variable i f.slots 2 0)
-  value_size P f (Invoked g given) = arguments_size P f given and plain (entering_size P gives.Number g (number_count given) (object_count given))
-  value_size P f (Sent receiver selector given) = receiver_size P f receiver and arguments_size P f given and plain 1
-  value_size P f (Field a class index) = reference_size P f a and plain 1
-  value_size P f (FieldAssigned a class index b) = reference_size P f a and value_size P f b and plain 1
-  value_size P f (FieldUpdated moment a class index operator computed kept b) =
-      reference_size P f a and value_size P f b and plain (4 + copy_size moment + conversion_size (combined_kind operator computed) kept)
-  value_size P f (Differ a b) = reference_size P f a and reference_size P f b and plain 1
+  value_size P f (Unary operator kind a) = value_size P f a and plain 1
+  value_size P f (Binary operator kind a b) = value_size P f a and value_size P f b and plain 1
+  value_size P f (Conditional c a b) = value_size P f c and value_size P f a and value_size P f b and plain 2
+  value_size P f (Convert kind a) = value_size P f a and plain (conversion_size (known_kind a) kind)
+  value_size P f (AssignNumber i a) = value_size P f a and plain (by_variable i f.slots 2 0)
+  value_size P f (Update moment i operator computed kept a) =
+      value_size P f a and plain (2 + copy_size moment + conversion_size (binary_kind operator computed) kept + by_variable i f.slots 2 0)
+  value_size P f (Call g given) = arguments_size P f given and plain (entering_size P gives.Number g (number_count given) (object_count given))
+  value_size P f (Send receiver selector given) = receiver_size P f receiver and arguments_size P f given and plain 1
+  value_size P f (GetField a class index) = reference_size P f a and plain 1
+  value_size P f (SetField a class index b) = reference_size P f a and value_size P f b and plain 1
+  value_size P f (UpdateField moment a class index operator computed kept b) =
+      reference_size P f a and value_size P f b and plain (4 + copy_size moment + conversion_size (binary_kind operator computed) kept)
+  value_size P f (NotSame a b) = reference_size P f a and reference_size P f b and plain 1
   value_size P f (IsObject a) = reference_size P f a and plain 1
   value_size P f _ = plain 1
 
@@ -127,14 +127,14 @@ abbrev mutual
   reference_size P f Nil = plain 1
   reference_size P f Itself = taking 1
   reference_size P f (Variable i) = taking (by_variable i (function_places f) 1 2)
-  reference_size P f (Chosen c a b) = value_size P f c and reference_size P f a and reference_size P f b and plain 2
-  reference_size P f (Stored i a) = reference_size P f a and taking (by_variable i (function_places f) 1 0 + 1)
-  reference_size P f (ObjectField a class index) = reference_size P f a and taking 1
-  reference_size P f (ObjectFieldStored a class index b) = reference_size P f a and reference_size P f b and taking 2
-  reference_size P f (Made a) = value_size P f a and taking 1
+  reference_size P f (ObjectConditional c a b) = value_size P f c and reference_size P f a and reference_size P f b and plain 2
+  reference_size P f (AssignObject i a) = reference_size P f a and taking (by_variable i (function_places f) 1 0 + 1)
+  reference_size P f (GetObjectField a class index) = reference_size P f a and taking 1
+  reference_size P f (SetObjectField a class index b) = reference_size P f a and reference_size P f b and taking 2
+  reference_size P f (Alloc a) = value_size P f a and taking 1
   reference_size P f (New from a) = value_size P f a and taking (new_size P from a)
-  reference_size P f (ObjectInvoked g given) = arguments_size P f given and taking (entering_size P gives.Object g (number_count given) (object_count given))
-  reference_size P f (ObjectSent receiver selector given) = receiver_size P f receiver and arguments_size P f given and taking 1
+  reference_size P f (ObjectCall g given) = arguments_size P f given and taking (entering_size P gives.Object g (number_count given) (object_count given))
+  reference_size P f (ObjectSend receiver selector given) = receiver_size P f receiver and arguments_size P f given and taking 1
 
   pub receiver_size : Program → Function → Receiver → Size
   receiver_size P f (ClassValue a) = value_size P f a
@@ -154,8 +154,8 @@ full_size s = s.actions + (if s.takes then 1 else 0)
 -- An expression that does the same, where nobody uses the number that it gives: an update gives the new number then,
 -- for which no copy of the old one is kept.
 abbrev pub unused : Value → Value
-unused (Updated moment i operator computed kept a) = Updated After i operator computed kept a
-unused (FieldUpdated moment a class index operator computed kept b) = FieldUpdated After a class index operator computed kept b
+unused (Update moment i operator computed kept a) = Update After i operator computed kept a
+unused (UpdateField moment a class index operator computed kept b) = UpdateField After a class index operator computed kept b
 unused a = a
 
 -- whether a statement is one that does nothing
@@ -183,13 +183,13 @@ abbrev mutual
       commands_size P f (ends + breaks) (ends + continues) all + ends
   command_size P f breaks continues (Evaluate a) = full_size (value_size P f (unused a)) + 1
   command_size P f breaks continues (EvaluateReference a) = full_size (reference_size P f a) + 1
-  command_size P f breaks continues (Begin i a) = full_size (reference_size P f a) + by_variable (Local i) (function_places f) 1 0 + 1
+  command_size P f breaks continues (InitVariable i a) = full_size (reference_size P f a) + by_variable (Local i) (function_places f) 1 0 + 1
   command_size P f breaks continues (Return None) = 2
   command_size P f breaks continues (Return (Some a)) = full_size (value_size P f a) + 1
   command_size P f breaks continues (Give a) = full_size (reference_size P f a) + lesser 1 (function_places f) + 3
-  command_size P f breaks continues (Choose test a b) =
+  command_size P f breaks continues (If test a b) =
       full_size (value_size P f test) + command_size P f breaks continues a + command_size P f breaks continues b + 2
-  command_size P f breaks continues (Repeat moment test step body) =
+  command_size P f breaks continues (While moment test step body) =
       loop_jumps moment (does_nothing step) + command_size P f breaks continues step + full_size (value_size P f test) + command_size P f 2 1 body
   command_size P f breaks continues Break = breaks
   command_size P f breaks continues Continue = continues

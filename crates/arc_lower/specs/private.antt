@@ -1,4 +1,4 @@
 -- The vocabulary of private functions: no contract of a public call speaks of it.
 pub mod Definitions
-pub mod Entered
-pub mod Surroundings
+pub mod LoweredFunction
+pub mod StatementActions

@@ -3,8 +3,8 @@ ghost use Rattle.std.specs.Prelude.{◌≡◌, ◌-◌, suc, [], ◌∷◌, ◌+
 ghost use Rattle.arc_checked.specs.Checked.{program_of};
 ghost use Rattle.arc_spec.specs.Classes.{lesser, same_gives};
 ghost use Rattle.arc_lower.specs.private.Definitions.{definition_of, found_at};
-ghost use Rattle.arc_lower.specs.Order.{orders};
-ghost use Rattle.arc_lower.specs.Lowered.{number_of_nothing, number_of, slots_of, parameters_of, fit_orders, fit_object_orders, passing_orders, call_orders, all_empty_orders, keep_orders, leaving_order};
+ghost use Rattle.arc_lower.specs.PlainActions.{plain_actions};
+ghost use Rattle.arc_lower.specs.Lowered.{number_of_nothing, number_of, slots_of, parameters_of, fit_actions, fit_object_actions, passing_actions, call_actions, all_empty_actions, keep_actions, leaving_action};
 
 use crate::expression::append;
 use crate::place::{append_all_empty, append_forgets, append_nils};
@@ -114,7 +114,7 @@ pub(crate) fn number_of(program: &Checked, wanted: Gives, function: usize) -> us
 }
 
 /// The number of the function that does nothing, and gives this.
-#[tactic(auto, using(crate::proofs::Rows::functions_length, std::proofs::lemmas::Grind::common_steps))]
+#[tactic(auto, using(crate::proofs::ActionLists::functions_length, std::proofs::lemmas::Grind::common_steps))]
 fn number_of_nothing(program: &Checked, wanted: Gives) -> usize
     ensures { result ≡ number_of_nothing (program_of program.now) wanted }
 {
@@ -127,7 +127,7 @@ fn number_of_nothing(program: &Checked, wanted: Gives) -> usize
 
 /// Appends the actions that make the `count` numbers on top the variables of a function.
 fn append_fit(actions: &mut Vec<Action>, count: usize, slots: usize) -> Result<(), NoMemory>
-    ensures { OnOk result (orders actions.new.items ≡ orders actions.old.items ++ fit_orders count slots) }
+    ensures { OnOk result (plain_actions actions.new.items ≡ plain_actions actions.old.items ++ fit_actions count slots) }
 {
     append_pops(actions, count.saturating_sub(slots))?;
     append_zeros(actions, slots.saturating_sub(count))
@@ -139,7 +139,7 @@ fn append_fit_objects(
     objects: usize,
     parameters: usize,
 ) -> Result<(), NoMemory>
-    ensures { OnOk result (orders actions.new.items ≡ orders actions.old.items ++ fit_object_orders objects parameters) }
+    ensures { OnOk result (plain_actions actions.new.items ≡ plain_actions actions.old.items ++ fit_object_actions objects parameters) }
 {
     append_forgets(actions, objects.saturating_sub(parameters))?;
     append_nils(actions, parameters.saturating_sub(objects))
@@ -155,7 +155,7 @@ pub(crate) fn append_passing(
     count: usize,
     objects: usize,
 ) -> Result<(), NoMemory>
-    ensures { OnOk result (orders actions.new.items ≡ orders actions.old.items ++ passing_orders (program_of program.now) wanted function count objects) }
+    ensures { OnOk result (plain_actions actions.new.items ≡ plain_actions actions.old.items ++ passing_actions (program_of program.now) wanted function count objects) }
 {
     append_fit(actions, count, slots_of(program, wanted, function))?;
     append_fit_objects(actions, objects, parameters_of(program, wanted, function))
@@ -171,7 +171,7 @@ pub(crate) fn append_call(
     count: usize,
     objects: usize,
 ) -> Result<(), NoMemory>
-    ensures { OnOk result (orders actions.new.items ≡ orders actions.old.items ++ call_orders (program_of program.now) wanted function count objects) }
+    ensures { OnOk result (plain_actions actions.new.items ≡ plain_actions actions.old.items ++ call_actions (program_of program.now) wanted function count objects) }
 {
     append_passing(actions, program, wanted, function, count, objects)?;
     let number = number_of(program, wanted, function);
@@ -185,7 +185,7 @@ pub(crate) fn append_leave(
     names: usize,
     gives: Gives,
 ) -> Result<(), NoMemory>
-    ensures { OnOk result (orders actions.new.items ≡ orders actions.old.items ++ (all_empty_orders (if same_gives gives Gives.Object then suc names else names) 0 names ++ (keep_orders slots ++ leaving_order gives ∷ []))) }
+    ensures { OnOk result (plain_actions actions.new.items ≡ plain_actions actions.old.items ++ (all_empty_actions (if same_gives gives Gives.Object then suc names else names) 0 names ++ (keep_actions slots ++ leaving_action gives ∷ []))) }
 {
     append_all_empty(actions, function_places(names, gives)?, 0, names)?;
     append_keep(actions, slots)?;

@@ -3,15 +3,15 @@ ghost use Rattle.std.specs.Prelude.{◌≡◌, ◌++◌, suc, [], ◌∷◌, if�
 ghost use Rattle.arc_checked.specs.Checked as checked;
 ghost use Rattle.arc_checked.specs.Checked.{value, reference, receiver as receiver_of, arguments as arguments_of, program_of};
 ghost use Rattle.arc_spec.specs.Resolved as resolved;
-ghost use Rattle.arc_lower.specs.Order.{order, orders};
-ghost use Rattle.arc_lower.specs.Known.{combined_kind};
+ghost use Rattle.arc_lower.specs.PlainActions.{plain_action, plain_actions};
+ghost use Rattle.arc_lower.specs.KnownKinds.{binary_kind};
 ghost use Rattle.arc_code.specs.declared.instr.Op.TheVariants.{Bin};
 ghost use Rattle.arc_code.specs.declared.instr.Instr.TheVariants.{Plain};
-ghost use Rattle.arc_lower.specs.Lowered.{old_orders, narrow_orders, value_orders, reference_orders, receiver_orders, argument_orders, below_arguments, message_to, message_order, invoked_orders, sent_orders, making_orders, new_found_orders};
+ghost use Rattle.arc_lower.specs.Lowered.{old_actions, narrow_actions, value_actions, reference_actions, receiver_actions, argument_actions, below_arguments, message_to, message_action, invoked_actions, sent_actions, making_actions, new_found_actions};
 ghost use Rattle.arc_lower.specs.Size.{unused, number_count, object_count, has_new};
 
 use crate::call::append_call;
-use crate::frame::Frame;
+use crate::frame::StackShape;
 use crate::jump::join;
 use crate::known::known_kind;
 use crate::place::{append_forgets, append_read, append_store};
@@ -29,7 +29,7 @@ use std::alloc::Global;
 
 /// Appends one action.
 pub(crate) fn append(actions: &mut Vec<Action>, action: Action) -> Result<(), NoMemory>
-    ensures { OnOk result (orders actions.new.items ≡ orders actions.old.items ++ order action ∷ []) }
+    ensures { OnOk result (plain_actions actions.new.items ≡ plain_actions actions.old.items ++ plain_action action ∷ []) }
 {
     actions.push(action)?;
     Ok(())
@@ -41,10 +41,10 @@ pub(crate) fn append_value(
     alloc: Global,
     actions: &mut Vec<Action>,
     program: &Checked,
-    frame: Frame,
+    frame: StackShape,
     expression: &Value,
 ) -> Result<(), NoMemory>
-    ensures { OnOk result (orders actions.new.items ≡ orders actions.old.items ++ value_orders (program_of program.now) frame.slots frame.names frame.operands (value expression.now)) }
+    ensures { OnOk result (plain_actions actions.new.items ≡ plain_actions actions.old.items ++ value_actions (program_of program.now) frame.slots frame.names frame.operands (value expression.now)) }
 {
     match expression {
         Value::Number(number) => append(actions, Instr::Plain(Op::Num(*number))),
@@ -52,35 +52,35 @@ pub(crate) fn append_value(
         Value::Print(pieces, arguments) => {
             append_printed(alloc, actions, program, frame, pieces, arguments)
         }
-        Value::Applied(operator, kind, operand) => {
+        Value::Unary(operator, kind, operand) => {
             let operation = Op::Un(*operator, *kind);
             append_value_then(alloc, actions, program, frame, operand, operation)
         }
-        Value::Combined(operator, kind, left, right) => {
+        Value::Binary(operator, kind, left, right) => {
             let operation = Op::Bin(*operator, *kind);
             append_both(alloc, actions, program, frame, left, right, operation)
         }
-        Value::Choice(test, first, second) => {
-            append_choice(alloc, actions, program, frame, test, first, second)
+        Value::Conditional(test, first, second) => {
+            append_conditional(alloc, actions, program, frame, test, first, second)
         }
-        Value::Converted(kind, operand) => {
-            append_converted(alloc, actions, program, frame, *kind, operand)
+        Value::Convert(kind, operand) => {
+            append_convert(alloc, actions, program, frame, *kind, operand)
         }
         Value::Read(location) => append_get(actions, frame.slots, frame.operands, *location),
-        Value::Assigned(location, operand) => {
-            append_assigned(alloc, actions, program, frame, *location, operand)
+        Value::AssignNumber(location, operand) => {
+            append_assign_number(alloc, actions, program, frame, *location, operand)
         }
-        Value::Updated(moment, location, operator, computed, kept, operand) => {
+        Value::Update(moment, location, operator, computed, kept, operand) => {
             let update = Update {
                 moment: *moment,
                 operator: *operator,
                 computed: *computed,
                 kept: *kept,
             };
-            append_updated(alloc, actions, program, frame, *location, update, operand)
+            append_update_variable(alloc, actions, program, frame, *location, update, operand)
         }
-        Value::Invoked(function, arguments) => {
-            append_invoked(
+        Value::Call(function, arguments) => {
+            append_function_call(
                 alloc,
                 actions,
                 program,
@@ -90,8 +90,8 @@ pub(crate) fn append_value(
                 arguments,
             )
         }
-        Value::Sent(receiver, selector, arguments) => {
-            append_sent(
+        Value::Send(receiver, selector, arguments) => {
+            append_message(
                 alloc,
                 actions,
                 program,
@@ -102,27 +102,27 @@ pub(crate) fn append_value(
                 arguments,
             )
         }
-        Value::Field(object, class, index) => {
+        Value::GetField(object, class, index) => {
             let operation = Op::GetField(*class, *index);
             append_reference_then(alloc, actions, program, frame, object, operation)
         }
-        Value::FieldAssigned(object, class, index, operand) => {
-            append_field_assigned(
+        Value::SetField(object, class, index, operand) => {
+            append_set_field(
                 alloc, actions, program, frame, object, *class, *index, operand,
             )
         }
-        Value::FieldUpdated(moment, object, class, index, operator, computed, kept, operand) => {
+        Value::UpdateField(moment, object, class, index, operator, computed, kept, operand) => {
             let update = Update {
                 moment: *moment,
                 operator: *operator,
                 computed: *computed,
                 kept: *kept,
             };
-            append_field_updated(
+            append_update_field(
                 alloc, actions, program, frame, object, *class, *index, update, operand,
             )
         }
-        Value::Differ(left, right) => append_differ(alloc, actions, program, frame, left, right),
+        Value::NotSame(left, right) => append_not_same(alloc, actions, program, frame, left, right),
         Value::IsObject(object) => {
             append_reference_then(alloc, actions, program, frame, object, Op::IsObject)
         }
@@ -134,29 +134,29 @@ pub(crate) fn append_unused(
     alloc: Global,
     actions: &mut Vec<Action>,
     program: &Checked,
-    frame: Frame,
+    frame: StackShape,
     expression: &Value,
 ) -> Result<(), NoMemory>
-    ensures { OnOk result (orders actions.new.items ≡ orders actions.old.items ++ value_orders (program_of program.now) frame.slots frame.names frame.operands (unused (value expression.now))) }
+    ensures { OnOk result (plain_actions actions.new.items ≡ plain_actions actions.old.items ++ value_actions (program_of program.now) frame.slots frame.names frame.operands (unused (value expression.now))) }
 {
     match expression {
-        Value::Updated(_, location, operator, computed, kept, operand) => {
+        Value::Update(_, location, operator, computed, kept, operand) => {
             let update = Update {
                 moment: Moment::After,
                 operator: *operator,
                 computed: *computed,
                 kept: *kept,
             };
-            append_updated(alloc, actions, program, frame, *location, update, operand)
+            append_update_variable(alloc, actions, program, frame, *location, update, operand)
         }
-        Value::FieldUpdated(_, object, class, index, operator, computed, kept, operand) => {
+        Value::UpdateField(_, object, class, index, operator, computed, kept, operand) => {
             let update = Update {
                 moment: Moment::After,
                 operator: *operator,
                 computed: *computed,
                 kept: *kept,
             };
-            append_field_updated(
+            append_update_field(
                 alloc, actions, program, frame, object, *class, *index, update, operand,
             )
         }
@@ -170,11 +170,11 @@ fn append_printed(
     alloc: Global,
     actions: &mut Vec<Action>,
     program: &Checked,
-    frame: Frame,
+    frame: StackShape,
     pieces: &[Piece],
     arguments: &[Argument],
 ) -> Result<(), NoMemory>
-    ensures { OnOk result (orders actions.new.items ≡ orders actions.old.items ++ value_orders (program_of program.now) frame.slots frame.names frame.operands (resolved.Print (checked.pieces pieces.now) (arguments_of arguments.now))) }
+    ensures { OnOk result (plain_actions actions.new.items ≡ plain_actions actions.old.items ++ value_actions (program_of program.now) frame.slots frame.names frame.operands (resolved.Print (checked.pieces pieces.now) (arguments_of arguments.now))) }
 {
     append_arguments(alloc, actions, program, frame, arguments)?;
     append_forgets(actions, count_objects(arguments))?;
@@ -187,11 +187,11 @@ fn append_value_then(
     alloc: Global,
     actions: &mut Vec<Action>,
     program: &Checked,
-    frame: Frame,
+    frame: StackShape,
     operand: &Value,
     operation: Op,
 ) -> Result<(), NoMemory>
-    ensures { OnOk result (orders actions.new.items ≡ orders actions.old.items ++ (value_orders (program_of program.now) frame.slots frame.names frame.operands (value operand.now) ++ Plain operation ∷ [])) }
+    ensures { OnOk result (plain_actions actions.new.items ≡ plain_actions actions.old.items ++ (value_actions (program_of program.now) frame.slots frame.names frame.operands (value operand.now) ++ Plain operation ∷ [])) }
 {
     append_value(alloc, actions, program, frame, operand)?;
     append(actions, Instr::Plain(operation))
@@ -199,15 +199,15 @@ fn append_value_then(
 
 /// Appends the actions of a number that becomes one of this kind.
 #[cycle(expression)]
-fn append_converted(
+fn append_convert(
     alloc: Global,
     actions: &mut Vec<Action>,
     program: &Checked,
-    frame: Frame,
+    frame: StackShape,
     kind: Kind,
     operand: &Value,
 ) -> Result<(), NoMemory>
-    ensures { OnOk result (orders actions.new.items ≡ orders actions.old.items ++ value_orders (program_of program.now) frame.slots frame.names frame.operands (resolved.Converted kind (value operand.now))) }
+    ensures { OnOk result (plain_actions actions.new.items ≡ plain_actions actions.old.items ++ value_actions (program_of program.now) frame.slots frame.names frame.operands (resolved.Convert kind (value operand.now))) }
 {
     append_value(alloc, actions, program, frame, operand)?;
     append_narrow(actions, known_kind(operand), kind)
@@ -219,11 +219,11 @@ fn append_reference_then(
     alloc: Global,
     actions: &mut Vec<Action>,
     program: &Checked,
-    frame: Frame,
+    frame: StackShape,
     object: &Reference,
     operation: Op,
 ) -> Result<(), NoMemory>
-    ensures { OnOk result (orders actions.new.items ≡ orders actions.old.items ++ (reference_orders (program_of program.now) frame.slots frame.names frame.operands (reference object.now) ++ Plain operation ∷ [])) }
+    ensures { OnOk result (plain_actions actions.new.items ≡ plain_actions actions.old.items ++ (reference_actions (program_of program.now) frame.slots frame.names frame.operands (reference object.now) ++ Plain operation ∷ [])) }
 {
     append_reference(alloc, actions, program, frame, object)?;
     append(actions, Instr::Plain(operation))
@@ -236,32 +236,32 @@ fn append_both(
     alloc: Global,
     actions: &mut Vec<Action>,
     program: &Checked,
-    frame: Frame,
+    frame: StackShape,
     left: &Value,
     right: &Value,
     operation: Op,
 ) -> Result<(), NoMemory>
-    ensures { OnOk result (orders actions.new.items ≡ orders actions.old.items ++ (value_orders (program_of program.now) frame.slots frame.names frame.operands (value left.now) ++ (value_orders (program_of program.now) frame.slots frame.names (suc frame.operands) (value right.now) ++ Plain operation ∷ []))) }
+    ensures { OnOk result (plain_actions actions.new.items ≡ plain_actions actions.old.items ++ (value_actions (program_of program.now) frame.slots frame.names frame.operands (value left.now) ++ (value_actions (program_of program.now) frame.slots frame.names (suc frame.operands) (value right.now) ++ Plain operation ∷ []))) }
 {
     append_value(alloc, actions, program, frame, left)?;
     let operands = one_more(frame.operands)?;
-    let above = Frame { operands, ..frame };
+    let above = StackShape { operands, ..frame };
     append_value(alloc, actions, program, above, right)?;
     append(actions, Instr::Plain(operation))
 }
 
 /// Appends the actions of a choice of two numbers by a test, of which a run goes through one way.
 #[cycle(expression)]
-fn append_choice(
+fn append_conditional(
     alloc: Global,
     actions: &mut Vec<Action>,
     program: &Checked,
-    frame: Frame,
+    frame: StackShape,
     test: &Value,
     first: &Value,
     second: &Value,
 ) -> Result<(), NoMemory>
-    ensures { OnOk result (orders actions.new.items ≡ orders actions.old.items ++ value_orders (program_of program.now) frame.slots frame.names frame.operands (resolved.Choice (value test.now) (value first.now) (value second.now))) }
+    ensures { OnOk result (plain_actions actions.new.items ≡ plain_actions actions.old.items ++ value_actions (program_of program.now) frame.slots frame.names frame.operands (resolved.Conditional (value test.now) (value first.now) (value second.now))) }
 {
     append_value(alloc, actions, program, frame, test)?;
     let branch = actions.len();
@@ -276,16 +276,16 @@ fn append_choice(
 
 /// Appends the actions of a choice of two objects by a test, of which a run goes through one way.
 #[cycle(expression)]
-fn append_chosen(
+fn append_object_conditional(
     alloc: Global,
     actions: &mut Vec<Action>,
     program: &Checked,
-    frame: Frame,
+    frame: StackShape,
     test: &Value,
     first: &Reference,
     second: &Reference,
 ) -> Result<(), NoMemory>
-    ensures { OnOk result (orders actions.new.items ≡ orders actions.old.items ++ reference_orders (program_of program.now) frame.slots frame.names frame.operands (resolved.Chosen (value test.now) (reference first.now) (reference second.now))) }
+    ensures { OnOk result (plain_actions actions.new.items ≡ plain_actions actions.old.items ++ reference_actions (program_of program.now) frame.slots frame.names frame.operands (resolved.ObjectConditional (value test.now) (reference first.now) (reference second.now))) }
 {
     append_value(alloc, actions, program, frame, test)?;
     let branch = actions.len();
@@ -300,15 +300,15 @@ fn append_chosen(
 
 /// Appends the actions of an assignment to a variable that holds a number.
 #[cycle(expression)]
-fn append_assigned(
+fn append_assign_number(
     alloc: Global,
     actions: &mut Vec<Action>,
     program: &Checked,
-    frame: Frame,
+    frame: StackShape,
     location: Location,
     operand: &Value,
 ) -> Result<(), NoMemory>
-    ensures { OnOk result (orders actions.new.items ≡ orders actions.old.items ++ value_orders (program_of program.now) frame.slots frame.names frame.operands (resolved.Assigned location (value operand.now))) }
+    ensures { OnOk result (plain_actions actions.new.items ≡ plain_actions actions.old.items ++ value_actions (program_of program.now) frame.slots frame.names frame.operands (resolved.AssignNumber location (value operand.now))) }
 {
     append_value(alloc, actions, program, frame, operand)?;
     append_set(actions, frame.slots, frame.operands, location)
@@ -316,20 +316,20 @@ fn append_assigned(
 
 /// Appends the actions of an update of a variable that holds a number.
 #[cycle(expression)]
-fn append_updated(
+fn append_update_variable(
     alloc: Global,
     actions: &mut Vec<Action>,
     program: &Checked,
-    frame: Frame,
+    frame: StackShape,
     location: Location,
     update: Update,
     operand: &Value,
 ) -> Result<(), NoMemory>
-    ensures { OnOk result (orders actions.new.items ≡ orders actions.old.items ++ value_orders (program_of program.now) frame.slots frame.names frame.operands (resolved.Updated update.moment location update.operator update.computed update.kept (value operand.now))) }
+    ensures { OnOk result (plain_actions actions.new.items ≡ plain_actions actions.old.items ++ value_actions (program_of program.now) frame.slots frame.names frame.operands (resolved.Update update.moment location update.operator update.computed update.kept (value operand.now))) }
 {
     append_get(actions, frame.slots, frame.operands, location)?;
     let operands = below_new(update.moment, frame.operands)?;
-    let below = Frame { operands, ..frame };
+    let below = StackShape { operands, ..frame };
     append_update(alloc, actions, program, below, update, operand)?;
     append_set(actions, frame.slots, operands, location)?;
     append_given(actions, update.moment)
@@ -337,24 +337,24 @@ fn append_updated(
 
 /// Appends the actions of an update of a field of an object, which is found once.
 #[cycle(expression)]
-fn append_field_updated(
+fn append_update_field(
     alloc: Global,
     actions: &mut Vec<Action>,
     program: &Checked,
-    frame: Frame,
+    frame: StackShape,
     object: &Reference,
     class: usize,
     index: usize,
     update: Update,
     operand: &Value,
 ) -> Result<(), NoMemory>
-    ensures { OnOk result (orders actions.new.items ≡ orders actions.old.items ++ value_orders (program_of program.now) frame.slots frame.names frame.operands (resolved.FieldUpdated update.moment (reference object.now) class index update.operator update.computed update.kept (value operand.now))) }
+    ensures { OnOk result (plain_actions actions.new.items ≡ plain_actions actions.old.items ++ value_actions (program_of program.now) frame.slots frame.names frame.operands (resolved.UpdateField update.moment (reference object.now) class index update.operator update.computed update.kept (value operand.now))) }
 {
     append_reference(alloc, actions, program, frame, object)?;
     append(actions, Instr::Plain(Op::Again))?;
     append(actions, Instr::Plain(Op::GetField(class, index)))?;
     let operands = below_new(update.moment, frame.operands)?;
-    let below = Frame { operands, ..frame };
+    let below = StackShape { operands, ..frame };
     append_update(alloc, actions, program, below, update, operand)?;
     append(actions, Instr::Plain(Op::SetField(class, index)))?;
     append_given(actions, update.moment)
@@ -366,31 +366,31 @@ fn append_update(
     alloc: Global,
     actions: &mut Vec<Action>,
     program: &Checked,
-    below: Frame,
+    below: StackShape,
     update: Update,
     operand: &Value,
 ) -> Result<(), NoMemory>
-    ensures { OnOk result (orders actions.new.items ≡ orders actions.old.items ++ (old_orders update.moment ++ (value_orders (program_of program.now) below.slots below.names (suc below.operands) (value operand.now) ++ (Plain (Bin update.operator update.computed) ∷ narrow_orders (combined_kind update.operator update.computed) update.kept)))) }
+    ensures { OnOk result (plain_actions actions.new.items ≡ plain_actions actions.old.items ++ (old_actions update.moment ++ (value_actions (program_of program.now) below.slots below.names (suc below.operands) (value operand.now) ++ (Plain (Bin update.operator update.computed) ∷ narrow_actions (binary_kind update.operator update.computed) update.kept)))) }
 {
     append_old(actions, update.moment)?;
     let operands = one_more(below.operands)?;
-    let above = Frame { operands, ..below };
+    let above = StackShape { operands, ..below };
     append_value(alloc, actions, program, above, operand)?;
     append_new(actions, update)
 }
 
 /// Appends the actions of a call, the arguments' first.
 #[cycle(expression)]
-fn append_invoked(
+fn append_function_call(
     alloc: Global,
     actions: &mut Vec<Action>,
     program: &Checked,
-    frame: Frame,
+    frame: StackShape,
     wanted: Gives,
     function: usize,
     arguments: &[Argument],
 ) -> Result<(), NoMemory>
-    ensures { OnOk result (orders actions.new.items ≡ orders actions.old.items ++ invoked_orders (program_of program.now) frame.slots frame.names frame.operands wanted function (arguments_of arguments.now)) }
+    ensures { OnOk result (plain_actions actions.new.items ≡ plain_actions actions.old.items ++ invoked_actions (program_of program.now) frame.slots frame.names frame.operands wanted function (arguments_of arguments.now)) }
 {
     append_arguments(alloc, actions, program, frame, arguments)?;
     append_call(
@@ -405,21 +405,21 @@ fn append_invoked(
 
 /// Appends the actions of a message, what gets it first.
 #[cycle(expression)]
-fn append_sent(
+fn append_message(
     alloc: Global,
     actions: &mut Vec<Action>,
     program: &Checked,
-    frame: Frame,
+    frame: StackShape,
     wanted: Gives,
     receiver: &Receiver,
     selector: usize,
     arguments: &[Argument],
 ) -> Result<(), NoMemory>
-    ensures { OnOk result (orders actions.new.items ≡ orders actions.old.items ++ sent_orders (program_of program.now) frame.slots frame.names frame.operands wanted (receiver_of receiver.now) selector (arguments_of arguments.now)) }
+    ensures { OnOk result (plain_actions actions.new.items ≡ plain_actions actions.old.items ++ sent_actions (program_of program.now) frame.slots frame.names frame.operands wanted (receiver_of receiver.now) selector (arguments_of arguments.now)) }
 {
     append_receiver(alloc, actions, program, frame, receiver)?;
     let operands = below_arguments(receiver, frame.operands)?;
-    let above = Frame { operands, ..frame };
+    let above = StackShape { operands, ..frame };
     append_arguments(alloc, actions, program, above, arguments)?;
     let numbers = count_numbers(arguments);
     let objects = count_objects(arguments);
@@ -436,11 +436,11 @@ fn append_new_object(
     alloc: Global,
     actions: &mut Vec<Action>,
     program: &Checked,
-    frame: Frame,
+    frame: StackShape,
     from: Option<usize>,
     class: &Value,
 ) -> Result<(), NoMemory>
-    ensures { OnOk result (orders actions.new.items ≡ orders actions.old.items ++ reference_orders (program_of program.now) frame.slots frame.names frame.operands (resolved.New from (value class.now))) }
+    ensures { OnOk result (plain_actions actions.new.items ≡ plain_actions actions.old.items ++ reference_actions (program_of program.now) frame.slots frame.names frame.operands (resolved.New from (value class.now))) }
 {
     append_value(alloc, actions, program, frame, class)?;
     match (from, class) {
@@ -480,7 +480,7 @@ fn has_new(program: &Checked, class: usize) -> bool
 
 /// Appends the actions of the root's `new` of the class on top.
 fn append_making(actions: &mut Vec<Action>) -> Result<(), NoMemory>
-    ensures { OnOk result (orders actions.new.items ≡ orders actions.old.items ++ making_orders) }
+    ensures { OnOk result (plain_actions actions.new.items ≡ plain_actions actions.old.items ++ making_actions) }
 {
     append(actions, Instr::Plain(Op::Alloc))?;
     append(actions, Instr::SendTo(INIT_SELECTOR, 0, 0, Gives::Object))?;
@@ -494,7 +494,7 @@ fn append_new_from(
     class: usize,
     found: Action,
 ) -> Result<(), NoMemory>
-    ensures { OnOk result (orders actions.new.items ≡ orders actions.old.items ++ (if has_new (program_of program.now) class then order found ∷ [] else making_orders)) }
+    ensures { OnOk result (plain_actions actions.new.items ≡ plain_actions actions.old.items ++ (if has_new (program_of program.now) class then plain_action found ∷ [] else making_actions)) }
 {
     if has_new(program, class) {
         append(actions, found)
@@ -505,7 +505,7 @@ fn append_new_from(
 
 /// Appends the actions of `new` of the class on top, of which the program finds out whether it has such a method.
 fn append_new_found(actions: &mut Vec<Action>) -> Result<(), NoMemory>
-    ensures { OnOk result (orders actions.new.items ≡ orders actions.old.items ++ new_found_orders) }
+    ensures { OnOk result (plain_actions actions.new.items ≡ plain_actions actions.old.items ++ new_found_actions) }
 {
     append(actions, Instr::Plain(Op::Finds(NEW_SELECTOR)))?;
     append(actions, Instr::JumpZero(Target::Skip(2)))?;
@@ -521,10 +521,10 @@ fn append_receiver(
     alloc: Global,
     actions: &mut Vec<Action>,
     program: &Checked,
-    frame: Frame,
+    frame: StackShape,
     receiver: &Receiver,
 ) -> Result<(), NoMemory>
-    ensures { OnOk result (orders actions.new.items ≡ orders actions.old.items ++ receiver_orders (program_of program.now) frame.slots frame.names frame.operands (receiver_of receiver.now)) }
+    ensures { OnOk result (plain_actions actions.new.items ≡ plain_actions actions.old.items ++ receiver_actions (program_of program.now) frame.slots frame.names frame.operands (receiver_of receiver.now)) }
 {
     match receiver {
         Receiver::ClassValue(value) => append_value(alloc, actions, program, frame, value),
@@ -556,7 +556,7 @@ fn message(
     numbers: usize,
     objects: usize,
 ) -> Action
-    ensures { order result ≡ message_order wanted (message_to (receiver_of receiver.now) selector) numbers objects }
+    ensures { plain_action result ≡ message_action wanted (message_to (receiver_of receiver.now) selector) numbers objects }
 {
     match receiver {
         Receiver::ClassValue(_) => Instr::Send(selector, numbers, objects, wanted),
@@ -596,17 +596,17 @@ fn count_objects(arguments: &[Argument]) -> usize
 
 /// Appends the actions of an assignment to a field of an object, which is found first.
 #[cycle(expression)]
-fn append_field_assigned(
+fn append_set_field(
     alloc: Global,
     actions: &mut Vec<Action>,
     program: &Checked,
-    frame: Frame,
+    frame: StackShape,
     object: &Reference,
     class: usize,
     index: usize,
     operand: &Value,
 ) -> Result<(), NoMemory>
-    ensures { OnOk result (orders actions.new.items ≡ orders actions.old.items ++ value_orders (program_of program.now) frame.slots frame.names frame.operands (resolved.FieldAssigned (reference object.now) class index (value operand.now))) }
+    ensures { OnOk result (plain_actions actions.new.items ≡ plain_actions actions.old.items ++ value_actions (program_of program.now) frame.slots frame.names frame.operands (resolved.SetField (reference object.now) class index (value operand.now))) }
 {
     append_reference(alloc, actions, program, frame, object)?;
     append_value(alloc, actions, program, frame, operand)?;
@@ -615,19 +615,19 @@ fn append_field_assigned(
 
 /// Appends the actions that say whether two objects differ, the left one's first.
 #[cycle(expression)]
-fn append_differ(
+fn append_not_same(
     alloc: Global,
     actions: &mut Vec<Action>,
     program: &Checked,
-    frame: Frame,
+    frame: StackShape,
     left: &Reference,
     right: &Reference,
 ) -> Result<(), NoMemory>
-    ensures { OnOk result (orders actions.new.items ≡ orders actions.old.items ++ value_orders (program_of program.now) frame.slots frame.names frame.operands (resolved.Differ (reference left.now) (reference right.now))) }
+    ensures { OnOk result (plain_actions actions.new.items ≡ plain_actions actions.old.items ++ value_actions (program_of program.now) frame.slots frame.names frame.operands (resolved.NotSame (reference left.now) (reference right.now))) }
 {
     append_reference(alloc, actions, program, frame, left)?;
     append_reference(alloc, actions, program, frame, right)?;
-    append(actions, Instr::Plain(Op::Differ))
+    append(actions, Instr::Plain(Op::NotSame))
 }
 
 /// Appends the actions of an expression that gives an object or nil, to which they leave a reference.
@@ -636,37 +636,37 @@ pub(crate) fn append_reference(
     alloc: Global,
     actions: &mut Vec<Action>,
     program: &Checked,
-    frame: Frame,
+    frame: StackShape,
     expression: &Reference,
 ) -> Result<(), NoMemory>
-    ensures { OnOk result (orders actions.new.items ≡ orders actions.old.items ++ reference_orders (program_of program.now) frame.slots frame.names frame.operands (reference expression.now)) }
+    ensures { OnOk result (plain_actions actions.new.items ≡ plain_actions actions.old.items ++ reference_actions (program_of program.now) frame.slots frame.names frame.operands (reference expression.now)) }
 {
     match expression {
         Reference::Nil => append(actions, Instr::Plain(Op::Nil)),
         Reference::Itself => append(actions, Instr::Plain(Op::ReadSelf)),
         Reference::Variable(location) => append_read(actions, frame.names, *location),
-        Reference::Stored(location, operand) => {
+        Reference::AssignObject(location, operand) => {
             append_reference(alloc, actions, program, frame, operand)?;
             append_store(actions, frame.names, *location)?;
             append(actions, Instr::Plain(Op::Hold))
         }
-        Reference::ObjectField(object, class, index) => {
+        Reference::GetObjectField(object, class, index) => {
             let operation = Op::ReadField(*class, *index);
             append_reference_then(alloc, actions, program, frame, object, operation)
         }
-        Reference::ObjectFieldStored(object, class, index, operand) => {
-            append_field_stored(
+        Reference::SetObjectField(object, class, index, operand) => {
+            append_set_object_field(
                 alloc, actions, program, frame, object, *class, *index, operand,
             )
         }
-        Reference::Made(class) => {
+        Reference::Alloc(class) => {
             append_value_then(alloc, actions, program, frame, class, Op::Alloc)
         }
         Reference::New(from, class) => {
             append_new_object(alloc, actions, program, frame, *from, class)
         }
-        Reference::ObjectInvoked(function, arguments) => {
-            append_invoked(
+        Reference::ObjectCall(function, arguments) => {
+            append_function_call(
                 alloc,
                 actions,
                 program,
@@ -676,8 +676,8 @@ pub(crate) fn append_reference(
                 arguments,
             )
         }
-        Reference::ObjectSent(receiver, selector, arguments) => {
-            append_sent(
+        Reference::ObjectSend(receiver, selector, arguments) => {
+            append_message(
                 alloc,
                 actions,
                 program,
@@ -688,25 +688,25 @@ pub(crate) fn append_reference(
                 arguments,
             )
         }
-        Reference::Chosen(test, first, second) => {
-            append_chosen(alloc, actions, program, frame, test, first, second)
+        Reference::ObjectConditional(test, first, second) => {
+            append_object_conditional(alloc, actions, program, frame, test, first, second)
         }
     }
 }
 
 /// Appends the actions of an assignment of an object to a field of another one, which is found first.
 #[cycle(expression)]
-fn append_field_stored(
+fn append_set_object_field(
     alloc: Global,
     actions: &mut Vec<Action>,
     program: &Checked,
-    frame: Frame,
+    frame: StackShape,
     object: &Reference,
     class: usize,
     index: usize,
     operand: &Reference,
 ) -> Result<(), NoMemory>
-    ensures { OnOk result (orders actions.new.items ≡ orders actions.old.items ++ reference_orders (program_of program.now) frame.slots frame.names frame.operands (resolved.ObjectFieldStored (reference object.now) class index (reference operand.now))) }
+    ensures { OnOk result (plain_actions actions.new.items ≡ plain_actions actions.old.items ++ reference_actions (program_of program.now) frame.slots frame.names frame.operands (resolved.SetObjectField (reference object.now) class index (reference operand.now))) }
 {
     append_reference(alloc, actions, program, frame, object)?;
     append_reference(alloc, actions, program, frame, operand)?;
@@ -720,14 +720,14 @@ fn append_arguments(
     alloc: Global,
     actions: &mut Vec<Action>,
     program: &Checked,
-    frame: Frame,
+    frame: StackShape,
     all: &[Argument],
 ) -> Result<(), NoMemory>
-    ensures { OnOk result (orders actions.new.items ≡ orders actions.old.items ++ argument_orders (program_of program.now) frame.slots frame.names frame.operands (arguments_of all.now)) }
+    ensures { OnOk result (plain_actions actions.new.items ≡ plain_actions actions.old.items ++ argument_actions (program_of program.now) frame.slots frame.names frame.operands (arguments_of all.now)) }
 {
     let mut operands = frame.operands;
     for argument in all {
-        let above = Frame { operands, ..frame };
+        let above = StackShape { operands, ..frame };
         match argument {
             Argument::Number(value) => {
                 append_value(alloc, actions, program, above, value)?;

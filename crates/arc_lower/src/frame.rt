@@ -3,7 +3,7 @@
 /// How many variables a function has that hold numbers, and how many that name objects; and how many
 /// operands lie above the former.
 #[derive(Clone, Copy)]
-pub(crate) struct Frame {
+pub(crate) struct StackShape {
     pub slots: usize,
     pub names: usize,
     pub operands: usize,

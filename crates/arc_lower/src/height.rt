@@ -3,7 +3,7 @@
 ghost use Rattle.std.specs.Prelude.{◌≡◌, IfOk, OnOk, drop, get_or, reverse};
 ghost use Rattle.arc_code.specs.Effects.{no_height};
 ghost use Rattle.arc_checked.specs.Checked.{program_of};
-ghost use Rattle.arc_lower.specs.Order.{order, orders};
+ghost use Rattle.arc_lower.specs.PlainActions.{plain_action, plain_actions};
 ghost use Rattle.arc_lower.specs.Heights.{height, between, highest, after_effect, effect_in, walk, next_walk, heights, greatest, raised};
 
 use crate::call::{parameters_of, slots_of};
@@ -85,7 +85,7 @@ fn take_part(pending: &mut Vec<Height>, base: Height) -> Height
 /// What an action takes and gives; a call takes the variables of the function that hold numbers, and the references
 /// of its parameters. NoMemory: no stack has so many.
 fn effect_in(program: &Checked, action: &Action) -> Result<Effect, NoMemory>
-    ensures { IfOk result (λ found. found ≡ effect_in (program_of program.now) (order action.now)) }
+    ensures { IfOk result (λ found. found ≡ effect_in (program_of program.now) (plain_action action.now)) }
 {
     let Some(effect) = action.effect() else {
         return Err(NoMemory);
@@ -110,7 +110,7 @@ fn next_height(
     before: Height,
     pending: &mut Vec<Height>,
 ) -> Result<Height, NoMemory>
-    ensures { IfOk result (λ next. walk next (reverse pending.new.items) ≡ next_walk (program_of program.now) base (order action.now) (walk before (reverse pending.old.items))) }
+    ensures { IfOk result (λ next. walk next (reverse pending.new.items) ≡ next_walk (program_of program.now) base (plain_action action.now) (walk before (reverse pending.old.items))) }
 {
     let effect = effect_in(program, action)?;
     match action {
@@ -157,7 +157,7 @@ fn greatest(
     actions: &[Action],
     so_far: Height,
 ) -> Result<Height, NoMemory>
-    ensures { IfOk result (λ most. most ≡ greatest (heights (program_of program.now) base first (orders actions.now)) so_far) }
+    ensures { IfOk result (λ most. most ≡ greatest (heights (program_of program.now) base first (plain_actions actions.now)) so_far) }
 {
     let mut height = first;
     let mut pending = Vec::new(alloc);
@@ -179,7 +179,7 @@ pub(crate) fn raise(
     actions: &[Action],
     most: &mut Option<Height>,
 ) -> Result<(), NoMemory>
-    ensures { OnOk result (most.new ≡ raised (heights (program_of program.now) base first (orders actions.now)) most.old) }
+    ensures { OnOk result (most.new ≡ raised (heights (program_of program.now) base first (plain_actions actions.now)) most.old) }
 {
     if let Some(so_far) = *most {
         *most = Some(greatest(alloc, program, base, first, actions, so_far)?);

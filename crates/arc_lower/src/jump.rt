@@ -2,7 +2,7 @@
 ghost use Rattle.std.specs.Prelude.{◌≡◌, ◌-◌, ◌<◌, length, OnOk, IfOk, slice_set};
 ghost use Rattle.arc_code.specs.declared.instr.Instr.TheVariants.{Jump, JumpZero};
 ghost use Rattle.arc_ir.specs.declared.action.Target.TheVariants.{Skip};
-ghost use Rattle.arc_lower.specs.Order.{order, orders};
+ghost use Rattle.arc_lower.specs.PlainActions.{plain_action, plain_actions};
 
 use arc_code::instr::Instr;
 use arc_ir::action::{Action, Target};
@@ -17,9 +17,9 @@ pub(crate) fn join(
     skip: usize,
     other: usize,
 ) -> Result<(), NoMemory>
-    requires branch { branch < length (orders actions.old.items) }
-    requires skip { skip < length (orders actions.old.items) }
-    ensures { OnOk result (orders actions.new.items ≡ slice_set (slice_set (orders actions.old.items) branch (JumpZero (Skip (skip - branch)))) skip (Jump (Skip (length (orders actions.old.items) - other)))) }
+    requires branch { branch < length (plain_actions actions.old.items) }
+    requires skip { skip < length (plain_actions actions.old.items) }
+    ensures { OnOk result (plain_actions actions.new.items ≡ slice_set (slice_set (plain_actions actions.old.items) branch (JumpZero (Skip (skip - branch)))) skip (Jump (Skip (length (plain_actions actions.old.items) - other)))) }
 {
     let past_first = distance(branch, skip)?;
     let past_second = distance(other, actions.len())?;
@@ -40,8 +40,8 @@ pub(crate) fn distance(from: usize, to: usize) -> Result<u32, NoMemory>
 
 /// Puts another action in the place of the one with this number.
 pub(crate) fn replace(actions: &mut Vec<Action>, place: usize, action: Action)
-    requires { place < length (orders actions.old.items) }
-    ensures { orders actions.new.items ≡ slice_set (orders actions.old.items) place (order action) }
+    requires { place < length (plain_actions actions.old.items) }
+    ensures { plain_actions actions.new.items ≡ slice_set (plain_actions actions.old.items) place (plain_action action) }
 {
     actions[place] = action;
 }

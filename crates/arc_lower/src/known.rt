@@ -2,7 +2,7 @@
 ghost use Rattle.std.specs.Prelude.{◌≡◌};
 ghost use Rattle.arc_checked.specs.Checked.{value};
 ghost use Rattle.arc_spec.specs.Number.{is_same};
-ghost use Rattle.arc_lower.specs.Known.{rank, is_within, greater_kind, lesser_kind, least_kind, applied_kind, combined_kind, known_kind};
+ghost use Rattle.arc_lower.specs.KnownKinds.{rank, is_within, greater_kind, lesser_kind, least_kind, unary_kind, binary_kind, known_kind};
 
 use arc_ast::tree::{BinaryOperator, Kind, UnaryOperator};
 use arc_checked::program::Value;
@@ -61,8 +61,8 @@ fn least_kind(number: i64) -> Kind
 }
 
 /// The kind of what an operator before its operand gives, computed as this kind.
-fn applied_kind(operator: UnaryOperator, kind: Kind) -> Kind
-    ensures { result ≡ applied_kind operator kind }
+fn unary_kind(operator: UnaryOperator, kind: Kind) -> Kind
+    ensures { result ≡ unary_kind operator kind }
 {
     match operator {
         UnaryOperator::Not => Kind::Bool,
@@ -71,8 +71,8 @@ fn applied_kind(operator: UnaryOperator, kind: Kind) -> Kind
 }
 
 /// The kind of what an operator between its operands gives, computed as this kind.
-pub(crate) fn combined_kind(operator: BinaryOperator, kind: Kind) -> Kind
-    ensures { result ≡ combined_kind operator kind }
+pub(crate) fn binary_kind(operator: BinaryOperator, kind: Kind) -> Kind
+    ensures { result ≡ binary_kind operator kind }
 {
     match operator {
         BinaryOperator::Divide | BinaryOperator::Remainder | BinaryOperator::ShiftRight => {
@@ -103,20 +103,20 @@ pub(crate) fn known_kind(expression: &Value) -> Kind
     match expression {
         Value::Number(number) => least_kind(*number),
         Value::Print(_, _) => Kind::Int,
-        Value::Applied(operator, kind, _) => applied_kind(*operator, *kind),
-        Value::Combined(operator, kind, _, _) => combined_kind(*operator, *kind),
-        Value::Choice(_, first, second) => greater_kind(known_kind(first), known_kind(second)),
-        Value::Converted(kind, operand) => lesser_kind(known_kind(operand), *kind),
-        Value::Assigned(_, operand) => known_kind(operand),
-        Value::FieldAssigned(_, _, _, operand) => known_kind(operand),
-        Value::Differ(_, _) => Kind::Bool,
+        Value::Unary(operator, kind, _) => unary_kind(*operator, *kind),
+        Value::Binary(operator, kind, _, _) => binary_kind(*operator, *kind),
+        Value::Conditional(_, first, second) => greater_kind(known_kind(first), known_kind(second)),
+        Value::Convert(kind, operand) => lesser_kind(known_kind(operand), *kind),
+        Value::AssignNumber(_, operand) => known_kind(operand),
+        Value::SetField(_, _, _, operand) => known_kind(operand),
+        Value::NotSame(_, _) => Kind::Bool,
         Value::IsObject(_) => Kind::Bool,
         Value::ReadByte => Kind::Long,
         Value::Read(_) => Kind::Long,
-        Value::Updated(_, _, _, _, _, _) => Kind::Long,
-        Value::Invoked(_, _) => Kind::Long,
-        Value::Sent(_, _, _) => Kind::Long,
-        Value::Field(_, _, _) => Kind::Long,
-        Value::FieldUpdated(_, _, _, _, _, _, _, _) => Kind::Long,
+        Value::Update(_, _, _, _, _, _) => Kind::Long,
+        Value::Call(_, _) => Kind::Long,
+        Value::Send(_, _, _) => Kind::Long,
+        Value::GetField(_, _, _) => Kind::Long,
+        Value::UpdateField(_, _, _, _, _, _, _, _) => Kind::Long,
     }
 }

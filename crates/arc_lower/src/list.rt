@@ -3,9 +3,9 @@ ghost use Rattle.std.specs.Prelude.{◌≡◌, ◌+◌, ◌++◌, [], ◌∷◌,
 ghost use Rattle.arc_spec.specs.Classes.{classes_of};
 ghost use Rattle.arc_spec.specs.Meaning.{nothing_giving};
 ghost use Rattle.arc_checked.specs.Checked.{program_of};
-ghost use Rattle.arc_lower.specs.private.Entered.{function_of};
-ghost use Rattle.arc_lower.specs.Order.{orders};
-ghost use Rattle.arc_lower.specs.Lowered.{own_orders, opening_orders, body_orders, entry_of, function_orders, functions_orders, entries_from, start_orders, end_step_of, all_functions, lowered, entries_of, classes_linked};
+ghost use Rattle.arc_lower.specs.private.LoweredFunction.{function_of};
+ghost use Rattle.arc_lower.specs.PlainActions.{plain_actions};
+ghost use Rattle.arc_lower.specs.Lowered.{own_actions, opening_actions, body_actions, entry_of, function_actions, functions_actions, entries_from, start_actions, end_step_of, all_functions, lowered, entries_of, classes_linked};
 ghost use Rattle.arc_lower.specs.Heights.{raised, start_heights, function_heights, functions_heights, lowered_heights};
 
 use crate::call::{append_call, append_leave, function_places, object_parameters, owned_by};
@@ -30,7 +30,7 @@ use std::mem::drop;
 /// The actions that a program becomes, without the room that they need, for callers that list or count them alone. NoMemory: memory
 /// was refused, or a function has more places than can be numbered.
 pub fn list_actions(alloc: Global, program: &Owned) -> Result<Vec<Action>, NoMemory>
-    ensures { IfOk result (λ actions. orders actions.items ≡ lowered (program_of program.now.program.now)) }
+    ensures { IfOk result (λ actions. plain_actions actions.items ≡ lowered (program_of program.now.program.now)) }
 {
     let mut listed = list(alloc, program.program, &mut None)?;
     let actions = mem::replace(&mut listed.actions, Vec::new(alloc));
@@ -54,7 +54,7 @@ pub(crate) fn list(
     program: &Checked,
     most: &mut Option<Height>,
 ) -> Result<Listed, NoMemory>
-    ensures actions { IfOk result (λ listed. orders listed.actions.items ≡ lowered (program_of program.now)) }
+    ensures actions { IfOk result (λ listed. plain_actions listed.actions.items ≡ lowered (program_of program.now)) }
     ensures entries { IfOk result (λ listed. listed.entries.items ≡ entries_of (program_of program.now)) }
     ensures end_step { IfOk result (λ listed. listed.end_step ≡ end_step_of (program_of program.now)) }
     ensures classes { IfOk result (λ listed. classes_of listed.classes.items ≡ classes_linked (program_of program.now)) }
@@ -76,8 +76,8 @@ pub(crate) fn list(
 /// Appends the actions that call `main`, and the one at which the ends of objects go on. Gives the
 /// number of that one.
 fn append_call_of_main(actions: &mut Vec<Action>, program: &Checked) -> Result<usize, NoMemory>
-    ensures actions { OnOk result (orders actions.new.items ≡ orders actions.old.items ++ start_orders (program_of program.now)) }
-    ensures end_step { IfOk result (λ place. place ≡ length (orders actions.old.items) + end_step_of (program_of program.now)) }
+    ensures actions { OnOk result (plain_actions actions.new.items ≡ plain_actions actions.old.items ++ start_actions (program_of program.now)) }
+    ensures end_step { IfOk result (λ place. place ≡ length (plain_actions actions.old.items) + end_step_of (program_of program.now)) }
 {
     append_call(actions, program, Gives::Number, program.main, 0, 0)?;
     append(actions, Instr::Return)?;
@@ -88,15 +88,15 @@ fn append_call_of_main(actions: &mut Vec<Action>, program: &Checked) -> Result<u
 
 /// Appends where the program begins, and raises the greatest height to its. Gives the number of the
 /// action at which the ends of objects go on.
-#[tactic(auto, using(crate::proofs::Rows::slice_after, std::proofs::lemmas::Grind::common_steps))]
+#[tactic(auto, using(crate::proofs::ActionLists::slice_after, std::proofs::lemmas::Grind::common_steps))]
 fn append_start(
     alloc: Global,
     actions: &mut Vec<Action>,
     program: &Checked,
     most: &mut Option<Height>,
 ) -> Result<usize, NoMemory>
-    ensures actions { OnOk result (orders actions.new.items ≡ orders actions.old.items ++ start_orders (program_of program.now)) }
-    ensures end_step { IfOk result (λ place. place ≡ length (orders actions.old.items) + end_step_of (program_of program.now)) }
+    ensures actions { OnOk result (plain_actions actions.new.items ≡ plain_actions actions.old.items ++ start_actions (program_of program.now)) }
+    ensures end_step { IfOk result (λ place. place ≡ length (plain_actions actions.old.items) + end_step_of (program_of program.now)) }
     ensures most { OnOk result (most.new ≡ raised (start_heights (program_of program.now)) most.old) }
 {
     let begin = actions.len();
@@ -108,7 +108,7 @@ fn append_start(
 
 /// Appends the actions of all functions, and where each one is entered. Raises the greatest height
 /// to theirs.
-#[tactic(auto, using(crate::proofs::Rows::raised_append, crate::proofs::Rows::raised_nothing, std::proofs::lemmas::Grind::common_steps))]
+#[tactic(auto, using(crate::proofs::ActionLists::raised_append, crate::proofs::ActionLists::raised_nothing, std::proofs::lemmas::Grind::common_steps))]
 fn append_functions(
     alloc: Global,
     actions: &mut Vec<Action>,
@@ -116,9 +116,9 @@ fn append_functions(
     program: &Checked,
     most: &mut Option<Height>,
 ) -> Result<(), NoMemory>
-    ensures actions { OnOk result (orders actions.new.items ≡ orders actions.old.items ++ functions_orders (program_of program.now) (length (orders actions.old.items)) (all_functions (program_of program.now))) }
-    ensures entries { OnOk result (entries.new.items ≡ entries.old.items ++ entries_from (program_of program.now) (length (orders actions.old.items)) (all_functions (program_of program.now))) }
-    ensures most { OnOk result (most.new ≡ raised (functions_heights (program_of program.now) (length (orders actions.old.items)) (all_functions (program_of program.now))) most.old) }
+    ensures actions { OnOk result (plain_actions actions.new.items ≡ plain_actions actions.old.items ++ functions_actions (program_of program.now) (length (plain_actions actions.old.items)) (all_functions (program_of program.now))) }
+    ensures entries { OnOk result (entries.new.items ≡ entries.old.items ++ entries_from (program_of program.now) (length (plain_actions actions.old.items)) (all_functions (program_of program.now))) }
+    ensures most { OnOk result (most.new ≡ raised (functions_heights (program_of program.now) (length (plain_actions actions.old.items)) (all_functions (program_of program.now))) most.old) }
 {
     for function in &program.functions {
         let function = Definition {
@@ -173,9 +173,9 @@ fn append_function(
     function: Definition<'_>,
     most: &mut Option<Height>,
 ) -> Result<(), NoMemory>
-    ensures actions { OnOk result (orders actions.new.items ≡ orders actions.old.items ++ function_orders (program_of program.now) (length (orders actions.old.items)) (function_of function.entry)) }
-    ensures entries { OnOk result (entries.new.items ≡ entries.old.items ++ entry_of (length (orders actions.old.items)) (function_of function.entry) ∷ []) }
-    ensures most { OnOk result (most.new ≡ raised (function_heights (program_of program.now) (length (orders actions.old.items)) (function_of function.entry)) most.old) }
+    ensures actions { OnOk result (plain_actions actions.new.items ≡ plain_actions actions.old.items ++ function_actions (program_of program.now) (length (plain_actions actions.old.items)) (function_of function.entry)) }
+    ensures entries { OnOk result (entries.new.items ≡ entries.old.items ++ entry_of (length (plain_actions actions.old.items)) (function_of function.entry) ∷ []) }
+    ensures most { OnOk result (most.new ≡ raised (function_heights (program_of program.now) (length (plain_actions actions.old.items)) (function_of function.entry)) most.old) }
 {
     let exit = actions.len();
     let names = function_places(function.names, function.gives)?;
@@ -200,7 +200,7 @@ fn append_function(
 /// Appends what a function begins with: its places of objects, of which the first take `self`, where it owns that, and
 /// what it is given.
 fn append_opening(actions: &mut Vec<Action>, function: Definition<'_>) -> Result<(), NoMemory>
-    ensures { OnOk result (orders actions.new.items ≡ orders actions.old.items ++ opening_orders (function_of function.entry)) }
+    ensures { OnOk result (plain_actions actions.new.items ≡ plain_actions actions.old.items ++ opening_actions (function_of function.entry)) }
 {
     let names = function_places(function.names, function.gives)?;
     append_declares(actions, names)?;
@@ -216,7 +216,7 @@ fn append_opening(actions: &mut Vec<Action>, function: Definition<'_>) -> Result
 
 /// Appends what takes `self`, where it is owned.
 fn append_owned(actions: &mut Vec<Action>, owns: bool, names: usize) -> Result<(), NoMemory>
-    ensures { OnOk result (orders actions.new.items ≡ orders actions.old.items ++ (if owns then own_orders names else [])) }
+    ensures { OnOk result (plain_actions actions.new.items ≡ plain_actions actions.old.items ++ (if owns then own_actions names else [])) }
 {
     if owns {
         append_own(actions, names)
@@ -233,7 +233,7 @@ fn append_body(
     exit: usize,
     function: Definition<'_>,
 ) -> Result<(), NoMemory>
-    ensures { OnOk result (orders actions.new.items ≡ orders actions.old.items ++ body_orders (program_of program.now) exit (length (orders actions.old.items)) (function_of function.entry)) }
+    ensures { OnOk result (plain_actions actions.new.items ≡ plain_actions actions.old.items ++ body_actions (program_of program.now) exit (length (plain_actions actions.old.items)) (function_of function.entry)) }
 {
     let names = function_places(function.names, function.gives)?;
     let body = Body {

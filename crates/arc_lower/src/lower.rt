@@ -1,10 +1,10 @@
 //! From a program to its actions, and the room that they need.
 ghost use Rattle.std.specs.Prelude.{◌≡◌, IfOk};
 ghost use Rattle.arc_code.specs.Effects.{room_for};
-ghost use Rattle.arc_ir.specs.Acting as acting;
+ghost use Rattle.arc_ir.specs.ActionSteps as acting;
 ghost use Rattle.arc_checked.specs.Checked.{program_of};
 ghost use Rattle.arc_lower.specs.Heights.{places_in};
-ghost use Rattle.arc_lower.specs.Promise.{Performs, IsLowered};
+ghost use Rattle.arc_lower.specs.LoweringContract.{Performs, IsLowered};
 
 use crate::height::no_height;
 use crate::list::list;

@@ -4,8 +4,8 @@ ghost use Rattle.std.specs.List.{list_any};
 ghost use Rattle.arc_code.specs.declared.instr.Op.TheVariants.{Forget};
 ghost use Rattle.arc_code.specs.declared.instr.Instr.TheVariants.{Plain, DropAll};
 ghost use Rattle.arc_spec.specs.declared.location.Location.TheVariants.{Local};
-ghost use Rattle.arc_lower.specs.Order.{order, orders};
-ghost use Rattle.arc_lower.specs.Lowered.{declare_orders, forget_orders, nil_orders, take_orders, own_orders, read_orders, store_orders, order_takes, empty_orders, all_empty_orders};
+ghost use Rattle.arc_lower.specs.PlainActions.{plain_action, plain_actions};
+ghost use Rattle.arc_lower.specs.Lowered.{declare_actions, forget_actions, nil_actions, take_actions, own_actions, read_actions, store_actions, action_takes, empty_actions, all_empty_actions};
 
 use crate::expression::append;
 use crate::variable::add_operands;
@@ -16,9 +16,9 @@ use arc_spec::event::NoMemory;
 use arc_spec::location::Location;
 
 /// Appends actions that declare `count` variables that name objects.
-#[tactic(auto, using(crate::proofs::Rows::declares_more, std::proofs::lemmas::Grind::common_steps))]
+#[tactic(auto, using(crate::proofs::ActionLists::declares_more, std::proofs::lemmas::Grind::common_steps))]
 pub(crate) fn append_declares(actions: &mut Vec<Action>, count: usize) -> Result<(), NoMemory>
-    ensures { OnOk result (orders actions.new.items ≡ orders actions.old.items ++ declare_orders count) }
+    ensures { OnOk result (plain_actions actions.new.items ≡ plain_actions actions.old.items ++ declare_actions count) }
 {
     for _variable in 0..count {
         append(actions, Instr::Plain(Op::Declare))?;
@@ -27,9 +27,9 @@ pub(crate) fn append_declares(actions: &mut Vec<Action>, count: usize) -> Result
 }
 
 /// Appends actions that take `count` references.
-#[tactic(auto, using(crate::proofs::Rows::forgets_more, std::proofs::lemmas::Grind::common_steps))]
+#[tactic(auto, using(crate::proofs::ActionLists::forgets_more, std::proofs::lemmas::Grind::common_steps))]
 pub(crate) fn append_forgets(actions: &mut Vec<Action>, count: usize) -> Result<(), NoMemory>
-    ensures { OnOk result (orders actions.new.items ≡ orders actions.old.items ++ forget_orders count) }
+    ensures { OnOk result (plain_actions actions.new.items ≡ plain_actions actions.old.items ++ forget_actions count) }
 {
     for _reference in 0..count {
         append(actions, Instr::Plain(Op::Forget))?;
@@ -38,9 +38,9 @@ pub(crate) fn append_forgets(actions: &mut Vec<Action>, count: usize) -> Result<
 }
 
 /// Appends actions that give `count` references to nil.
-#[tactic(auto, using(crate::proofs::Rows::nils_more, std::proofs::lemmas::Grind::common_steps))]
+#[tactic(auto, using(crate::proofs::ActionLists::nils_more, std::proofs::lemmas::Grind::common_steps))]
 pub(crate) fn append_nils(actions: &mut Vec<Action>, count: usize) -> Result<(), NoMemory>
-    ensures { OnOk result (orders actions.new.items ≡ orders actions.old.items ++ nil_orders count) }
+    ensures { OnOk result (plain_actions actions.new.items ≡ plain_actions actions.old.items ++ nil_actions count) }
 {
     for _reference in 0..count {
         append(actions, Instr::Plain(Op::Nil))?;
@@ -54,7 +54,7 @@ pub(crate) fn append_takes(
     first: usize,
     count: usize,
 ) -> Result<(), NoMemory>
-    ensures { OnOk result (orders actions.new.items ≡ orders actions.old.items ++ take_orders first count) }
+    ensures { OnOk result (plain_actions actions.new.items ≡ plain_actions actions.old.items ++ take_actions first count) }
 {
     for passed in 0..count {
         let variable = add_operands(first, count - 1 - passed)?;
@@ -66,7 +66,7 @@ pub(crate) fn append_takes(
 
 /// Appends the actions by which the first of `names` variables takes `self`.
 pub(crate) fn append_own(actions: &mut Vec<Action>, names: usize) -> Result<(), NoMemory>
-    ensures { OnOk result (orders actions.new.items ≡ orders actions.old.items ++ own_orders names) }
+    ensures { OnOk result (plain_actions actions.new.items ≡ plain_actions actions.old.items ++ own_actions names) }
 {
     if names == 0 {
         return Ok(());
@@ -83,7 +83,7 @@ pub(crate) fn append_read(
     names: usize,
     location: Location,
 ) -> Result<(), NoMemory>
-    ensures { OnOk result (orders actions.new.items ≡ orders actions.old.items ++ read_orders names location) }
+    ensures { OnOk result (plain_actions actions.new.items ≡ plain_actions actions.old.items ++ read_actions names location) }
 {
     match location {
         Location::Global(number) => append(actions, Instr::Plain(Op::ReadGlobal(number))),
@@ -93,7 +93,7 @@ pub(crate) fn append_read(
 
 /// The same of a variable of the function.
 fn append_read_local(actions: &mut Vec<Action>, names: usize, index: usize) -> Result<(), NoMemory>
-    ensures { OnOk result (orders actions.new.items ≡ orders actions.old.items ++ read_orders names (Local index)) }
+    ensures { OnOk result (plain_actions actions.new.items ≡ plain_actions actions.old.items ++ read_actions names (Local index)) }
 {
     if index < names {
         append(actions, Instr::Plain(Op::ReadRef(index)))
@@ -109,7 +109,7 @@ pub(crate) fn append_store(
     names: usize,
     location: Location,
 ) -> Result<(), NoMemory>
-    ensures { OnOk result (orders actions.new.items ≡ orders actions.old.items ++ store_orders names location) }
+    ensures { OnOk result (plain_actions actions.new.items ≡ plain_actions actions.old.items ++ store_actions names location) }
 {
     match location {
         Location::Global(number) => append(actions, Instr::StoreGlobal(number)),
@@ -119,7 +119,7 @@ pub(crate) fn append_store(
 
 /// The same of a variable of the function.
 fn append_store_local(actions: &mut Vec<Action>, names: usize, index: usize) -> Result<(), NoMemory>
-    ensures { OnOk result (orders actions.new.items ≡ orders actions.old.items ++ store_orders names (Local index)) }
+    ensures { OnOk result (plain_actions actions.new.items ≡ plain_actions actions.old.items ++ store_actions names (Local index)) }
 {
     if index < names {
         append(actions, Instr::StoreStrong(index))
@@ -130,7 +130,7 @@ fn append_store_local(actions: &mut Vec<Action>, names: usize, index: usize) -> 
 
 /// Whether an action has a temporary take an object.
 fn takes(action: &Action) -> bool
-    ensures { result ≡ order_takes (order action.now) }
+    ensures { result ≡ action_takes (plain_action action.now) }
 {
     match action {
         Instr::Plain(operation) => operation.effect().temporaries > 0,
@@ -148,7 +148,7 @@ fn takes(action: &Action) -> bool
 
 /// Whether one of these actions has a temporary take an object.
 pub(crate) fn take_some(actions: &[Action]) -> bool
-    ensures { result ≡ list_any order_takes (orders actions.now) }
+    ensures { result ≡ list_any action_takes (plain_actions actions.now) }
 {
     for action in actions {
         if takes(action) {
@@ -160,7 +160,7 @@ pub(crate) fn take_some(actions: &[Action]) -> bool
 
 /// Appends the action that drops the temporaries, where some were taken.
 pub(crate) fn append_drops(actions: &mut Vec<Action>, taken: bool) -> Result<(), NoMemory>
-    ensures { OnOk result (orders actions.new.items ≡ orders actions.old.items ++ (if taken then DropAll ∷ [] else [])) }
+    ensures { OnOk result (plain_actions actions.new.items ≡ plain_actions actions.old.items ++ (if taken then DropAll ∷ [] else [])) }
 {
     if taken {
         append(actions, Instr::DropAll)
@@ -172,7 +172,7 @@ pub(crate) fn append_drops(actions: &mut Vec<Action>, taken: bool) -> Result<(),
 /// Appends the actions by which the last reference isn't used any more, and the temporaries are
 /// dropped, where some were taken.
 pub(crate) fn append_forget(actions: &mut Vec<Action>, taken: bool) -> Result<(), NoMemory>
-    ensures { OnOk result (orders actions.new.items ≡ orders actions.old.items ++ (Plain Forget ∷ [] ++ (if taken then DropAll ∷ [] else []))) }
+    ensures { OnOk result (plain_actions actions.new.items ≡ plain_actions actions.old.items ++ (Plain Forget ∷ [] ++ (if taken then DropAll ∷ [] else []))) }
 {
     append(actions, Instr::Plain(Op::Forget))?;
     append_drops(actions, taken)
@@ -180,7 +180,7 @@ pub(crate) fn append_forget(actions: &mut Vec<Action>, taken: bool) -> Result<()
 
 /// Appends the action that empties a variable, where there is one with this number.
 fn append_empty(actions: &mut Vec<Action>, names: usize, index: usize) -> Result<(), NoMemory>
-    ensures { OnOk result (orders actions.new.items ≡ orders actions.old.items ++ empty_orders names index) }
+    ensures { OnOk result (plain_actions actions.new.items ≡ plain_actions actions.old.items ++ empty_actions names index) }
 {
     if index < names {
         append(actions, Instr::Empty(index))
@@ -196,7 +196,7 @@ pub(crate) fn append_all_empty(
     first: usize,
     count: usize,
 ) -> Result<(), NoMemory>
-    ensures { OnOk result (orders actions.new.items ≡ orders actions.old.items ++ all_empty_orders names first count) }
+    ensures { OnOk result (plain_actions actions.new.items ≡ plain_actions actions.old.items ++ all_empty_actions names first count) }
 {
     for passed in 0..count {
         let index = add_operands(first, count - 1 - passed)?;

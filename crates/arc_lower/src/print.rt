@@ -3,8 +3,8 @@ ghost use Rattle.std.specs.Prelude.{◌≡◌, ◌≤◌, [], ◌∷◌, ◌++�
 ghost use Rattle.arc_checked.specs.Checked as checked;
 ghost use Rattle.arc_code.specs.declared.code.TheConstants.{MOST_TEXT};
 ghost use Rattle.arc_code.specs.declared.instr.Instr.TheVariants.{PrintText};
-ghost use Rattle.arc_lower.specs.Order.{order, orders};
-ghost use Rattle.arc_lower.specs.Lowered.{conversion_orders, text_orders, piece_orders, left_after, format_orders, pop_orders, keep_orders, print_orders};
+ghost use Rattle.arc_lower.specs.PlainActions.{plain_action, plain_actions};
+ghost use Rattle.arc_lower.specs.Lowered.{conversion_actions, text_actions, piece_actions, left_after, format_actions, pop_actions, keep_actions, print_actions};
 
 use crate::expression::append;
 use arc_ast::tree::Kind;
@@ -23,7 +23,7 @@ pub(crate) fn append_print(
     pieces: &[Piece],
     count: usize,
 ) -> Result<(), NoMemory>
-    ensures { OnOk result (orders actions.new.items ≡ orders actions.old.items ++ print_orders (checked.pieces pieces.now) count) }
+    ensures { OnOk result (plain_actions actions.new.items ≡ plain_actions actions.old.items ++ print_actions (checked.pieces pieces.now) count) }
 {
     append(actions, Instr::Plain(Op::Num(0)))?;
     append_pieces(alloc, actions, pieces, count)?;
@@ -38,7 +38,7 @@ fn append_pieces(
     pieces: &[Piece],
     count: usize,
 ) -> Result<(), NoMemory>
-    ensures { OnOk result (orders actions.new.items ≡ orders actions.old.items ++ format_orders (checked.pieces pieces.now) count) }
+    ensures { OnOk result (plain_actions actions.new.items ≡ plain_actions actions.old.items ++ format_actions (checked.pieces pieces.now) count) }
 {
     let mut left = count;
     for piece in pieces {
@@ -55,7 +55,7 @@ fn append_piece(
     piece: &Piece,
     left: usize,
 ) -> Result<usize, NoMemory>
-    ensures appended { OnOk result (orders actions.new.items ≡ orders actions.old.items ++ piece_orders (checked.piece piece.now) left) }
+    ensures appended { OnOk result (plain_actions actions.new.items ≡ plain_actions actions.old.items ++ piece_actions (checked.piece piece.now) left) }
     ensures later { IfOk result (λ now. now ≡ left_after (checked.piece piece.now) left) }
 {
     match piece {
@@ -71,7 +71,7 @@ fn append_piece(
 /// Appends the actions that print a text, one for each `MOST_TEXT` bytes; an empty text is one action that
 /// prints nothing.
 fn append_text(alloc: Global, actions: &mut Vec<Action>, bytes: &[u8]) -> Result<(), NoMemory>
-    ensures { OnOk result (orders actions.new.items ≡ orders actions.old.items ++ text_orders bytes.now) }
+    ensures { OnOk result (plain_actions actions.new.items ≡ plain_actions actions.old.items ++ text_actions bytes.now) }
 {
     let mut rest = bytes;
     while rest.len() > MOST_TEXT {
@@ -85,7 +85,7 @@ fn append_text(alloc: Global, actions: &mut Vec<Action>, bytes: &[u8]) -> Result
 /// Appends the action that prints a part of a text.
 fn append_part(alloc: Global, actions: &mut Vec<Action>, part: &[u8]) -> Result<(), NoMemory>
     requires { length part.now ≤ MOST_TEXT }
-    ensures { OnOk result (orders actions.new.items ≡ orders actions.old.items ++ PrintText part.now ∷ []) }
+    ensures { OnOk result (plain_actions actions.new.items ≡ plain_actions actions.old.items ++ PrintText part.now ∷ []) }
 {
     let bytes = Vec::from_slice(alloc, part)?;
     append(actions, Instr::PrintText(TextPart { bytes }))
@@ -97,7 +97,7 @@ fn append_conversion(
     print: Action,
     left: usize,
 ) -> Result<usize, NoMemory>
-    ensures appended { OnOk result (orders actions.new.items ≡ orders actions.old.items ++ conversion_orders (order print) left) }
+    ensures appended { OnOk result (plain_actions actions.new.items ≡ plain_actions actions.old.items ++ conversion_actions (plain_action print) left) }
     ensures later { IfOk result (λ now. now ≡ pred left) }
 {
     if left == 0 {
@@ -111,7 +111,7 @@ fn append_conversion(
 /// Appends the actions that put the top number in the place of the last of `count` numbers below
 /// it, and take the others.
 pub(crate) fn append_keep(actions: &mut Vec<Action>, count: usize) -> Result<(), NoMemory>
-    ensures { OnOk result (orders actions.new.items ≡ orders actions.old.items ++ keep_orders count) }
+    ensures { OnOk result (plain_actions actions.new.items ≡ plain_actions actions.old.items ++ keep_actions count) }
 {
     if count == 0 {
         return Ok(());
@@ -121,9 +121,9 @@ pub(crate) fn append_keep(actions: &mut Vec<Action>, count: usize) -> Result<(),
 }
 
 /// Appends actions that take `count` numbers.
-#[tactic(auto, using(crate::proofs::Rows::pops_more, std::proofs::lemmas::Grind::common_steps))]
+#[tactic(auto, using(crate::proofs::ActionLists::pops_more, std::proofs::lemmas::Grind::common_steps))]
 pub(crate) fn append_pops(actions: &mut Vec<Action>, count: usize) -> Result<(), NoMemory>
-    ensures { OnOk result (orders actions.new.items ≡ orders actions.old.items ++ pop_orders count) }
+    ensures { OnOk result (plain_actions actions.new.items ≡ plain_actions actions.old.items ++ pop_actions count) }
 {
     for _number in 0..count {
         append(actions, Instr::Plain(Op::Pop))?;

@@ -5,13 +5,13 @@ ghost use Rattle.arc_checked.specs.Checked.{value as value_of, reference as refe
 ghost use Rattle.arc_code.specs.declared.instr.Op.TheVariants.{Pop};
 ghost use Rattle.arc_code.specs.declared.instr.Instr.TheVariants.{Plain, Jump, JumpZero};
 ghost use Rattle.arc_ir.specs.declared.action.Target.TheVariants.{At, Skip};
-ghost use Rattle.arc_lower.specs.Order.{orders};
-ghost use Rattle.arc_lower.specs.Lowered.{whole_orders, whole_reference_orders, begin_orders, answer_orders, scopes_orders, command_orders, commands_orders};
+ghost use Rattle.arc_lower.specs.PlainActions.{plain_actions};
+ghost use Rattle.arc_lower.specs.Lowered.{full_expression_actions, full_object_expression_actions, begin_actions, answer_actions, scopes_actions, command_actions, commands_actions};
 ghost use Rattle.arc_lower.specs.Size.{unused, does_nothing};
-ghost use Rattle.arc_lower.specs.private.Surroundings.{surroundings, begins_first, step_begin, own_step, step_orders, turn_orders_of, with_turn, with_entry};
+ghost use Rattle.arc_lower.specs.private.StatementActions.{surroundings, begins_first, step_begin, own_step, step_actions, turn_actions_of, with_turn, with_entry};
 
 use crate::expression::{append, append_reference, append_unused, append_value};
-use crate::frame::{Body, Frame, Scope, Turn};
+use crate::frame::{Body, Scope, StackShape, Turn};
 use crate::jump::{distance, join, replace};
 use crate::place::{append_all_empty, append_drops, append_forget, append_store, take_some};
 use arc_ast::tree::Moment;
@@ -23,17 +23,17 @@ use arc_spec::location::Location;
 use std::alloc::Global;
 
 /// Appends the actions of a full-expression that gives a number.
-#[tactic(auto, using(crate::proofs::Rows::slice_after, std::proofs::lemmas::Grind::common_steps))]
-fn append_whole(
+#[tactic(auto, using(crate::proofs::ActionLists::slice_after, std::proofs::lemmas::Grind::common_steps))]
+fn append_full_expression(
     alloc: Global,
     actions: &mut Vec<Action>,
     program: &Checked,
     body: Body,
     expression: &Value,
 ) -> Result<(), NoMemory>
-    ensures { OnOk result (orders actions.new.items ≡ orders actions.old.items ++ whole_orders (program_of program.now) body.slots body.names (value_of expression.now)) }
+    ensures { OnOk result (plain_actions actions.new.items ≡ plain_actions actions.old.items ++ full_expression_actions (program_of program.now) body.slots body.names (value_of expression.now)) }
 {
-    let frame = Frame {
+    let frame = StackShape {
         slots: body.slots,
         names: body.names,
         operands: 0,
@@ -45,7 +45,7 @@ fn append_whole(
 }
 
 /// Appends the actions of a full-expression whose number nobody uses, and the one that takes it.
-#[tactic(auto, using(crate::proofs::Rows::slice_after, std::proofs::lemmas::Grind::common_steps))]
+#[tactic(auto, using(crate::proofs::ActionLists::slice_after, std::proofs::lemmas::Grind::common_steps))]
 fn append_evaluated(
     alloc: Global,
     actions: &mut Vec<Action>,
@@ -53,9 +53,9 @@ fn append_evaluated(
     body: Body,
     expression: &Value,
 ) -> Result<(), NoMemory>
-    ensures { OnOk result (orders actions.new.items ≡ orders actions.old.items ++ (whole_orders (program_of program.now) body.slots body.names (unused (value_of expression.now)) ++ Plain Pop ∷ [])) }
+    ensures { OnOk result (plain_actions actions.new.items ≡ plain_actions actions.old.items ++ (full_expression_actions (program_of program.now) body.slots body.names (unused (value_of expression.now)) ++ Plain Pop ∷ [])) }
 {
-    let frame = Frame {
+    let frame = StackShape {
         slots: body.slots,
         names: body.names,
         operands: 0,
@@ -68,17 +68,17 @@ fn append_evaluated(
 }
 
 /// Appends the actions of a full-expression that gives an object or nil.
-#[tactic(auto, using(crate::proofs::Rows::slice_after, std::proofs::lemmas::Grind::common_steps))]
-fn append_whole_reference(
+#[tactic(auto, using(crate::proofs::ActionLists::slice_after, std::proofs::lemmas::Grind::common_steps))]
+fn append_full_object_expression(
     alloc: Global,
     actions: &mut Vec<Action>,
     program: &Checked,
     body: Body,
     expression: &Reference,
 ) -> Result<(), NoMemory>
-    ensures { OnOk result (orders actions.new.items ≡ orders actions.old.items ++ whole_reference_orders (program_of program.now) body.slots body.names (reference_of expression.now)) }
+    ensures { OnOk result (plain_actions actions.new.items ≡ plain_actions actions.old.items ++ full_object_expression_actions (program_of program.now) body.slots body.names (reference_of expression.now)) }
 {
-    let frame = Frame {
+    let frame = StackShape {
         slots: body.slots,
         names: body.names,
         operands: 0,
@@ -90,8 +90,8 @@ fn append_whole_reference(
 }
 
 /// Appends the actions by which a variable begins with an object or nil.
-#[tactic(auto, using(crate::proofs::Rows::slice_after, std::proofs::lemmas::Grind::common_steps))]
-fn append_begin(
+#[tactic(auto, using(crate::proofs::ActionLists::slice_after, std::proofs::lemmas::Grind::common_steps))]
+fn append_init_variable(
     alloc: Global,
     actions: &mut Vec<Action>,
     program: &Checked,
@@ -99,9 +99,9 @@ fn append_begin(
     index: usize,
     expression: &Reference,
 ) -> Result<(), NoMemory>
-    ensures { OnOk result (orders actions.new.items ≡ orders actions.old.items ++ begin_orders (program_of program.now) body.slots body.names index (reference_of expression.now)) }
+    ensures { OnOk result (plain_actions actions.new.items ≡ plain_actions actions.old.items ++ begin_actions (program_of program.now) body.slots body.names index (reference_of expression.now)) }
 {
-    let frame = Frame {
+    let frame = StackShape {
         slots: body.slots,
         names: body.names,
         operands: 0,
@@ -124,7 +124,7 @@ pub(crate) fn append_command(
     scopes: &mut Vec<Scope>,
     statement: &Command,
 ) -> Result<(), NoMemory>
-    ensures actions { OnOk result (orders actions.new.items ≡ orders actions.old.items ++ command_orders (program_of program.now) body.slots body.names (length (orders actions.old.items)) (surroundings body scopes.old.items) (command statement.now)) }
+    ensures actions { OnOk result (plain_actions actions.new.items ≡ plain_actions actions.old.items ++ command_actions (program_of program.now) body.slots body.names (length (plain_actions actions.old.items)) (surroundings body scopes.old.items) (command statement.now)) }
     ensures scopes { OnOk result (scopes.new.items ≡ scopes.old.items) }
 {
     match statement {
@@ -137,15 +137,15 @@ pub(crate) fn append_command(
         }
         Command::Evaluate(value) => append_evaluated(alloc, actions, program, body, value),
         Command::EvaluateReference(reference) => {
-            append_whole_reference(alloc, actions, program, body, reference)
+            append_full_object_expression(alloc, actions, program, body, reference)
         }
-        Command::Begin(index, reference) => {
-            append_begin(alloc, actions, program, body, *index, reference)
+        Command::InitVariable(index, reference) => {
+            append_init_variable(alloc, actions, program, body, *index, reference)
         }
         Command::Return(value) => append_return(alloc, actions, program, body, value),
         Command::Give(object) => append_give(alloc, actions, program, body, object),
-        Command::Choose(test, first, second) => {
-            append_whole(alloc, actions, program, body, test)?;
+        Command::If(test, first, second) => {
+            append_full_expression(alloc, actions, program, body, test)?;
             let branch = actions.len();
             append(actions, Instr::JumpZero(Target::Skip(0)))?;
             append_command(alloc, actions, program, body, scopes, first)?;
@@ -155,7 +155,7 @@ pub(crate) fn append_command(
             append_command(alloc, actions, program, body, scopes, second)?;
             join(actions, branch, skip, other)
         }
-        Command::Repeat(moment, test, step, turn) => {
+        Command::While(moment, test, step, turn) => {
             let enter = actions.len();
             let begin = append_step(alloc, actions, program, body, scopes, *moment, step)?;
             let out = append_test(alloc, actions, program, body, test)?;
@@ -178,7 +178,7 @@ fn append_sequence(
     scope: Scope,
     all: &[Command],
 ) -> Result<(), NoMemory>
-    ensures actions { OnOk result (orders actions.new.items ≡ orders actions.old.items ++ command_orders (program_of program.now) body.slots body.names (length (orders actions.old.items)) (surroundings body scopes.old.items) (Sequence scope.first scope.count (commands all.now))) }
+    ensures actions { OnOk result (plain_actions actions.new.items ≡ plain_actions actions.old.items ++ command_actions (program_of program.now) body.slots body.names (length (plain_actions actions.old.items)) (surroundings body scopes.old.items) (Sequence scope.first scope.count (commands all.now))) }
     ensures scopes { OnOk result (scopes.new.items ≡ scopes.old.items) }
 {
     scopes.push(scope)?;
@@ -195,8 +195,8 @@ fn enter_loop(
     enter: usize,
     out: usize,
 ) -> Result<(), NoMemory>
-    requires { enter < length (orders actions.old.items) }
-    ensures { OnOk result (orders actions.new.items ≡ with_entry moment enter out (orders actions.old.items)) }
+    requires { enter < length (plain_actions actions.old.items) }
+    ensures { OnOk result (plain_actions actions.new.items ≡ with_entry moment enter out (plain_actions actions.old.items)) }
 {
     match moment {
         Moment::Before => Ok(()),
@@ -218,7 +218,7 @@ fn append_own_step(
     scopes: &mut Vec<Scope>,
     step: &Command,
 ) -> Result<(), NoMemory>
-    ensures actions { OnOk result (orders actions.new.items ≡ orders actions.old.items ++ own_step (program_of program.now) body scopes.old.items (length (orders actions.old.items)) (command step.now)) }
+    ensures actions { OnOk result (plain_actions actions.new.items ≡ plain_actions actions.old.items ++ own_step (program_of program.now) body scopes.old.items (length (plain_actions actions.old.items)) (command step.now)) }
     ensures scopes { OnOk result (scopes.new.items ≡ scopes.old.items) }
 {
     if does_nothing(step) {
@@ -239,8 +239,8 @@ fn append_step(
     moment: Moment,
     step: &Command,
 ) -> Result<usize, NoMemory>
-    ensures begin { IfOk result (λ begin. begin ≡ step_begin moment (length (orders actions.old.items)) (command step.now)) }
-    ensures actions { OnOk result (orders actions.new.items ≡ orders actions.old.items ++ step_orders moment (program_of program.now) body scopes.old.items (length (orders actions.old.items)) (command step.now)) }
+    ensures begin { IfOk result (λ begin. begin ≡ step_begin moment (length (plain_actions actions.old.items)) (command step.now)) }
+    ensures actions { OnOk result (plain_actions actions.new.items ≡ plain_actions actions.old.items ++ step_actions moment (program_of program.now) body scopes.old.items (length (plain_actions actions.old.items)) (command step.now)) }
     ensures scopes { OnOk result (scopes.new.items ≡ scopes.old.items) }
 {
     let enter = actions.len();
@@ -266,8 +266,8 @@ fn append_turn(
     turn: Turn,
     statement: &Command,
 ) -> Result<(), NoMemory>
-    requires { turn.out < length (orders actions.old.items) }
-    ensures { OnOk result (orders actions.new.items ≡ with_turn (orders actions.old.items) turn (turn_orders_of (program_of program.now) body turn (length (orders actions.old.items)) (command statement.now))) }
+    requires { turn.out < length (plain_actions actions.old.items) }
+    ensures { OnOk result (plain_actions actions.new.items ≡ with_turn (plain_actions actions.old.items) turn (turn_actions_of (program_of program.now) body turn (length (plain_actions actions.old.items)) (command statement.now))) }
 {
     let inner = Body {
         turn: Some(turn),
@@ -299,7 +299,7 @@ pub(crate) fn append_commands(
     scopes: &mut Vec<Scope>,
     all: &[Command],
 ) -> Result<(), NoMemory>
-    ensures actions { OnOk result (orders actions.new.items ≡ orders actions.old.items ++ commands_orders (program_of program.now) body.slots body.names (length (orders actions.old.items)) (surroundings body scopes.old.items) (commands all.now)) }
+    ensures actions { OnOk result (plain_actions actions.new.items ≡ plain_actions actions.old.items ++ commands_actions (program_of program.now) body.slots body.names (length (plain_actions actions.old.items)) (surroundings body scopes.old.items) (commands all.now)) }
     ensures scopes { OnOk result (scopes.new.items ≡ scopes.old.items) }
 {
     for statement in all {
@@ -317,10 +317,10 @@ fn append_test(
     body: Body,
     test: &Value,
 ) -> Result<usize, NoMemory>
-    ensures out { IfOk result (λ out. out ≡ length (orders actions.old.items) + length (whole_orders (program_of program.now) body.slots body.names (value_of test.now))) }
-    ensures actions { OnOk result (orders actions.new.items ≡ orders actions.old.items ++ (whole_orders (program_of program.now) body.slots body.names (value_of test.now) ++ JumpZero (Skip 0) ∷ [])) }
+    ensures out { IfOk result (λ out. out ≡ length (plain_actions actions.old.items) + length (full_expression_actions (program_of program.now) body.slots body.names (value_of test.now))) }
+    ensures actions { OnOk result (plain_actions actions.new.items ≡ plain_actions actions.old.items ++ (full_expression_actions (program_of program.now) body.slots body.names (value_of test.now) ++ JumpZero (Skip 0) ∷ [])) }
 {
-    append_whole(alloc, actions, program, body, test)?;
+    append_full_expression(alloc, actions, program, body, test)?;
     let out = actions.len();
     append(actions, Instr::JumpZero(Target::Skip(0)))?;
     Ok(out)
@@ -348,7 +348,7 @@ fn begins_first(moment: Moment, step: &Command) -> bool
 
 /// Appends the actions that empty the variables of these scopes, the last one first.
 fn append_clears(actions: &mut Vec<Action>, names: usize, scopes: &[Scope]) -> Result<(), NoMemory>
-    ensures { OnOk result (orders actions.new.items ≡ orders actions.old.items ++ scopes_orders names (reverse scopes.now)) }
+    ensures { OnOk result (plain_actions actions.new.items ≡ plain_actions actions.old.items ++ scopes_actions names (reverse scopes.now)) }
 {
     let Some((scope, outer)) = scopes.split_last() else {
         return Ok(());
@@ -360,7 +360,7 @@ fn append_clears(actions: &mut Vec<Action>, names: usize, scopes: &[Scope]) -> R
 /// Appends the actions of a `break`, which goes to the loop's test with 0; in no loop it leaves the
 /// function.
 fn append_break(actions: &mut Vec<Action>, body: Body, scopes: &[Scope]) -> Result<(), NoMemory>
-    ensures { (P : Program) (here : ℕ) → OnOk result (orders actions.new.items ≡ orders actions.old.items ++ command_orders P body.slots body.names here (surroundings body scopes.now) Break) }
+    ensures { (P : Program) (here : ℕ) → OnOk result (plain_actions actions.new.items ≡ plain_actions actions.old.items ++ command_actions P body.slots body.names here (surroundings body scopes.now) Break) }
 {
     append_clears(actions, body.names, scopes)?;
     append(actions, Instr::Plain(Op::Num(0)))?;
@@ -373,7 +373,7 @@ fn append_break(actions: &mut Vec<Action>, body: Body, scopes: &[Scope]) -> Resu
 /// Appends the actions of a `continue`, which goes to where the loop's next turn begins; in no loop it
 /// leaves the function.
 fn append_continue(actions: &mut Vec<Action>, body: Body, scopes: &[Scope]) -> Result<(), NoMemory>
-    ensures { (P : Program) (here : ℕ) → OnOk result (orders actions.new.items ≡ orders actions.old.items ++ command_orders P body.slots body.names here (surroundings body scopes.now) Continue) }
+    ensures { (P : Program) (here : ℕ) → OnOk result (plain_actions actions.new.items ≡ plain_actions actions.old.items ++ command_actions P body.slots body.names here (surroundings body scopes.now) Continue) }
 {
     append_clears(actions, body.names, scopes)?;
     match body.turn {
@@ -393,11 +393,11 @@ fn append_return(
     body: Body,
     value: &Option<Value>,
 ) -> Result<(), NoMemory>
-    ensures { (scopes : List Scope) → OnOk result (orders actions.new.items ≡ orders actions.old.items ++ command_orders (program_of program.now) body.slots body.names (length (orders actions.old.items)) (surroundings body scopes) (Return (option_map value_of value.now))) }
+    ensures { (scopes : List Scope) → OnOk result (plain_actions actions.new.items ≡ plain_actions actions.old.items ++ command_actions (program_of program.now) body.slots body.names (length (plain_actions actions.old.items)) (surroundings body scopes) (Return (option_map value_of value.now))) }
 {
     match value {
         None => append(actions, Instr::Plain(Op::Num(0)))?,
-        Some(value) => append_whole(alloc, actions, program, body, value)?,
+        Some(value) => append_full_expression(alloc, actions, program, body, value)?,
     }
     append_exit(actions, body)
 }
@@ -410,9 +410,9 @@ fn append_answer(
     body: Body,
     expression: &Reference,
 ) -> Result<(), NoMemory>
-    ensures { OnOk result (orders actions.new.items ≡ orders actions.old.items ++ answer_orders (program_of program.now) body.slots body.names (reference_of expression.now)) }
+    ensures { OnOk result (plain_actions actions.new.items ≡ plain_actions actions.old.items ++ answer_actions (program_of program.now) body.slots body.names (reference_of expression.now)) }
 {
-    append_begin(
+    append_init_variable(
         alloc,
         actions,
         program,
@@ -430,7 +430,7 @@ fn append_give(
     body: Body,
     object: &Reference,
 ) -> Result<(), NoMemory>
-    ensures { (scopes : List Scope) → OnOk result (orders actions.new.items ≡ orders actions.old.items ++ command_orders (program_of program.now) body.slots body.names (length (orders actions.old.items)) (surroundings body scopes) (Give (reference_of object.now))) }
+    ensures { (scopes : List Scope) → OnOk result (plain_actions actions.new.items ≡ plain_actions actions.old.items ++ command_actions (program_of program.now) body.slots body.names (length (plain_actions actions.old.items)) (surroundings body scopes) (Give (reference_of object.now))) }
 {
     append_answer(alloc, actions, program, body, object)?;
     append(actions, Instr::Plain(Op::Num(0)))?;
@@ -439,7 +439,7 @@ fn append_give(
 
 /// Appends the action by which a function is left.
 fn append_exit(actions: &mut Vec<Action>, body: Body) -> Result<(), NoMemory>
-    ensures { OnOk result (orders actions.new.items ≡ orders actions.old.items ++ Jump (At body.exit) ∷ []) }
+    ensures { OnOk result (plain_actions actions.new.items ≡ plain_actions actions.old.items ++ Jump (At body.exit) ∷ []) }
 {
     append(actions, Instr::Jump(Target::At(body.exit)))
 }

@@ -3,9 +3,9 @@ ghost use Rattle.std.specs.Prelude.{◌≡◌, ◌++◌, length, slice_index_or,
 ghost use Rattle.arc_spec.specs.Classes.{class_of, classes_of};
 ghost use Rattle.arc_checked.specs.Checked.{program_of};
 ghost use Rattle.arc_code.specs.Effects.{passes};
-ghost use Rattle.arc_lower.specs.Order.{orders};
+ghost use Rattle.arc_lower.specs.PlainActions.{plain_actions};
 ghost use Rattle.arc_lower.specs.Heights.{raised, stub_heights, methods_heights, dealloc_heights, class_heights, classes_heights};
-ghost use Rattle.arc_lower.specs.Lowered.{stub_orders, methods_orders, dealloc_orders, class_orders, classes_orders, linked_methods, linked_dealloc, linked_class, linked_classes};
+ghost use Rattle.arc_lower.specs.Lowered.{stub_actions, methods_actions, dealloc_actions, class_actions, classes_actions, linked_methods, linked_dealloc, linked_class, linked_classes};
 
 use crate::call::{append_passing, number_of};
 use crate::expression::append;
@@ -52,7 +52,7 @@ pub(crate) fn append_jump_to(
     objects: usize,
     function: usize,
 ) -> Result<(), NoMemory>
-    ensures { OnOk result (orders actions.new.items ≡ orders actions.old.items ++ stub_orders (program_of program.now) entries.now wanted count objects function) }
+    ensures { OnOk result (plain_actions actions.new.items ≡ plain_actions actions.old.items ++ stub_actions (program_of program.now) entries.now wanted count objects function) }
 {
     append_passing(actions, program, wanted, function, count, objects)?;
     let entry = entry_of(entries, number_of(program, wanted, function));
@@ -61,7 +61,7 @@ pub(crate) fn append_jump_to(
 
 /// Appends the stub of a function that is passed `count` numbers and `objects` objects, and raises the
 /// greatest height to its.
-#[tactic(auto, using(crate::proofs::Rows::slice_after, std::proofs::lemmas::Grind::common_steps))]
+#[tactic(auto, using(crate::proofs::ActionLists::slice_after, std::proofs::lemmas::Grind::common_steps))]
 fn append_stub(
     alloc: Global,
     actions: &mut Vec<Action>,
@@ -73,7 +73,7 @@ fn append_stub(
     function: usize,
     most: &mut Option<Height>,
 ) -> Result<(), NoMemory>
-    ensures actions { OnOk result (orders actions.new.items ≡ orders actions.old.items ++ stub_orders (program_of program.now) entries.now wanted count objects function) }
+    ensures actions { OnOk result (plain_actions actions.new.items ≡ plain_actions actions.old.items ++ stub_actions (program_of program.now) entries.now wanted count objects function) }
     ensures most { OnOk result (most.new ≡ raised (stub_heights (program_of program.now) entries.now wanted count objects function) most.old) }
 {
     let begin = actions.len();
@@ -85,7 +85,7 @@ fn append_stub(
 
 /// Appends the stubs of methods, and raises the greatest height to theirs. Gives the methods, each
 /// of which runs its stub.
-#[tactic(auto, using(crate::proofs::Rows::raised_append, crate::proofs::Rows::raised_nothing, std::proofs::lemmas::Grind::common_steps))]
+#[tactic(auto, using(crate::proofs::ActionLists::raised_append, crate::proofs::ActionLists::raised_nothing, std::proofs::lemmas::Grind::common_steps))]
 fn append_methods(
     alloc: Global,
     actions: &mut Vec<Action>,
@@ -94,8 +94,8 @@ fn append_methods(
     methods: &[Method],
     most: &mut Option<Height>,
 ) -> Result<Vec<Method>, NoMemory>
-    ensures actions { OnOk result (orders actions.new.items ≡ orders actions.old.items ++ methods_orders (program_of program.now) entries.now methods.now) }
-    ensures linked { IfOk result (λ linked. linked.items ≡ linked_methods (program_of program.now) entries.now (length (orders actions.old.items)) methods.now) }
+    ensures actions { OnOk result (plain_actions actions.new.items ≡ plain_actions actions.old.items ++ methods_actions (program_of program.now) entries.now methods.now) }
+    ensures linked { IfOk result (λ linked. linked.items ≡ linked_methods (program_of program.now) entries.now (length (plain_actions actions.old.items)) methods.now) }
     ensures most { OnOk result (most.new ≡ raised (methods_heights (program_of program.now) entries.now methods.now) most.old) }
 {
     let mut linked = Vec::new(alloc);
@@ -126,7 +126,7 @@ fn append_methods(
 
 /// Appends the stub of a dealloc, where there is one, and raises the greatest height to its. Gives
 /// its place.
-#[tactic(auto, using(crate::proofs::Rows::raised_nothing))]
+#[tactic(auto, using(crate::proofs::ActionLists::raised_nothing))]
 fn append_dealloc(
     alloc: Global,
     actions: &mut Vec<Action>,
@@ -135,8 +135,8 @@ fn append_dealloc(
     dealloc: Option<usize>,
     most: &mut Option<Height>,
 ) -> Result<Option<usize>, NoMemory>
-    ensures actions { OnOk result (orders actions.new.items ≡ orders actions.old.items ++ dealloc_orders (program_of program.now) entries.now dealloc) }
-    ensures linked { IfOk result (λ linked. linked ≡ linked_dealloc (length (orders actions.old.items)) dealloc) }
+    ensures actions { OnOk result (plain_actions actions.new.items ≡ plain_actions actions.old.items ++ dealloc_actions (program_of program.now) entries.now dealloc) }
+    ensures linked { IfOk result (λ linked. linked ≡ linked_dealloc (length (plain_actions actions.old.items)) dealloc) }
     ensures most { OnOk result (most.new ≡ raised (dealloc_heights (program_of program.now) entries.now dealloc) most.old) }
 {
     let Some(function) = dealloc else {
@@ -158,7 +158,7 @@ fn append_dealloc(
 }
 
 /// Appends the stubs of a class, and raises the greatest height to theirs. Gives the class, whose dealloc and methods run their stubs.
-#[tactic(auto, using(crate::proofs::Rows::raised_append, std::proofs::lemmas::Grind::common_steps))]
+#[tactic(auto, using(crate::proofs::ActionLists::raised_append, std::proofs::lemmas::Grind::common_steps))]
 fn append_class(
     alloc: Global,
     actions: &mut Vec<Action>,
@@ -167,8 +167,8 @@ fn append_class(
     class: &Class,
     most: &mut Option<Height>,
 ) -> Result<Class, NoMemory>
-    ensures actions { OnOk result (orders actions.new.items ≡ orders actions.old.items ++ class_orders (program_of program.now) entries.now (class_of class.now)) }
-    ensures linked { IfOk result (λ linked. class_of linked ≡ linked_class (program_of program.now) entries.now (length (orders actions.old.items)) (class_of class.now)) }
+    ensures actions { OnOk result (plain_actions actions.new.items ≡ plain_actions actions.old.items ++ class_actions (program_of program.now) entries.now (class_of class.now)) }
+    ensures linked { IfOk result (λ linked. class_of linked ≡ linked_class (program_of program.now) entries.now (length (plain_actions actions.old.items)) (class_of class.now)) }
     ensures most { OnOk result (most.new ≡ raised (class_heights (program_of program.now) entries.now (class_of class.now)) most.old) }
 {
     let dealloc = append_dealloc(alloc, actions, program, entries, class.dealloc, most)?;
@@ -183,7 +183,7 @@ fn append_class(
 
 /// Appends the stubs of the program's classes, and raises the greatest height to theirs. Gives the
 /// classes, whose methods and deallocs run their stubs.
-#[tactic(auto, using(crate::proofs::Rows::raised_append, crate::proofs::Rows::raised_nothing, std::proofs::lemmas::Grind::common_steps))]
+#[tactic(auto, using(crate::proofs::ActionLists::raised_append, crate::proofs::ActionLists::raised_nothing, std::proofs::lemmas::Grind::common_steps))]
 pub(crate) fn append_classes(
     alloc: Global,
     actions: &mut Vec<Action>,
@@ -191,8 +191,8 @@ pub(crate) fn append_classes(
     entries: &[usize],
     most: &mut Option<Height>,
 ) -> Result<Vec<Class>, NoMemory>
-    ensures actions { OnOk result (orders actions.new.items ≡ orders actions.old.items ++ classes_orders (program_of program.now) entries.now (program_of program.now).classes) }
-    ensures linked { IfOk result (λ linked. classes_of linked.items ≡ linked_classes (program_of program.now) entries.now (length (orders actions.old.items)) (program_of program.now).classes) }
+    ensures actions { OnOk result (plain_actions actions.new.items ≡ plain_actions actions.old.items ++ classes_actions (program_of program.now) entries.now (program_of program.now).classes) }
+    ensures linked { IfOk result (λ linked. classes_of linked.items ≡ linked_classes (program_of program.now) entries.now (length (plain_actions actions.old.items)) (program_of program.now).classes) }
     ensures most { OnOk result (most.new ≡ raised (classes_heights (program_of program.now) entries.now (program_of program.now).classes) most.old) }
 {
     let mut linked = Vec::new(alloc);

@@ -2,12 +2,12 @@
 ghost use Rattle.std.specs.Prelude.{◌≡◌, ◌++◌, ◌∷◌, OnOk, IfOk};
 ghost use Rattle.arc_code.specs.declared.instr.Op.TheVariants.{Bin};
 ghost use Rattle.arc_code.specs.declared.instr.Instr.TheVariants.{Plain};
-ghost use Rattle.arc_lower.specs.Order.{orders};
-ghost use Rattle.arc_lower.specs.Known.{combined_kind};
-ghost use Rattle.arc_lower.specs.Lowered.{old_orders, given_orders, narrow_orders, below_new};
+ghost use Rattle.arc_lower.specs.PlainActions.{plain_actions};
+ghost use Rattle.arc_lower.specs.KnownKinds.{binary_kind};
+ghost use Rattle.arc_lower.specs.Lowered.{old_actions, given_actions, narrow_actions, below_new};
 
 use crate::expression::append;
-use crate::known::{combined_kind, is_within};
+use crate::known::{binary_kind, is_within};
 use crate::variable::one_more;
 use arc_ast::tree::{BinaryOperator, Kind, Moment};
 use arc_code::instr::{Instr, Op};
@@ -35,7 +35,7 @@ pub(crate) fn below_new(moment: Moment, depth: usize) -> Result<usize, NoMemory>
 
 /// Appends the action that keeps a copy of the old number, where the update gives that.
 pub(crate) fn append_old(actions: &mut Vec<Action>, moment: Moment) -> Result<(), NoMemory>
-    ensures { OnOk result (orders actions.new.items ≡ orders actions.old.items ++ old_orders moment) }
+    ensures { OnOk result (plain_actions actions.new.items ≡ plain_actions actions.old.items ++ old_actions moment) }
 {
     match moment {
         Moment::Before => append(actions, Instr::Plain(Op::Get(0))),
@@ -45,13 +45,13 @@ pub(crate) fn append_old(actions: &mut Vec<Action>, moment: Moment) -> Result<()
 
 /// Appends the actions that make the new number of the old one and the right operand.
 pub(crate) fn append_new(actions: &mut Vec<Action>, update: Update) -> Result<(), NoMemory>
-    ensures { OnOk result (orders actions.new.items ≡ orders actions.old.items ++ (Plain (Bin update.operator update.computed) ∷ narrow_orders (combined_kind update.operator update.computed) update.kept)) }
+    ensures { OnOk result (plain_actions actions.new.items ≡ plain_actions actions.old.items ++ (Plain (Bin update.operator update.computed) ∷ narrow_actions (binary_kind update.operator update.computed) update.kept)) }
 {
     append(
         actions,
         Instr::Plain(Op::Bin(update.operator, update.computed)),
     )?;
-    let known = combined_kind(update.operator, update.computed);
+    let known = binary_kind(update.operator, update.computed);
     append_narrow(actions, known, update.kept)
 }
 
@@ -61,7 +61,7 @@ pub(crate) fn append_narrow(
     known: Kind,
     kind: Kind,
 ) -> Result<(), NoMemory>
-    ensures { OnOk result (orders actions.new.items ≡ orders actions.old.items ++ narrow_orders known kind) }
+    ensures { OnOk result (plain_actions actions.new.items ≡ plain_actions actions.old.items ++ narrow_actions known kind) }
 {
     if is_within(known, kind) {
         Ok(())
@@ -72,7 +72,7 @@ pub(crate) fn append_narrow(
 
 /// Appends the action that leaves the old number alone, where the update gives that.
 pub(crate) fn append_given(actions: &mut Vec<Action>, moment: Moment) -> Result<(), NoMemory>
-    ensures { OnOk result (orders actions.new.items ≡ orders actions.old.items ++ given_orders moment) }
+    ensures { OnOk result (plain_actions actions.new.items ≡ plain_actions actions.old.items ++ given_actions moment) }
 {
     match moment {
         Moment::Before => append(actions, Instr::Plain(Op::Pop)),

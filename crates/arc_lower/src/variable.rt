@@ -1,8 +1,8 @@
 //! Actions for variables. Those of a function lie on the stack below the operands.
 ghost use Rattle.std.specs.Prelude.{◌≡◌, ◌++◌, ◌+◌, suc, OnOk, IfOk};
 ghost use Rattle.arc_spec.specs.declared.location.Location.TheVariants.{Local};
-ghost use Rattle.arc_lower.specs.Order.{orders};
-ghost use Rattle.arc_lower.specs.Lowered.{get_orders, set_orders, zero_orders};
+ghost use Rattle.arc_lower.specs.PlainActions.{plain_actions};
+ghost use Rattle.arc_lower.specs.Lowered.{get_actions, set_actions, zero_actions};
 
 use crate::expression::append;
 use arc_code::instr::{Instr, Op};
@@ -35,7 +35,7 @@ pub(crate) fn append_get(
     depth: usize,
     location: Location,
 ) -> Result<(), NoMemory>
-    ensures { OnOk result (orders actions.new.items ≡ orders actions.old.items ++ get_orders slots depth location) }
+    ensures { OnOk result (plain_actions actions.new.items ≡ plain_actions actions.old.items ++ get_actions slots depth location) }
 {
     match location {
         Location::Global(number) => append(actions, Instr::Plain(Op::GetGlobal(number))),
@@ -51,7 +51,7 @@ fn append_get_local(
     depth: usize,
     index: usize,
 ) -> Result<(), NoMemory>
-    ensures { OnOk result (orders actions.new.items ≡ orders actions.old.items ++ get_orders slots depth (Local index)) }
+    ensures { OnOk result (plain_actions actions.new.items ≡ plain_actions actions.old.items ++ get_actions slots depth (Local index)) }
 {
     if index < slots {
         let below = add_operands(depth, slots - 1 - index)?;
@@ -70,7 +70,7 @@ pub(crate) fn append_set(
     depth: usize,
     location: Location,
 ) -> Result<(), NoMemory>
-    ensures { OnOk result (orders actions.new.items ≡ orders actions.old.items ++ set_orders slots depth location) }
+    ensures { OnOk result (plain_actions actions.new.items ≡ plain_actions actions.old.items ++ set_actions slots depth location) }
 {
     match location {
         Location::Global(number) => {
@@ -89,7 +89,7 @@ fn append_set_local(
     depth: usize,
     index: usize,
 ) -> Result<(), NoMemory>
-    ensures { OnOk result (orders actions.new.items ≡ orders actions.old.items ++ set_orders slots depth (Local index)) }
+    ensures { OnOk result (plain_actions actions.new.items ≡ plain_actions actions.old.items ++ set_actions slots depth (Local index)) }
 {
     if index < slots {
         let operands = one_more(depth)?;
@@ -102,9 +102,9 @@ fn append_set_local(
 }
 
 /// Appends actions that put 0 on the stack `count` times.
-#[tactic(auto, using(crate::proofs::Rows::zeros_more, std::proofs::lemmas::Grind::common_steps))]
+#[tactic(auto, using(crate::proofs::ActionLists::zeros_more, std::proofs::lemmas::Grind::common_steps))]
 pub(crate) fn append_zeros(actions: &mut Vec<Action>, count: usize) -> Result<(), NoMemory>
-    ensures { OnOk result (orders actions.new.items ≡ orders actions.old.items ++ zero_orders count) }
+    ensures { OnOk result (plain_actions actions.new.items ≡ plain_actions actions.old.items ++ zero_actions count) }
 {
     for _number in 0..count {
         append(actions, Instr::Plain(Op::Num(0)))?;

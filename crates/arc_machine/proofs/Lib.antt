@@ -1,3 +1,3 @@
-pub mod Passed
-pub mod Preparing
-pub mod Starting
+pub mod NoDeallocClassSteps
+pub mod EngineStaysPrepared
+pub mod StartRepresented

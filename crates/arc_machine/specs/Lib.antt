@@ -1,5 +1,5 @@
-pub mod Beginning
+pub mod TurnBeginning
 pub mod FaultNames
-pub mod Passing
-pub mod Prepared
-pub mod Said
+pub mod ClassesWithoutDealloc
+pub mod PreparedEngine
+pub mod RunAnswer

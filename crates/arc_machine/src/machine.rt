@@ -1,10 +1,10 @@
 //! A machine, which runs code.
 ghost use Rattle.std.specs.Prelude.{◌≡◌, ◌≢◌, ◌+◌, ◌-◌, ◌^◌, ◌<◌, ◌⊎◌, true, IfOk};
 ghost use Rattle.arc_code.specs.Attempts.{HasFailedToRead, HasFailedToWrite};
-ghost use Rattle.arc_code.specs.Counting.{failures_of, inner_of, left_in, held_by};
-ghost use Rattle.arc_code.specs.Running.{IsSound, program_of};
+ghost use Rattle.arc_code.specs.CountedDevices.{failures_of, inner_of, left_in, held_by};
+ghost use Rattle.arc_code.specs.CodeSteps.{IsSound, program_of};
 ghost use Rattle.arc_steps.specs.Views.{fresh};
-ghost use Rattle.arc_machine.specs.Said.{said};
+ghost use Rattle.arc_machine.specs.RunAnswer.{said};
 ghost use Rattle.arc_turns.specs.Runs.{Runs, Troubled, Lacks, is_stopped};
 
 use crate::engine::Engine;
@@ -103,7 +103,7 @@ impl<S: Store + Drop> Machine<S> {
         while turns < steps && self.engine.is_going() && self.engine.steps() < u64::MAX {
             let most = (steps - turns).min(u64::MAX - self.engine.steps());
             // The last step reports its events, and so is made singly.
-            turns += self.engine.slide(most - 1);
+            turns += self.engine.run_silently(most - 1);
             let _ = self.engine.advance(reader, writer);
             turns += 1;
         }

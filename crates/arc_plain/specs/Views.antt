@@ -9,11 +9,11 @@ use Rattle.arc_spec.specs.World.{World, Outcome, Done, Faulted, Cut, then_do, Fi
 use Rattle.arc_ast.specs.declared.tree.Kind.TheVariants as k
 use Rattle.arc_spec.specs.Number.{converted, is_zero}
 use Rattle.arc_spec.specs.Meaning as meaning
-use Rattle.arc_spec.specs.Meaning.{formatted, byte_count, Deeper, chosen, level, in_object, field_stores, ToClass, ToObject, ToSuper}
+use Rattle.arc_spec.specs.Meaning.{formatted, byte_count, Callees, chosen, level, in_object, field_stores, ToClass, ToObject, ToSuper}
 use Rattle.arc_checked.specs.declared.program.CheckedFunction.{CheckedFunction}
 use Rattle.arc_checked.specs.Checked.{program_of, commands}
 use Rattle.arc_plain.specs.declared.context.Context.{Context}
-use Rattle.arc_plain.specs.declared.frame.Frame.{Frame}
+use Rattle.arc_plain.specs.declared.frame.Activation.{Activation}
 use Rattle.arc_plain.specs.declared.given.Given.{Given}
 use Rattle.arc_plain.specs.declared.given.Answered.{Answered}
 use Rattle.arc_plain.specs.declared.message.Target.{Target}
@@ -22,7 +22,7 @@ use Rattle.arc_spec.specs.declared.event.Fault.TheVariants.{Resurrected}
 use Rattle.arc_plain.specs.declared.object.Object.{Object}
 use Rattle.arc_plain.specs.declared.object.Phase.{Phase}
 use Rattle.arc_plain.specs.declared.object.Phase.TheVariants.{Live, Dying, Emptying, Gone}
-use Rattle.arc_spec.specs.Correct.{meaning_seen, Sight, Stop, Ends, Faults}
+use Rattle.arc_spec.specs.Correctness.{meaning_seen, Observation, Stop, Ends, Faults}
 use Rattle.arc_plain.specs.declared.progress.Progress.{Progress}
 use Rattle.arc_plain.specs.declared.halt.Halt.{Halt}
 use Rattle.arc_plain.specs.declared.halt.Halt.TheVariants as halt
@@ -45,7 +45,7 @@ abbrev pub object_of : Object → objects.Object
 object_of o = record { class = o.class; fields = o.fields.items; strong = o.strong.items; phase = phase_of o.phase }
 
 -- the running function, whose last temporary lies at the end
-abbrev pub frame_of : Frame → worlds.Frame
+abbrev pub frame_of : Activation → worlds.Activation
 frame_of f = record { self = f.itself; locals = f.locals.items; strong = f.strong.items; temporaries = reverse f.temporaries.items }
 
 -- what is left to read, the events so far, what is kept from the start to the end, what the whole program's variables name that name objects, the objects, the running
@@ -62,7 +62,7 @@ world progress = record {
 }
 
 -- the world in which this function runs again, and these places wait
-abbrev pub left_at : worlds.Frame → (waiting : List ℕ) → World → World
+abbrev pub left_at : worlds.Activation → (waiting : List ℕ) → World → World
 left_at frame waiting w = record w { frame = frame; waiting = reverse waiting }
 
 -- the objects, of which the one with this number is changed, where there is one
@@ -87,7 +87,7 @@ cleared o index (Some ob) w = field_stores o ob index 0 w
 abbrev pub field_replaced : (r index value : ℕ) → World → objects.Object → Outcome ℕ
 field_replaced r index value w o = if is_emptying o.phase then Faulted Resurrected w else Done (name_at o.strong index) (field_stores r o index value w)
 
-abbrev pub object_field_replaced : Deeper → (r class index value : ℕ) → World → Outcome ℕ
+abbrev pub object_field_replaced : Callees → (r class index value : ℕ) → World → Outcome ℕ
 object_field_replaced D r class index value w = in_object D class (object_at w.objects r) (field_replaced r index value w) w
 
 -- arguments without where they lie in memory
@@ -103,10 +103,10 @@ abbrev pub FollowsLast : List ℕ → (second : ℕ) → (others : List ℕ) →
 FollowsLast places second others = (last : ℕ) × ((rest : List ℕ) × ((places ≡ last ∷ second ∷ rest) × (others ≡ last ∷ rest)))
 
 -- a call and a message, with what is evaluated for them
-abbrev pub invoked : Deeper → (wanted : Gives) → (f : ℕ) → Arguments → World → Outcome worlds.Answer
+abbrev pub invoked : Callees → (wanted : Gives) → (f : ℕ) → Arguments → World → Outcome worlds.Answer
 invoked D wanted f arguments w = then_do (meaning.all_evaluated D arguments w) (λ given w1. D.call wanted f 0 given w1)
 
-abbrev pub sent_to : Deeper → (wanted : Gives) → Receiver → (selector : ℕ) → Arguments → World → Outcome worlds.Answer
+abbrev pub sent_to : Callees → (wanted : Gives) → Receiver → (selector : ℕ) → Arguments → World → Outcome worlds.Answer
 sent_to D wanted receiver selector arguments w =
     then_do (meaning.received D receiver w) (λ target w1. then_do (meaning.all_evaluated D arguments w1) (λ given w2. meaning.sent D wanted target selector given w2))
 
@@ -122,7 +122,7 @@ function_of f =
     record { slots = f.slots; names = f.names; parameters = f.parameters; gives = f.gives; owns = f.owns; body = commands f.body.items }
 
 -- what a call or an end of an object does in this context
-abbrev pub deeper : Context → Deeper
+abbrev pub deeper : Context → Callees
 deeper context = level (program_of context.program.now) context.bound context.levels
 
 -- how a statement was left
@@ -180,7 +180,7 @@ stop_of (Fault fault) = Some (Faults fault)
 stop_of stops.Cut = None
 
 -- what an answer shows
-abbrev pub seen : Answer → Sight
+abbrev pub seen : Answer → Observation
 seen answer = record { trace = answer.trace.items; stop = stop_of answer.stop }
 
 -- the value of main, as an int

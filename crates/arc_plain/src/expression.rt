@@ -1,7 +1,7 @@
 //! What expressions give.
 ghost use Rattle.arc_checked.specs.Checked as checked;
 ghost use Rattle.arc_spec.specs.Resolved as resolved;
-ghost use Rattle.arc_spec.specs.Meaning.{evaluated, referred, all_evaluated, whole};
+ghost use Rattle.arc_spec.specs.Meaning.{evaluated, referred, all_evaluated, full_expression};
 ghost use Rattle.arc_plain.specs.Views.{world, given_of, answer_of, invoked, Reports, printed, deeper};
 
 use crate::call::{call, drop_temporaries, release};
@@ -39,31 +39,31 @@ pub fn evaluate(
         Value::Print(pieces, arguments) => {
             evaluate_print(alloc, context, progress, pieces, arguments)
         }
-        Value::Applied(operator, kind, operand) => {
+        Value::Unary(operator, kind, operand) => {
             let number = evaluate(alloc, context, progress, operand)?;
             Ok(apply(*operator, *kind, number))
         }
-        Value::Combined(operator, kind, left, right) => {
+        Value::Binary(operator, kind, left, right) => {
             evaluate_both(alloc, context, progress, *operator, *kind, left, right)
         }
-        Value::Choice(test, first, second) => {
+        Value::Conditional(test, first, second) => {
             if evaluate(alloc, context, progress, test)? == 0 {
                 evaluate(alloc, context, progress, second)
             } else {
                 evaluate(alloc, context, progress, first)
             }
         }
-        Value::Converted(kind, operand) => {
+        Value::Convert(kind, operand) => {
             let number = evaluate(alloc, context, progress, operand)?;
             Ok(convert(*kind, number))
         }
         Value::Read(location) => Ok(held(progress, *location)),
-        Value::Assigned(location, operand) => {
+        Value::AssignNumber(location, operand) => {
             let number = evaluate(alloc, context, progress, operand)?;
             assign(progress, *location, number);
             Ok(number)
         }
-        Value::Updated(moment, location, operator, computed, kept, operand) => {
+        Value::Update(moment, location, operator, computed, kept, operand) => {
             let update = Update {
                 moment: *moment,
                 operator: *operator,
@@ -72,26 +72,26 @@ pub fn evaluate(
             };
             update_variable(alloc, context, progress, *location, update, operand)
         }
-        Value::Invoked(function, arguments) => {
+        Value::Call(function, arguments) => {
             let wanted = Gives::Number;
             let answered = invoke(alloc, context, progress, wanted, *function, arguments)?;
             Ok(answered.number)
         }
-        Value::Sent(receiver, selector, arguments) => {
+        Value::Send(receiver, selector, arguments) => {
             let wanted = Gives::Number;
             let answered = send(
                 alloc, context, progress, wanted, receiver, *selector, arguments,
             )?;
             Ok(answered.number)
         }
-        Value::Field(object, class, index) => {
+        Value::GetField(object, class, index) => {
             let number = refer(alloc, context, progress, object)?;
             read_field(context, progress, number, *class, *index)
         }
-        Value::FieldAssigned(object, class, index, operand) => {
+        Value::SetField(object, class, index, operand) => {
             assign_field(alloc, context, progress, object, *class, *index, operand)
         }
-        Value::FieldUpdated(moment, object, class, index, operator, computed, kept, operand) => {
+        Value::UpdateField(moment, object, class, index, operator, computed, kept, operand) => {
             let update = Update {
                 moment: *moment,
                 operator: *operator,
@@ -102,7 +102,7 @@ pub fn evaluate(
                 alloc, context, progress, object, *class, *index, update, operand,
             )
         }
-        Value::Differ(left, right) => compare(alloc, context, progress, left, right),
+        Value::NotSame(left, right) => compare(alloc, context, progress, left, right),
         Value::IsObject(operand) => {
             let number = refer(alloc, context, progress, operand)?;
             Ok(difference(number, 0))
@@ -118,7 +118,7 @@ pub fn evaluate_whole(
     progress: &mut Progress,
     value: &Value,
 ) -> Result<i64, Halt>
-    ensures { Reports (λ n. n) result (whole (deeper context.now) (checked.value value.now) (world progress.old)) (world progress.new) }
+    ensures { Reports (λ n. n) result (full_expression (deeper context.now) (checked.value value.now) (world progress.old)) (world progress.new) }
 {
     let number = evaluate(alloc, context, progress, value)?;
     drop_temporaries(alloc, context, progress)?;
@@ -165,7 +165,7 @@ fn evaluate_both(
     left: &Value,
     right: &Value,
 ) -> Result<i64, Halt>
-    ensures { Reports (λ n. n) result (evaluated (deeper context.now) (resolved.Combined operator kind (checked.value left.now) (checked.value right.now)) (world progress.old)) (world progress.new) }
+    ensures { Reports (λ n. n) result (evaluated (deeper context.now) (resolved.Binary operator kind (checked.value left.now) (checked.value right.now)) (world progress.old)) (world progress.new) }
 {
     let first = evaluate(alloc, context, progress, left)?;
     let second = evaluate(alloc, context, progress, right)?;
@@ -185,7 +185,7 @@ fn update_variable(
     update: Update,
     operand: &Value,
 ) -> Result<i64, Halt>
-    ensures { Reports (λ n. n) result (evaluated (deeper context.now) (resolved.Updated update.moment location update.operator update.computed update.kept (checked.value operand.now)) (world progress.old)) (world progress.new) }
+    ensures { Reports (λ n. n) result (evaluated (deeper context.now) (resolved.Update update.moment location update.operator update.computed update.kept (checked.value operand.now)) (world progress.old)) (world progress.new) }
 {
     let old = held(progress, location);
     let right = evaluate(alloc, context, progress, operand)?;
@@ -221,7 +221,7 @@ fn assign_field(
     index: usize,
     operand: &Value,
 ) -> Result<i64, Halt>
-    ensures { Reports (λ n. n) result (evaluated (deeper context.now) (resolved.FieldAssigned (checked.reference object.now) class index (checked.value operand.now)) (world progress.old)) (world progress.new) }
+    ensures { Reports (λ n. n) result (evaluated (deeper context.now) (resolved.SetField (checked.reference object.now) class index (checked.value operand.now)) (world progress.old)) (world progress.new) }
 {
     let number = refer(alloc, context, progress, object)?;
     let assigned = evaluate(alloc, context, progress, operand)?;
@@ -241,7 +241,7 @@ fn update_field(
     update: Update,
     operand: &Value,
 ) -> Result<i64, Halt>
-    ensures { Reports (λ n. n) result (evaluated (deeper context.now) (resolved.FieldUpdated update.moment (checked.reference object.now) class index update.operator update.computed update.kept (checked.value operand.now)) (world progress.old)) (world progress.new) }
+    ensures { Reports (λ n. n) result (evaluated (deeper context.now) (resolved.UpdateField update.moment (checked.reference object.now) class index update.operator update.computed update.kept (checked.value operand.now)) (world progress.old)) (world progress.new) }
 {
     let number = refer(alloc, context, progress, object)?;
     let old = read_field(context, progress, number, class, index)?;
@@ -260,7 +260,7 @@ fn compare(
     left: &Reference,
     right: &Reference,
 ) -> Result<i64, Halt>
-    ensures { Reports (λ n. n) result (evaluated (deeper context.now) (resolved.Differ (checked.reference left.now) (checked.reference right.now)) (world progress.old)) (world progress.new) }
+    ensures { Reports (λ n. n) result (evaluated (deeper context.now) (resolved.NotSame (checked.reference left.now) (checked.reference right.now)) (world progress.old)) (world progress.new) }
 {
     let first = refer(alloc, context, progress, left)?;
     let second = refer(alloc, context, progress, right)?;
@@ -287,27 +287,27 @@ pub fn refer(
             let object = name(progress, *location);
             take(progress, object)
         }
-        Reference::Chosen(test, first, second) => {
+        Reference::ObjectConditional(test, first, second) => {
             if evaluate(alloc, context, progress, test)? == 0 {
                 refer(alloc, context, progress, second)
             } else {
                 refer(alloc, context, progress, first)
             }
         }
-        Reference::Stored(location, operand) => {
+        Reference::AssignObject(location, operand) => {
             let object = refer(alloc, context, progress, operand)?;
             let replaced = store(progress, *location, object);
             release(alloc, context, progress, replaced)?;
             take(progress, object)
         }
-        Reference::ObjectField(object, class, index) => {
+        Reference::GetObjectField(object, class, index) => {
             let number = refer(alloc, context, progress, object)?;
             read_object_field(context, progress, number, *class, *index)
         }
-        Reference::ObjectFieldStored(object, class, index, operand) => {
+        Reference::SetObjectField(object, class, index, operand) => {
             store_field(alloc, context, progress, object, *class, *index, operand)
         }
-        Reference::Made(operand) => {
+        Reference::Alloc(operand) => {
             let number = evaluate(alloc, context, progress, operand)?;
             make(alloc, context, progress, class_at(number))
         }
@@ -315,12 +315,12 @@ pub fn refer(
             let class = evaluate(alloc, context, progress, operand)?;
             send_new(alloc, context, progress, *from, class)
         }
-        Reference::ObjectInvoked(function, arguments) => {
+        Reference::ObjectCall(function, arguments) => {
             let wanted = Gives::Object;
             let answered = invoke(alloc, context, progress, wanted, *function, arguments)?;
             take(progress, answered.object)
         }
-        Reference::ObjectSent(receiver, selector, arguments) => {
+        Reference::ObjectSend(receiver, selector, arguments) => {
             let wanted = Gives::Object;
             let answered = send(
                 alloc, context, progress, wanted, receiver, *selector, arguments,
@@ -342,7 +342,7 @@ fn store_field(
     index: usize,
     operand: &Reference,
 ) -> Result<usize, Halt>
-    ensures { Reports (λ n. n) result (referred (deeper context.now) (resolved.ObjectFieldStored (checked.reference object.now) class index (checked.reference operand.now)) (world progress.old)) (world progress.new) }
+    ensures { Reports (λ n. n) result (referred (deeper context.now) (resolved.SetObjectField (checked.reference object.now) class index (checked.reference operand.now)) (world progress.old)) (world progress.new) }
 {
     let number = refer(alloc, context, progress, object)?;
     let named = refer(alloc, context, progress, operand)?;

@@ -14,7 +14,7 @@ use std::alloc::Global;
 /// of which the parameters are the first, and the temporaries of its full-expression, the last one at the end. An
 /// object goes by its number, and 0 is nil.
 #[derive(Drop)]
-pub struct Frame {
+pub struct Activation {
     pub itself: usize,
     pub locals: Vec<i64>,
     pub strong: Vec<usize>,
@@ -22,10 +22,10 @@ pub struct Frame {
 }
 
 /// What runs before `main`: nothing.
-pub fn nothing_runs(alloc: Global) -> Frame
+pub fn nothing_runs(alloc: Global) -> Activation
     ensures { frame_of result ≡ first_frame }
 {
-    Frame {
+    Activation {
         itself: 0,
         locals: Vec::new(alloc),
         strong: Vec::new(alloc),
@@ -67,11 +67,11 @@ pub fn begin(
     function: &CheckedFunction,
     itself: usize,
     given: &Given,
-) -> Result<Frame, NoMemory>
+) -> Result<Activation, NoMemory>
     ensures { IfOk result (λ frame. frame_of frame ≡ record { self = itself; locals = padded (pos 0) function.now.slots (given_of given.now).numbers; strong = padded 0 (function_places (function_of function.now)) (and_self function.now.owns itself (take function.now.parameters (given_of given.now).objects)); temporaries = [] }) }
 {
     let named = first_named(alloc, function, itself, given)?;
-    Ok(Frame {
+    Ok(Activation {
         itself,
         locals: begin_locals(alloc, function.slots, &given.numbers)?,
         strong: begin_names(alloc, function_places(function)?, &named)?,

@@ -4,7 +4,7 @@ ghost use Rattle.arc_checked.specs.Checked.{program_of};
 ghost use Rattle.arc_spec.specs.Meaning.{mean};
 ghost use Rattle.arc_spec.specs.World.{nothing_given};
 ghost use Rattle.arc_spec.specs.declared.class.Gives.TheVariants.{Number};
-ghost use Rattle.arc_spec.specs.Correct.{meaning_seen};
+ghost use Rattle.arc_spec.specs.Correctness.{meaning_seen};
 ghost use Rattle.arc_plain.specs.Views.{Stops, as_int, deeper, seen, world};
 
 use crate::call::call;

@@ -2,7 +2,7 @@
 ghost use Rattle.std.specs.Prelude.{◌≡◌, ℕ, suc, map, IfOk, MatchOption, None, Some, OnOk, slice_set};
 ghost use Rattle.arc_spec.specs.Classes.{superclasses, ancestry_within};
 ghost use Rattle.arc_checked.specs.Checked.{program_of};
-ghost use Rattle.arc_spec.specs.Meaning.{Deeper, turned, made, field_read, field_set, object_field_read, dying, gone, class_in, dealloc_run, deallocs_run};
+ghost use Rattle.arc_spec.specs.Meaning.{Callees, turned, made, field_read, field_set, object_field_read, dying, gone, class_in, dealloc_run, deallocs_run};
 ghost use Rattle.arc_spec.specs.Objects.{Emptying, object_at, is_live, is_emptying, new_object, in_phase, with_fields, with_strong_fields};
 ghost use Rattle.arc_spec.specs.World.{World, Done, then_do, finished};
 ghost use Rattle.arc_plain.specs.Views.{world, deeper, Reports, nothing_of, object_of, phase_of, changed, object_field_replaced, named_in, cleared};
@@ -287,7 +287,7 @@ pub fn dealloc_from(
     context: &Context,
     class: Option<usize>,
 ) -> Option<(Option<usize>, Option<usize>)>
-    ensures { let P = program_of context.now.program.now in MatchOption result ((D : Deeper) (bound n o : ℕ) (w : World) → deallocs_run P D bound (ancestry_within n (superclasses P.classes) class) o w ≡ Done finished w) (λ layer. (D : Deeper) (bound n o : ℕ) (w : World) → deallocs_run P D bound (ancestry_within (suc n) (superclasses P.classes) class) o w ≡ then_do (dealloc_run P D bound layer.0 o w) (λ _ after. deallocs_run P D bound (ancestry_within n (superclasses P.classes) layer.1) o after)) }
+    ensures { let P = program_of context.now.program.now in MatchOption result ((D : Callees) (bound n o : ℕ) (w : World) → deallocs_run P D bound (ancestry_within n (superclasses P.classes) class) o w ≡ Done finished w) (λ layer. (D : Callees) (bound n o : ℕ) (w : World) → deallocs_run P D bound (ancestry_within (suc n) (superclasses P.classes) class) o w ≡ then_do (dealloc_run P D bound layer.0 o w) (λ _ after. deallocs_run P D bound (ancestry_within n (superclasses P.classes) layer.1) o after)) }
 {
     let Some(number) = class else {
         return None;

@@ -8,7 +8,7 @@ ghost use Rattle.arc_spec.specs.declared.location.Location.TheVariants.{Local};
 ghost use Rattle.arc_spec.specs.World.{Done, places, takes, name_at, named_at, stores, with_temporaries, entered};
 ghost use Rattle.arc_plain.specs.Views.{FollowsLast, function_of, world, frame_of, given_of, object_of, Reports, left_at};
 
-use crate::frame::{Frame, begin};
+use crate::frame::{Activation, begin};
 use crate::given::Given;
 use crate::halt::Halt;
 use crate::object::{Object, Phase};
@@ -102,7 +102,7 @@ pub fn clear(progress: &mut Progress, first: usize, offset: usize) -> usize
 }
 
 /// Whether a strong place names the object.
-#[tactic(auto, using(crate::proofs::Objects::names_places))]
+#[tactic(auto, using(crate::proofs::ObjectsReported::names_places))]
 pub fn is_named(progress: &Progress, object: usize) -> bool
     ensures { result ≡ names object (places (world progress.now)) }
 {
@@ -163,7 +163,7 @@ pub fn push_frame(
     function: &CheckedFunction,
     itself: usize,
     given: &Given,
-) -> Result<Frame, NoMemory>
+) -> Result<Activation, NoMemory>
     ensures world { OnOk result (world progress.new ≡ entered function.now.slots (function_places (function_of function.now)) function.now.parameters function.now.owns itself (given_of given.now) (world progress.old)) }
     ensures kept { IfOk result (λ frame. frame_of frame ≡ (world progress.old).frame) }
     ensures below { OnOk result (take (length progress.old.waiting.items) progress.new.waiting.items ≡ progress.old.waiting.items) }
@@ -174,7 +174,7 @@ pub fn push_frame(
 }
 
 /// The strong places of a function wait, as the newest ones.
-fn wait(alloc: Global, frame: &Frame, waiting: &mut Vec<usize>) -> Result<(), NoMemory>
+fn wait(alloc: Global, frame: &Activation, waiting: &mut Vec<usize>) -> Result<(), NoMemory>
     ensures { OnOk result (waiting.new.items ≡ (waiting.old.items ++ reverse frame.now.strong.items) ++ frame.now.temporaries.items) }
 {
     let names: Vec<usize> = frame.strong.iter().rev().copied().collect(alloc)?;
@@ -184,7 +184,7 @@ fn wait(alloc: Global, frame: &Frame, waiting: &mut Vec<usize>) -> Result<(), No
 }
 
 /// The running function is left, and the one with this frame runs again, after which so many places wait.
-pub fn pop_frame(progress: &mut Progress, frame: Frame, waiting: usize)
+pub fn pop_frame(progress: &mut Progress, frame: Activation, waiting: usize)
     ensures { world progress.new ≡ left_at (frame_of frame) (take waiting progress.old.waiting.items) (world progress.old) }
 {
     progress.frame = frame;

@@ -5,7 +5,7 @@ ghost use Rattle.arc_spec.specs.Meaning.{held_at, holds};
 ghost use Rattle.arc_spec.specs.World.{first_world, prints, has_read, next_number, local_at, with_locals};
 ghost use Rattle.arc_plain.specs.Views.{world};
 
-use crate::frame::{Frame, nothing_runs};
+use crate::frame::{Activation, nothing_runs};
 use crate::object::Object;
 use arc_spec::event::{Event, NoMemory};
 use arc_spec::location::Location;
@@ -22,7 +22,7 @@ pub struct Progress<'a> {
     pub statics: Statics,
     pub strong_globals: Vec<usize>,
     pub objects: Vec<Object>,
-    pub frame: Frame,
+    pub frame: Activation,
     pub waiting: Vec<usize>,
 }
 

@@ -1,7 +1,7 @@
 //! Messages, and what they find.
 ghost use Rattle.arc_checked.specs.Checked as checked;
 ghost use Rattle.arc_ast.specs.declared.tree.Sign.TheVariants.{Class};
-ghost use Rattle.arc_spec.specs.Meaning.{received, sent, given, dispatched, finds, sent_from, answered_by_root, new_sent, made_new};
+ghost use Rattle.arc_spec.specs.Meaning.{received, sent, given, sent_to_class, finds, sent_to_object, answered_by_root, new_sent, made_new};
 ghost use Rattle.arc_spec.specs.World.{World};
 ghost use Rattle.arc_plain.specs.Views.{world, given_of, answer_of, target_of, sent_to, Reports, deeper};
 
@@ -113,7 +113,7 @@ fn dispatch(
     itself: i64,
     given: Given,
 ) -> Result<Answered, Halt>
-    ensures { Reports answer_of result (dispatched (deeper context.now) wanted (finds (deeper context.now) wanted from Class selector (given_of given)) itself (given_of given) (world progress.old)) (world progress.new) }
+    ensures { Reports answer_of result (sent_to_class (deeper context.now) wanted (finds (deeper context.now) wanted from Class selector (given_of given)) itself (given_of given) (world progress.old)) (world progress.new) }
 {
     let Some(method) = find_method(context, wanted, from, Sign::Class, selector, &given) else {
         return Err(Halt::Stopped(Fault::Unrecognized));
@@ -135,7 +135,7 @@ fn dispatch_to(
     itself: usize,
     given: &Given,
 ) -> Result<Answered, Halt>
-    ensures { Reports answer_of result (sent_from (deeper context.now) wanted from itself selector (given_of given.now) (world progress.old)) (world progress.new) }
+    ensures { Reports answer_of result (sent_to_object (deeper context.now) wanted from itself selector (given_of given.now) (world progress.old)) (world progress.new) }
 {
     if itself == 0 {
         return Ok(object_given(0));

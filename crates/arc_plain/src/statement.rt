@@ -2,7 +2,7 @@
 ghost use Rattle.std.specs.Prelude.{option_map};
 ghost use Rattle.arc_checked.specs.Checked as checked;
 ghost use Rattle.arc_spec.specs.Resolved as resolved;
-ghost use Rattle.arc_spec.specs.Meaning.{whole, begun, executed, all_executed, turns, looped};
+ghost use Rattle.arc_spec.specs.Meaning.{full_expression, begun, executed, all_executed, turns, looped};
 ghost use Rattle.arc_ast.specs.declared.tree.Moment.TheVariants.{After};
 ghost use Rattle.arc_plain.specs.Views.{world, nothing_of, Reports, flow_of, step_of, turn_of, deeper};
 
@@ -50,7 +50,7 @@ fn execute(
             drop_temporaries(alloc, context, progress)?;
             Ok(Flow::Normal)
         }
-        Command::Begin(slot, value) => {
+        Command::InitVariable(slot, value) => {
             begin(alloc, context, progress, *slot, value)?;
             Ok(Flow::Normal)
         }
@@ -64,15 +64,15 @@ fn execute(
             let number = evaluate_whole(alloc, context, progress, value)?;
             Ok(Flow::Returned(number))
         }
-        Command::Choose(test, first, second) => {
+        Command::If(test, first, second) => {
             let number = evaluate_whole(alloc, context, progress, test)?;
             let branch = if is_zero(number) { second } else { first };
             execute(alloc, context, progress, branch)
         }
-        Command::Repeat(Moment::Before, test, step, body) => {
+        Command::While(Moment::Before, test, step, body) => {
             repeat(alloc, context, progress, context.bound, test, step, body)
         }
-        Command::Repeat(Moment::After, test, step, body) => {
+        Command::While(Moment::After, test, step, body) => {
             repeat_after(alloc, context, progress, test, step, body)
         }
         Command::Break => Ok(Flow::Broken),
@@ -185,7 +185,7 @@ fn repeat_after(
     body: &Command,
 ) -> Result<Flow, Halt>
     ensures { let run = λ (c : resolved.Command). executed (deeper context.now) context.now.bound c in
-        Reports flow_of result (looped After context.now.bound (whole (deeper context.now) (checked.value test.now)) (run (checked.command step.now)) (run (checked.command body.now)) (world progress.old)) (world progress.new) }
+        Reports flow_of result (looped After context.now.bound (full_expression (deeper context.now) (checked.value test.now)) (run (checked.command step.now)) (run (checked.command body.now)) (world progress.old)) (world progress.new) }
 {
     let Some(more) = context.bound.checked_sub(1) else {
         return Err(Halt::Cut);
@@ -208,7 +208,7 @@ fn repeat(
     body: &Command,
 ) -> Result<Flow, Halt>
     ensures { let run = λ (c : resolved.Command). executed (deeper context.now) context.now.bound c in
-        Reports flow_of result (turns most (whole (deeper context.now) (checked.value test.now)) (run (checked.command step.now)) (run (checked.command body.now)) (world progress.old)) (world progress.new) }
+        Reports flow_of result (turns most (full_expression (deeper context.now) (checked.value test.now)) (run (checked.command step.now)) (run (checked.command body.now)) (world progress.old)) (world progress.new) }
 {
     for _ in 0..most {
         let number = evaluate_whole(alloc, context, progress, test)?;

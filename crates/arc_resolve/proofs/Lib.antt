@@ -1,8 +1,8 @@
-mod Readings
-mod Printing
-mod Buildings
-mod Messages
-mod Commands
-mod Appended
-mod Globals
-mod Units
+mod FormatReading
+mod FormatPieces
+mod CallResolution
+mod MessageResolution
+mod StatementResolution
+mod MethodResolution
+mod InitialGlobals
+mod UnitResolution

@@ -1,2 +1,2 @@
-pub mod Resolving
+pub mod SourceResolution
 pub mod private

@@ -1,3 +1,3 @@
 -- The vocabulary of private functions: no contract of a public call speaks of it.
-pub mod Building
-pub mod Runs
+pub mod ResolvedNodes
+pub mod PlainByteRuns

@@ -2,8 +2,8 @@
 ghost use Rattle.std.specs.Prelude.{◌≡◌, length, IfOk};
 ghost use Rattle.std.specs.List.{filter};
 ghost use Rattle.arc_ast.specs.Tree.{global_tree, global_trees};
-ghost use Rattle.arc_resolve.specs.Resolving as resolving;
-ghost use Rattle.arc_resolve.specs.private.Building.{first_numbers};
+ghost use Rattle.arc_resolve.specs.SourceResolution as resolving;
+ghost use Rattle.arc_resolve.specs.private.ResolvedNodes.{first_numbers};
 
 use arc_ast::tree;
 use arc_ast::tree::Constant;

@@ -3,7 +3,7 @@ ghost use Rattle.std.specs.Prelude.{◌≡◌, IfOk};
 ghost use Rattle.arc_checked.specs.Checked as checked;
 ghost use Rattle.arc_scope.specs.Formats.{parts, printed};
 ghost use Rattle.arc_scope.specs.declared.format.Begun.TheVariants.{Nothing};
-ghost use Rattle.arc_resolve.specs.private.Runs.{Ends, Adds};
+ghost use Rattle.arc_resolve.specs.private.PlainByteRuns.{Ends, Adds};
 
 use arc_checked::program::Piece;
 use arc_scope::format::{Begun, Part, Reading, read};

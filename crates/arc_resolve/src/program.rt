@@ -5,12 +5,12 @@ ghost use Rattle.std.specs.Option.{option_map_or};
 ghost use Rattle.arc_ast.specs.Tree.{expr_tree, type_tree, variable_trees, parameter_trees, stmt_tree, stmt_trees, function_trees, method_trees, implementation_trees};
 ghost use Rattle.arc_class.specs.Table.{number_of_class};
 ghost use Rattle.arc_ast.specs.declared.tree.Moment.TheVariants.{Before};
-ghost use Rattle.arc_spec.specs.Resolved.{Sequence, Choose, Repeat};
+ghost use Rattle.arc_spec.specs.Resolved.{Sequence, If, While};
 ghost use Rattle.arc_spec.specs.Resolved as spec;
-ghost use Rattle.arc_resolve.specs.private.Building.{ahead_of, function_of, functions_ahead, resolution, resolved_methods};
+ghost use Rattle.arc_resolve.specs.private.ResolvedNodes.{ahead_of, function_of, functions_ahead, resolution, resolved_methods};
 ghost use Rattle.arc_checked.specs.Checked as checked;
-ghost use Rattle.arc_resolve.specs.Resolving as resolving;
-ghost use Rattle.arc_resolve.specs.Resolving.{resolved_variables, resolved_stmt, resolved_stmts, resolved_body, resolved_function, resolved_method};
+ghost use Rattle.arc_resolve.specs.SourceResolution as resolving;
+ghost use Rattle.arc_resolve.specs.SourceResolution.{resolved_variables, resolved_stmt, resolved_stmts, resolved_body, resolved_function, resolved_method};
 ghost use Rattle.arc_scope.specs.Scopes.{declare, leave, scope_after, scope_after_all, with_parameters, with_variables};
 ghost use Rattle.arc_scope.specs.Views.{known_in, seen};
 
@@ -54,7 +54,7 @@ fn put(alloc: Global, number: u16, value: Value) -> Result<Command, AllocError>
     ensures { IfOk result (λ new. checked.command new ≡ resolving.put number (checked.value value)) }
 {
     let value = boxed(alloc, value)?;
-    Ok(Command::Evaluate(Value::Assigned(Location::Local(usize::from(number)), value)))
+    Ok(Command::Evaluate(Value::AssignNumber(Location::Local(usize::from(number)), value)))
 }
 
 /// Appends what a declaration of the variable of the number runs, which is a number of the kind: it begins at 0, and then takes its value.
@@ -92,7 +92,7 @@ fn add_object<'a>(
 {
     if let Some(expr) = expr {
         let object = object(alloc, table, visible, expr)?;
-        all.push(Command::Begin(usize::from(number), object))?;
+        all.push(Command::InitVariable(usize::from(number), object))?;
     }
     Ok(())
 }
@@ -282,14 +282,14 @@ fn chosen_or_nothing<'a>(
     then: &'a Stmt,
 ) -> Result<Command, AllocError>
     ensures command { IfOk result (λ new. checked.command new
-        ≡ Choose (resolving.number_in (resolving.resolved (seen table.now visible.old) (expr_tree condition.now))) (resolved_stmt (seen table.now visible.old) (stmt_tree then.now)) resolving.nothing) }
+        ≡ If (resolving.number_in (resolving.resolved (seen table.now visible.old) (expr_tree condition.now))) (resolved_stmt (seen table.now visible.old) (stmt_tree then.now)) resolving.nothing) }
     ensures scope { OnOk result (seen table.now visible.new ≡ leave (seen table.now visible.old) (scope_after (seen table.now visible.old) (stmt_tree then.now))) }
     ensures keeps { OnOk result (visible.new.bound.items ≡ visible.old.bound.items) }
 {
     let test = test(alloc, table, visible, condition)?;
     let then = scoped(alloc, table, visible, then)?;
     let other = boxed(alloc, nothing(alloc))?;
-    Ok(Command::Choose(Box::into_inner(test), then, other))
+    Ok(Command::If(Box::into_inner(test), then, other))
 }
 
 /// A resolved choice with `else`.
@@ -303,7 +303,7 @@ fn chosen<'a>(
     other: &'a Stmt,
 ) -> Result<Command, AllocError>
     ensures command { IfOk result (λ new. checked.command new
-        ≡ Choose (resolving.number_in (resolving.resolved (seen table.now visible.old) (expr_tree condition.now))) (resolved_stmt (seen table.now visible.old) (stmt_tree then.now))
+        ≡ If (resolving.number_in (resolving.resolved (seen table.now visible.old) (expr_tree condition.now))) (resolved_stmt (seen table.now visible.old) (stmt_tree then.now))
         (resolved_stmt (leave (seen table.now visible.old) (scope_after (seen table.now visible.old) (stmt_tree then.now))) (stmt_tree other.now))) }
     ensures scope { OnOk result (seen table.now visible.new
         ≡ leave (seen table.now visible.old) (scope_after (leave (seen table.now visible.old) (scope_after (seen table.now visible.old) (stmt_tree then.now))) (stmt_tree other.now))) }
@@ -312,7 +312,7 @@ fn chosen<'a>(
     let test = test(alloc, table, visible, condition)?;
     let then = scoped(alloc, table, visible, then)?;
     let other = scoped(alloc, table, visible, other)?;
-    Ok(Command::Choose(Box::into_inner(test), then, other))
+    Ok(Command::If(Box::into_inner(test), then, other))
 }
 
 /// A resolved loop, which is tested before or after each turn of its body.
@@ -326,14 +326,14 @@ fn repeated<'a>(
     body: &'a Stmt,
 ) -> Result<Command, AllocError>
     ensures command { IfOk result (λ new. checked.command new
-        ≡ Repeat moment (resolving.number_in (resolving.resolved (seen table.now visible.old) (expr_tree condition.now))) resolving.nothing (resolved_stmt (seen table.now visible.old) (stmt_tree body.now))) }
+        ≡ While moment (resolving.number_in (resolving.resolved (seen table.now visible.old) (expr_tree condition.now))) resolving.nothing (resolved_stmt (seen table.now visible.old) (stmt_tree body.now))) }
     ensures scope { OnOk result (seen table.now visible.new ≡ leave (seen table.now visible.old) (scope_after (seen table.now visible.old) (stmt_tree body.now))) }
     ensures keeps { OnOk result (visible.new.bound.items ≡ visible.old.bound.items) }
 {
     let test = test(alloc, table, visible, condition)?;
     let body = scoped(alloc, table, visible, body)?;
     let step = boxed(alloc, nothing(alloc))?;
-    Ok(Command::Repeat(moment, Box::into_inner(test), step, body))
+    Ok(Command::While(moment, Box::into_inner(test), step, body))
 }
 
 /// The resolved loop of a `for`, without what comes before it.
@@ -347,14 +347,14 @@ fn turns<'a>(
     body: &'a Stmt,
 ) -> Result<Command, AllocError>
     ensures command { IfOk result (λ new. checked.command new
-        ≡ Repeat Before (resolving.tested (seen table.now visible.old) (option_map expr_tree test.now)) (resolving.stepped (seen table.now visible.old) (option_map expr_tree step.now)) (resolved_stmt (seen table.now visible.old) (stmt_tree body.now))) }
+        ≡ While Before (resolving.tested (seen table.now visible.old) (option_map expr_tree test.now)) (resolving.stepped (seen table.now visible.old) (option_map expr_tree step.now)) (resolved_stmt (seen table.now visible.old) (stmt_tree body.now))) }
     ensures scope { OnOk result (seen table.now visible.new ≡ leave (seen table.now visible.old) (scope_after (seen table.now visible.old) (stmt_tree body.now))) }
     ensures keeps { OnOk result (visible.new.bound.items ≡ visible.old.bound.items) }
 {
     let test = test_or_one(alloc, table, visible, test)?;
     let step = step_or_nothing(alloc, table, visible, step)?;
     let body = scoped(alloc, table, visible, body)?;
-    Ok(Command::Repeat(Moment::Before, Box::into_inner(test), step, body))
+    Ok(Command::While(Moment::Before, Box::into_inner(test), step, body))
 }
 
 /// A resolved `for`.
@@ -370,7 +370,7 @@ fn stepped<'a>(
 ) -> Result<Command, AllocError>
     ensures command { let s = seen table.now visible.old in let own = scope_after s (stmt_tree beginning.now) in
         IfOk result (λ new. checked.command new ≡ resolving.with_loop s own (resolved_stmt s (stmt_tree beginning.now))
-        (Repeat Before (resolving.tested own (option_map expr_tree test.now)) (resolving.stepped own (option_map expr_tree step.now)) (resolved_stmt own (stmt_tree body.now)))) }
+        (While Before (resolving.tested own (option_map expr_tree test.now)) (resolving.stepped own (option_map expr_tree step.now)) (resolved_stmt own (stmt_tree body.now)))) }
     ensures scope { let s = seen table.now visible.old in OnOk result (seen table.now visible.new ≡ leave s (scope_after (scope_after s (stmt_tree beginning.now)) (stmt_tree body.now))) }
     ensures keeps { OnOk result (visible.new.bound.items ≡ visible.old.bound.items) }
 {

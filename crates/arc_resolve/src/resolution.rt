@@ -4,11 +4,11 @@ ghost use Rattle.std.specs.Option.{unwrap_or};
 ghost use Rattle.arc_ast.specs.Operators.{sort_of};
 ghost use Rattle.arc_ast.specs.Tree.{expr_tree, Name};
 ghost use Rattle.arc_class.specs.Table.{number_of_class, number_of_selector};
-ghost use Rattle.arc_resolve.specs.private.Building.{resolution, part_of, class_receiver_of};
+ghost use Rattle.arc_resolve.specs.private.ResolvedNodes.{resolution, part_of, class_receiver_of};
 ghost use Rattle.arc_spec.specs.Resolved as spec;
 ghost use Rattle.arc_checked.specs.Checked as checked;
 ghost use Rattle.arc_scope.specs.Kinds as kinds;
-ghost use Rattle.arc_resolve.specs.Resolving as resolving;
+ghost use Rattle.arc_resolve.specs.SourceResolution as resolving;
 ghost use Rattle.arc_scope.specs.Views.{local_of};
 
 use crate::made::boxed;
@@ -150,7 +150,7 @@ fn as_kind(alloc: Global, wanted: Kind, kind: Kind, value: Value) -> Result<Valu
         | (Kind::Int, Kind::Bool | Kind::Long)
         | (Kind::Bool, Kind::Int | Kind::Long) => {
             let value = boxed(alloc, value)?;
-            Ok(Value::Converted(wanted, value))
+            Ok(Value::Convert(wanted, value))
         }
         _ => Ok(value),
     }
@@ -168,7 +168,7 @@ fn as_kind_part(
     match (wanted, kind) {
         (Kind::Long, Kind::Bool | Kind::Int)
         | (Kind::Int, Kind::Bool | Kind::Long)
-        | (Kind::Bool, Kind::Int | Kind::Long) => { boxed(alloc, Value::Converted(wanted, value)) }
+        | (Kind::Bool, Kind::Int | Kind::Long) => { boxed(alloc, Value::Convert(wanted, value)) }
         _ => Ok(value),
     }
 }
@@ -223,12 +223,12 @@ pub fn unary(alloc: Global, operator: UnaryOperator, of: Part) -> Result<Resolut
         UnaryOperator::Not => {
             let kind = part_kind(&of);
             let value = number_part(alloc, of)?;
-            Ok(Resolution::Gives(Kind::Int, Value::Applied(operator, kind, value)))
+            Ok(Resolution::Gives(Kind::Int, Value::Unary(operator, kind, value)))
         }
         UnaryOperator::Plus | UnaryOperator::Negate | UnaryOperator::Complement => {
             let kind = wider(part_kind(&of), Kind::Int);
             let value = converted_part(alloc, kind, of)?;
-            Ok(Resolution::Gives(kind, Value::Applied(operator, kind, value)))
+            Ok(Resolution::Gives(kind, Value::Unary(operator, kind, value)))
         }
     }
 }
@@ -258,7 +258,7 @@ fn combined(
 {
     let left = converted_part(alloc, kind, left)?;
     let right = converted_part(alloc, kind, right)?;
-    let value = Value::Combined(operator, kind, left, right);
+    let value = Value::Binary(operator, kind, left, right);
     Ok(Resolution::Gives(given_kind(operator_sort(operator), kind), value))
 }
 
@@ -270,7 +270,7 @@ fn compared(alloc: Global, operator: BinaryOperator, differs: Value) -> Result<V
         BinaryOperator::Equal => {
             let differs = boxed(alloc, differs)?;
             let zero = boxed(alloc, Value::Number(0))?;
-            Ok(Value::Combined(operator, Kind::Int, differs, zero))
+            Ok(Value::Binary(operator, Kind::Int, differs, zero))
         }
         _ => Ok(differs),
     }
@@ -288,7 +288,7 @@ fn equality(
 {
     match (left, right) {
         (Part::Object(left), Part::Object(right)) => {
-            let value = compared(alloc, operator, Value::Differ(left, right))?;
+            let value = compared(alloc, operator, Value::NotSame(left, right))?;
             Ok(Resolution::Gives(Kind::Int, value))
         }
         (left, right) => {
@@ -307,15 +307,15 @@ fn logic_value(
 ) -> Result<Value, AllocError>
     ensures { IfOk result (λ new. checked.value new ≡ resolving.logic operator (checked.value left.value) (checked.value right.value)) }
 {
-    let second = boxed(alloc, Value::Converted(Kind::Bool, right))?;
+    let second = boxed(alloc, Value::Convert(Kind::Bool, right))?;
     match operator {
         BinaryOperator::Or => {
             let one = boxed(alloc, Value::Number(1))?;
-            Ok(Value::Choice(left, one, second))
+            Ok(Value::Conditional(left, one, second))
         }
         _ => {
             let zero = boxed(alloc, Value::Number(0))?;
-            Ok(Value::Choice(left, second, zero))
+            Ok(Value::Conditional(left, second, zero))
         }
     }
 }
@@ -347,7 +347,7 @@ pub fn conditional(
     let test = number_part(alloc, test)?;
     match (first, second) {
         (Part::Object(first), Part::Object(second)) => {
-            Ok(Resolution::Refers(Reference::Chosen(test, first, second)))
+            Ok(Resolution::Refers(Reference::ObjectConditional(test, first, second)))
         }
         (first, second) => chosen_number(alloc, test, first, second),
     }
@@ -361,12 +361,12 @@ fn chosen_number(
     second: Part,
 ) -> Result<Resolution, AllocError>
     ensures { IfOk result (λ new. let kind = kinds.wider (resolving.kind_in (part_of first)) (resolving.kind_in (part_of second)) in
-        resolution new ≡ resolving.Gives kind (spec.Choice (checked.value test.value) (resolving.converted kind (part_of first)) (resolving.converted kind (part_of second)))) }
+        resolution new ≡ resolving.Gives kind (spec.Conditional (checked.value test.value) (resolving.converted kind (part_of first)) (resolving.converted kind (part_of second)))) }
 {
     let kind = wider(part_kind(&first), part_kind(&second));
     let first = converted_part(alloc, kind, first)?;
     let second = converted_part(alloc, kind, second)?;
-    Ok(Resolution::Gives(kind, Value::Choice(test, first, second)))
+    Ok(Resolution::Gives(kind, Value::Conditional(test, first, second)))
 }
 
 /// An operator's expression, from its operands.
@@ -448,8 +448,8 @@ fn read_field(alloc: Global, object: Reference, field: FoundField) -> Result<Res
     let object = boxed(alloc, object)?;
     let (owner, index) = (field.owner.0, field.index);
     Ok(match field.qual {
-        None => Resolution::Gives(field.kind, Value::Field(object, owner, index)),
-        Some(_) => Resolution::Refers(Reference::ObjectField(object, owner, index)),
+        None => Resolution::Gives(field.kind, Value::GetField(object, owner, index)),
+        Some(_) => Resolution::Refers(Reference::GetObjectField(object, owner, index)),
     })
 }
 
@@ -485,12 +485,12 @@ fn store_field(
     match field.qual {
         None => {
             let value = converted_part(alloc, field.kind, of)?;
-            let value = Value::FieldAssigned(object, owner, index, value);
+            let value = Value::SetField(object, owner, index, value);
             Ok(Resolution::Gives(field.kind, value))
         }
         Some(_) => {
             let stored = object_part(alloc, of)?;
-            Ok(Resolution::Refers(Reference::ObjectFieldStored(object, owner, index, stored)))
+            Ok(Resolution::Refers(Reference::SetObjectField(object, owner, index, stored)))
         }
     }
 }
@@ -508,13 +508,13 @@ pub fn itself(owns: bool) -> Reference
 
 /// An assignment to `self`, in a method that owns it; in any other it breaks a rule, and what is assigned stands for it.
 pub fn itself_assigned(alloc: Global, owns: bool, of: Part) -> Result<Resolution, AllocError>
-    ensures { IfOk result (λ new. resolution new ≡ (if owns then resolving.Refers (spec.Stored (Location.Local 0) (resolving.object_in (part_of of))) else part_of of)) }
+    ensures { IfOk result (λ new. resolution new ≡ (if owns then resolving.Refers (spec.AssignObject (Location.Local 0) (resolving.object_in (part_of of))) else part_of of)) }
 {
     if !owns {
         return Ok(unboxed(of));
     }
     let object = object_part(alloc, of)?;
-    Ok(Resolution::Refers(Reference::Stored(Location::Local(0), object)))
+    Ok(Resolution::Refers(Reference::AssignObject(Location::Local(0), object)))
 }
 
 /// What a name means: the variable, or else the field of `self`.
@@ -550,11 +550,11 @@ pub fn name_assigned(
         None => field_assigned(alloc, itself(owns), own, of),
         Some(Local::Number(kind, location)) => {
             let value = converted_part(alloc, kind, of)?;
-            Ok(Resolution::Gives(kind, Value::Assigned(location, value)))
+            Ok(Resolution::Gives(kind, Value::AssignNumber(location, value)))
         }
         Some(Local::Object(location, _)) => {
             let object = object_part(alloc, of)?;
-            Ok(Resolution::Refers(Reference::Stored(location, object)))
+            Ok(Resolution::Refers(Reference::AssignObject(location, object)))
         }
     }
 }
@@ -572,9 +572,9 @@ fn place_updated(
 {
     match place {
         Value::Read(location) => {
-            Value::Updated(moment, location, operator, computed, kept, operand)
+            Value::Update(moment, location, operator, computed, kept, operand)
         }
-        Value::Field(object, class, index) => Value::FieldUpdated(
+        Value::GetField(object, class, index) => Value::UpdateField(
             moment, object, class, index, operator, computed, kept, operand,
         ),
         other => {
@@ -623,9 +623,9 @@ pub fn invoked(kind: Kind, function: usize, all: Vec<Argument>) -> Resolution
     ensures { resolution result ≡ resolving.invoked kind function (checked.arguments all.items) }
 {
     if is_object(Some(kind)) {
-        return Resolution::Refers(Reference::ObjectInvoked(function, all));
+        return Resolution::Refers(Reference::ObjectCall(function, all));
     }
-    Resolution::Gives(kind, Value::Invoked(function, all))
+    Resolution::Gives(kind, Value::Call(function, all))
 }
 
 /// A message that gives a value of the kind, or none.
@@ -640,9 +640,9 @@ pub fn sent_to(
 {
     let receiver = boxed(alloc, receiver)?;
     if is_object(kind) {
-        return Ok(Resolution::Refers(Reference::ObjectSent(receiver, selector, all)));
+        return Ok(Resolution::Refers(Reference::ObjectSend(receiver, selector, all)));
     }
-    let value = Value::Sent(receiver, selector, all);
+    let value = Value::Send(receiver, selector, all);
     Ok(Resolution::Gives(kind_or_int(kind), value))
 }
 
@@ -680,7 +680,7 @@ pub fn to_class(
 {
     if name == b"alloc".as_slice() {
         let class = boxed(alloc, to.class)?;
-        return Ok(Resolution::Refers(Reference::Made(class)));
+        return Ok(Resolution::Refers(Reference::Alloc(class)));
     }
     if name == b"new".as_slice() {
         let class = boxed(alloc, to.class)?;

@@ -2,10 +2,10 @@
 ghost use Rattle.std.specs.Prelude.{◌≡◌, ℕ, List, Option, Some, None, option_map, IfOk};
 ghost use Rattle.arc_ast.specs.Tree.{ExprTree, type_tree, expr_tree, expr_trees, Integer, Text, Name, Unary, Cast, Binary, Conditional, Arrow, Assign, Update, Call, Send, SendSuper};
 ghost use Rattle.arc_class.specs.Table.{number_of_class};
-ghost use Rattle.arc_resolve.specs.private.Building.{Resolves, part_of, printing, resolution, text_of};
+ghost use Rattle.arc_resolve.specs.private.ResolvedNodes.{Resolves, part_of, printing, resolution, text_of};
 ghost use Rattle.arc_checked.specs.Checked as checked;
-ghost use Rattle.arc_resolve.specs.Resolving as resolving;
-ghost use Rattle.arc_resolve.specs.Resolving.{resolved, resolved_all};
+ghost use Rattle.arc_resolve.specs.SourceResolution as resolving;
+ghost use Rattle.arc_resolve.specs.SourceResolution.{resolved, resolved_all};
 ghost use Rattle.arc_scope.specs.Scopes as scopes;
 ghost use Rattle.arc_scope.specs.declared.scope.Visible.{Visible};
 ghost use Rattle.arc_scope.specs.Views.{kinds_wanted, seen};

@@ -1,6 +1,6 @@
 //! Programs that run on a machine, and what is seen of them.
 
-ghost use Rattle.arc_code.specs.Running.{IsSound, program_of};
+ghost use Rattle.arc_code.specs.CodeSteps.{IsSound, program_of};
 
 use arc_code::code::{Code, IoFault};
 use arc_code::counted::Counted;

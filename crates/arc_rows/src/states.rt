@@ -39,7 +39,7 @@ pub enum States {
     /// The same, of its first `MOST_STEPS` steps.
     AgreeSoFar,
     /// Something else is seen after this many steps.
-    Differ(u64),
+    NotSame(u64),
 }
 
 impl fmt::Display for States {
@@ -48,7 +48,7 @@ impl fmt::Display for States {
             States::Unseen => Ok(()),
             States::Agree => write!(f, ", {NUMBERS} states agree"),
             States::AgreeSoFar => { write!(f, ", {NUMBERS} states of {MOST_STEPS} steps agree") }
-            States::Differ(steps) => write!(f, ", states after {steps} steps DIFFER"),
+            States::NotSame(steps) => write!(f, ", states after {steps} steps DIFFER"),
         }
     }
 }
@@ -115,7 +115,7 @@ impl<'a> Case<'a> {
         requires { steps ≤ 2000000 }
     {
         match self.difference(steps)? {
-            Some(number) => Ok(States::Differ(number)),
+            Some(number) => Ok(States::NotSame(number)),
             None if steps == MOST_STEPS => Ok(States::AgreeSoFar),
             None => Ok(States::Agree),
         }

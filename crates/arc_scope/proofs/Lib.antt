@@ -1,5 +1,5 @@
-pub mod Lists
-pub mod Scoping
-pub mod Leaving
-pub mod Declaring
-pub mod Knowing
+pub mod ListSuffixes
+pub mod VisibleVariables
+pub mod ScopeKept
+pub mod DeclaredVariables
+pub mod TableKnowsNames

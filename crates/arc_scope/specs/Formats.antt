@@ -10,7 +10,7 @@ use Rattle.arc_scope.specs.declared.format.Part.{Part}
 use Rattle.arc_scope.specs.declared.format.Part.TheVariants.{Plain, Decimal, Character, Unknown}
 use Rattle.arc_scope.specs.declared.format.Reading.{Reading}
 use Rattle.arc_scope.specs.declared.format.Reading.TheVariants.{Goes, Gives}
-use Rattle.arc_class.specs.Functions.{same_kind}
+use Rattle.arc_class.specs.FunctionRules.{same_kind}
 use Rattle.arc_scope.specs.Kinds.{is_number, wider}
 use Rattle.arc_spec.specs.Resolved as resolved
 

@@ -1,6 +1,6 @@
 pub mod Kinds
 pub mod Formats
 pub mod Scopes
-pub mod Known
-pub mod Passing
+pub mod KnownNames
+pub mod ParameterKinds
 pub mod Views

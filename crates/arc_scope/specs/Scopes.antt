@@ -19,7 +19,7 @@ use Rattle.arc_class.specs.declared.table.Declared.{Declared}
 use Rattle.arc_class.specs.declared.table.FoundField.{FoundField}
 use Rattle.arc_class.specs.declared.table.MethodResult.{MethodResult}
 use Rattle.arc_class.specs.declared.table.Variable.{Variable}
-use Rattle.arc_class.specs.Functions.{same_number}
+use Rattle.arc_class.specs.FunctionRules.{same_number}
 use Rattle.arc_class.specs.Table.{number_of_class}
 use Rattle.arc_scope.specs.Kinds.{is_object}
 use Rattle.arc_scope.specs.declared.scope.TheConstants.{MOST_VARIABLES}

@@ -1,4 +1,4 @@
--- What the code knows of names.
+-- How what the code keeps of names is seen as the scopes of the definitions.
 use Rattle.std.specs.Prelude.{ℕ, List, [], ◌∷◌, Option, Some, None, is_some, option_map, if◌then◌else◌}
 use Rattle.std.specs.Str.{bytes_eq}
 use Rattle.std.specs.Borrow.{Bor}
@@ -7,7 +7,7 @@ use Rattle.arc_ast.specs.declared.tree.Parameter.{Parameter}
 use Rattle.arc_ast.specs.declared.tree.Sign.TheVariants as signs
 use Rattle.arc_ast.specs.Tree.{parameter_trees}
 use Rattle.std.specs.Option.{option_or}
-use Rattle.arc_class.specs.Names.{parameter_kinds}
+use Rattle.arc_class.specs.FunctionNames.{parameter_kinds}
 use Rattle.arc_class.specs.declared.table.ClassTable.{ClassTable}
 use Rattle.arc_class.specs.Table.{function_in, global_in, parameters_in, passed_in, class_in, superclass_in, function_class_in, result_in_table, any_result_in, field_in_table, selector_in, number_of_class}
 use Rattle.arc_spec.specs.Classes.{classes_of, descends, same_sign}

@@ -1,7 +1,7 @@
 //! What the arguments of a call or a message are passed to.
 ghost use Rattle.std.specs.Prelude.{◌≡◌, drop, option_map};
 ghost use Rattle.arc_class.specs.Table.{number_of_class};
-ghost use Rattle.arc_scope.specs.Passing as passing;
+ghost use Rattle.arc_scope.specs.ParameterKinds as passing;
 ghost use Rattle.arc_scope.specs.Views.{kinds_wanted};
 
 use arc_ast::tree::{Kind, Parameter, Sign};

@@ -1,2 +1,2 @@
-pub mod Firsts
-pub mod Found
+pub mod FirstViolation
+pub mod FoundIsFirst

@@ -1,4 +1,4 @@
 pub mod Violations
 pub mod Sites
 pub mod Messages
-pub mod Finding
+pub mod FoundViolations

@@ -1,7 +1,7 @@
 //! The messages of a source.
 ghost use Rattle.std.specs.Prelude.{◌≡◌, option_map};
 ghost use Rattle.arc_ast.specs.Tree.{expr_tree};
-ghost use Rattle.arc_sites.specs.Finding.{message_of};
+ghost use Rattle.arc_sites.specs.FoundViolations.{message_of};
 ghost use Rattle.arc_sites.specs.Messages as messages;
 
 use arc_ast::tree::Expr;

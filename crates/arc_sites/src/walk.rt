@@ -3,7 +3,7 @@ ghost use Rattle.std.specs.Prelude.{◌≡◌, List, Option, Some, OnOk, flat_ma
 ghost use Rattle.arc_ast.specs.Tree.{expr_tree, expr_trees, variable_trees, type_tree, stmt_tree, stmt_trees, parameter_trees, parameters_tree, function_tree, function_trees, global_trees, field_trees, head_trees, method_tree, method_trees, interface_tree, interface_trees, implementation_tree, implementation_trees, unit_tree};
 ghost use Rattle.arc_sites.specs.Violations.{first, earlier_of};
 ghost use Rattle.arc_sites.specs.Sites as sites;
-ghost use Rattle.arc_sites.specs.Finding.{enclosing_of, node_of, found_from};
+ghost use Rattle.arc_sites.specs.FoundViolations.{enclosing_of, node_of, found_from};
 
 use crate::node::{Enclosing, Node};
 use crate::parameter::named_parameters;

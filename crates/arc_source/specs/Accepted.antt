@@ -7,11 +7,11 @@ use Rattle.arc_grammar.specs.Grammar.{these}
 use Rattle.arc_parse.specs.Refusal.{SpellsUnit}
 use Rattle.arc_class.specs.ClassRules.{broken}
 use Rattle.arc_judge.specs.Rules.{broken_unit}
-use Rattle.arc_resolve.specs.Resolving.{resolved_unit}
+use Rattle.arc_resolve.specs.SourceResolution.{resolved_unit}
 use Rattle.arc_family.specs.Rules as ownership
 use Rattle.arc_spec.specs.Resolved as resolved
 use Rattle.arc_spec.specs.Meaning.{mean}
-use Rattle.arc_spec.specs.Correct.{Sight, meaning_seen}
+use Rattle.arc_spec.specs.Correctness.{Observation, meaning_seen}
 
 -- The source has tokens, which spell this tree within the limits.
 pub record Spelled (source : List ℕ) (tree : UnitTree) : Type 0 where
@@ -32,5 +32,5 @@ abbrev pub program_meant : {source : List ℕ} → Accepted source → resolved.
 program_meant p = resolved_unit p.tree
 
 -- what is seen of its meaning on an input, with a bound on the turns of each loop
-abbrev pub meant : {source : List ℕ} → Accepted source → List ℕ → (bound : ℕ) → Sight
+abbrev pub meant : {source : List ℕ} → Accepted source → List ℕ → (bound : ℕ) → Observation
 meant p input bound = meaning_seen (mean (program_meant p) input bound)

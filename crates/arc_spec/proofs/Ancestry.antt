@@ -1,4 +1,4 @@
--- The classes above a class, a class at a time.
+-- The superclasses of a class, one class at a time.
 use Rattle.std.proofs.Common.{◌≡◌, ℕ, suc, ◌+◌, ◌-◌, ◌<◌, List, [], ◌∷◌, length, map, Option, Some, None, slice_get, option_map, is_some, true, false, sym, true≢false, ap, ◌∙◌, arith}
 use Rattle.std.proofs.lemmas.List.{length-map}
 use Rattle.std.proofs.lemmas.Option.{slice_get-map}

@@ -1,21 +1,21 @@
--- What refines runs that do what is meant does it too.
+-- Refinements compose: runs that refine runs of a meaning do what is meant.
 use Rattle.std.proofs.Common.{◌≡◌, ℕ, ◌+◌, ◌≤◌, List, Some, None, sym, ap, subst, ◌∙◌, arith, ⊎_elim}
-use Rattle.arc_spec.specs.Correct.{IsPrefix, Sight, Stop, Behaves, Steady, Amid, Refines}
-use Rattle.arc_spec.proofs.Steadiness.{prefix_trans}
+use Rattle.arc_spec.specs.Correctness.{IsPrefix, Observation, Stop, Behaves, Steady, Amid, Refines}
+use Rattle.arc_spec.proofs.RunsSteady.{prefix_trans}
 
-module _ (meant a b : List ℕ → ℕ → Sight) (means : Behaves meant a) (steady : Steady a) (refines : Refines a b) where
+module _ (meant a b : List ℕ → ℕ → Observation) (means : Behaves meant a) (steady : Steady a) (refines : Refines a b) where
   follows_amid : (input : List ℕ) (j k : ℕ) → j ≤ k → Amid a input j k (b input k) → IsPrefix (b input k).trace (a input k).trace
   follows_amid input j k le h = ⊎_elim
-      (λ same. subst (λ (x : Sight). IsPrefix x.trace (a input k).trace) (sym same) (steady.grows input j k le))
+      (λ same. subst (λ (x : Observation). IsPrefix x.trace (a input k).trace) (sym same) (steady.grows input j k le))
       (λ amid. prefix_trans (b input k).trace (a input (j + 1)).trace (a input k).trace amid.3 (steady.grows input (j + 1) k (omega arith)))
       h
 
   stops_amid : (input : List ℕ) (j k : ℕ) (s : Stop) → j ≤ k → (b input k).stop ≡ Some s → Amid a input j k (b input k) → meant input k ≡ b input k
   stops_amid input j k s le over h = ⊎_elim
       (λ same.
-      let there : (a input j).stop ≡ Some s = ap (λ (x : Sight). x.stop) (sym same) ∙ over in
+      let there : (a input j).stop ≡ Some s = ap (λ (x : Observation). x.stop) (sym same) ∙ over in
       let later = steady.stays input j k s le there in
-      means.stops input k s (ap (λ (x : Sight). x.stop) later ∙ there) ∙ later ∙ sym same)
+      means.stops input k s (ap (λ (x : Observation). x.stop) later ∙ there) ∙ later ∙ sym same)
       (λ amid. let no : None ≡ Some s = sym amid.1 ∙ over in absurd (cc))
       h
 
@@ -30,6 +30,6 @@ module _ (meant a b : List ℕ → ℕ → Sight) (means : Behaves meant a) (ste
           prefix_trans (meant input n).trace (a input first.0).trace (b input then.0).trace first.1 then.1,
           λ s over.
               let same = first.2 s over in
-              then.2 s (ap (λ (x : Sight). x.stop) same ∙ over) ∙ same,
+              then.2 s (ap (λ (x : Observation). x.stop) same ∙ over) ∙ same,
         );
   }

@@ -1,7 +1,7 @@
-pub mod Steadiness
+pub mod RunsSteady
 pub mod Composition
 pub mod Ancestry
-pub mod Deallocs
-pub mod Answering
-pub mod Ordering
-pub mod Components
+pub mod DeallocChain
+pub mod OperatorTotality
+pub mod FieldOrder
+pub mod SelectorComponents

@@ -7,7 +7,7 @@ pub mod Resolved
 pub mod Statics
 pub mod World
 pub mod Meaning
-pub mod Stepping
-pub mod Holding
-pub mod Correct
-pub mod Rows
+pub mod SmallSteps
+pub mod HolderCounts
+pub mod Correctness
+pub mod KnownPrograms

@@ -23,19 +23,19 @@ mutual
     Number : ℤ → Value
     ReadByte : Value
     Print : List Piece → Arguments → Value
-    Applied : UnaryOperator → Kind → Value → Value
-    Combined : BinaryOperator → Kind → Value → Value → Value
-    Choice : Value → Value → Value → Value
-    Converted : Kind → Value → Value
+    Unary : UnaryOperator → Kind → Value → Value
+    Binary : BinaryOperator → Kind → Value → Value → Value
+    Conditional : Value → Value → Value → Value
+    Convert : Kind → Value → Value
     Read : Location → Value
-    Assigned : Location → Value → Value
-    Updated : Moment → Location → BinaryOperator → (computed kept : Kind) → Value → Value
-    Invoked : ℕ → Arguments → Value
-    Sent : Receiver → (selector : ℕ) → Arguments → Value
-    Field : Reference → (class index : ℕ) → Value
-    FieldAssigned : Reference → (class index : ℕ) → Value → Value
-    FieldUpdated : Moment → Reference → (class index : ℕ) → BinaryOperator → (computed kept : Kind) → Value → Value
-    Differ : Reference → Reference → Value
+    AssignNumber : Location → Value → Value
+    Update : Moment → Location → BinaryOperator → (computed kept : Kind) → Value → Value
+    Call : ℕ → Arguments → Value
+    Send : Receiver → (selector : ℕ) → Arguments → Value
+    GetField : Reference → (class index : ℕ) → Value
+    SetField : Reference → (class index : ℕ) → Value → Value
+    UpdateField : Moment → Reference → (class index : ℕ) → BinaryOperator → (computed kept : Kind) → Value → Value
+    NotSame : Reference → Reference → Value
     IsObject : Reference → Value
 
   -- An expression that gives an object or nil: `nil`, `self`, a variable, one of two by a test, an assignment to a variable, a field, an assignment to one, `alloc` of a
@@ -45,14 +45,14 @@ mutual
     Nil : Reference
     Itself : Reference
     Variable : Location → Reference
-    Chosen : Value → Reference → Reference → Reference
-    Stored : Location → Reference → Reference
-    ObjectField : Reference → (class index : ℕ) → Reference
-    ObjectFieldStored : Reference → (class index : ℕ) → Reference → Reference
-    Made : Value → Reference
+    ObjectConditional : Value → Reference → Reference → Reference
+    AssignObject : Location → Reference → Reference
+    GetObjectField : Reference → (class index : ℕ) → Reference
+    SetObjectField : Reference → (class index : ℕ) → Reference → Reference
+    Alloc : Value → Reference
     New : (from : Option ℕ) → Value → Reference
-    ObjectInvoked : ℕ → Arguments → Reference
-    ObjectSent : Receiver → (selector : ℕ) → Arguments → Reference
+    ObjectCall : ℕ → Arguments → Reference
+    ObjectSend : Receiver → (selector : ℕ) → Arguments → Reference
 
   -- What gets a message: a class, by its number, or an object. One to `super` goes to `self`, which in a class method is the class that got the message and in a method of
   -- objects stands here, and has the class from which its method is looked up (OPL, "Messages to self and super").
@@ -70,16 +70,16 @@ mutual
 
 mutual
   -- A statement. A sequence has so many variables of its own that name objects, from the first one on; the beginning of such a variable is what it names first.
-  -- `Give` returns an object or nil. `Repeat` is a loop with its test before or after each turn of its body, and a step that comes after each turn.
+  -- `Give` returns an object or nil. `While` is a loop with its test before or after each turn of its body, and a step that comes after each turn.
   pub data Command : Type 0 where
     Sequence : (first count : ℕ) → Commands → Command
     Evaluate : Value → Command
     EvaluateReference : Reference → Command
-    Begin : ℕ → Reference → Command
+    InitVariable : ℕ → Reference → Command
     Return : Option Value → Command
     Give : Reference → Command
-    Choose : Value → Command → Command → Command
-    Repeat : (tested : Moment) → Value → (step body : Command) → Command
+    If : Value → Command → Command → Command
+    While : (tested : Moment) → Value → (step body : Command) → Command
     Break : Command
     Continue : Command
 

@@ -13,7 +13,7 @@ use Rattle.arc_spec.specs.Statics.{Statics, first_statics}
 -- temporaries of its full-expression, the last one first. After the variables that name objects comes the place of the result, where it gives an object. All of these and
 -- the temporaries are strong places (ARC, "Ownership qualification"); `self` is none but in a method that owns it, where it is a variable too, since what sent the message
 -- holds it.
-pub record Frame : Type 0 where
+pub record Activation : Type 0 where
   pub self : ℕ
   pub locals : List ℤ
   pub strong : List ℕ
@@ -27,10 +27,10 @@ pub record World : Type 0 where
   pub statics : Statics
   pub strong_globals : List ℕ
   pub objects : List Object
-  pub frame : Frame
+  pub frame : Activation
   pub waiting : List ℕ
 
-abbrev pub first_frame : Frame
+abbrev pub first_frame : Activation
 first_frame = record { self = 0; locals = []; strong = []; temporaries = [] }
 
 -- what a program begins with: the numbers of its variables, and so many variables that name objects, each of which is nil
@@ -46,7 +46,7 @@ first_world globals strong_globals input = record {
 }
 
 -- the strong places of the running function
-abbrev pub frame_places : Frame → List ℕ
+abbrev pub frame_places : Activation → List ℕ
 frame_places f = f.temporaries ++ f.strong
 
 -- the strong places of all functions that were called

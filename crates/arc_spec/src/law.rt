@@ -1,7 +1,7 @@
 //! What the definitions say of known programs, and what follows from them. Nothing here is run.
 ghost use Rattle.std.specs.Prelude.{ℕ, pos, List, [], ◌∷◌, codes};
-ghost use Rattle.arc_spec.specs.Rows.{Prints, Shows, forty_two, division_fault, one_byte, wrapped_sum, least_long, class_methods, HasTrace, objects_with_dealloc, dealloc_events, field_of_another_class, sent_to_nil, field_of_nil, chain_of_two, chain_events, replaced_global, replaced_events, resurrection, resurrection_events, written_while_destroyed, written_events, init_gives_nil, init_events, result_of_a_block, result_events};
-ghost use Rattle.arc_spec.specs.Correct.{Sight, Behaves, Steady, Refines, Ends, Faults};
+ghost use Rattle.arc_spec.specs.KnownPrograms.{Prints, Shows, forty_two, division_fault, one_byte, wrapped_sum, least_long, class_methods, HasTrace, objects_with_dealloc, dealloc_events, field_of_another_class, sent_to_nil, field_of_nil, chain_of_two, chain_events, replaced_global, replaced_events, resurrection, resurrection_events, written_while_destroyed, written_events, init_gives_nil, init_events, result_of_a_block, result_events};
+ghost use Rattle.arc_spec.specs.Correctness.{Observation, Behaves, Steady, Refines, Ends, Faults};
 ghost use Rattle.arc_spec.specs.declared.event.Fault.TheVariants.{Arithmetic, Unrecognized, NilField, FieldClass, Resurrected};
 
 /// Programs mean what the language's rules say of them.
@@ -26,5 +26,5 @@ pub fn known_programs()
 
 /// Runs that refine runs of a meaning do what is meant.
 pub fn refinements_compose()
-    ensures { (meant a b : List ℕ → ℕ → Sight) → Behaves meant a → Steady a → Refines a b → Behaves meant b }
+    ensures { (meant a b : List ℕ → ℕ → Observation) → Behaves meant a → Steady a → Refines a b → Behaves meant b }
 {}

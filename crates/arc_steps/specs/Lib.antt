@@ -1,9 +1,9 @@
-pub mod Clearing
-pub mod Entering
-pub mod Giving
+pub mod FieldClearing
+pub mod CallEntry
+pub mod AnswersWithoutCall
 pub mod Places
-pub mod Refusals
+pub mod AllocationRefusal
 pub mod Releases
 pub mod Steps
-pub mod Storing
+pub mod GlobalFieldStores
 pub mod Views

@@ -1,7 +1,7 @@
 //! What becomes of the objects that temporaries name, where they are dropped.
 ghost use Rattle.std.specs.Prelude.{◌≡◌, ◌<◌, ◌≤◌, IsTrue, ◌↔◌, length, take};
-ghost use Rattle.arc_spec.specs.Holding.{holders};
-ghost use Rattle.arc_cells.specs.Standing.{NamesBlock};
+ghost use Rattle.arc_spec.specs.HolderCounts.{holders};
+ghost use Rattle.arc_cells.specs.Representation.{NamesBlock};
 ghost use Rattle.arc_steps.specs.Releases.{CanDrop, EndsSome, IsAlone, Drops};
 
 use arc_cells::objects::Objects;

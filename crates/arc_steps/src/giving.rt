@@ -1,15 +1,15 @@
 //! The instructions by which functions give objects, and those of `new`.
 ghost use Rattle.std.specs.Prelude.{◌≡◌, ◌+◌, ◌-◌, ◌^◌, ◌<◌, ◌≤◌, [], Some};
 ghost use Rattle.arc_spec.specs.Classes as classes;
-ghost use Rattle.arc_code.specs.Running.{program_of};
+ghost use Rattle.arc_code.specs.CodeSteps.{program_of};
 ghost use Rattle.arc_steps.specs.declared.answer.Answer.TheVariants as answers;
-ghost use Rattle.arc_steps.specs.Places.{Ready, Executes, spot, shown, HasPlaces};
-ghost use Rattle.arc_steps.specs.Giving.{CanGiveBack, GivesBack};
+ghost use Rattle.arc_steps.specs.Places.{Ready, Executes, machine_view, shown, HasPlaces};
+ghost use Rattle.arc_steps.specs.AnswersWithoutCall.{CanGiveBack, GivesBack};
 
 use crate::answer::Answer;
 use crate::field::class_of;
 use crate::place::Place;
-use crate::releasing::{Turn, calm};
+use crate::releasing::{Turn, silent};
 use arc_ast::tree::Sign;
 use arc_cells::objects::Objects;
 use arc_cells::waiting::Waiting;
@@ -34,12 +34,12 @@ impl Place {
     /// and a reference.
     #[inline(always)]
     pub fn give<S: Store + Drop>(&mut self, code: &Code, objects: &mut Objects<S>) -> Answer
-        requires ready { Ready S.out (program_of code.now) Instr.Give (spot self.old objects.old) }
+        requires ready { Ready S.out (program_of code.now) Instr.Give (machine_view self.old objects.old) }
         requires place { self.old.at < 2 ^ 64 - 1 }
         requires room { code.now.room ≤ self.old.stack.room }
         requires places { HasPlaces code.now objects.old }
         ensures went { Executes S.out (program_of code.now) Instr.Give result []
-            (spot self.old objects.old) (spot self.new objects.new) }
+            (machine_view self.old objects.old) (machine_view self.new objects.new) }
         ensures room { self.new.stack.room ≡ self.old.stack.room }
     {
         // There are no more places than the code asks for, whose number fits a word.
@@ -90,12 +90,12 @@ impl Place {
         code: &Code,
         _objects: &mut Objects<S>,
     ) -> Answer
-        requires ready { Ready S.out (program_of code.now) (Instr.Plain (Op.Finds selector)) (spot self.old _objects.old) }
+        requires ready { Ready S.out (program_of code.now) (Instr.Plain (Op.Finds selector)) (machine_view self.old _objects.old) }
         requires place { self.old.at < 2 ^ 64 - 1 }
         requires room { code.now.room ≤ self.old.stack.room }
         requires places { HasPlaces code.now _objects.old }
         ensures went { Executes S.out (program_of code.now) (Instr.Plain (Op.Finds selector)) result []
-            (spot self.old _objects.old) (spot self.new _objects.new) }
+            (machine_view self.old _objects.old) (machine_view self.new _objects.new) }
         ensures room { self.new.stack.room ≡ self.old.stack.room }
     {
         let class = class_of(self.stack.top());
@@ -116,12 +116,12 @@ impl Place {
     /// The temporary before the last one lets go of what it names.
     #[inline(always)]
     pub fn settle<S: Store + Drop>(&mut self, code: &Code, objects: &mut Objects<S>) -> Turn
-        requires ready { Ready S.out (program_of code.now) Instr.Settle (spot self.old objects.old) }
+        requires ready { Ready S.out (program_of code.now) Instr.Settle (machine_view self.old objects.old) }
         requires place { self.old.at < 2 ^ 64 - 1 }
         requires room { code.now.room ≤ self.old.stack.room }
         requires places { HasPlaces code.now objects.old }
         ensures went { Executes S.out (program_of code.now) Instr.Settle result.answer (shown result.event)
-            (spot self.old objects.old) (spot self.new objects.new) }
+            (machine_view self.old objects.old) (machine_view self.new objects.new) }
         ensures room { self.new.stack.room ≡ self.old.stack.room }
     {
         let before = objects.temporary(1);
@@ -129,10 +129,10 @@ impl Place {
             objects.lower(before);
             objects.settle();
             self.at += 1;
-            return calm(Answer::Going);
+            return silent(Answer::Going);
         }
         if !objects.have_level() {
-            return calm(Answer::Faulted(Fault::Depth));
+            return silent(Answer::Faulted(Fault::Depth));
         }
         objects.settle();
         self.begin_end(self.at + 1, before, code, objects)

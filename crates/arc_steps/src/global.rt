@@ -1,7 +1,7 @@
 //! The instructions that read and set the variables of the whole program.
 ghost use Rattle.std.specs.Prelude.{◌≡◌, ◌+◌, ◌-◌, ◌^◌, ◌<◌, ◌≤◌, []};
-ghost use Rattle.arc_code.specs.Running.{program_of};
-ghost use Rattle.arc_steps.specs.Places.{Ready, Executes, HasPlaces, spot};
+ghost use Rattle.arc_code.specs.CodeSteps.{program_of};
+ghost use Rattle.arc_steps.specs.Places.{Ready, Executes, HasPlaces, machine_view};
 
 use crate::answer::Answer;
 use crate::place::Place;
@@ -19,12 +19,12 @@ impl Place {
         _code: &Code,
         objects: &mut Objects<S>,
     ) -> Answer
-        requires ready { Ready S.out (program_of _code.now) (Instr.Plain (Op.GetGlobal variable)) (spot self.old objects.old) }
+        requires ready { Ready S.out (program_of _code.now) (Instr.Plain (Op.GetGlobal variable)) (machine_view self.old objects.old) }
         requires place { self.old.at < 2 ^ 64 - 1 }
         requires room { _code.now.room ≤ self.old.stack.room }
         requires places { HasPlaces _code.now objects.old }
         ensures went { Executes S.out (program_of _code.now) (Instr.Plain (Op.GetGlobal variable)) result []
-            (spot self.old objects.old) (spot self.new objects.new) }
+            (machine_view self.old objects.old) (machine_view self.new objects.new) }
         ensures going { result ≡ Answer.Going }
         ensures at { self.new.at ≡ self.old.at + 1 }
         ensures room { self.new.stack.room ≡ self.old.stack.room }
@@ -42,12 +42,12 @@ impl Place {
         _code: &Code,
         objects: &mut Objects<S>,
     ) -> Answer
-        requires ready { Ready S.out (program_of _code.now) (Instr.Plain (Op.SetGlobal variable)) (spot self.old objects.old) }
+        requires ready { Ready S.out (program_of _code.now) (Instr.Plain (Op.SetGlobal variable)) (machine_view self.old objects.old) }
         requires place { self.old.at < 2 ^ 64 - 1 }
         requires room { _code.now.room ≤ self.old.stack.room }
         requires places { HasPlaces _code.now objects.old }
         ensures went { Executes S.out (program_of _code.now) (Instr.Plain (Op.SetGlobal variable)) result []
-            (spot self.old objects.old) (spot self.new objects.new) }
+            (machine_view self.old objects.old) (machine_view self.new objects.new) }
         ensures going { result ≡ Answer.Going }
         ensures at { self.new.at ≡ self.old.at + 1 }
         ensures room { self.new.stack.room ≡ self.old.stack.room }

@@ -1,7 +1,7 @@
 //! The instructions that give and take references, and those that keep strong places.
 ghost use Rattle.std.specs.Prelude.{◌≡◌, ◌+◌, ◌-◌, ◌^◌, ◌<◌, ◌≤◌, []};
-ghost use Rattle.arc_code.specs.Running.{program_of};
-ghost use Rattle.arc_steps.specs.Places.{Ready, CanHold, Executes, HasPlaces, spot, steps_of};
+ghost use Rattle.arc_code.specs.CodeSteps.{program_of};
+ghost use Rattle.arc_steps.specs.Places.{Ready, CanHold, Executes, HasPlaces, machine_view, steps_of};
 
 use crate::answer::Answer;
 use crate::place::Place;
@@ -14,12 +14,12 @@ impl Place {
     /// A further variable, which is nil.
     #[inline(always)]
     pub fn declare<S: Store + Drop>(&mut self, code: &Code, objects: &mut Objects<S>) -> Answer
-        requires ready { Ready S.out (program_of code.now) (Instr.Plain Op.Declare) (spot self.old objects.old) }
+        requires ready { Ready S.out (program_of code.now) (Instr.Plain Op.Declare) (machine_view self.old objects.old) }
         requires place { self.old.at < 2 ^ 64 - 1 }
         requires room { code.now.room ≤ self.old.stack.room }
         requires places { HasPlaces code.now objects.old }
         ensures went { Executes S.out (program_of code.now) (Instr.Plain Op.Declare) result []
-            (spot self.old objects.old) (spot self.new objects.new) }
+            (machine_view self.old objects.old) (machine_view self.new objects.new) }
         ensures at { self.new.at ≡ self.old.at + steps_of result }
         ensures room { self.new.stack.room ≡ self.old.stack.room }
     {
@@ -33,12 +33,12 @@ impl Place {
     /// A further reference, which is nil.
     #[inline(always)]
     pub fn nil<S: Store + Drop>(&mut self, _code: &Code, objects: &mut Objects<S>) -> Answer
-        requires ready { Ready S.out (program_of _code.now) (Instr.Plain Op.Nil) (spot self.old objects.old) }
+        requires ready { Ready S.out (program_of _code.now) (Instr.Plain Op.Nil) (machine_view self.old objects.old) }
         requires place { self.old.at < 2 ^ 64 - 1 }
         requires room { _code.now.room ≤ self.old.stack.room }
         requires places { HasPlaces _code.now objects.old }
         ensures went { Executes S.out (program_of _code.now) (Instr.Plain Op.Nil) result []
-            (spot self.old objects.old) (spot self.new objects.new) }
+            (machine_view self.old objects.old) (machine_view self.new objects.new) }
         ensures at { self.new.at ≡ self.old.at + steps_of result }
         ensures room { self.new.stack.room ≡ self.old.stack.room }
     {
@@ -50,13 +50,13 @@ impl Place {
     /// A further reference names `self`, which a temporary takes.
     #[inline(always)]
     pub fn read_self<S: Store + Drop>(&mut self, code: &Code, objects: &mut Objects<S>) -> Answer
-        requires ready { Ready S.out (program_of code.now) (Instr.Plain Op.ReadSelf) (spot self.old objects.old) }
-        requires few { CanHold S.out (program_of code.now) (Instr.Plain Op.ReadSelf) (spot self.old objects.old) }
+        requires ready { Ready S.out (program_of code.now) (Instr.Plain Op.ReadSelf) (machine_view self.old objects.old) }
+        requires few { CanHold S.out (program_of code.now) (Instr.Plain Op.ReadSelf) (machine_view self.old objects.old) }
         requires place { self.old.at < 2 ^ 64 - 1 }
         requires room { code.now.room ≤ self.old.stack.room }
         requires places { HasPlaces code.now objects.old }
         ensures went { Executes S.out (program_of code.now) (Instr.Plain Op.ReadSelf) result []
-            (spot self.old objects.old) (spot self.new objects.new) }
+            (machine_view self.old objects.old) (machine_view self.new objects.new) }
         ensures at { self.new.at ≡ self.old.at + steps_of result }
         ensures room { self.new.stack.room ≡ self.old.stack.room }
     {
@@ -78,13 +78,13 @@ impl Place {
         code: &Code,
         objects: &mut Objects<S>,
     ) -> Answer
-        requires ready { Ready S.out (program_of code.now) (Instr.Plain (Op.ReadRef variable)) (spot self.old objects.old) }
-        requires few { CanHold S.out (program_of code.now) (Instr.Plain (Op.ReadRef variable)) (spot self.old objects.old) }
+        requires ready { Ready S.out (program_of code.now) (Instr.Plain (Op.ReadRef variable)) (machine_view self.old objects.old) }
+        requires few { CanHold S.out (program_of code.now) (Instr.Plain (Op.ReadRef variable)) (machine_view self.old objects.old) }
         requires place { self.old.at < 2 ^ 64 - 1 }
         requires room { code.now.room ≤ self.old.stack.room }
         requires places { HasPlaces code.now objects.old }
         ensures went { Executes S.out (program_of code.now) (Instr.Plain (Op.ReadRef variable)) result []
-            (spot self.old objects.old) (spot self.new objects.new) }
+            (machine_view self.old objects.old) (machine_view self.new objects.new) }
         ensures at { self.new.at ≡ self.old.at + steps_of result }
         ensures room { self.new.stack.room ≡ self.old.stack.room }
     {
@@ -106,13 +106,13 @@ impl Place {
         code: &Code,
         objects: &mut Objects<S>,
     ) -> Answer
-        requires ready { Ready S.out (program_of code.now) (Instr.Plain (Op.ReadGlobal variable)) (spot self.old objects.old) }
-        requires few { CanHold S.out (program_of code.now) (Instr.Plain (Op.ReadGlobal variable)) (spot self.old objects.old) }
+        requires ready { Ready S.out (program_of code.now) (Instr.Plain (Op.ReadGlobal variable)) (machine_view self.old objects.old) }
+        requires few { CanHold S.out (program_of code.now) (Instr.Plain (Op.ReadGlobal variable)) (machine_view self.old objects.old) }
         requires place { self.old.at < 2 ^ 64 - 1 }
         requires room { code.now.room ≤ self.old.stack.room }
         requires places { HasPlaces code.now objects.old }
         ensures went { Executes S.out (program_of code.now) (Instr.Plain (Op.ReadGlobal variable)) result []
-            (spot self.old objects.old) (spot self.new objects.new) }
+            (machine_view self.old objects.old) (machine_view self.new objects.new) }
         ensures room { self.new.stack.room ≡ self.old.stack.room }
     {
         // There are no more places than the code asks for, whose number fits a word.
@@ -128,13 +128,13 @@ impl Place {
     /// A temporary takes what the last reference names.
     #[inline(always)]
     pub fn hold<S: Store + Drop>(&mut self, code: &Code, objects: &mut Objects<S>) -> Answer
-        requires ready { Ready S.out (program_of code.now) (Instr.Plain Op.Hold) (spot self.old objects.old) }
-        requires few { CanHold S.out (program_of code.now) (Instr.Plain Op.Hold) (spot self.old objects.old) }
+        requires ready { Ready S.out (program_of code.now) (Instr.Plain Op.Hold) (machine_view self.old objects.old) }
+        requires few { CanHold S.out (program_of code.now) (Instr.Plain Op.Hold) (machine_view self.old objects.old) }
         requires place { self.old.at < 2 ^ 64 - 1 }
         requires room { code.now.room ≤ self.old.stack.room }
         requires places { HasPlaces code.now objects.old }
         ensures went { Executes S.out (program_of code.now) (Instr.Plain Op.Hold) result []
-            (spot self.old objects.old) (spot self.new objects.new) }
+            (machine_view self.old objects.old) (machine_view self.new objects.new) }
         ensures at { self.new.at ≡ self.old.at + steps_of result }
         ensures room { self.new.stack.room ≡ self.old.stack.room }
     {
@@ -150,12 +150,12 @@ impl Place {
     /// A further reference names what the last one does.
     #[inline(always)]
     pub fn again<S: Store + Drop>(&mut self, _code: &Code, objects: &mut Objects<S>) -> Answer
-        requires ready { Ready S.out (program_of _code.now) (Instr.Plain Op.Again) (spot self.old objects.old) }
+        requires ready { Ready S.out (program_of _code.now) (Instr.Plain Op.Again) (machine_view self.old objects.old) }
         requires place { self.old.at < 2 ^ 64 - 1 }
         requires room { _code.now.room ≤ self.old.stack.room }
         requires places { HasPlaces _code.now objects.old }
         ensures went { Executes S.out (program_of _code.now) (Instr.Plain Op.Again) result []
-            (spot self.old objects.old) (spot self.new objects.new) }
+            (machine_view self.old objects.old) (machine_view self.new objects.new) }
         ensures at { self.new.at ≡ self.old.at + steps_of result }
         ensures room { self.new.stack.room ≡ self.old.stack.room }
     {
@@ -168,12 +168,12 @@ impl Place {
     /// Takes the last reference.
     #[inline(always)]
     pub fn forget<S: Store + Drop>(&mut self, _code: &Code, objects: &mut Objects<S>) -> Answer
-        requires ready { Ready S.out (program_of _code.now) (Instr.Plain Op.Forget) (spot self.old objects.old) }
+        requires ready { Ready S.out (program_of _code.now) (Instr.Plain Op.Forget) (machine_view self.old objects.old) }
         requires place { self.old.at < 2 ^ 64 - 1 }
         requires room { _code.now.room ≤ self.old.stack.room }
         requires places { HasPlaces _code.now objects.old }
         ensures went { Executes S.out (program_of _code.now) (Instr.Plain Op.Forget) result []
-            (spot self.old objects.old) (spot self.new objects.new) }
+            (machine_view self.old objects.old) (machine_view self.new objects.new) }
         ensures at { self.new.at ≡ self.old.at + steps_of result }
         ensures room { self.new.stack.room ≡ self.old.stack.room }
     {
@@ -184,13 +184,13 @@ impl Place {
 
     /// Takes the last two references, and puts 1 on the stack where they differ, and else 0.
     #[inline(always)]
-    pub fn differ<S: Store + Drop>(&mut self, _code: &Code, objects: &mut Objects<S>) -> Answer
-        requires ready { Ready S.out (program_of _code.now) (Instr.Plain Op.Differ) (spot self.old objects.old) }
+    pub fn not_same<S: Store + Drop>(&mut self, _code: &Code, objects: &mut Objects<S>) -> Answer
+        requires ready { Ready S.out (program_of _code.now) (Instr.Plain Op.NotSame) (machine_view self.old objects.old) }
         requires place { self.old.at < 2 ^ 64 - 1 }
         requires room { _code.now.room ≤ self.old.stack.room }
         requires places { HasPlaces _code.now objects.old }
-        ensures went { Executes S.out (program_of _code.now) (Instr.Plain Op.Differ) result []
-            (spot self.old objects.old) (spot self.new objects.new) }
+        ensures went { Executes S.out (program_of _code.now) (Instr.Plain Op.NotSame) result []
+            (machine_view self.old objects.old) (machine_view self.new objects.new) }
         ensures at { self.new.at ≡ self.old.at + steps_of result }
         ensures room { self.new.stack.room ≡ self.old.stack.room }
     {
@@ -204,12 +204,12 @@ impl Place {
     /// Takes the last reference, and puts 1 on the stack where it isn't nil, and else 0.
     #[inline(always)]
     pub fn is_object<S: Store + Drop>(&mut self, _code: &Code, objects: &mut Objects<S>) -> Answer
-        requires ready { Ready S.out (program_of _code.now) (Instr.Plain Op.IsObject) (spot self.old objects.old) }
+        requires ready { Ready S.out (program_of _code.now) (Instr.Plain Op.IsObject) (machine_view self.old objects.old) }
         requires place { self.old.at < 2 ^ 64 - 1 }
         requires room { _code.now.room ≤ self.old.stack.room }
         requires places { HasPlaces _code.now objects.old }
         ensures went { Executes S.out (program_of _code.now) (Instr.Plain Op.IsObject) result []
-            (spot self.old objects.old) (spot self.new objects.new) }
+            (machine_view self.old objects.old) (machine_view self.new objects.new) }
         ensures at { self.new.at ≡ self.old.at + steps_of result }
         ensures room { self.new.stack.room ≡ self.old.stack.room }
     {

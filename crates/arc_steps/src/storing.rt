@@ -1,15 +1,15 @@
 //! The instructions by which variables of the whole program and fields take objects.
 ghost use Rattle.std.specs.Prelude.{◌≡◌, ◌+◌, ◌-◌, ◌^◌, ◌<◌, ◌≤◌, IsTrue, IfNone, length, slice_get};
 ghost use Rattle.arc_spec.specs.Classes.{classes_of};
-ghost use Rattle.arc_cells.specs.Spans.{Descend};
-ghost use Rattle.arc_code.specs.Running.{program_of};
-ghost use Rattle.arc_steps.specs.Places.{Ready, CanHold, Executes, Follows, spot, shown, HasPlaces};
-ghost use Rattle.arc_steps.specs.Storing.{CanReplace, Replaces, FieldReady, FindsField, LastGlobal, LastStored};
+ghost use Rattle.arc_cells.specs.SubclassRanges.{Descend};
+ghost use Rattle.arc_code.specs.CodeSteps.{program_of};
+ghost use Rattle.arc_steps.specs.Places.{Ready, CanHold, Executes, Follows, machine_view, shown, HasPlaces};
+ghost use Rattle.arc_steps.specs.GlobalFieldStores.{CanReplace, Replaces, FieldReady, FindsField, LastGlobal, LastStored};
 
 use crate::answer::Answer;
 use crate::field::is_of;
 use crate::place::Place;
-use crate::releasing::{Turn, calm};
+use crate::releasing::{Turn, silent};
 use arc_cells::objects::Objects;
 use arc_cells::span::name_index;
 use arc_code::code::Code;
@@ -71,13 +71,13 @@ impl Place {
         code: &Code,
         objects: &mut Objects<S>,
     ) -> Option<Answer>
-        requires ready { Ready S.out (program_of code.now) (Instr.StoreGlobal variable) (spot self.old objects.old) }
-        requires few { CanHold S.out (program_of code.now) (Instr.StoreGlobal variable) (spot self.old objects.old) }
+        requires ready { Ready S.out (program_of code.now) (Instr.StoreGlobal variable) (machine_view self.old objects.old) }
+        requires few { CanHold S.out (program_of code.now) (Instr.StoreGlobal variable) (machine_view self.old objects.old) }
         requires place { self.old.at < 2 ^ 64 - 1 }
         requires room { code.now.room ≤ self.old.stack.room }
         requires places { HasPlaces code.now objects.old }
         ensures went { Follows S.out (program_of code.now) (Instr.StoreGlobal variable) result
-            (spot self.old objects.old) (spot self.new objects.new) }
+            (machine_view self.old objects.old) (machine_view self.new objects.new) }
         ensures last { IfNone result ((self.new ≡ self.old) × (objects.new ≡ objects.old) × LastGlobal S.out objects.old variable) }
         ensures room { self.new.stack.room ≡ self.old.stack.room }
     {
@@ -102,20 +102,20 @@ impl Place {
         code: &Code,
         objects: &mut Objects<S>,
     ) -> Turn
-        requires ready { Ready S.out (program_of code.now) (Instr.StoreGlobal variable) (spot self.old objects.old) }
-        requires few { CanHold S.out (program_of code.now) (Instr.StoreGlobal variable) (spot self.old objects.old) }
+        requires ready { Ready S.out (program_of code.now) (Instr.StoreGlobal variable) (machine_view self.old objects.old) }
+        requires few { CanHold S.out (program_of code.now) (Instr.StoreGlobal variable) (machine_view self.old objects.old) }
         requires place { self.old.at < 2 ^ 64 - 1 }
         requires room { code.now.room ≤ self.old.stack.room }
         requires places { HasPlaces code.now objects.old }
         ensures went { Executes S.out (program_of code.now) (Instr.StoreGlobal variable) result.answer (shown result.event)
-            (spot self.old objects.old) (spot self.new objects.new) }
+            (machine_view self.old objects.old) (machine_view self.new objects.new) }
         ensures room { self.new.stack.room ≡ self.old.stack.room }
     {
         if let Some(answer) = self.store_global_soon(variable, code, objects) {
-            return calm(answer);
+            return silent(answer);
         }
         if !objects.have_level() {
-            return calm(Answer::Faulted(Fault::Depth));
+            return silent(Answer::Faulted(Fault::Depth));
         }
         let object = objects.reference();
         let Some(before) = objects.strong_global(variable) else {
@@ -138,13 +138,13 @@ impl Place {
         objects: &mut Objects<S>,
     ) -> Option<Answer>
         requires end { Descend (program_of code.now).classes class end }
-        requires ready { Ready S.out (program_of code.now) (Instr.StoreField class index) (spot self.old objects.old) }
-        requires few { CanHold S.out (program_of code.now) (Instr.StoreField class index) (spot self.old objects.old) }
+        requires ready { Ready S.out (program_of code.now) (Instr.StoreField class index) (machine_view self.old objects.old) }
+        requires few { CanHold S.out (program_of code.now) (Instr.StoreField class index) (machine_view self.old objects.old) }
         requires place { self.old.at < 2 ^ 64 - 1 }
         requires room { code.now.room ≤ self.old.stack.room }
         requires places { HasPlaces code.now objects.old }
         ensures went { Follows S.out (program_of code.now) (Instr.StoreField class index) result
-            (spot self.old objects.old) (spot self.new objects.new) }
+            (machine_view self.old objects.old) (machine_view self.new objects.new) }
         ensures last { IfNone result (LastStored S.out (classes_of code.now.classes.items) objects.old class index) }
         ensures room { self.new.stack.room ≡ self.old.stack.room }
     {
@@ -180,20 +180,20 @@ impl Place {
         objects: &mut Objects<S>,
     ) -> Turn
         requires end { Descend (program_of code.now).classes class end }
-        requires ready { Ready S.out (program_of code.now) (Instr.StoreField class index) (spot self.old objects.old) }
-        requires few { CanHold S.out (program_of code.now) (Instr.StoreField class index) (spot self.old objects.old) }
+        requires ready { Ready S.out (program_of code.now) (Instr.StoreField class index) (machine_view self.old objects.old) }
+        requires few { CanHold S.out (program_of code.now) (Instr.StoreField class index) (machine_view self.old objects.old) }
         requires place { self.old.at < 2 ^ 64 - 1 }
         requires room { code.now.room ≤ self.old.stack.room }
         requires places { HasPlaces code.now objects.old }
         ensures went { Executes S.out (program_of code.now) (Instr.StoreField class index) result.answer (shown result.event)
-            (spot self.old objects.old) (spot self.new objects.new) }
+            (machine_view self.old objects.old) (machine_view self.new objects.new) }
         ensures room { self.new.stack.room ≡ self.old.stack.room }
     {
         if let Some(answer) = self.store_field_soon(class, index, end, code, objects) {
-            return calm(answer);
+            return silent(answer);
         }
         if !objects.have_level() {
-            return calm(Answer::Faulted(Fault::Depth));
+            return silent(Answer::Faulted(Fault::Depth));
         }
         let object = objects.reference();
         let holder = objects.reference_below(1);

@@ -1,11 +1,11 @@
 pub mod Reports
-pub mod Compiled
-pub mod Refused
+pub mod CompiledCode
+pub mod RefusalStages
 pub mod Progress
 pub mod Status
-pub mod Lines
+pub mod TraceLines
 pub mod SourceRun
-pub mod Ran
-pub mod Traced
-pub mod Served
+pub mod RunAnswers
+pub mod TraceAnswers
+pub mod CommandAnswers
 pub mod private

@@ -1,10 +1,10 @@
 -- Where a run of code is after some steps on an input.
 use Rattle.std.specs.Prelude.{◌≡◌, ℕ, List, [], ◌++◌, Some, slice_get}
 use Rattle.arc_spec.specs.declared.event.Event.{Event}
-use Rattle.arc_spec.specs.Stepping.{Reached, Running, Ended, Faulted, Wedged, after_steps}
+use Rattle.arc_spec.specs.SmallSteps.{Reached, Running, Ended, Faulted, Wedged, after_steps}
 use Rattle.arc_code.specs.declared.instr.Op.TheVariants.{Alloc}
 use Rattle.arc_code.specs.declared.instr.Instr.TheVariants.{Plain}
-use Rattle.arc_code.specs.Running.{Program, State, start, step}
+use Rattle.arc_code.specs.CodeSteps.{Program, State, start, step}
 use Rattle.arc_steps.specs.Steps.{bytes_of}
 use Rattle.arc_turns.specs.Runs.{IsAsking, IsWriting}
 

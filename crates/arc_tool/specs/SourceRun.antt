@@ -2,16 +2,16 @@
 use Rattle.std.specs.Prelude.{◌≡◌, ℕ, suc, ◌<◌, ◌≤◌, List, ◌++◌, Option, Some, None, ⊤}
 use Rattle.std.specs.Io.KnownBytes.{Consumes}
 use Rattle.arc_spec.specs.declared.event.Event.{Event}
-use Rattle.arc_spec.specs.Stepping.{Reached}
-use Rattle.arc_spec.specs.Correct as correct
-use Rattle.arc_spec.specs.Correct.{Sight, IsPrefix}
-use Rattle.arc_code.specs.Running.{Program, State, seen}
+use Rattle.arc_spec.specs.SmallSteps.{Reached}
+use Rattle.arc_spec.specs.Correctness as correct
+use Rattle.arc_spec.specs.Correctness.{Observation, IsPrefix}
+use Rattle.arc_code.specs.CodeSteps.{Program, State, seen}
 use Rattle.arc_machine.specs.declared.stop.Stop.TheVariants.{Ended, Fault, StepsUsed, NoHeap}
 use Rattle.arc_turns.specs.Runs.{Leaves}
 use Rattle.arc_source.specs.Accepted.{meant}
 use Rattle.arc_tool.specs.declared.lines.Left.{Left}
 use Rattle.arc_tool.specs.declared.lines.Left.TheVariants.{Stopped, Unread}
-use Rattle.arc_tool.specs.Compiled.{Compiles}
+use Rattle.arc_tool.specs.CompiledCode.{Compiles}
 use Rattle.arc_tool.specs.Progress.{run_of, Takes, MakesObject, ReadsByte}
 
 -- the stop that is seen of a run that was left so, where it is over
@@ -44,7 +44,7 @@ pub record Follows (code : Program) (made : ℕ) (left : Left) (in0 in1 : Option
   pub goes_on : (rest : List ℕ) → Leaves in1 rest → GoesOn left code (run_of code (taken ++ rest) made)
 
 -- what a run showed, with its stop, is what the program means to show; where it had none, these are the first events
-abbrev pub Means : Option correct.Stop → List Event → Sight → Type 0
+abbrev pub Means : Option correct.Stop → List Event → Observation → Type 0
 Means (Some s) events m = m ≡ record { trace = events; stop = Some s }
 Means None events m = IsPrefix events m.trace
 

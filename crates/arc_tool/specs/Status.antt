@@ -1,6 +1,6 @@
 -- The status with which the program ends, and the line that it writes on standard error, which are this project's own choice.
 use Rattle.std.specs.Prelude.{ℕ, List, ◌++◌, codes, decimal}
-use Rattle.arc_code.specs.Faulty as faulty
+use Rattle.arc_code.specs.DeviceFaults as faulty
 use Rattle.arc_machine.specs.FaultNames as stopped
 use Rattle.arc_tool.specs.declared.run.ToolFault.{ToolFault}
 use Rattle.arc_tool.specs.declared.run.ToolFault.TheVariants as tool_fault

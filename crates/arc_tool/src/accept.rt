@@ -4,8 +4,8 @@ ghost use Rattle.arc_ast.specs.Tree.{unit_tree};
 ghost use Rattle.arc_class.specs.ClassRules.{broken};
 ghost use Rattle.arc_class.specs.Table.{IsTableOf};
 ghost use Rattle.arc_source.specs.Accepted.{Spelled};
-ghost use Rattle.arc_tool.specs.Refused.{IsCompilable, IsRefusal};
-ghost use Rattle.arc_tool.specs.private.Checked.{IsChecked};
+ghost use Rattle.arc_tool.specs.RefusalStages.{IsCompilable, IsRefusal};
+ghost use Rattle.arc_tool.specs.private.CheckedProgram.{IsChecked};
 
 use crate::refusal::Refusal;
 use arc_ast::tree::TranslationUnit;

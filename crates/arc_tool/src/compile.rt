@@ -3,11 +3,11 @@ ghost use Rattle.std.specs.Prelude.{◌≡◌, ℕ, List, [], map, IfOk, IfErr};
 ghost use Rattle.arc_ast.specs.Tree.{unit_tree};
 ghost use Rattle.arc_class.specs.ClassRules.{broken};
 ghost use Rattle.arc_class.specs.Table.{IsTableOf};
-ghost use Rattle.arc_code.specs.Running.{IsSound, program_of};
+ghost use Rattle.arc_code.specs.CodeSteps.{IsSound, program_of};
 ghost use Rattle.arc_source.specs.Accepted.{Spelled};
-ghost use Rattle.arc_tool.specs.Compiled.{Compiles, CompilesNamed, class_names, bytes_of_name};
-ghost use Rattle.arc_tool.specs.Refused.{IsRefusal};
-ghost use Rattle.arc_tool.specs.private.Checked.{IsChecked};
+ghost use Rattle.arc_tool.specs.CompiledCode.{Compiles, CompilesNamed, class_names, bytes_of_name};
+ghost use Rattle.arc_tool.specs.RefusalStages.{IsRefusal};
+ghost use Rattle.arc_tool.specs.private.CheckedProgram.{IsChecked};
 
 use crate::refusal::Refusal;
 use arc_ast::tree::TranslationUnit;

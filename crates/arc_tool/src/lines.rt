@@ -2,10 +2,10 @@
 ghost use Rattle.std.specs.Prelude.{◌≡◌, ◌-◌, ◌^◌, ◌<◌, ◌++◌, codes, map, Ok};
 ghost use Rattle.std.specs.Fmt.{signed_decimal};
 ghost use Rattle.arc_code.specs.Attempts.{HasFailedToWrite};
-ghost use Rattle.arc_code.specs.Counting.{failures_of, inner_of, held_by};
-ghost use Rattle.arc_code.specs.Written.{Written};
-ghost use Rattle.arc_tool.specs.Compiled.{bytes_of_name};
-ghost use Rattle.arc_tool.specs.Lines.{digit, two_digits, name_at, dealloc_line, left_text, opening, closing, event_text, leaves_open, events_text, open_after, end_text};
+ghost use Rattle.arc_code.specs.CountedDevices.{failures_of, inner_of, held_by};
+ghost use Rattle.arc_code.specs.WrittenBytes.{Written};
+ghost use Rattle.arc_tool.specs.CompiledCode.{bytes_of_name};
+ghost use Rattle.arc_tool.specs.TraceLines.{digit, two_digits, name_at, dealloc_line, left_text, opening, closing, event_text, leaves_open, events_text, open_after, end_text};
 
 use crate::report::{put, put_broken, put_fault, put_named};
 use arc_code::code::IoFault;

@@ -2,9 +2,9 @@
 ghost use Rattle.std.specs.Prelude.{◌≡◌, ◌+◌, ◌-◌, ◌^◌, ◌<◌, ◌++◌, codes, decimal, IfErr, OnOk, OnErr};
 ghost use Rattle.std.specs.Io.KnownBytes.{Keeps};
 ghost use Rattle.arc_code.specs.Attempts.{HasFailedToWrite, HasPassedOn};
-ghost use Rattle.arc_code.specs.Counting.{failures_of, inner_of, held_by};
-ghost use Rattle.arc_code.specs.Written.{Written};
-ghost use Rattle.arc_code.specs.Faulty as faulty;
+ghost use Rattle.arc_code.specs.CountedDevices.{failures_of, inner_of, held_by};
+ghost use Rattle.arc_code.specs.WrittenBytes.{Written};
+ghost use Rattle.arc_code.specs.DeviceFaults as faulty;
 ghost use Rattle.arc_machine.specs.FaultNames as stopped;
 ghost use Rattle.arc_tool.specs.Status.{report, line_of, named};
 ghost use Rattle.arc_code.specs.declared.code.IoFault.TheVariants as fault;

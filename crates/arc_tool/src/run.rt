@@ -1,13 +1,13 @@
 //! Compiles a source and runs it.
 ghost use Rattle.std.specs.Prelude.{◌≡◌, ◌-◌, ◌^◌, ◌<◌, Ok};
 ghost use Rattle.arc_code.specs.Attempts.{HasFailedToRead, HasFailedToWrite, HasPassedOn};
-ghost use Rattle.arc_code.specs.Counting.{failures_of, inner_of, left_in, held_by};
-ghost use Rattle.arc_code.specs.Running.{IsSound, Program};
+ghost use Rattle.arc_code.specs.CountedDevices.{failures_of, inner_of, left_in, held_by};
+ghost use Rattle.arc_code.specs.CodeSteps.{IsSound, Program};
 ghost use Rattle.arc_turns.specs.Runs.{Lacks};
 ghost use Rattle.arc_steps.specs.Views.{fresh};
 ghost use Rattle.arc_machine.specs.declared.stop.Stop.TheVariants.{NoHeap};
-ghost use Rattle.arc_tool.specs.private.Printed.{PassesPrinted, RanCode, failed_device};
-ghost use Rattle.arc_tool.specs.Ran.{Answered, Blames, PassesOn, Untouched, blamed};
+ghost use Rattle.arc_tool.specs.private.PrintedRun.{PassesPrinted, RanCode, failed_device};
+ghost use Rattle.arc_tool.specs.RunAnswers.{Answered, Blames, PassesOn, Untouched, blamed};
 
 use crate::compile::compile;
 use crate::refusal::Refusal;

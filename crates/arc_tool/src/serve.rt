@@ -1,14 +1,14 @@
 //! The whole program, but for reading its file.
 ghost use Rattle.std.specs.Prelude.{◌≡◌, ◌-◌, ◌^◌, ◌<◌, ℕ, Result, Err, OnOk, codes};
 ghost use Rattle.arc_code.specs.Attempts.{HasFailedToRead, HasFailedToWrite, HasPassedOn};
-ghost use Rattle.arc_code.specs.Counting.{failures_of, inner_of};
+ghost use Rattle.arc_code.specs.CountedDevices.{failures_of, inner_of};
 ghost use Rattle.arc_code.specs.Listing.{listing};
-ghost use Rattle.arc_code.specs.Running.{Program};
-ghost use Rattle.arc_tool.specs.Compiled.{Compiles};
+ghost use Rattle.arc_code.specs.CodeSteps.{Program};
+ghost use Rattle.arc_tool.specs.CompiledCode.{Compiles};
 ghost use Rattle.arc_tool.specs.declared.report.Trouble.{Trouble};
-ghost use Rattle.arc_tool.specs.Ran.{Blames};
-ghost use Rattle.arc_tool.specs.Refused.{IsCompilable};
-ghost use Rattle.arc_tool.specs.Served.{Attempted, Flushed, Obeyed, Prints, Reported, Says, UnlessRefused, device_of, source_or, ended_with};
+ghost use Rattle.arc_tool.specs.RunAnswers.{Blames};
+ghost use Rattle.arc_tool.specs.RefusalStages.{IsCompilable};
+ghost use Rattle.arc_tool.specs.CommandAnswers.{Attempted, Flushed, Obeyed, Prints, Reported, Says, UnlessRefused, device_of, source_or, ended_with};
 
 use crate::accept::accept;
 use crate::compile::compile;

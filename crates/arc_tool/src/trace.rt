@@ -1,18 +1,18 @@
 //! Compiles a source and shows what its program does, in lines.
 ghost use Rattle.std.specs.Prelude.{◌≡◌, ◌≢◌, ◌-◌, ◌^◌, ◌<◌, map, IfOk, IfErr, OnErr, Ok, Err};
 ghost use Rattle.arc_code.specs.Attempts.{HasFailedToRead, HasFailedToWrite, HasPassedOn};
-ghost use Rattle.arc_code.specs.Counting.{failures_of, inner_of, left_in, held_by};
-ghost use Rattle.arc_code.specs.Running.{IsSound, Program};
-ghost use Rattle.arc_code.specs.Written.{Written};
+ghost use Rattle.arc_code.specs.CountedDevices.{failures_of, inner_of, left_in, held_by};
+ghost use Rattle.arc_code.specs.CodeSteps.{IsSound, Program};
+ghost use Rattle.arc_code.specs.WrittenBytes.{Written};
 ghost use Rattle.arc_turns.specs.Runs.{Lacks};
 ghost use Rattle.arc_steps.specs.Views.{fresh};
 ghost use Rattle.arc_machine.specs.declared.stop.Stop.TheVariants.{NoHeap};
-ghost use Rattle.arc_tool.specs.Compiled.{bytes_of_name};
-ghost use Rattle.arc_tool.specs.Ran.{Blames, PassesOn, Untouched, blamed};
+ghost use Rattle.arc_tool.specs.CompiledCode.{bytes_of_name};
+ghost use Rattle.arc_tool.specs.RunAnswers.{Blames, PassesOn, Untouched, blamed};
 ghost use Rattle.arc_tool.specs.declared.lines.Left.TheVariants.{Stopped};
-ghost use Rattle.arc_tool.specs.Lines.{events_text, open_after};
-ghost use Rattle.arc_tool.specs.private.Stepped.{EndsTrace, Followed, Interrupted, new_events};
-ghost use Rattle.arc_tool.specs.Traced.{AnsweredTrace};
+ghost use Rattle.arc_tool.specs.TraceLines.{events_text, open_after};
+ghost use Rattle.arc_tool.specs.private.TraceSteps.{EndsTrace, Followed, Interrupted, new_events};
+ghost use Rattle.arc_tool.specs.TraceAnswers.{AnsweredTrace};
 
 use crate::compile::compile_named;
 use crate::lines::{Left, open_after, put_end, put_events};

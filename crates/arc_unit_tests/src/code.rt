@@ -1,6 +1,6 @@
 //! Devices that fail, and a listing.
 ghost use Rattle.std.specs.Prelude.{◌≡◌};
-ghost use Rattle.arc_code.specs.Counting.{failures_of};
+ghost use Rattle.arc_code.specs.CountedDevices.{failures_of};
 
 use arc_ast::tree::{BinaryOperator, Kind, UnaryOperator};
 use arc_code::code::{Code, Instruction, IoFault, Piece};
@@ -102,7 +102,7 @@ static INSTRS: [Instruction; 44] = [
     Instr::Plain(Op::Alloc),
     Instr::Plain(Op::GetField(5, 6)),
     Instr::Plain(Op::SetField(7, 8)),
-    Instr::Plain(Op::Differ),
+    Instr::Plain(Op::NotSame),
     Instr::Plain(Op::IsObject),
     Instr::Plain(Op::Again),
     Instr::Plain(Op::GetGlobal(9)),
@@ -138,7 +138,7 @@ const LISTING: &str = "0 Num -42\n1 Bin 3 2\n2 Un 2 3\n3 Narrow 1\n4 Pop\n5 Get 
     14 Send 3 1 2 1\n15 SendSuper 1 2 0 3 0\n16 SendTo 11 12 13 1\n17 SendToSuper 14 15 16 17 0\n\
     18 StoreStrong 2\n19 Empty 3\n20 DropAll\n21 Return\n22 EndStep\n23 Declare\n24 Nil\n\
     25 ReadSelf\n26 ReadRef 4\n27 Hold\n28 Forget\n29 Alloc\n30 GetField 5 6\n31 SetField 7 8\n\
-    32 Differ\n33 IsObject\n34 Again\n35 GetGlobal 9\n36 SetGlobal 10\n37 ReadGlobal 11\n38 ReadField 12 13\n\
+    32 NotSame\n33 IsObject\n34 Again\n35 GetGlobal 9\n36 SetGlobal 10\n37 ReadGlobal 11\n38 ReadField 12 13\n\
     39 StoreGlobal 14\n40 StoreField 15 16\n\
     41 Finds 17\n42 Settle\n43 Give\n";
 

@@ -12,7 +12,7 @@ use Rattle.arc_class.specs.Classes.{class_number, own_result}
 use Rattle.arc_spec.specs.declared.sort_counts.SortCounts.{SortCounts}
 use Rattle.arc_class.specs.Fields.{numbered, sorts_of_fields, written_sorts, fields_declared, if_before, earlier_superclasses, inherited_by, own_fields}
 use Rattle.arc_spec.specs.Sorts.{none_counted, with_all, counts}
-use Rattle.arc_class.specs.ByName.{Named}
+use Rattle.arc_class.specs.NameMaps.{Named}
 use Rattle.arc_class.specs.declared.table.MethodResult.{MethodResult}
 use Rattle.arc_class.specs.declared.table.Place.{Place}
 use Rattle.arc_class.specs.Lookups.{at_name, given_at, least_among}

@@ -2,7 +2,7 @@
 use Rattle.std.specs.Prelude.{ℕ, Bool, false, ◌||◌, List, [], ◌∷◌, is_some}
 use Rattle.std.specs.Str.{bytes_eq}
 use Rattle.arc_ast.specs.Tree.{VariableTree}
-use Rattle.arc_class.specs.ByName.{Named}
+use Rattle.arc_class.specs.NameMaps.{Named}
 use Rattle.arc_class.specs.Lookups.{at_name}
 
 -- no name, and one more

@@ -9,18 +9,18 @@ use Rattle.arc_spec.specs.Classes.{same_gives, classes_of, superclasses, ancestr
 use Rattle.arc_spec.specs.Number.{is_zero}
 use Rattle.arc_spec.proofs.Ancestry.{all_classes}
 use Rattle.arc_checked.specs.Checked.{program_of}
-use Rattle.arc_spec.specs.Meaning.{referred, released, updated, given_by, field_set, evaluated, whole, all_evaluated, all_executed, executed, turns, looped, called, function_at, all_dropped, variables_dropped, class_in, deallocs_run, dying, emptied, gone, level}
-use Rattle.arc_spec.specs.Resolved.{Updated, FieldUpdated, ObjectFieldStored, Function, no_arguments}
+use Rattle.arc_spec.specs.Meaning.{referred, released, updated, given_by, field_set, evaluated, full_expression, all_evaluated, all_executed, executed, turns, looped, called, function_at, all_dropped, variables_dropped, class_in, deallocs_run, dying, emptied, gone, level}
+use Rattle.arc_spec.specs.Resolved.{Update, UpdateField, SetObjectField, Function, no_arguments}
 use Rattle.arc_spec.specs.Objects.{object_at}
 use Rattle.arc_spec.specs.World.{World, Outcome, Done, then_do, Finished, name_at, takes}
 use Rattle.arc_plain.specs.Views.{world, given_of, answer_of, invoked, sent_to, Reports, deeper, flow_of, nothing_of, object_of, function_of, left_at, object_field_replaced}
-use Rattle.arc_plain.proofs.Calls.{call_reported, body_failed, drop_failed, nothing_reported, function_there, function_unwanted, function_absent, temporary_step, temporaries_fewer, no_temporary, variable_step, variable_failed, layer_done, layer_failed, emptied_is}
-use Rattle.arc_plain.proofs.Keeping.{level_steady}
-use Rattle.arc_checked.proofs.Trees.{is_print, is_invoked, is_sent, is_object_invoked, is_object_sent, is_sequence}
-use Rattle.arc_plain.proofs.Turns.{value_reported, command_reported, with_numbers, with_named, is_number, is_object, number_step, object_step, test_failed, turns_step, turns_left, turn_failed, first_step, first_left, first_failed, call_is, end_is, level_classes, finds_through}
-use Rattle.arc_plain.proofs.Results.{number_invoked, number_sent, object_invoked, object_sent, number_reported, number_failed, object_reported, object_failed}
-use Rattle.arc_plain.proofs.Updates.{variable_stored, field_stored, variable_updated, field_updated, field_named}
-use Rattle.arc_plain.proofs.Weights.{print_lighter, call_lighter, sent_lighter, object_call_lighter, object_sent_lighter, sequence_lighter, number_lighter, object_lighter, receiver_counts, command_in, commands_weight, level_lighter, body_lighter}
+use Rattle.arc_plain.proofs.CallsAndEndsReported.{call_reported, body_failed, drop_failed, nothing_reported, function_there, function_unwanted, function_absent, temporary_step, temporaries_fewer, no_temporary, variable_step, variable_failed, layer_done, layer_failed, emptied_is}
+use Rattle.arc_plain.proofs.FramesKept.{level_steady}
+use Rattle.arc_checked.proofs.NodeParts.{is_print, is_invoked, is_sent, is_object_invoked, is_object_sent, is_sequence}
+use Rattle.arc_plain.proofs.LoopsAndFailures.{value_reported, command_reported, with_numbers, with_named, is_number, is_object, number_step, object_step, test_failed, turns_step, turns_left, turn_failed, first_step, first_left, first_failed, call_is, end_is, level_classes, finds_through}
+use Rattle.arc_plain.proofs.CallResultsReported.{number_invoked, number_sent, object_invoked, object_sent, number_reported, number_failed, object_reported, object_failed}
+use Rattle.arc_plain.proofs.UpdateOutcomes.{variable_stored, field_stored, variable_updated, field_updated, field_named}
+use Rattle.arc_plain.proofs.TerminationMeasure.{print_lighter, call_lighter, sent_lighter, object_call_lighter, object_sent_lighter, sequence_lighter, number_lighter, object_lighter, receiver_counts, command_in, commands_weight, level_lighter, body_lighter}
 use Rattle.arc_plain.specs.declared.progress.Progress.{Progress}
 use Rattle.arc_plain.proofs.+running.Goals.{expression::evaluate_all-in-Number+in_ok-number-in-Number+in_ok-push-in-Number, expression::evaluate_all-in-Object+in_ok-object-in-Object+in_ok-push-in-Object}
 use Rattle.arc_plain.proofs.+running.Goals as goal
@@ -30,99 +30,99 @@ expression::evaluate-returns-in-Print t c =
     value_reported (deeper c.args.context.now) c.args.value.now _ c.evaluate_print.result (world c.args.progress.now) (world c.evaluate_print.new.progress)
     (is_print c.args.value.now c.in-Print.pieces c.in-Print.arguments c.deref.result.now c.deref-in-Print.result.now c.in-Print.is c.deref.ensures.value c.deref-in-Print.ensures.value) c.evaluate_print.ensures
 
-pub expression::evaluate-returns-in_ok-answered-in-Invoked : goal.expression::evaluate-returns-in_ok-answered-in-Invoked
-expression::evaluate-returns-in_ok-answered-in-Invoked t c =
+pub expression::evaluate-returns-in_ok-answered-in-Call : goal.expression::evaluate-returns-in_ok-answered-in-Call
+expression::evaluate-returns-in_ok-answered-in-Call t c =
     let D = deeper c.args.context.now in
-    let all = checked.arguments c.deref-in-Invoked.result.now in
+    let all = checked.arguments c.deref-in-Call.result.now in
     let w = world c.args.progress.now in
-    let a = c.in_ok-answered-in-Invoked.answered in
+    let a = c.in_ok-answered-in-Call.answered in
     let n = to_z w64 (of_z w64 a.number) in
     let same : n ≡ a.number = grind (arith, to_z-of_z) in
-    number_reported (evaluated D (checked.value c.args.value.now) w) (invoked D gives.Number c.in-Invoked.function all w) a n (world c.invoke.new.progress)
-    (number_invoked D c.args.value.now c.in-Invoked.function all w (is_invoked c.args.value.now c.in-Invoked.function c.in-Invoked.arguments c.deref-in-Invoked.result.now c.in-Invoked.is c.deref-in-Invoked.ensures.value))
-    c.in_ok-answered-in-Invoked.ensures same
+    number_reported (evaluated D (checked.value c.args.value.now) w) (invoked D gives.Number c.in-Call.function all w) a n (world c.invoke.new.progress)
+    (number_invoked D c.args.value.now c.in-Call.function all w (is_invoked c.args.value.now c.in-Call.function c.in-Call.arguments c.deref-in-Call.result.now c.in-Call.is c.deref-in-Call.ensures.value))
+    c.in_ok-answered-in-Call.ensures same
 
-pub expression::evaluate-returns-in_err-answered-in-Invoked : goal.expression::evaluate-returns-in_err-answered-in-Invoked
-expression::evaluate-returns-in_err-answered-in-Invoked t c =
+pub expression::evaluate-returns-in_err-answered-in-Call : goal.expression::evaluate-returns-in_err-answered-in-Call
+expression::evaluate-returns-in_err-answered-in-Call t c =
     let D = deeper c.args.context.now in
-    let all = checked.arguments c.deref-in-Invoked.result.now in
+    let all = checked.arguments c.deref-in-Call.result.now in
     let w = world c.args.progress.now in
-    let p = err_from_is_err_and c.from_residual-in_err-answered-in-Invoked.result c.from_residual-in_err-answered-in-Invoked.ensures.1 in
-    number_failed (evaluated D (checked.value c.args.value.now) w) (invoked D gives.Number c.in-Invoked.function all w) c.in_err-answered-in-Invoked.field-0.0 c.from_residual-in_err-answered-in-Invoked.result (world c.invoke.new.progress)
-    (number_invoked D c.args.value.now c.in-Invoked.function all w (is_invoked c.args.value.now c.in-Invoked.function c.in-Invoked.arguments c.deref-in-Invoked.result.now c.in-Invoked.is c.deref-in-Invoked.ensures.value))
-    (p.1 ∙ ap Err p.2) c.in_err-answered-in-Invoked.ensures
+    let p = err_from_is_err_and c.from_residual-in_err-answered-in-Call.result c.from_residual-in_err-answered-in-Call.ensures.1 in
+    number_failed (evaluated D (checked.value c.args.value.now) w) (invoked D gives.Number c.in-Call.function all w) c.in_err-answered-in-Call.field-0.0 c.from_residual-in_err-answered-in-Call.result (world c.invoke.new.progress)
+    (number_invoked D c.args.value.now c.in-Call.function all w (is_invoked c.args.value.now c.in-Call.function c.in-Call.arguments c.deref-in-Call.result.now c.in-Call.is c.deref-in-Call.ensures.value))
+    (p.1 ∙ ap Err p.2) c.in_err-answered-in-Call.ensures
 
-pub expression::evaluate-returns-in_ok-answered-in-Sent : goal.expression::evaluate-returns-in_ok-answered-in-Sent
-expression::evaluate-returns-in_ok-answered-in-Sent t c =
+pub expression::evaluate-returns-in_ok-answered-in-Send : goal.expression::evaluate-returns-in_ok-answered-in-Send
+expression::evaluate-returns-in_ok-answered-in-Send t c =
     let D = deeper c.args.context.now in
-    let receiver = checked.receiver c.deref-in-Sent.result.now in
-    let all = checked.arguments c.deref-in-Sent-2.result.now in
+    let receiver = checked.receiver c.deref-in-Send.result.now in
+    let all = checked.arguments c.deref-in-Send-2.result.now in
     let w = world c.args.progress.now in
-    let a = c.in_ok-answered-in-Sent.answered in
+    let a = c.in_ok-answered-in-Send.answered in
     let n = to_z w64 (of_z w64 a.number) in
     let same : n ≡ a.number = grind (arith, to_z-of_z) in
-    number_reported (evaluated D (checked.value c.args.value.now) w) (sent_to D gives.Number receiver c.in-Sent.selector all w) a n (world c.send.new.progress)
-    (number_sent D c.args.value.now receiver c.in-Sent.selector all w (is_sent c.args.value.now c.in-Sent.receiver c.in-Sent.selector c.in-Sent.arguments c.deref-in-Sent.result.now c.deref-in-Sent-2.result.now c.in-Sent.is c.deref-in-Sent.ensures c.deref-in-Sent-2.ensures.value))
-    c.in_ok-answered-in-Sent.ensures same
+    number_reported (evaluated D (checked.value c.args.value.now) w) (sent_to D gives.Number receiver c.in-Send.selector all w) a n (world c.send.new.progress)
+    (number_sent D c.args.value.now receiver c.in-Send.selector all w (is_sent c.args.value.now c.in-Send.receiver c.in-Send.selector c.in-Send.arguments c.deref-in-Send.result.now c.deref-in-Send-2.result.now c.in-Send.is c.deref-in-Send.ensures c.deref-in-Send-2.ensures.value))
+    c.in_ok-answered-in-Send.ensures same
 
-pub expression::evaluate-returns-in_err-answered-in-Sent : goal.expression::evaluate-returns-in_err-answered-in-Sent
-expression::evaluate-returns-in_err-answered-in-Sent t c =
+pub expression::evaluate-returns-in_err-answered-in-Send : goal.expression::evaluate-returns-in_err-answered-in-Send
+expression::evaluate-returns-in_err-answered-in-Send t c =
     let D = deeper c.args.context.now in
-    let receiver = checked.receiver c.deref-in-Sent.result.now in
-    let all = checked.arguments c.deref-in-Sent-2.result.now in
+    let receiver = checked.receiver c.deref-in-Send.result.now in
+    let all = checked.arguments c.deref-in-Send-2.result.now in
     let w = world c.args.progress.now in
-    let p = err_from_is_err_and c.from_residual-in_err-answered-in-Sent.result c.from_residual-in_err-answered-in-Sent.ensures.1 in
-    number_failed (evaluated D (checked.value c.args.value.now) w) (sent_to D gives.Number receiver c.in-Sent.selector all w) c.in_err-answered-in-Sent.field-0.0 c.from_residual-in_err-answered-in-Sent.result (world c.send.new.progress)
-    (number_sent D c.args.value.now receiver c.in-Sent.selector all w (is_sent c.args.value.now c.in-Sent.receiver c.in-Sent.selector c.in-Sent.arguments c.deref-in-Sent.result.now c.deref-in-Sent-2.result.now c.in-Sent.is c.deref-in-Sent.ensures c.deref-in-Sent-2.ensures.value))
-    (p.1 ∙ ap Err p.2) c.in_err-answered-in-Sent.ensures
+    let p = err_from_is_err_and c.from_residual-in_err-answered-in-Send.result c.from_residual-in_err-answered-in-Send.ensures.1 in
+    number_failed (evaluated D (checked.value c.args.value.now) w) (sent_to D gives.Number receiver c.in-Send.selector all w) c.in_err-answered-in-Send.field-0.0 c.from_residual-in_err-answered-in-Send.result (world c.send.new.progress)
+    (number_sent D c.args.value.now receiver c.in-Send.selector all w (is_sent c.args.value.now c.in-Send.receiver c.in-Send.selector c.in-Send.arguments c.deref-in-Send.result.now c.deref-in-Send-2.result.now c.in-Send.is c.deref-in-Send.ensures c.deref-in-Send-2.ensures.value))
+    (p.1 ∙ ap Err p.2) c.in_err-answered-in-Send.ensures
 
 pub expression::refer-invoke-requires : goal.expression::refer-invoke-requires
 expression::refer-invoke-requires t c =
-    (omega (arith, object_call_lighter c.args.reference.now c.in-ObjectInvoked.function c.in-ObjectInvoked.arguments c.deref-in-ObjectInvoked.result.now c.in-ObjectInvoked.is c.deref-in-ObjectInvoked.ensures.value, c.decreases), tt)
+    (omega (arith, object_call_lighter c.args.reference.now c.in-ObjectCall.function c.in-ObjectCall.arguments c.deref-in-ObjectCall.result.now c.in-ObjectCall.is c.deref-in-ObjectCall.ensures.value, c.decreases), tt)
 
 pub expression::refer-send-requires : goal.expression::refer-send-requires
 expression::refer-send-requires t c =
-    (omega (arith, object_sent_lighter c.args.reference.now c.in-ObjectSent.receiver c.in-ObjectSent.selector c.in-ObjectSent.arguments c.deref-in-ObjectSent.result.now c.deref-in-ObjectSent-2.result.now c.in-ObjectSent.is c.deref-in-ObjectSent.ensures c.deref-in-ObjectSent-2.ensures.value, c.decreases), tt)
+    (omega (arith, object_sent_lighter c.args.reference.now c.in-ObjectSend.receiver c.in-ObjectSend.selector c.in-ObjectSend.arguments c.deref-in-ObjectSend.result.now c.deref-in-ObjectSend-2.result.now c.in-ObjectSend.is c.deref-in-ObjectSend.ensures c.deref-in-ObjectSend-2.ensures.value, c.decreases), tt)
 
-pub expression::refer-returns-in_ok-answered-in-ObjectInvoked : goal.expression::refer-returns-in_ok-answered-in-ObjectInvoked
-expression::refer-returns-in_ok-answered-in-ObjectInvoked t c =
+pub expression::refer-returns-in_ok-answered-in-ObjectCall : goal.expression::refer-returns-in_ok-answered-in-ObjectCall
+expression::refer-returns-in_ok-answered-in-ObjectCall t c =
     let D = deeper c.args.context.now in
-    let all = checked.arguments c.deref-in-ObjectInvoked.result.now in
+    let all = checked.arguments c.deref-in-ObjectCall.result.now in
     let w = world c.args.progress.now in
-    object_reported (referred D (checked.reference c.args.reference.now) w) (invoked D gives.Object c.in-ObjectInvoked.function all w) c.in_ok-answered-in-ObjectInvoked.answered c.take-in-ObjectInvoked.result (world c.invoke.new.progress) (world c.take-in-ObjectInvoked.new.progress)
-    (object_invoked D c.args.reference.now c.in-ObjectInvoked.function all w (is_object_invoked c.args.reference.now c.in-ObjectInvoked.function c.in-ObjectInvoked.arguments c.deref-in-ObjectInvoked.result.now c.in-ObjectInvoked.is c.deref-in-ObjectInvoked.ensures.value))
-    c.in_ok-answered-in-ObjectInvoked.ensures c.take-in-ObjectInvoked.ensures
+    object_reported (referred D (checked.reference c.args.reference.now) w) (invoked D gives.Object c.in-ObjectCall.function all w) c.in_ok-answered-in-ObjectCall.answered c.take-in-ObjectCall.result (world c.invoke.new.progress) (world c.take-in-ObjectCall.new.progress)
+    (object_invoked D c.args.reference.now c.in-ObjectCall.function all w (is_object_invoked c.args.reference.now c.in-ObjectCall.function c.in-ObjectCall.arguments c.deref-in-ObjectCall.result.now c.in-ObjectCall.is c.deref-in-ObjectCall.ensures.value))
+    c.in_ok-answered-in-ObjectCall.ensures c.take-in-ObjectCall.ensures
 
-pub expression::refer-returns-in_err-answered-in-ObjectInvoked : goal.expression::refer-returns-in_err-answered-in-ObjectInvoked
-expression::refer-returns-in_err-answered-in-ObjectInvoked t c =
+pub expression::refer-returns-in_err-answered-in-ObjectCall : goal.expression::refer-returns-in_err-answered-in-ObjectCall
+expression::refer-returns-in_err-answered-in-ObjectCall t c =
     let D = deeper c.args.context.now in
-    let all = checked.arguments c.deref-in-ObjectInvoked.result.now in
+    let all = checked.arguments c.deref-in-ObjectCall.result.now in
     let w = world c.args.progress.now in
-    let p = err_from_is_err_and c.from_residual-in_err-answered-in-ObjectInvoked.result c.from_residual-in_err-answered-in-ObjectInvoked.ensures.1 in
-    object_failed (referred D (checked.reference c.args.reference.now) w) (invoked D gives.Object c.in-ObjectInvoked.function all w) c.in_err-answered-in-ObjectInvoked.field-0.0 c.from_residual-in_err-answered-in-ObjectInvoked.result (world c.invoke.new.progress)
-    (object_invoked D c.args.reference.now c.in-ObjectInvoked.function all w (is_object_invoked c.args.reference.now c.in-ObjectInvoked.function c.in-ObjectInvoked.arguments c.deref-in-ObjectInvoked.result.now c.in-ObjectInvoked.is c.deref-in-ObjectInvoked.ensures.value))
-    (p.1 ∙ ap Err p.2) c.in_err-answered-in-ObjectInvoked.ensures
+    let p = err_from_is_err_and c.from_residual-in_err-answered-in-ObjectCall.result c.from_residual-in_err-answered-in-ObjectCall.ensures.1 in
+    object_failed (referred D (checked.reference c.args.reference.now) w) (invoked D gives.Object c.in-ObjectCall.function all w) c.in_err-answered-in-ObjectCall.field-0.0 c.from_residual-in_err-answered-in-ObjectCall.result (world c.invoke.new.progress)
+    (object_invoked D c.args.reference.now c.in-ObjectCall.function all w (is_object_invoked c.args.reference.now c.in-ObjectCall.function c.in-ObjectCall.arguments c.deref-in-ObjectCall.result.now c.in-ObjectCall.is c.deref-in-ObjectCall.ensures.value))
+    (p.1 ∙ ap Err p.2) c.in_err-answered-in-ObjectCall.ensures
 
-pub expression::refer-returns-in_ok-answered-in-ObjectSent : goal.expression::refer-returns-in_ok-answered-in-ObjectSent
-expression::refer-returns-in_ok-answered-in-ObjectSent t c =
+pub expression::refer-returns-in_ok-answered-in-ObjectSend : goal.expression::refer-returns-in_ok-answered-in-ObjectSend
+expression::refer-returns-in_ok-answered-in-ObjectSend t c =
     let D = deeper c.args.context.now in
-    let receiver = checked.receiver c.deref-in-ObjectSent.result.now in
-    let all = checked.arguments c.deref-in-ObjectSent-2.result.now in
+    let receiver = checked.receiver c.deref-in-ObjectSend.result.now in
+    let all = checked.arguments c.deref-in-ObjectSend-2.result.now in
     let w = world c.args.progress.now in
-    object_reported (referred D (checked.reference c.args.reference.now) w) (sent_to D gives.Object receiver c.in-ObjectSent.selector all w) c.in_ok-answered-in-ObjectSent.answered c.take-in-ObjectSent.result (world c.send.new.progress) (world c.take-in-ObjectSent.new.progress)
-    (object_sent D c.args.reference.now receiver c.in-ObjectSent.selector all w (is_object_sent c.args.reference.now c.in-ObjectSent.receiver c.in-ObjectSent.selector c.in-ObjectSent.arguments c.deref-in-ObjectSent.result.now c.deref-in-ObjectSent-2.result.now c.in-ObjectSent.is c.deref-in-ObjectSent.ensures c.deref-in-ObjectSent-2.ensures.value))
-    c.in_ok-answered-in-ObjectSent.ensures c.take-in-ObjectSent.ensures
+    object_reported (referred D (checked.reference c.args.reference.now) w) (sent_to D gives.Object receiver c.in-ObjectSend.selector all w) c.in_ok-answered-in-ObjectSend.answered c.take-in-ObjectSend.result (world c.send.new.progress) (world c.take-in-ObjectSend.new.progress)
+    (object_sent D c.args.reference.now receiver c.in-ObjectSend.selector all w (is_object_sent c.args.reference.now c.in-ObjectSend.receiver c.in-ObjectSend.selector c.in-ObjectSend.arguments c.deref-in-ObjectSend.result.now c.deref-in-ObjectSend-2.result.now c.in-ObjectSend.is c.deref-in-ObjectSend.ensures c.deref-in-ObjectSend-2.ensures.value))
+    c.in_ok-answered-in-ObjectSend.ensures c.take-in-ObjectSend.ensures
 
-pub expression::refer-returns-in_err-answered-in-ObjectSent : goal.expression::refer-returns-in_err-answered-in-ObjectSent
-expression::refer-returns-in_err-answered-in-ObjectSent t c =
+pub expression::refer-returns-in_err-answered-in-ObjectSend : goal.expression::refer-returns-in_err-answered-in-ObjectSend
+expression::refer-returns-in_err-answered-in-ObjectSend t c =
     let D = deeper c.args.context.now in
-    let receiver = checked.receiver c.deref-in-ObjectSent.result.now in
-    let all = checked.arguments c.deref-in-ObjectSent-2.result.now in
+    let receiver = checked.receiver c.deref-in-ObjectSend.result.now in
+    let all = checked.arguments c.deref-in-ObjectSend-2.result.now in
     let w = world c.args.progress.now in
-    let p = err_from_is_err_and c.from_residual-in_err-answered-in-ObjectSent.result c.from_residual-in_err-answered-in-ObjectSent.ensures.1 in
-    object_failed (referred D (checked.reference c.args.reference.now) w) (sent_to D gives.Object receiver c.in-ObjectSent.selector all w) c.in_err-answered-in-ObjectSent.field-0.0 c.from_residual-in_err-answered-in-ObjectSent.result (world c.send.new.progress)
-    (object_sent D c.args.reference.now receiver c.in-ObjectSent.selector all w (is_object_sent c.args.reference.now c.in-ObjectSent.receiver c.in-ObjectSent.selector c.in-ObjectSent.arguments c.deref-in-ObjectSent.result.now c.deref-in-ObjectSent-2.result.now c.in-ObjectSent.is c.deref-in-ObjectSent.ensures c.deref-in-ObjectSent-2.ensures.value))
-    (p.1 ∙ ap Err p.2) c.in_err-answered-in-ObjectSent.ensures
+    let p = err_from_is_err_and c.from_residual-in_err-answered-in-ObjectSend.result c.from_residual-in_err-answered-in-ObjectSend.ensures.1 in
+    object_failed (referred D (checked.reference c.args.reference.now) w) (sent_to D gives.Object receiver c.in-ObjectSend.selector all w) c.in_err-answered-in-ObjectSend.field-0.0 c.from_residual-in_err-answered-in-ObjectSend.result (world c.send.new.progress)
+    (object_sent D c.args.reference.now receiver c.in-ObjectSend.selector all w (is_object_sent c.args.reference.now c.in-ObjectSend.receiver c.in-ObjectSend.selector c.in-ObjectSend.arguments c.deref-in-ObjectSend.result.now c.deref-in-ObjectSend-2.result.now c.in-ObjectSend.is c.deref-in-ObjectSend.ensures c.deref-in-ObjectSend-2.ensures.value))
+    (p.1 ∙ ap Err p.2) c.in_err-answered-in-ObjectSend.ensures
 
 pub expression::update_variable-returns-in_err-new : goal.expression::update_variable-returns-in_err-new
 expression::update_variable-returns-in_err-new t c =
@@ -136,7 +136,7 @@ expression::update_variable-returns-in_err-new t c =
     let rights : right ≡ c.in_ok-right.right = grind (arith, to_z-of_z) in
     let meant = variable_updated D u.moment u.operator u.computed u.kept c.args.location (checked.value c.args.operand.now) c.held-old.result c.in_ok-right.right old right w between olds rights c.held-old.ensures c.in_ok-right.ensures in
     let p = err_from_is_err_and c.from_residual-in_err-new.result c.from_residual-in_err-new.ensures.1 in
-    subst (λ r. Reports (λ n. n) r (evaluated D (Updated u.moment c.args.location u.operator u.computed u.kept (checked.value c.args.operand.now)) w) between) (sym (p.1 ∙ ap Err p.2))
+    subst (λ r. Reports (λ n. n) r (evaluated D (Update u.moment c.args.location u.operator u.computed u.kept (checked.value c.args.operand.now)) w) between) (sym (p.1 ∙ ap Err p.2))
     (finds_through c.in_err-new.field-0.0 (λ n. n) (λ n. n) between (variable_stored D u.moment u.operator u.computed u.kept c.args.location old) (updated u.operator u.computed u.kept old right between) _ meant (c.in_err-new.ensures between))
 
 pub expression::update_variable-returns : goal.expression::update_variable-returns
@@ -175,7 +175,7 @@ expression::update_field-returns-in_err-new t c =
     let rights : right ≡ c.in_ok-right.right = grind (arith, to_z-of_z) in
     let meant = field_updated D u.moment u.operator u.computed u.kept c.args.class c.args.index (checked.reference c.args.object.now) (checked.value c.args.operand.now) r c.in_ok-old.old c.in_ok-right.right old right w found between olds rights c.in_ok-number.ensures c.in_ok-old.ensures c.in_ok-right.ensures in
     let p = err_from_is_err_and c.from_residual-in_err-new.result c.from_residual-in_err-new.ensures.1 in
-    subst (λ x. Reports (λ n. n) x (evaluated D (FieldUpdated u.moment (checked.reference c.args.object.now) c.args.class c.args.index u.operator u.computed u.kept (checked.value c.args.operand.now)) w) between) (sym (p.1 ∙ ap Err p.2))
+    subst (λ x. Reports (λ n. n) x (evaluated D (UpdateField u.moment (checked.reference c.args.object.now) c.args.class c.args.index u.operator u.computed u.kept (checked.value c.args.operand.now)) w) between) (sym (p.1 ∙ ap Err p.2))
     (finds_through c.in_err-new.field-0.0 (λ n. n) (λ n. n) between (field_stored D u.moment u.operator u.computed u.kept r c.args.class c.args.index old) (updated u.operator u.computed u.kept old right between) _ meant (c.in_err-new.ensures between))
 
 pub expression::update_field-returns-in_err-set_field : goal.expression::update_field-returns-in_err-set_field
@@ -196,7 +196,7 @@ expression::update_field-returns-in_err-set_field t c =
     let stored = field_stored D u.moment u.operator u.computed u.kept r c.args.class c.args.index old in
     let p = err_from_is_err_and c.from_residual-in_err-set_field.result c.from_residual-in_err-set_field.ensures.1 in
     let after = world c.set_field.new.progress in
-    subst (λ x. Reports (λ n. n) x (evaluated D (FieldUpdated u.moment (checked.reference c.args.object.now) c.args.class c.args.index u.operator u.computed u.kept (checked.value c.args.operand.now)) w) after) (sym (p.1 ∙ ap Err p.2))
+    subst (λ x. Reports (λ n. n) x (evaluated D (UpdateField u.moment (checked.reference c.args.object.now) c.args.class c.args.index u.operator u.computed u.kept (checked.value c.args.operand.now)) w) after) (sym (p.1 ∙ ap Err p.2))
     (finds_through c.in_err-set_field.field-0.0 (λ n. n) (λ n. n) after (λ _ w1. Done (given_by u.moment old new) w1) (field_set D r c.args.class c.args.index new between) _
     (meant ∙ ap (λ o. then_do o stored) (c.in_ok-new.ensures between) ∙ ap (λ n. stored n between) (sym news)) c.in_err-set_field.ensures)
 
@@ -239,11 +239,11 @@ expression::evaluate-evaluate_print-requires t c =
 
 pub expression::evaluate-invoke-requires : goal.expression::evaluate-invoke-requires
 expression::evaluate-invoke-requires t c =
-    (omega (arith, call_lighter c.args.value.now c.in-Invoked.function c.in-Invoked.arguments c.deref-in-Invoked.result.now c.in-Invoked.is c.deref-in-Invoked.ensures.value, c.decreases), tt)
+    (omega (arith, call_lighter c.args.value.now c.in-Call.function c.in-Call.arguments c.deref-in-Call.result.now c.in-Call.is c.deref-in-Call.ensures.value, c.decreases), tt)
 
 pub expression::evaluate-send-requires : goal.expression::evaluate-send-requires
 expression::evaluate-send-requires t c =
-    (omega (arith, sent_lighter c.args.value.now c.in-Sent.receiver c.in-Sent.selector c.in-Sent.arguments c.deref-in-Sent.result.now c.deref-in-Sent-2.result.now c.in-Sent.is c.deref-in-Sent.ensures c.deref-in-Sent-2.ensures.value, c.decreases), tt)
+    (omega (arith, sent_lighter c.args.value.now c.in-Send.receiver c.in-Send.selector c.in-Send.arguments c.deref-in-Send.result.now c.deref-in-Send-2.result.now c.in-Send.is c.deref-in-Send.ensures c.deref-in-Send-2.ensures.value, c.decreases), tt)
 
 pub statement::execute_all-execute-requires : goal.statement::execute_all-execute-requires
 statement::execute_all-execute-requires t c =
@@ -253,7 +253,7 @@ pub statement::repeat-loop-preserved : goal.statement::repeat-loop-preserved
 statement::repeat-loop-preserved t c =
     let bound = c.args.most in
     let run = executed (deeper c.args.context.now) c.args.context.now.bound in
-    let test = whole (deeper c.args.context.now) (checked.value c.args.test.now) in
+    let test = full_expression (deeper c.args.context.now) (checked.value c.args.test.now) in
     let step = run (checked.command c.args.step.now) in
     let body = run (checked.command c.args.body.now) in
     let same : to_z w64 (of_z w64 c.in_ok-number.number) ≡ c.in_ok-number.number = grind (arith, to_z-of_z) in
@@ -265,7 +265,7 @@ pub statement::repeat-returns-in-Some : goal.statement::repeat-returns-in-Some
 statement::repeat-returns-in-Some t c =
     let bound = c.args.most in
     let run = executed (deeper c.args.context.now) c.args.context.now.bound in
-    let test = whole (deeper c.args.context.now) (checked.value c.args.test.now) in
+    let test = full_expression (deeper c.args.context.now) (checked.value c.args.test.now) in
     let step = run (checked.command c.args.step.now) in
     let body = run (checked.command c.args.body.now) in
     let same : to_z w64 (of_z w64 c.in_ok-number.number) ≡ c.in_ok-number.number = grind (arith, to_z-of_z) in
@@ -277,7 +277,7 @@ pub statement::repeat-returns-in_err-number : goal.statement::repeat-returns-in_
 statement::repeat-returns-in_err-number t c =
     let bound = c.args.most in
     let run = executed (deeper c.args.context.now) c.args.context.now.bound in
-    let test = whole (deeper c.args.context.now) (checked.value c.args.test.now) in
+    let test = full_expression (deeper c.args.context.now) (checked.value c.args.test.now) in
     let step = run (checked.command c.args.step.now) in
     let body = run (checked.command c.args.body.now) in
     let p = err_from_is_err_and c.from_residual.result c.from_residual.ensures.1 in
@@ -288,7 +288,7 @@ pub statement::repeat-returns-in_err-flow : goal.statement::repeat-returns-in_er
 statement::repeat-returns-in_err-flow t c =
     let bound = c.args.most in
     let run = executed (deeper c.args.context.now) c.args.context.now.bound in
-    let test = whole (deeper c.args.context.now) (checked.value c.args.test.now) in
+    let test = full_expression (deeper c.args.context.now) (checked.value c.args.test.now) in
     let step = run (checked.command c.args.step.now) in
     let body = run (checked.command c.args.body.now) in
     let same : to_z w64 (of_z w64 c.in_ok-number.number) ≡ c.in_ok-number.number = grind (arith, to_z-of_z) in
@@ -462,15 +462,15 @@ call::end-returns-in_err-run_deallocs t c =
     let one : context.levels ≡ suc n = omega (arith, c.if-context-eq0.false) in
     let known : class ≡ class_in (object_at w.objects o) = c.class_of-class.ensures ∙ ap (λ l. class_in (object_at (map object_of l) o)) c.deref.ensures.value in
     let p = err_from_is_err_and c.from_residual-in_err-run_deallocs.result c.from_residual-in_err-run_deallocs.ensures.1 in
-    let whole = (deeper context).end_of o w in
+    let full_expression = (deeper context).end_of o w in
     let rest : Finished → World → Outcome Finished = λ _ w2. then_do (emptied (level P context.bound n) o (object_at w2.objects o) w2) (λ _ w3. gone o w3) in
     let after = world c.run_deallocs.new.progress in
-    let meant : whole ≡ then_do (deallocs_run P (level P context.bound n) context.bound (ancestry (superclasses P.classes) class) o w1) rest =
+    let meant : full_expression ≡ then_do (deallocs_run P (level P context.bound n) context.bound (ancestry (superclasses P.classes) class) o w1) rest =
     end_is P context.bound context.levels n o w one
     ∙ ap (λ x. then_do (deallocs_run P (level P context.bound n) context.bound (ancestry (superclasses P.classes) x) o (dying o (object_at w.objects o) w)) rest) (sym known)
     ∙ ap (λ v. then_do (deallocs_run P (level P context.bound n) context.bound (ancestry (superclasses P.classes) class) o v) rest) (sym c.in_ok-begin_end.ensures) in
-    subst (λ r. Reports nothing_of r whole after) (sym (p.1 ∙ ap Err p.2))
-    (finds_through c.in_err-run_deallocs.field-0.0 nothing_of nothing_of after rest (deallocs_run P (level P context.bound n) context.bound (ancestry (superclasses P.classes) class) o w1) whole meant c.in_err-run_deallocs.ensures)
+    subst (λ r. Reports nothing_of r full_expression after) (sym (p.1 ∙ ap Err p.2))
+    (finds_through c.in_err-run_deallocs.field-0.0 nothing_of nothing_of after rest (deallocs_run P (level P context.bound n) context.bound (ancestry (superclasses P.classes) class) o w1) full_expression meant c.in_err-run_deallocs.ensures)
 
 pub call::run_deallocs-loop-passed-init : goal.call::run_deallocs-loop-passed-init
 call::run_deallocs-loop-passed-init t c =
@@ -541,20 +541,20 @@ expression::evaluate_all-loop-argument-preserved t c =
     let v = c.argument-item.result in
     let found = given_of c.loop-argument.given in
     let more = given_of c.match-argument.given in
-    let whole = all_evaluated D (checked.arguments vs) (world c.args.progress.now) in
+    let full_expression = all_evaluated D (checked.arguments vs) (world c.args.progress.now) in
     let before = world c.loop-argument.progress in
     let after = world c.match-argument.progress in
     elim c.match-argument.branch [
       | expression::evaluate_all-in-Number+in_ok-number-in-Number+in_ok-push-in-Number w ↦
           let n = w.in_ok-number-in-Number.number in
           let same : to_z w64 (of_z w64 n) ≡ n = grind (arith, to_z-of_z) in
-          number_step D vs i v (checked.value w.deref.result.now) found more n whole before after c.loop-argument-test.true c.argument-item.is
+          number_step D vs i v (checked.value w.deref.result.now) found more n full_expression before after c.loop-argument-test.true c.argument-item.is
           (is_number v w.in-Number.value w.deref.result.now w.in-Number.is w.deref.ensures) c.loop-argument.invariant
           (w.in_ok-number-in-Number.ensures ∙ ap (λ (p : Progress). Done n (world p)) (sym w.progress-is))
           (ap given_of w.given-is ∙ ap (λ l. with_numbers found l) (w.in_ok-push-in-Number.ensures.items ∙ ap (λ x. found.numbers ++ x ∷ []) same))
       | expression::evaluate_all-in-Object+in_ok-object-in-Object+in_ok-push-in-Object w ↦
           let r = w.in_ok-object-in-Object.object in
-          object_step D vs i v (checked.reference w.deref-in-Object.result.now) found more r whole before after c.loop-argument-test.true c.argument-item.is
+          object_step D vs i v (checked.reference w.deref-in-Object.result.now) found more r full_expression before after c.loop-argument-test.true c.argument-item.is
           (is_object v w.in-Object.reference w.deref-in-Object.result.now w.in-Object.is w.deref-in-Object.ensures) c.loop-argument.invariant
           (w.in_ok-object-in-Object.ensures ∙ ap (λ (p : Progress). Done r (world p)) (sym w.progress-is))
           (ap given_of w.given-is ∙ ap (λ l. with_named found l) w.in_ok-push-in-Object.ensures.items)
@@ -576,7 +576,7 @@ expression::store_field-returns-in_err-replaced t c =
     let meant = field_named D c.args.class c.args.index a b r named w (world c.refer.new.progress) between c.in_ok-number.ensures c.in_ok-named.ensures in
     let p = err_from_is_err_and c.from_residual-in_err-replaced.result c.from_residual-in_err-replaced.ensures.1 in
     let part : Reports nothing_of (Err e) drop after = finds_through e (λ n. n) nothing_of after (λ old w1. released D old w1) replaced drop refl c.in_err-replaced.ensures in
-    subst (λ x. Reports (λ n. n) x (referred D (ObjectFieldStored a c.args.class c.args.index b) w) after) (sym (p.1 ∙ ap Err p.2))
+    subst (λ x. Reports (λ n. n) x (referred D (SetObjectField a c.args.class c.args.index b) w) after) (sym (p.1 ∙ ap Err p.2))
     (finds_through e nothing_of (λ n. n) after (λ _ w1. Done named (takes named w1)) drop _ meant part)
 
 pub expression::store_field-returns-in_err-release : goal.expression::store_field-returns-in_err-release
@@ -592,11 +592,11 @@ expression::store_field-returns-in_err-release t c =
     let after = world c.release.new.progress in
     let e = c.in_err-release.field-0.0 in
     let taken : Finished → World → Outcome _ = λ _ w1. Done named (takes named w1) in
-    let meant : referred D (ObjectFieldStored a c.args.class c.args.index b) w ≡ then_do (released D c.in_ok-replaced.replaced stored) taken =
+    let meant : referred D (SetObjectField a c.args.class c.args.index b) w ≡ then_do (released D c.in_ok-replaced.replaced stored) taken =
     field_named D c.args.class c.args.index a b r named w (world c.refer.new.progress) between c.in_ok-number.ensures c.in_ok-named.ensures
     ∙ ap (λ o. then_do (then_do o (λ old w1. released D old w1)) taken) c.in_ok-replaced.ensures in
     let p = err_from_is_err_and c.from_residual-in_err-release.result c.from_residual-in_err-release.ensures.1 in
-    subst (λ x. Reports (λ n. n) x (referred D (ObjectFieldStored a c.args.class c.args.index b) w) after) (sym (p.1 ∙ ap Err p.2))
+    subst (λ x. Reports (λ n. n) x (referred D (SetObjectField a c.args.class c.args.index b) w) after) (sym (p.1 ∙ ap Err p.2))
     (finds_through e nothing_of (λ n. n) after taken (released D c.in_ok-replaced.replaced stored) _ meant c.in_err-release.ensures)
 
 pub expression::store_field-returns : goal.expression::store_field-returns
@@ -609,7 +609,7 @@ expression::store_field-returns t c =
     let w = world c.args.progress.now in
     let between = world c.refer-2.new.progress in
     let taken : Finished → World → Outcome _ = λ _ w1. Done named (takes named w1) in
-    let meant : referred D (ObjectFieldStored a c.args.class c.args.index b) w ≡ Done named (takes named (world c.release.new.progress)) =
+    let meant : referred D (SetObjectField a c.args.class c.args.index b) w ≡ Done named (takes named (world c.release.new.progress)) =
     field_named D c.args.class c.args.index a b r named w (world c.refer.new.progress) between c.in_ok-number.ensures c.in_ok-named.ensures
     ∙ ap (λ o. then_do (then_do o (λ old w1. released D old w1)) taken) c.in_ok-replaced.ensures
     ∙ ap (λ o. then_do o taken) c.in_ok-release.ensures in

@@ -2,10 +2,10 @@ use Rattle.std.proofs.Common.{◌≡◌, ◌+◌, ◌-◌, suc, drop, length, ve
 use Rattle.arc_checked.specs.Checked as checked
 use Rattle.arc_checked.specs.Checked.{program_of}
 use Rattle.arc_spec.specs.Classes.{superclasses, ancestry, ancestry_within}
-use Rattle.arc_spec.specs.Meaning.{all_evaluated, whole, executed, all_executed, turns, looped, all_dropped, variables_dropped, deallocs_run, fields_dropped}
+use Rattle.arc_spec.specs.Meaning.{all_evaluated, full_expression, executed, all_executed, turns, looped, all_dropped, variables_dropped, deallocs_run, fields_dropped}
 use Rattle.arc_plain.specs.Views.{world, given_of, deeper}
-use Rattle.arc_plain.proofs.Turns.{front}
-use Rattle.arc_plain.proofs.Weights.{levels_left, program_weight, value_weight, arguments_weight, receiver_weight, reference_weight, command_weight, commands_weight}
+use Rattle.arc_plain.proofs.LoopsAndFailures.{front}
+use Rattle.arc_plain.proofs.TerminationMeasure.{levels_left, program_weight, value_weight, arguments_weight, receiver_weight, reference_weight, command_weight, commands_weight}
 use Rattle.arc_plain.proofs.+running.Given as goal
 
 abbrev pub decreases-call::call : goal.decreases-call::call
@@ -135,7 +135,7 @@ invariant-statement::execute_all-loop-command l =
 -- the turns that are left are the whole
 abbrev pub invariant-statement::repeat-loop : goal.invariant-statement::repeat-loop
 invariant-statement::repeat-loop l =
-    let test = whole (deeper l.context) (checked.value l.test) in
+    let test = full_expression (deeper l.context) (checked.value l.test) in
     let body = executed (deeper l.context) l.context.bound (checked.command l.body) in
     let step = executed (deeper l.context) l.context.bound (checked.command l.step) in
     turns l.most test step body (world l.initial.progress) ≡ turns (l.most - l.counter) test step body (world l.progress)

@@ -1,6 +1,6 @@
 //! Machines on readers and writers that fail, and over a store that has too few blocks.
 ghost use Rattle.std.specs.Prelude.{◌≡◌, ◌⊎◌, None};
-ghost use Rattle.arc_code.specs.Counting.{failures_of};
+ghost use Rattle.arc_code.specs.CountedDevices.{failures_of};
 
 use crate::devices::{Broken, unflushed, with_room};
 use crate::machine::programs::{PRINTING, machine_of};

@@ -1,4 +1,4 @@
-use Rattle.arc_cells.proofs.Making.{empty_cell, taken_cell, made_cell}
+use Rattle.arc_cells.proofs.NewObjectBlock.{empty_cell, taken_cell, made_cell}
 use Rattle.arc_cells.proofs.cell.make.Goals as goal
 
 pub begin-requires : goal.begin-requires

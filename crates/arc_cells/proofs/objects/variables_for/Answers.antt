@@ -1,7 +1,7 @@
 use Rattle.std.proofs.Common.{◌≡◌, ℕ, zero, suc, ◌∷◌, replicate, refl, ap, ◌∙◌, rules}
 use Rattle.arc_spec.specs.Classes.{classes_of}
 use Rattle.arc_spec.specs.Objects.{nils}
-use Rattle.arc_cells.specs.Standing.{orders_of}
+use Rattle.arc_cells.specs.Representation.{orders_of}
 use Rattle.arc_cells.proofs.objects.variables_for.Goals as goal
 
 all_nil : (n : ℕ) → replicate n 0 ≡ nils n

@@ -1,7 +1,7 @@
 use Rattle.std.proofs.Common.{◌≡◌, ℕ, zero, ◌+◌, suc, ◌∷◌, List, [], ◌++◌, length, map, sym, ap, ◌∙◌, arith}
 use Rattle.std.proofs.lemmas.List.{map-append, length-map}
 use Rattle.arc_spec.specs.Classes.{class_of, classes_of, numbers_from, field_order}
-use Rattle.arc_cells.specs.Standing.{items_of}
+use Rattle.arc_cells.specs.Representation.{items_of}
 use Rattle.arc_cells.proofs.order.orders_of.Goals as goal
 
 numbers_more : (first n : ℕ) → numbers_from first (suc n) ≡ numbers_from first n ++ (first + n) ∷ []

@@ -1,6 +1,6 @@
 use Rattle.std.proofs.Common.{◌≡◌, map}
 use Rattle.arc_spec.specs.Classes.{classes_of, numbers_from, field_order}
-use Rattle.arc_cells.specs.Standing.{items_of}
+use Rattle.arc_cells.specs.Representation.{items_of}
 use Rattle.arc_cells.proofs.order.orders_of.Given as goal
 
 -- those of the classes so far

@@ -3,8 +3,8 @@ use Rattle.std.proofs.lemmas.Grind.{common_steps}
 use Rattle.arc_ast.specs.Tree.{head_trees}
 use Rattle.arc_class.specs.Classes.{and_name, with_selectors}
 use Rattle.arc_class.specs.Table.{names_of}
-use Rattle.arc_class.proofs.Lists.{drop_turn}
-use Rattle.arc_class.proofs.Names.{names_with_key}
+use Rattle.arc_class.proofs.ListSuffixes.{drop_turn}
+use Rattle.arc_class.proofs.NameEquality.{names_with_key}
 use Rattle.arc_class.proofs.building.add_heads.Goals as goal
 
 pub loop-head-preserved : goal.loop-head-preserved

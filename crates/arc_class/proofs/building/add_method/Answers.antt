@@ -1,6 +1,6 @@
 use Rattle.std.proofs.Common.{◌++◌, ◌∷◌, [], if◌then◌else◌, sym, ap, ◌∙◌}
 use Rattle.arc_ast.specs.Tree.{head_tree}
-use Rattle.arc_class.specs.Running.{method_made}
+use Rattle.arc_class.specs.RuntimeClasses.{method_made}
 use Rattle.arc_class.specs.Table.{names_of}
 use Rattle.arc_class.proofs.building.add_method.Goals as goal
 

@@ -4,7 +4,7 @@ use Rattle.std.specs.Str.{bytes_eq}
 use Rattle.indexmap.specs.IndexSet.{insert_key}
 use Rattle.arc_class.specs.Classes.{and_name}
 use Rattle.arc_class.specs.Table.{names_of}
-use Rattle.arc_class.proofs.Names.{names_with_key}
+use Rattle.arc_class.proofs.NameEquality.{names_with_key}
 use Rattle.arc_class.proofs.building.add_names.Goals as goal
 
 -- one more is added

@@ -1,6 +1,6 @@
 use Rattle.std.proofs.Common.{sym, ◌∙◌, arith}
 use Rattle.std.proofs.lemmas.Grind.{common_steps}
-use Rattle.arc_class.proofs.Runnings.{found_dealloc, no_dealloc}
+use Rattle.arc_class.proofs.RuntimeMethods.{found_dealloc, no_dealloc}
 use Rattle.arc_class.proofs.building.dealloc_from.Goals as goal
 
 pub returns-then-is_dealloc-clause-found : goal.returns-then-is_dealloc-clause-found

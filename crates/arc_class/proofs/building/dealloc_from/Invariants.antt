@@ -1,6 +1,6 @@
 use Rattle.std.proofs.Common.{◌≡◌, ◌+◌, drop}
 use Rattle.arc_ast.specs.Tree.{method_trees}
-use Rattle.arc_class.specs.Running.{dealloc_from}
+use Rattle.arc_class.specs.RuntimeClasses.{dealloc_from}
 use Rattle.arc_class.proofs.building.dealloc_from.Given as goal
 
 -- none of those so far ends objects

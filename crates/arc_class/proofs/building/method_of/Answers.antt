@@ -6,7 +6,7 @@ use Rattle.arc_spec.specs.declared.class.Method.{Method}
 use Rattle.arc_spec.specs.Classes.{gives_of}
 use Rattle.arc_spec.specs.declared.sort_counts.SortCounts.{SortCounts}
 use Rattle.arc_class.specs.Classes.{number_among, result_of}
-use Rattle.arc_class.specs.Names.{parameter_kinds}
+use Rattle.arc_class.specs.FunctionNames.{parameter_kinds}
 use Rattle.arc_spec.specs.Sorts.{counts_of_kinds}
 use Rattle.arc_class.specs.Table.{names_of}
 use Rattle.arc_class.proofs.building.method_of.Goals as goal

@@ -1,7 +1,7 @@
 use Rattle.std.proofs.Common.{arith}
 use Rattle.std.proofs.lemmas.Grind.{common_steps}
 use Rattle.arc_class.specs.Table.{names_of}
-use Rattle.arc_class.proofs.Runnings.{method_turn}
+use Rattle.arc_class.proofs.RuntimeMethods.{method_turn}
 use Rattle.arc_class.proofs.building.methods_from.Goals as goal
 
 pub loop-method-preserved : goal.loop-method-preserved

@@ -1,7 +1,7 @@
 use Rattle.std.proofs.Common.{◌≡◌, ◌++◌, drop}
 use Rattle.arc_ast.specs.Tree.{UnitTree, method_trees}
 use Rattle.arc_class.specs.Classes.{selectors}
-use Rattle.arc_class.specs.Running.{methods_from}
+use Rattle.arc_class.specs.RuntimeClasses.{methods_from}
 use Rattle.arc_class.specs.Table.{names_of}
 use Rattle.arc_class.proofs.building.methods_from.Given as goal
 

@@ -3,7 +3,7 @@ use Rattle.arc_ast.specs.declared.tree.Sign.TheVariants as signs
 use Rattle.arc_class.specs.declared.table.Entry.{Entry}
 use Rattle.arc_class.specs.Lookups.{superclass_among}
 use Rattle.arc_class.specs.Owners.{FindsMethods}
-use Rattle.arc_class.proofs.Asking.{root_is_top}
+use Rattle.arc_class.proofs.OwnerLookup.{root_is_top}
 use Rattle.arc_class.proofs.building.parts_and_owners.Goals as goal
 
 pub method_owners-requires : goal.method_owners-requires

@@ -1,4 +1,4 @@
-use Rattle.arc_class.proofs.Parts.{root_is}
+use Rattle.arc_class.proofs.TablePartsGrow.{root_is}
 use Rattle.arc_class.proofs.building.root_entry.Goals as goal
 
 pub returns : goal.returns

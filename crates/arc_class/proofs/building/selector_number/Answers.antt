@@ -1,5 +1,5 @@
 use Rattle.std.proofs.Common.{unwrap_or, sym, ap, ◌∙◌}
-use Rattle.arc_class.proofs.Names.{position_number}
+use Rattle.arc_class.proofs.NameEquality.{position_number}
 use Rattle.arc_class.proofs.building.selector_number.Goals as goal
 
 pub returns-in-None : goal.returns-in-None

@@ -1,5 +1,5 @@
 use Rattle.std.proofs.Common.{rules}
-use Rattle.arc_class.specs.ByName.{name_hash}
+use Rattle.arc_class.specs.NameMaps.{name_hash}
 use Rattle.arc_class.proofs.by_name.hash_of.Goals as goal
 
 pub returns : goal.returns

@@ -1,6 +1,6 @@
 use Rattle.std.proofs.Common.{◌≡◌, ◌≤◌, drop, map}
 use Rattle.arc_ast.specs.Tree.{parameter_trees}
-use Rattle.arc_class.specs.Names.{parameter_kinds}
+use Rattle.arc_class.specs.FunctionNames.{parameter_kinds}
 use Rattle.arc_spec.specs.Sorts.{held_by, with_all, counts_of_kinds, total}
 use Rattle.arc_class.proofs.counting.parameter_counts.Given as goal
 

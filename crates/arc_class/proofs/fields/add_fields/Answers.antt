@@ -4,8 +4,8 @@ use Rattle.arc_ast.specs.Tree as tree
 use Rattle.arc_ast.specs.Tree.{field_trees}
 use Rattle.arc_class.specs.Fields.{owned}
 use Rattle.arc_class.specs.Table.{field_tree, number_of_class}
-use Rattle.arc_class.proofs.Lists.{drop_turn}
-use Rattle.arc_class.proofs.Parts.{made_turn}
+use Rattle.arc_class.proofs.ListSuffixes.{drop_turn}
+use Rattle.arc_class.proofs.TablePartsGrow.{made_turn}
 use Rattle.arc_class.proofs.fields.add_fields.Goals as goal
 
 pub loop-field-preserved : goal.loop-field-preserved

@@ -1,6 +1,6 @@
 use Rattle.std.proofs.Common.{refl}
 use Rattle.arc_ast.specs.Tree.{type_tree}
-use Rattle.arc_class.proofs.Typed.{class_same}
+use Rattle.arc_class.proofs.ClassesOfTypes.{class_same}
 use Rattle.arc_class.proofs.fields.field_after.Goals as goal
 
 pub returns-clause-field : goal.returns-clause-field

@@ -2,12 +2,12 @@ use Rattle.std.proofs.Common.{◌≡◌, ℕ, Option, ap, ◌∙◌}
 use Rattle.std.specs.List.{flat_map}
 use Rattle.arc_spec.specs.Classes.{ancestry}
 use Rattle.arc_class.specs.Fields.{own_fields, earlier_superclasses}
-use Rattle.arc_class.specs.Broken.{broken_if, first}
+use Rattle.arc_class.specs.BrokenRules.{broken_if, first}
 use Rattle.arc_class.specs.ClassRules.{broken_pair, field_place, is_earlier}
 use Rattle.arc_class.specs.private.Entries.{inherited_place}
 use Rattle.arc_class.specs.Table.{at_name}
-use Rattle.arc_class.proofs.Firsts.{first_both}
-use Rattle.arc_class.proofs.Leasts.{pairs_least}
+use Rattle.arc_class.proofs.FirstBrokenRule.{first_both}
+use Rattle.arc_class.proofs.LeastPlace.{pairs_least}
 use Rattle.arc_class.proofs.fields.field_fault.Goals as goal
 
 pub returns : goal.returns

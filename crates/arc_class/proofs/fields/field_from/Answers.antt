@@ -4,7 +4,7 @@ use Rattle.std.proofs.lemmas.Bool.{ltb-false, ltb-true}
 use Rattle.arc_spec.specs.Classes.{ancestry_within, first_that_has}
 use Rattle.arc_spec.proofs.Ancestry.{all_rows, no_row, in_row}
 use Rattle.arc_class.specs.Table.{superclass_of_fields, own_field_in}
-use Rattle.arc_class.proofs.Keeping.{own_first, above_next}
+use Rattle.arc_class.proofs.FirstDeclaration.{own_first, above_next}
 use Rattle.arc_class.proofs.fields.field_from.Goals as goal
 use Rattle.std.specs.Option.{option_or}
 

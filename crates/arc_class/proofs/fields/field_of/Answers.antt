@@ -1,6 +1,6 @@
 use Rattle.std.proofs.Common.{◌∙◌, Some, None, sym, ap}
 use Rattle.arc_class.specs.Lookups.{field_among}
-use Rattle.arc_class.proofs.Asking.{field_reported}
+use Rattle.arc_class.proofs.OwnerLookup.{field_reported}
 use Rattle.arc_class.proofs.fields.field_of.Goals as goal
 
 pub returns-in-None : goal.returns-in-None

@@ -1,6 +1,6 @@
 use Rattle.std.proofs.Common.{arith}
 use Rattle.std.proofs.lemmas.Grind.{common_steps}
-use Rattle.arc_class.proofs.Rules.{fields_turn}
+use Rattle.arc_class.proofs.ClassViolations.{fields_turn}
 use Rattle.arc_class.proofs.fields.fields_fault.Goals as goal
 
 pub loop-field-preserved : goal.loop-field-preserved

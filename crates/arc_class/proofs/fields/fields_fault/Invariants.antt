@@ -1,6 +1,6 @@
 use Rattle.std.proofs.Common.{◌≡◌, ℕ, List, map, option_map, drop}
 use Rattle.arc_ast.specs.Tree.{UnitTree, FieldTree, field_trees}
-use Rattle.arc_class.specs.Broken.{first, earlier_of}
+use Rattle.arc_class.specs.BrokenRules.{first, earlier_of}
 use Rattle.arc_class.specs.ClassRules.{field_place, broken_fields}
 use Rattle.arc_class.specs.private.Entries.{fields_tree, all_class_fields}
 use Rattle.arc_class.specs.Fault.{reported}

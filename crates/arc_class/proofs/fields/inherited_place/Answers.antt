@@ -1,6 +1,6 @@
 use Rattle.std.proofs.Common.{◌≡◌, false, is_some, not, sym, ap, ◌∙◌}
 use Rattle.arc_class.proofs.FieldLists.{field_kept, least_kept, not_inherited}
-use Rattle.arc_class.proofs.Keeping.{none_is}
+use Rattle.arc_class.proofs.FirstDeclaration.{none_is}
 use Rattle.arc_class.proofs.fields.inherited_place.Goals as goal
 
 pub returns-then-is_none : goal.returns-then-is_none

@@ -3,11 +3,11 @@ use Rattle.std.proofs.lemmas.Grind.{common_steps}
 use Rattle.arc_ast.specs.Tree.{field_tree, field_trees}
 use Rattle.std.specs.Option.{option_or}
 use Rattle.arc_class.specs.Fields.{field_after, field_sort, numbered, written_sorts}
-use Rattle.arc_class.specs.Kept.{one_at}
+use Rattle.arc_class.specs.KeptNames.{one_at}
 use Rattle.arc_spec.specs.Sorts.{with_one, with_all}
 use Rattle.arc_class.specs.Table.{at_name, number_of_class}
-use Rattle.arc_class.proofs.Keeping.{kept_turn, or_one}
-use Rattle.arc_class.proofs.Lists.{drop_turn, drop_end}
+use Rattle.arc_class.proofs.FirstDeclaration.{kept_turn, or_one}
+use Rattle.arc_class.proofs.ListSuffixes.{drop_turn, drop_end}
 use Rattle.arc_class.proofs.fields.keep_fields.Goals as goal
 
 pub loop-field-preserved : goal.loop-field-preserved

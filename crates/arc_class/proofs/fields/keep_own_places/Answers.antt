@@ -3,8 +3,8 @@ use Rattle.std.proofs.lemmas.Result.{on_ok_weaker}
 use Rattle.arc_ast.specs.Tree.{field_trees}
 use Rattle.std.specs.Option.{option_or}
 use Rattle.arc_class.specs.ClassRules.{field_place}
-use Rattle.arc_class.proofs.Parts.{kept_none}
-use Rattle.arc_class.proofs.Rules.{field_place-append}
+use Rattle.arc_class.proofs.TablePartsGrow.{kept_none}
+use Rattle.arc_class.proofs.ClassViolations.{field_place-append}
 use Rattle.arc_class.proofs.fields.keep_own_places.Goals as goal
 
 pub returns : goal.returns

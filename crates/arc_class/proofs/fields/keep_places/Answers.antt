@@ -3,10 +3,10 @@ use Rattle.std.proofs.lemmas.Grind.{common_steps}
 use Rattle.arc_ast.specs.Tree.{field_trees}
 use Rattle.std.specs.Option.{option_or}
 use Rattle.arc_class.specs.ClassRules.{field_place}
-use Rattle.arc_class.specs.Kept.{one_at}
+use Rattle.arc_class.specs.KeptNames.{one_at}
 use Rattle.arc_class.specs.Table.{at_name}
-use Rattle.arc_class.proofs.Keeping.{kept_turn, or_one}
-use Rattle.arc_class.proofs.Lists.{drop_turn}
+use Rattle.arc_class.proofs.FirstDeclaration.{kept_turn, or_one}
+use Rattle.arc_class.proofs.ListSuffixes.{drop_turn}
 use Rattle.arc_class.proofs.fields.keep_places.Goals as goal
 
 pub loop-field-preserved : goal.loop-field-preserved

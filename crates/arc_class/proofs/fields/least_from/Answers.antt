@@ -5,7 +5,7 @@ use Rattle.arc_spec.specs.Classes.{ancestry_within}
 use Rattle.arc_spec.proofs.Ancestry.{all_rows, no_row, in_row}
 use Rattle.arc_class.specs.Lookups.{least_of, least_among}
 use Rattle.arc_class.specs.Table.{superclass_of_fields, own_place_in}
-use Rattle.arc_class.proofs.Leasts.{least_turn, least_over}
+use Rattle.arc_class.proofs.LeastPlace.{least_turn, least_over}
 use Rattle.arc_class.proofs.fields.least_from.Goals as goal
 
 pub returns-in_default-get : goal.returns-in_default-get

@@ -1,6 +1,6 @@
 use Rattle.std.proofs.Common.{◌≡◌, ◌+◌, ℕ, List, drop}
 use Rattle.arc_ast.specs.Tree.{interface_trees}
-use Rattle.arc_class.specs.Kept.{places}
+use Rattle.arc_class.specs.KeptNames.{places}
 use Rattle.std.specs.Option.{option_or}
 use Rattle.arc_class.specs.Table.{at_name}
 use Rattle.arc_class.proofs.kept.class_places.Given as goal

@@ -1,7 +1,7 @@
 use Rattle.std.proofs.Common.{◌≡◌, ℕ, List, drop}
 use Rattle.arc_ast.specs.Tree.{function_trees}
-use Rattle.arc_class.specs.Names.{first_named}
-use Rattle.arc_class.specs.Kept.{function_kept}
+use Rattle.arc_class.specs.FunctionNames.{first_named}
+use Rattle.arc_class.specs.KeptNames.{function_kept}
 use Rattle.std.specs.Option.{option_or}
 use Rattle.arc_class.proofs.kept.first_functions.Given as goal
 

@@ -3,11 +3,11 @@ use Rattle.arc_ast.specs.Tree.{type_tree, global_tree, global_trees}
 use Rattle.arc_ast.specs.Types.{type_kind}
 use Rattle.std.specs.Option.{option_or}
 use Rattle.arc_class.specs.Globals.{variable_after, variables}
-use Rattle.arc_class.specs.Kept.{one_at}
+use Rattle.arc_class.specs.KeptNames.{one_at}
 use Rattle.arc_spec.specs.Sorts.{held_by, with_one}
 use Rattle.arc_class.specs.Table.{at_name}
-use Rattle.arc_class.proofs.Keeping.{kept_turn, or_one}
-use Rattle.arc_class.proofs.Lists.{drop_turn}
+use Rattle.arc_class.proofs.FirstDeclaration.{kept_turn, or_one}
+use Rattle.arc_class.proofs.ListSuffixes.{drop_turn}
 use Rattle.arc_class.proofs.kept.first_globals.Goals as goal
 
 pub loop-global-preserved : goal.loop-global-preserved

@@ -1,11 +1,11 @@
 use Rattle.std.proofs.Common.{◌≡◌, ℕ, ◌+◌, ap, ◌∙◌, sym, drop, length}
 use Rattle.arc_ast.specs.Tree.{ImplementationTree, method_trees, implementation_tree, implementation_trees}
-use Rattle.arc_class.specs.Kept.{one_at, implemented_in, implemented_tree}
+use Rattle.arc_class.specs.KeptNames.{one_at, implemented_in, implemented_tree}
 use Rattle.std.specs.Option.{option_or}
-use Rattle.arc_class.specs.Running.{implemented}
+use Rattle.arc_class.specs.RuntimeClasses.{implemented}
 use Rattle.arc_class.specs.Table.{at_name}
-use Rattle.arc_class.proofs.Keeping.{kept_turn, kept_map, or_one}
-use Rattle.arc_class.proofs.Lists.{drop_turn}
+use Rattle.arc_class.proofs.FirstDeclaration.{kept_turn, kept_map, or_one}
+use Rattle.arc_class.proofs.ListSuffixes.{drop_turn}
 use Rattle.arc_ast.proofs.Trees.{length-method_trees}
 use Rattle.arc_class.proofs.kept.first_implementations.Goals as goal
 

@@ -1,8 +1,8 @@
 use Rattle.std.proofs.Common.{◌≡◌, ℕ, List, drop}
 use Rattle.arc_ast.specs.Tree.{implementation_trees}
-use Rattle.arc_class.specs.Kept.{implemented_in}
+use Rattle.arc_class.specs.KeptNames.{implemented_in}
 use Rattle.std.specs.Option.{option_or}
-use Rattle.arc_class.specs.Running.{implemented}
+use Rattle.arc_class.specs.RuntimeClasses.{implemented}
 use Rattle.arc_class.proofs.kept.first_implementations.Given as goal
 
 -- what is kept and what is first of the rest is first of all

@@ -2,8 +2,8 @@ use Rattle.std.proofs.Common.{◌≡◌, ◌+◌, length, drop, sym, ap, ◌∙�
 use Rattle.std.proofs.lemmas.Grind.{common_steps}
 use Rattle.arc_ast.specs.Tree.{method_trees, implementation_trees}
 use Rattle.arc_class.specs.Classes.{numbers_after}
-use Rattle.arc_class.proofs.Lists.{drop_turn}
-use Rattle.arc_class.proofs.Runnings.{numbers_grow}
+use Rattle.arc_class.proofs.ListSuffixes.{drop_turn}
+use Rattle.arc_class.proofs.RuntimeMethods.{numbers_grow}
 use Rattle.arc_ast.proofs.Trees.{length-method_trees}
 use Rattle.arc_class.proofs.kept.numbers_after.Goals as goal
 

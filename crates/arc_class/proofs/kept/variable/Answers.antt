@@ -5,7 +5,7 @@ use Rattle.arc_ast.specs.Types.{type_kind}
 use Rattle.arc_class.specs.declared.table.ClassId.{ClassId}
 use Rattle.arc_class.specs.declared.table.Variable.{Variable}
 use Rattle.arc_spec.specs.Sorts.{held_by, next_of}
-use Rattle.arc_class.proofs.Typed.{class_same}
+use Rattle.arc_class.proofs.ClassesOfTypes.{class_same}
 use Rattle.arc_class.proofs.kept.variable.Goals as goal
 
 abbrev variable : ℕ → ℕ → Kind → Option ClassId → Variable

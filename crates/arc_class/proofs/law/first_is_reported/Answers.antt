@@ -1,4 +1,4 @@
-use Rattle.arc_class.proofs.Firsts.{none_broken, first_is}
+use Rattle.arc_class.proofs.FirstBrokenRule.{none_broken, first_is}
 use Rattle.arc_class.proofs.law.first_is_reported.Goals as goal
 
 pub returns-clause-none : goal.returns-clause-none

@@ -1,6 +1,6 @@
 use Rattle.std.proofs.Common.{◌<◌, ◌≤◌, length, arith}
 use Rattle.std.proofs.lemmas.Grind.{common_steps}
-use Rattle.arc_class.proofs.Looks.{turn, few_bodies}
+use Rattle.arc_class.proofs.KnownFunctions.{turn, few_bodies}
 use Rattle.arc_class.proofs.look.look.Goals as goal
 
 pub add-requires : goal.add-requires

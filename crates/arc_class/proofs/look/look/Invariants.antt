@@ -1,6 +1,6 @@
 use Rattle.std.proofs.Common.{take}
 use Rattle.arc_ast.specs.Tree.{function_trees}
-use Rattle.arc_class.specs.private.Look.{Sums}
+use Rattle.arc_class.specs.private.FunctionSummary.{Sums}
 use Rattle.arc_class.proofs.look.look.Given as goal
 
 -- so much is known of the functions so far

@@ -3,9 +3,9 @@ use Rattle.std.proofs.lemmas.Grind.{common_steps}
 use Rattle.std.proofs.lemmas.Bool.{eqb-true}
 use Rattle.arc_ast.specs.declared.tree.Parameter.{Parameter}
 use Rattle.arc_ast.specs.Tree.{parameter_trees}
-use Rattle.arc_class.specs.Functions.{same_kinds}
-use Rattle.arc_class.specs.Names.{parameter_kinds}
-use Rattle.arc_class.proofs.Lists.{drop_end}
+use Rattle.arc_class.specs.FunctionRules.{same_kinds}
+use Rattle.arc_class.specs.FunctionNames.{parameter_kinds}
+use Rattle.arc_class.proofs.ListSuffixes.{drop_end}
 use Rattle.arc_class.proofs.look.same_parameters.Goals as goal
 
 no_other : (rest : List Parameter) → nat_eq (length rest) 0 ≡ same_kinds [] (parameter_kinds (parameter_trees rest))

@@ -1,7 +1,7 @@
 use Rattle.std.proofs.Common.{◌≡◌, drop}
 use Rattle.arc_ast.specs.Tree.{parameter_trees}
-use Rattle.arc_class.specs.Functions.{same_kinds}
-use Rattle.arc_class.specs.Names.{parameter_kinds}
+use Rattle.arc_class.specs.FunctionRules.{same_kinds}
+use Rattle.arc_class.specs.FunctionNames.{parameter_kinds}
 use Rattle.arc_class.proofs.look.same_parameters.Given as goal
 
 -- those before this one are the same

@@ -1,6 +1,6 @@
 use Rattle.std.proofs.Common.{Some, length, sym, ap, ◌∙◌}
 use Rattle.arc_ast.specs.Tree.{parameters_tree}
-use Rattle.arc_class.specs.Names.{takes}
+use Rattle.arc_class.specs.FunctionNames.{takes}
 use Rattle.arc_ast.proofs.Trees.{length-parameter_trees}
 use Rattle.arc_class.proofs.look.takes.Goals as goal
 

@@ -1,9 +1,9 @@
 use Rattle.std.proofs.Common.{◌≡◌, is_some, ap, ◌∙◌, sym}
 use Rattle.arc_ast.specs.Tree.{head_tree}
-use Rattle.arc_class.specs.Broken.{broken_if, first}
+use Rattle.arc_class.specs.BrokenRules.{broken_if, first}
 use Rattle.arc_class.specs.Classes.{first_head}
 use Rattle.arc_class.specs.Table.{head_at}
-use Rattle.arc_class.proofs.Rules.{there_map}
+use Rattle.arc_class.proofs.ClassViolations.{there_map}
 use Rattle.arc_class.proofs.methods.method_fault.Goals as goal
 
 pub returns : goal.returns

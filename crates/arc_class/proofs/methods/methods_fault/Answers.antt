@@ -2,8 +2,8 @@ use Rattle.std.proofs.Common.{take, ap, option_map, refl, arith}
 use Rattle.std.proofs.lemmas.Grind.{common_steps}
 use Rattle.arc_ast.specs.Tree.{head_tree, method_trees}
 use Rattle.arc_class.specs.Classes.{heads}
-use Rattle.arc_class.specs.Kept.{head_in}
-use Rattle.arc_class.proofs.Rules.{methods_turn, methods_held}
+use Rattle.arc_class.specs.KeptNames.{head_in}
+use Rattle.arc_class.proofs.ClassViolations.{methods_turn, methods_held}
 use Rattle.arc_class.proofs.methods.methods_fault.Goals as goal
 
 pub loop-method-init : goal.loop-method-init

@@ -1,7 +1,7 @@
 use Rattle.std.proofs.Common.{◌≡◌, length, map, slice_get}
 use Rattle.arc_class.specs.Lookups.{superclass_of_fields, own_field_in}
 use Rattle.arc_class.specs.Owners.{IsOwners, views, owner_by}
-use Rattle.arc_class.proofs.Chains.{Follows}
+use Rattle.arc_class.proofs.NearestOwner.{Follows}
 use Rattle.arc_class.proofs.nearest.field_owners.Given as goal
 
 -- the classes so far are known

@@ -3,8 +3,8 @@ use Rattle.std.proofs.lemmas.List.{length-map}
 use Rattle.std.proofs.lemmas.Option.{slice_get_read}
 use Rattle.arc_class.specs.Lookups.{superclass_of_entry, own_result_in}
 use Rattle.arc_class.specs.Owners.{views, owner_by}
-use Rattle.arc_class.proofs.Chains.{finds_all}
-use Rattle.arc_class.proofs.Nearests.{follows_none, one_more_class, entry_turn}
+use Rattle.arc_class.proofs.NearestOwner.{finds_all}
+use Rattle.arc_class.proofs.FieldMethodOwners.{follows_none, one_more_class, entry_turn}
 use Rattle.arc_class.proofs.nearest.method_owners.Goals as goal
 
 pub loop-class-init : goal.loop-class-init

@@ -1,7 +1,7 @@
 use Rattle.std.proofs.Common.{◌≡◌, ◌-◌, ◌/◌, ◌∙◌, ◌++◌, ◌∷◌, [], length, suc, ap, sym, subst, ℕ, Option, List, arith}
 use Rattle.arc_class.specs.declared.numbered.Node.{Node}
-use Rattle.arc_class.specs.Numbered.{side, node_at, with_side, IsWithin, Puts}
-use Rattle.arc_class.proofs.Digits.{half_fits, side_within, put_last, put_turn}
+use Rattle.arc_class.specs.NumberMaps.{side, node_at, with_side, IsWithin, Puts}
+use Rattle.arc_class.proofs.NumberMapUpdates.{half_fits, side_within, put_last, put_turn}
 use Rattle.arc_class.proofs.numbered.+put.Goals as goal
 
 pub returns-then-levels-eq0-clause-put : goal.returns-then-levels-eq0-clause-put

@@ -1,6 +1,6 @@
 use Rattle.std.proofs.Common.{◌≡◌, ◌+◌, ◌-◌, ◌/◌, ◌∙◌, ap, sym}
-use Rattle.arc_class.specs.Numbered.{node_at, side, at_number}
-use Rattle.arc_class.proofs.Digits.{level_turn, level_end}
+use Rattle.arc_class.specs.NumberMaps.{node_at, side, at_number}
+use Rattle.arc_class.proofs.NumberMapUpdates.{level_turn, level_end}
 use Rattle.arc_class.proofs.numbered.find.Goals as goal
 
 pub loop-level-preserved : goal.loop-level-preserved

@@ -1,5 +1,5 @@
 use Rattle.std.proofs.Common.{◌≡◌, ◌-◌}
-use Rattle.arc_class.specs.Numbered.{at_number}
+use Rattle.arc_class.specs.NumberMaps.{at_number}
 use Rattle.arc_class.proofs.numbered.find.Given as goal
 
 -- what the map has is found from the next part on

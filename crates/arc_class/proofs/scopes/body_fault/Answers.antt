@@ -1,9 +1,9 @@
 use Rattle.std.proofs.Common.{map, ap, ◌∙◌, sym}
 use Rattle.arc_ast.specs.Tree.{parameter_trees, stmt_trees}
-use Rattle.arc_class.specs.Broken.{first}
+use Rattle.arc_class.specs.BrokenRules.{first}
 use Rattle.arc_class.specs.SiteRules.{as_variable, all_declared, repeated}
 use Rattle.arc_class.specs.private.Scopes.{no_name, names_with}
-use Rattle.arc_class.proofs.Firsts.{first_both}
+use Rattle.arc_class.proofs.FirstBrokenRule.{first_both}
 use Rattle.arc_class.proofs.ScopeNames.{holds-none, repeated-append}
 use Rattle.arc_class.proofs.scopes.body_fault.Goals as goal
 

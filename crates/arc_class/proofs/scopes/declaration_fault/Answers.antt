@@ -1,5 +1,5 @@
 use Rattle.std.proofs.Common.{ap, sym}
-use Rattle.arc_class.specs.Broken.{first}
+use Rattle.arc_class.specs.BrokenRules.{first}
 use Rattle.arc_class.proofs.ScopeNames.{few-repeated}
 use Rattle.arc_class.proofs.scopes.declaration_fault.Goals as goal
 

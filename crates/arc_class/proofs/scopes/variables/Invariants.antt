@@ -1,6 +1,6 @@
 use Rattle.std.proofs.Common.{◌≡◌, option_map, drop}
 use Rattle.arc_ast.specs.Tree.{variable_trees}
-use Rattle.arc_class.specs.Broken.{first, earlier_of}
+use Rattle.arc_class.specs.BrokenRules.{first, earlier_of}
 use Rattle.arc_class.specs.Fault.{reported}
 use Rattle.arc_class.specs.SiteRules.{repeated}
 use Rattle.arc_class.specs.private.Scopes.{names_with, holds}

@@ -1,11 +1,11 @@
 use Rattle.std.proofs.Common.{◌≡◌, List, sym, ap, subst, ◌∙◌, option_map}
 use Rattle.arc_ast.specs.Tree.{unit_tree}
 use Rattle.arc_class.specs.declared.fields.ClassFields.{ClassFields}
-use Rattle.arc_class.specs.Broken.{first}
+use Rattle.arc_class.specs.BrokenRules.{first}
 use Rattle.arc_class.specs.ClassRules.{broken}
 use Rattle.arc_class.specs.Fault.{reported}
 use Rattle.arc_class.specs.Owners.{FindsFields}
-use Rattle.arc_class.proofs.Answering.{refuses, whole_known, nothing, main_reported}
+use Rattle.arc_class.proofs.FirstFaultReported.{refuses, whole_known, nothing, main_reported}
 use Rattle.arc_class.proofs.table.main_of_sound.Goals as goal
 
 pub classes_fault-requires-clause-owners : goal.classes_fault-requires-clause-owners

@@ -3,7 +3,7 @@ use Rattle.std.proofs.lemmas.Option.{slice_get_past, slice_get_read}
 use Rattle.std.proofs.lemmas.Bool.{ltb-false, ltb-true}
 use Rattle.arc_spec.specs.Classes.{classes_of, superclasses, ancestry_within, first_that_has, own_dealloc}
 use Rattle.arc_spec.proofs.Ancestry.{all_classes, no_class, in_class, class_there, superclass_there}
-use Rattle.arc_class.proofs.Keeping.{own_first, above_next}
+use Rattle.arc_class.proofs.FirstDeclaration.{own_first, above_next}
 use Rattle.arc_class.proofs.table.nearest_dealloc.Goals as goal
 use Rattle.std.specs.Option.{option_or}
 

@@ -4,7 +4,7 @@ use Rattle.std.proofs.lemmas.Bool.{ltb-true}
 use Rattle.arc_spec.specs.Classes.{ancestry_within, first_that_has}
 use Rattle.arc_spec.proofs.Ancestry.{all_rows, in_row}
 use Rattle.arc_class.specs.Lookups.{superclass_of_entry, own_given_in}
-use Rattle.arc_class.proofs.Keeping.{own_first, above_next}
+use Rattle.arc_class.proofs.FirstDeclaration.{own_first, above_next}
 use Rattle.arc_class.proofs.table.result_from.Goals as goal
 use Rattle.std.specs.Option.{option_or}
 

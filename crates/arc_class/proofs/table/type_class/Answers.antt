@@ -1,7 +1,7 @@
 use Rattle.std.proofs.Common.{sym, ap, ◌∙◌, option_map}
 use Rattle.arc_ast.specs.Tree.{type_tree}
 use Rattle.arc_class.specs.Table.{class_number_in, type_class_in}
-use Rattle.arc_class.proofs.Typed.{class_back, with_number}
+use Rattle.arc_class.proofs.ClassesOfTypes.{class_back, with_number}
 use Rattle.arc_class.proofs.table.type_class.Goals as goal
 
 pub returns-in-Object : goal.returns-in-Object

@@ -1,11 +1,11 @@
 use Rattle.std.proofs.Common.{◌+◌, flat_map, map, option_map, drop, ap, ◌∙◌, arith}
 use Rattle.std.proofs.lemmas.Grind.{common_steps}
 use Rattle.arc_ast.specs.Tree.{unit_tree, type_tree, parameter_trees}
-use Rattle.arc_class.specs.Broken.{first, earlier_of}
+use Rattle.arc_class.specs.BrokenRules.{first, earlier_of}
 use Rattle.arc_class.specs.Fault.{reported}
 use Rattle.arc_class.specs.SiteRules.{unknown_class}
-use Rattle.arc_class.proofs.Firsts.{first_turn}
-use Rattle.arc_class.proofs.Lists.{drop_turn}
+use Rattle.arc_class.proofs.FirstBrokenRule.{first_turn}
+use Rattle.arc_class.proofs.ListSuffixes.{drop_turn}
 use Rattle.arc_class.proofs.types.parameters_fault.Goals as goal
 
 pub loop-parameter-preserved : goal.loop-parameter-preserved

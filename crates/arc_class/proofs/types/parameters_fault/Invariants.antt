@@ -1,8 +1,8 @@
 use Rattle.std.proofs.Common.{◌≡◌, flat_map, map, option_map, drop}
 use Rattle.arc_ast.specs.Tree.{unit_tree, parameter_trees}
-use Rattle.arc_class.specs.Broken.{first, earlier_of}
+use Rattle.arc_class.specs.BrokenRules.{first, earlier_of}
 use Rattle.arc_class.specs.Fault.{reported}
-use Rattle.arc_class.specs.Kept.{Knows}
+use Rattle.arc_class.specs.KeptNames.{Knows}
 use Rattle.arc_class.specs.SiteRules.{unknown_class}
 use Rattle.arc_class.proofs.types.parameters_fault.Given as goal
 

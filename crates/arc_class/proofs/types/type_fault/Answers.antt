@@ -1,9 +1,9 @@
 use Rattle.std.proofs.Common.{◌≡◌, not, is_some, ap, ◌∙◌}
 use Rattle.arc_ast.specs.Tree.{unit_tree}
-use Rattle.arc_class.specs.Broken.{broken_if, first}
+use Rattle.arc_class.specs.BrokenRules.{broken_if, first}
 use Rattle.arc_class.specs.Classes.{class_number}
 use Rattle.arc_class.specs.Table.{class_number_in}
-use Rattle.arc_class.proofs.Rules.{class_number_kept, there_none}
+use Rattle.arc_class.proofs.ClassViolations.{class_number_kept, there_none}
 use Rattle.arc_class.proofs.types.type_fault.Goals as goal
 
 pub returns-in-Object : goal.returns-in-Object

@@ -1,4 +1,4 @@
-use Rattle.arc_code.specs.Running.{linked}
+use Rattle.arc_code.specs.CodeSteps.{linked}
 use Rattle.arc_code.proofs.HeightsKept.{never_more, sound_with_room}
 use Rattle.arc_code.proofs.law.heights_bound_runs.Goals as goal
 

@@ -1,6 +1,6 @@
 use Rattle.std.proofs.Common.{arith}
 use Rattle.std.proofs.lemmas.Result.{err_from_is_err_and}
-use Rattle.arc_code.proofs.Listed.{one_more, cut_short}
+use Rattle.arc_code.proofs.ListingGrows.{one_more, cut_short}
 use Rattle.arc_code.proofs.lines.list.Goals as goal
 
 pub returns-in_err-put_line : goal.returns-in_err-put_line

@@ -1,6 +1,6 @@
 use Rattle.std.proofs.Common.{take, Ok}
-use Rattle.arc_code.specs.Counting.{failures_of, held_by}
-use Rattle.arc_code.specs.Written.{Written}
+use Rattle.arc_code.specs.CountedDevices.{failures_of, held_by}
+use Rattle.arc_code.specs.WrittenBytes.{Written}
 use Rattle.arc_code.specs.Listing.{listing}
 use Rattle.arc_code.proofs.lines.list.Given as goal
 

@@ -1,6 +1,6 @@
 use Rattle.std.proofs.lemmas.Result.{err_from_is_err_and}
 use Rattle.arc_code.specs.InstructionTable.{operand}
-use Rattle.arc_code.proofs.Parts.{wider, then_written}
+use Rattle.arc_code.proofs.WritesCompose.{wider, then_written}
 use Rattle.arc_code.proofs.lines.put_four.Goals as goal
 
 pub returns-in_err-put_operand : goal.returns-in_err-put_operand

@@ -1,7 +1,7 @@
 use Rattle.std.proofs.Common.{[], ◌∷◌, ◌++◌, decimal}
 use Rattle.std.proofs.lemmas.Result.{err_from_is_err_and}
 use Rattle.arc_code.specs.InstructionTable.{parts}
-use Rattle.arc_code.proofs.Parts.{first_failed, second_failed, third_failed, then_ok, then_failed, then_written}
+use Rattle.arc_code.proofs.WritesCompose.{first_failed, second_failed, third_failed, then_ok, then_failed, then_written}
 use Rattle.arc_code.proofs.lines.put_line.Goals as goal
 
 pub returns-in_err-put_number : goal.returns-in_err-put_number

@@ -1,13 +1,13 @@
 use Rattle.std.proofs.Common.{◌≡◌, IfOk, Result, Ok, Err, sym, subst}
-use Rattle.arc_spec.specs.Correct.{Refines, Steady}
-use Rattle.arc_spec.proofs.Steadiness.{steady}
-use Rattle.arc_ir.specs.Acting as acting
+use Rattle.arc_spec.specs.Correctness.{Refines, Steady}
+use Rattle.arc_spec.proofs.RunsSteady.{steady}
+use Rattle.arc_ir.specs.ActionSteps as acting
 use Rattle.arc_code.specs.declared.code.Code.{Code}
-use Rattle.arc_code.specs.Running as running
-use Rattle.arc_code.specs.Running.{Program, program_of}
+use Rattle.arc_code.specs.CodeSteps as running
+use Rattle.arc_code.specs.CodeSteps.{Program, program_of}
 use Rattle.arc_emit.specs.declared.fault.EmitFault.{EmitFault}
-use Rattle.arc_emit.specs.Emitted.{code_of}
-use Rattle.arc_emit.proofs.Emitting.{code_refines, code_sound}
+use Rattle.arc_emit.specs.EmittedCode.{code_of}
+use Rattle.arc_emit.proofs.CodeSimulation.{code_refines, code_sound}
 use Rattle.arc_emit.proofs.emit.emit.Goals as goal
 
 -- what holds of the code of a program holds of what was written for it

@@ -1,7 +1,7 @@
 use Rattle.std.proofs.Common.{◌≡◌, ◌*◌, ◌≤◌, ◌++◌, length, drop}
 use Rattle.arc_code.specs.declared.code.TheConstants.{MOST_TEXT}
-use Rattle.arc_ir.specs.Acting.{program_of}
-use Rattle.arc_emit.specs.Emitted.{instrs_of, texts_of}
+use Rattle.arc_ir.specs.ActionSteps.{program_of}
+use Rattle.arc_emit.specs.EmittedCode.{instrs_of, texts_of}
 use Rattle.arc_emit.proofs.emit.write_code.Given as goal
 
 abbrev pub invariant-loop-action : goal.invariant-loop-action

@@ -1,8 +1,8 @@
 use Rattle.std.proofs.Common.{None, sym, ap, ◌∙◌, option_map}
 use Rattle.arc_ast.specs.Tree.{unit_tree}
 use Rattle.arc_sites.specs.Sites.{unit_sites}
-use Rattle.arc_sites.proofs.Firsts.{none_violated}
-use Rattle.arc_sites.proofs.Found.{found_is}
+use Rattle.arc_sites.proofs.FirstViolation.{none_violated}
+use Rattle.arc_sites.proofs.FoundIsFirst.{found_is}
 use Rattle.arc_family.specs.Fault.{reported}
 use Rattle.arc_family.specs.Rules.{violations, broken}
 use Rattle.arc_family.proofs.owned.own.Goals as goal

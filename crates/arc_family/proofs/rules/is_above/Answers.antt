@@ -4,7 +4,7 @@ use Rattle.std.specs.List.{list_any}
 use Rattle.arc_spec.specs.Classes as spec
 use Rattle.arc_class.specs.Table.{number_of_class}
 use Rattle.arc_family.specs.Rules as rules
-use Rattle.arc_family.proofs.Classes.{same_superclasses}
+use Rattle.arc_family.proofs.SuperclassesAgree.{same_superclasses}
 use Rattle.arc_family.proofs.rules.is_above.Goals as goal
 
 pub returns : goal.returns

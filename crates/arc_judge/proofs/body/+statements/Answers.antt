@@ -2,15 +2,15 @@ use Rattle.std.proofs.Common.{◌≡◌, ◌++◌, true, false, length, option_m
 use Rattle.std.proofs.lemmas.Grind.{common_steps}
 use Rattle.arc_ast.specs.Tree.{stmt_tree, stmt_trees, expr_tree}
 use Rattle.std.proofs.lemmas.Result.{on_ok_weaker}
-use Rattle.arc_class.specs.Broken.{Broken, first}
-use Rattle.arc_class.proofs.Firsts.{first_both}
+use Rattle.arc_class.specs.BrokenRules.{Broken, first}
+use Rattle.arc_class.proofs.FirstBrokenRule.{first_both}
 use Rattle.arc_judge.specs.Fault.{reported}
 use Rattle.arc_judge.specs.Rules.{broken_clauses, broken_test, broken_stmt}
 use Rattle.arc_scope.specs.Scopes.{Scope, leave, scope_after}
 use Rattle.arc_scope.specs.Views.{seen}
-use Rattle.arc_scope.proofs.Leaving.{after_same, after_all_same, inner_same, leave_is}
-use Rattle.arc_scope.proofs.Scoping.{keeps_turn, keeps_same}
-use Rattle.arc_judge.proofs.Statements.{statements_turn, after_turn, block_is, block_after}
+use Rattle.arc_scope.proofs.ScopeKept.{after_same, after_all_same, inner_same, leave_is}
+use Rattle.arc_scope.proofs.VisibleVariables.{keeps_turn, keeps_same}
+use Rattle.arc_judge.proofs.StatementViolations.{statements_turn, after_turn, block_is, block_after}
 use Rattle.arc_judge.proofs.body.+statements.Goals as goal
 
 pub block-returns-clause-scope : goal.block-returns-clause-scope

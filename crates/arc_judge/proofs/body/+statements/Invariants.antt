@@ -1,7 +1,7 @@
 use Rattle.std.proofs.Common.{◌≡◌, ◌+◌, ◌*◌, max, option_map, drop, take, length}
 use Rattle.arc_ast.specs.declared.tree.Stmt.{size-Stmt}
 use Rattle.arc_ast.specs.Tree.{stmt_trees}
-use Rattle.arc_class.specs.Broken.{first, earlier_of}
+use Rattle.arc_class.specs.BrokenRules.{first, earlier_of}
 use Rattle.arc_judge.specs.Fault.{reported}
 use Rattle.arc_judge.specs.Rules.{broken_stmts}
 use Rattle.arc_scope.specs.Scopes.{scope_after_all}

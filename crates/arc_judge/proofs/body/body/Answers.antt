@@ -1,9 +1,9 @@
 use Rattle.std.proofs.Common.{◌≡◌, IfOk, Option, option_map, subst}
 use Rattle.arc_ast.specs.Tree.{parameter_trees}
-use Rattle.arc_class.specs.Broken.{Broken}
+use Rattle.arc_class.specs.BrokenRules.{Broken}
 use Rattle.arc_judge.specs.Fault.{reported}
 use Rattle.arc_scope.specs.Views.{known_in, seen}
-use Rattle.arc_judge.proofs.Statements.{body_is}
+use Rattle.arc_judge.proofs.StatementViolations.{body_is}
 use Rattle.arc_judge.proofs.body.body.Goals as goal
 
 pub returns : goal.returns

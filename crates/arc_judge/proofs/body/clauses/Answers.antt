@@ -1,7 +1,7 @@
 use Rattle.std.proofs.Common.{[], option_map}
 use Rattle.std.specs.Option.{option_map_or}
 use Rattle.arc_ast.specs.Tree.{expr_tree}
-use Rattle.arc_class.proofs.Firsts.{first_both}
+use Rattle.arc_class.proofs.FirstBrokenRule.{first_both}
 use Rattle.arc_judge.specs.Rules.{broken_test, broken_whole}
 use Rattle.arc_scope.specs.Views.{seen}
 use Rattle.arc_judge.proofs.body.clauses.Goals as goal

@@ -3,9 +3,9 @@ use Rattle.std.specs.Option.{option_map_or}
 use Rattle.arc_ast.specs.declared.tree.Kind.{Kind}
 use Rattle.arc_ast.specs.Tree.{ParameterTree, result_tree, parameter_trees, parameters_tree, stmt_trees}
 use Rattle.arc_ast.specs.Types.{result_kind}
-use Rattle.arc_class.specs.Broken.{Broken, broken_if, first}
+use Rattle.arc_class.specs.BrokenRules.{Broken, broken_if, first}
 use Rattle.arc_sites.specs.Sites.{named_parameters}
-use Rattle.arc_class.proofs.Firsts.{first_both}
+use Rattle.arc_class.proofs.FirstBrokenRule.{first_both}
 use Rattle.arc_ast.proofs.Trees.{length-parameter_trees}
 use Rattle.arc_judge.specs.Fault.{reported}
 use Rattle.arc_judge.specs.Rules.{broken_body}

@@ -1,7 +1,7 @@
 use Rattle.std.proofs.Common.{false, option_map, ap, ◌∙◌}
 use Rattle.arc_ast.specs.Tree.{parameter_trees, stmt_trees}
-use Rattle.arc_class.specs.Broken.{first}
-use Rattle.arc_class.proofs.Firsts.{first_both}
+use Rattle.arc_class.specs.BrokenRules.{first}
+use Rattle.arc_class.proofs.FirstBrokenRule.{first_both}
 use Rattle.arc_judge.specs.Fault.{reported}
 use Rattle.arc_judge.specs.Rules.{broken_parameters, broken_stmts}
 use Rattle.arc_scope.specs.Scopes.{with_parameters}

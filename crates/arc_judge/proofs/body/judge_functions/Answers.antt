@@ -1,7 +1,7 @@
 use Rattle.std.proofs.Common.{option_map}
 use Rattle.arc_judge.specs.Fault.{reported}
 use Rattle.arc_scope.specs.Views.{known_in}
-use Rattle.arc_judge.proofs.Statements.{functions_turn}
+use Rattle.arc_judge.proofs.StatementViolations.{functions_turn}
 use Rattle.arc_judge.proofs.body.judge_functions.Goals as goal
 
 pub loop-one-preserved : goal.loop-one-preserved

@@ -4,8 +4,8 @@ use Rattle.arc_ast.specs.Tree.{type_tree}
 use Rattle.arc_judge.specs.Fault.{reported}
 use Rattle.arc_scope.specs.Scopes.{declare}
 use Rattle.arc_scope.specs.Views.{seen}
-use Rattle.arc_scope.proofs.Scoping.{parameters_turn}
-use Rattle.arc_judge.proofs.Walks.{reported_turn}
+use Rattle.arc_scope.proofs.VisibleVariables.{parameters_turn}
+use Rattle.arc_judge.proofs.DeclarationViolations.{reported_turn}
 use Rattle.arc_judge.proofs.body.parameters.Goals as goal
 
 pub loop-parameter-preserved : goal.loop-parameter-preserved

@@ -1,7 +1,7 @@
 use Rattle.std.proofs.Common.{ℕ, [], ◌∷◌, Some, sym, ap, ◌∙◌, option_map}
 use Rattle.arc_ast.specs.Tree.{expr_tree, place}
-use Rattle.arc_class.specs.Broken.{Broken}
-use Rattle.arc_class.proofs.Firsts.{first_both}
+use Rattle.arc_class.specs.BrokenRules.{Broken}
+use Rattle.arc_class.proofs.FirstBrokenRule.{first_both}
 use Rattle.arc_judge.specs.Fault.{reported}
 use Rattle.arc_judge.specs.Rules.{broken_whole}
 use Rattle.arc_scope.specs.Views.{seen}

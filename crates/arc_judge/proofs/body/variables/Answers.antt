@@ -4,9 +4,9 @@ use Rattle.arc_ast.specs.Tree.{type_tree}
 use Rattle.arc_judge.specs.Fault.{reported}
 use Rattle.arc_scope.specs.Scopes.{declare}
 use Rattle.arc_scope.specs.Views.{seen}
-use Rattle.arc_scope.proofs.Scoping.{keeps_turn}
-use Rattle.arc_judge.proofs.Walks.{variables_turn}
-use Rattle.arc_scope.proofs.Declaring.{with_turn}
+use Rattle.arc_scope.proofs.VisibleVariables.{keeps_turn}
+use Rattle.arc_judge.proofs.DeclarationViolations.{variables_turn}
+use Rattle.arc_scope.proofs.DeclaredVariables.{with_turn}
 use Rattle.arc_judge.proofs.body.variables.Goals as goal
 
 pub loop-variable-preserved : goal.loop-variable-preserved

@@ -1,6 +1,6 @@
 use Rattle.std.proofs.Common.{◌≡◌, option_map, drop, take, length}
 use Rattle.arc_ast.specs.Tree.{type_tree, variable_trees}
-use Rattle.arc_class.specs.Broken.{first, earlier_of}
+use Rattle.arc_class.specs.BrokenRules.{first, earlier_of}
 use Rattle.arc_judge.specs.Fault.{reported}
 use Rattle.arc_judge.specs.Rules.{broken_variables}
 use Rattle.arc_scope.specs.Scopes.{with_variables}

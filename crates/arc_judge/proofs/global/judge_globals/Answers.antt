@@ -1,6 +1,6 @@
 use Rattle.std.proofs.Common.{option_map}
 use Rattle.arc_judge.specs.Fault.{reported}
-use Rattle.arc_judge.proofs.Globals.{globals_turn}
+use Rattle.arc_judge.proofs.GlobalViolations.{globals_turn}
 use Rattle.arc_judge.proofs.global.judge_globals.Goals as goal
 
 pub loop-global-preserved : goal.loop-global-preserved

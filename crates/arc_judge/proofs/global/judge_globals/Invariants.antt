@@ -1,7 +1,7 @@
 use Rattle.std.proofs.Common.{◌≡◌, option_map, drop}
 use Rattle.std.specs.List.{flat_map}
 use Rattle.arc_ast.specs.Tree.{global_trees}
-use Rattle.arc_class.specs.Broken.{first, earlier_of}
+use Rattle.arc_class.specs.BrokenRules.{first, earlier_of}
 use Rattle.arc_judge.specs.Fault.{reported}
 use Rattle.arc_judge.specs.Rules.{broken_global}
 use Rattle.arc_judge.proofs.global.judge_globals.Given as goal

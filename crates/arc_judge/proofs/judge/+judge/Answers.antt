@@ -2,18 +2,18 @@ use Rattle.std.proofs.Common.{◌≡◌, ◌<◌, ◌&&◌, false, length, Some,
 use Rattle.std.proofs.lemmas.Grind.{common_steps}
 use Rattle.arc_ast.specs.Tree.{expr_tree, expr_trees, type_tree, place}
 use Rattle.arc_ast.specs.Types.{type_kind}
-use Rattle.arc_class.specs.Broken.{first, earlier_of}
+use Rattle.arc_class.specs.BrokenRules.{first, earlier_of}
 use Rattle.arc_class.specs.Table.{number_of_class}
 use Rattle.arc_judge.specs.Fault.{reported}
 use Rattle.arc_scope.specs.Formats.{wanted}
 use Rattle.arc_scope.specs.declared.callee.Callee.TheVariants.{Printf}
-use Rattle.arc_judge.specs.private.Judging.{Judges, JudgesCall, counted}
-use Rattle.arc_scope.specs.Passing.{receiver_sign}
+use Rattle.arc_judge.specs.private.ExpressionJudgements.{Judges, JudgesCall, counted}
+use Rattle.arc_scope.specs.ParameterKinds.{receiver_sign}
 use Rattle.arc_judge.specs.Rules.{place_if, broken_arguments, kind_if, no_such}
 use Rattle.arc_scope.specs.Kinds.{is_object}
 use Rattle.arc_scope.specs.Scopes.{either_class, is_nil}
 use Rattle.arc_scope.specs.Views.{kinds_wanted, seen}
-use Rattle.arc_judge.proofs.Judgements.{judges_call, judges_send, judges_super, judges_unary, judges_cast, judges_arrow, judges_message, judges_super_message, judges_binary, judges_choice, judges_assign, judges_update, judges_other, fit_turn, fault_turn, taken_turn}
+use Rattle.arc_judge.proofs.ExpressionViolations.{judges_call, judges_send, judges_super, judges_unary, judges_cast, judges_arrow, judges_message, judges_super_message, judges_binary, judges_choice, judges_assign, judges_update, judges_other, fit_turn, fault_turn, taken_turn}
 use Rattle.arc_judge.proofs.judge.+judge.Goals as goal
 use Rattle.arc_judge.proofs.judge.+judge.Goals.{judge_arguments-then-reported, judge_arguments-else-reported}
 

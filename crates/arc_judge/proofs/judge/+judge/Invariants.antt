@@ -2,10 +2,10 @@ use Rattle.std.proofs.Common.{◌≡◌, ◌+◌, ◌*◌, ◌&&◌, false, max,
 use denote.Param.Weighed.{most}
 use Rattle.arc_ast.specs.declared.tree.Expr.{size-Expr}
 use Rattle.arc_ast.specs.Tree.{expr_trees}
-use Rattle.arc_class.specs.Broken.{first, earlier_of}
+use Rattle.arc_class.specs.BrokenRules.{first, earlier_of}
 use Rattle.arc_judge.specs.Fault.{reported}
 use Rattle.arc_scope.specs.Formats.{fits, wanted}
-use Rattle.arc_judge.specs.private.Judging.{counted}
+use Rattle.arc_judge.specs.private.ExpressionJudgements.{counted}
 use Rattle.arc_judge.specs.Rules.{kinds, all_taken, broken_arguments}
 use Rattle.arc_scope.specs.Views.{kinds_wanted, seen}
 use Rattle.arc_judge.proofs.judge.+judge.Given as goal

@@ -3,7 +3,7 @@ use Rattle.arc_class.specs.Table.{number_of_class}
 use Rattle.arc_judge.specs.Fault.{reported}
 use Rattle.arc_scope.specs.Scopes.{own_class}
 use Rattle.arc_scope.specs.Views.{seen}
-use Rattle.arc_judge.proofs.Judgements.{is_some-class, itself_object, itself_refused}
+use Rattle.arc_judge.proofs.ExpressionViolations.{is_some-class, itself_object, itself_refused}
 use Rattle.arc_judge.proofs.judge.judge_itself.Goals as goal
 
 pub returns-then-is_some : goal.returns-then-is_some

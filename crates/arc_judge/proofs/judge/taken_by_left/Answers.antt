@@ -1,5 +1,5 @@
 use Rattle.std.proofs.Common.{◌≡◌, refl, ap, ◌∙◌, if◌then◌else◌}
-use Rattle.arc_judge.specs.private.Judging.{counted}
+use Rattle.arc_judge.specs.private.ExpressionJudgements.{counted}
 use Rattle.arc_judge.specs.Rules.{place_if}
 use Rattle.arc_judge.proofs.judge.taken_by_left.Goals as goal
 use Rattle.arc_judge.proofs.judge.taken_by_left.Goals.{then-is_assignable, else-is_assignable}

@@ -1,9 +1,9 @@
 use Rattle.std.proofs.Common.{is_some, sym, ap, ◌∙◌}
-use Rattle.arc_judge.specs.private.Judging.{counted}
+use Rattle.arc_judge.specs.private.ExpressionJudgements.{counted}
 use Rattle.arc_judge.specs.Rules.{place_if}
 use Rattle.arc_scope.specs.Scopes.{own_class}
 use Rattle.arc_scope.specs.Views.{seen}
-use Rattle.arc_judge.proofs.Judgements.{is_some-class}
+use Rattle.arc_judge.proofs.ExpressionViolations.{is_some-class}
 use Rattle.arc_judge.proofs.judge.taken_by_super.Goals as goal
 
 pub returns : goal.returns

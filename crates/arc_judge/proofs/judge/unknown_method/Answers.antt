@@ -1,5 +1,5 @@
 use Rattle.std.proofs.Common.{is_none, sym, ap}
-use Rattle.arc_class.specs.Broken.{broken_if, first}
+use Rattle.arc_class.specs.BrokenRules.{broken_if, first}
 use Rattle.arc_judge.proofs.judge.unknown_method.Goals as goal
 
 pub returns-in-Some : goal.returns-in-Some

@@ -1,5 +1,5 @@
 use Rattle.std.proofs.Common.{nat_lt, sym, ap, ◌∙◌}
-use Rattle.arc_class.specs.Broken.{broken_if, first}
+use Rattle.arc_class.specs.BrokenRules.{broken_if, first}
 use Rattle.arc_ast.proofs.Trees.{length-parameter_trees}
 use Rattle.arc_judge.proofs.method.head.Goals as goal
 use Rattle.arc_judge.specs.declared.body.TheConstants.{MOST_PARAMETERS}

@@ -1,6 +1,6 @@
 use Rattle.std.proofs.Common.{option_map}
 use Rattle.arc_judge.specs.Fault.{reported}
-use Rattle.arc_judge.proofs.Methods.{heads_turn}
+use Rattle.arc_judge.proofs.MethodViolations.{heads_turn}
 use Rattle.arc_judge.proofs.method.heads.Goals as goal
 
 pub loop-one-preserved : goal.loop-one-preserved

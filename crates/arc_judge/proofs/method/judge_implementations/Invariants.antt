@@ -1,9 +1,9 @@
 use Rattle.std.proofs.Common.{◌≡◌, option_map, drop}
 use Rattle.std.specs.List.{flat_map}
 use Rattle.arc_ast.specs.Tree.{implementation_trees}
-use Rattle.arc_class.specs.Broken.{first, earlier_of}
+use Rattle.arc_class.specs.BrokenRules.{first, earlier_of}
 use Rattle.arc_judge.specs.Fault.{reported}
-use Rattle.arc_judge.specs.private.Judging.{broken_implementation}
+use Rattle.arc_judge.specs.private.ExpressionJudgements.{broken_implementation}
 use Rattle.arc_scope.specs.Views.{known_in}
 use Rattle.arc_judge.proofs.method.judge_implementations.Given as goal
 

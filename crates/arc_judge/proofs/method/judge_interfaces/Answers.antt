@@ -1,6 +1,6 @@
 use Rattle.std.proofs.Common.{option_map}
 use Rattle.arc_judge.specs.Fault.{reported}
-use Rattle.arc_judge.proofs.Methods.{interfaces_turn}
+use Rattle.arc_judge.proofs.MethodViolations.{interfaces_turn}
 use Rattle.arc_judge.proofs.method.judge_interfaces.Goals as goal
 
 pub loop-one-preserved : goal.loop-one-preserved

@@ -2,7 +2,7 @@ use Rattle.std.proofs.Common.{option_map}
 use Rattle.arc_class.specs.Table.{number_of_class}
 use Rattle.arc_judge.specs.Fault.{reported}
 use Rattle.arc_scope.specs.Views.{known_in, seen}
-use Rattle.arc_judge.proofs.Methods.{method_is}
+use Rattle.arc_judge.proofs.MethodViolations.{method_is}
 use Rattle.arc_judge.proofs.method.method.Goals as goal
 
 pub returns : goal.returns

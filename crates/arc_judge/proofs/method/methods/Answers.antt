@@ -2,7 +2,7 @@ use Rattle.std.proofs.Common.{option_map}
 use Rattle.arc_class.specs.Table.{number_of_class}
 use Rattle.arc_judge.specs.Fault.{reported}
 use Rattle.arc_scope.specs.Views.{known_in}
-use Rattle.arc_judge.proofs.Methods.{methods_turn}
+use Rattle.arc_judge.proofs.MethodViolations.{methods_turn}
 use Rattle.arc_judge.proofs.method.methods.Goals as goal
 
 pub loop-one-preserved : goal.loop-one-preserved

@@ -3,7 +3,7 @@ use Rattle.arc_ast.specs.Tree.{expr_tree}
 use Rattle.arc_judge.specs.Rules.{is_assignable}
 use Rattle.arc_scope.specs.Scopes.{itself_in}
 use Rattle.arc_scope.specs.Views.{seen}
-use Rattle.arc_judge.proofs.Judgements.{is_none-class}
+use Rattle.arc_judge.proofs.ExpressionViolations.{is_none-class}
 use Rattle.arc_judge.proofs.rule.is_updatable.Goals.{then-is_assignable, else-is_assignable}
 use Rattle.arc_judge.proofs.rule.is_updatable.Goals as goal
 

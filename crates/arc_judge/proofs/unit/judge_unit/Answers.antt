@@ -1,7 +1,7 @@
 use Rattle.std.proofs.Common.{option_map, ap}
 use Rattle.arc_ast.specs.Tree.{unit_tree, function_trees, global_trees, interface_trees, implementation_trees}
 use Rattle.arc_judge.specs.Fault.{reported}
-use Rattle.arc_judge.proofs.Reporting.{reported_of_unit}
+use Rattle.arc_judge.proofs.SourceViolations.{reported_of_unit}
 use Rattle.arc_judge.proofs.unit.judge_unit.Goals as goal
 
 pub returns : goal.returns

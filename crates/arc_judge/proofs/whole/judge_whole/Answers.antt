@@ -2,7 +2,7 @@ use Rattle.std.proofs.Common.{refl, option_map}
 use Rattle.arc_ast.specs.Tree.{expr_tree}
 use Rattle.arc_judge.specs.Fault.{reported}
 use Rattle.arc_scope.specs.Views.{seen}
-use Rattle.arc_judge.proofs.Judgements.{judges_whole}
+use Rattle.arc_judge.proofs.ExpressionViolations.{judges_whole}
 use Rattle.arc_judge.proofs.whole.judge_whole.Goals as goal
 
 pub returns : goal.returns

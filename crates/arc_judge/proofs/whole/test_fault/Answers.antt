@@ -1,11 +1,11 @@
 use Rattle.std.proofs.Common.{ap, ◌∙◌, option_map}
 use Rattle.arc_ast.specs.Tree.{expr_tree}
-use Rattle.arc_class.specs.Broken.{earlier_of}
+use Rattle.arc_class.specs.BrokenRules.{earlier_of}
 use Rattle.arc_judge.specs.Fault.{reported}
 use Rattle.arc_judge.specs.Rules.{unmet, broken_whole}
 use Rattle.arc_judge.specs.Rules.{AValue}
 use Rattle.arc_scope.specs.Views.{seen}
-use Rattle.arc_judge.proofs.Judgements.{with_rule}
+use Rattle.arc_judge.proofs.ExpressionViolations.{with_rule}
 use Rattle.arc_judge.proofs.whole.test_fault.Goals as goal
 
 pub returns : goal.returns

@@ -1,5 +1,5 @@
 use Rattle.std.proofs.Common.{refl, pos, []}
-use Rattle.arc_spec.specs.Correct.{Ends}
+use Rattle.arc_spec.specs.Correctness.{Ends}
 use Rattle.arc_known.specs.Programs as program
 use Rattle.arc_known.proofs.Reading.{reading, known}
 use Rattle.arc_known.proofs.law.ends_of_objects.Goals as goal

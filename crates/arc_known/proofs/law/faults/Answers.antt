@@ -1,5 +1,5 @@
 use Rattle.std.proofs.Common.{refl, [], codes}
-use Rattle.arc_spec.specs.Correct.{Faults}
+use Rattle.arc_spec.specs.Correctness.{Faults}
 use Rattle.arc_spec.specs.declared.event.Fault.TheVariants.{Arithmetic, Unrecognized, NilField, FieldClass, Depth}
 use Rattle.arc_known.specs.Programs as program
 use Rattle.arc_known.specs.Programs.{printed}

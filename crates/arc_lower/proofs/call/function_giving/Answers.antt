@@ -4,7 +4,7 @@ use Rattle.arc_checked.specs.declared.program.CheckedFunction.{CheckedFunction}
 use Rattle.arc_spec.specs.Classes.{same_gives}
 use Rattle.arc_checked.specs.Checked.{functions, program_of}
 use Rattle.arc_lower.specs.private.Definitions.{definition_of, found_at}
-use Rattle.arc_lower.proofs.Callees.{with_functions, found_there, found_nowhere}
+use Rattle.arc_lower.proofs.FunctionLookup.{with_functions, found_there, found_nowhere}
 use Rattle.arc_lower.proofs.call.function_giving.Goals as goal
 
 pub returns-in-None : goal.returns-in-None

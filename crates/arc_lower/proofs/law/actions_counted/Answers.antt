@@ -1,4 +1,4 @@
-use Rattle.arc_lower.proofs.Sizes.{actions_counted}
+use Rattle.arc_lower.proofs.ActionCount.{actions_counted}
 use Rattle.arc_lower.proofs.law.actions_counted.Goals as goal
 
 pub returns : goal.returns

@@ -1,8 +1,8 @@
 use Rattle.std.proofs.Common.{true, [], is_some, refl, ap}
 use Rattle.arc_lower.specs.Lowered.{spot, breaking, continuing, command_block}
 use Rattle.arc_lower.specs.Heights.{Walk, between}
-use Rattle.arc_lower.proofs.HeightsEnd.{block_ends}
-use Rattle.arc_lower.proofs.Forms.{command_types, breaking_type, continuing_type}
+use Rattle.arc_lower.proofs.BlockEndHeight.{block_ends}
+use Rattle.arc_lower.proofs.BlockStackEffect.{command_types, breaking_type, continuing_type}
 use Rattle.arc_lower.proofs.law.statements_end.Goals as goal
 
 pub returns : goal.returns

@@ -3,11 +3,11 @@ use Rattle.std.proofs.lemmas.List.{length-map}
 use Rattle.arc_spec.specs.Resolved.{Function}
 use Rattle.arc_spec.specs.Meaning.{function_places}
 use Rattle.arc_checked.specs.Checked.{commands, program_of}
-use Rattle.arc_lower.specs.Order.{order, orders}
-use Rattle.arc_lower.specs.Lowered.{leave_orders, body_orders, entry_of}
+use Rattle.arc_lower.specs.PlainActions.{plain_action, plain_actions}
+use Rattle.arc_lower.specs.Lowered.{leave_actions, body_actions, entry_of}
 use Rattle.arc_lower.specs.Size.{object_parameters}
 use Rattle.arc_lower.specs.Heights.{height, between, heights, raised}
-use Rattle.arc_lower.proofs.Rows.{slice_after, begins_within, raised_append}
+use Rattle.arc_lower.proofs.ActionLists.{slice_after, begins_within, raised_append}
 use Rattle.arc_lower.proofs.list.append_function.Goals as goal
 
 pub slice_bounds-raise-start-2 : goal.slice_bounds-raise-start-2
@@ -28,17 +28,17 @@ returns-clause-most c =
     let old = c.args.actions.now in
     let middle = c.append_leave.new.actions in
     let f : Function = record { slots = c.args.function.slots; names = c.args.function.names; parameters = c.args.function.parameters; gives = c.args.function.gives; owns = c.args.function.owns; body = commands c.args.function.body.now } in
-    let place = length (orders old.items) in
-    let leave = leave_orders f in
+    let place = length (plain_actions old.items) in
+    let leave = leave_actions f in
     let count = function_places f in
     let most = c.args.most.now in
     let base = between f.slots count in
     let left = between (suc f.slots) count in
     let entered = height f.slots (object_parameters f) 0 0 in
-    let here : c.len-exit.result ≡ place = c.len-exit.ensures ∙ old.ok.0 ∙ sym (length-map old.items order) in
-    let there : length (orders middle.items) ≡ entry_of place f = ap length (c.in_ok-append_leave.ensures) ∙ length-append (orders old.items) leave in
-    let body = body_orders P place (entry_of place f) f in
-    let body_is = ap (λ n. body_orders P n (length (orders middle.items)) f) here ∙ ap (λ n. body_orders P place n f) there in
+    let here : c.len-exit.result ≡ place = c.len-exit.ensures ∙ old.ok.0 ∙ sym (length-map old.items plain_action) in
+    let there : length (plain_actions middle.items) ≡ entry_of place f = ap length (c.in_ok-append_leave.ensures) ∙ length-append (plain_actions old.items) leave in
+    let body = body_actions P place (entry_of place f) f in
+    let body_is = ap (λ n. body_actions P n (length (plain_actions middle.items)) f) here ∙ ap (λ n. body_actions P place n f) there in
     let leaves = c.in_ok-append_leave.ensures in
     let base_is : c.between-base.result ≡ base = c.between-base.ensures ∙ ap (between f.slots) c.in_ok-names.ensures in
     let first : c.raise.new.most ≡ raised (heights P base left leave) most =
@@ -50,7 +50,7 @@ returns-clause-most c =
     let second : c.raise-2.new.most ≡ raised (heights P base entered body) c.raise.new.most =
     c.in_ok-raise-2.ensures
     ∙ ap (λ l. raised (heights P c.between-base.result c.passed-entered.result l) c.raise.new.most)
-    (slice_after middle.items c.append_body.new.actions.items c.deref-2.result.now c.len-entry.result body (c.len-entry.ensures ∙ middle.ok.0) c.deref-2.ensures.value (c.in_ok-append_body.ensures ∙ ap (λ l. orders middle.items ++ l) body_is))
+    (slice_after middle.items c.append_body.new.actions.items c.deref-2.result.now c.len-entry.result body (c.len-entry.ensures ∙ middle.ok.0) c.deref-2.ensures.value (c.in_ok-append_body.ensures ∙ ap (λ l. plain_actions middle.items ++ l) body_is))
     ∙ ap (λ b. raised (heights P b c.passed-entered.result body) c.raise.new.most) base_is
     ∙ ap (λ h. raised (heights P base h body) c.raise.new.most) (c.passed-entered.ensures ∙ ap (λ n. height f.slots n 0 0) c.object_parameters-given.ensures) in
     second ∙ ap (raised (heights P base entered body)) first ∙ sym (raised_append (heights P base left leave) (heights P base entered body) most)

@@ -1,6 +1,6 @@
 use Rattle.std.proofs.Common.{arith}
 use Rattle.std.proofs.lemmas.Grind.{common_steps}
-use Rattle.arc_lower.proofs.Rows.{raised_append, raised_nothing}
+use Rattle.arc_lower.proofs.ActionLists.{raised_append, raised_nothing}
 use Rattle.arc_lower.proofs.list.append_functions.Goals as goal
 
 pub loop-function-preserved : goal.loop-function-preserved

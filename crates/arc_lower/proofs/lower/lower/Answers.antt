@@ -2,12 +2,12 @@ use Rattle.std.proofs.Common.{◌≡◌, Some, refl, ap, ◌∙◌}
 use Rattle.std.specs.Option.{unwrap_or}
 use Rattle.arc_spec.specs.Classes.{classes_of}
 use Rattle.arc_checked.specs.Checked.{program_of}
-use Rattle.arc_ir.specs.Acting.{Program}
+use Rattle.arc_ir.specs.ActionSteps.{Program}
 use Rattle.arc_code.specs.declared.effect.Height.{Height}
 use Rattle.arc_code.specs.Effects.{room_for}
 use Rattle.arc_lower.specs.Heights.{raised, lowered_heights, greatest_height, places_in}
-use Rattle.arc_lower.specs.Promise.{IsLowered}
-use Rattle.arc_lower.proofs.Whole.{performs}
+use Rattle.arc_lower.specs.LoweringContract.{IsLowered}
+use Rattle.arc_lower.proofs.LoweringCorrect.{performs}
 use Rattle.arc_lower.proofs.lower.lower.Goals as goal
 
 pub returns : goal.returns

@@ -1,5 +1,5 @@
 use Rattle.std.proofs.Common.{append_assoc}
-use Rattle.arc_lower.proofs.Rows.{emptied_more}
+use Rattle.arc_lower.proofs.ActionLists.{emptied_more}
 use Rattle.arc_lower.proofs.place.append_all_empty.Goals as goal
 
 pub loop-passed-preserved : goal.loop-passed-preserved

@@ -1,5 +1,5 @@
 use Rattle.std.proofs.Common.{append_assoc}
-use Rattle.arc_lower.proofs.Rows.{takes_more}
+use Rattle.arc_lower.proofs.ActionLists.{takes_more}
 use Rattle.arc_lower.proofs.place.append_takes.Goals as goal
 
 pub loop-passed-preserved : goal.loop-passed-preserved

@@ -1,5 +1,5 @@
 use Rattle.std.proofs.Common.{append_assoc}
-use Rattle.arc_lower.proofs.Rows.{text_more}
+use Rattle.arc_lower.proofs.ActionLists.{text_more}
 use Rattle.arc_lower.proofs.print.append_text.Goals as goal
 
 pub loop-rest-preserved : goal.loop-rest-preserved

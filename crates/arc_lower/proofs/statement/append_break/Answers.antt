@@ -1,5 +1,5 @@
 use Rattle.std.proofs.Common.{reverse, append_assoc}
-use Rattle.arc_lower.proofs.Turning.{break_in, break_out}
+use Rattle.arc_lower.proofs.JumpPatching.{break_in, break_out}
 use Rattle.arc_lower.proofs.statement.append_break.Goals as goal
 
 pub returns-in-Some : goal.returns-in-Some

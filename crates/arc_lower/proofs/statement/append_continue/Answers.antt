@@ -1,5 +1,5 @@
 use Rattle.std.proofs.Common.{reverse, append_assoc}
-use Rattle.arc_lower.proofs.Turning.{continue_in, continue_out}
+use Rattle.arc_lower.proofs.JumpPatching.{continue_in, continue_out}
 use Rattle.arc_lower.proofs.statement.append_continue.Goals as goal
 
 pub returns-in-Some : goal.returns-in-Some

@@ -5,7 +5,7 @@ use Rattle.arc_spec.specs.Resolved.{Sequence}
 use Rattle.arc_checked.specs.declared.program.Command.{Command}
 use Rattle.arc_checked.specs.Checked.{command, commands}
 use Rattle.arc_lower.specs.Size.{does_nothing}
-use Rattle.arc_checked.proofs.Trees.{sequence_command}
+use Rattle.arc_checked.proofs.NodeParts.{sequence_command}
 use Rattle.arc_lower.proofs.statement.does_nothing.Goals as goal
 
 no_zero : (n : ℕ) (b : Bool) → (suc n == 0) ≡ b → b ≡ false

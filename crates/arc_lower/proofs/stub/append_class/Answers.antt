@@ -1,6 +1,6 @@
 use Rattle.std.proofs.Common.{arith}
 use Rattle.std.proofs.lemmas.Grind.{common_steps}
-use Rattle.arc_lower.proofs.Rows.{raised_append}
+use Rattle.arc_lower.proofs.ActionLists.{raised_append}
 use Rattle.arc_lower.proofs.stub.append_class.Goals as goal
 
 pub returns-clause-most : goal.returns-clause-most

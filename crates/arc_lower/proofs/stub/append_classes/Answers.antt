@@ -1,6 +1,6 @@
 use Rattle.std.proofs.Common.{arith}
 use Rattle.std.proofs.lemmas.Grind.{common_steps}
-use Rattle.arc_lower.proofs.Rows.{raised_append, raised_nothing}
+use Rattle.arc_lower.proofs.ActionLists.{raised_append, raised_nothing}
 use Rattle.arc_lower.proofs.stub.append_classes.Goals as goal
 
 pub loop-class-preserved : goal.loop-class-preserved

@@ -2,9 +2,9 @@ use Rattle.std.proofs.lemmas.Grind.{common_steps}
 use Rattle.std.proofs.Common.{◌≡◌, ◌≤◌, length, ap, ◌∙◌, arith}
 use Rattle.arc_code.specs.Effects.{no_height}
 use Rattle.arc_checked.specs.Checked.{program_of}
-use Rattle.arc_lower.specs.Lowered.{stub_orders}
+use Rattle.arc_lower.specs.Lowered.{stub_actions}
 use Rattle.arc_lower.specs.Heights.{heights, raised}
-use Rattle.arc_lower.proofs.Rows.{slice_after, begins_within}
+use Rattle.arc_lower.proofs.ActionLists.{slice_after, begins_within}
 use Rattle.arc_lower.proofs.stub.append_stub.Goals as goal
 
 pub slice_bounds-raise-start : goal.slice_bounds-raise-start
@@ -24,7 +24,7 @@ returns-clause-most c =
     let P = program_of c.args.program.now in
     let old = c.args.actions.now in
     let most = c.args.most.now in
-    let stub = stub_orders P c.args.entries.now c.args.wanted c.args.count c.args.objects c.args.function in
+    let stub = stub_actions P c.args.entries.now c.args.wanted c.args.count c.args.objects c.args.function in
     c.in_ok-raise.ensures
     ∙ ap (λ l. raised (heights P c.no_height.result c.passed-first.result l) most) (slice_after old.items c.append_jump_to.new.actions.items c.deref.result.now c.len-begin.result stub (c.len-begin.ensures ∙ old.ok.0) c.deref.ensures.value c.in_ok-append_jump_to.ensures)
     ∙ ap (λ h. raised (heights P h c.passed-first.result stub) most) c.no_height.ensures

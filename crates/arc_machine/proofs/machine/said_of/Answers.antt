@@ -1,6 +1,6 @@
 use Rattle.std.proofs.Common.{◌≡◌, rules, ap, sym, ◌∙◌, to_z, of_z, w32}
 use Rattle.arc_steps.specs.declared.answer.Answer.TheVariants as answer
-use Rattle.arc_machine.specs.Said.{said}
+use Rattle.arc_machine.specs.RunAnswer.{said}
 use Rattle.arc_machine.proofs.machine.said_of.Goals as goal
 
 pub returns-in-Going : goal.returns-in-Going

@@ -2,7 +2,7 @@ use Rattle.std.proofs.Common.{◌≡◌, arith, to_z, of_z, w64, ap, ◌∷◌, 
 use Rattle.std.proofs.lemmas.Int.{to_z-of_z}
 use Rattle.std.specs.Prelude.{pos}
 use Rattle.arc_spec.specs.World.{padded}
-use Rattle.arc_plain.proofs.Locals.{padded_step}
+use Rattle.arc_plain.proofs.InitialVariables.{padded_step}
 use Rattle.arc_plain.proofs.frame.begin_locals.Goals as goal
 
 pub loop-preserved : goal.loop-preserved

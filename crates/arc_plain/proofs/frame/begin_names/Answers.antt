@@ -1,5 +1,5 @@
 use Rattle.arc_spec.specs.World.{padded}
-use Rattle.arc_plain.proofs.Locals.{padded_step}
+use Rattle.arc_plain.proofs.InitialVariables.{padded_step}
 use Rattle.arc_plain.proofs.frame.begin_names.Goals as goal
 
 pub loop-preserved : goal.loop-preserved

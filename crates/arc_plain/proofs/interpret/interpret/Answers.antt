@@ -3,7 +3,7 @@ use Rattle.std.specs.Prelude.{IfOk}
 use Rattle.arc_checked.specs.Checked.{program_of}
 use Rattle.arc_spec.specs.declared.class.Gives.TheVariants.{Number}
 use Rattle.arc_spec.specs.declared.limits.TheConstants.{MOST_LEVELS}
-use Rattle.arc_spec.specs.Correct.{meaning_seen}
+use Rattle.arc_spec.specs.Correctness.{meaning_seen}
 use Rattle.arc_spec.specs.Meaning.{level}
 use Rattle.arc_spec.specs.World.{first_world, nothing_given}
 use Rattle.arc_plain.specs.Views.{as_int, seen}

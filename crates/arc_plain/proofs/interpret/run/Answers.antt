@@ -1,7 +1,7 @@
 use Rattle.std.proofs.Common.{subst}
 use Rattle.arc_spec.specs.declared.class.Gives.TheVariants.{Number}
 use Rattle.arc_plain.specs.Views.{Reports, answer_of, deeper, world}
-use Rattle.arc_plain.proofs.Whole.{main_reported}
+use Rattle.arc_plain.proofs.ProgramReported.{main_reported}
 use Rattle.arc_plain.proofs.interpret.run.Goals as goal
 
 pub returns : goal.returns

@@ -1,7 +1,7 @@
 use Rattle.std.proofs.Common.{ap, sym, ◌∙◌, length}
 use Rattle.arc_checked.specs.Checked.{program_of}
 use Rattle.arc_spec.specs.Classes.{classes_of, lookup}
-use Rattle.arc_plain.proofs.Turns.{level_classes}
+use Rattle.arc_plain.proofs.LoopsAndFailures.{level_classes}
 use Rattle.arc_plain.proofs.message.find_method.Goals as goal
 
 pub returns : goal.returns

@@ -4,7 +4,7 @@ use Rattle.std.proofs.lemmas.Option.{slice_get_read}
 use Rattle.arc_checked.specs.Checked.{program_of}
 use Rattle.arc_spec.specs.Classes.{superclasses, ancestry_within}
 use Rattle.arc_spec.specs.Meaning.{deallocs_run}
-use Rattle.arc_plain.proofs.Calls.{dealloc_here}
+use Rattle.arc_plain.proofs.CallsAndEndsReported.{dealloc_here}
 use Rattle.arc_plain.proofs.object.dealloc_from.Goals as goal
 
 pub returns : goal.returns

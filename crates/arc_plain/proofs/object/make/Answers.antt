@@ -2,8 +2,8 @@ use Rattle.std.proofs.Common.{refl, ap, ◌∙◌, slice_get}
 use Rattle.arc_checked.specs.Checked.{program_of}
 use Rattle.arc_spec.specs.Classes.{classes_of, field_counts}
 use Rattle.arc_plain.specs.Views.{world, deeper}
-use Rattle.arc_plain.proofs.Objects.{make_reported}
-use Rattle.arc_plain.proofs.Turns.{level_classes}
+use Rattle.arc_plain.proofs.ObjectsReported.{make_reported}
+use Rattle.arc_plain.proofs.LoopsAndFailures.{level_classes}
 use Rattle.arc_plain.proofs.object.make.Goals as goal
 
 pub returns : goal.returns

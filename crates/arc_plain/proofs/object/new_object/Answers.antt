@@ -1,4 +1,4 @@
-use Rattle.arc_plain.proofs.Objects.{new_reported}
+use Rattle.arc_plain.proofs.ObjectsReported.{new_reported}
 use Rattle.arc_plain.proofs.object.new_object.Goals as goal
 
 pub returns : goal.returns

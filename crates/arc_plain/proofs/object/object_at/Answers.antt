@@ -1,5 +1,5 @@
 use Rattle.std.proofs.Common.{◌<◌, arith}
-use Rattle.arc_plain.proofs.Objects.{object_found}
+use Rattle.arc_plain.proofs.ObjectsReported.{object_found}
 use Rattle.arc_plain.proofs.object.object_at.Goals as goal
 
 pub returns : goal.returns

@@ -8,8 +8,8 @@ use Rattle.arc_checked.specs.Checked.{program_of}
 use Rattle.arc_spec.specs.Classes.{classes_of, descends}
 use Rattle.arc_spec.specs.Objects.{object_at}
 use Rattle.arc_plain.specs.Views.{world, deeper, object_of}
-use Rattle.arc_plain.proofs.Objects.{read_other, read_reported}
-use Rattle.arc_plain.proofs.Turns.{level_classes}
+use Rattle.arc_plain.proofs.ObjectsReported.{read_other, read_reported}
+use Rattle.arc_plain.proofs.LoopsAndFailures.{level_classes}
 use Rattle.arc_plain.proofs.object.read_field.Goals as goal
 
 pub returns-then-not-descends_from : goal.returns-then-not-descends_from

@@ -6,8 +6,8 @@ use Rattle.arc_spec.specs.Objects as objects
 use Rattle.arc_spec.specs.Objects.{object_at}
 use Rattle.arc_spec.specs.World.{Done, takes, name_at}
 use Rattle.arc_plain.specs.Views.{world, deeper, object_of, Reports}
-use Rattle.arc_plain.proofs.Objects.{in_other_class, in_own_class}
-use Rattle.arc_plain.proofs.Turns.{level_classes}
+use Rattle.arc_plain.proofs.ObjectsReported.{in_other_class, in_own_class}
+use Rattle.arc_plain.proofs.LoopsAndFailures.{level_classes}
 use Rattle.arc_plain.proofs.object.read_object_field.Goals as goal
 
 pub returns-then-not-descends_from : goal.returns-then-not-descends_from

@@ -5,7 +5,7 @@ use Rattle.arc_spec.specs.Objects.{with_strong_fields}
 use Rattle.arc_spec.specs.World.{name_at}
 use Rattle.arc_plain.specs.declared.object.Object.{Object}
 use Rattle.arc_plain.specs.Views.{object_of, named_in}
-use Rattle.arc_plain.proofs.Objects.{object_here, changed_there}
+use Rattle.arc_plain.proofs.ObjectsReported.{object_here, changed_there}
 use Rattle.arc_plain.proofs.object.replace_field.Goals as goal
 
 pub returns-clause-before : goal.returns-clause-before

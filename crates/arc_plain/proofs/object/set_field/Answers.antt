@@ -7,8 +7,8 @@ use Rattle.arc_spec.specs.Classes.{classes_of, descends}
 use Rattle.arc_spec.specs.Meaning.{class_in}
 use Rattle.arc_spec.specs.Objects.{object_at}
 use Rattle.arc_plain.specs.Views.{world, deeper, object_of}
-use Rattle.arc_plain.proofs.Objects.{set_other, set_reported}
-use Rattle.arc_plain.proofs.Turns.{level_classes}
+use Rattle.arc_plain.proofs.ObjectsReported.{set_other, set_reported}
+use Rattle.arc_plain.proofs.LoopsAndFailures.{level_classes}
 use Rattle.arc_plain.proofs.object.set_field.Goals as goal
 
 pub returns-then-not-descends_from : goal.returns-then-not-descends_from

@@ -1,7 +1,7 @@
 use Rattle.std.proofs.Common.{◌<◌, map, refl, arith}
 use Rattle.arc_spec.specs.Objects.{in_phase}
 use Rattle.arc_plain.specs.Views.{object_of, phase_of}
-use Rattle.arc_plain.proofs.Objects.{unchanged_nil, unchanged_past, changed_there}
+use Rattle.arc_plain.proofs.ObjectsReported.{unchanged_nil, unchanged_past, changed_there}
 use Rattle.arc_plain.proofs.object.turn.Goals as goal
 
 pub returns-then-number-eq0 : goal.returns-then-number-eq0

@@ -4,7 +4,7 @@ use Rattle.std.proofs.lemmas.List.{with_items_is, places}
 use Rattle.std.specs.Vec.{with_items}
 use Rattle.arc_spec.specs.Objects.{with_fields}
 use Rattle.arc_plain.specs.Views.{object_of}
-use Rattle.arc_plain.proofs.Objects.{unchanged_nil, unchanged_past, changed_there}
+use Rattle.arc_plain.proofs.ObjectsReported.{unchanged_nil, unchanged_past, changed_there}
 use Rattle.arc_plain.proofs.object.write_field.Goals as goal
 
 pub returns-then-number-eq0 : goal.returns-then-number-eq0

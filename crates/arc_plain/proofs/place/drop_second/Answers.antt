@@ -1,5 +1,5 @@
 use Rattle.std.proofs.Common.{arith, ◌≡◌, ◌+◌, ◌-◌, length}
-use Rattle.arc_plain.proofs.Places.{second_follows}
+use Rattle.arc_plain.proofs.SecondTemporaryRemoved.{second_follows}
 use Rattle.arc_plain.proofs.place.drop_second.Goals as goal
 
 pub returns-clause-second : goal.returns-clause-second

@@ -1,7 +1,7 @@
 use Rattle.std.proofs.Common.{◌+◌, ◌||◌, map, drop, ap, sym, ◌∙◌}
 use Rattle.arc_spec.specs.Objects.{names, field_places}
 use Rattle.arc_plain.specs.Views.{object_of}
-use Rattle.arc_plain.proofs.Objects.{names_fields}
+use Rattle.arc_plain.proofs.ObjectsReported.{names_fields}
 use Rattle.arc_plain.proofs.place.has_field.Goals as goal
 
 pub returns-then-holds : goal.returns-then-holds

@@ -1,7 +1,7 @@
 use Rattle.std.proofs.Common.{◌≡◌, ℕ, List, [], map, reverse, ap, ◌∙◌, rules}
 use Rattle.arc_spec.specs.Objects as objects
 use Rattle.arc_plain.specs.declared.object.Object.{Object}
-use Rattle.arc_plain.proofs.Objects.{nils_are}
+use Rattle.arc_plain.proofs.ObjectsReported.{nils_are}
 use Rattle.arc_plain.proofs.progress.start.Goals as goal
 
 none_mapped : (f : Object → objects.Object) (xs : List Object) → xs ≡ [] → map f xs ≡ []

@@ -1,7 +1,7 @@
 use Rattle.std.proofs.Common.{List, ap, ◌∙◌}
 use Rattle.arc_spec.specs.Classes.{Class}
 use Rattle.arc_spec.specs.declared.class.Method.{Method}
-use Rattle.arc_resolve.proofs.Appended.{class_turn, class_end}
+use Rattle.arc_resolve.proofs.MethodResolution.{class_turn, class_end}
 use Rattle.arc_resolve.proofs.classes.copied.Goals as goal
 
 pub loop-class-preserved : goal.loop-class-preserved

@@ -1,5 +1,5 @@
 use Rattle.std.proofs.Common.{◌≡◌, [], ◌∷◌, ◌++◌, sym, ap, ◌∙◌, rules, to_z, of_z, w64}
-use Rattle.arc_resolve.proofs.Globals.{number_turn, number_pass, number_end}
+use Rattle.arc_resolve.proofs.InitialGlobals.{number_turn, number_pass, number_end}
 use Rattle.arc_resolve.proofs.global.first_numbers.Goals as goal
 use Rattle.arc_resolve.proofs.global.first_numbers.Goals.{then-not-names_objects+in_ok-push, else-not-names_objects}
 

@@ -1,6 +1,6 @@
 use Rattle.std.proofs.Common.{◌≡◌, ◌++◌, drop}
 use Rattle.arc_ast.specs.Tree.{global_trees}
-use Rattle.arc_resolve.specs.private.Building.{first_numbers}
+use Rattle.arc_resolve.specs.private.ResolvedNodes.{first_numbers}
 use Rattle.arc_resolve.proofs.global.first_numbers.Given as goal
 
 -- the numbers so far and those of the rest are all

@@ -1,5 +1,5 @@
 use Rattle.std.proofs.Common.{arith}
-use Rattle.arc_resolve.proofs.Globals.{object_turn, object_pass, object_end}
+use Rattle.arc_resolve.proofs.InitialGlobals.{object_turn, object_pass, object_end}
 use Rattle.arc_resolve.proofs.global.strong_globals.Goals as goal
 use Rattle.arc_resolve.proofs.global.strong_globals.Goals.{then-names_objects, else-names_objects}
 

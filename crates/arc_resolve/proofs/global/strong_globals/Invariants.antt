@@ -1,7 +1,7 @@
 use Rattle.std.proofs.Common.{◌≡◌, ◌≤◌, ◌+◌, drop, length}
 use Rattle.std.specs.List.{filter}
 use Rattle.arc_ast.specs.Tree.{global_trees}
-use Rattle.arc_resolve.specs.Resolving.{names_objects}
+use Rattle.arc_resolve.specs.SourceResolution.{names_objects}
 use Rattle.arc_resolve.proofs.global.strong_globals.Given as goal
 
 -- those so far and those of the rest are all

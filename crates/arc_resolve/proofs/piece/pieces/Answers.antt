@@ -2,9 +2,9 @@ use Rattle.std.proofs.Common.{◌≡◌, ◌<◌, length, drop, ap, ◌∙◌}
 use Rattle.arc_checked.specs.Checked as checked
 use Rattle.arc_scope.specs.declared.format.Begun.TheVariants.{Nothing}
 use Rattle.arc_scope.specs.Formats.{parts, printed}
-use Rattle.arc_resolve.specs.private.Runs.{whole}
-use Rattle.arc_resolve.proofs.Readings.{goes_on, gives_on, parts_end}
-use Rattle.arc_resolve.proofs.Printing.{all_printed}
+use Rattle.arc_resolve.specs.private.PlainByteRuns.{whole}
+use Rattle.arc_resolve.proofs.FormatReading.{goes_on, gives_on, parts_end}
+use Rattle.arc_resolve.proofs.FormatPieces.{all_printed}
 use Rattle.arc_resolve.proofs.piece.pieces.Goals as goal
 use Rattle.arc_resolve.proofs.piece.pieces.Goals.{in-Goes, in-Gives+in_ok-all-in-Gives}
 

@@ -5,13 +5,13 @@ use Rattle.arc_ast.specs.declared.tree.Moment.TheVariants.{Before}
 use Rattle.arc_ast.specs.Tree.{expr_tree, stmt_tree, stmt_trees}
 use Rattle.arc_spec.specs.Resolved as spec
 use Rattle.arc_checked.specs.Checked as checked
-use Rattle.arc_resolve.specs.Resolving.{nothing, number_in, resolved, resolved_stmt, resolved_stmts, stepped, tested}
+use Rattle.arc_resolve.specs.SourceResolution.{nothing, number_in, resolved, resolved_stmt, resolved_stmts, stepped, tested}
 use Rattle.arc_scope.specs.Scopes.{Scope, leave, scope_after, scope_after_all}
 use Rattle.arc_scope.specs.Views.{seen}
-use Rattle.arc_resolve.proofs.Commands.{commands_turn, commands_end, after_turn, block_command, block_scope, choose_is, loop_command, repeat_is}
-use Rattle.arc_scope.proofs.Leaving.{after_same, after_all_same, inner_same, leave_is}
-use Rattle.arc_scope.proofs.Scoping.{keeps_turn, keeps_same}
-use Rattle.arc_checked.proofs.Trees.{sequence_command}
+use Rattle.arc_resolve.proofs.StatementResolution.{commands_turn, commands_end, after_turn, block_command, block_scope, choose_is, loop_command, repeat_is}
+use Rattle.arc_scope.proofs.ScopeKept.{after_same, after_all_same, inner_same, leave_is}
+use Rattle.arc_scope.proofs.VisibleVariables.{keeps_turn, keeps_same}
+use Rattle.arc_checked.proofs.NodeParts.{sequence_command}
 use Rattle.arc_resolve.proofs.program.+commands.Goals as goal
 
 pub block-returns-clause-scope : goal.block-returns-clause-scope
@@ -102,8 +102,8 @@ stepped-returns-clause-command t c =
     let test = option_map expr_tree c.args.test.now in
     let step = option_map expr_tree c.args.step.now in
     let count : c.saturating_sub-own.result ≡ (own.names - s.names) = c.saturating_sub-own.ensures ∙ ap (λ n. n - c.from-first.result) (c.from.ensures ∙ ap (λ q. q.names) c.in_ok-command.ensures.scope) ∙ ap (λ n. own.names - n) c.from-first.ensures in
-    let loop : checked.command c.in_ok-turns.field-0 ≡ spec.Repeat Before (tested own test) (stepped own step) (resolved_stmt own b) = c.in_ok-turns.ensures.command ∙ ap (λ p. spec.Repeat Before (tested p test) (stepped p step) (resolved_stmt p b)) c.in_ok-command.ensures.scope in
-    loop_command s own c.from-first.result c.saturating_sub-own.result c.keep-2.new.all c.in_ok-command.field-0 c.in_ok-turns.field-0 (resolved_stmt s a) (spec.Repeat Before (tested own test) (stepped own step) (resolved_stmt own b))
+    let loop : checked.command c.in_ok-turns.field-0 ≡ spec.While Before (tested own test) (stepped own step) (resolved_stmt own b) = c.in_ok-turns.ensures.command ∙ ap (λ p. spec.While Before (tested p test) (stepped p step) (resolved_stmt p b)) c.in_ok-command.ensures.scope in
+    loop_command s own c.from-first.result c.saturating_sub-own.result c.keep-2.new.all c.in_ok-command.field-0 c.in_ok-turns.field-0 (resolved_stmt s a) (spec.While Before (tested own test) (stepped own step) (resolved_stmt own b))
     (c.in_ok-keep-2.ensures.items ∙ ap (λ us. us ++ c.in_ok-turns.field-0 ∷ []) (c.in_ok-keep.ensures.items ∙ ap (λ us. us ++ c.in_ok-command.field-0 ∷ []) c.new-all.ensures.items)) c.from-first.ensures count c.in_ok-command.ensures.command loop
 
 pub stepped-returns-clause-scope : goal.stepped-returns-clause-scope

@@ -1,8 +1,8 @@
 use Rattle.std.proofs.Common.{◌≡◌, ◌+◌, ◌*◌, max, drop, take, length}
 use Rattle.arc_ast.specs.declared.tree.Stmt.{size-Stmt}
 use Rattle.arc_ast.specs.Tree.{stmt_trees}
-use Rattle.arc_resolve.specs.private.Building.{ahead_of}
-use Rattle.arc_resolve.specs.Resolving.{resolved_stmts}
+use Rattle.arc_resolve.specs.private.ResolvedNodes.{ahead_of}
+use Rattle.arc_resolve.specs.SourceResolution.{resolved_stmts}
 use Rattle.arc_scope.specs.Scopes.{scope_after_all}
 use Rattle.arc_scope.specs.Views.{seen}
 use Rattle.arc_resolve.proofs.program.+commands.Given as goal

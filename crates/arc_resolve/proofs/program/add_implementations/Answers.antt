@@ -1,7 +1,7 @@
 use Rattle.std.proofs.Common.{option_map}
 use Rattle.arc_class.specs.Table.{number_of_class}
 use Rattle.arc_scope.specs.Views.{known_in}
-use Rattle.arc_resolve.proofs.Appended.{implementation_turn, implementation_end}
+use Rattle.arc_resolve.proofs.MethodResolution.{implementation_turn, implementation_end}
 use Rattle.arc_resolve.proofs.program.add_implementations.Goals as goal
 
 pub loop-one-preserved : goal.loop-one-preserved

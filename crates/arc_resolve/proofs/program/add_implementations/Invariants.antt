@@ -1,7 +1,7 @@
 use Rattle.std.proofs.Common.{◌≡◌, drop}
 use Rattle.std.specs.List.{flat_map}
 use Rattle.arc_ast.specs.Tree.{implementation_trees}
-use Rattle.arc_resolve.specs.private.Building.{functions_ahead, resolved_methods}
+use Rattle.arc_resolve.specs.private.ResolvedNodes.{functions_ahead, resolved_methods}
 use Rattle.arc_scope.specs.Views.{known_in}
 use Rattle.arc_resolve.proofs.program.add_implementations.Given as goal
 

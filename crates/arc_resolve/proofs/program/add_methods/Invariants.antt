@@ -2,8 +2,8 @@ use Rattle.std.proofs.Common.{◌≡◌, List, option_map, drop, map, ◌++◌}
 use Rattle.arc_ast.specs.Tree.{method_trees}
 use Rattle.arc_class.specs.Table.{number_of_class}
 use Rattle.arc_spec.specs.Resolved as spec
-use Rattle.arc_resolve.specs.private.Building.{functions_ahead}
-use Rattle.arc_resolve.specs.Resolving.{resolved_method}
+use Rattle.arc_resolve.specs.private.ResolvedNodes.{functions_ahead}
+use Rattle.arc_resolve.specs.SourceResolution.{resolved_method}
 use Rattle.arc_scope.specs.Views.{known_in}
 use Rattle.arc_resolve.proofs.program.add_methods.Given as goal
 

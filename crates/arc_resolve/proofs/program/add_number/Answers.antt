@@ -1,9 +1,9 @@
 use Rattle.std.proofs.Common.{pos, ap, ◌∙◌}
 use Rattle.arc_ast.specs.Tree.{expr_tree}
 use Rattle.arc_spec.specs.Resolved.{Number, and_command}
-use Rattle.arc_resolve.specs.Resolving.{put, converted, resolved}
+use Rattle.arc_resolve.specs.SourceResolution.{put, converted, resolved}
 use Rattle.arc_scope.specs.Views.{seen}
-use Rattle.arc_resolve.proofs.Commands.{one_more}
+use Rattle.arc_resolve.proofs.StatementResolution.{one_more}
 use Rattle.arc_resolve.proofs.program.add_number.Goals as goal
 
 -- it begins at 0, and then takes its value

@@ -1,6 +1,6 @@
 use Rattle.std.proofs.Common.{ap, ◌∙◌}
 use Rattle.arc_spec.specs.Resolved.{Sequence}
-use Rattle.arc_checked.proofs.Trees.{sequence_command}
+use Rattle.arc_checked.proofs.NodeParts.{sequence_command}
 use Rattle.arc_resolve.proofs.program.declaration.Goals as goal
 
 pub returns-clause-command : goal.returns-clause-command

@@ -1,6 +1,6 @@
 use Rattle.std.proofs.Common.{sym, ap}
-use Rattle.arc_resolve.specs.private.Building.{resolution}
-use Rattle.arc_resolve.specs.Resolving.{evaluated}
+use Rattle.arc_resolve.specs.private.ResolvedNodes.{resolution}
+use Rattle.arc_resolve.specs.SourceResolution.{evaluated}
 use Rattle.arc_resolve.proofs.program.evaluated.Goals as goal
 
 pub returns-in-Gives : goal.returns-in-Gives

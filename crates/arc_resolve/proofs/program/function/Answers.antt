@@ -1,7 +1,7 @@
 use Rattle.std.proofs.Common.{◌-◌, refl, ap, ◌∙◌}
 use Rattle.arc_ast.specs.Tree.{parameter_trees, stmt_trees}
 use Rattle.arc_scope.specs.Views.{seen}
-use Rattle.arc_resolve.proofs.Commands.{function_is}
+use Rattle.arc_resolve.proofs.StatementResolution.{function_is}
 use Rattle.arc_resolve.proofs.program.function.Goals as goal
 
 pub returns : goal.returns

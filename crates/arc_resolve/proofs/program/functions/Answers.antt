@@ -1,10 +1,10 @@
 use Rattle.std.proofs.Common.{ap, ◌∙◌}
 use Rattle.std.specs.List.{filter_map}
 use Rattle.arc_ast.specs.Tree.{function_trees}
-use Rattle.arc_resolve.specs.Resolving.{resolved_function}
+use Rattle.arc_resolve.specs.SourceResolution.{resolved_function}
 use Rattle.arc_scope.specs.Scopes.{outermost}
 use Rattle.arc_scope.specs.Views.{known_in, seen}
-use Rattle.arc_resolve.proofs.Commands.{functions_turn, functions_pass, functions_end}
+use Rattle.arc_resolve.proofs.StatementResolution.{functions_turn, functions_pass, functions_end}
 use Rattle.arc_resolve.proofs.program.functions.Goals as goal
 use Rattle.arc_resolve.proofs.program.functions.Goals.{in-Some+in_ok-function+in_ok-keep, in_default}
 

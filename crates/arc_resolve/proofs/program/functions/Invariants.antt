@@ -1,8 +1,8 @@
 use Rattle.std.proofs.Common.{◌≡◌, drop}
 use Rattle.std.specs.List.{filter_map}
 use Rattle.arc_ast.specs.Tree.{function_trees}
-use Rattle.arc_resolve.specs.private.Building.{functions_ahead}
-use Rattle.arc_resolve.specs.Resolving.{resolved_function}
+use Rattle.arc_resolve.specs.private.ResolvedNodes.{functions_ahead}
+use Rattle.arc_resolve.specs.SourceResolution.{resolved_function}
 use Rattle.arc_scope.specs.Views.{known_in}
 use Rattle.arc_resolve.proofs.program.functions.Given as goal
 

@@ -1,7 +1,7 @@
 use Rattle.std.proofs.Common.{ap, ◌∙◌}
 use Rattle.arc_spec.specs.Resolved.{Sequence}
 use Rattle.arc_checked.specs.Checked.{commands}
-use Rattle.arc_checked.proofs.Trees.{sequence_command}
+use Rattle.arc_checked.proofs.NodeParts.{sequence_command}
 use Rattle.arc_resolve.proofs.program.nothing.Goals as goal
 
 pub returns : goal.returns

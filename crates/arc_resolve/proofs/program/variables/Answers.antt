@@ -1,11 +1,11 @@
 use Rattle.std.proofs.Common.{arith}
 use Rattle.std.proofs.lemmas.Grind.{common_steps}
 use Rattle.arc_ast.specs.Tree.{type_tree, variable_trees}
-use Rattle.arc_resolve.specs.Resolving.{resolved_variables}
+use Rattle.arc_resolve.specs.SourceResolution.{resolved_variables}
 use Rattle.arc_scope.specs.Views.{seen}
-use Rattle.arc_resolve.proofs.Commands.{declared_turn, declared_end}
-use Rattle.arc_scope.proofs.Scoping.{keeps_turn}
-use Rattle.arc_scope.proofs.Declaring.{with_turn}
+use Rattle.arc_resolve.proofs.StatementResolution.{declared_turn, declared_end}
+use Rattle.arc_scope.proofs.VisibleVariables.{keeps_turn}
+use Rattle.arc_scope.proofs.DeclaredVariables.{with_turn}
 use Rattle.arc_resolve.proofs.program.variables.Goals as goal
 
 pub loop-variable-preserved : goal.loop-variable-preserved

@@ -1,7 +1,7 @@
 use Rattle.std.proofs.Common.{◌≡◌, drop, take, length}
 use Rattle.arc_ast.specs.Tree.{type_tree, variable_trees}
-use Rattle.arc_resolve.specs.private.Building.{ahead_of}
-use Rattle.arc_resolve.specs.Resolving.{resolved_variables}
+use Rattle.arc_resolve.specs.private.ResolvedNodes.{ahead_of}
+use Rattle.arc_resolve.specs.SourceResolution.{resolved_variables}
 use Rattle.arc_scope.specs.Scopes.{with_variables}
 use Rattle.arc_scope.specs.Views.{seen}
 use Rattle.arc_resolve.proofs.program.variables.Given as goal

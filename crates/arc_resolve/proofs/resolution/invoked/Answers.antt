@@ -1,6 +1,6 @@
 use Rattle.std.proofs.Common.{sym, ap, ◌∙◌}
-use Rattle.arc_resolve.specs.Resolving.{Gives, Refers}
-use Rattle.arc_checked.proofs.Trees.{invoked_value, object_invoked_reference}
+use Rattle.arc_resolve.specs.SourceResolution.{Gives, Refers}
+use Rattle.arc_checked.proofs.NodeParts.{invoked_value, object_invoked_reference}
 use Rattle.arc_resolve.proofs.resolution.invoked.Goals as goal
 
 pub returns-then-is_object : goal.returns-then-is_object

@@ -1,6 +1,6 @@
 use Rattle.std.proofs.Common.{sym, ap}
-use Rattle.arc_resolve.specs.private.Building.{resolution}
-use Rattle.arc_resolve.specs.Resolving.{kind_in}
+use Rattle.arc_resolve.specs.private.ResolvedNodes.{resolution}
+use Rattle.arc_resolve.specs.SourceResolution.{kind_in}
 use Rattle.arc_resolve.proofs.resolution.kind_in.Goals as goal
 
 pub returns-in-Gives : goal.returns-in-Gives

@@ -1,6 +1,6 @@
 use Rattle.std.proofs.Common.{sym, ap}
-use Rattle.arc_resolve.specs.private.Building.{resolution}
-use Rattle.arc_resolve.specs.Resolving.{object_in}
+use Rattle.arc_resolve.specs.private.ResolvedNodes.{resolution}
+use Rattle.arc_resolve.specs.SourceResolution.{object_in}
 use Rattle.arc_resolve.proofs.resolution.object_in.Goals as goal
 
 pub returns-in-Gives : goal.returns-in-Gives

@@ -1,6 +1,6 @@
 use Rattle.std.proofs.Common.{sym, ap}
-use Rattle.arc_resolve.specs.private.Building.{part_of}
-use Rattle.arc_resolve.specs.Resolving.{kind_in}
+use Rattle.arc_resolve.specs.private.ResolvedNodes.{part_of}
+use Rattle.arc_resolve.specs.SourceResolution.{kind_in}
 use Rattle.arc_resolve.proofs.resolution.part_kind.Goals as goal
 
 pub returns-in-Number : goal.returns-in-Number

@@ -2,7 +2,7 @@ use Rattle.std.proofs.Common.{ap, ◌∙◌}
 use Rattle.std.proofs.lemmas.Result.{IfOk-weaker}
 use Rattle.arc_spec.specs.Resolved.{ObjectSuper}
 use Rattle.arc_checked.specs.Checked as checked
-use Rattle.arc_resolve.specs.Resolving.{sent_to}
+use Rattle.arc_resolve.specs.SourceResolution.{sent_to}
 use Rattle.arc_resolve.proofs.resolution.to_super.Goals as goal
 
 pub returns-in-Class : goal.returns-in-Class

@@ -5,20 +5,20 @@ use Rattle.arc_class.specs.Table.{number_of_class}
 use Rattle.arc_ast.specs.declared.tree.Kind.TheVariants.{Int}
 use Rattle.arc_scope.specs.declared.callee.Callee.TheVariants.{Printf, GetChar, Defined, Unknown}
 use Rattle.arc_resolve.specs.declared.resolution.Typed.{Typed}
-use Rattle.arc_resolve.specs.private.Building.{part_of, resolution}
-use Rattle.arc_scope.specs.Passing as passing
+use Rattle.arc_resolve.specs.private.ResolvedNodes.{part_of, resolution}
+use Rattle.arc_scope.specs.ParameterKinds as passing
 use Rattle.arc_checked.specs.Checked as checked
 use Rattle.arc_ast.specs.Tree.{expr_tree, expr_trees, type_tree}
 use Rattle.arc_ast.specs.Operators.{sort_of}
 use Rattle.arc_ast.specs.Types.{type_kind}
-use Rattle.arc_resolve.specs.Resolving as resolving
-use Rattle.arc_resolve.specs.Resolving.{Gives, unary, binary, updated, cast, conditional, invoked, resolved, resolved_all}
+use Rattle.arc_resolve.specs.SourceResolution as resolving
+use Rattle.arc_resolve.specs.SourceResolution.{Gives, unary, binary, updated, cast, conditional, invoked, resolved, resolved_all}
 use Rattle.arc_scope.specs.Scopes.{class_of, either_class, is_nil}
 use Rattle.arc_scope.specs.Views.{kinds_wanted, seen}
 use Rattle.arc_ast.proofs.Trees.{call_tree, send_tree, send_super_tree}
-use Rattle.arc_checked.proofs.Trees.{print_value}
-use Rattle.arc_resolve.proofs.Buildings.{values_turn, values_end, printing_some, printing_none, resolves_call}
-use Rattle.arc_resolve.proofs.Messages.{assigned_other, resolves_class, resolves_object, resolves_super}
+use Rattle.arc_checked.proofs.NodeParts.{print_value}
+use Rattle.arc_resolve.proofs.CallResolution.{values_turn, values_end, printing_some, printing_none, resolves_call}
+use Rattle.arc_resolve.proofs.MessageResolution.{assigned_other, resolves_class, resolves_object, resolves_super}
 use Rattle.arc_resolve.proofs.resolve.+resolve.Goals as goal
 use Rattle.arc_resolve.proofs.resolve.+resolve.Goals.{call-in-Printf+in_ok-value-in-Printf, call-in-Defined+in_ok-all-in-Defined, call-in-GetChar, call-in-Unknown}
 

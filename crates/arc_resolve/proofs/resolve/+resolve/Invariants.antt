@@ -2,8 +2,8 @@ use Rattle.std.proofs.Common.{◌≡◌, ◌+◌, ◌*◌, max, drop}
 use denote.Param.Weighed.{most}
 use Rattle.arc_ast.specs.declared.tree.Expr.{size-Expr}
 use Rattle.arc_ast.specs.Tree.{expr_trees}
-use Rattle.arc_resolve.specs.private.Building.{in_front}
-use Rattle.arc_resolve.specs.Resolving.{resolved_all}
+use Rattle.arc_resolve.specs.private.ResolvedNodes.{in_front}
+use Rattle.arc_resolve.specs.SourceResolution.{resolved_all}
 use Rattle.arc_scope.specs.Views.{kinds_wanted, seen}
 use Rattle.arc_resolve.proofs.resolve.+resolve.Given as goal
 

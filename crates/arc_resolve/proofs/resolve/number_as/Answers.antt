@@ -1,6 +1,6 @@
 use Rattle.std.proofs.Common.{ap, ◌∙◌}
 use Rattle.std.proofs.lemmas.Result.{IfOk-weaker}
-use Rattle.arc_resolve.specs.Resolving.{converted}
+use Rattle.arc_resolve.specs.SourceResolution.{converted}
 use Rattle.arc_resolve.proofs.resolve.number_as.Goals as goal
 
 pub returns : goal.returns

@@ -1,6 +1,6 @@
 use Rattle.std.proofs.Common.{ap}
 use Rattle.arc_ast.specs.Tree.{unit_tree, function_trees, implementation_trees}
-use Rattle.arc_resolve.proofs.Units.{functions_are}
+use Rattle.arc_resolve.proofs.UnitResolution.{functions_are}
 use Rattle.arc_resolve.proofs.unit.all_functions.Goals as goal
 
 pub returns : goal.returns

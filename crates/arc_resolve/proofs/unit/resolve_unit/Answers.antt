@@ -2,9 +2,9 @@ use Rattle.std.proofs.Common.{refl, ap, ◌∙◌, length}
 use Rattle.std.specs.List.{filter}
 use Rattle.arc_ast.specs.Tree.{unit_tree, global_trees}
 use Rattle.arc_spec.specs.Classes.{classes_of}
-use Rattle.arc_resolve.specs.Resolving.{names_objects}
-use Rattle.arc_resolve.specs.private.Building.{first_numbers}
-use Rattle.arc_resolve.proofs.Units.{resolved_is}
+use Rattle.arc_resolve.specs.SourceResolution.{names_objects}
+use Rattle.arc_resolve.specs.private.ResolvedNodes.{first_numbers}
+use Rattle.arc_resolve.proofs.UnitResolution.{resolved_is}
 use Rattle.arc_resolve.proofs.unit.resolve_unit.Goals as goal
 
 pub returns-clause-resolved : goal.returns-clause-resolved

@@ -5,9 +5,9 @@ use Rattle.std.proofs.lemmas.Result.{on_ok_weaker}
 use Rattle.arc_ast.specs.Tree.{expr_tree, expr_trees}
 use Rattle.arc_sites.specs.Sites as sites
 use Rattle.arc_sites.specs.Sites.{Value, site, arguments}
-use Rattle.arc_sites.specs.Finding.{enclosing_of, found_from}
+use Rattle.arc_sites.specs.FoundViolations.{enclosing_of, found_from}
 use Rattle.arc_ast.proofs.Trees.{call_tree, send_tree, send_super_tree}
-use Rattle.arc_sites.proofs.Found.{found_both, found_both_as, found_three, turn}
+use Rattle.arc_sites.proofs.FoundIsFirst.{found_both, found_both_as, found_three, turn}
 use Rattle.arc_sites.proofs.walk.+expressions.Goals as goal
 
 pub expression-returns-clause-found : goal.expression-returns-clause-found

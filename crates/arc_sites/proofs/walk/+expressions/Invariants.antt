@@ -1,7 +1,7 @@
 use Rattle.std.proofs.Common.{◌≡◌, drop}
 use Rattle.arc_ast.specs.Tree.{expr_trees}
 use Rattle.arc_sites.specs.Sites.{arguments}
-use Rattle.arc_sites.specs.Finding.{enclosing_of, found_from}
+use Rattle.arc_sites.specs.FoundViolations.{enclosing_of, found_from}
 use Rattle.arc_sites.proofs.walk.+expressions.Given as goal
 
 -- the rules stay the same, and what is found so far and at the rest is found at all

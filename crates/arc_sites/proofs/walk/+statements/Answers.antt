@@ -5,9 +5,9 @@ use Rattle.std.proofs.lemmas.Result.{on_ok_weaker}
 use Rattle.arc_ast.specs.Tree.{expr_tree, stmt_tree, stmt_trees}
 use Rattle.arc_sites.specs.Sites as sites
 use Rattle.arc_sites.specs.Sites.{maybe_sites, stmt_sites, all_sites}
-use Rattle.arc_sites.specs.Finding.{enclosing_of, found_from}
+use Rattle.arc_sites.specs.FoundViolations.{enclosing_of, found_from}
 use Rattle.arc_ast.proofs.Trees.{block_tree}
-use Rattle.arc_sites.proofs.Found.{found_both_as, found_three, found_three_as, turn}
+use Rattle.arc_sites.proofs.FoundIsFirst.{found_both_as, found_three, found_three_as, turn}
 use Rattle.arc_sites.proofs.walk.+statements.Goals as goal
 
 pub within-returns-in_ok-expression-in-If-clause-found : goal.within-returns-in_ok-expression-in-If-clause-found

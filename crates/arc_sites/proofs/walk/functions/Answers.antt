@@ -1,7 +1,7 @@
 use Rattle.std.proofs.Common.{◌+◌, drop, flat_map, refl, ◌∙◌}
 use Rattle.arc_ast.specs.Tree.{function_trees, function_tree}
 use Rattle.arc_sites.specs.Sites.{function_sites}
-use Rattle.arc_sites.proofs.Found.{turn}
+use Rattle.arc_sites.proofs.FoundIsFirst.{turn}
 use Rattle.arc_sites.proofs.walk.functions.Goals as goal
 
 pub loop-one-preserved : goal.loop-one-preserved

@@ -1,7 +1,7 @@
 use Rattle.std.proofs.Common.{◌≡◌, flat_map, drop}
 use Rattle.arc_ast.specs.Tree.{function_trees}
 use Rattle.arc_sites.specs.Sites.{function_sites}
-use Rattle.arc_sites.specs.Finding.{found_from}
+use Rattle.arc_sites.specs.FoundViolations.{found_from}
 use Rattle.arc_sites.proofs.walk.functions.Given as goal
 
 -- the rules stay the same, and what is found so far and at the rest is found at all

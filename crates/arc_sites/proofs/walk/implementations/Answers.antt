@@ -1,7 +1,7 @@
 use Rattle.std.proofs.Common.{◌+◌, drop, flat_map, refl, ◌∙◌}
 use Rattle.arc_ast.specs.Tree.{method_trees, field_trees, implementation_trees, implementation_tree}
 use Rattle.arc_sites.specs.Sites.{InImplementation, method_sites, field_sites, implementation_sites}
-use Rattle.arc_sites.proofs.Found.{found_both, turn}
+use Rattle.arc_sites.proofs.FoundIsFirst.{found_both, turn}
 use Rattle.arc_sites.proofs.walk.implementations.Goals as goal
 
 pub loop-implementation-preserved : goal.loop-implementation-preserved

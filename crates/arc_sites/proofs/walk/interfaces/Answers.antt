@@ -1,7 +1,7 @@
 use Rattle.std.proofs.Common.{◌+◌, drop, flat_map, refl, ◌∙◌}
 use Rattle.arc_ast.specs.Tree.{head_trees, field_trees, interface_trees, interface_tree}
 use Rattle.arc_sites.specs.Sites.{InInterface, Declared, site, field_sites, interface_sites}
-use Rattle.arc_sites.proofs.Found.{found_both, turn}
+use Rattle.arc_sites.proofs.FoundIsFirst.{found_both, turn}
 use Rattle.arc_sites.proofs.walk.interfaces.Goals as goal
 
 pub loop-interface-preserved : goal.loop-interface-preserved

@@ -3,8 +3,8 @@ use Rattle.std.proofs.Common.{arith}
 use Rattle.std.proofs.lemmas.Grind.{common_steps}
 use Rattle.arc_ast.specs.Tree.{expr_tree, type_tree, variable_tree, variable_trees}
 use Rattle.arc_sites.specs.Sites.{Variable, site, maybe_sites, variable_sites}
-use Rattle.arc_sites.specs.Finding.{enclosing_of}
-use Rattle.arc_sites.proofs.Found.{found_both, turn}
+use Rattle.arc_sites.specs.FoundViolations.{enclosing_of}
+use Rattle.arc_sites.proofs.FoundIsFirst.{found_both, turn}
 use Rattle.arc_sites.proofs.walk.variables.Goals as goal
 
 pub returns-clause-found : goal.returns-clause-found

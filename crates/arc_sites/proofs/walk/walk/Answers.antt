@@ -2,7 +2,7 @@ use Rattle.std.proofs.Common.{◌++◌, flat_map}
 use Rattle.std.proofs.lemmas.Result.{on_ok_weaker}
 use Rattle.arc_ast.specs.Tree.{function_trees, global_trees, interface_trees, implementation_trees}
 use Rattle.arc_sites.specs.Sites.{InSource, Global, site, function_sites, interface_sites, implementation_sites}
-use Rattle.arc_sites.proofs.Found.{found_both, found_three}
+use Rattle.arc_sites.proofs.FoundIsFirst.{found_both, found_three}
 use Rattle.arc_sites.proofs.walk.walk.Goals as goal
 
 pub returns-clause-found : goal.returns-clause-found

@@ -1,5 +1,5 @@
 use Rattle.std.proofs.Common.{sym, ◌∙◌}
-use Rattle.arc_spec.proofs.Components.{begins_then, begins_not}
+use Rattle.arc_spec.proofs.SelectorComponents.{begins_then, begins_not}
 use Rattle.arc_spec.proofs.family.begins_with_word.Goals as goal
 
 pub returns-then-starts_with : goal.returns-then-starts_with

@@ -1,5 +1,5 @@
 use Rattle.std.proofs.Common.{ap, take, ◌∙◌}
-use Rattle.arc_spec.proofs.Components.{component_is}
+use Rattle.arc_spec.proofs.SelectorComponents.{component_is}
 use Rattle.arc_spec.proofs.family.first_component.Goals as goal
 
 pub returns : goal.returns

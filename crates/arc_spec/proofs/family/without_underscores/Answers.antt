@@ -1,6 +1,6 @@
 use Rattle.std.proofs.Common.{ap, drop, ◌∙◌}
 use Rattle.std.proofs.lemmas.List.{take_rest}
-use Rattle.arc_spec.proofs.Components.{rest_is}
+use Rattle.arc_spec.proofs.SelectorComponents.{rest_is}
 use Rattle.arc_spec.proofs.family.without_underscores.Goals as goal
 
 pub returns : goal.returns

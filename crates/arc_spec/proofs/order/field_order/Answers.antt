@@ -1,6 +1,6 @@
 use Rattle.std.proofs.Common.{◌∙◌, ◌-◌, ◌+◌, ap, length}
 use Rattle.arc_spec.specs.Classes.{classes_of, superclasses, ancestry_within, strong_counts}
-use Rattle.arc_spec.proofs.Ordering.{class_more, one_turn_more}
+use Rattle.arc_spec.proofs.FieldOrder.{class_more, one_turn_more}
 use Rattle.arc_spec.proofs.order.field_order.Goals as goal
 
 pub loop-passed-preserved : goal.loop-passed-preserved

@@ -1,5 +1,5 @@
 use Rattle.std.proofs.Common.{refl, sym, ◌∙◌}
-use Rattle.arc_spec.proofs.Ordering.{one_more, none_left}
+use Rattle.arc_spec.proofs.FieldOrder.{one_more, none_left}
 use Rattle.arc_spec.proofs.order.push_numbers.Goals as goal
 
 pub loop-number-init : goal.loop-number-init

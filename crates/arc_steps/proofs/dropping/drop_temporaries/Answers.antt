@@ -1,7 +1,7 @@
 use Rattle.std.proofs.Common.{◌≡◌, ◌<◌, None, take, refl, sym, subst, arith}
 use Rattle.std.proofs.lemmas.Bool.{false≢true}
 use Rattle.arc_steps.specs.Releases.{Drops}
-use Rattle.arc_steps.proofs.Dropped.{popped_block, popped_count, dropped_last, dropped_within, dropped_can, dropped_on}
+use Rattle.arc_steps.proofs.TemporaryDropSteps.{popped_block, popped_count, dropped_last, dropped_within, dropped_can, dropped_on}
 use Rattle.arc_steps.proofs.dropping.drop_temporaries.Goals as goal
 
 pub loop-objects-init : goal.loop-objects-init

@@ -1,5 +1,5 @@
 use Rattle.std.proofs.Common.{◌≤◌, ℕ, Option, length, take}
-use Rattle.arc_cells.specs.Standing.{Parts}
+use Rattle.arc_cells.specs.Representation.{Parts}
 use Rattle.arc_steps.specs.Releases.{CanDrop, Drops}
 use Rattle.arc_steps.proofs.dropping.drop_temporaries.Given as goal
 

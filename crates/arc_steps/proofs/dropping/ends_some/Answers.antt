@@ -2,8 +2,8 @@ use Rattle.std.proofs.Common.{◌≡◌, inl, inr, Some, refl, sym, ap, ◌∙�
 use Rattle.std.specs.Prelude.{slice_get}
 use Rattle.std.proofs.lemmas.Bool.{cases_eq, false≢true}
 use Rattle.arc_steps.specs.Releases.{IsAlone}
-use Rattle.arc_steps.proofs.Named.{take_get}
-use Rattle.arc_steps.proofs.Dropped.{can_block}
+use Rattle.arc_steps.proofs.WordsNameObjects.{take_get}
+use Rattle.arc_steps.proofs.TemporaryDropSteps.{can_block}
 use Rattle.arc_steps.proofs.dropping.ends_some.Goals as goal
 
 pub is_alone-requires-clause-object : goal.is_alone-requires-clause-object

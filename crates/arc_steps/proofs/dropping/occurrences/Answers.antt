@@ -1,6 +1,6 @@
 use Rattle.std.proofs.Common.{◌≡◌, ◌+◌, take, sym, ap, ◌∙◌, arith}
-use Rattle.arc_spec.specs.Holding.{holders}
-use Rattle.arc_steps.proofs.Dropped.{holders_here, holders_else, holders_few}
+use Rattle.arc_spec.specs.HolderCounts.{holders}
+use Rattle.arc_steps.proofs.TemporaryDropSteps.{holders_here, holders_else, holders_few}
 use Rattle.arc_steps.proofs.dropping.occurrences.Goals as goal
 use Rattle.arc_steps.proofs.dropping.occurrences.Goals.{then-temporary-object, else-temporary-object}
 

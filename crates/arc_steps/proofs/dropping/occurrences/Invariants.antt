@@ -1,5 +1,5 @@
 use Rattle.std.proofs.Common.{◌≡◌, take}
-use Rattle.arc_spec.specs.Holding.{holders}
+use Rattle.arc_spec.specs.HolderCounts.{holders}
 use Rattle.arc_steps.proofs.dropping.occurrences.Given as goal
 
 abbrev pub invariant-loop-depth : goal.invariant-loop-depth

@@ -1,7 +1,7 @@
 use Rattle.std.proofs.Common.{◌≡◌}
 use Rattle.std.proofs.lemmas.Bool.{false≢true}
-use Rattle.arc_cells.specs.Standing.{IsLast}
-use Rattle.arc_steps.proofs.Replaced.{replaced_block, replaced_few}
+use Rattle.arc_cells.specs.Representation.{IsLast}
+use Rattle.arc_steps.proofs.ReplacementBlocks.{replaced_block, replaced_few}
 use Rattle.arc_steps.proofs.storing.replace.Goals as goal
 use Rattle.arc_steps.proofs.storing.replace.Goals.{else-before-object-via-then-before-object+else-is_last, else-before-object-via-else-before-object}
 

@@ -1,7 +1,7 @@
 use Rattle.std.proofs.lemmas.Result.{err_from_is_err_and}
 use Rattle.arc_lex.specs.Tokens.{toks}
-use Rattle.arc_tool.specs.Refused.{in_lexing, in_parsing}
-use Rattle.arc_tool.proofs.Compiling.{passed}
+use Rattle.arc_tool.specs.RefusalStages.{in_lexing, in_parsing}
+use Rattle.arc_tool.proofs.StagesCompose.{passed}
 use Rattle.arc_tool.proofs.accept.accept.Goals as goal
 
 pub returns-in_err-tokens-clause-refused : goal.returns-in_err-tokens-clause-refused

@@ -3,10 +3,10 @@ use Rattle.std.proofs.lemmas.List.{length-map}
 use Rattle.std.proofs.lemmas.Result.{err_from_is_err_and}
 use Rattle.arc_ast.specs.Tree.{unit_tree}
 use Rattle.arc_checked.specs.Checked.{program_of}
-use Rattle.arc_lower.specs.Order.{order}
+use Rattle.arc_lower.specs.PlainActions.{order}
 use Rattle.arc_lower.specs.Lowered.{lowered}
-use Rattle.arc_tool.specs.Refused.{in_owning, no_memory}
-use Rattle.arc_tool.proofs.Compiling.{accepted, small_enough, too_long}
+use Rattle.arc_tool.specs.RefusalStages.{in_owning, no_memory}
+use Rattle.arc_tool.proofs.StagesCompose.{accepted, small_enough, too_long}
 use Rattle.arc_tool.proofs.accept.accept_program.Goals as goal
 
 pub returns-in_err-owned-clause-refused : goal.returns-in_err-owned-clause-refused

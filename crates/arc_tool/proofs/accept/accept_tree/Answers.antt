@@ -1,6 +1,6 @@
 use Rattle.std.proofs.lemmas.Result.{err_from_is_err_and}
 use Rattle.arc_ast.specs.Tree.{unit_tree}
-use Rattle.arc_tool.specs.Refused.{in_building}
+use Rattle.arc_tool.specs.RefusalStages.{in_building}
 use Rattle.arc_tool.proofs.accept.accept_tree.Goals as goal
 
 pub returns-in_err-table-clause-refused : goal.returns-in_err-table-clause-refused

@@ -1,7 +1,7 @@
 use Rattle.std.proofs.lemmas.Result.{err_from_is_err_and}
 use Rattle.arc_ast.specs.Tree.{unit_tree}
-use Rattle.arc_tool.specs.Refused.{in_checking}
-use Rattle.arc_tool.proofs.Compiling.{checked}
+use Rattle.arc_tool.specs.RefusalStages.{in_checking}
+use Rattle.arc_tool.proofs.StagesCompose.{checked}
 use Rattle.arc_tool.proofs.accept.accept_unit.Goals as goal
 
 pub returns-clause-accepted : goal.returns-clause-accepted

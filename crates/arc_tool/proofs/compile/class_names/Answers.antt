@@ -1,5 +1,5 @@
 use Rattle.std.proofs.Common.{◌≡◌, rules}
-use Rattle.arc_tool.proofs.Naming.{names_turn}
+use Rattle.arc_tool.proofs.ClassNameList.{names_turn}
 use Rattle.arc_tool.proofs.compile.class_names.Goals as goal
 
 pub loop-interface-preserved : goal.loop-interface-preserved

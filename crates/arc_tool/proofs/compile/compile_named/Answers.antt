@@ -1,8 +1,8 @@
 use Rattle.std.proofs.Common.{sym, subst}
 use Rattle.std.proofs.lemmas.Result.{err_from_is_err_and}
-use Rattle.arc_code.specs.Running.{program_of}
-use Rattle.arc_tool.specs.Compiled.{CompilesNamed}
-use Rattle.arc_tool.specs.Refused.{no_memory}
+use Rattle.arc_code.specs.CodeSteps.{program_of}
+use Rattle.arc_tool.specs.CompiledCode.{CompilesNamed}
+use Rattle.arc_tool.specs.RefusalStages.{no_memory}
 use Rattle.arc_tool.proofs.compile.compile_named.Goals as goal
 
 pub returns-clause-compiled : goal.returns-clause-compiled

@@ -1,10 +1,10 @@
 use Rattle.std.proofs.Common.{Err, ap}
 use Rattle.std.proofs.lemmas.Result.{err_from_is_err_and}
 use Rattle.arc_ast.specs.Tree.{unit_tree}
-use Rattle.arc_ir.specs.Acting as acting
-use Rattle.arc_code.specs.Running.{program_of}
-use Rattle.arc_tool.specs.Refused.{in_owning, no_memory}
-use Rattle.arc_tool.proofs.Compiling.{accepted, compiled_named, not_emitted}
+use Rattle.arc_ir.specs.ActionSteps as acting
+use Rattle.arc_code.specs.CodeSteps.{program_of}
+use Rattle.arc_tool.specs.RefusalStages.{in_owning, no_memory}
+use Rattle.arc_tool.proofs.StagesCompose.{accepted, compiled_named, not_emitted}
 use Rattle.arc_tool.proofs.compile.translate_program.Goals as goal
 
 pub returns-in_err-owned-clause-refused : goal.returns-in_err-owned-clause-refused

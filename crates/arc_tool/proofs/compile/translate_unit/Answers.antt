@@ -1,10 +1,10 @@
 use Rattle.std.proofs.Common.{subst, IfOk}
 use Rattle.std.proofs.lemmas.Result.{err_from_is_err_and}
 use Rattle.arc_ast.specs.Tree.{unit_tree}
-use Rattle.arc_code.specs.Running.{program_of}
-use Rattle.arc_tool.specs.Compiled.{CompilesNamed, class_names}
-use Rattle.arc_tool.specs.Refused.{in_checking}
-use Rattle.arc_tool.proofs.Compiling.{checked}
+use Rattle.arc_code.specs.CodeSteps.{program_of}
+use Rattle.arc_tool.specs.CompiledCode.{CompilesNamed, class_names}
+use Rattle.arc_tool.specs.RefusalStages.{in_checking}
+use Rattle.arc_tool.proofs.StagesCompose.{checked}
 use Rattle.arc_tool.proofs.compile.translate_unit.Goals as goal
 
 pub returns-in_err-program-clause-refused : goal.returns-in_err-program-clause-refused

@@ -1,5 +1,5 @@
 use Rattle.std.proofs.Common.{◌≡◌, drop}
-use Rattle.arc_tool.specs.Lines.{open_after}
+use Rattle.arc_tool.specs.TraceLines.{open_after}
 use Rattle.arc_tool.proofs.lines.open_after.Given as goal
 
 abbrev pub invariant-loop-event : goal.invariant-loop-event

@@ -1,6 +1,6 @@
 use Rattle.std.proofs.lemmas.Result.{err_from_is_err_and}
-use Rattle.arc_code.proofs.Parts.{wider, then_written}
-use Rattle.arc_tool.specs.Lines.{two_digits}
+use Rattle.arc_code.proofs.WritesCompose.{wider, then_written}
+use Rattle.arc_tool.specs.TraceLines.{two_digits}
 use Rattle.arc_tool.proofs.lines.put_byte.Goals as goal
 
 pub returns-in_err-put : goal.returns-in_err-put

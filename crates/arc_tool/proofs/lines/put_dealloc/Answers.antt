@@ -1,6 +1,6 @@
 use Rattle.std.proofs.Common.{codes}
 use Rattle.std.proofs.lemmas.Result.{err_from_is_err_and}
-use Rattle.arc_code.proofs.Parts.{wider, then_written}
+use Rattle.arc_code.proofs.WritesCompose.{wider, then_written}
 use Rattle.arc_tool.specs.Status.{named}
 use Rattle.arc_tool.proofs.lines.put_dealloc.Goals as goal
 

@@ -1,7 +1,7 @@
 use Rattle.std.proofs.Common.{◌++◌, codes}
 use Rattle.std.proofs.lemmas.Result.{err_from_is_err_and}
-use Rattle.arc_code.proofs.Parts.{wider, then_written}
-use Rattle.arc_tool.specs.Lines.{left_text, closing}
+use Rattle.arc_code.proofs.WritesCompose.{wider, then_written}
+use Rattle.arc_tool.specs.TraceLines.{left_text, closing}
 use Rattle.arc_tool.proofs.lines.put_end.Goals as goal
 
 pub returns-in_err-close : goal.returns-in_err-close

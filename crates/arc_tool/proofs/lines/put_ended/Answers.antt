@@ -2,9 +2,9 @@ use Rattle.std.proofs.Common.{codes, rules}
 use Rattle.std.proofs.lemmas.Result.{err_from_is_err_and}
 use Rattle.std.specs.Fmt.{signed_decimal}
 use Rattle.arc_code.specs.Attempts.{HasFailedToWrite}
-use Rattle.arc_code.specs.Counting.{failures_of, inner_of, held_by}
-use Rattle.arc_code.specs.Written.{Written}
-use Rattle.arc_code.proofs.Parts.{wider, then_written}
+use Rattle.arc_code.specs.CountedDevices.{failures_of, inner_of, held_by}
+use Rattle.arc_code.specs.WrittenBytes.{Written}
+use Rattle.arc_code.proofs.WritesCompose.{wider, then_written}
 use Rattle.arc_tool.proofs.lines.put_ended.Goals as goal
 
 pub returns-in_err-put : goal.returns-in_err-put

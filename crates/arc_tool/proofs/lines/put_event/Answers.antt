@@ -1,8 +1,8 @@
 use Rattle.std.proofs.Common.{map}
 use Rattle.std.proofs.lemmas.Result.{err_from_is_err_and}
-use Rattle.arc_code.proofs.Parts.{wider, then_written}
-use Rattle.arc_tool.specs.Compiled.{bytes_of_name}
-use Rattle.arc_tool.specs.Lines.{dealloc_line, closing}
+use Rattle.arc_code.proofs.WritesCompose.{wider, then_written}
+use Rattle.arc_tool.specs.CompiledCode.{bytes_of_name}
+use Rattle.arc_tool.specs.TraceLines.{dealloc_line, closing}
 use Rattle.arc_tool.proofs.lines.put_event.Goals as goal
 
 pub returns-in_err-close-in-Dealloc : goal.returns-in_err-close-in-Dealloc

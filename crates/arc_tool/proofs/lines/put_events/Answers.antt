@@ -1,7 +1,7 @@
 use Rattle.std.proofs.Common.{map, arith}
 use Rattle.std.proofs.lemmas.Result.{err_from_is_err_and}
-use Rattle.arc_tool.specs.Compiled.{bytes_of_name}
-use Rattle.arc_tool.proofs.Lining.{put_on, put_cut}
+use Rattle.arc_tool.specs.CompiledCode.{bytes_of_name}
+use Rattle.arc_tool.proofs.EventTextComposes.{put_on, put_cut}
 use Rattle.arc_tool.proofs.lines.put_events.Goals as goal
 
 pub returns-in_err-put_event : goal.returns-in_err-put_event

@@ -1,8 +1,8 @@
 use Rattle.std.proofs.Common.{◌≡◌, ◌++◌, ℕ, List, drop, map, Ok}
-use Rattle.arc_code.specs.Counting.{failures_of, held_by}
-use Rattle.arc_code.specs.Written.{Written}
-use Rattle.arc_tool.specs.Compiled.{bytes_of_name}
-use Rattle.arc_tool.specs.Lines.{events_text}
+use Rattle.arc_code.specs.CountedDevices.{failures_of, held_by}
+use Rattle.arc_code.specs.WrittenBytes.{Written}
+use Rattle.arc_tool.specs.CompiledCode.{bytes_of_name}
+use Rattle.arc_tool.specs.TraceLines.{events_text}
 use Rattle.arc_tool.proofs.lines.put_events.Given as goal
 
 -- what was written, and what is still to be written, is the whole text

@@ -1,5 +1,5 @@
 use Rattle.std.proofs.Common.{inl, refl}
-use Rattle.arc_code.proofs.Parts.{front_part}
+use Rattle.arc_code.proofs.WritesCompose.{front_part}
 use Rattle.arc_tool.proofs.report.put.Goals as goal
 
 pub returns-in-Err : goal.returns-in-Err

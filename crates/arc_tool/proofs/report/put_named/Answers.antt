@@ -1,6 +1,6 @@
 use Rattle.std.proofs.Common.{[], ◌∷◌, ◌++◌, decimal}
 use Rattle.std.proofs.lemmas.Result.{err_from_is_err_and}
-use Rattle.arc_code.proofs.Parts.{first_failed, second_failed, third_failed, then_ok, then_failed, then_written}
+use Rattle.arc_code.proofs.WritesCompose.{first_failed, second_failed, third_failed, then_ok, then_failed, then_written}
 use Rattle.arc_tool.proofs.report.put_named.Goals as goal
 
 pub returns-in_err-put : goal.returns-in_err-put

@@ -1,6 +1,6 @@
 use Rattle.std.proofs.Common.{◌++◌, codes, decimal}
 use Rattle.std.proofs.lemmas.Result.{err_from_is_err_and}
-use Rattle.arc_code.proofs.Parts.{wider, then_ok, then_failed, then_written}
+use Rattle.arc_code.proofs.WritesCompose.{wider, then_ok, then_failed, then_written}
 use Rattle.arc_tool.specs.Status.{named}
 use Rattle.arc_tool.proofs.report.put_refusal.Goals as goal
 

@@ -1,10 +1,10 @@
 use Rattle.std.proofs.Common.{sym, ◌∙◌, arith, rules}
 use Rattle.std.proofs.KnownBytes.{Keeps-refl}
 use Rattle.std.proofs.lemmas.Result.{err_from_is_err_and}
-use Rattle.arc_code.specs.Counting.{left_in, held_by}
-use Rattle.arc_tool.proofs.Flushing.{passed_or_failed}
-use Rattle.arc_tool.proofs.Passing.{write_prints}
-use Rattle.arc_tool.proofs.Running.{machine_stopped, machine_held, machine_broken, machine_unread}
+use Rattle.arc_code.specs.CountedDevices.{left_in, held_by}
+use Rattle.arc_tool.proofs.FlushAfterText.{passed_or_failed}
+use Rattle.arc_tool.proofs.OutputAfterFailure.{write_prints}
+use Rattle.arc_tool.proofs.RunOutput.{machine_stopped, machine_held, machine_broken, machine_unread}
 use Rattle.arc_tool.proofs.run.run_machine.Goals as goal
 
 pub returns-in_err-flush-in-Ok-clause-ran : goal.returns-in_err-flush-in-Ok-clause-ran

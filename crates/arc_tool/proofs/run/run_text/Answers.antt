@@ -1,10 +1,10 @@
 use Rattle.std.proofs.Common.{sym, subst, ap}
 use Rattle.std.proofs.lemmas.Result.{err_from_is_err_and}
-use Rattle.arc_code.specs.Running.{Program}
+use Rattle.arc_code.specs.CodeSteps.{Program}
 use Rattle.arc_tool.specs.declared.lines.Left.TheVariants.{Stopped}
-use Rattle.arc_tool.specs.Compiled.{Compiles}
-use Rattle.arc_tool.proofs.Passing.{refused_passes, printed_passes}
-use Rattle.arc_tool.proofs.Running.{prints_all, prints_failed, refused_so}
+use Rattle.arc_tool.specs.CompiledCode.{Compiles}
+use Rattle.arc_tool.proofs.OutputAfterFailure.{refused_passes, printed_passes}
+use Rattle.arc_tool.proofs.RunOutput.{prints_all, prints_failed, refused_so}
 use Rattle.arc_tool.proofs.run.run_text.Goals as goal
 
 pub returns-in_err-code-clause-answered : goal.returns-in_err-code-clause-answered

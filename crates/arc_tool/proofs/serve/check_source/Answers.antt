@@ -1,7 +1,7 @@
 use Rattle.std.proofs.Common.{refl}
 use Rattle.std.proofs.lemmas.Result.{err_from_is_err_and}
-use Rattle.arc_code.specs.Counting.{failures_of}
-use Rattle.arc_tool.proofs.Serving.{refused_so, refused_blamed, refused_flushed, output_failed}
+use Rattle.arc_code.specs.CountedDevices.{failures_of}
+use Rattle.arc_tool.proofs.CommandFailures.{refused_so, refused_blamed, refused_flushed, output_failed}
 use Rattle.arc_tool.proofs.serve.check_source.Goals as goal
 
 pub returns-in_err-accept-clause-checks : goal.returns-in_err-accept-clause-checks

@@ -1,10 +1,10 @@
 use Rattle.std.proofs.Common.{refl}
 use Rattle.std.proofs.lemmas.Result.{err_from_is_err_and}
-use Rattle.arc_code.specs.Counting.{failures_of}
+use Rattle.arc_code.specs.CountedDevices.{failures_of}
 use Rattle.arc_code.specs.Listing.{listing}
-use Rattle.arc_code.specs.Running.{program_of}
-use Rattle.arc_tool.proofs.Flushing.{flush_failed}
-use Rattle.arc_tool.proofs.Serving.{refused_so, refused_blamed, refused_flushed, output_failed}
+use Rattle.arc_code.specs.CodeSteps.{program_of}
+use Rattle.arc_tool.proofs.FlushAfterText.{flush_failed}
+use Rattle.arc_tool.proofs.CommandFailures.{refused_so, refused_blamed, refused_flushed, output_failed}
 use Rattle.arc_tool.proofs.serve.list_source.Goals as goal
 
 pub returns-in_err-code-clause-lists : goal.returns-in_err-code-clause-lists

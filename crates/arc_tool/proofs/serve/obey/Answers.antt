@@ -1,5 +1,5 @@
 use Rattle.std.proofs.lemmas.Result.{err_from_is_err_and}
-use Rattle.arc_tool.proofs.Serving.{has_run, not_run, same_device, same_flushed, ended_flushed}
+use Rattle.arc_tool.proofs.CommandFailures.{has_run, not_run, same_device, same_flushed, ended_flushed}
 use Rattle.arc_tool.proofs.serve.obey.Goals as goal
 
 pub returns-in_err-stop-in-Run-clause-obeyed : goal.returns-in_err-stop-in-Run-clause-obeyed

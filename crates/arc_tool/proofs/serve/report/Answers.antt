@@ -1,7 +1,7 @@
 use Rattle.arc_code.specs.Attempts.{HasFailedToWrite, HasPassedOn}
-use Rattle.arc_code.specs.Counting.{failures_of, inner_of, held_by}
+use Rattle.arc_code.specs.CountedDevices.{failures_of, inner_of, held_by}
 use Rattle.arc_tool.specs.Status.{line_of}
-use Rattle.arc_tool.proofs.Flushing.{and_flushed}
+use Rattle.arc_tool.proofs.FlushAfterText.{and_flushed}
 use Rattle.arc_tool.proofs.serve.report.Goals as goal
 
 pub returns-in-Ok : goal.returns-in-Ok

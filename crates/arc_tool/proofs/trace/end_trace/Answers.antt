@@ -1,9 +1,9 @@
 use Rattle.std.proofs.lemmas.Result.{err_from_is_err_and}
-use Rattle.arc_code.proofs.Parts.{not_flushed}
+use Rattle.arc_code.proofs.WritesCompose.{not_flushed}
 use Rattle.arc_tool.specs.declared.lines.Left.TheVariants.{Stopped, Unread}
-use Rattle.arc_tool.specs.Lines.{end_text}
-use Rattle.arc_tool.proofs.Flushing.{and_flushed, flush_failed, passed_or_failed}
-use Rattle.arc_tool.proofs.Passing.{write_passes}
+use Rattle.arc_tool.specs.TraceLines.{end_text}
+use Rattle.arc_tool.proofs.FlushAfterText.{and_flushed, flush_failed, passed_or_failed}
+use Rattle.arc_tool.proofs.OutputAfterFailure.{write_passes}
 use Rattle.arc_tool.proofs.trace.end_trace.Goals as goal
 
 pub returns-in_err-put_end-in-Stopped-clause-ends : goal.returns-in_err-put_end-in-Stopped-clause-ends

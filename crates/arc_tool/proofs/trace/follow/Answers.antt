@@ -1,12 +1,12 @@
 use Rattle.std.proofs.Common.{◌≡◌, ◌+◌, ◌<◌, ⊎_elim, map, Ok, Err, refl, sym, ap, ◌∙◌, arith, rules}
 use Rattle.std.proofs.lemmas.Result.{err_from_is_err_and}
-use Rattle.arc_code.specs.Counting.{inner_of}
+use Rattle.arc_code.specs.CountedDevices.{inner_of}
 use Rattle.arc_code.specs.declared.code.IoFault.TheVariants.{Read, Write}
 use Rattle.arc_machine.specs.declared.stop.Stop.TheVariants as stop
-use Rattle.arc_machine.specs.Said.{said}
-use Rattle.arc_tool.specs.Compiled.{bytes_of_name}
-use Rattle.arc_tool.proofs.Following.{left_of, left_stopped, left_unread, going_on, no_room, unread, reader_kept, reader_stays, reader_failed, writer_failed, never_fails, within_stop}
-use Rattle.arc_tool.proofs.Showing.{shows_fresh, one_step, was_made, shows_on, shows_part, is_left}
+use Rattle.arc_machine.specs.RunAnswer.{said}
+use Rattle.arc_tool.specs.CompiledCode.{bytes_of_name}
+use Rattle.arc_tool.proofs.StepwiseRuns.{left_of, left_stopped, left_unread, going_on, no_room, unread, reader_kept, reader_stays, reader_failed, writer_failed, never_fails, within_stop}
+use Rattle.arc_tool.proofs.StepEventsWritten.{shows_fresh, one_step, was_made, shows_on, shows_part, is_left}
 use Rattle.arc_tool.proofs.trace.follow.Goals as goal
 
 pub loop-init : goal.loop-init

@@ -1,8 +1,8 @@
 use Rattle.std.proofs.Common.{◌≡◌, map}
-use Rattle.arc_code.specs.Counting.{failures_of, left_in, held_by}
+use Rattle.arc_code.specs.CountedDevices.{failures_of, left_in, held_by}
 use Rattle.arc_steps.specs.declared.answer.Answer.TheVariants as answer
-use Rattle.arc_tool.specs.Compiled.{bytes_of_name}
-use Rattle.arc_tool.proofs.Showing.{Shows}
+use Rattle.arc_tool.specs.CompiledCode.{bytes_of_name}
+use Rattle.arc_tool.proofs.StepEventsWritten.{Shows}
 use Rattle.arc_tool.proofs.trace.follow.Given as goal
 
 abbrev pub invariant-loop : goal.invariant-loop

@@ -1,6 +1,6 @@
 use Rattle.std.proofs.Common.{◌≡◌, rules}
 use Rattle.std.proofs.lemmas.Result.{err_from_is_err_and}
-use Rattle.arc_tool.specs.private.Stepped.{new_events}
+use Rattle.arc_tool.specs.private.TraceSteps.{new_events}
 use Rattle.arc_tool.proofs.trace.show.Goals as goal
 
 pub returns-in_err-put_events-clause-broken : goal.returns-in_err-put_events-clause-broken

@@ -1,9 +1,9 @@
 use Rattle.std.proofs.Common.{map, sym, subst, ap}
 use Rattle.std.proofs.lemmas.Result.{err_from_is_err_and}
-use Rattle.arc_code.specs.Running.{Program}
-use Rattle.arc_tool.specs.Compiled.{CompilesNamed, bytes_of_name}
-use Rattle.arc_tool.proofs.Passing.{refused_passes, write_passes}
-use Rattle.arc_tool.proofs.Tracing.{was_interrupted, interrupted_blamed, ended, blamed, run_untouched, no_trace}
+use Rattle.arc_code.specs.CodeSteps.{Program}
+use Rattle.arc_tool.specs.CompiledCode.{CompilesNamed, bytes_of_name}
+use Rattle.arc_tool.proofs.OutputAfterFailure.{refused_passes, write_passes}
+use Rattle.arc_tool.proofs.TraceMeaning.{was_interrupted, interrupted_blamed, ended, blamed, run_untouched, no_trace}
 use Rattle.arc_tool.proofs.trace.trace_text.Goals as goal
 
 pub returns-in_err-named-clause-answered : goal.returns-in_err-named-clause-answered

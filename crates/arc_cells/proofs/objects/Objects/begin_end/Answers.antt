@@ -1,6 +1,6 @@
 use Rattle.std.proofs.Common.{◌-◌}
 use Rattle.arc_cells.specs.Cells.{Cell, IsCell, with_count}
-use Rattle.arc_cells.proofs.Alterations.{alters_by, becomes_twice}
+use Rattle.arc_cells.proofs.BlockChanges.{alters_by, becomes_twice}
 use Rattle.arc_cells.proofs.objects.Objects.begin_end.Goals as goal
 
 pub begin_end-requires : goal.begin_end-requires

@@ -1,6 +1,6 @@
 use Rattle.std.proofs.Common.{length, nat_lt, ap, ◌∙◌}
 use Rattle.arc_spec.specs.declared.limits.TheConstants.{MOST_LEVELS}
-use Rattle.arc_cells.specs.Standing.{Parts}
+use Rattle.arc_cells.specs.Representation.{Parts}
 use Rattle.arc_cells.proofs.objects.Objects.have_level.Goals as goal
 
 pub returns : goal.returns

@@ -1,6 +1,6 @@
 use Rattle.std.proofs.Common.{◌≡◌, ℤ, rules, subst, sym, to_z, of_z, w64}
 use Rattle.arc_cells.specs.Cells.{Cell, IsCell, Becomes, with_value}
-use Rattle.arc_cells.proofs.Alterations.{alters_by}
+use Rattle.arc_cells.proofs.BlockChanges.{alters_by}
 use Rattle.arc_cells.proofs.objects.Objects.write_field.Goals as goal
 
 pub returns : goal.returns

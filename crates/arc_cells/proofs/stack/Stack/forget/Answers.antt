@@ -1,6 +1,6 @@
 use Rattle.std.proofs.Common.{◌≤◌, length, arith}
 use Rattle.std.proofs.lemmas.List.{length-reverse}
-use Rattle.arc_cells.proofs.Piles.{pile_drop}
+use Rattle.arc_cells.proofs.StackTopFirst.{pile_drop}
 use Rattle.arc_cells.proofs.stack.Stack.forget.Goals as goal
 
 pub returns-clause-items : goal.returns-clause-items

@@ -1,6 +1,6 @@
 use Rattle.std.proofs.Common.{◌≡◌, suc, ◌+◌, ◌-◌, ◌<◌, ◌++◌, length, take, drop, ◌∙◌, ap, arith}
 use Rattle.std.proofs.lemmas.List.{length-reverse}
-use Rattle.arc_cells.proofs.Piles.{pile_remove}
+use Rattle.arc_cells.proofs.StackTopFirst.{pile_remove}
 use Rattle.arc_cells.proofs.stack.Stack.remove.Goals as goal
 
 pub returns-clause-items : goal.returns-clause-items

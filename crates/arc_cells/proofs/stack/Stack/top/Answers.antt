@@ -1,4 +1,4 @@
-use Rattle.arc_cells.proofs.Piles.{first_is}
+use Rattle.arc_cells.proofs.StackTopFirst.{first_is}
 use Rattle.arc_cells.proofs.stack.Stack.top.Goals as goal
 
 pub returns : goal.returns

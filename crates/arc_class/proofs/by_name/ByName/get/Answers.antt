@@ -1,7 +1,7 @@
 use Rattle.std.proofs.Common.{ap, sym, ◌∙◌, arith}
 use Rattle.std.proofs.lemmas.Grind.{common_steps}
-use Rattle.arc_class.specs.ByName.{at_name}
-use Rattle.arc_class.proofs.Parted.{home_is, at_its_part}
+use Rattle.arc_class.specs.NameMaps.{at_name}
+use Rattle.arc_class.proofs.NameMapParts.{home_is, at_its_part}
 use Rattle.arc_class.proofs.by_name.ByName.get.Goals as goal
 
 pub returns : goal.returns

@@ -1,8 +1,8 @@
 use Rattle.std.proofs.Common.{Some, ap, sym, ◌∙◌}
 use Rattle.std.specs.Map.{update}
 use Rattle.std.specs.Str.{bytes_eq}
-use Rattle.arc_class.specs.ByName.{at_name}
-use Rattle.arc_class.proofs.Parted.{home_is, at_its_part, set_placed, set_at, updates_at}
+use Rattle.arc_class.specs.NameMaps.{at_name}
+use Rattle.arc_class.proofs.NameMapParts.{home_is, at_its_part, set_placed, set_at, updates_at}
 use Rattle.arc_class.proofs.by_name.ByName.insert.Goals as goal
 
 pub invariant_of-self-2 : goal.invariant_of-self-2

@@ -1,4 +1,4 @@
-use Rattle.arc_class.proofs.Parted.{blank_none}
+use Rattle.arc_class.proofs.NameMapParts.{blank_none}
 use Rattle.arc_class.proofs.by_name.ByName.with_room.Goals as goal
 
 pub returns : goal.returns

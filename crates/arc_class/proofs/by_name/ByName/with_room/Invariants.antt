@@ -1,5 +1,5 @@
 use Rattle.std.proofs.Common.{◌≡◌, length}
-use Rattle.arc_class.proofs.Parted.{Blank}
+use Rattle.arc_class.proofs.NameMapParts.{Blank}
 use Rattle.arc_class.proofs.by_name.ByName.with_room.Given as goal
 
 abbrev pub invariant-loop-part : goal.invariant-loop-part

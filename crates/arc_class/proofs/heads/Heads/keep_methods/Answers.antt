@@ -2,9 +2,9 @@ use Rattle.std.proofs.Common.{◌∷◌, [], ◌+◌, drop, ap, ◌∙◌, arith
 use Rattle.std.proofs.lemmas.Grind.{common_steps}
 use Rattle.arc_ast.specs.Tree.{head_tree, method_trees}
 use Rattle.arc_class.specs.Classes.{heads, first_head}
-use Rattle.arc_class.specs.Kept.{head_in}
-use Rattle.arc_class.proofs.Keeping.{kept_turn, first_head-append}
-use Rattle.arc_class.proofs.Lists.{drop_turn}
+use Rattle.arc_class.specs.KeptNames.{head_in}
+use Rattle.arc_class.proofs.FirstDeclaration.{kept_turn, first_head-append}
+use Rattle.arc_class.proofs.ListSuffixes.{drop_turn}
 use Rattle.arc_class.proofs.heads.Heads.keep_methods.Goals as goal
 use Rattle.std.specs.Option.{option_or}
 

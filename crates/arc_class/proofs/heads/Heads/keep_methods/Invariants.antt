@@ -2,7 +2,7 @@ use Rattle.std.proofs.Common.{◌≡◌, ℕ, List, drop}
 use Rattle.arc_ast.specs.declared.tree.Sign.{Sign}
 use Rattle.arc_ast.specs.Tree.{method_trees}
 use Rattle.arc_class.specs.Classes.{heads, first_head}
-use Rattle.arc_class.specs.Kept.{head_in}
+use Rattle.arc_class.specs.KeptNames.{head_in}
 use Rattle.arc_class.proofs.heads.Heads.keep_methods.Given as goal
 use Rattle.std.specs.Option.{option_or}
 

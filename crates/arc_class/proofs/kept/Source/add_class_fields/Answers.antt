@@ -7,9 +7,9 @@ use Rattle.arc_class.specs.Fields.{inherited_by, sorts_of_fields}
 use Rattle.arc_spec.specs.Sorts.{counts}
 use Rattle.arc_class.specs.Table.{class_number_in}
 use Rattle.arc_class.proofs.FieldLists.{inherited_so_far}
-use Rattle.arc_class.proofs.Lists.{drop_turn}
-use Rattle.arc_class.proofs.Parts.{made_turn, pushed_length}
-use Rattle.arc_class.proofs.Rules.{class_number_kept, interfaces_count}
+use Rattle.arc_class.proofs.ListSuffixes.{drop_turn}
+use Rattle.arc_class.proofs.TablePartsGrow.{made_turn, pushed_length}
+use Rattle.arc_class.proofs.ClassViolations.{class_number_kept, interfaces_count}
 use Rattle.arc_class.proofs.kept.Source.add_class_fields.Goals as goal
 
 pub loop-interface-preserved : goal.loop-interface-preserved

@@ -4,8 +4,8 @@ use Rattle.arc_class.specs.Classes.{class_number}
 use Rattle.arc_class.specs.Fields.{owned, fields, all_fields_from, fields_declared, inherited_by}
 use Rattle.arc_class.specs.Table.{class_number_in, list_of, list_among}
 use Rattle.arc_class.proofs.FieldLists.{lists_so_far, class_here}
-use Rattle.arc_class.proofs.Parts.{made_turn, pushed_length}
-use Rattle.arc_class.proofs.Rules.{class_number_kept, interfaces_count, interface_there}
+use Rattle.arc_class.proofs.TablePartsGrow.{made_turn, pushed_length}
+use Rattle.arc_class.proofs.ClassViolations.{class_number_kept, interfaces_count, interface_there}
 use Rattle.arc_class.proofs.kept.Source.all_fields.Goals as goal
 
 pub loop-interface-preserved : goal.loop-interface-preserved

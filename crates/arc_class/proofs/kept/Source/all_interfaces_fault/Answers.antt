@@ -2,11 +2,11 @@ use Rattle.std.proofs.Common.{◌≡◌, ◌<◌, ◌+◌, suc, length, get_or, 
 use Rattle.std.proofs.lemmas.Grind.{common_steps}
 use Rattle.arc_ast.specs.Tree.{unit_tree, interface_tree, interface_trees}
 use Rattle.arc_class.specs.private.Scopes.{and_name, holds}
-use Rattle.arc_class.specs.Broken.{first}
+use Rattle.arc_class.specs.BrokenRules.{first}
 use Rattle.arc_class.specs.ClassRules.{broken_names, broken_members, broken_interface}
 use Rattle.arc_class.specs.Fault.{reported}
-use Rattle.arc_class.proofs.Firsts.{first_both}
-use Rattle.arc_class.proofs.Rules.{interfaces_turn, interfaces_held, interfaces_before, interfaces_count}
+use Rattle.arc_class.proofs.FirstBrokenRule.{first_both}
+use Rattle.arc_class.proofs.ClassViolations.{interfaces_turn, interfaces_held, interfaces_before, interfaces_count}
 use Rattle.arc_class.proofs.ScopeNames.{holds-more}
 use Rattle.arc_class.proofs.kept.Source.all_interfaces_fault.Goals as goal
 

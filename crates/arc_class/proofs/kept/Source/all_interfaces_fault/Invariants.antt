@@ -1,9 +1,9 @@
 use Rattle.std.proofs.Common.{◌≡◌, [], ℕ, List, is_some, option_map, take, drop}
-use Rattle.arc_class.specs.Broken.{first, earlier_of}
+use Rattle.arc_class.specs.BrokenRules.{first, earlier_of}
 use Rattle.arc_class.specs.Fault.{reported}
 use Rattle.arc_ast.specs.Tree.{unit_tree, interface_trees}
 use Rattle.arc_class.specs.ClassRules.{broken_interface}
-use Rattle.arc_class.specs.Broken.{in_order}
+use Rattle.arc_class.specs.BrokenRules.{in_order}
 use Rattle.arc_class.specs.Classes.{interface_number}
 use Rattle.arc_class.specs.private.Scopes.{holds}
 use Rattle.arc_class.proofs.kept.Source.all_interfaces_fault.Given as goal

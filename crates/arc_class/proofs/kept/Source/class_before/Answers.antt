@@ -2,8 +2,8 @@ use Rattle.std.proofs.Common.{◌≡◌, ◌||◌, false, sym, ap, ◌∙◌}
 use Rattle.arc_ast.specs.Tree.{unit_tree}
 use Rattle.arc_class.specs.SiteRules.{interface_before}
 use Rattle.arc_class.specs.Classes.{is_root}
-use Rattle.arc_class.specs.Kept.{place_before}
-use Rattle.arc_class.proofs.Rules.{before_places}
+use Rattle.arc_class.specs.KeptNames.{place_before}
+use Rattle.arc_class.proofs.ClassViolations.{before_places}
 use Rattle.arc_class.proofs.kept.Source.class_before.Goals as goal
 
 pub returns-else-is_root : goal.returns-else-is_root

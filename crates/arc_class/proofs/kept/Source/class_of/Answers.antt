@@ -1,11 +1,11 @@
 use Rattle.std.proofs.Common.{◌≡◌, [], None, option_map, sym, ap, ◌∙◌}
 use Rattle.std.specs.Option.{option_and_then, option_map_or}
 use Rattle.arc_ast.specs.Tree.{unit_tree, interface_tree, method_trees}
-use Rattle.arc_class.specs.Kept.{implemented_tree}
-use Rattle.arc_class.specs.Running.{implementation_of, methods_from, dealloc_from}
+use Rattle.arc_class.specs.KeptNames.{implemented_tree}
+use Rattle.arc_class.specs.RuntimeClasses.{implementation_of, methods_from, dealloc_from}
 use Rattle.arc_class.specs.Table.{at_name, class_number_in}
-use Rattle.arc_class.proofs.Parts.{class_is}
-use Rattle.arc_class.proofs.Rules.{class_number_kept}
+use Rattle.arc_class.proofs.TablePartsGrow.{class_is}
+use Rattle.arc_class.proofs.ClassViolations.{class_number_kept}
 use Rattle.arc_class.proofs.kept.Source.class_of.Goals as goal
 
 pub returns-in_default-clause-made : goal.returns-in_default-clause-made

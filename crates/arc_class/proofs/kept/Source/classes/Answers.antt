@@ -5,12 +5,12 @@ use Rattle.arc_spec.specs.Classes.{class_of}
 use Rattle.arc_class.specs.private.Entries.{counted_among}
 use Rattle.arc_class.specs.Fields.{fields, sorts_of_fields}
 use Rattle.arc_spec.specs.Sorts.{counts}
-use Rattle.arc_class.specs.Running as running
-use Rattle.arc_class.specs.Running.{class_with, classes_from}
+use Rattle.arc_class.specs.RuntimeClasses as running
+use Rattle.arc_class.specs.RuntimeClasses.{class_with, classes_from}
 use Rattle.arc_class.proofs.FieldLists.{counts_kept}
-use Rattle.arc_class.proofs.Lists.{drop_turn}
-use Rattle.arc_class.proofs.Parts.{made_turn, pushed_length}
-use Rattle.arc_class.proofs.Rules.{interfaces_count}
+use Rattle.arc_class.proofs.ListSuffixes.{drop_turn}
+use Rattle.arc_class.proofs.TablePartsGrow.{made_turn, pushed_length}
+use Rattle.arc_class.proofs.ClassViolations.{interfaces_count}
 use Rattle.arc_class.proofs.kept.Source.classes.Goals as goal
 
 pub loop-interface-preserved : goal.loop-interface-preserved

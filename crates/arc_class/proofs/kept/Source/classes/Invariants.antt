@@ -1,7 +1,7 @@
 use Rattle.std.proofs.Common.{◌≡◌, ◌+◌, ◌++◌, length, drop}
 use Rattle.arc_ast.specs.Tree.{unit_tree, interface_trees}
 use Rattle.arc_spec.specs.Classes.{classes_of}
-use Rattle.arc_class.specs.Running.{classes, classes_from}
+use Rattle.arc_class.specs.RuntimeClasses.{classes, classes_from}
 use Rattle.arc_class.proofs.kept.Source.classes.Given as goal
 
 -- those so far with the rest are all

@@ -1,7 +1,7 @@
 use Rattle.arc_ast.specs.Tree.{unit_tree}
 use Rattle.arc_class.specs.ClassRules.{broken_interface, broken_implementation}
-use Rattle.arc_class.specs.Broken.{in_order}
-use Rattle.arc_class.proofs.Firsts.{first_both}
+use Rattle.arc_class.specs.BrokenRules.{in_order}
+use Rattle.arc_class.proofs.FirstBrokenRule.{first_both}
 use Rattle.arc_class.proofs.kept.Source.classes_fault.Goals as goal
 
 pub returns : goal.returns

@@ -2,8 +2,8 @@ use Rattle.std.proofs.Common.{◌≡◌, ◌<◌, ◌+◌, ◌++◌, ◌∷◌, 
 use Rattle.std.proofs.lemmas.Grind.{common_steps}
 use Rattle.arc_ast.specs.Tree.{unit_tree, interface_tree, interface_trees}
 use Rattle.arc_class.specs.private.Entries.{entry_tree, root_entry, class_entry}
-use Rattle.arc_class.proofs.Lists.{drop_turn}
-use Rattle.arc_class.proofs.Parts.{made_turn}
+use Rattle.arc_class.proofs.ListSuffixes.{drop_turn}
+use Rattle.arc_class.proofs.TablePartsGrow.{made_turn}
 use Rattle.arc_class.proofs.kept.Source.entries.Goals as goal
 
 pub loop-interface-preserved : goal.loop-interface-preserved

@@ -2,8 +2,8 @@ use Rattle.std.proofs.Common.{◌≡◌, ℕ, List, ap, ◌∙◌}
 use Rattle.arc_ast.specs.Tree.{unit_tree, interface_tree}
 use Rattle.arc_class.specs.Classes.{class_number}
 use Rattle.arc_class.specs.Table.{class_number_in}
-use Rattle.arc_class.proofs.Parts.{entry_is}
-use Rattle.arc_class.proofs.Rules.{class_number_kept}
+use Rattle.arc_class.proofs.TablePartsGrow.{entry_is}
+use Rattle.arc_class.proofs.ClassViolations.{class_number_kept}
 use Rattle.arc_class.proofs.kept.Source.entry_of.Goals as goal
 
 pub returns : goal.returns

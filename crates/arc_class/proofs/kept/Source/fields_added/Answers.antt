@@ -3,7 +3,7 @@ use Rattle.arc_ast.specs.Tree.{unit_tree}
 use Rattle.arc_class.specs.Classes.{class_number}
 use Rattle.arc_class.specs.Fields.{is_number, fields_by}
 use Rattle.arc_class.specs.Table.{class_number_in}
-use Rattle.arc_class.proofs.Rules.{class_number_kept}
+use Rattle.arc_class.proofs.ClassViolations.{class_number_kept}
 use Rattle.arc_class.proofs.kept.Source.fields_added.Goals as goal
 
 abbrev fields_if : {X : Type 0} → List X → Bool → List X

@@ -1,8 +1,8 @@
 use Rattle.std.proofs.Common.{option_map, sym, ap, ◌∙◌}
 use Rattle.arc_ast.specs.Tree.{unit_tree, field_trees}
 use Rattle.arc_class.specs.Classes.{bodies}
-use Rattle.arc_class.specs.Kept.{implemented_tree}
-use Rattle.arc_class.proofs.Parts.{fields_at, fields_kept}
+use Rattle.arc_class.specs.KeptNames.{implemented_tree}
+use Rattle.arc_class.proofs.TablePartsGrow.{fields_at, fields_kept}
 use Rattle.arc_class.proofs.kept.Source.fields_by.Goals as goal
 
 pub returns-in-None : goal.returns-in-None

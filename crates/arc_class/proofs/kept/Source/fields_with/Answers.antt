@@ -2,7 +2,7 @@ use Rattle.std.proofs.Common.{◌++◌, map, append_assoc, sym, ap, ◌∙◌}
 use Rattle.arc_ast.specs.Tree.{field_trees}
 use Rattle.arc_class.specs.Fields.{owned}
 use Rattle.arc_class.specs.Table.{field_tree}
-use Rattle.arc_class.proofs.Parts.{map_append}
+use Rattle.arc_class.proofs.TablePartsGrow.{map_append}
 use Rattle.arc_class.proofs.kept.Source.fields_with.Goals as goal
 
 pub returns : goal.returns

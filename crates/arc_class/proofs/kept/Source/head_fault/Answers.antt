@@ -1,9 +1,9 @@
 use Rattle.std.proofs.Common.{List, [], ◌++◌, append-nil, ap, sym, ◌∙◌, flat_map}
 use Rattle.arc_ast.specs.declared.tree.Parameter.{Parameter}
 use Rattle.arc_ast.specs.Tree.{unit_tree, head_tree, result_tree, parameter_trees}
-use Rattle.arc_class.specs.Broken.{Broken, broken_if, first}
+use Rattle.arc_class.specs.BrokenRules.{Broken, broken_if, first}
 use Rattle.arc_class.specs.SiteRules.{changes_kind, is_hook, signature_types, unknown_class}
-use Rattle.arc_class.proofs.Firsts.{first_both}
+use Rattle.arc_class.proofs.FirstBrokenRule.{first_both}
 use Rattle.arc_class.proofs.kept.Source.head_fault.Goals as goal
 
 pub returns : goal.returns

@@ -1,9 +1,9 @@
 use Rattle.std.proofs.Common.{◌≡◌, [], option_map, ap, ◌∙◌}
 use Rattle.arc_ast.specs.Tree.{unit_tree, implementation_tree, method_trees}
-use Rattle.arc_class.specs.Broken.{first}
+use Rattle.arc_class.specs.BrokenRules.{first}
 use Rattle.arc_class.specs.ClassRules.{broken_own_names, broken_methods}
 use Rattle.arc_class.specs.Fault.{reported}
-use Rattle.arc_class.proofs.Firsts.{first_both}
+use Rattle.arc_class.proofs.FirstBrokenRule.{first_both}
 use Rattle.arc_class.proofs.kept.Source.implementation_fault.Goals as goal
 
 pub returns : goal.returns

@@ -2,7 +2,7 @@ use Rattle.std.proofs.Common.{◌≡◌, ◌<◌, length, get_or, take, subst, a
 use Rattle.std.proofs.lemmas.Grind.{common_steps}
 use Rattle.arc_ast.specs.Tree.{unit_tree, implementation_trees}
 use Rattle.arc_class.specs.private.Scopes.{and_name, holds}
-use Rattle.arc_class.proofs.Rules.{implementations_turn, implementations_held}
+use Rattle.arc_class.proofs.ClassViolations.{implementations_turn, implementations_held}
 use Rattle.arc_class.proofs.ScopeNames.{holds-more}
 use Rattle.arc_class.proofs.kept.Source.implementations_fault.Goals as goal
 

@@ -1,9 +1,9 @@
 use Rattle.std.proofs.Common.{◌≡◌, [], ℕ, List, option_map, take, drop}
-use Rattle.arc_class.specs.Broken.{first, earlier_of}
+use Rattle.arc_class.specs.BrokenRules.{first, earlier_of}
 use Rattle.arc_class.specs.Fault.{reported}
 use Rattle.arc_ast.specs.Tree.{unit_tree, implementation_trees}
 use Rattle.arc_class.specs.ClassRules.{broken_implementation, is_implemented}
-use Rattle.arc_class.specs.Broken.{in_order}
+use Rattle.arc_class.specs.BrokenRules.{in_order}
 use Rattle.arc_class.specs.private.Scopes.{holds}
 use Rattle.arc_class.proofs.kept.Source.implementations_fault.Given as goal
 

@@ -2,8 +2,8 @@ use Rattle.std.proofs.Common.{◌≡◌, Bool, true, false, List, ◌++◌, if�
 use Rattle.std.proofs.lemmas.Result.{on_ok_weaker}
 use Rattle.arc_ast.specs.Tree.{HeadTree, unit_tree, head_trees}
 use Rattle.arc_class.specs.Classes.{heads, first_head, defined_by, implemented_before}
-use Rattle.arc_class.specs.Kept.{head_in}
-use Rattle.arc_class.proofs.Keeping.{both_kept}
+use Rattle.arc_class.specs.KeptNames.{head_in}
+use Rattle.arc_class.proofs.FirstDeclaration.{both_kept}
 use Rattle.arc_class.proofs.kept.Source.keep_own_methods.Goals as goal
 use Rattle.std.specs.Option.{option_or}
 

@@ -4,8 +4,8 @@ use Rattle.arc_class.specs.Classes.{class_number}
 use Rattle.arc_class.specs.Fields.{numbered}
 use Rattle.arc_class.specs.Table.{class_number_in}
 use Rattle.arc_class.proofs.FieldLists.{fields_made}
-use Rattle.arc_class.proofs.Parts.{kept_none}
-use Rattle.arc_class.proofs.Rules.{class_number_kept}
+use Rattle.arc_class.proofs.TablePartsGrow.{kept_none}
+use Rattle.arc_class.proofs.ClassViolations.{class_number_kept}
 use Rattle.arc_class.proofs.kept.Source.learn_fields.Goals as goal
 use Rattle.std.specs.Option.{option_or}
 

@@ -1,13 +1,13 @@
 use Rattle.std.proofs.Common.{◌≡◌, length, nat_lt, ap, ◌∙◌}
 use Rattle.arc_ast.specs.Tree.{unit_tree, interface_tree}
-use Rattle.arc_class.specs.Broken.{broken_if, first}
+use Rattle.arc_class.specs.BrokenRules.{broken_if, first}
 use Rattle.arc_class.specs.declared.classes.TheConstants.{MOST_FIELDS}
 use Rattle.arc_class.specs.ClassRules.{broken_own_fields}
 use Rattle.arc_class.specs.Fields.{fields, sorts_of_fields}
 use Rattle.arc_spec.specs.Sorts.{total}
 use Rattle.arc_class.proofs.FieldLists.{counts_kept}
-use Rattle.arc_class.proofs.Sorts.{counts_total, sorts_length}
-use Rattle.arc_class.proofs.Firsts.{first_both}
+use Rattle.arc_class.proofs.SortCountSums.{counts_total, sorts_length}
+use Rattle.arc_class.proofs.FirstBrokenRule.{first_both}
 use Rattle.arc_class.proofs.kept.Source.members_fault.Goals as goal
 
 pub returns : goal.returns

@@ -1,12 +1,12 @@
 use Rattle.std.proofs.Common.{◌≡◌, ◌||◌, ◌++◌, not, is_some, is_none, ap, ◌∙◌}
 use Rattle.arc_ast.specs.Tree.{unit_tree, interface_tree}
-use Rattle.arc_class.specs.Broken.{broken_if, first}
+use Rattle.arc_class.specs.BrokenRules.{broken_if, first}
 use Rattle.arc_class.specs.ClassRules.{is_implemented, is_taken}
 use Rattle.arc_class.specs.Classes.{is_root, class_number, bodies}
 use Rattle.arc_class.specs.Table.{at_name}
 use Rattle.arc_class.specs.private.Scopes.{holds}
-use Rattle.arc_class.proofs.Firsts.{first_both}
-use Rattle.arc_class.proofs.Rules.{implemented_known, class_missing}
+use Rattle.arc_class.proofs.FirstBrokenRule.{first_both}
+use Rattle.arc_class.proofs.ClassViolations.{implemented_known, class_missing}
 use Rattle.arc_class.proofs.kept.Source.names_fault.Goals as goal
 
 pub returns : goal.returns

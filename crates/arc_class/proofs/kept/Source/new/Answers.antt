@@ -2,9 +2,9 @@ use Rattle.std.proofs.Common.{◌≡◌, ℕ, List, ap, ◌∙◌, rules}
 use Rattle.arc_ast.specs.Tree.{unit_tree, global_trees, interface_trees}
 use Rattle.arc_class.specs.Classes.{class_number}
 use Rattle.arc_class.specs.Globals.{known_global}
-use Rattle.arc_class.specs.Kept.{places}
+use Rattle.arc_class.specs.KeptNames.{places}
 use Rattle.arc_class.specs.Table.{at_name, class_number_in}
-use Rattle.arc_class.proofs.Rules.{class_number_kept}
+use Rattle.arc_class.proofs.ClassViolations.{class_number_kept}
 use Rattle.arc_class.proofs.kept.Source.new.Goals as goal
 
 pub returns-clause-knows : goal.returns-clause-knows

@@ -1,11 +1,11 @@
 use Rattle.std.proofs.Common.{◌++◌, sym, ap, ◌∙◌}
 use Rattle.arc_ast.specs.Tree.{unit_tree, field_trees}
-use Rattle.arc_class.specs.Broken.{first}
+use Rattle.arc_class.specs.BrokenRules.{first}
 use Rattle.arc_class.specs.ClassRules.{broken_fields}
 use Rattle.arc_class.specs.Classes.{class_number}
 use Rattle.arc_class.specs.Fields.{if_before}
-use Rattle.arc_class.proofs.Firsts.{first_both}
-use Rattle.arc_class.proofs.Rules.{broken_fields-append}
+use Rattle.arc_class.proofs.FirstBrokenRule.{first_both}
+use Rattle.arc_class.proofs.ClassViolations.{broken_fields-append}
 use Rattle.arc_class.proofs.kept.Source.own_fields_fault.Goals as goal
 
 pub returns : goal.returns

@@ -1,12 +1,12 @@
 use Rattle.std.proofs.Common.{◌≡◌, ◌||◌, not, is_some, is_none, ap, ◌∙◌}
 use Rattle.arc_ast.specs.Tree.{unit_tree}
-use Rattle.arc_class.specs.Broken.{broken_if, first}
+use Rattle.arc_class.specs.BrokenRules.{broken_if, first}
 use Rattle.arc_class.specs.ClassRules.{is_implemented}
 use Rattle.arc_class.specs.Classes.{is_root, class_number}
 use Rattle.arc_class.specs.Table.{class_number_in}
 use Rattle.arc_class.specs.private.Scopes.{holds}
-use Rattle.arc_class.proofs.Firsts.{first_both}
-use Rattle.arc_class.proofs.Rules.{class_number_kept, there_none}
+use Rattle.arc_class.proofs.FirstBrokenRule.{first_both}
+use Rattle.arc_class.proofs.ClassViolations.{class_number_kept, there_none}
 use Rattle.arc_class.proofs.kept.Source.own_names_fault.Goals as goal
 
 pub returns : goal.returns

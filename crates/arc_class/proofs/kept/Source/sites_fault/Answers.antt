@@ -2,7 +2,7 @@ use Rattle.std.proofs.Common.{None, ◌∙◌, arith}
 use Rattle.std.proofs.lemmas.Grind.{common_steps}
 use Rattle.arc_ast.specs.Tree.{unit_tree}
 use Rattle.arc_sites.specs.Sites.{unit_sites}
-use Rattle.arc_sites.proofs.Found.{found_is}
+use Rattle.arc_sites.proofs.FoundIsFirst.{found_is}
 use Rattle.arc_class.specs.SiteRules.{violations}
 use Rattle.arc_class.proofs.kept.Source.sites_fault.Goals as goal
 

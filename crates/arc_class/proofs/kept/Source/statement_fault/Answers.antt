@@ -4,9 +4,9 @@ use Rattle.arc_ast.specs.declared.tree.Stmt.{Stmt}
 use Rattle.arc_ast.specs.Tree.{unit_tree, type_tree, variable_trees, stmt_tree, stmt_trees}
 use Rattle.arc_ast.proofs.Trees.{block_tree}
 use Rattle.arc_sites.specs.Sites.{Node, InSource, Statement}
-use Rattle.arc_class.specs.Broken.{Broken, first}
+use Rattle.arc_class.specs.BrokenRules.{Broken, first}
 use Rattle.arc_class.specs.SiteRules.{all_declared, repeated, unknown_class, violations}
-use Rattle.arc_class.proofs.Firsts.{first_both}
+use Rattle.arc_class.proofs.FirstBrokenRule.{first_both}
 use Rattle.arc_class.proofs.kept.Source.statement_fault.Goals as goal
 
 pub returns-in-Block : goal.returns-in-Block

@@ -2,7 +2,7 @@ use Rattle.std.proofs.Common.{◌≡◌, Some, ap, ◌∙◌}
 use Rattle.std.specs.Map.{update}
 use Rattle.std.specs.Str.{bytes_eq}
 use Rattle.arc_ast.specs.Tree.{function_tree}
-use Rattle.arc_class.specs.private.Look.{joined, fault_with}
+use Rattle.arc_class.specs.private.FunctionSummary.{joined, fault_with}
 use Rattle.arc_class.specs.Table.{at_name}
 use Rattle.arc_class.proofs.look.Seen.add.Goals as goal
 

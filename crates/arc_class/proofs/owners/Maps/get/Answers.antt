@@ -1,8 +1,8 @@
 use Rattle.std.proofs.Common.{◌≡◌, ◌∙◌, Some, None, ap, sym}
 use Rattle.arc_class.specs.Classes.{number_among}
-use Rattle.arc_class.specs.Numbered.{at_number}
+use Rattle.arc_class.specs.NumberMaps.{at_number}
 use Rattle.arc_class.specs.Owners.{names_in, at_number_of}
-use Rattle.arc_class.proofs.Names.{position_number}
+use Rattle.arc_class.proofs.NameEquality.{position_number}
 use Rattle.arc_class.proofs.owners.Maps.get.Goals as goal
 use Rattle.std.specs.Option.{option_or}
 

@@ -6,8 +6,8 @@ use Rattle.arc_class.specs.declared.owners.Maps.{Maps}
 use Rattle.arc_class.specs.Classes.{and_name, number_among}
 use Rattle.arc_class.specs.Lookups.{names_of}
 use Rattle.arc_class.specs.Owners.{names_in}
-use Rattle.arc_class.proofs.Holding.{adds_name}
-use Rattle.arc_class.proofs.Names.{self_eq, names_with_key, added_place, position_number}
+use Rattle.arc_class.proofs.OwnerMapUpdates.{adds_name}
+use Rattle.arc_class.proofs.NameEquality.{self_eq, names_with_key, added_place, position_number}
 use Rattle.arc_class.proofs.owners.Maps.with_name.Goals as goal
 
 pub returns-clause-added : goal.returns-clause-added

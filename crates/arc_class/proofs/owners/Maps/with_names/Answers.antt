@@ -1,7 +1,7 @@
 use Rattle.std.proofs.Common.{◌+◌, drop, is_some, refl, ap, ◌∙◌}
-use Rattle.arc_class.specs.ByName.{at_name, all_parts}
-use Rattle.arc_class.proofs.Lists.{drop_turn, drop_end}
-use Rattle.arc_class.proofs.Holding.{more_named, adding_none, adding_turn, adding_all}
+use Rattle.arc_class.specs.NameMaps.{at_name, all_parts}
+use Rattle.arc_class.proofs.ListSuffixes.{drop_turn, drop_end}
+use Rattle.arc_class.proofs.OwnerMapUpdates.{more_named, adding_none, adding_turn, adding_all}
 use Rattle.arc_class.proofs.owners.Maps.with_names.Goals as goal
 
 pub loop-part-init : goal.loop-part-init

@@ -1,6 +1,6 @@
 use Rattle.std.proofs.Common.{drop, is_some}
-use Rattle.arc_class.specs.ByName.{at_name, all_parts}
-use Rattle.arc_class.proofs.Holding.{Adding}
+use Rattle.arc_class.specs.NameMaps.{at_name, all_parts}
+use Rattle.arc_class.proofs.OwnerMapUpdates.{Adding}
 use Rattle.arc_class.proofs.owners.Maps.with_names.Given as goal
 
 -- the names of the parts that are left are added to what was made

@@ -3,8 +3,8 @@ use Rattle.std.specs.BTreeMap.{keys}
 use Rattle.std.specs.Map.Iter.{deref}
 use Rattle.std.specs.Str.{bytes_eq}
 use Rattle.std.proofs.lemmas.Map.Iter.{rest_more, rest_all}
-use Rattle.arc_class.specs.ByName.{at_name}
-use Rattle.arc_class.proofs.Holding.{any_key, any_named, adding_none, adding_turn, adding_all}
+use Rattle.arc_class.specs.NameMaps.{at_name}
+use Rattle.arc_class.proofs.OwnerMapUpdates.{any_key, any_named, adding_none, adding_turn, adding_all}
 use Rattle.arc_class.proofs.owners.Maps.with_part.Goals as goal
 
 pub loop-name-init : goal.loop-name-init

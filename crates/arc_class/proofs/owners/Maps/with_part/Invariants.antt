@@ -1,5 +1,5 @@
 use Rattle.std.specs.BTreeMap.{keys}
-use Rattle.arc_class.proofs.Holding.{Adding, any_key}
+use Rattle.arc_class.proofs.OwnerMapUpdates.{Adding, any_key}
 use Rattle.arc_class.proofs.owners.Maps.with_part.Given as goal
 
 -- the names that are left are added to what was made

@@ -4,7 +4,7 @@ use Rattle.std.proofs.lemmas.List.{length-map}
 use Rattle.arc_class.specs.declared.owners.Owners.{Owners}
 use Rattle.arc_class.specs.Lookups.{at_name}
 use Rattle.arc_class.specs.Owners.{views, view_of, view_at, with_own}
-use Rattle.arc_class.proofs.Chains.{no_change, own_view, pushed_views, pushed_owners}
+use Rattle.arc_class.proofs.NearestOwner.{no_change, own_view, pushed_views, pushed_owners}
 use Rattle.arc_class.proofs.owners.Owners.add_class.Goals as goal
 
 pub returns-in_default-clause-owners : goal.returns-in_default-clause-owners

@@ -2,7 +2,7 @@ use Rattle.std.proofs.Common.{◌∙◌, ◌++◌, ◌∷◌, [], Option, Some, 
 use Rattle.arc_class.specs.declared.owners.Map.{Map}
 use Rattle.arc_class.specs.declared.owners.Owners.{Owners}
 use Rattle.arc_class.specs.Owners.{views}
-use Rattle.arc_class.proofs.Chains.{empty_is_map, empty_view, no_change, pushed_views, pushed_owners}
+use Rattle.arc_class.proofs.NearestOwner.{empty_is_map, empty_view, no_change, pushed_views, pushed_owners}
 use Rattle.arc_class.proofs.owners.Owners.add_root.Goals as goal
 
 pub returns-clause-owners : goal.returns-clause-owners

@@ -2,7 +2,7 @@ use Rattle.std.proofs.Common.{◌≡◌, ◌∙◌, Some, None, length, slice_ge
 use Rattle.std.proofs.lemmas.Bool.{ltb-true, ltb-false}
 use Rattle.std.proofs.lemmas.Option.{slice_get_past, slice_get_read}
 use Rattle.arc_class.specs.Owners.{views, view_at}
-use Rattle.arc_class.proofs.Chains.{empty_is_map, empty_view, known_is_map, known_view, no_view}
+use Rattle.arc_class.proofs.NearestOwner.{empty_is_map, empty_view, known_is_map, known_view, no_view}
 use Rattle.arc_class.proofs.owners.Owners.map_of.Goals as goal
 
 pub returns-in_default-clause-view : goal.returns-in_default-clause-view

@@ -1,7 +1,7 @@
 use Rattle.std.proofs.Common.{option_map, ap, ◌∙◌}
 use Rattle.std.proofs.Math.Logic.{∥∥₁_elim}
 use Rattle.std.proofs.Props.{props}
-use Rattle.arc_class.specs.Broken.{earlier_of}
+use Rattle.arc_class.specs.BrokenRules.{earlier_of}
 use Rattle.arc_class.specs.Fault.{reported}
 use Rattle.arc_class.proofs.site_rules.SiteRulesVisitor.visit.Goals as goal
 

@@ -1,14 +1,14 @@
 use Rattle.std.proofs.Common.{◌≡◌, [], sym, ap, subst, ◌∙◌, option_map}
 use Rattle.std.proofs.lemmas.Result.{err_from_is_err_and}
 use Rattle.arc_ast.specs.Tree.{unit_tree, function_trees}
-use Rattle.arc_class.specs.Broken.{first}
+use Rattle.arc_class.specs.BrokenRules.{first}
 use Rattle.arc_class.specs.ClassRules.{broken}
 use Rattle.arc_class.specs.Fault.{reported, Refuses}
-use Rattle.arc_class.specs.private.Look.{Sums}
-use Rattle.arc_class.specs.private.Within.{before_classes}
-use Rattle.arc_class.specs.Names.{number_of, is_main}
+use Rattle.arc_class.specs.private.FunctionSummary.{Sums}
+use Rattle.arc_class.specs.private.RuleGroups.{before_classes}
+use Rattle.arc_class.specs.FunctionNames.{number_of, is_main}
 use Rattle.arc_class.specs.Table.{IsTableOf}
-use Rattle.arc_class.proofs.Answering.{at_sites, own_known, functions_seen}
+use Rattle.arc_class.proofs.FirstFaultReported.{at_sites, own_known, functions_seen}
 use Rattle.arc_class.proofs.table.ClassTable.build.Goals as goal
 
 pub check_source-requires-clause-knows : goal.check_source-requires-clause-knows

@@ -1,6 +1,6 @@
 use Rattle.std.proofs.Common.{◌∙◌, Some, None, slice_get, sym, ap}
 use Rattle.arc_class.specs.Lookups.{own_given_in}
-use Rattle.arc_class.proofs.Asking.{result_reported}
+use Rattle.arc_class.proofs.OwnerLookup.{result_reported}
 use Rattle.arc_class.proofs.table.ClassTable.nearest_result.Goals as goal
 
 pub returns-in-None : goal.returns-in-None

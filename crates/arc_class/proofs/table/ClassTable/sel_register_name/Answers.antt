@@ -1,7 +1,7 @@
 use Rattle.std.proofs.Common.{refl, sym, ap, ◌∙◌, Some, position}
 use Rattle.std.specs.Str.{bytes_eq}
 use Rattle.arc_class.specs.Table.{names_of}
-use Rattle.arc_class.proofs.Names.{self_eq, names_with_key, added_place}
+use Rattle.arc_class.proofs.NameEquality.{self_eq, names_with_key, added_place}
 use Rattle.arc_class.proofs.table.ClassTable.sel_register_name.Goals as goal
 
 pub returns-clause-registered : goal.returns-clause-registered

@@ -6,12 +6,12 @@ use Rattle.arc_spec.specs.declared.class.Gives.TheVariants.{Number}
 use Rattle.arc_spec.specs.Classes.{gives_of}
 use Rattle.arc_class.specs.declared.table.ClassTable.{ClassTable}
 use Rattle.arc_class.specs.Classes.{result_of, number_among}
-use Rattle.arc_class.specs.Names.{parameter_kinds, listed_kinds}
+use Rattle.arc_class.specs.FunctionNames.{parameter_kinds, listed_kinds}
 use Rattle.arc_class.specs.Table.{built_in_from}
 use Rattle.arc_class.proofs.FieldLists.{field_kept, lists_kept}
-use Rattle.arc_class.proofs.Names.{position_number}
-use Rattle.arc_class.proofs.Rules.{class_number_kept}
-use Rattle.arc_class.proofs.Tables.{function_class_is, superclass_is, result_is, any_is}
+use Rattle.arc_class.proofs.NameEquality.{position_number}
+use Rattle.arc_class.proofs.ClassViolations.{class_number_kept}
+use Rattle.arc_class.proofs.TableLookup.{function_class_is, superclass_is, result_is, any_is}
 use Rattle.arc_class.proofs.table.ClassTable.with.Goals as goal
 
 first_passed : {a b x y : Option HeadTree} → a ≡ x → b ≡ y → option_map_or (λ h. parameter_kinds h.parameters) (option_or a b) [] ≡ option_map_or (λ h. parameter_kinds h.parameters) (option_or x y) []

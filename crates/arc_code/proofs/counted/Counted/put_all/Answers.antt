@@ -1,5 +1,5 @@
 use Rattle.std.proofs.Common.{arith, ◌∙◌}
-use Rattle.arc_code.proofs.Taken.{appends_on, took_on}
+use Rattle.arc_code.proofs.PartialWrites.{appends_on, took_on}
 use Rattle.arc_code.proofs.counted.Counted.put_all.Goals as goal
 
 pub loop-written-preserved : goal.loop-written-preserved

@@ -1,6 +1,6 @@
 use Rattle.std.proofs.Common.{◌≡◌, ◌+◌, ◌/◌, length, refl, sym, ap, ◌∙◌, arith}
 use Rattle.arc_heap.specs.declared.mark.Mark.TheVariants.{Inside}
-use Rattle.arc_heap.proofs.Rows.{IsLonger, same_marks, cut_arranged, cut_is, last_is_none}
+use Rattle.arc_heap.proofs.BlockRowUpdate.{IsLonger, same_marks, cut_arranged, cut_is, last_is_none}
 use Rattle.arc_heap.proofs.plain.PlainStore.cut.Goals as goal
 
 pub invariant_of-self-2 : goal.invariant_of-self-2

@@ -1,8 +1,8 @@
 use Rattle.std.proofs.Common.{◌≡◌, ℕ, ◌<◌, ◌≤◌, ◌+◌, ◌-◌, ◌*◌, ◌⊎◌, length, get_or, drop, sym, subst, ap, ◌∙◌, arith}
 use Rattle.arc_heap.specs.declared.mark.Mark.TheVariants.{Out, Free}
-use Rattle.arc_heap.specs.Plain.{mark_at, extent, class_at}
-use Rattle.arc_heap.proofs.Segments.{take_first}
-use Rattle.arc_heap.proofs.Rows.{remarked, free_is_none, taken_again}
+use Rattle.arc_heap.specs.BlockLayout.{mark_at, extent, class_at}
+use Rattle.arc_heap.proofs.WordSegments.{take_first}
+use Rattle.arc_heap.proofs.BlockRowUpdate.{remarked, free_is_none, taken_again}
 use Rattle.arc_heap.proofs.plain.PlainStore.reuse.Goals as goal
 
 pub invariant_of-self : goal.invariant_of-self

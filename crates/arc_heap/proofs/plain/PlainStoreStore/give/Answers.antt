@@ -1,8 +1,8 @@
 use Rattle.std.proofs.Common.{◌≡◌, ◌-◌, ◌*◌, length, get_or, sym, ap, ◌∙◌, arith}
 use Rattle.std.proofs.lemmas.List.{get_or_read_under, length-set}
 use Rattle.arc_heap.specs.declared.mark.Mark.TheVariants.{Inside, Out, Free}
-use Rattle.arc_heap.specs.Plain.{mark_at, extent, class_at}
-use Rattle.arc_heap.proofs.Rows.{block_out, some_words, remarked, given}
+use Rattle.arc_heap.specs.BlockLayout.{mark_at, extent, class_at}
+use Rattle.arc_heap.proofs.BlockRowUpdate.{block_out, some_words, remarked, given}
 use Rattle.arc_heap.proofs.plain.PlainStoreStore.give.Goals as goal
 
 pub index-requires : goal.index-requires

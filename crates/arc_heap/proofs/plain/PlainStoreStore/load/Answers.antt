@@ -1,6 +1,6 @@
 use Rattle.std.proofs.Common.{sym, ◌∙◌, arith}
 use Rattle.std.proofs.lemmas.Grind.{get_or_default_zero}
-use Rattle.arc_heap.proofs.Rows.{word_out}
+use Rattle.arc_heap.proofs.BlockRowUpdate.{word_out}
 use Rattle.arc_heap.proofs.plain.PlainStoreStore.load.Goals as goal
 
 pub overflow_mul-block : goal.overflow_mul-block

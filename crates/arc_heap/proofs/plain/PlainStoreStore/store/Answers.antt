@@ -1,5 +1,5 @@
 use Rattle.std.proofs.Common.{arith}
-use Rattle.arc_heap.proofs.Rows.{word_out, has_word, stored}
+use Rattle.arc_heap.proofs.BlockRowUpdate.{word_out, has_word, stored}
 use Rattle.arc_heap.proofs.plain.PlainStoreStore.store.Goals as goal
 
 pub overflow_mul-block : goal.overflow_mul-block

@@ -1,7 +1,7 @@
 use Rattle.std.proofs.Common.{sym, subst}
-use Rattle.arc_code.specs.Running.{program_of}
+use Rattle.arc_code.specs.CodeSteps.{program_of}
 use Rattle.arc_steps.specs.Views.{Seen, StaysSound}
-use Rattle.arc_machine.proofs.Starting.{fresh_sound}
+use Rattle.arc_machine.proofs.StartRepresented.{fresh_sound}
 use Rattle.arc_machine.proofs.machine.Machine.new.Goals as goal
 
 pub invariant_of-result : goal.invariant_of-result

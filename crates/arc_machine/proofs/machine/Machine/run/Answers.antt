@@ -1,8 +1,8 @@
 use Rattle.std.proofs.Common.{◌≡◌, arith, rules, refl, ap, ◌∙◌, sym, add-one}
 use Rattle.arc_steps.specs.declared.answer.Answer.TheVariants as answer
 use Rattle.arc_steps.specs.Views.{Seen}
-use Rattle.arc_turns.proofs.Farther.{turned_start}
-use Rattle.arc_turns.proofs.Sliding.{turned_slid, advanced}
+use Rattle.arc_turns.proofs.RunExtendedByStep.{turned_start}
+use Rattle.arc_turns.proofs.QuietStepsCompose.{turned_silently, advanced}
 use Rattle.arc_machine.proofs.machine.Machine.run.Goals as goal
 
 pub loop-turns-init : goal.loop-turns-init
@@ -21,15 +21,15 @@ pub loop-turns-preserved : goal.loop-turns-preserved
 loop-turns-preserved g c =
     let engine = c.loop-turns.self-inside.engine in
     let going : engine.answer ≡ answer.Going = search rules in
-    let s = c.slide-turns.ensures in
+    let s = c.run_silently-turns.ensures in
     let h = c.loop-turns.invariant in
     let all = h.turned.all going in
-    let slid = turned_slid g.S.Store.out g.S.Store.stock g.S.Store.refuses _ engine _ _ _ _ _ _ _ _ _ _ _ _ _ h.turned going s.slid s.sound in
+    let silent_run = turned_silently g.S.Store.out g.S.Store.stock g.S.Store.refuses _ engine _ _ _ _ _ _ _ _ _ _ _ _ _ h.turned going s.silent_run s.sound in
     let e = c.advance.ensures in
     record {
       few = omega arith;
       going = h.going;
-      turned = rw add-one (advanced g.S.Store.out g.S.Store.stock g.S.Store.refuses _ _ _ _ _ _ _ _ _ _ _ _ _ _ _ _ _ _ _ _ _ slid (s.slid.answer ∙ going) c.advance.result e.ok e.fine e.err e.cause);
+      turned = rw add-one (advanced g.S.Store.out g.S.Store.stock g.S.Store.refuses _ _ _ _ _ _ _ _ _ _ _ _ _ _ _ _ _ _ _ _ _ silent_run (s.silent_run.answer ∙ going) c.advance.result e.ok e.fine e.err e.cause);
       none = λ none. absurd (omega arith);
       room = λ some. omega arith;
     }

@@ -1,8 +1,8 @@
 use Rattle.std.proofs.Common.{◌-◌, ◌^◌, ◌≡◌, ◌<◌, ◌≤◌}
 use Rattle.arc_code.specs.Attempts.{HasFailedToRead, HasFailedToWrite}
-use Rattle.arc_code.specs.Counting.{failures_of, inner_of, left_in, held_by}
+use Rattle.arc_code.specs.CountedDevices.{failures_of, inner_of, left_in, held_by}
 use Rattle.arc_steps.specs.declared.answer.Answer.TheVariants as answer
-use Rattle.arc_turns.proofs.Farther.{Turned}
+use Rattle.arc_turns.proofs.RunExtendedByStep.{Turned}
 use Rattle.arc_machine.proofs.machine.Machine.run.Given as goal
 
 abbrev pub invariant-loop-turns : goal.invariant-loop-turns

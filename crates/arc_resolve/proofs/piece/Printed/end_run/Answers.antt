@@ -2,7 +2,7 @@ use Rattle.std.proofs.Common.{◌∷◌, ◌++◌, [], ◌<◌, length, ap, ◌�
 use Rattle.std.proofs.lemmas.Grind.{common_steps}
 use Rattle.arc_checked.specs.Checked as checked
 use Rattle.arc_checked.specs.declared.program.Piece.TheVariants as p
-use Rattle.arc_resolve.proofs.Printing.{pieces-append, run_is_piece}
+use Rattle.arc_resolve.proofs.FormatPieces.{pieces-append, run_is_piece}
 use Rattle.arc_resolve.proofs.piece.Printed.end_run.Goals as goal
 
 pub returns : goal.returns

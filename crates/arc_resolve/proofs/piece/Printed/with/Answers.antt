@@ -2,7 +2,7 @@ use Rattle.std.proofs.Common.{◌∷◌, [], refl, ap, ◌∙◌}
 use Rattle.arc_spec.specs.Resolved as resolved
 use Rattle.arc_checked.specs.Checked as checked
 use Rattle.arc_scope.specs.Formats.{printed}
-use Rattle.arc_resolve.proofs.Printing.{pieces-append, adds_plain, adds_piece, put_bytes-decimal, put_bytes-character}
+use Rattle.arc_resolve.proofs.FormatPieces.{pieces-append, adds_plain, adds_piece, put_bytes-decimal, put_bytes-character}
 use Rattle.arc_resolve.proofs.piece.Printed.with.Goals as goal
 use Rattle.arc_resolve.proofs.piece.Printed.with.Goals.{in-Decimal, in-Character}
 

@@ -2,7 +2,7 @@ use Rattle.std.proofs.Common.{◌≡◌, ◌+◌, suc, arith, refl, sym, ap, ◌
 use Rattle.arc_spec.specs.declared.location.Location.TheVariants as location
 use Rattle.arc_scope.specs.declared.scope.Local.TheVariants as l
 use Rattle.arc_scope.specs.Scopes.{Number}
-use Rattle.arc_scope.proofs.Scoping.{number_is}
+use Rattle.arc_scope.proofs.VisibleVariables.{number_is}
 use Rattle.arc_scope.proofs.scope.Visible.declare_number.Goals as goal
 
 pub overflow_add-self : goal.overflow_add-self

@@ -3,7 +3,7 @@ use Rattle.arc_class.specs.Table.{number_of_class}
 use Rattle.arc_spec.specs.declared.location.Location.TheVariants as location
 use Rattle.arc_scope.specs.declared.scope.Local.TheVariants as l
 use Rattle.arc_scope.specs.Scopes.{Object}
-use Rattle.arc_scope.proofs.Scoping.{object_is}
+use Rattle.arc_scope.proofs.VisibleVariables.{object_is}
 use Rattle.arc_scope.proofs.scope.Visible.declare_object.Goals as goal
 
 pub overflow_add-self : goal.overflow_add-self

@@ -2,7 +2,7 @@ use Rattle.std.proofs.Common.{◌+◌, drop, sym, ap, ◌∙◌}
 use Rattle.arc_ast.specs.Tree.{type_tree, parameter_trees}
 use Rattle.arc_scope.specs.Scopes.{declare, with_parameters}
 use Rattle.arc_scope.specs.Views.{seen}
-use Rattle.arc_scope.proofs.Lists.{drop_turn, drop_end}
+use Rattle.arc_scope.proofs.ListSuffixes.{drop_turn, drop_end}
 use Rattle.arc_scope.proofs.scope.Visible.declare_parameters.Goals as goal
 
 pub loop-parameter-preserved : goal.loop-parameter-preserved

@@ -4,7 +4,7 @@ use Rattle.arc_ast.specs.Types.{result_kind}
 use Rattle.arc_spec.specs.Families.{method_family, is_init}
 use Rattle.arc_scope.specs.Scopes.{owned_in, hidden_in}
 use Rattle.arc_scope.specs.Views.{local_in}
-use Rattle.arc_scope.proofs.Scoping.{scope_is}
+use Rattle.arc_scope.proofs.VisibleVariables.{scope_is}
 use Rattle.arc_scope.proofs.scope.Visible.in_method.Goals as goal
 
 pub returns : goal.returns

@@ -5,7 +5,7 @@ use Rattle.std.specs.Str.{bytes_eq}
 use Rattle.arc_scope.specs.declared.scope.Bound.{Bound}
 use Rattle.arc_scope.specs.Scopes.{bound}
 use Rattle.arc_scope.specs.Views.{local_of, local_in}
-use Rattle.arc_scope.proofs.Scoping.{local_in-push}
+use Rattle.arc_scope.proofs.VisibleVariables.{local_in-push}
 use Rattle.arc_scope.proofs.scope.Visible.local.Goals as goal
 
 -- the last of some variables is one that has the name, or else the last of those before it

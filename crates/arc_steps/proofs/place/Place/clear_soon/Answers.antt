@@ -1,7 +1,7 @@
 use Rattle.std.proofs.Common.{◌≡◌, ◌∙◌, sym, refl, Some, subst}
 use Rattle.std.proofs.lemmas.Bool.{false≢true}
-use Rattle.arc_cells.specs.Standing.{NamesBlock}
-use Rattle.arc_steps.proofs.Emptied.{field_stays, clears_still}
+use Rattle.arc_cells.specs.Representation.{NamesBlock}
+use Rattle.arc_steps.proofs.ClearingBlockKept.{field_stays, clears_still}
 use Rattle.arc_steps.proofs.place.Place.clear_soon.Goals as goal
 
 pub returns-then-is_last-clause-none : goal.returns-then-is_last-clause-none

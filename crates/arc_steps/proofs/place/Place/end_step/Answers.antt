@@ -1,26 +1,26 @@
 use Rattle.std.proofs.Common.{◌≡◌, ◌∙◌, ℤ, Some, None, true, slice_get, refl, sym, ap, subst}
 use Rattle.arc_spec.specs.declared.event.Fault.TheVariants.{Depth}
 use Rattle.arc_code.specs.declared.instr.Instr.TheVariants.{EndStep}
-use Rattle.arc_code.specs.Running.{program_of}
+use Rattle.arc_code.specs.CodeSteps.{program_of}
 use Rattle.arc_steps.specs.declared.answer.Answer.TheVariants.{Going, Faulted}
 use Rattle.arc_cells.specs.declared.waiting.Waiting.TheVariants.{Clear}
-use Rattle.arc_steps.specs.Clearing.{LastField}
-use Rattle.arc_steps.specs.Places.{Ready, spot}
-use Rattle.arc_steps.specs.Storing.{ClearsNext}
+use Rattle.arc_steps.specs.FieldClearing.{LastField}
+use Rattle.arc_steps.specs.Places.{Ready, machine_view}
+use Rattle.arc_steps.specs.GlobalFieldStores.{ClearsNext}
 use Rattle.arc_cells.specs.Words.{Pile}
-use Rattle.arc_steps.proofs.LastFields.{last_field, next_some, reported_again, last_short, last_left, last_block, last_level, executed}
-use Rattle.arc_steps.proofs.Nexts.{ready_clearing}
-use Rattle.arc_steps.proofs.NextField.{last_faults, last_begins}
+use Rattle.arc_steps.proofs.NextFieldLastHolder.{last_field, next_some, reported_again, last_short, last_left, last_block, last_level, executed}
+use Rattle.arc_steps.proofs.NextFieldClearable.{ready_clearing}
+use Rattle.arc_steps.proofs.ClearStepSimulation.{last_faults, last_begins}
 use Rattle.arc_steps.proofs.place.Place.end_step.Goals as goal
 
 pub returns-then-not-have_level-clause-went : goal.returns-then-not-have_level-clause-went
 returns-then-not-have_level-clause-went g c =
     let out = g.S.Store.out in
     let p = program_of c.args.code.now in
-    let now = spot c.end_step_soon.new.self c.end_step_soon.new.objects in
+    let now = machine_view c.end_step_soon.new.self c.end_step_soon.new.objects in
     let l = c.in_default.ensures.last in
-    let turn = c.calm-then-not-have_level in
-    executed out p (spot c.args.self.now c.args.objects.now) now now (Faulted Depth) turn.result.answer None turn.result.event c.in_default.ensures.went.1 turn.ensures.answer turn.ensures.event
+    let turn = c.silent-then-not-have_level in
+    executed out p (machine_view c.args.self.now c.args.objects.now) now now (Faulted Depth) turn.result.answer None turn.result.event c.in_default.ensures.went.1 turn.ensures.answer turn.ensures.event
     (last_faults out p now l.back l.waiter l.object l.left l.waits l.field (sym c.have_level.ensures ∙ c.if-not-have_level.true))
 
 pub next_slot-requires : goal.next_slot-requires
@@ -29,7 +29,7 @@ next_slot-requires g c =
     let out = g.S.Store.out in
     let p = program_of c.args.code.now in
     let m = c.end_step_soon.new.objects in
-    let now = spot c.end_step_soon.new.self m in
+    let now = machine_view c.end_step_soon.new.self m in
     let frame : slice_get m.frames 0 ≡ Some (Clear e.back e.waiter e.object e.left) = c.last.ensures ∙ e.is ∙ ap Some e.field-0-is in
     let ready : Ready out p EndStep now = subst (λ x. Ready out p EndStep x) (sym c.in_default.ensures.went.1) c.requires.ready in
     ready_clearing out p now e.back e.waiter e.object e.left frame ready
@@ -40,7 +40,7 @@ unreachable-requires-in_default-next_slot g c =
     let out = g.S.Store.out in
     let p = program_of c.args.code.now in
     let m = c.end_step_soon.new.objects in
-    let now = spot c.end_step_soon.new.self m in
+    let now = machine_view c.end_step_soon.new.self m in
     let frame : slice_get m.frames 0 ≡ Some (Clear e.back e.waiter e.object e.left) = c.last.ensures ∙ e.is ∙ ap Some e.field-0-is in
     let l = last_field out p.classes m c.in_default.ensures.last e.back e.waiter e.object e.left frame in
     c.in_default-next_slot.not-Some l.slot (next_some out p.classes m e.object e.left l c.next_slot.result c.next_slot.ensures)
@@ -51,7 +51,7 @@ field_name-before-requires-clause-some g c =
     let out = g.S.Store.out in
     let p = program_of c.args.code.now in
     let m = c.end_step_soon.new.objects in
-    let now = spot c.end_step_soon.new.self m in
+    let now = machine_view c.end_step_soon.new.self m in
     let frame : slice_get m.frames 0 ≡ Some (Clear e.back e.waiter e.object e.left) = c.last.ensures ∙ e.is ∙ ap Some e.field-0-is in
     let ready : Ready out p EndStep now = subst (λ x. Ready out p EndStep x) (sym c.in_default.ensures.went.1) c.requires.ready in
     (ready_clearing out p now e.back e.waiter e.object e.left frame ready).some
@@ -62,7 +62,7 @@ field_name-before-requires-clause-short g c =
     let out = g.S.Store.out in
     let p = program_of c.args.code.now in
     let m = c.end_step_soon.new.objects in
-    let now = spot c.end_step_soon.new.self m in
+    let now = machine_view c.end_step_soon.new.self m in
     let frame : slice_get m.frames 0 ≡ Some (Clear e.back e.waiter e.object e.left) = c.last.ensures ∙ e.is ∙ ap Some e.field-0-is in
     let l = last_field out p.classes m c.in_default.ensures.last e.back e.waiter e.object e.left frame in
     let slot = c.in-Some-next_slot.slot in
@@ -75,7 +75,7 @@ field_name-before-requires-clause-field g c =
     let out = g.S.Store.out in
     let p = program_of c.args.code.now in
     let m = c.end_step_soon.new.objects in
-    let now = spot c.end_step_soon.new.self m in
+    let now = machine_view c.end_step_soon.new.self m in
     let frame : slice_get m.frames 0 ≡ Some (Clear e.back e.waiter e.object e.left) = c.last.ensures ∙ e.is ∙ ap Some e.field-0-is in
     let l = last_field out p.classes m c.in_default.ensures.last e.back e.waiter e.object e.left frame in
     let slot = c.in-Some-next_slot.slot in
@@ -88,7 +88,7 @@ clear-requires-clause-object g c =
     let out = g.S.Store.out in
     let p = program_of c.args.code.now in
     let m = c.end_step_soon.new.objects in
-    let now = spot c.end_step_soon.new.self m in
+    let now = machine_view c.end_step_soon.new.self m in
     let frame : slice_get m.frames 0 ≡ Some (Clear e.back e.waiter e.object e.left) = c.last.ensures ∙ e.is ∙ ap Some e.field-0-is in
     let ready : Ready out p EndStep now = subst (λ x. Ready out p EndStep x) (sym c.in_default.ensures.went.1) c.requires.ready in
     ready_clearing out p now e.back e.waiter e.object e.left frame ready
@@ -99,7 +99,7 @@ clear-requires-clause-some g c =
     let out = g.S.Store.out in
     let p = program_of c.args.code.now in
     let m = c.end_step_soon.new.objects in
-    let now = spot c.end_step_soon.new.self m in
+    let now = machine_view c.end_step_soon.new.self m in
     let frame : slice_get m.frames 0 ≡ Some (Clear e.back e.waiter e.object e.left) = c.last.ensures ∙ e.is ∙ ap Some e.field-0-is in
     let l = last_field out p.classes m c.in_default.ensures.last e.back e.waiter e.object e.left frame in
     let ready : Ready out p EndStep now = subst (λ x. Ready out p EndStep x) (sym c.in_default.ensures.went.1) c.requires.ready in
@@ -111,7 +111,7 @@ clear-requires-clause-slot g c =
     let out = g.S.Store.out in
     let p = program_of c.args.code.now in
     let m = c.end_step_soon.new.objects in
-    let now = spot c.end_step_soon.new.self m in
+    let now = machine_view c.end_step_soon.new.self m in
     let frame : slice_get m.frames 0 ≡ Some (Clear e.back e.waiter e.object e.left) = c.last.ensures ∙ e.is ∙ ap Some e.field-0-is in
     let l = last_field out p.classes m c.in_default.ensures.last e.back e.waiter e.object e.left frame in
     let slot = c.in-Some-next_slot.slot in
@@ -124,7 +124,7 @@ clear-requires-clause-field g c =
     let out = g.S.Store.out in
     let p = program_of c.args.code.now in
     let m = c.end_step_soon.new.objects in
-    let now = spot c.end_step_soon.new.self m in
+    let now = machine_view c.end_step_soon.new.self m in
     let frame : slice_get m.frames 0 ≡ Some (Clear e.back e.waiter e.object e.left) = c.last.ensures ∙ e.is ∙ ap Some e.field-0-is in
     let l = last_field out p.classes m c.in_default.ensures.last e.back e.waiter e.object e.left frame in
     let slot = c.in-Some-next_slot.slot in
@@ -137,7 +137,7 @@ begin_end-requires-clause-some g c =
     let out = g.S.Store.out in
     let p = program_of c.args.code.now in
     let m = c.end_step_soon.new.objects in
-    let now = spot c.end_step_soon.new.self m in
+    let now = machine_view c.end_step_soon.new.self m in
     let frame : slice_get m.frames 0 ≡ Some (Clear e.back e.waiter e.object e.left) = c.last.ensures ∙ e.is ∙ ap Some e.field-0-is in
     let l = last_field out p.classes m c.in_default.ensures.last e.back e.waiter e.object e.left frame in
     let slot = c.in-Some-next_slot.slot in
@@ -150,7 +150,7 @@ begin_end-requires-clause-object g c =
     let out = g.S.Store.out in
     let p = program_of c.args.code.now in
     let m = c.end_step_soon.new.objects in
-    let now = spot c.end_step_soon.new.self m in
+    let now = machine_view c.end_step_soon.new.self m in
     let frame : slice_get m.frames 0 ≡ Some (Clear e.back e.waiter e.object e.left) = c.last.ensures ∙ e.is ∙ ap Some e.field-0-is in
     let l = last_field out p.classes m c.in_default.ensures.last e.back e.waiter e.object e.left frame in
     let ready : Ready out p EndStep now = subst (λ x. Ready out p EndStep x) (sym c.in_default.ensures.went.1) c.requires.ready in
@@ -166,7 +166,7 @@ returns-clause-went g c =
     let out = g.S.Store.out in
     let p = program_of c.args.code.now in
     let m = c.end_step_soon.new.objects in
-    let now = spot c.end_step_soon.new.self m in
+    let now = machine_view c.end_step_soon.new.self m in
     let frame : slice_get m.frames 0 ≡ Some (Clear e.back e.waiter e.object e.left) = c.last.ensures ∙ e.is ∙ ap Some e.field-0-is in
     let l = last_field out p.classes m c.in_default.ensures.last e.back e.waiter e.object e.left frame in
     let ready : Ready out p EndStep now = subst (λ x. Ready out p EndStep x) (sym c.in_default.ensures.went.1) c.requires.ready in
@@ -175,8 +175,8 @@ returns-clause-went g c =
     let all_decoded = reported_again out p.classes m e.object e.left l slot c.field_name-before.result means c.field_name-before.ensures in
     let last : LastField out p.classes m e.object e.left = record { slot = slot; next = means; name = c.field_name-before.result; named = all_decoded.0; last = all_decoded.1 } in
     let mid = c.clear.new.objects in
-    let new = spot c.begin_end.new.self c.begin_end.new.objects in
+    let new = machine_view c.begin_end.new.self c.begin_end.new.objects in
     let turn = c.begin_end in
     let level = last_level out p now e.back e.waiter e.object e.left frame ready last mid c.clear.ensures true (sym c.have_level.ensures ∙ c.if-not-have_level.false) in
-    executed out p (spot c.args.self.now c.args.objects.now) now new Going turn.result.answer turn.result.event turn.result.event c.in_default.ensures.went.1 turn.ensures.answer refl
+    executed out p (machine_view c.args.self.now c.args.objects.now) now new Going turn.result.answer turn.result.event turn.result.event c.in_default.ensures.went.1 turn.ensures.answer refl
     (last_begins out p now e.back e.waiter e.object e.left frame last mid c.clear.ensures level new turn.result.event turn.ensures.at (ap (λ (x : Pile ℤ). x.items) turn.ensures.stack) turn.ensures.begins)

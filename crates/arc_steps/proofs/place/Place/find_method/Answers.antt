@@ -6,10 +6,10 @@ use Rattle.arc_spec.specs.Classes.{classes_of, class_at, lookup}
 use Rattle.arc_code.specs.declared.instr.Op.TheVariants.{Finds}
 use Rattle.arc_code.specs.declared.instr.Instr.TheVariants.{Plain}
 use Rattle.arc_code.specs.Instructions.{one_if}
-use Rattle.arc_code.specs.Running.{program_of}
-use Rattle.arc_steps.specs.Places.{spot}
-use Rattle.arc_steps.proofs.Finding.{finds_went}
-use Rattle.arc_steps.proofs.Needs.{Needs, ready_needs}
+use Rattle.arc_code.specs.CodeSteps.{program_of}
+use Rattle.arc_steps.specs.Places.{machine_view}
+use Rattle.arc_steps.proofs.MethodTestSimulation.{finds_went}
+use Rattle.arc_steps.proofs.StackPreconditions.{Needs, ready_needs}
 use Rattle.arc_steps.proofs.place.Place.find_method.Goals as goal
 
 byte_is : (b : Bool) → pos (bool_byte b) ≡ one_if b
@@ -18,12 +18,12 @@ byte_is false = refl
 
 pub top-requires : goal.top-requires
 top-requires g c =
-    let needs : Needs (Plain (Finds c.args.selector)) (program_of c.args.code.now) c.args.self.now.stack.items = ready_needs g.S.Store.out (program_of c.args.code.now) (Plain (Finds c.args.selector)) (spot c.args.self.now c.args._objects.now) c.requires.ready in
+    let needs : Needs (Plain (Finds c.args.selector)) (program_of c.args.code.now) c.args.self.now.stack.items = ready_needs g.S.Store.out (program_of c.args.code.now) (Plain (Finds c.args.selector)) (machine_view c.args.self.now c.args._objects.now) c.requires.ready in
     omega (arith, needs)
 
 pub push-requires : goal.push-requires
 push-requires g c =
-    let needs : Needs (Plain (Finds c.args.selector)) (program_of c.args.code.now) c.args.self.now.stack.items = ready_needs g.S.Store.out (program_of c.args.code.now) (Plain (Finds c.args.selector)) (spot c.args.self.now c.args._objects.now) c.requires.ready in
+    let needs : Needs (Plain (Finds c.args.selector)) (program_of c.args.code.now) c.args.self.now.stack.items = ready_needs g.S.Store.out (program_of c.args.code.now) (Plain (Finds c.args.selector)) (machine_view c.args.self.now c.args._objects.now) c.requires.ready in
     omega (arith, needs, c.requires.room)
 
 pub returns-clause-went : goal.returns-clause-went
@@ -33,5 +33,5 @@ returns-clause-went g c =
     let found : c.look_up-found.result ≡ lookup (classes_of c.args.code.now.classes.items) (class_at c.top.result) signs.Class c.args.selector 0 0 gives.Object =
     c.look_up-found.ensures ∙ ap (λ cs. lookup (classes_of cs) c.class_of-class.result signs.Class c.args.selector 0 0 gives.Object) c.deref.ensures.value
     ∙ ap (λ k. lookup (classes_of c.args.code.now.classes.items) k signs.Class c.args.selector 0 0 gives.Object) (c.class_of-class.ensures ∙ ap class_at (sym same)) in
-    finds_went g.S.Store.out (program_of c.args.code.now) (spot c.args.self.now c.args._objects.now) c.args.selector c.top.result c.top.ensures.0 c.look_up-found.result c.from.result _ c.top.ensures.1 found
+    finds_went g.S.Store.out (program_of c.args.code.now) (machine_view c.args.self.now c.args._objects.now) c.args.selector c.top.result c.top.ensures.0 c.look_up-found.result c.from.result _ c.top.ensures.1 found
     (c.from.ensures ∙ byte_is c.is_some.result ∙ ap one_if c.is_some.ensures) refl (ap (λ x. x.items) c.push.ensures.value ∙ ap (λ n. n ∷ c.args.self.now.stack.items) (sym number)) refl

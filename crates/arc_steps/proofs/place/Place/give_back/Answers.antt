@@ -1,5 +1,5 @@
 use Rattle.std.proofs.Common.{ap, length, arith}
-use Rattle.arc_cells.specs.Standing.{Memory}
+use Rattle.arc_cells.specs.Representation.{Memory}
 use Rattle.arc_steps.proofs.place.Place.give_back.Goals as goal
 
 pub raise-requires-clause-fits : goal.raise-requires-clause-fits

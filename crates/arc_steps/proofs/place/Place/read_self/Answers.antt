@@ -1,39 +1,39 @@
 use Rattle.std.proofs.Common.{◌∷◌, ap, refl, ◌∙◌, length, arith, ◌<◌, ◌-◌, ◌^◌, subst}
 use Rattle.arc_code.specs.declared.instr.Op.TheVariants.{ReadSelf}
 use Rattle.arc_code.specs.declared.instr.Instr.TheVariants.{Plain}
-use Rattle.arc_code.specs.Running.{program_of}
+use Rattle.arc_code.specs.CodeSteps.{program_of}
 use Rattle.arc_heap.specs.Blocks.{Blocks}
 use Rattle.arc_cells.specs.Cells.{Cell, IsCell}
-use Rattle.arc_cells.specs.Standing.{NamesBlock, with_names}
-use Rattle.arc_steps.specs.Places.{spot}
-use Rattle.arc_steps.proofs.Holdings.{self_taking, taking_needs, taking_went}
-use Rattle.arc_steps.proofs.Taken.{same_blocks, without, counted, taken}
+use Rattle.arc_cells.specs.Representation.{NamesBlock, with_names}
+use Rattle.arc_steps.specs.Places.{machine_view}
+use Rattle.arc_steps.proofs.ReferenceSimulation.{self_taking, taking_needs, taking_went}
+use Rattle.arc_steps.proofs.TakeCommutesWithCount.{same_blocks, without, counted, taken}
 use Rattle.arc_steps.proofs.place.Place.read_self.Goals as goal
 
 pub raise-requires-clause-object : goal.raise-requires-clause-object
 raise-requires-clause-object g c = subst (λ (b : Blocks). NamesBlock b c.receiver-object.result) (same_blocks g.S.Store.out c.args.objects.now c.receiver-object.result (c.receiver-object.result ∷ c.args.objects.now.names) c.name.new.self (c.name.ensures ∙ ap (λ x. with_names x (c.receiver-object.result ∷ x.names)) c.push.ensures))
-    (taking_needs g.S.Store.out (program_of c.args.code.now) (spot c.args.self.now c.args.objects.now) (Plain ReadSelf) c.receiver-object.result (c.receiver-object.result ∷ c.args.objects.now.names) (self_taking g.S.Store.out (program_of c.args.code.now) (spot c.args.self.now c.args.objects.now) _ c.receiver-object.ensures) c.requires.few (omega arith)).0
+    (taking_needs g.S.Store.out (program_of c.args.code.now) (machine_view c.args.self.now c.args.objects.now) (Plain ReadSelf) c.receiver-object.result (c.receiver-object.result ∷ c.args.objects.now.names) (self_taking g.S.Store.out (program_of c.args.code.now) (machine_view c.args.self.now c.args.objects.now) _ c.receiver-object.ensures) c.requires.few (omega arith)).0
 
 pub raise-requires-clause-fits : goal.raise-requires-clause-fits
 raise-requires-clause-fits g c = subst (λ (b : Blocks). 0 < c.receiver-object.result → (cell : Cell) → IsCell b c.receiver-object.result cell → cell.count < 2 ^ 64 - 1) (same_blocks g.S.Store.out c.args.objects.now c.receiver-object.result (c.receiver-object.result ∷ c.args.objects.now.names) c.name.new.self (c.name.ensures ∙ ap (λ x. with_names x (c.receiver-object.result ∷ x.names)) c.push.ensures))
-    (taking_needs g.S.Store.out (program_of c.args.code.now) (spot c.args.self.now c.args.objects.now) (Plain ReadSelf) c.receiver-object.result (c.receiver-object.result ∷ c.args.objects.now.names) (self_taking g.S.Store.out (program_of c.args.code.now) (spot c.args.self.now c.args.objects.now) _ c.receiver-object.ensures) c.requires.few (omega arith)).1
+    (taking_needs g.S.Store.out (program_of c.args.code.now) (machine_view c.args.self.now c.args.objects.now) (Plain ReadSelf) c.receiver-object.result (c.receiver-object.result ∷ c.args.objects.now.names) (self_taking g.S.Store.out (program_of c.args.code.now) (machine_view c.args.self.now c.args.objects.now) _ c.receiver-object.ensures) c.requires.few (omega arith)).1
 
 pub push-requires-clause-few : goal.push-requires-clause-few
-push-requires-clause-few g c = (taking_needs g.S.Store.out (program_of c.args.code.now) (spot c.args.self.now c.args.objects.now) (Plain ReadSelf) c.receiver-object.result (c.receiver-object.result ∷ c.args.objects.now.names) (self_taking g.S.Store.out (program_of c.args.code.now) (spot c.args.self.now c.args.objects.now) _ c.receiver-object.ensures) c.requires.few (omega arith)).2
+push-requires-clause-few g c = (taking_needs g.S.Store.out (program_of c.args.code.now) (machine_view c.args.self.now c.args.objects.now) (Plain ReadSelf) c.receiver-object.result (c.receiver-object.result ∷ c.args.objects.now.names) (self_taking g.S.Store.out (program_of c.args.code.now) (machine_view c.args.self.now c.args.objects.now) _ c.receiver-object.ensures) c.requires.few (omega arith)).2
 
 pub push-requires-clause-room : goal.push-requires-clause-room
 push-requires-clause-room g c =
-    let few = (taking_needs g.S.Store.out (program_of c.args.code.now) (spot c.args.self.now c.args.objects.now) (Plain ReadSelf) c.receiver-object.result (c.receiver-object.result ∷ c.args.objects.now.names) (self_taking g.S.Store.out (program_of c.args.code.now) (spot c.args.self.now c.args.objects.now) _ c.receiver-object.ensures) c.requires.few (omega arith)).3 in
+    let few = (taking_needs g.S.Store.out (program_of c.args.code.now) (machine_view c.args.self.now c.args.objects.now) (Plain ReadSelf) c.receiver-object.result (c.receiver-object.result ∷ c.args.objects.now.names) (self_taking g.S.Store.out (program_of c.args.code.now) (machine_view c.args.self.now c.args.objects.now) _ c.receiver-object.ensures) c.requires.few (omega arith)).3 in
     omega (arith, few, c.requires.places.places)
 
 pub name-requires : goal.name-requires
 name-requires g c =
-    let few = (taking_needs g.S.Store.out (program_of c.args.code.now) (spot c.args.self.now c.args.objects.now) (Plain ReadSelf) c.receiver-object.result (c.receiver-object.result ∷ c.args.objects.now.names) (self_taking g.S.Store.out (program_of c.args.code.now) (spot c.args.self.now c.args.objects.now) _ c.receiver-object.ensures) c.requires.few (omega arith)).4 in
+    let few = (taking_needs g.S.Store.out (program_of c.args.code.now) (machine_view c.args.self.now c.args.objects.now) (Plain ReadSelf) c.receiver-object.result (c.receiver-object.result ∷ c.args.objects.now.names) (self_taking g.S.Store.out (program_of c.args.code.now) (machine_view c.args.self.now c.args.objects.now) _ c.receiver-object.ensures) c.requires.few (omega arith)).4 in
     let same = ap (λ x. length x.names) c.push.ensures in
     let room = ap (λ x. x.names_room) c.push.ensures in
     omega (arith, few, same, room, c.requires.places.names)
 
 pub returns-clause-went : goal.returns-clause-went
-returns-clause-went g c = taking_went g.S.Store.out (program_of c.args.code.now) (spot c.args.self.now c.args.objects.now) (Plain ReadSelf) c.receiver-object.result (c.receiver-object.result ∷ c.args.objects.now.names) (self_taking g.S.Store.out (program_of c.args.code.now) (spot c.args.self.now c.args.objects.now) _ c.receiver-object.ensures)
+returns-clause-went g c = taking_went g.S.Store.out (program_of c.args.code.now) (machine_view c.args.self.now c.args.objects.now) (Plain ReadSelf) c.receiver-object.result (c.receiver-object.result ∷ c.args.objects.now.names) (self_taking g.S.Store.out (program_of c.args.code.now) (machine_view c.args.self.now c.args.objects.now) _ c.receiver-object.ensures)
     (without g.S.Store.out c.args.objects.now c.receiver-object.result (c.receiver-object.result ∷ c.args.objects.now.names) c.name.new.self (c.name.ensures ∙ ap (λ x. with_names x (c.receiver-object.result ∷ x.names)) c.push.ensures) c.raise.new.self c.raise.ensures) (counted g.S.Store.out c.args.objects.now c.receiver-object.result (c.receiver-object.result ∷ c.args.objects.now.names) c.name.new.self (c.name.ensures ∙ ap (λ x. with_names x (c.receiver-object.result ∷ x.names)) c.push.ensures) c.raise.new.self c.raise.ensures)
     _ refl refl (taken g.S.Store.out c.args.objects.now c.receiver-object.result (c.receiver-object.result ∷ c.args.objects.now.names) c.name.new.self (c.name.ensures ∙ ap (λ x. with_names x (c.receiver-object.result ∷ x.names)) c.push.ensures) c.raise.new.self c.raise.ensures)

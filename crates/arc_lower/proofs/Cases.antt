@@ -1,6 +1,0 @@
--- Proofs by the cases of a test.
-use Rattle.std.proofs.Common.{◌≡◌, Bool, true, false, refl}
-
-pub by_test : (P : Bool → Type 0) (t : Bool) → (t ≡ true → P true) → (t ≡ false → P false) → P t
-by_test P true holds fails = holds refl
-by_test P false holds fails = fails refl

@@ -1,0 +1,357 @@
+-- Simulation of a function: a run does what its body means, empties its variables, and returns to what waited for it.
+use Rattle.std.proofs.Common.{◌≡◌, ℕ, zero, suc, ◌+◌, ◌-◌, ◌≤◌, ◌<◌, ℤ, pos, Bool, true, false, not, ◌&&◌, ◌||◌, if◌then◌else◌, List, [], ◌∷◌, ◌++◌, length, take, Some, None, slice_get, slice_set, refl, sym, ap, ◌∙◌, subst, arith, length-append}
+use Rattle.std.proofs.lemmas.Bool.{eq-eqb, and_from, true≢false}
+use Rattle.std.proofs.lemmas.List.{append-nil}
+use Rattle.std.proofs.Math.Seq.{take-nil}
+use Rattle.std.proofs.lemmas.Bool.Decides.{nat_tests}
+use Rattle.arc_ast.specs.declared.tree.Moment.{Moment}
+use Rattle.arc_spec.specs.declared.class.Gives.{Gives}
+use Rattle.arc_spec.specs.declared.event.Event.{Event}
+use Rattle.arc_spec.specs.declared.class.Gives.TheVariants as gives
+use Rattle.arc_spec.specs.Classes.{lesser, same_gives}
+use Rattle.arc_spec.specs.Objects.{nils, object_at, is_live, names, field_places}
+use Rattle.arc_spec.specs.Resolved.{Value, Command, Sequence, If, While, Break, Continue, Commands, no_commands, and_command}
+use Rattle.arc_spec.specs.Resolved as resolved
+use Rattle.arc_spec.specs.Meaning.{Callees, Flow, given, answer, released, all_dropped, variables_dropped, function_places, called, all_executed}
+use Rattle.arc_spec.specs.World as world
+use Rattle.arc_spec.specs.World.{World, Outcome, Done, finished, then_do, Given, stacked, places, name_at, first_frame, and_self, takes, entered, left, padded}
+use Rattle.arc_spec.specs.HolderCounts.{Heap, ReturnFrame, Calling, Ending, Clearing, all_nil, on_left, on_last, on_result, with_variables}
+use Rattle.arc_spec.specs.SmallSteps.{Next, Reached, follow}
+use Rattle.arc_code.specs.Instructions as instructions
+use Rattle.arc_ir.specs.ActionSteps.{Program, State}
+use Rattle.arc_ir.specs.ActionSteps as acting
+use Rattle.arc_code.specs.declared.instr.Op.TheVariants.{Declare, Forget, ReadSelf}
+use Rattle.arc_code.specs.declared.instr.Instr.TheVariants.{Plain, StoreStrong, DropAll, Return}
+use Rattle.arc_code.specs.declared.instr.Instr.TheVariants as instrs
+use Rattle.arc_lower.specs.PlainActions.{PlainAction}
+use Rattle.arc_lower.specs.Lowered.{all_empty_actions, keep_actions, leaving_action, leave_actions, declare_actions, take_actions, own_actions, opening_actions, no_turn, Between, Block, Clear, Then, Quit, Advance, flat, full_expression_block, nothing_given, loop_block, command_block, commands_block, body_block, body_actions}
+use Rattle.arc_lower.specs.Size.{object_parameters, does_nothing}
+use Rattle.arc_lower.proofs.RunsCompose.{running, Follows, After, ends, leads, on, quietly, steps, done_then, next, shows_nothing}
+use Rattle.arc_lower.proofs.RunsCompose.{Crosses, one_crosses, then_crosses, no_crosses}
+use Rattle.arc_lower.proofs.RecountedSteps.{recount, at, held_of, bare, HasAt, has_front, has_back}
+use Rattle.arc_lower.proofs.StackAccess.{onto, front_of, padded_length, get_below, set_below, keeps_pass}
+use Rattle.arc_lower.proofs.ReleaseSimulation.{Kept, Stays, stuck, after_only, after_named, emptied, empties_by, dropped_runs}
+use Rattle.arc_lower.proofs.BlockMeaning.{push, Way, Out, left_by}
+use Rattle.arc_lower.proofs.StatementMeaning.{calm, body_is}
+use Rattle.arc_lower.proofs.BlocksWithoutTemporary.{takes_none}
+use Rattle.arc_lower.proofs.BlockSimulation.{Deep, Good, Leaves, emptied_good, kept_good, block_follows}
+
+nils_split : (a b n : ℕ) → a ≤ n → b ≡ n - a → nils n ≡ nils a ++ nils b
+nils_split zero b n le e = let same : n ≡ b = omega (arith, e) in ap nils same
+nils_split (suc a) b zero le e = absurd (omega (arith, le))
+nils_split (suc a) b (suc n) le e = ap (λ l. 0 ∷ l) (nils_split a b n (omega (arith, le)) (omega (arith, e)))
+
+fewest : (a b : ℕ) → (lesser a b ≤ a) × (lesser a b ≤ b) × (lesser a b < b → a ≡ lesser a b)
+fewest a b = (grind (arith, nat_tests), grind (arith, nat_tests), grind (arith, nat_tests))
+
+nil_there : (n : ℕ) (tail : List ℕ) → slice_get (nils (suc n) ++ tail) n ≡ Some 0
+nil_there zero tail = refl
+nil_there (suc n) tail = nil_there n tail
+
+nil_set : (n : ℕ) (tail : List ℕ) (r : ℕ) → slice_set (nils (suc n) ++ tail) n r ≡ nils n ++ r ∷ tail
+nil_set zero tail r = refl
+nil_set (suc n) tail r = ap (λ l. 0 ∷ l) (nil_set n tail r)
+
+onto_back : (xs ys rest : List ℕ) → onto (onto xs ys) rest ≡ onto ys (xs ++ rest)
+onto_back [] ys rest = refl
+onto_back (x ∷ xs) ys rest = onto_back xs (x ∷ ys) rest
+
+-- no statement has a temporary after it
+loop_quiet : (R : resolved.Program) (moment : Moment) (without_step : Bool) (step body : Block) (test : Value) → takes_none R step ≡ true → takes_none R body ≡ true → takes_none R (loop_block moment without_step step (full_expression_block test) body) ≡ true
+loop_quiet R moment true step body test e f = f
+loop_quiet R moment false step body test e f = and_from (takes_none R step) (takes_none R body) e f
+
+mutual
+  command_quiet : (R : resolved.Program) (exit : ℕ) (breaks continues : Block) → takes_none R breaks ≡ true → takes_none R continues ≡ true → (c : Command) → takes_none R (command_block exit breaks continues c) ≡ true
+  command_quiet R exit b n e f (Sequence first count all) = and_from (takes_none R (commands_block exit (Then (Clear first count) b) (Then (Clear first count) n) all)) true (commands_quiet R exit (Then (Clear first count) b) (Then (Clear first count) n) e f all) refl
+  command_quiet R exit b n e f (resolved.Return None) = refl
+  command_quiet R exit b n e f (If test x y) = and_from (takes_none R (command_block exit b n x)) (takes_none R (command_block exit b n y)) (command_quiet R exit b n e f x) (command_quiet R exit b n e f y)
+  command_quiet R exit b n e f (While moment test step body) = loop_quiet R moment (does_nothing step) (command_block exit b n step) (command_block exit Quit Advance body) test (command_quiet R exit b n e f step) (command_quiet R exit Quit Advance refl refl body)
+  command_quiet R exit b n e f Break = e
+  command_quiet R exit b n e f Continue = f
+  command_quiet R exit b n e f _ = refl
+
+  commands_quiet : (R : resolved.Program) (exit : ℕ) (breaks continues : Block) → takes_none R breaks ≡ true → takes_none R continues ≡ true → (all : Commands) → takes_none R (commands_block exit breaks continues all) ≡ true
+  commands_quiet R exit b n e f no_commands = refl
+  commands_quiet R exit b n e f (and_command c others) = and_from (takes_none R (command_block exit b n c)) (takes_none R (commands_block exit b n others)) (command_quiet R exit b n e f c) (commands_quiet R exit b n e f others)
+
+-- what a run does of what is left in some way
+ways_back : {A : Type 0} {p : Program} {bound : ℕ} {r : Reached State} {end : Way → World → Reached State → Type 0} (way : A → Way) (o : Outcome A)
+    → Follows p bound r end (left_by way o) → Follows p bound r (λ a w to. end (way a) w to) o
+ways_back way (Done a w) h = record { runs = h.runs }
+ways_back way _ h = record { runs = h.runs }
+
+-- the answer of a function, by the number with which it is left
+abbrev answer_with : resolved.Function → ℤ → World → world.Answer
+answer_with F v w = record { number = v; object = name_at w.frame.strong F.names }
+
+given_later : (D : Callees) (F : resolved.Function) (before : World) (o : Outcome Flow) → then_do (then_do o (λ flow w. Done (given flow) w)) (λ v w. then_do (variables_dropped D 0 F.names w) (λ _ w2. Done (answer_with F v w2) (left before w2))) ≡ then_do o (λ flow w. then_do (variables_dropped D 0 F.names w) (λ _ w2. Done (answer F flow w2) (left before w2)))
+given_later D F before (Done flow w) = refl
+given_later D F before _ = refl
+
+-- what another place names doesn't end where one place names it no more
+released_named : (D : Callees) (r : ℕ) (w : World) → names r (places w) ≡ true → released D r w ≡ Done finished w
+released_named D r w e = ap (λ b. if is_live (object_at w.objects r) && not b then D.end_of r w else Done finished w) e ∙ by (is_live (object_at w.objects r))
+  where
+    by : (b : Bool) → (if b && false then D.end_of r w else Done finished w) ≡ Done finished w
+    by true = refl
+    by false = refl
+
+-- a function that was entered, and is left for what waited for it before
+module _ (p : Program) (frames : List ReturnFrame) (bound : ℕ) (R : resolved.Program) (F : resolved.Function) (self : ℕ) (before : World) (below : List ℤ) (rs : List ℕ) (D : Callees) (deep : Deep p frames bound R D) (exit : ℕ) where
+  abbrev Fine : Bool → World → Type 0
+  Fine c w = Good p frames bound R F.slots (function_places F) self (stacked before) below D deep c w
+
+  abbrev vars : World → List ℤ
+  vars w = onto w.frame.locals below
+
+  -- what the function keeps once its own variables are no more
+  abbrev pub bared : World → World
+  bared w = record w { frame = record first_frame { self = self }; waiting = stacked before }
+
+  -- what leaves a function
+  abbrev pub leaves_with : (wanted : Gives) → State → List ReturnFrame → world.Answer → Heap → Next State
+  leaves_with gives.Number s fs a h = acting.leaves p s fs a.number below h
+  leaves_with gives.Object s fs a h = instructions.hands_over (bare p) s fs a.object below h
+
+  -- the last step of a function
+  abbrev pub leaving : (wanted : Gives) → world.Answer → World → Reached State
+  leaving wanted a w = follow (recount (leaves_with wanted (at frames 0 (a.number ∷ below) (held_of rs (bared w))) frames a (held_of rs (bared w)))) w.input w.trace
+
+  abbrev pub Left : (wanted : Gives) → world.Answer → World → Reached State → Type 0
+  Left wanted a w to = (to ≡ leaving wanted a w) × Kept before w
+
+  -- how a function is left doesn't depend on the counts, nor on where it is left
+  counts_aside : (wanted : Gives) (fs : List ReturnFrame) (pc : ℕ) (stack : List ℤ) (held other h : Heap) (c : ℕ → ℕ) (a : world.Answer) → recount (leaves_with wanted (at frames pc stack held) fs a h) ≡ recount (leaves_with wanted (at frames 0 stack other) fs a (record h { counts = c }))
+  counts_aside gives.Number (Calling back waits ∷ fs) pc stack held other h c a = refl
+  counts_aside gives.Number (Ending back waits o next n ∷ fs) pc stack held other h c a = refl
+  counts_aside gives.Number (Clearing back waits o fields ∷ fs) pc stack held other h c a = refl
+  counts_aside gives.Object (Calling back waits ∷ fs) pc stack held other h c a = refl
+  counts_aside _ _ pc stack held other h c a = refl
+
+  bared_leaves : (wanted : Gives) (a : world.Answer) (w : World) (pc : ℕ) → Fine false w → w.frame.temporaries ≡ []
+      → recount (leaves_with wanted (at frames pc (a.number ∷ below) (held_of rs w)) frames a (with_variables (held_of rs w) []))
+      ≡ recount (leaves_with wanted (at frames 0 (a.number ∷ below) (held_of rs (bared w))) frames a (held_of rs (bared w)))
+  bared_leaves wanted a w pc g none =
+      counts_aside wanted frames pc (a.number ∷ below) (held_of rs w) (held_of rs (bared w)) (with_variables (held_of rs w) [])
+      (held_of rs (bared w)).counts a ∙ rw (none, g.0.itself, g.0.waits)
+
+  module _ {A : Type 0} {i : List ℕ} {t : List Event} {end : A → World → Reached State → Type 0} {o : Outcome A} where
+    -- a function is left only without temporaries
+    left_runs : (ts : List ℕ) (h : Heap) (go : Heap → Next State) → (ts ≡ [] → After p bound (go (with_variables h [])) i t end o)
+        → After p bound (on_left ts h go) i t end o
+    left_runs [] h go next = after_only (all_nil h.variables) (next refl)
+    left_runs (r ∷ others) h go next = stuck
+
+    -- the last variable is the result
+    last_runs : (variables : List ℕ) (n : ℕ) (go : ℕ → Next State) → length variables ≡ suc n
+        → After p bound (go (name_at variables n)) i t end o → After p bound (on_last variables go) i t end o
+    last_runs (r ∷ []) zero go size next = next
+    last_runs (zero ∷ q ∷ others) (suc n) go size next = last_runs (q ∷ others) n go (omega (arith, size)) next
+    last_runs (suc k ∷ q ∷ others) n go size next = stuck
+    last_runs _ _ go size next = absurd (omega (arith, size))
+
+    result_runs : (ts : List ℕ) (h : Heap) (n : ℕ) (go : ℕ → Heap → Next State) → length h.variables ≡ suc n
+        → (ts ≡ [] → After p bound (go (name_at h.variables n) (with_variables h [])) i t end o)
+        → After p bound (on_result ts h go) i t end o
+    result_runs [] h n go size next = last_runs h.variables n (λ r. go r (with_variables h [])) size (next refl)
+    result_runs (r ∷ others) h n go size next = stuck
+
+  left_there : (wanted : Gives) (v : ℤ) (w : World) (pc : ℕ) → Fine false w → w.frame.temporaries ≡ []
+      → After p bound (leaves_with wanted (at frames pc (v ∷ below) (held_of rs w)) frames (answer_with F v w) (with_variables (held_of rs w) []))
+      w.input w.trace (Left wanted) (Done (answer_with F v w) (left before w))
+  left_there wanted v w pc g none = record {
+    follows = ends (ap (λ n. follow n w.input w.trace) (bared_leaves wanted (answer_with F v w) w pc g none), record { frame = refl; waiting = refl });
+  }
+
+  -- the last action of a function
+  last_step_runs : (wanted : Gives) (v : ℤ) (w : World) (pc : ℕ) → Fine false w
+      → length w.frame.strong ≡ (if same_gives wanted gives.Object then suc F.names else F.names) → HasAt p pc (leaving_action wanted ∷ [])
+      → Follows p bound (running frames rs pc (v ∷ below) w) (Left wanted) (Done (answer_with F v w) (left before w))
+  last_step_runs gives.Number v w pc g size has =
+      steps Return has.0 (left_runs w.frame.temporaries (held_of rs w) _ (left_there gives.Number v w pc g))
+  last_step_runs gives.Object v w pc g size has =
+      steps instrs.Give has.0 (result_runs w.frame.temporaries (held_of rs w) F.names _ size (left_there gives.Object v w pc g))
+
+  -- the variables are emptied, and the result is put in their place
+  leave_runs : (v : ℤ) (w : World) → Fine false w → HasAt p exit (leave_actions F)
+      → Follows p bound (running frames rs exit (v ∷ vars w) w) (Left F.gives)
+      (then_do (variables_dropped D 0 F.names w) (λ _ w2. Done (answer_with F v w2) (left before w2)))
+  leave_runs v w g has =
+      let count = function_places F in
+      let xs = all_empty_actions count 0 F.names in
+      let keep = keep_actions F.slots in
+      let last : List PlainAction = leaving_action F.gives ∷ [] in
+      let q = exit + length xs in
+      let later = has_back p exit xs (keep ++ last) has in
+      next (empties_by p frames bound rs D deep.ends count 0 F.names (v ∷ vars w) w exit g.0.strong (has_front p exit xs (keep ++ last) has)) (λ done w1 to m.
+      let g1 = kept_good p frames bound R F.slots count self (stacked before) below D deep false (emptied 0 F.names w) w1
+      (emptied_good p frames bound R F.slots count self (stacked before) below D deep false 0 F.names w g) m.1 in
+      let kept = rw g.0.locals at (keeps_pass p frames rs w.frame.locals below v w1) in
+      on m.0 (leads (kept.leads q (has_front p q keep last later))
+      (last_step_runs F.gives v w1 (q + length keep) g1 g1.0.strong (has_back p q keep last later))))
+
+  -- ---- the beginning
+
+  -- the function as it begins, with so many variables that are nil, and others
+  abbrev begun_with : Given → (strong : List ℕ) → World
+  begun_with given_to strong = record before { frame = record { self = self; locals = padded (pos 0) F.slots given_to.numbers; strong = strong; temporaries = [] }; waiting = stacked before }
+
+  declares_pass : (n m : ℕ) (given_to : Given) (names1 : List ℕ) (stack : List ℤ)
+      → Crosses p frames (declare_actions n) names1 stack (begun_with given_to (nils m)) names1 stack (begun_with given_to (nils (n + m)))
+  declares_pass zero m given_to names1 stack = let e : 0 + m ≡ m = omega arith in rw e no_crosses
+  declares_pass (suc n) m given_to names1 stack =
+      let e : suc n + m ≡ n + suc m = omega arith in
+      rw e (then_crosses {xs = Plain Declare ∷ []} (one_crosses {w' = begun_with given_to (nils (suc m))} (λ pc. shows_nothing))
+      (declares_pass n (suc m) given_to names1 stack))
+
+  module _ {A : Type 0} {end : A → World → Reached State → Type 0} {o : Outcome A} where
+    -- after these variables the next ones take what the last references name, the last one first
+    takes_run : (head : List ℕ) (n : ℕ) (last tail : List ℕ) (given_to : Given) (stack : List ℤ) (pc : ℕ) → length last ≡ n
+        → HasAt p pc (take_actions (length head) n)
+        → Follows p bound (running frames rs (pc + length (take_actions (length head) n)) stack (begun_with given_to (head ++ onto last tail))) end o
+        → Follows p bound (running frames (last ++ rs) pc stack (begun_with given_to (head ++ (nils n ++ tail)))) end o
+    takes_run head zero [] tail given_to stack pc size has go = let e : pc ≡ pc + 0 = omega arith in rw e go
+    takes_run head (suc n) (r ∷ last) tail given_to stack pc size has go =
+        let k = length head in
+        let begin = head ++ (nils (suc n) ++ tail) in
+        let found : slice_get begin (k + n) ≡ Some 0 = get_below head (nils (suc n) ++ tail) n ∙ nil_there n tail in
+        let set : slice_set begin (k + n) r ≡ head ++ (nils n ++ r ∷ tail) =
+        set_below head (nils (suc n) ++ tail) n r ∙ ap (λ l. head ++ l) (nil_set n tail r) in
+        let place : pc + 1 + 1 + length (take_actions k n) ≡ pc + length (take_actions k (suc n)) = omega arith in
+        steps (StoreStrong (k + n)) has.0 (rw found (after_named r _ (rw set (quietly (steps (Plain Forget) has.1.0 (quietly
+        (takes_run head n last (r ∷ tail) given_to stack (pc + 1 + 1) (omega (arith, size)) has.1.1 (rw place go))))))))
+    takes_run head _ _ tail given_to stack pc size has go = absurd (omega (arith, size))
+
+    -- the variables are declared, and after these the next ones take what the function was given
+    declared_run : (head : List ℕ) (count few more : ℕ) (given_to : Given) (stack : List ℤ) (entry : ℕ) (later : List PlainAction)
+        → nils count ≡ head ++ (nils few ++ nils more) → HasAt p entry (declare_actions count ++ (take_actions (length head) few ++ later))
+        → (HasAt p (entry + length (declare_actions count) + length (take_actions (length head) few)) later
+        → Follows p bound (running frames rs (entry + length (declare_actions count) + length (take_actions (length head) few)) stack
+        (begun_with given_to (head ++ (padded 0 few given_to.objects ++ nils more)))) end o)
+        → Follows p bound (running frames (onto (padded 0 few given_to.objects) rs) entry stack (begun_with given_to [])) end o
+    declared_run head count few more given_to stack entry later parts has go =
+        let objects = padded 0 few given_to.objects in
+        let f = front_of objects in
+        let declares = declare_actions count in
+        let takes1 = take_actions (length head) few in
+        let middle = entry + length declares in
+        let rest = has_back p entry declares (takes1 ++ later) has in
+        let all : count + 0 ≡ count = omega arith in
+        let back : onto f.front (nils more) ≡ objects ++ nils more = ap (λ l. onto l (nils more)) (sym (append-nil f.front) ∙ sym (f.is []))
+        ∙ onto_back objects [] (nils more) in
+        leads ((declares_pass count 0 given_to (onto objects rs) stack).leads entry (has_front p entry declares (takes1 ++ later) has))
+        (rw (all, parts, f.is rs) (takes_run head few f.front (nils more) given_to stack middle (f.size ∙ padded_length 0 few given_to.objects)
+        (has_front p middle takes1 later rest) (rw back (go (has_back p middle takes1 later rest)))))
+
+    -- the first variable takes `self`, and holds it where the temporary is dropped
+    owns_run : (tail : List ℕ) (given_to : Given) (stack : List ℤ) (pc : ℕ) → HasAt p pc (Plain ReadSelf ∷ StoreStrong 0 ∷ Plain Forget ∷ DropAll ∷ [])
+        → Follows p bound (running frames rs (pc + 1 + 1 + 1 + 1) stack (begun_with given_to (self ∷ tail))) end o
+        → Follows p bound (running frames rs pc stack (begun_with given_to (0 ∷ tail))) end o
+    owns_run tail given_to stack pc has go =
+        let w = begun_with given_to (self ∷ tail) in
+        let q = pc + 1 + 1 + 1 in
+        let others = (tail ++ stacked before) ++ (w.strong_globals ++ field_places w.objects) in
+        let held : released D self w ≡ Done finished w = released_named D self w (ap (λ b. b || names self others) (eq-eqb self self refl)) in
+        let none : all_dropped D (takes self w) ≡ Done finished w = ap (λ x. then_do x (λ _ w4. Done finished w4)) held in
+        let dropped = subst (Follows p bound (running frames rs q stack (takes self w)) (Stays frames rs stack (q + 1) w)) none
+        (dropped_runs p frames bound rs D deep.ends stack (takes self w) q has.1.1.1) in
+        steps (Plain ReadSelf) has.0 (after_named self _ (quietly (steps (StoreStrong 0) has.1.0 (after_named self _ (quietly
+        (steps (Plain Forget) has.1.1.0 (quietly (done_then dropped (λ to m. on m.0 go)))))))))
+
+  rest_nil : (k : ℕ) → nils k ≡ padded 0 k []
+  rest_nil zero = refl
+  rest_nil (suc k) = ap (λ l. 0 ∷ l) (rest_nil k)
+
+  -- what the first variables took, and nil for all others
+  firsts_are : (n more parameters : ℕ) (objects : List ℕ) → n ≤ parameters → (1 ≤ more → parameters ≡ n) → padded 0 n objects ++ nils more ≡ padded 0 (n + more) (take parameters objects)
+  firsts_are zero zero parameters objects le only = refl
+  firsts_are zero (suc more) parameters objects le only =
+      let none = only (omega arith) in
+      let size : suc more ≡ 0 + suc more = omega arith in
+      rest_nil (suc more) ∙ ap (λ k. padded 0 k (take 0 objects)) size ∙ ap (λ k. padded 0 (0 + suc more) (take k objects)) (sym none)
+  firsts_are (suc n) more zero objects le only = absurd (omega (arith, le))
+  firsts_are (suc n) more (suc parameters) [] le only =
+      let size : suc (n + more) ≡ suc n + more = omega arith in
+      ap (λ l. 0 ∷ l) (firsts_are n more parameters [] (omega (arith, le)) (λ some. let same = only some in omega (arith, same))) ∙ ap (λ l. padded 0 (suc (n + more)) (0 ∷ l)) (take-nil {A = ℕ} parameters) ∙ ap (λ k. padded 0 k []) size
+  firsts_are (suc n) more (suc parameters) (x ∷ objects) le only =
+      let size : suc (n + more) ≡ suc n + more = omega arith in
+      ap (λ l. x ∷ l) (firsts_are n more parameters objects (omega (arith, le)) (λ some. let same = only some in omega (arith, same))) ∙ ap (λ k. padded 0 k (x ∷ take parameters objects)) size
+
+  first_are : (n count parameters : ℕ) (objects : List ℕ) → n ≡ lesser parameters count → padded 0 n objects ++ nils (count - n) ≡ padded 0 count (take parameters objects)
+  first_are n count parameters objects e =
+      let parts = fewest parameters count in
+      let size : n + (count - n) ≡ count = omega (arith, e, parts.1) in
+      firsts_are n (count - n) parameters objects (omega (arith, e, parts.0)) (λ some. omega (arith, e, parts.2, some)) ∙ ap (λ k. padded 0 k (take parameters objects)) size
+
+  -- what a function begins with, where it owns `self` and where it doesn't
+  abbrev opens : (owns : Bool) → (count few : ℕ) → List PlainAction
+  opens owns count few = declare_actions count ++ (take_actions (if owns then 1 else 0) few ++ (if owns then own_actions count else []))
+
+  abbrev first_strong : (owns : Bool) → (count : ℕ) → Given → List ℕ
+  first_strong owns count arguments = padded 0 count (and_self owns self (take F.parameters arguments.objects))
+
+  opening_runs : {A : Type 0} {end : A → World → Reached State → Type 0} {o : Outcome A} (owns : Bool) (count few : ℕ) (arguments : Given) (stack : List ℤ)
+      (entry : ℕ) → few ≡ lesser F.parameters (count - (if owns then 1 else 0)) → HasAt p entry (opens owns count few)
+      → Follows p bound (running frames rs (entry + length (opens owns count few)) stack (begun_with arguments (first_strong owns count arguments))) end o
+      → Follows p bound (running frames (onto (padded 0 few arguments.objects) rs) entry stack (begun_with arguments [])) end o
+  opening_runs false count few arguments stack entry few_is has go =
+      let e : count - 0 ≡ count = omega arith in
+      let is : few ≡ lesser F.parameters count = few_is ∙ ap (lesser F.parameters) e in
+      let le : few ≤ count = omega (arith, is, (fewest F.parameters count).1) in
+      let declares = declare_actions count in
+      let takes1 = take_actions 0 few in
+      let there : entry + length declares + length takes1 ≡ entry + length (declares ++ (takes1 ++ [])) = omega
+      (arith, length-append declares (takes1 ++ []), length-append takes1 []) in
+      declared_run [] count few (count - few) arguments stack entry [] (nils_split few (count - few) count le refl) has
+      (λ last. rw (there, first_are few count F.parameters arguments.objects is) go)
+  opening_runs true zero few arguments stack entry few_is has go =
+      let e : 0 - 1 ≡ 0 = omega arith in
+      let is : few ≡ lesser F.parameters 0 = few_is ∙ ap (lesser F.parameters) e in
+      let none : few ≡ 0 = omega (arith, is, (fewest F.parameters 0).1) in
+      let here : entry ≡ entry + 0 = omega arith in
+      rw (none, here) (rw none at go)
+  opening_runs true (suc m) few arguments stack entry few_is has go =
+      let e : suc m - 1 ≡ m = omega arith in
+      let is : few ≡ lesser F.parameters m = few_is ∙ ap (lesser F.parameters) e in
+      let le : few ≤ m = omega (arith, is, (fewest F.parameters m).1) in
+      let declares = declare_actions (suc m) in
+      let takes1 = take_actions 1 few in
+      let owned = own_actions (suc m) in
+      let four : length owned ≡ 4 = refl in
+      let q = entry + length declares + length takes1 in
+      let there : q + 1 + 1 + 1 + 1 ≡ entry + length (declares ++ (takes1 ++ owned)) = omega
+      (arith, length-append declares (takes1 ++ owned), length-append takes1 owned, four) in
+      declared_run (0 ∷ []) (suc m) few (m - few) arguments stack entry owned (ap (λ l. 0 ∷ l) (nils_split few (m - few) m le refl)) has (λ last.
+      owns_run (padded 0 few arguments.objects ++ nils (m - few)) arguments stack q last (rw (there, first_are few m F.parameters arguments.objects is) go))
+
+  -- a function that is entered comes to its last step
+  pub function_runs : (entry : ℕ) (arguments : Given) → length (padded (pos 0) F.slots arguments.numbers) ≡ F.slots → HasAt p exit (leave_actions F)
+      → HasAt p entry (body_actions R exit entry F)
+      → Follows p bound (running frames (onto (padded 0 (object_parameters F) arguments.objects) rs) entry
+      (onto (padded (pos 0) F.slots arguments.numbers) below) (entered F.slots 0 0 false self arguments before)) (Left F.gives)
+      (called D bound F self arguments before)
+  function_runs entry arguments size leave has =
+      let count = function_places F in
+      let opening = opening_actions F in
+      let place = entry + length opening in
+      let b = body_block exit F.body in
+      let spot = Between place no_turn in
+      let xs = flat R F.slots count spot b in
+      let none_given = nothing_given exit in
+      let w0 = entered F.slots count F.parameters F.owns self arguments before in
+      let stack = onto (padded (pos 0) F.slots arguments.numbers) below in
+      let s = calm rs in
+      let strong : length w0.frame.strong ≡ count = padded_length 0 count (and_self F.owns self (take F.parameters arguments.objects)) in
+      let good : Fine true w0 = (record { locals = size; strong = strong; itself = refl; waits = refl }, λ x. refl) in
+      let end = Leaves p frames bound R F.slots count self (stacked before) below D deep no_turn true (place + length xs) in
+      let o = then_do (all_executed D bound F.body w0) (λ flow w1. Done (given flow) w1) in
+      let quiet_body = and_from (takes_none R (commands_block exit none_given none_given F.body)) true
+      (commands_quiet R exit none_given none_given refl refl F.body) refl in
+      let runs = block_follows p frames bound R F.slots count self (stacked before) below D deep {turn = no_turn} {calm = true} 0 spot true (λ x. x)
+      (λ x. absurd (true≢false x)) b (λ x. quiet_body) place refl s w0 good (has_back p entry opening xs has) in
+      let from = running frames rs place stack w0 in
+      opening_runs F.owns count (object_parameters F) arguments stack entry refl (has_front p entry opening xs has)
+      (subst (Follows p bound from (Left F.gives)) (given_later D F before (all_executed D bound F.body w0))
+      (next (ways_back {end = end} (λ v. Out exit (push v s)) o (subst (Follows p bound from end) (body_is D bound exit rs F.body w0) runs))
+      (λ v w1 to m. on m.0 (leave_runs v w1 m.1 leave))))

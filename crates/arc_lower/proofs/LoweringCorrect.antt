@@ -1,0 +1,128 @@
+-- The lowering is correct: runs that show what is meant behave as it is meant, and the actions of a checked program perform it.
+use Rattle.std.proofs.Common.{◌≡◌, ℕ, ◌≤◌, ◌<◌, List, Option, Some, None, refl, sym, ap, ◌∙◌, subst, arith, ⊎_elim, ◌+◌, ℤ, [], ◌∷◌, ◌++◌, length, length-append, le_of_eq, inl, inr}
+use Rattle.std.proofs.lemmas.Bool.{cases_lt}
+use Rattle.arc_spec.specs.Correctness.{IsPrefix, Stop, Observation, Behaves, Steady, meaning_seen, run_seen}
+use Rattle.arc_spec.proofs.RunsSteady.{prefix_refl, steady}
+use Rattle.arc_ast.specs.declared.tree.Kind.TheVariants as k
+use Rattle.arc_spec.specs.declared.class.Gives.TheVariants as gives
+use Rattle.arc_spec.specs.Number.{converted}
+use Rattle.arc_spec.specs.Resolved as resolved
+use Rattle.arc_spec.specs.World as world
+use Rattle.arc_spec.specs.World.{World, Outcome, Done, Faulted, Cut, first_frame, first_world, nothing_given}
+use Rattle.arc_spec.specs.Meaning.{mean}
+use Rattle.arc_spec.specs.HolderCounts.{all_nil, on_left}
+use Rattle.arc_spec.specs.SmallSteps.{Next, Reached, Running, Ends, Ended, only_if, after_steps}
+use Rattle.arc_ir.specs.ActionSteps.{Program, State, step, start, seen}
+use Rattle.arc_code.specs.declared.instr.Instr.TheVariants.{Call, Return, EndStep}
+use Rattle.arc_lower.specs.PlainActions.{plain_actions}
+use Rattle.arc_lower.specs.Lowered.{number_of, slots_of, parameters_of, passing_actions, lowered, entries_of, end_step_of, classes_linked}
+use Rattle.arc_lower.specs.LoweringContract.{Performs, IsLowered}
+use Rattle.arc_lower.proofs.RunsCompose.{Comes, Runs, running, Follows, ends, leads, on, moves_on, next}
+use Rattle.arc_lower.proofs.RecountedSteps.{fresh, recount, moves, held_of, HasAt, has_front, has_back}
+use Rattle.arc_lower.proofs.StackAccess.{passing_leads}
+use Rattle.arc_lower.proofs.StubLookup.{has_start, has_end, Linked, linked}
+use Rattle.arc_lower.proofs.CallSimulation.{calls_run}
+use Rattle.arc_lower.proofs.RecountedRunsAgree.{room_suffices, seen_moves, never_wedged}
+use Rattle.arc_spec.specs.declared.limits.TheConstants.{MOST_LEVELS}
+
+-- some steps show what is meant, and no fewer than the bound where that isn't over
+pub record Shows (seen : ℕ → Observation) (bound : ℕ) (meant : Observation) : Type 0 where
+  pub steps : ℕ
+  pub same : seen steps ≡ meant
+  pub enough : meant.stop ≡ None → bound ≤ steps
+
+module _ (meant seen : List ℕ → ℕ → Observation) (steady : Steady seen) (shows : (input : List ℕ) (n : ℕ) → Shows (seen input) n (meant input n)) where
+  -- after the steps that show it nothing changes
+  over_at : (input : List ℕ) (k : ℕ) (x : Option Stop) → (meant input k).stop ≡ x → (shows input k).steps < k → meant input k ≡ seen input k
+  over_at input k None e lt = let s = shows input k in absurd (omega (arith, s.enough e))
+  over_at input k (Some stop) e lt =
+      let s = shows input k in
+      sym s.same ∙ sym (steady.stays input s.steps k stop (omega arith) (ap (λ (x : Observation). x.stop) s.same ∙ e))
+
+  follows_at : (input : List ℕ) (k : ℕ) → IsPrefix (seen input k).trace (meant input k).trace
+  follows_at input k =
+      let s = shows input k in
+      ⊎_elim
+      (λ lt. subst (λ (x : Observation). IsPrefix (seen input k).trace x.trace) (sym (over_at input k (meant input k).stop refl lt)) (prefix_refl (seen input k).trace))
+      (λ le. subst (λ (x : Observation). IsPrefix (seen input k).trace x.trace) s.same (steady.grows input k s.steps (omega arith)))
+      (cases_lt s.steps k)
+
+  stops_at : (input : List ℕ) (k : ℕ) (stop : Stop) → (seen input k).stop ≡ Some stop → meant input k ≡ seen input k
+  stops_at input k stop over =
+      let s = shows input k in
+      ⊎_elim
+      (λ lt. over_at input k (meant input k).stop refl lt)
+      (λ le. sym s.same ∙ steady.stays input k s.steps stop (omega arith) over)
+      (cases_lt s.steps k)
+
+  pub behaves : Behaves meant seen
+  behaves = record {
+    follows = follows_at;
+    stops = stops_at;
+    comes = λ input n.
+        let s = shows input n in (
+          s.steps,
+          subst (λ (x : Observation). IsPrefix (meant input n).trace x.trace) (sym s.same) (prefix_refl (meant input n).trace),
+          λ stop over. s.same,
+        );
+  }
+
+-- ---- The actions of a checked program perform it.
+
+-- what is seen of a run that does what is meant
+abbrev Ends_with : ℤ → World → Reached State → Type 0
+Ends_with v w to = to ≡ Ended v w.input w.trace
+
+shows : (p : Program) (input : List ℕ) (bound : ℕ) (o : Outcome ℤ) → ((n : ℕ) → seen p input n ≡ run_seen (after_steps (moves p) n (Running (fresh (start p)) input []))) → Comes (moves p) bound (running [] [] 0 [] (first_world p.globals p.strong_globals input)) Ends_with o → Shows (seen p input) bound (meaning_seen o)
+shows p input bound (Done v w) alike r = record { steps = r.1.steps; same = alike r.1.steps ∙ ap run_seen (r.1.there ∙ r.2); enough = λ e. cc }
+shows p input bound (Faulted f w) alike r = record { steps = r.steps; same = alike r.steps ∙ ap run_seen r.there; enough = λ e. cc }
+shows p input bound (Cut w) alike r = record { steps = r.0; same = alike r.0 ∙ ap run_seen r.3; enough = λ e. r.2 }
+
+-- what begins is left where it has as few places as it began with
+main_ends : (v : ℤ) (w : World) → w.frame ≡ first_frame → recount (on_left w.frame.temporaries (held_of [] w) (λ h. Ends (converted k.Int v))) ≡ Ends (converted k.Int v)
+main_ends v w e =
+    let last : Next State = Ends (converted k.Int v) in
+    ap (λ (f : world.Activation). recount (on_left f.temporaries (held_of [] w) (λ h. last))) e ∙ ap (λ (f : world.Activation). recount (only_if (all_nil f.strong) last)) e
+
+module _ (p : Program) (R : resolved.Program) (is : plain_actions p.actions ≡ lowered R) (entries : p.entries ≡ entries_of R) (classes : p.classes ≡ classes_linked R) (end_at : p.end_step ≡ end_step_of R) where
+  links : Linked R p.classes
+  links = subst (Linked R) (sym classes) (linked R)
+
+  program_runs : (input : List ℕ) (bound : ℕ)
+      → Follows p bound (running [] [] 0 [] (first_world R.globals R.strong_globals input)) Ends_with (mean R input bound)
+  program_runs input bound =
+      let none : 0 + MOST_LEVELS ≡ MOST_LEVELS = omega arith in
+      let w = first_world R.globals R.strong_globals input in
+      let fits = passing_actions R gives.Number R.main 0 0 in
+      let call = Call (number_of R gives.Number R.main) gives.Number ∷ [] in
+      let last_actions = Return ∷ (EndStep ∷ []) in
+      let q = 0 + length fits in
+      let has = has_start p R is in
+      let has_call = has_front p 0 (fits ++ call) last_actions has in
+      let size : 0 + length (fits ++ call) ≡ q + 1 = omega (arith, length-append fits call) in
+      let last = subst (λ n. HasAt p n last_actions) size (has_back p 0 (fits ++ call) last_actions has) in
+      let ready = passing_leads p [] (slots_of R gives.Number R.main) (parameters_of R gives.Number R.main) 0 0 nothing_given [] [] w 0 refl refl
+      (has_front p 0 fits call has_call) in
+      let levels = calls_run p R bound is entries links (has_end p R is end_at) MOST_LEVELS [] none in
+      next (leads ready (levels.invokes gives.Number R.main nothing_given [] [] w q (has_back p 0 fits call has_call))) (λ a w1 to m.
+      on m.0 (moves_on {next = Ends (converted k.Int a.number)} (ap recount (last.0 [] (a.number ∷ []) (held_of [] w1)) ∙ main_ends a.number w1 m.1.frame)
+      (record { follows = ends refl })))
+
+  -- no step lacks what it needs
+  program_comes : (input : List ℕ) (bound : ℕ) → Runs (moves p) bound (running [] [] 0 [] (first_world p.globals p.strong_globals input)) Ends_with (mean R input bound) → Comes (moves p) bound (running [] [] 0 [] (first_world p.globals p.strong_globals input)) Ends_with (mean R input bound)
+  program_comes input bound (inl wedged) = absurd (never_wedged p R is entries classes end_at input wedged.0 wedged.1 wedged.2.steps wedged.2.there)
+  program_comes input bound (inr comes) = comes
+
+-- the actions that a program becomes perform it
+pub performs : (p : Program) (R : resolved.Program) → IsLowered R p → Performs R p
+performs p R is =
+    let calm = steady (step p) (start p) in
+    record {
+      behaves = behaves (λ input bound. meaning_seen (mean R input bound)) (seen p) calm
+          (λ input bound. shows p input bound (mean R input bound) (seen_moves p R is.actions is.entries is.classes is.end_step input) (program_comes p R is.actions is.entries is.classes is.end_step input bound
+          (subst (λ globals. Runs (moves p) bound (running [] [] 0 [] (first_world globals p.strong_globals input)) Ends_with (mean R input bound)) (sym is.globals)
+          (subst (λ n. Runs (moves p) bound (running [] [] 0 [] (first_world R.globals n input)) Ends_with (mean R input bound)) (sym is.strong_globals)
+          (program_runs p R is.actions is.entries is.classes is.end_step input bound).runs))));
+      steady = calm;
+      sound = room_suffices p R is.actions is.entries is.classes is.end_step (le_of_eq (sym is.room)) (le_of_eq (sym is.names)) (le_of_eq (sym is.places));
+    }

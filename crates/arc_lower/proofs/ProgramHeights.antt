@@ -1,0 +1,378 @@
+-- At each action of a lowered program there is what the action needs, by the heights of the program.
+use Rattle.std.proofs.Common.{◌≡◌, inl, inr, ℕ, zero, suc, ◌+◌, ◌-◌, ◌≤◌, pos, true, false, if◌then◌else◌, List, [], ◌∷◌, ◌++◌, length, Option, Some, None, refl, sym, ap, ◌∙◌, subst, arith, append_assoc, zero-add, add-zero, slice_get, slice_index_or}
+use Rattle.std.proofs.lemmas.Bool.{lt-ltb, false≢true}
+use Rattle.std.proofs.lemmas.Option.{get_or_from_slice_get}
+use Rattle.std.proofs.lemmas.Bool.Decides.{nat_tests}
+use Rattle.arc_ast.specs.declared.tree.Sign.{Sign}
+use Rattle.arc_spec.specs.declared.class.Gives.{Gives}
+use Rattle.arc_spec.specs.declared.class.Gives.TheVariants as gives
+use Rattle.arc_spec.specs.declared.class.Method.{Method}
+use Rattle.arc_spec.specs.Classes.{Class, lookup, same_gives}
+use Rattle.arc_spec.specs.Resolved.{Function, Commands}
+use Rattle.arc_spec.specs.Resolved as resolved
+use Rattle.arc_spec.specs.Meaning.{function_at, function_places}
+use Rattle.arc_code.specs.declared.effect.Height.{Height}
+use Rattle.arc_code.specs.declared.instr.Op.TheVariants.{Num}
+use Rattle.arc_code.specs.declared.instr.Instr.TheVariants.{Plain, Jump, Call, Return, Empty, EndStep}
+use Rattle.arc_code.specs.Effects.{passes, as_object}
+use Rattle.arc_ir.specs.declared.action.Target.TheVariants.{At}
+use Rattle.arc_lower.specs.PlainActions.{PlainAction}
+use Rattle.arc_lower.specs.Lowered.{all_functions, number_of, slots_of, parameters_of, passing_actions, opening_actions, take_actions, own_actions, leaving_action, leave_actions, body_actions, declare_actions, pop_actions, keep_actions, all_empty_actions, no_turn, Between, Block, nothing_given, commands_block, flat, function_actions, functions_actions, start_actions, entry_of, entries_of, methods_actions, dealloc_actions, class_actions, classes_actions, running_actions, lowered, classes_linked}
+use Rattle.arc_lower.specs.Size.{object_parameters, owned_by}
+use Rattle.arc_lower.specs.Heights.{height, between, next_height, walk, last_walk, heights, function_heights, in_function, functions_marks, lowered_marks}
+use Rattle.arc_lower.proofs.CaseAnalysis.{by_test}
+pub use Rattle.arc_lower.proofs.StubLookup.{end_is}
+use Rattle.arc_lower.proofs.StubLookup.{Both, both_split, marks_length, left_marks, entry_marks, marks_split, functions_split, function_found, stub, stub_marks, method_stub, Methods, Dealloc, Classes, methods_split, classes_split, start_stands, functions_stand, stubs_stand, Meets, Same, linked, lookup_meets, function_gives}
+use Rattle.arc_lower.proofs.StackEffect.{alike_same, slots_same, parameters_same, number_there, Types, types_then, types_last, tested, keep_types, passing_types, declare_types, take_types, own_types, BlockTypes}
+use Rattle.arc_lower.proofs.BlockEndHeight.{Keeps, block_ends}
+use Rattle.arc_lower.proofs.BlockStackEffect.{nothing_types, commands_type}
+use Rattle.arc_lower.proofs.RecountedSteps.{each_at}
+use Rattle.arc_lower.proofs.StepHeights.{some_same, Leaves, Empties, role, role_of, role_at, Clears, Stands, Goes, Free, calm_free, Steps, StepsAt, AllStep, step_then, opens_goes, Stays, none_goes, Row, row_of, row_front, row_back, typed_steps, AllTake, takes_stand, takes_step, block_steps}
+
+leaving_is : (given : Gives) → role (leaving_action given) ≡ Leaves
+leaving_is gives.Number = refl
+leaving_is gives.Object = refl
+
+places_by : (given : Gives) (n : ℕ) → (if same_gives given gives.Object then suc n else n) ≡ n + as_object given
+places_by gives.Number n = omega arith
+places_by gives.Object n = omega arith
+
+module _ (R : resolved.Program) where
+  abbrev pub all : List PlainAction
+  all = lowered R
+
+  abbrev pub table : List (Height × Gives)
+  table = lowered_marks R
+
+  abbrev Goes_to : Gives → ℕ → Height → Type 0
+  Goes_to = Goes R all table
+
+  abbrev Step_all : ℕ → List PlainAction → Type 0
+  Step_all = AllStep R all table
+
+  -- ---- one function
+
+  module _ (place slots names kept objects : ℕ) (given : Gives) (opening : List PlainAction) (opening_typed : Types R 0 0 (height slots objects 0 0) opening (between slots names)) (places : names ≡ kept + as_object given) (cs : Commands) where
+    abbrev base : Height
+    base = between slots names
+
+    -- where it is left
+    abbrev leaving : Height
+    leaving = tested slots names
+
+    abbrev emptied : ℕ → List PlainAction
+    emptied n = all_empty_actions names 0 n
+
+    abbrev keep : List PlainAction
+    keep = keep_actions slots
+
+    abbrev last_action : PlainAction
+    last_action = leaving_action given
+
+    abbrev leave : List PlainAction
+    leave = emptied kept ++ (keep ++ last_action ∷ [])
+
+    abbrev entered : ℕ
+    entered = place + length leave
+
+    -- where it is entered
+    abbrev begun : Height
+    begun = height slots objects 0 0
+
+    abbrev start : ℕ
+    start = entered + length opening
+
+    -- what it does, where nothing leaves it without a value
+    abbrev done : Block
+    done = commands_block place (nothing_given place) (nothing_given place) cs
+
+    abbrev statements : List PlainAction
+    statements = flat R slots names (Between start no_turn) done
+
+    abbrev end : List PlainAction
+    end = Plain (Num (pos 0)) ∷ Jump (At place) ∷ []
+
+    abbrev body : List PlainAction
+    body = opening ++ (statements ++ end)
+
+    abbrev Rows : ℕ → Height → List PlainAction → Type 0
+    Rows pc h = Row R all table given base pc (walk h [])
+
+    statements_type : BlockTypes R 0 0 slots names place false true base done base
+    statements_type = commands_type R slots names place false (nothing_given place) (nothing_given place) (nothing_types R slots names place false) (nothing_types R slots names place false) cs
+
+    empty_stays : (i : ℕ) → next_height R (Empty i) leaving ≡ leaving
+    empty_stays i = alike_same _ _ (omega arith)
+
+    emptied_is : (n : ℕ) → suc n ≤ names → emptied (suc n) ≡ Empty (0 + n) ∷ emptied n
+    emptied_is n le = ap (λ b. (if b then Empty (0 + n) ∷ [] else []) ++ emptied n) (lt-ltb (0 + n) names (omega (arith, le)))
+
+    emptied_ends : (n : ℕ) → n ≤ names → last_walk R base (walk leaving []) (emptied n) ≡ walk leaving []
+    emptied_ends zero le = refl
+    emptied_ends (suc n) le =
+        ap (last_walk R base (walk leaving [])) (emptied_is n le) ∙ ap (λ h. last_walk R base (walk h []) (emptied n)) (empty_stays (0 + n)) ∙ emptied_ends n
+        (omega (arith, le))
+
+    pops_take : (n : ℕ) → AllTake R all table given base (pop_actions n)
+    pops_take zero = tt
+    pops_take (suc n) = (refl, pops_take n)
+
+    keep_takes : (n : ℕ) → AllTake R all table given base (keep_actions n)
+    keep_takes zero = tt
+    keep_takes (suc n) = (refl, pops_take n)
+
+    keep_typed : Types R 0 0 leaving keep (height 1 0 0 names)
+    keep_typed = simp add-zero at (keep_types R 0 0 0 0 names slots 0)
+
+    -- before so many variables are emptied the others are nil
+    abbrev Emptying : ℕ → ℕ → Type 0
+    Emptying n pc = Step_all pc (emptied n) × Stands R all table given pc leaving × ((k : ℕ) → Clears R all table k pc → k ≡ n) × Free R all table pc
+
+    emptying : (n pc : ℕ) → n ≤ names → Rows pc leaving (emptied n ++ (keep ++ last_action ∷ [])) → Emptying n pc
+    emptying zero pc le f = let there = takes_stand R all table given base pc (walk leaving []) keep last_action (leaving_is given) (keep_takes slots) f in (tt, there.0, there.1, there.2)
+    emptying (suc n) pc le f =
+        let is = emptied_is n le in
+        let row = subst (λ xs. Rows pc leaving (xs ++ (keep ++ last_action ∷ []))) is f in
+        let at : role_at R all table pc ≡ Empties (0 + n) = ap role_of row.1 in
+        let there = emptying n (pc + 1) (omega (arith, le))
+        (subst (λ h. Rows (pc + 1) h (emptied n ++ (keep ++ last_action ∷ []))) (empty_stays (0 + n)) row.2) in
+        let next = subst (Stands R all table given (pc + 1)) (sym (empty_stays (0 + n))) there.1 in (
+          subst (Step_all pc) (sym is) (((leaving, given), row.0, (omega (arith, le), next, λ k c. let same = there.2 k c in inl (omega (arith, same)), there.3)), there.0),
+          record { height = row.0; plain_action = Empty (0 + n); is = row.1; no_end = λ end. cc },
+          only at,
+          calm_free R all table pc (Empties (0 + n)) tt at,
+        )
+      where
+        only : role_at R all table pc ≡ Empties (0 + n) → (k : ℕ) → Clears R all table k pc → k ≡ suc n
+        only at zero (zero, y) = cc
+        only at zero (suc m, y) = cc
+        only at (suc j) c = let same : j ≡ 0 + n = cc in omega (arith, same)
+
+    module _ (leave_row : Rows place leaving leave) (body_row : Rows entered begun body) where
+      exit : Emptying kept place
+      exit = emptying kept place (omega (arith, places)) leave_row
+
+      exit_goes : Goes_to given place leaving
+      exit_goes = (exit.1, λ k c. let e = exit.2 k c in omega (arith, e, places), exit.3)
+
+      rows : Rows start base (statements ++ end)
+      rows = subst (λ w. Row R all table given base start w (statements ++ end)) (types_last R 0 0 base begun [] opening base opening_typed) (row_back R all table given base entered (walk begun []) opening (statements ++ end) body_row)
+
+      ends : (after : List Height) × (last_walk R base (walk base []) statements ≡ walk base after) × Keeps R 0 0 slots names place base true [] after
+      ends = block_ends R 0 0 slots names place base (Between start no_turn) false true done base base [] (refl, tt, tt) statements_type
+
+      last : Row R all table given base (start + length statements) (walk base ends.0) end
+      last = subst (λ w. Row R all table given base (start + length statements) w end) ends.1 (row_back R all table given base start (walk base []) statements end rows)
+
+      statements_go : Goes_to given start base × Step_all start statements
+      statements_go = block_steps R all table given slots names place exit_goes (Between start no_turn) no_turn false true done base base start [] (λ s. refl) (λ s. absurd (false≢true s)) (refl, tt, tt) statements_type (row_front R all table given base start (walk base []) statements end rows) (opens_goes R all table given (start + length statements) base (Plain (Num (pos 0))) refl last.0 last.1)
+
+      opening_goes : Goes_to given entered begun × Step_all entered opening
+      opening_goes = typed_steps R all table given base entered begun [] opening base opening_typed (row_front R all table given base entered (walk begun []) opening (statements ++ end) body_row) statements_go.0
+
+      -- where its last action stands
+      last_step : (pc : ℕ) (g : Gives) → given ≡ g → Steps R all table given (height 1 0 0 names) pc (leaving_action g)
+      last_step pc gives.Number e = (refl, refl, refl, e)
+      last_step pc gives.Object e = (refl, refl, refl, e, omega (arith, places, ap as_object e))
+
+      leave_steps : Step_all place leave
+      leave_steps =
+          let q = place + length (emptied kept) in
+          let later = subst (λ w. Row R all table given base q w (keep ++ last_action ∷ [])) (emptied_ends kept (omega (arith, places))) (row_back R all table given base place (walk leaving []) (emptied kept) (keep ++ last_action ∷ []) leave_row) in
+          let one = subst (λ w. Row R all table given base (q + length keep) w (last_action ∷ [])) (types_last R 0 0 base leaving [] keep (height 1 0 0 names) keep_typed) (row_back R all table given base q (walk leaving []) keep (last_action ∷ []) later) in
+          step_then R all table place (emptied kept) (keep ++ last_action ∷ []) exit.0
+          (step_then R all table q keep (last_action ∷ []) (takes_step R all table given base q leaving [] keep (height 1 0 0 names) last_action (leaving_is given) (keep_takes slots) keep_typed later) (((height 1 0 0 names, given), one.0, last_step (q + length keep) given refl), tt))
+
+      -- a run may enter it, and each of its actions has what it needs
+      pub function_steps : Goes_to given entered begun × Step_all place (leave ++ body)
+      function_steps =
+          let up : next_height R (Plain (Num (pos 0))) base ≡ leaving = alike_same _ _ (omega arith) in
+          let q = start + length statements in
+          let jump = opens_goes R all table given (q + 1) _ (Jump (At place)) refl last.2.0 last.2.1 in (
+            opening_goes.0,
+            step_then R all table place leave body leave_steps (step_then R all table entered opening (statements ++ end) opening_goes.1 (step_then R all table start statements end statements_go.1
+                (((base, given), last.0, (omega arith, (jump.0, λ k c. inr (jump.1 k c)), inl jump.2)), (((leaving, given), last.2.0 ∙ ap (λ h. Some (h, given)) up, (0, omega arith, exit_goes)), tt)))),
+          )
+
+  -- ---- all functions
+
+  abbrev row : (given : Gives) (base h : Height) (pc : ℕ) (xs : List PlainAction) → Both R pc (in_function given (heights R base h xs)) xs → Row R all table given base pc (walk h []) xs
+  row given base h pc xs f = row_of R all table given base pc (walk h []) xs f.0 f.1
+
+  pub record Entered (entries : List ℕ) (n : ℕ) (f : Function) : Type 0 where
+    pub at : ℕ
+    pub is : slice_get entries n ≡ Some at
+    pub goes : Goes R all table f.gives at (height f.slots (object_parameters f) 0 0)
+
+  -- a function begins with its places, and takes what it is given
+  opening_types : (g : Function) → Types R 0 0 (height g.slots (object_parameters g) 0 0) (opening_actions g) (between g.slots (function_places g))
+  opening_types g =
+      let slots = g.slots in
+      let places = function_places g in
+      let objects = object_parameters g in
+      let begun = height slots objects 0 0 in
+      let base = between slots places in
+      let all_declared = height slots objects 0 places in
+      let own = if g.owns then own_actions places else [] in
+      let few : objects ≤ places - owned_by g = grind (arith, nat_tests) in
+      types_then R 0 0 begun (declare_actions places) all_declared (take_actions (owned_by g) objects ++ own) base
+      (simp add-zero at (declare_types R 0 0 places slots objects 0))
+      (types_then R 0 0 all_declared (take_actions (owned_by g) objects) base own base
+      (simp add-zero at (take_types R 0 0 (owned_by g) objects slots 0 0 places (omega (arith, few))))
+      (by_test (λ b. Types R 0 0 base (if b then own_actions places else []) base) g.owns (λ e. own_types R 0 0 places slots places (omega arith)) (λ e. refl)))
+
+  -- a run may enter a function, and each of its actions has what it needs
+  g_steps : (place : ℕ) (g : Function) → Both R place (in_function g.gives (function_heights R place g)) (function_actions R place g)
+      → Goes_to g.gives (entry_of place g) (height g.slots (object_parameters g) 0 0) × Step_all place (function_actions R place g)
+  g_steps place g here =
+      let base = between g.slots (function_places g) in
+      let first = between (suc g.slots) (function_places g) in
+      let entered = height g.slots (object_parameters g) 0 0 in
+      let leave = leave_actions g in
+      let body = body_actions R place (entry_of place g) g in
+      let whole = subst (λ l. Both R place l (leave ++ body)) (marks_split R place g) here in
+      let parts = both_split R place (left_marks R g) (entry_marks R place g) leave body (marks_length R g.gives base (walk first []) leave) whole in
+      function_steps place g.slots (function_places g) g.names (object_parameters g) g.gives (opening_actions g) (opening_types g) (places_by g.gives g.names) g.body
+      (row g.gives base first place leave parts.0) (row g.gives base entered (entry_of place g) body parts.1)
+
+  functions_step : (fs : List Function) (place : ℕ) → Both R place (functions_marks R place fs) (functions_actions R place fs) → Step_all place (functions_actions R place fs)
+  functions_step [] place has = tt
+  functions_step (g ∷ fs) place has =
+      let xs = function_actions R place g in
+      let parts = functions_split R place g fs has in
+      step_then R all table place xs (functions_actions R (place + length xs) fs) (g_steps place g parts.0).1 (functions_step fs (place + length xs) parts.1)
+
+  -- ---- stubs
+
+  abbrev zeroed : Height
+  zeroed = height 0 0 0 0
+
+  -- the height at which a function is called
+  abbrev called : (wanted : Gives) → (f : ℕ) → Height
+  called wanted f = height (slots_of R wanted f) (parameters_of R wanted f) 0 0
+
+  fit_typed : (wanted : Gives) (values objects f : ℕ) → Types R 0 0 (height values objects 0 0) (passing_actions R wanted f values objects) (called wanted f)
+  fit_typed wanted values objects f = simp add-zero at (passing_types R 0 0 wanted f values objects 0 0 0 0)
+
+  -- what comes to that height goes on with an action that stays there
+  passing_goes : (wanted : Gives) (values objects f place : ℕ) (x : PlainAction) (later : List PlainAction) → role x ≡ Stays
+      → Row R all table wanted zeroed place (walk (height values objects 0 0) []) (passing_actions R wanted f values objects ++ x ∷ later)
+      → (Goes_to wanted place (height values objects 0 0) × Step_all place (passing_actions R wanted f values objects))
+      × Row R all table wanted zeroed (place + length (passing_actions R wanted f values objects)) (walk (called wanted f) []) (x ∷ later)
+  passing_goes wanted values objects f place x later stays rows =
+      let xs = passing_actions R wanted f values objects in
+      let h = height values objects 0 0 in
+      let typed = fit_typed wanted values objects f in
+      let next = row_back R all table wanted zeroed place (walk h []) xs (x ∷ later) rows in
+      let last = subst (λ w. Row R all table wanted zeroed (place + length xs) w (x ∷ later)) (types_last R 0 0 zeroed h [] xs (called wanted f) typed) next in
+      let goes = opens_goes R all table wanted (place + length xs) (called wanted f) x stays last.0 last.1 in
+      (typed_steps R all table wanted zeroed place h [] xs (called wanted f) typed (row_front R all table wanted zeroed place (walk h []) xs (x ∷ later) rows) goes, last)
+
+  stub_goes : (wanted : Gives) (values objects f place : ℕ) → Both R place (stub_marks R wanted values objects f) (stub R wanted values objects f)
+      → Goes_to wanted place (height values objects 0 0)
+      × (Goes_to wanted (slice_index_or (entries_of R) (number_of R wanted f) 0) (called wanted f) → Step_all place (stub R wanted values objects f))
+  stub_goes wanted values objects f place has =
+      let xs = passing_actions R wanted f values objects in
+      let jump = Jump (At (slice_index_or (entries_of R) (number_of R wanted f) 0)) in
+      let begun = passing_goes wanted values objects f place jump [] refl
+      (row wanted zeroed (height values objects 0 0) place (stub R wanted values objects f) has) in
+      (begun.0.0, λ goes. step_then R all table place xs (jump ∷ []) begun.0.1 (((called wanted f, wanted), begun.1.0, (0, omega arith, goes)), tt))
+
+  module _ (target : (wanted : Gives) (f : ℕ) → Goes_to wanted (slice_index_or (entries_of R) (number_of R wanted f) 0) (called wanted f)) where
+    methods_step : (ms : List Method) (place : ℕ) → Methods R place ms → Step_all place (methods_actions R (entries_of R) ms)
+    methods_step [] place has = tt
+    methods_step (m ∷ others) place has =
+        step_then R all table place (method_stub R m) (methods_actions R (entries_of R) others) ((stub_goes m.gives (passes m.sign m.takes) m.objects m.runs place (methods_split R place m others has).0).1 (target m.gives m.runs)) (methods_step others (place + length (method_stub R m)) (methods_split R place m others has).1)
+
+    dealloc_steps : (d : Option ℕ) (place : ℕ) → Dealloc R place d → Step_all place (dealloc_actions R (entries_of R) d)
+    dealloc_steps None place has = tt
+    dealloc_steps (Some f) place has = (stub_goes gives.Number 0 0 f place has).1 (target gives.Number f)
+
+    classes_step : (cs : List Class) (place : ℕ) → Classes R place cs → Step_all place (classes_actions R (entries_of R) cs)
+    classes_step [] place has = tt
+    classes_step (c ∷ others) place has =
+        let parts = classes_split R place c others has in
+        let first = dealloc_actions R (entries_of R) c.dealloc in
+        step_then R all table place (class_actions R (entries_of R) c) (classes_actions R (entries_of R) others)
+        (step_then R all table place first (methods_actions R (entries_of R) c.methods) (dealloc_steps c.dealloc place parts.0) (methods_step c.methods (place + length first) parts.1))
+        (classes_step others (place + length (class_actions R (entries_of R) c)) parts.2)
+
+  -- ---- what messages and ends of objects find
+
+  meets_goes : (wanted : Gives) (values objects : ℕ) (meant stands : Option ℕ) (to : ℕ) → Meets R wanted values objects meant stands → stands ≡ Some to → Goes_to wanted to (height values objects 0 0)
+  meets_goes wanted values objects None None to meets e = cc
+  meets_goes wanted values objects (Some f) (Some place) to meets e = subst (λ n. Goes_to wanted n (height values objects 0 0)) (some_same place to e) (stub_goes wanted values objects f place meets).0
+  meets_goes wanted values objects _ _ to meets e = absurd meets
+
+  same_goes : (a b : Option Class) (d : Class) (to : ℕ) → Same R a b → b ≡ Some d → d.dealloc ≡ Some to → Goes_to gives.Number to zeroed
+  same_goes None None d to same is e = cc
+  same_goes (Some c) (Some x) d to same is e = meets_goes gives.Number 0 0 c.dealloc x.dealloc to same.2 (ap (λ (y : Class). y.dealloc) (some_same x d is) ∙ e)
+  same_goes _ _ d to same is e = absurd same
+
+  pub methods_go : (from : Option ℕ) (sign : Sign) (selector takes objects : ℕ) (wanted : Gives) (to : ℕ) → lookup (classes_linked R) from sign selector takes objects wanted ≡ Some to → Goes_to wanted to (height (passes sign takes) objects 0 0)
+  methods_go from sign selector takes objects wanted to = meets_goes wanted (passes sign takes) objects (lookup R.classes from sign selector takes objects wanted) _ to (lookup_meets R (classes_linked R) (linked R) sign from selector takes objects wanted)
+
+  pub dealloc_goes : (i : ℕ) (d : Class) (to : ℕ) → slice_get (classes_linked R) i ≡ Some d → d.dealloc ≡ Some to → Goes_to gives.Number to (height 0 0 0 0)
+  dealloc_goes i d to = same_goes (slice_get R.classes i) (slice_get (classes_linked R) i) d to ((linked R).same i)
+
+  -- ---- the program
+
+  abbrev function_list : List PlainAction
+  function_list = functions_actions R (length (start_actions R)) (all_functions R)
+
+  -- a function is entered with its variables
+  pub entered_at : (wanted : Gives) (f : ℕ) → Entered (entries_of R) (number_of R wanted f) (function_at R wanted f)
+  entered_at wanted f =
+      let there = function_found R wanted f in
+      record { at = entry_of there.place (function_at R wanted f); is = there.entry; goes = (g_steps there.place (function_at R wanted f) there.code).0 }
+
+  target : (wanted : Gives) (f : ℕ) → Goes_to wanted (slice_index_or (entries_of R) (number_of R wanted f) 0) (called wanted f)
+  target wanted f =
+      let e = entered_at wanted f in
+      subst (λ n. Goes_to wanted n (called wanted f))
+      (sym (get_or_from_slice_get (entries_of R) (number_of R wanted f) e.at 0 e.is))
+      (subst (λ g. Goes_to g e.at (called wanted f)) (function_gives R wanted f) e.goes)
+
+  abbrev zeros : List PlainAction
+  zeros = passing_actions R gives.Number R.main 0 0
+
+  abbrev main_call : PlainAction
+  main_call = Call (number_of R gives.Number R.main) gives.Number
+
+  abbrev call : List PlainAction
+  call = main_call ∷ (Return ∷ (EndStep ∷ []))
+
+  -- the call comes before the end
+  start_is : start_actions R ≡ zeros ++ call
+  start_is = append_assoc zeros (main_call ∷ []) (Return ∷ (EndStep ∷ []))
+
+  main_goes : (Goes_to gives.Number 0 zeroed × Step_all 0 zeros) × Row R all table gives.Number zeroed (0 + length zeros) (walk (called gives.Number R.main) []) call
+  main_goes = passing_goes gives.Number 0 0 R.main 0 main_call (Return ∷ (EndStep ∷ [])) refl
+      (subst (Row R all table gives.Number zeroed 0 (walk zeroed [])) start_is (row gives.Number zeroed zeroed 0 (start_actions R) (start_stands R)))
+
+  pub start_goes : Goes_to gives.Number 0 zeroed
+  start_goes = main_goes.0.0
+
+  start_steps : Step_all 0 (start_actions R)
+  start_steps =
+      let q = 0 + length zeros in
+      let rest = main_goes.1.2 in
+      let same = slots_same R gives.Number R.main in
+      let other = parameters_same R gives.Number R.main in
+      let after : next_height R main_call (called gives.Number R.main) ≡ height 1 0 0 0 = alike_same _ _ (omega (arith, same, other)) in
+      let one = rest.0 ∙ ap (λ h. Some (h, gives.Number)) after in
+      let home : Stands R all table gives.Number (q + 1) (height 1 0 0 0) = record { height = one; plain_action = Return; is = rest.1; no_end = λ end. cc } in
+      let free = calm_free R all table (q + 1) Leaves tt (ap role_of rest.1) in
+      subst (Step_all 0) (sym start_is) (step_then R all table 0 zeros call main_goes.0.1 (
+        ((called gives.Number R.main, gives.Number), main_goes.1.0, ((omega (arith, same), number_there R gives.Number R.main, omega (arith, other)), subst (Goes_to gives.Number (q + 1)) (sym after) (none_goes R all table gives.Number (q + 1) (height 1 0 0 0) home refl free))),
+        (((height 1 0 0 0, gives.Number), one, (refl, refl, refl, refl)), (((zeroed, gives.Number), rest.2.0, (refl, refl, refl, refl)), tt)),
+      ))
+
+  program_steps : Step_all 0 (lowered R)
+  program_steps =
+      step_then R all table 0 (running_actions R) (classes_actions R (entries_of R) R.classes)
+      (step_then R all table 0 (start_actions R) function_list start_steps (subst (λ n. Step_all n function_list) (sym (zero-add (length (start_actions R)))) (functions_step (all_functions R) (length (start_actions R)) (functions_stand R))))
+      (subst (λ n. Step_all n (classes_actions R (entries_of R) R.classes)) (sym (zero-add (length (running_actions R)))) (classes_step target R.classes (length (running_actions R)) (stubs_stand R)))
+
+  pub steps_at : (pc : ℕ) (x : PlainAction) → slice_get (lowered R) pc ≡ Some x → StepsAt R all table pc x
+  steps_at pc x e = subst (λ q. StepsAt R all table q x) (zero-add pc) (each_at _ 0 pc (lowered R) x program_steps e)

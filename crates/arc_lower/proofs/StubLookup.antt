@@ -1,0 +1,442 @@
+-- A message finds the stub of the method that is meant, and a class the stub of its dealloc.
+use Rattle.std.proofs.Common.{◌≡◌, ℕ, zero, suc, ◌+◌, Bool, true, false, is_some, if◌then◌else◌, nat_eq, List, [], ◌∷◌, length, Option, Some, None, refl, sym, true≢false, ap, ◌∙◌, subst, slice_get, ℤ, nat_lt, ◌++◌, arith, length-append, slice_index_or, zero-add}
+use Rattle.std.specs.List.{list_any}
+use Rattle.std.proofs.lemmas.Bool.{eqb-true, and_parts}
+use Rattle.arc_ast.specs.declared.tree.Sign.{Sign}
+use Rattle.arc_ast.specs.declared.tree.Sign.TheVariants as signs
+use Rattle.arc_spec.specs.declared.class.Method.{Method}
+use Rattle.arc_spec.specs.declared.class.Gives.{Gives}
+use Rattle.arc_spec.specs.declared.class.Gives.TheVariants as gives
+use Rattle.arc_spec.specs.Classes.{Class, superclasses, ancestry, first_that_has, own_methods, same_sign, same_gives, answers, found, lookup, descends, field_counts, strong_count, strong_counts, above_class, field_order}
+use Rattle.arc_spec.specs.Meaning.{function_at, function_places, nothing_giving}
+use Rattle.arc_spec.specs.HolderCounts.{Heap, ReturnFrame}
+use Rattle.arc_spec.specs.declared.sort_counts.SortCounts.{SortCounts}
+use Rattle.arc_spec.specs.Resolved as resolved
+use Rattle.arc_ir.specs.ActionSteps.{Program, has_level, enters, step}
+use Rattle.arc_code.specs.Effects.{passes}
+use Rattle.arc_lower.specs.Lowered.{entries_of, stub_actions, dealloc_actions, methods_actions, class_actions, classes_actions, linked_methods, linked_dealloc, linked_classes, running_actions, classes_linked, all_functions, gives_at, number_of_nothing, number_of, call_actions, end_step_of, entry_of, function_actions, functions_actions, entries_from, start_actions, leave_actions, body_actions, lowered}
+use Rattle.arc_lower.proofs.CaseAnalysis.{by_test}
+use Rattle.arc_lower.proofs.RecountedSteps.{Each, each_front, each_back, each_at, each_from, HasAt, at, executes_at}
+use Rattle.std.proofs.lemmas.Option.{get_or_from_slice_get}
+use Rattle.arc_spec.specs.Resolved.{Function}
+use Rattle.arc_ir.specs.ActionSteps as acting
+use Rattle.arc_code.specs.declared.instr.Instr.TheVariants.{Call, Return, EndStep}
+use Rattle.arc_lower.specs.PlainActions.{PlainAction, plain_actions}
+use Rattle.arc_lower.specs.Size.{object_parameters}
+use Rattle.arc_code.specs.declared.effect.Height.{Height}
+use Rattle.arc_lower.specs.Heights.{height, walk, Walk, next_walk, walk_heights, between, heights, start_heights, function_heights, stub_heights, dealloc_heights, in_function, functions_marks, methods_marks, class_marks, classes_marks, lowered_marks}
+use Rattle.arc_lower.proofs.ActionCount.{call_length}
+use Rattle.arc_lower.proofs.FunctionLookup.{with_functions}
+use Rattle.arc_spec.specs.declared.limits.TheConstants.{MOST_LEVELS}
+use Rattle.std.specs.Option.{option_or}
+
+sign_same : (a b : Sign) → same_sign a b ≡ true → a ≡ b
+sign_same signs.Class signs.Instance e = cc
+sign_same signs.Instance signs.Class e = cc
+sign_same _ _ e = refl
+
+pub gives_same : (a b : Gives) → same_gives a b ≡ true → a ≡ b
+gives_same gives.Number gives.Object e = cc
+gives_same gives.Object gives.Number e = cc
+gives_same _ _ e = refl
+
+-- what a method takes and gives that answers a message
+pub record Answers (sign : Sign) (takes objects : ℕ) (wanted : Gives) (m : Method) : Type 0 where
+  pub numbers : passes m.sign m.takes ≡ passes sign takes
+  pub references : m.objects ≡ objects
+  pub same : m.gives ≡ wanted
+
+pub answers_as : (sign : Sign) (selector takes objects : ℕ) (wanted : Gives) (m : Method) → answers sign selector takes objects wanted m ≡ true → Answers sign takes objects wanted m
+answers_as sign selector takes objects wanted m e =
+    let parts = and_parts (same_sign m.sign sign) _ e in
+    let counts = and_parts (nat_eq m.takes takes) _ (and_parts (nat_eq m.selector selector) _ parts.1).1 in
+    let rest = and_parts (nat_eq m.objects objects) _ counts.1 in
+    record {
+      numbers = rw (sign_same m.sign sign parts.0, eqb-true m.takes takes counts.0);
+      references = eqb-true m.objects objects rest.0;
+      same = gives_same m.gives wanted rest.1;
+    }
+
+in_append : (given : Gives) (a b : List Height) → in_function given (a ++ b) ≡ in_function given a ++ in_function given b
+in_append given [] b = refl
+in_append given (h ∷ a) b = ap (λ l. (h, given) ∷ l) (in_append given a b)
+
+module _ (R : resolved.Program) where
+  -- the actions of the whole program, and the heights before them
+  abbrev pub all : List PlainAction
+  all = lowered R
+
+  abbrev pub table : List (Height × Gives)
+  table = lowered_marks R
+
+  abbrev pub Part : {A : Type 0} → List A → ℕ → List A → Type 0
+  Part whole = Each (λ pc x. slice_get whole pc ≡ Some x)
+
+  -- actions and their heights stand there
+  abbrev pub Both : ℕ → List (Height × Gives) → List PlainAction → Type 0
+  Both pc hs xs = Part table pc hs × Part all pc xs × (length hs ≡ length xs)
+
+  pub both_split : (pc : ℕ) (a b : List (Height × Gives)) (xs ys : List PlainAction) → length a ≡ length xs → Both pc (a ++ b) (xs ++ ys) → Both pc a xs × Both (pc + length xs) b ys
+  both_split pc a b xs ys e f = (
+    (each_front _ pc a b f.0, each_front _ pc xs ys f.1, e),
+    (subst (λ n. Part table (pc + n) b) e (each_back _ pc a b f.0), each_back _ pc xs ys f.1, omega (arith, e, f.2, length-append a b, length-append xs ys)),
+  )
+
+  -- as many marks as actions
+  pub marks_length : (given : Gives) (low : Height) (w : Walk) (xs : List PlainAction) → length (in_function given (walk_heights R low w xs)) ≡ length xs
+  marks_length given low w [] = refl
+  marks_length given low w (x ∷ xs) = ap suc (marks_length given low (next_walk R low x w) xs)
+
+  -- ---- functions
+
+  abbrev pub function_marks : (place : ℕ) → Function → List (Height × Gives)
+  function_marks place g = in_function g.gives (function_heights R place g)
+
+  abbrev pub left_marks : Function → List (Height × Gives)
+  left_marks g = in_function g.gives (heights R (between g.slots (function_places g)) (between (suc g.slots) (function_places g)) (leave_actions g))
+
+  abbrev pub entry_marks : (place : ℕ) → Function → List (Height × Gives)
+  entry_marks place g =
+      in_function g.gives (heights R (between g.slots (function_places g)) (height g.slots (object_parameters g) 0 0) (body_actions R place (entry_of place g) g))
+
+  -- a function's marks, those where it is left, and those from its entry on
+  pub marks_split : (place : ℕ) (g : Function) → function_marks place g ≡ left_marks g ++ entry_marks place g
+  marks_split place g = in_append g.gives _ _
+
+  function_length : (place : ℕ) (g : Function) → length (function_marks place g) ≡ length (function_actions R place g)
+  function_length place g =
+      omega (arith, ap length (marks_split place g), length-append {A = Height × Gives}, length-append {A = PlainAction}, marks_length)
+
+  abbrev Functions : ℕ → List Function → Type 0
+  Functions place fs = Both place (functions_marks R place fs) (functions_actions R place fs)
+
+  functions_length : (place : ℕ) (fs : List Function) → length (functions_marks R place fs) ≡ length (functions_actions R place fs)
+  functions_length place [] = refl
+  functions_length place (g ∷ fs) = omega (arith, length-append {A = Height × Gives}, length-append {A = PlainAction}, function_length place g, functions_length (place + length (function_actions R place g)) fs)
+
+  pub functions_split : (place : ℕ) (g : Function) (fs : List Function) → Functions place (g ∷ fs) → Both place (function_marks place g) (function_actions R place g) × Functions (place + length (function_actions R place g)) fs
+  functions_split place g fs has = both_split place (function_marks place g) _ _ _ (function_length place g) has
+
+  -- a function stands where it is entered
+  pub record Found (entries : List ℕ) (n : ℕ) (f : Function) : Type 0 where
+    pub place : ℕ
+    pub entry : slice_get entries n ≡ Some (entry_of place f)
+    pub code : Both place (function_marks place f) (function_actions R place f)
+
+  find : (fs : List Function) (place n : ℕ) (f : Function) → slice_get fs n ≡ Some f → Functions place fs → Found (entries_from R place fs) n f
+  find [] place n f e has = cc
+  find (g ∷ fs) place zero f e has =
+      let same : g ≡ f = cc in
+      subst (Found (entries_from R place (g ∷ fs)) 0) same (record { place = place; entry = refl; code = (functions_split place g fs has).0 })
+  find (g ∷ fs) place (suc n) f e has =
+      let there = find fs (place + length (function_actions R place g)) n f e (functions_split place g fs has).1 in
+      record { place = there.place; entry = there.entry; code = there.code }
+
+  -- ---- stubs
+
+  abbrev pub stub : (wanted : Gives) → (values objects f : ℕ) → List PlainAction
+  stub = stub_actions R (entries_of R)
+
+  abbrev pub stub_marks : (wanted : Gives) → (values objects f : ℕ) → List (Height × Gives)
+  stub_marks wanted values objects f = in_function wanted (stub_heights R (entries_of R) wanted values objects f)
+
+  -- a function's stub for so many numbers stands at a place
+  abbrev pub Stub : (wanted : Gives) → (values objects f place : ℕ) → Type 0
+  Stub wanted values objects f place = Both place (stub_marks wanted values objects f) (stub wanted values objects f)
+
+  stub_length : (wanted : Gives) (values objects f : ℕ) → length (stub_marks wanted values objects f) ≡ length (stub wanted values objects f)
+  stub_length wanted values objects f = marks_length wanted (height 0 0 0 0) (walk (height values objects 0 0) []) (stub wanted values objects f)
+
+  -- the stubs of a class, and those of the classes after it
+  abbrev pub method_stub : Method → List PlainAction
+  method_stub m = stub m.gives (passes m.sign m.takes) m.objects m.runs
+
+  abbrev pub Methods : ℕ → List Method → Type 0
+  Methods place ms = Both place (methods_marks R (entries_of R) ms) (methods_actions R (entries_of R) ms)
+
+  abbrev pub Dealloc : ℕ → Option ℕ → Type 0
+  Dealloc place d = Both place (in_function gives.Number (dealloc_heights R (entries_of R) d)) (dealloc_actions R (entries_of R) d)
+
+  abbrev pub Classes : ℕ → List Class → Type 0
+  Classes place cs = Both place (classes_marks R (entries_of R) cs) (classes_actions R (entries_of R) cs)
+
+  methods_length : (ms : List Method) → length (methods_marks R (entries_of R) ms) ≡ length (methods_actions R (entries_of R) ms)
+  methods_length [] = refl
+  methods_length (m ∷ others) = omega (arith, length-append {A = Height × Gives}, length-append {A = PlainAction}, stub_length m.gives (passes m.sign m.takes) m.objects m.runs, methods_length others)
+
+  dealloc_length : (d : Option ℕ) → length (in_function gives.Number (dealloc_heights R (entries_of R) d)) ≡ length (dealloc_actions R (entries_of R) d)
+  dealloc_length None = refl
+  dealloc_length (Some f) = stub_length gives.Number 0 0 f
+
+  class_length : (c : Class) → length (class_marks R (entries_of R) c) ≡ length (class_actions R (entries_of R) c)
+  class_length c = omega (arith, length-append {A = Height × Gives}, length-append {A = PlainAction}, dealloc_length c.dealloc, methods_length c.methods)
+
+  classes_length : (cs : List Class) → length (classes_marks R (entries_of R) cs) ≡ length (classes_actions R (entries_of R) cs)
+  classes_length [] = refl
+  classes_length (c ∷ others) = omega (arith, length-append {A = Height × Gives}, length-append {A = PlainAction}, class_length c, classes_length others)
+
+  pub methods_split : (place : ℕ) (m : Method) (others : List Method) → Methods place (m ∷ others) → Stub m.gives (passes m.sign m.takes) m.objects m.runs place × Methods (place + length (method_stub m)) others
+  methods_split place m others has = both_split place _ _ _ _ (stub_length m.gives (passes m.sign m.takes) m.objects m.runs) has
+
+  pub classes_split : (place : ℕ) (c : Class) (others : List Class) → Classes place (c ∷ others)
+      → Dealloc place c.dealloc × Methods (place + length (dealloc_actions R (entries_of R) c.dealloc)) c.methods × Classes (place + length (class_actions R (entries_of R) c)) others
+  classes_split place c others has =
+      let parts = both_split place _ _ _ _ (class_length c) has in
+      let own = both_split place _ _ _ _ (dealloc_length c.dealloc) parts.0 in
+      (own.0, own.1, parts.1)
+
+  -- ---- the program
+
+  abbrev start_marks : List (Height × Gives)
+  start_marks = in_function gives.Number (start_heights R)
+
+  abbrev functions : List (Height × Gives)
+  functions = functions_marks R (length (start_actions R)) (all_functions R)
+
+  start_length : length start_marks ≡ length (start_actions R)
+  start_length = marks_length gives.Number (height 0 0 0 0) (walk (height 0 0 0 0) []) (start_actions R)
+
+  running_length : length (start_marks ++ functions) ≡ length (running_actions R)
+  running_length = omega (arith, length-append {A = Height × Gives}, length-append {A = PlainAction}, start_length, functions_length (length (start_actions R)) (all_functions R))
+
+  part_all : {A : Type 0} (whole : List A) → Part whole 0 whole
+  part_all whole = each_from _ 0 whole (λ i x e. subst (λ n. slice_get whole n ≡ Some x) (omega arith) e)
+
+  parts : Both 0 (start_marks ++ functions) (running_actions R) × Both (0 + length (running_actions R)) (classes_marks R (entries_of R) R.classes) (classes_actions R (entries_of R) R.classes)
+  parts = both_split 0 (start_marks ++ functions) _ (running_actions R) _ running_length (part_all table, part_all all, omega (arith, length-append {A = Height × Gives}, length-append {A = PlainAction}, running_length, classes_length R.classes))
+
+  running_parts : Both 0 start_marks (start_actions R) × Both (0 + length (start_actions R)) functions (functions_actions R (length (start_actions R)) (all_functions R))
+  running_parts = both_split 0 start_marks _ (start_actions R) _ start_length parts.0
+
+  pub start_stands : Both 0 start_marks (start_actions R)
+  start_stands = running_parts.0
+
+  pub functions_stand : Functions (length (start_actions R)) (all_functions R)
+  functions_stand = subst (λ n. Both n functions (functions_actions R (length (start_actions R)) (all_functions R))) (zero-add (length (start_actions R))) running_parts.1
+
+  pub stubs_stand : Classes (length (running_actions R)) R.classes
+  stubs_stand = subst (λ n. Classes n R.classes) (zero-add (length (running_actions R))) parts.1
+
+  -- the action at which the ends of objects go on
+  pub end_is : slice_get all (end_step_of R) ≡ Some EndStep
+  end_is =
+      let has = each_back _ 0 (call_actions R gives.Number R.main 0 0) (Return ∷ (EndStep ∷ [])) start_stands.1 in
+      subst (λ n. slice_get all n ≡ Some EndStep) (omega (arith, call_length R gives.Number R.main)) has.1.0
+
+  -- ---- what a lookup finds
+
+  -- both are nothing, or a function and its stub
+  abbrev pub Meets : (wanted : Gives) → (values objects : ℕ) → (meant stands : Option ℕ) → Type 0
+  Meets wanted values objects None None = Unit {0}
+  Meets wanted values objects (Some f) (Some place) = Stub wanted values objects f place
+  Meets wanted values objects _ _ = ⊥
+
+  -- no class, or one with the same superclass, fields, dealloc and methods, which are stubs
+  abbrev pub Same : Option Class → Option Class → Type 0
+  Same None None = Unit {0}
+  Same (Some c) (Some d) = (d.superclass ≡ c.superclass) × (d.fields ≡ c.fields) × Meets gives.Number 0 0 c.dealloc d.dealloc × ((sign : Sign) (selector takes objects : ℕ) (wanted : Gives) → Meets wanted (passes sign takes) objects (found sign selector takes objects wanted c.methods) (found sign selector takes objects wanted d.methods))
+  Same _ _ = ⊥
+
+  -- these classes are those of the program, linked to their stubs
+  pub record Linked (cs : List Class) : Type 0 where
+    pub same : (i : ℕ) → Same (slice_get R.classes i) (slice_get cs i)
+    pub above : superclasses cs ≡ superclasses R.classes
+    pub count : length cs ≡ length R.classes
+
+  -- both are found or neither is
+  pub meets_same : (wanted : Gives) (values objects : ℕ) (meant stands : Option ℕ) → Meets wanted values objects meant stands → is_some stands ≡ is_some meant
+  meets_same wanted values objects None (Some place) h = absurd h
+  meets_same wanted values objects (Some f) None h = absurd h
+  meets_same wanted values objects _ _ h = refl
+
+  first_meets : (sign : Sign) (selector takes objects : ℕ) (wanted : Gives) (place : ℕ) (m : Method) (a b : Option ℕ) (t : Bool) → answers sign selector takes objects wanted m ≡ t → Stub m.gives (passes m.sign m.takes) m.objects m.runs place → Meets wanted (passes sign takes) objects a b → Meets wanted (passes sign takes) objects (if t then Some m.runs else a) (if t then Some place else b)
+  first_meets sign selector takes objects wanted place m a b true e stub rest =
+      let same = answers_as sign selector takes objects wanted m e in
+      rw (same.numbers, same.references, same.same) at stub
+  first_meets sign selector takes objects wanted place m a b false e stub rest = rest
+
+  found_meets : (place : ℕ) (ms : List Method) → Methods place ms → (sign : Sign) (selector takes objects : ℕ) (wanted : Gives) → Meets wanted (passes sign takes) objects (found sign selector takes objects wanted ms) (found sign selector takes objects wanted (linked_methods R (entries_of R) place ms))
+  found_meets place [] has sign selector takes objects wanted = tt
+  found_meets place (m ∷ others) has sign selector takes objects wanted =
+      let later = place + length (method_stub m) in
+      let parts = methods_split place m others has in
+      first_meets sign selector takes objects wanted place m (found sign selector takes objects wanted others) (found sign selector takes objects wanted (linked_methods R (entries_of R) later others)) (answers sign selector takes objects wanted m) refl parts.0 (found_meets later others parts.1 sign selector takes objects wanted)
+
+  dealloc_meets : (place : ℕ) (dealloc : Option ℕ) → Dealloc place dealloc → Meets gives.Number 0 0 dealloc (linked_dealloc place dealloc)
+  dealloc_meets place None has = tt
+  dealloc_meets place (Some f) has = has
+
+  classes_same : (place : ℕ) (cs : List Class) → Classes place cs → (i : ℕ) → Same (slice_get cs i) (slice_get (linked_classes R (entries_of R) place cs) i)
+  classes_same place [] has i = tt
+  classes_same place (c ∷ others) has zero =
+      let parts = classes_split place c others has in
+      (refl, refl, dealloc_meets place c.dealloc parts.0, found_meets (place + length (dealloc_actions R (entries_of R) c.dealloc)) c.methods parts.1)
+  classes_same place (c ∷ others) has (suc i) =
+      classes_same (place + length (class_actions R (entries_of R) c)) others (classes_split place c others has).2 i
+
+  linked_length : (place : ℕ) (cs : List Class) → length (linked_classes R (entries_of R) place cs) ≡ length cs
+  linked_length place [] = refl
+  linked_length place (c ∷ others) = ap suc (linked_length (place + length (class_actions R (entries_of R) c)) others)
+
+  linked_superclasses : (place : ℕ) (cs : List Class) → superclasses (linked_classes R (entries_of R) place cs) ≡ superclasses cs
+  linked_superclasses place [] = refl
+  linked_superclasses place (c ∷ others) = ap (λ above. c.superclass ∷ above) (linked_superclasses (place + length (class_actions R (entries_of R) c)) others)
+
+  pub linked : Linked (classes_linked R)
+  linked = record {
+    same = classes_same (length (running_actions R)) R.classes stubs_stand;
+    above = linked_superclasses (length (running_actions R)) R.classes;
+    count = linked_length (length (running_actions R)) R.classes;
+  }
+
+  -- ---- lookups
+
+  else_meets : (wanted : Gives) (values objects : ℕ) (a b x y : Option ℕ) → Meets wanted values objects a b → Meets wanted values objects x y → Meets wanted values objects (option_or a x) (option_or b y)
+  else_meets wanted values objects None None x y first above = above
+  else_meets wanted values objects (Some f) (Some place) x y first above = first
+  else_meets wanted values objects _ _ x y first above = absurd first
+
+  own_meets : (sign : Sign) (selector takes objects : ℕ) (wanted : Gives) (a b : Option Class) → Same a b → Meets wanted (passes sign takes) objects (found sign selector takes objects wanted (own_methods a)) (found sign selector takes objects wanted (own_methods b))
+  own_meets sign selector takes objects wanted None None same = tt
+  own_meets sign selector takes objects wanted (Some c) (Some d) same = same.3 sign selector takes objects wanted
+  own_meets sign selector takes objects wanted _ _ same = absurd same
+
+  first_found_meets : (sign : Sign) (selector takes objects : ℕ) (wanted : Gives) (cs ds : List Class) → ((i : ℕ) → Same (slice_get cs i) (slice_get ds i)) → (classes : List ℕ)
+      → Meets wanted (passes sign takes) objects (first_that_has (λ class. found sign selector takes objects wanted (own_methods (slice_get cs class))) classes) (first_that_has (λ class. found sign selector takes objects wanted (own_methods (slice_get ds class))) classes)
+  first_found_meets sign selector takes objects wanted cs ds same [] = tt
+  first_found_meets sign selector takes objects wanted cs ds same (i ∷ above) =
+      else_meets wanted (passes sign takes) objects (found sign selector takes objects wanted (own_methods (slice_get cs i))) (found sign selector takes objects wanted (own_methods (slice_get ds i))) _ _
+      (own_meets sign selector takes objects wanted (slice_get cs i) (slice_get ds i) (same i)) (first_found_meets sign selector takes objects wanted cs ds same above)
+
+  module _ (cs : List Class) (links : Linked cs) where
+    -- looking a method up among the linked classes comes to the stub of what is meant
+    pub lookup_meets : (sign : Sign) (from : Option ℕ) (selector takes objects : ℕ) (wanted : Gives) → Meets wanted (passes sign takes) objects (lookup R.classes from sign selector takes objects wanted) (lookup cs from sign selector takes objects wanted)
+    lookup_meets sign from selector takes objects wanted =
+        let meant = lookup R.classes from sign selector takes objects wanted in
+        subst (λ above. Meets wanted (passes sign takes) objects meant (first_that_has (λ class. found sign selector takes objects wanted (own_methods (slice_get cs class))) (ancestry above from))) (sym links.above)
+        (first_found_meets sign selector takes objects wanted R.classes cs links.same (ancestry (superclasses R.classes) from))
+
+    pub found_same : (from : Option ℕ) (sign : Sign) (selector takes objects : ℕ) (wanted : Gives) → is_some (lookup cs from sign selector takes objects wanted) ≡ is_some (lookup R.classes from sign selector takes objects wanted)
+    found_same from sign selector takes objects wanted =
+        meets_same wanted (passes sign takes) objects (lookup R.classes from sign selector takes objects wanted) (lookup cs from sign selector takes objects wanted) (lookup_meets sign from selector takes objects wanted)
+
+    -- ---- descent and fields
+
+    pub descent_same : (from : Option ℕ) (other : ℕ) → descends cs from other ≡ descends R.classes from other
+    descent_same from other = ap (λ above. list_any (λ class. nat_eq class other) (ancestry above from)) links.above
+
+    counts_same : (a b : Option Class) → Same a b → field_counts b ≡ field_counts a
+    counts_same None None same = refl
+    counts_same (Some c) (Some d) same = same.1
+    counts_same _ _ same = absurd same
+
+    pub fields_same : (class : ℕ) → field_counts (slice_get cs class) ≡ field_counts (slice_get R.classes class)
+    fields_same class = counts_same (slice_get R.classes class) (slice_get cs class) (links.same class)
+
+    above_same : (a b : Option Class) → Same a b → above_class b ≡ above_class a
+    above_same None None same = refl
+    above_same (Some c) (Some d) same = same.0
+    above_same _ _ same = absurd same
+
+    strong_same : (class : ℕ) → strong_count (slice_get cs class) ≡ strong_count (slice_get R.classes class)
+    strong_same class = ap (λ (c : SortCounts). c.objects) (fields_same class)
+
+    all_strong_same : (classes : List ℕ) → strong_counts cs classes ≡ strong_counts R.classes classes
+    all_strong_same [] = refl
+    all_strong_same (class ∷ others) = rw (strong_same class, all_strong_same others)
+
+    -- the fields of an object are destroyed in the same order
+    pub action_same : (class : ℕ) → field_order cs class ≡ field_order R.classes class
+    action_same class =
+        let counts = all_strong_same (ancestry (superclasses R.classes) (above_class (slice_get R.classes class))) in
+        rw (strong_same class, links.above, above_same (slice_get R.classes class) (slice_get cs class) (links.same class), counts)
+
+-- ---- Each function stands at its entry.
+
+-- where a function begins, and where it is entered
+pub record Begins (p : Program) (R : resolved.Program) (n : ℕ) (f : Function) : Type 0 where
+  pub place : ℕ
+  pub entry : acting.entry p n ≡ entry_of place f
+  pub first : slice_index_or (entries_of R) n 0 ≡ entry_of place f
+  pub code : HasAt p place (function_actions R place f)
+
+-- the step of a call
+pub call_enters : (p : Program) (R : resolved.Program) (wanted : Gives) (f : ℕ) (b : Begins p R (number_of R wanted f) (function_at R wanted f)) (pc : ℕ) (frames : List ReturnFrame) (stack : List ℤ) (held : Heap) (more : Bool) → HasAt p pc (Call (number_of R wanted f) wanted ∷ []) → nat_lt (length frames) MOST_LEVELS ≡ more → step p (at frames pc stack held) ≡ enters (at frames pc stack held) (entry_of b.place (function_at R wanted f)) 0 more
+call_enters p R wanted f b pc frames stack held more has e =
+    let s = at frames pc stack held in
+    has.0 frames stack held ∙ ap (λ to. enters s to 0 (has_level s)) b.entry ∙ ap (enters s (entry_of b.place (function_at R wanted f)) 0) e
+
+-- the functions that do nothing
+abbrev last_two : List Function
+last_two = nothing_giving gives.Number ∷ nothing_giving gives.Object ∷ []
+
+last_first : (fs : List Function) → slice_get (fs ++ last_two) (length fs) ≡ Some (nothing_giving gives.Number)
+last_first [] = refl
+last_first (g ∷ fs) = last_first fs
+
+last_second : (fs : List Function) → slice_get (fs ++ last_two) (suc (length fs)) ≡ Some (nothing_giving gives.Object)
+last_second [] = refl
+last_second (g ∷ fs) = last_second fs
+
+module _ (P : resolved.Program) (wanted : Gives) where
+  in_list : (fs : List Function) (f : ℕ) → gives_at (with_functions fs P) wanted f ≡ true
+      → slice_get (fs ++ last_two) f ≡ Some (function_at (with_functions fs P) wanted f)
+  in_list [] f e = absurd (true≢false (sym e))
+  in_list (g ∷ fs) zero e = ap (λ b. Some (if b then g else nothing_giving wanted)) (sym e)
+  in_list (g ∷ fs) (suc f) e = in_list fs f e
+
+  pub out_of_list : (fs : List Function) (f : ℕ) → gives_at (with_functions fs P) wanted f ≡ false
+      → nothing_giving wanted ≡ function_at (with_functions fs P) wanted f
+  out_of_list [] f e = refl
+  out_of_list (g ∷ fs) zero e = ap (λ b. if b then g else nothing_giving wanted) (sym e)
+  out_of_list (g ∷ fs) (suc f) e = out_of_list fs f e
+
+  one_gives : (b : Bool) (g : Function) → same_gives g.gives wanted ≡ b → (if b then g else nothing_giving wanted).gives ≡ wanted
+  one_gives true g e = gives_same g.gives wanted e
+  one_gives false g e = refl
+
+  found_gives : (fs : List Function) (f : ℕ) → (function_at (with_functions fs P) wanted f).gives ≡ wanted
+  found_gives [] f = refl
+  found_gives (g ∷ fs) zero = one_gives (same_gives g.gives wanted) g refl
+  found_gives (g ∷ fs) (suc f) = found_gives fs f
+
+-- a function gives what is wanted of it
+pub function_gives : (R : resolved.Program) (wanted : Gives) (f : ℕ) → (function_at R wanted f).gives ≡ wanted
+function_gives R wanted f = found_gives R wanted R.functions f
+
+nothing_numbered : (R : resolved.Program) (wanted : Gives) → slice_get (all_functions R) (number_of_nothing R wanted) ≡ Some (nothing_giving wanted)
+nothing_numbered R gives.Number = last_first R.functions
+nothing_numbered R gives.Object = last_second R.functions
+
+pub numbered : (R : resolved.Program) (wanted : Gives) (f : ℕ) → slice_get (all_functions R) (number_of R wanted f) ≡ Some (function_at R wanted f)
+numbered R wanted f = by_test (λ b. slice_get (all_functions R) (if b then f else number_of_nothing R wanted) ≡ Some (function_at R wanted f)) (gives_at R wanted f)
+    (λ e. in_list R wanted R.functions f e)
+    (λ e. nothing_numbered R wanted ∙ ap Some (out_of_list R wanted R.functions f e))
+
+pub function_found : (R : resolved.Program) (wanted : Gives) (f : ℕ) → Found R (entries_of R) (number_of R wanted f) (function_at R wanted f)
+function_found R wanted f =
+    find R (all_functions R) (length (start_actions R)) (number_of R wanted f) (function_at R wanted f) (numbered R wanted f) (functions_stand R)
+
+module _ (p : Program) (R : resolved.Program) (is : plain_actions p.actions ≡ lowered R) where
+  -- the actions of a part of the program's actions
+  pub has_part : (pc : ℕ) (xs : List PlainAction) → Part R (lowered R) pc xs → HasAt p pc xs
+  has_part pc xs part = each_from _ pc xs (λ i x e frames stack held.
+      executes_at p p.actions (pc + i) x (at frames (pc + i) stack held) (subst (λ l. slice_get l (pc + i) ≡ Some x) (sym is) (each_at _ pc i xs x part e)))
+
+  pub has_start : HasAt p 0 (start_actions R)
+  has_start = has_part 0 (start_actions R) (start_stands R).1
+
+  -- the action at which the ends of objects go on
+  pub has_end : p.end_step ≡ end_step_of R → HasAt p p.end_step (EndStep ∷ [])
+  has_end at_end = subst (λ n. HasAt p n (EndStep ∷ [])) (sym at_end) (has_part (end_step_of R) (EndStep ∷ []) (end_is R, tt))
+
+  pub begins : p.entries ≡ entries_of R → (wanted : Gives) (f : ℕ) → Begins p R (number_of R wanted f) (function_at R wanted f)
+  begins entries wanted f =
+      let there = function_found R wanted f in
+      let n = number_of R wanted f in
+      record {
+        place = there.place;
+        entry = get_or_from_slice_get p.entries n (entry_of there.place (function_at R wanted f)) (length p.actions) (ap (λ l. slice_get l n) entries ∙ there.entry);
+        first = get_or_from_slice_get (entries_of R) n (entry_of there.place (function_at R wanted f)) 0 there.entry;
+        code = has_part there.place _ there.code.1;
+      }
