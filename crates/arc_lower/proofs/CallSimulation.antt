@@ -41,7 +41,7 @@ then_thrice _ f g h = refl
 abbrev above_in : resolved.Program → (n : ℕ) → Option ℕ → List ℕ
 above_in R n class = ancestry_within n (superclasses R.classes) class
 
--- how a function with this frame waits
+-- how a function with this activation waits
 abbrev waits_at : world.Activation → Waiter
 waits_at f = record { self = f.self; temporaries = length f.temporaries; variables = length f.strong }
 

@@ -45,7 +45,7 @@ abbrev pub laid : World → world.Activation → List ℕ → World
 laid w f waiting = record w { frame = f; waiting = waiting }
 
 -- The ends of objects do what is meant, and go on at a place. The places of the functions are laid out between the one
--- that runs and those that wait as in this frame.
+-- that runs and those that wait as in this activation.
 abbrev pub Ends : Program → List ReturnFrame → (bound : ℕ) → Callees → Type 0
 Ends p frames bound D = (f : world.Activation) (waiting : List ℕ) (k : ℕ) (ob : Object) (c : ℕ → ℕ) (h0 : Heap) (rs : List ℕ) (stack : List ℤ) (w : World)
     (pc back : ℕ) → world.frame_places f ++ waiting ≡ stacked w → object_at w.objects (suc k) ≡ Some ob

@@ -1,4 +1,4 @@
--- Orders: actions, of whose texts only the bytes are kept, and not where these lie in memory.
+-- Plain actions: actions of whose texts only the bytes are kept, and not where these lie in memory.
 use Rattle.std.specs.Prelude.{ℕ, List, map}
 use Rattle.arc_code.specs.declared.instr.Instr.{Instr}
 use Rattle.arc_code.specs.InstructionRenaming.{renamed}
