@@ -23,7 +23,7 @@ use Rattle.arc_ir.specs.ActionSteps.{Program, State, lands, start, step, entry, 
 use Rattle.arc_code.specs.declared.effect.Height.{Height}
 use Rattle.arc_code.specs.declared.instr.Op.{Op}
 use Rattle.arc_code.specs.declared.instr.Op.TheVariants as ops
-use Rattle.arc_code.specs.declared.instr.Op.TheVariants.{Num, Bin, Un, Narrow, Pop, Get, Set, PrintNum, PrintByte, GetChar, Declare, Nil, ReadSelf, ReadRef, ReadGlobal, ReadField, Hold, Forget, Alloc, Finds, GetField, SetField, NotSame, IsObject}
+use Rattle.arc_code.specs.declared.instr.Op.TheVariants.{Num, Get, Set, Declare, Nil, ReadSelf, ReadRef, ReadGlobal, ReadField, Hold, Forget, Alloc, GetField, SetField, NotSame, IsObject}
 use Rattle.arc_code.specs.declared.instr.Instr.TheVariants.{Plain, PrintText, Jump, JumpZero, Call, Send, SendSuper, SendTo, SendToSuper, StoreStrong, StoreGlobal, StoreField, Empty, DropAll, Settle, Give, Return, EndStep}
 use Rattle.arc_code.specs.Effects.{passes, as_object, giving, operation_effect, Follows}
 use Rattle.arc_code.proofs.EffectsFollowed.{operation_follows}
@@ -540,12 +540,14 @@ module _ (p : Program) (R : resolved.Program) where
       object_answers_lead (Some to) wanted selector takes objects object given rest begins le some kept_first kept kept_rest home1 =
           answers_lead (Some to) wanted object takes objects given rest (given ++ (rest ++ deeper)) refl some begins le kept_first (λ things there ends. held_there things held.temporaries held.variables held.places object kept there) home1
 
-      -- the last so many of its references, which are passed, and those below
-      passed : (n : ℕ) → n ≤ h.names → (length (take n own) ≡ n) × (length own ≡ n + length (drop n own)) × (held.names ≡ take n own ++ (drop n own ++ deeper)) × AllHeld (take n own) stays_held × AllHeld (drop n own) stays_held
-      passed n le =
-          let is : own ≡ take n own ++ drop n own = sym (take-append-drop n own) in
+      -- what is found is called with the last so many of its references
+      calls_lead : (found : Option ℕ) (wanted : Gives) (takes objects : ℕ) → ((to : ℕ) → found ≡ Some to → Goes_to wanted to (height takes objects 0 0)) → (takes ≤ h.numbers) × (objects ≤ h.names) → Goes_to mine (pc + 1) (after_effect h (giving wanted takes objects)) → Leads (answers s 0 found)
+      calls_lead found wanted takes objects begins1 needs g =
+          let is : own ≡ take objects own ++ drop objects own = sym (take-append-drop objects own) in
           let kept = subst (λ l. AllHeld l stays_held) is o.keeps in
-          (length-take-le n own (omega (arith, le)), omega (arith, le, length-drop n own), o.is ∙ ap (λ l. l ++ deeper) is ∙ append_assoc (take n own) (drop n own) deeper, λ k some. kept k (omega (arith, holders_append)), λ k some. kept k (omega (arith, holders_append)))
+          answers_lead found wanted 0 takes objects (take objects own) (drop objects own) held.names (o.is ∙ ap (λ l. l ++ deeper) is ∙ append_assoc (take objects own) (drop objects own) deeper) (length-take-le objects own (omega (arith, needs.1))) begins1
+          (omega (arith, needs.0)) (λ k some. kept k (omega (arith, holders_append))) (λ things there ends. tt)
+          (home wanted takes objects (length stack - takes) (drop objects own) needs (g.0, g.1) (λ r. inl g.2) (λ k some. kept k (omega (arith, holders_append))) (omega (arith, needs.0)) (omega (arith, needs.1, length-drop objects own)))
 
       -- a message to the object of the reference below its arguments
       message_sent : (wanted : Gives) (from : Object → ℕ) (r : ℕ) (given rest : List ℕ) (selector takes objects : ℕ) → length own ≡ suc objects + length rest → length given ≡ objects
@@ -574,14 +576,6 @@ module _ (p : Program) (R : resolved.Program) where
           let kept = subst (λ l. AllHeld l stays_held) e o.keeps in
           message_sent wanted from r given rest selector takes objects (omega (arith, length-append {A = ℕ}, names, some)) some
           (λ k now. kept k (omega (arith, holders_append))) (λ k now. kept k (grind (arith, holders_append))) (λ k now. kept k (grind (arith, holders_append))) needs g (ready given rest r e some)))
-
-      class_reported : (wanted : Gives) (from : Option ℕ) (selector takes objects : ℕ) → (suc takes ≤ h.numbers) × (objects ≤ h.names) → Goes_to mine (pc + 1) (after_effect h (giving wanted (suc takes) objects))
-          → Leads (answers s 0 (lookup p.classes from signs.Class selector takes objects wanted))
-      class_reported wanted from selector takes objects needs g =
-          let part = passed objects needs.1 in
-          answers_lead (lookup p.classes from signs.Class selector takes objects wanted) wanted 0 (suc takes) objects (take objects own) (drop objects own) held.names part.2 part.0 (finds from signs.Class selector takes objects wanted)
-          (omega (arith, needs.0)) part.3 (λ things there ends. tt)
-          (home wanted (suc takes) objects (length stack - suc takes) (drop objects own) needs (g.0, g.1) (λ r. inl g.2) part.4 (omega (arith, needs.0)) part.1)
 
       -- after a message to a made object what `init` gives is there, and elsewhere nothing matters
       init_ready : (wanted : Gives) (selector takes objects : ℕ) → slice_get (all R) pc ≡ Some (SendTo selector takes objects wanted) → Ready pc own held.temporaries held.places
@@ -627,15 +621,10 @@ module _ (p : Program) (R : resolved.Program) where
           by_test (λ b. Leads (chosen b (goes s rest) (Goes (at frames (lands pc to) rest held) []))) (is_zero v)
           (λ _. go_on st.2.2 rest o (omega (arith, st.0, st.2.1, e)))
           (λ _. go_on st.1 rest o (omega (arith, st.0, e))))
-      action_leads (Call f wanted) is stands no_end nil ready st =
-          let slots = slots_of R wanted f in
-          let n = parameters_of R wanted f in
-          let part = passed n st.0.2 in
-          let called = λ (to : ℕ) (e : Some (entry p f) ≡ Some to). subst (λ q. Goes_to wanted q (height slots n 0 0)) (some_same (entry p f) to e) (calls wanted f st.0.1) in
-          answers_lead (Some (entry p f)) wanted 0 slots n (take n own) (drop n own) held.names part.2 part.0 called (omega (arith, st.0.0)) part.3 (λ things there ends. tt)
-          (home wanted slots n (length stack - slots) (drop n own) (st.0.0, st.0.2) (st.1.0, st.1.1) (λ r. inl st.1.2) part.4 (omega (arith, st.0.0)) part.1)
-      action_leads (Send selector takes objects wanted) is stands no_end nil ready st = found_leads Good stack takes _ (omega (arith, st.0.0)) (λ class _. class_reported wanted (class_at class) selector takes objects st.0 st.1)
-      action_leads (SendSuper from selector takes objects wanted) is stands no_end nil ready st = class_reported wanted (Some from) selector takes objects st.0 st.1
+      action_leads (Call f wanted) is stands no_end nil ready st = calls_lead (Some (entry p f)) wanted (slots_of R wanted f) (parameters_of R wanted f)
+          (λ to e. subst (λ q. Goes_to wanted q (height (slots_of R wanted f) (parameters_of R wanted f) 0 0)) (some_same (entry p f) to e) (calls wanted f st.0.1)) (st.0.0, st.0.2) st.1
+      action_leads (Send selector takes objects wanted) is stands no_end nil ready st = found_leads Good stack takes _ (omega (arith, st.0.0)) (λ class _. calls_lead _ wanted (suc takes) objects (finds (class_at class) signs.Class selector takes objects wanted) st.0 st.1)
+      action_leads (SendSuper from selector takes objects wanted) is stands no_end nil ready st = calls_lead _ wanted (suc takes) objects (finds (Some from) signs.Class selector takes objects wanted) st.0 st.1
       action_leads (SendTo selector takes objects wanted) is stands no_end nil ready st = message_leads wanted (λ ob. ob.class) selector takes objects st.0 st.1 (init_ready wanted selector takes objects is ready st.2)
       action_leads (SendToSuper from selector takes objects wanted) is stands no_end nil ready st =
           message_leads wanted (λ ob. from) selector takes objects st.0 (st.1.0, st.1.1) (λ given rest r e some r1. inl st.1.2)
