@@ -268,9 +268,7 @@ module _ (p : Program) (R : resolved.Program) where
       → Leads (leaves p (at frames pc stack held) frames v rest (with_variables held []))
   leaves_lead [] pc v stack rest held waits alive size none nil dying sane running = tt
   leaves_lead (Calling back w ∷ others) pc v stack rest held waits alive size none nil dying sane running =
-      let h1 = resumed w held in
-      let resumes = subst (λ n. Resumes waits.0 back w.self others n waits.1 held.names waits.2 h1.temporaries h1.variables h1.places) (sym size) (waits.3 0) in
-      (inl (waits.0, waits.1, waits.2, resumes, waits.4), dying, again_sane w held none nil sane)
+      rw size (inl (waits.0, waits.1, waits.2, waits.3 0, waits.4), dying, again_sane w held none nil sane)
   leaves_lead (Ending back w o next left ∷ others) pc v stack rest held waits alive size none nil dying sane running =
       (inr (record { at_end = refl; is_ending = tt; none = none; empty = refl; alive = alive }, waits), dying, sane_moved (λ k. omega (arith, holders_append, nil_named held.variables nil k)) sane)
   leaves_lead (Clearing back w o fields ∷ others) pc v stack rest held waits alive size none nil dying sane running = absurd running
@@ -406,18 +404,10 @@ module _ (p : Program) (R : resolved.Program) where
       stays : (x : Op) (stack1 : List ℤ) (held1 : Heap) (own1 : List ℕ) → Owns [] own1 held1 → held1.variables ≡ declared x held.variables → IsMade x own1 held1.temporaries → Kept x (at frames (pc + 1) stack1 held1)
       stays x stack1 held1 own1 o1 same made = record { own1 = own1; owns1 = o1; variables = same; made = made }
 
-      -- there are these
-      refers : (x : Op) (stack1 : List ℤ) (names1 own1 : List ℕ) → AllHeld own1 stays_held → names1 ≡ own1 ++ deeper → declared x held.variables ≡ held.variables → IsMade x own1 held.temporaries → Kept x (at frames (pc + 1) stack1 (with_names held names1))
-      refers x stack1 names1 own1 keeps is same made = stays x stack1 _ own1 (owns names1 is keeps) (sym same) made
-
-      -- and a temporary takes this
-      takes : (x : Op) (r : ℕ) (names1 own1 : List ℕ) → AllHeld own1 (r ∷ stays_held) → names1 ≡ own1 ++ deeper → IsThere held.objects r → declared x held.variables ≡ held.variables → IsMade x own1 (r ∷ held.temporaries) → Kept x (at frames (pc + 1) stack (taken_by r (with_names held names1)))
-      takes x r names1 own1 keeps is there same made = stays x stack _ own1 (assumption (gains r there o.sane)) (sym same) made
-
-      -- which is the last reference, above these
+      -- a temporary takes what is named, which is the last reference above these
       reads : (x : Op) (r : ℕ) (names1 own1 : List ℕ) → AllHeld own1 stays_held → names1 ≡ own1 ++ deeper → IsThere held.objects r → declared x held.variables ≡ held.variables → IsMade x (r ∷ own1) (r ∷ held.temporaries)
           → Along (Kept x) (on_named r (with_names held (r ∷ names1)) (Goes (at frames (pc + 1) stack (taken_by r (with_names held (r ∷ names1)))) []))
-      reads x r names1 own1 keeps is there same made = named_leads (Kept x) r (with_names held (r ∷ names1)) _ there (takes x r (r ∷ names1) (r ∷ own1) (λ k some. grind (arith, keeps k)) (ap (λ l. r ∷ l) is) there same made)
+      reads x r names1 own1 keeps is there same made = named_leads (Kept x) r (with_names held (r ∷ names1)) _ there (stays x stack _ (r ∷ own1) (record { is = ap (λ l. r ∷ l) is; keeps = λ k some. grind (arith, keeps k); alive = o.alive; waits = o.waits; dying = o.dying; sane = gains r there o.sane }) (sym same) made)
 
       or_fault_leads : (x : Op) (v : Option ℤ) (rest : List ℤ) → declared x held.variables ≡ held.variables → IsMade x own held.temporaries → Along (Kept x) (or_fault v s rest)
       or_fault_leads x None rest same made = tt
@@ -441,7 +431,7 @@ module _ (p : Program) (R : resolved.Program) where
           stays _ rest _ own (assumption) refl tt)
       operation_keeps Declare needs = subst (λ l. Along (Kept Declare) (declares l held (keeps s stack))) (sym (nil_from_length held.temporaries (omega arith)))
           (stays _ stack _ own (record { is = o.is; keeps = o.keeps; alive = o.alive; waits = o.waits; dying = o.dying; sane = sane_moved (λ k. grind (arith, nat_tests, holders_append)) (gains 0 tt o.sane) }) refl tt)
-      operation_keeps Nil needs = refers _ _ _ (0 ∷ own) (λ k some. grind (arith, nat_tests, o.keeps k)) (ap (λ l. 0 ∷ l) o.is) refl tt
+      operation_keeps Nil needs = stays _ _ _ (0 ∷ own) (owns (0 ∷ held.names) (ap (λ l. 0 ∷ l) o.is) (λ k some. grind (arith, nat_tests, o.keeps k))) refl tt
       operation_keeps ReadSelf needs = reads _ held.self held.names own o.keeps o.is self_there refl tt
       operation_keeps (ReadRef i) needs = found_leads _ held.variables i _ (omega arith) (λ r found.
           reads _ r held.names own o.keeps o.is (place_there held.objects i r held.variables found (λ k some. keeps_there {places = all_places held} o.sane k (omega (arith, holders_append, some)))) refl tt)
@@ -449,13 +439,13 @@ module _ (p : Program) (R : resolved.Program) where
           (name_there held.objects held.strong_globals i (λ k some. keeps_there {places = all_places held} o.sane k (omega (arith, holders_append, some)))) refl tt
       operation_keeps (ReadField class index) needs = last_leads_on _ _ (omega arith) (λ r rest _ now kept. field_leads _ class r held _ (is_held r now) (λ j ob _ found there.
           reads _ (name_at ob.strong index) (rest ++ deeper) rest kept refl (name_there held.objects ob.strong index (fields_there held j ob found there o.sane)) refl tt))
-      operation_keeps Hold needs = last_leads_on _ _ (omega arith) (λ r rest _ now kept. named_leads _ r held _ (is_held r now) (takes _ r held.names own (λ k some. grind (arith, o.keeps k)) o.is (is_held r now) refl tt))
-      operation_keeps ops.Again needs = last_leads_on _ _ (omega arith) (λ r rest _ now kept. refers _ _ _ (r ∷ own) (λ k some. grind (arith, now k, o.keeps k)) (ap (λ l. r ∷ l) o.is) refl tt)
-      operation_keeps Forget needs = last_leads_on _ _ (omega arith) (λ r rest _ now kept. refers _ _ _ rest kept refl refl tt)
-      operation_keeps (GetField class index) needs = last_leads_on _ _ (omega arith) (λ r rest _ now kept. field_leads _ class r held _ (is_held r now) (λ j ob _ _ _. refers _ _ _ rest kept refl refl tt))
-      operation_keeps IsObject needs = last_leads_on _ _ (omega arith) (λ r rest _ now kept. named_leads _ r held _ (is_held r now) (refers _ _ _ rest kept refl refl tt))
+      operation_keeps Hold needs = last_leads_on _ _ (omega arith) (λ r rest _ now kept. named_leads _ r held _ (is_held r now) (stays _ stack _ own (record { is = o.is; keeps = λ k some. grind (arith, o.keeps k); alive = o.alive; waits = o.waits; dying = o.dying; sane = gains r (is_held r now) o.sane }) refl tt))
+      operation_keeps ops.Again needs = last_leads_on _ _ (omega arith) (λ r rest _ now kept. stays _ _ _ (r ∷ own) (owns (r ∷ held.names) (ap (λ l. r ∷ l) o.is) (λ k some. grind (arith, now k, o.keeps k))) refl tt)
+      operation_keeps Forget needs = last_leads_on _ _ (omega arith) (λ r rest _ now kept. stays _ _ _ rest (owns (rest ++ deeper) refl kept) refl tt)
+      operation_keeps (GetField class index) needs = last_leads_on _ _ (omega arith) (λ r rest _ now kept. field_leads _ class r held _ (is_held r now) (λ j ob _ _ _. stays _ _ _ rest (owns (rest ++ deeper) refl kept) refl tt))
+      operation_keeps IsObject needs = last_leads_on _ _ (omega arith) (λ r rest _ now kept. named_leads _ r held _ (is_held r now) (stays _ _ _ rest (owns (rest ++ deeper) refl kept) refl tt))
       operation_keeps NotSame needs = last_leads_on _ _ (omega arith) (λ r rest e now kept. reference_leads _ rest deeper stays_held (rest ++ deeper) _ refl (omega arith) kept (λ q others _ also below1.
-          named_leads _ r held _ (is_held r now) (named_leads _ q held _ (is_held q also) (refers _ _ _ others below1 refl refl tt))))
+          named_leads _ r held _ (is_held r now) (named_leads _ q held _ (is_held q also) (stays _ _ _ others (owns (others ++ deeper) refl below1) refl tt))))
       operation_keeps (SetField class index) needs = last_leads_on _ _ (omega arith) (λ r rest _ now kept. top_leads _ stack _ (omega arith) (λ v _ _. field_leads _ class r held _ (is_held r now) (λ j ob same found _.
           let fields = slice_set ob.fields index v in
           let set : Sane p.classes (with_field held r ob index v) = subst (λ q. Sane p.classes (with_things held (with_object held.objects q (with_fields ob fields)))) (sym same) (sane_turned held j ob (with_fields ob fields) found (λ k. refl) (λ f. record { there = f.there; held = f.held; sized = f.sized }) o.sane) in

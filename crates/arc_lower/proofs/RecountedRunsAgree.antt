@@ -105,11 +105,11 @@ module _ (p : Program) (s : State) (right : CountsAreExact s.held) where
   end_goes_on_agrees _ dying = refl
 
   -- a place of the running function or of the program takes this
-  releases_agree : (r old : ℕ) (h : Heap) → Agree (releases p s old (counted_by h (raised r s.held).counts)) (releases p t old (counted_by h (raised r t.held).counts))
-  releases_agree r old h = grind (arith, right.counted)
+  releases_agree : (r old : ℕ) (variables strong_globals : List ℕ) → Agree (releases p s old (raised r (record s.held { variables = variables; strong_globals = strong_globals }))) (releases p t old (raised r (record t.held { variables = variables; strong_globals = strong_globals })))
+  releases_agree r old variables strong_globals = grind (arith, right.counted)
 
   -- what steps are made of
-  ruleset agrees = (top_agrees, found_agrees, object_agrees, named_agrees, field_agrees, answers_agree, sends_agree, stores_agree)
+  ruleset agrees = (top_agrees, found_agrees, object_agrees, named_agrees, field_agrees, answers_agree, sends_agree, stores_agree, place_agrees, releases_agree)
 
   -- an operation, and an action, that are made of these need no line
   operation_agrees : (o : Op) → Agree (operates p.classes o s) (operates p.classes o t)
@@ -120,10 +120,6 @@ module _ (p : Program) (s : State) (right : CountsAreExact s.held) where
   acts_agree (Some (Plain o)) dying = operation_agrees o
   acts_agree (Some DropAll) dying = drops_agree s.held.temporaries s.held s.held.counts _ right.counted
   acts_agree (Some EndStep) dying = end_goes_on_agrees s.frames dying
-  acts_agree (Some (StoreStrong i)) dying = top_agrees s.held.names _ _ (λ r rest. found_agrees (slice_get s.held.variables i) _ _ (λ old.
-      named_agrees r s.held t.held.counts _ _ (releases_agree r old (with_variables s.held (slice_set s.held.variables i r)))))
-  acts_agree (Some (StoreGlobal i)) dying = top_agrees s.held.names _ _ (λ r rest. named_agrees r s.held t.held.counts _ _ (place_agrees (slice_get s.held.strong_globals i) _ _ _ _ refl (λ old.
-      releases_agree r old (with_strong_globals s.held (slice_set s.held.strong_globals i r)))))
   acts_agree (Some Give) dying = grind (arith, last_agrees)
   acts_agree _ dying = first_of (search agrees depth 8, grind (arith, right.counted))
 
