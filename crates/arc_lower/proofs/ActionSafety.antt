@@ -289,12 +289,9 @@ module _ (p : Program) (R : resolved.Program) where
       → Leads (begins_end p (at frames pc stack before) to (suc k) ob.class (with_things (lowered (suc k) held) (with_object held.objects (suc k) (in_phase Dying ob))) b)
   begins_lead frames false k to pc ob stack before held found live dying drops waits = tt
   begins_lead frames true k to pc ob stack before held found live dying drops waits =
-      let objects = with_object held.objects (suc k) (in_phase Dying ob) in
-      let w = waiter_of held in
-      let begun : IsDying objects (suc k) None = (in_phase Dying ob, set_here held.objects k (in_phase Dying ob) ob found, refl) in
+      let x = in_phase Dying ob in
       let apart = live_apart held.objects k ob (ending frames) found live dying in
-      let below = as_waits (GoesOn (λ g. Waits g frames) to held.self frames (length stack) held.names) held waits in
-      (inr (again tt (λ objects there ends. ends.0), (apart, below)), (begun, apart_dying held.objects k (in_phase Dying ob) (ending frames) apart dying), sane_last held k ob found (grind arith) drops)
+      (inr (again tt (λ objects there ends. ends.0), (apart, as_waits (GoesOn (λ g. Waits g frames) to held.self frames (length stack) held.names) held waits)), ((x, set_here held.objects k x ob found, refl), apart_dying held.objects k x (ending frames) apart dying), sane_last held k ob found (grind arith) drops)
 
   -- ---- one step of a function
 
@@ -505,9 +502,8 @@ module _ (p : Program) (R : resolved.Program) where
       answers_lead None wanted self1 taken objects given rest names1 is some begins1 le keeps living home1 = tt
       answers_lead (Some to) wanted self1 taken objects given rest names1 is some begins1 le keeps living home1 =
           let st = at frames pc stack (with_names held names1) in
-          let entered : Resumes wanted to self1 (Calling (pc + 1) (waiter_of held) ∷ frames) (length stack) (length stack - taken) names1 (rest ++ deeper) [] [] (stacked held) = begins given (begins1 to refl) is some (omega arith) (λ k now. grind (arith, holders_append, keeps k)) living tt in
           let home2 = as_waits (λ t v w. Comes_back wanted mine (pc + 1) held.self frames (length stack - taken) below (rest ++ deeper) deeper t v w × Waits mine frames below deeper w) held (home1, o.waits) in
-          by_test (λ b. Leads (enters st to self1 b)) (has_level st) (λ _. (inl (wanted, length stack - taken, rest ++ deeper, entered, (mine, below, deeper, home2.0, home2.1)), o.dying, o.sane)) (λ _. tt)
+          by_test (λ b. Leads (enters st to self1 b)) (has_level st) (λ _. (inl (wanted, length stack - taken, rest ++ deeper, begins given (begins1 to refl) is some (omega arith) (λ k now. grind (arith, holders_append, keeps k)) living tt, (mine, below, deeper, home2.0, home2.1)), o.dying, o.sane)) (λ _. tt)
 
       -- what is wanted is given without a call
       at_once_leads : (wanted : Gives) (object : ℕ) (stack0 stack1 : List ℤ) (names0 rest : List ℕ) → Home wanted (length stack1) rest → IsThere held.objects object → AllHeld rest stays_held → Leads (instructions.gives_at_once (bare p) (at frames pc stack0 (with_names held names0)) wanted object stack1 (rest ++ deeper))
@@ -562,9 +558,8 @@ module _ (p : Program) (R : resolved.Program) where
       message_leads wanted from selector takes objects needs g ready =
           subst (λ l. Leads (instructions.on_receiver objects l (λ r rest. sends p s wanted from r selector takes objects rest))) (sym o.is)
           (receiver_leads objects own deeper (λ r. sends p s wanted from r selector takes objects) (omega (arith, needs.1)) (λ given rest r e some.
-          let names = ap length e in
           let kept = subst (λ l. AllHeld l stays_held) e o.keeps in
-          message_sent wanted from r given rest selector takes objects (omega (arith, length-append {A = ℕ}, names, some)) some
+          message_sent wanted from r given rest selector takes objects (omega (arith, length-append {A = ℕ}, ap length e, some)) some
           (λ k now. kept k (omega (arith, holders_append))) (λ k now. kept k (grind (arith, holders_append))) (λ k now. kept k (grind (arith, holders_append))) needs g (ready given rest r e some)))
 
       -- after a message to a made object what `init` gives is there, and elsewhere nothing matters
@@ -582,26 +577,27 @@ module _ (p : Program) (R : resolved.Program) where
           subst (λ g. Ready_after g rest) (sym q.2)
           (λ r1. inr (inr (q.3, (r1, m.0, rest, m.2, refl, ap (λ l. r1 ∷ l) m.4, subst (λ l. AllHeld l (m.2 ++ held.places)) rest_same m.5))))
 
+      -- a place takes what it names now, and what it named is dropped
+      stores_lead : (old : ℕ) (held1 : Heap) {own1 : List ℕ} {h1 : Height} → Goes_to mine (pc + 1) h1 → Owns (old ∷ []) own1 held1 → Sized h1 below (length stack) own1 held1.temporaries held1.variables → Leads (releases p s old held1)
+      stores_lead old held1 g o1 sized1 = releases_lead old pc stack held held1 o1 (back_any g o1 sized1)
+
       -- a field of an object takes what a reference names
-      stored : (b : Bool) (j : ℕ) (ob : Object) {q : ℕ} → q ≡ suc j → object_at held.objects (suc j) ≡ Some ob → is_there ob.phase ≡ true → (index r : ℕ) → IsThere held.objects r → (own1 : List ℕ) → AllHeld own1 stays_held → (x : Height) → Goes_to mine (pc + 1) x
+      stored : (b : Bool) (j : ℕ) (ob : Object) {q : ℕ} → q ≡ suc j → object_at held.objects (suc j) ≡ Some ob → is_there ob.phase ≡ true → (index r : ℕ) → IsThere held.objects r → (own1 : List ℕ) → AllHeld own1 stays_held → {x : Height} → Goes_to mine (pc + 1) x
           → Sized x below (length stack) own1 held.temporaries held.variables → is_emptying ob.phase ≡ b
           → Leads (if b then Faults Resurrected else on_place (slice_get ob.strong index) (keeps s stack (with_names held (own1 ++ deeper))) (λ old. releases p s old (raised r (with_strong_field (with_names held (own1 ++ deeper)) q ob index r))))
-      stored true j ob same found is_there_now index r there own1 kept x g sized1 e = tt
-      stored false j ob {q} same found is_there_now index r there own1 kept x g sized1 e =
+      stored true j ob same found is_there_now index r there own1 kept g sized1 e = tt
+      stored false j ob {q} same found is_there_now index r there own1 kept g sized1 e =
           let held1 = with_names held (own1 ++ deeper) in
           place_leads (slice_get ob.strong index) _ _
           (λ none. go_on g stack (owns (own1 ++ deeper) refl kept) sized1)
-          (λ old named.
-          let strong = slice_set ob.strong index r in
-          let o1 : Owns (old ∷ []) own1 (raised r (with_strong_field held1 (suc j) ob index r)) = assumption (changed_dying held.objects j ob (with_strong_fields ob strong) (ending frames) found (λ fields far. grind arith) o.dying, sane_store_field held1 j ob index old r found is_there_now named there o.sane) in
-          subst (λ k. Leads (releases p s old (raised r (with_strong_field held1 k ob index r)))) (sym same)
-          (releases_lead old pc stack held _ o1 (back_any g o1 sized1)))
+          (λ old named. subst (λ k. Leads (releases p s old (raised r (with_strong_field held1 k ob index r)))) (sym same)
+          (stores_lead old (raised r (with_strong_field held1 (suc j) ob index r)) g
+          (assumption (changed_dying held.objects j ob (with_strong_fields ob (slice_set ob.strong index r)) (ending frames) found (λ fields far. grind arith) o.dying, sane_store_field held1 j ob index old r found is_there_now named there o.sane)) sized1))
 
       -- what waits, once there is nothing left of the running function
       left_waits : (g : Gives) → mine ≡ g → (rest : List ℤ) → below ≡ length rest → h.names ≡ 0 → Waits g frames (length rest) held.names held.places
       left_waits g same rest e no_names =
-          let none = nil_from_length own (omega (arith, no_names)) in
-          subst (λ n. Waits g frames n held.names held.places) e (subst (λ l. Waits g frames below l held.places) (sym (o.is ∙ ap (λ l. l ++ deeper) none)) (subst (λ m. Waits m frames below deeper held.places) same o.waits))
+          subst (λ n. Waits g frames n held.names held.places) e (subst (λ l. Waits g frames below l held.places) (sym (o.is ∙ ap (λ l. l ++ deeper) (nil_from_length own (omega (arith, no_names))))) (subst (λ m. Waits m frames below deeper held.places) same o.waits))
 
       action_leads : (x : PlainAction) → slice_get (all R) pc ≡ Some x → Stands R (all R) (table R) mine pc h → (role x ≡ Ends → ⊥) → (nil : (k : ℕ) → Clear k pc → Shut mine k held.variables) → Ready pc own held.temporaries held.places → Steps R (all R) (table R) mine h pc x → Leads (does p x s)
       action_leads (Plain x) is stands no_end nil ready st = operation_leads x is nil st.0 st.1 st.2
@@ -620,20 +616,15 @@ module _ (p : Program) (R : resolved.Program) where
           message_leads wanted (λ ob. from) selector takes objects st.0 (st.1.0, st.1.1) (λ given rest r e some r1. inl st.1.2)
       action_leads (StoreStrong i) is stands no_end nil ready st =
           last_leads_on Good _ st.0.0 (λ r rest _ now _. found_leads Good held.variables i _ (omega (arith, st.0.1)) (λ old found. named_leads Good r held _ (is_held r now)
-          (let long = length-set held.variables i r in
-          let o1 : Owns (old ∷ []) own (raised r (with_variables held (slice_set held.variables i r))) = takes_place old r (is_held r now) o (λ k. variable_moves k held i old r found) in
-          releases_lead old pc stack held _ o1 (back_any st.1 o1 (omega (arith, st.0.0, long))))))
+          (stores_lead old (raised r (with_variables held (slice_set held.variables i r))) st.1 (takes_place old r (is_held r now) o (λ k. variable_moves k held i old r found)) (omega (arith, st.0.0, length-set held.variables i r)))))
       action_leads (StoreGlobal i) is stands no_end nil ready st =
           last_leads_on Good _ st.0 (λ r rest _ now _. named_leads Good r held _ (is_held r now) (place_leads (slice_get held.strong_globals i) _ _
           (λ none. go_on st.1 stack o (omega (arith, st.0)))
-          (λ old found.
-          let o1 : Owns (old ∷ []) own (raised r (with_strong_globals held (slice_set held.strong_globals i r))) = takes_place old r (is_held r now) o (λ k. global_moves k held i old r found) in
-          releases_lead old pc stack held _ o1 (back_any st.1 o1 (omega (arith, st.0))))))
+          (λ old found. stores_lead old (raised r (with_strong_globals held (slice_set held.strong_globals i r))) st.1 (takes_place old r (is_held r now) o (λ k. global_moves k held i old r found)) (omega (arith, st.0)))))
       action_leads (StoreField class index) is stands no_end nil ready st =
-          let x = next_height R (StoreField class index) h in
           last_leads_on Good _ (omega (arith, st.0)) (λ r rest e now kept. reference_leads Good rest deeper stays_held (rest ++ deeper) _ refl (omega (arith, st.0, e)) kept (λ q others f also below1.
           named_leads Good r held _ (is_held r now) (field_leads Good class q held _ (is_held q also) (λ j ob same found there.
-          stored (is_emptying ob.phase) j ob same found there index r (is_held r now) (r ∷ others) (λ k some. grind (arith, now k, below1 k)) x st.1 (omega (arith, st.0, e, f)) refl))))
+          stored (is_emptying ob.phase) j ob same found there index r (is_held r now) (r ∷ others) (λ k some. grind (arith, now k, below1 k)) st.1 (omega (arith, st.0, e, f)) refl))))
       action_leads (Empty i) is stands no_end nil ready st = found_leads Good held.variables i _ (omega (arith, st.0)) (λ r found.
           let long = length-set held.variables i 0 in
           let o1 : Owns (r ∷ []) own (raised 0 (with_variables held (slice_set held.variables i 0))) = takes_place r 0 tt o (λ k. variable_moves k held i r 0 found) in
@@ -641,22 +632,17 @@ module _ (p : Program) (R : resolved.Program) where
           (back st.1 o1 (λ k c. ⊎_elim (λ same. subst (λ j. Shut mine j (slice_set held.variables i 0)) (sym same) (shut_set mine i held.variables (nil (suc i) (ap role_of is, subst (λ j. Clear j (pc + 1)) same c)))) (λ le. shut_end mine (slice_set held.variables i 0) k (omega (arith, long, le))) (st.2 k c)) (inl st.3) (omega (arith, long))))
       action_leads DropAll is stands no_end nil ready st =
           let none = nil_from_length own (omega (arith, st.0)) in
-          let free = calm_free R (all R) (table R) pc Stays tt (ap role_of is) in
-          drops_lead held.temporaries stack held held stands free st.1 nil (omega (arith, st.0)) (subst (λ l. Owns [] l held) none o)
+          drops_lead held.temporaries stack held held stands (calm_free R (all R) (table R) pc Stays tt (ap role_of is)) st.1 nil (omega (arith, st.0)) (subst (λ l. Owns [] l held) none o)
       action_leads Settle is stands no_end nil (inl free) st = absurd (free.0 (ap role_of is))
       action_leads Settle is stands no_end nil (inr (inl made)) st = absurd (made.0 (ap role_of is))
       action_leads Settle is stands no_end nil (inr (inr over)) st =
           let m = over.1 in
-          let sane1 = sane_moved (λ k. second_moves (suc k) held m.0 m.1 m.3 m.5) o.sane in
-          let o1 : Owns (m.1 ∷ []) (m.0 ∷ m.2) (with_temporaries held (m.0 ∷ m.3)) = record { is = o.is ∙ ap (λ l. l ++ deeper) m.4; keeps = λ k some. grind (arith, m.6 k); alive = o.alive; waits = o.waits; dying = o.dying; sane = sane1 } in
-          let names_size = ap length m.4 in
-          let places_size = ap length m.5 in
-          subst (λ l. Leads (instructions.settles (bare p) s l)) (sym m.5)
-          (releases_lead m.1 pc stack held _ o1 (back_any st o1 (omega (arith, names_size, places_size))))
+          subst (λ l. Leads (instructions.settles (bare p) s l)) (sym m.5) (stores_lead m.1 (with_temporaries held (m.0 ∷ m.3)) {own1 = m.0 ∷ m.2} st
+          (record { is = o.is ∙ ap (λ l. l ++ deeper) m.4; keeps = λ k some. grind (arith, m.6 k); alive = o.alive; waits = o.waits; dying = o.dying; sane = sane_moved (λ k. second_moves (suc k) held m.0 m.1 m.3 m.5) o.sane })
+          (omega (arith, ap length m.4, ap length m.5)))
       action_leads Give is stands no_end nil ready st =
           let none = nil_from_length held.temporaries (omega (arith, st.2)) in
-          let shut = subst (λ g. Shut g 0 held.variables) st.3 (nil 0 (0, ap role_of is)) in
-          top_leads Good stack _ (omega (arith, st.0)) (λ v rest e. subst (λ l. Leads (on_result l held (λ r. instructions.hands_over (bare p) s frames r rest))) (sym none) (last_leads held.variables _ (omega (arith, st.4)) shut (λ r last.
+          top_leads Good stack _ (omega (arith, st.0)) (λ v rest e. subst (λ l. Leads (on_result l held (λ r. instructions.hands_over (bare p) s frames r rest))) (sym none) (last_leads held.variables _ (omega (arith, st.4)) (subst (λ g. Shut g 0 held.variables) st.3 (nil 0 (0, ap role_of is))) (λ r last.
           hands_lead frames pc r stack rest held (left_waits gives.Object st.3 rest (omega (arith, st.0, e)) st.1) none last o.dying o.sane)))
       action_leads Return is stands no_end nil ready st =
           let none = nil_from_length held.temporaries (omega (arith, st.2)) in

@@ -82,7 +82,6 @@ main_ends v w e =
 module _ (p : Program) (R : resolved.Program) (is : plain_actions p.actions ≡ lowered R) (entries : p.entries ≡ entries_of R) (classes : p.classes ≡ classes_linked R) (end_at : p.end_step ≡ end_step_of R) where
   program_runs : (input : List ℕ) (bound : ℕ) → Follows p bound (running [] [] 0 [] (first_world R.globals R.strong_globals input)) Ends_with (mean R input bound)
   program_runs input bound =
-      let none : 0 + MOST_LEVELS ≡ MOST_LEVELS = omega arith in
       let w = first_world R.globals R.strong_globals input in
       let fits = passing_actions R gives.Number R.main 0 0 in
       let call = Call (number_of R gives.Number R.main) gives.Number ∷ [] in
@@ -94,8 +93,7 @@ module _ (p : Program) (R : resolved.Program) (is : plain_actions p.actions ≡ 
       let last = subst (λ n. HasAt p n last_actions) size (has_back p 0 (fits ++ call) last_actions has) in
       let ready = passing_leads p [] (slots_of R gives.Number R.main) (parameters_of R gives.Number R.main) 0 0 nothing_given [] [] w 0 refl refl
       (has_front p 0 fits call has_call) in
-      let levels = calls_run p R bound is entries (subst (Linked R) (sym classes) (linked R)) (has_end p R is end_at) MOST_LEVELS [] none in
-      next (leads ready (levels.invokes gives.Number R.main nothing_given [] [] w q (has_back p 0 fits call has_call))) (λ a w1 to m.
+      next (leads ready ((calls_run p R bound is entries (subst (Linked R) (sym classes) (linked R)) (has_end p R is end_at) MOST_LEVELS [] (omega arith)).invokes gives.Number R.main nothing_given [] [] w q (has_back p 0 fits call has_call))) (λ a w1 to m.
       on m.0 (moves_on {next = Ends (converted k.Int a.number)} (ap recount (last.0 [] (a.number ∷ []) (held_of [] w1)) ∙ main_ends a.number w1 m.1.frame)
       (record { follows = ends refl })))
 

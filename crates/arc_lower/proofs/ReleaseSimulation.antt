@@ -195,8 +195,7 @@ module _ (p : Program) (frames : List ReturnFrame) (bound : ℕ) (rs : List ℕ)
       → Drops stack pc (pc + 1) w (with_temporaries w (x ∷ ts)) (second_dropped D w.frame.temporaries w)
   settled_runs x r ts stack w pc these has =
       let w1 = with_temporaries w (x ∷ ts) in
-      let s = at frames pc stack (held_of rs w) in
-      steps Settle has.0 (subst (λ l. Dropping stack (pc + 1) (instructions.settles (bare p) s l) w w1 (second_dropped D l w)) (sym these)
+      steps Settle has.0 (subst (λ l. Dropping stack (pc + 1) (instructions.settles (bare p) (at frames pc stack (held_of rs w)) l) w w1 (second_dropped D l w)) (sym these)
       (release_runs r (held_of rs w).counts (held_of rs w) stack w1 pc (λ k. sym (second_moves (suc k) (held_of rs w) x r ts these))))
 
   -- ---- variables

@@ -153,8 +153,7 @@ module _ {p : Program} {frames : List ReturnFrame} {rs : List ℕ} {stack : List
       → Crosses p frames (x ∷ []) rs stack w rs' stack' w'
   one_crosses {x} h = record {
     leads = λ pc has.
-        let s = at frames pc stack (held_of rs w) in
-        leads_trans (moves p) _ _ _ (leads_step (moves p) s w.input w.trace _ (ap recount (has.0 frames stack (held_of rs w)))) (h pc);
+        leads_trans (moves p) _ _ _ (leads_step (moves p) (at frames pc stack (held_of rs w)) w.input w.trace _ (ap recount (has.0 frames stack (held_of rs w)))) (h pc);
   }
 
   pub then_crosses : {xs ys : List PlainAction} {rs1 : List ℕ} {stack1 : List ℤ} {w1 : World} → Crosses p frames xs rs stack w rs1 stack1 w1
