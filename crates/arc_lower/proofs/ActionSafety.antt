@@ -23,7 +23,7 @@ use Rattle.arc_ir.specs.ActionSteps.{Program, State, lands, start, step, entry, 
 use Rattle.arc_code.specs.declared.effect.Height.{Height}
 use Rattle.arc_code.specs.declared.instr.Op.{Op}
 use Rattle.arc_code.specs.declared.instr.Op.TheVariants as ops
-use Rattle.arc_code.specs.declared.instr.Op.TheVariants.{Num, Bin, Un, Narrow, Pop, Get, Set, PrintNum, PrintByte, GetChar, Declare, Nil, ReadSelf, ReadRef, ReadGlobal, ReadField, Hold, Forget, Alloc, Finds, GetField, SetField, NotSame, IsObject}
+use Rattle.arc_code.specs.declared.instr.Op.TheVariants.{Num, Get, Set, Declare, Nil, ReadSelf, ReadRef, ReadGlobal, ReadField, Hold, Forget, Alloc, GetField, SetField, NotSame, IsObject}
 use Rattle.arc_code.specs.declared.instr.Instr.TheVariants.{Plain, PrintText, Jump, JumpZero, Call, Send, SendSuper, SendTo, SendToSuper, StoreStrong, StoreGlobal, StoreField, Empty, DropAll, Settle, Give, Return, EndStep}
 use Rattle.arc_code.specs.Effects.{passes, as_object, giving, operation_effect, Follows}
 use Rattle.arc_code.proofs.EffectsFollowed.{operation_follows}
@@ -33,7 +33,7 @@ use Rattle.arc_lower.specs.PlainActions.{PlainAction, plain_action, plain_action
 use Rattle.arc_lower.specs.Lowered.{slots_of, parameters_of, entries_of, end_step_of, lowered as lowered_actions, classes_linked}
 use Rattle.arc_lower.specs.Heights.{height, after_effect, next_height}
 use Rattle.arc_lower.proofs.CaseAnalysis.{by_test}
-use Rattle.arc_lower.proofs.PlaceCounts.{variable_moves, global_moves, second_moves, IsThere, place_there, name_there, set_here, set_same, set_other, holders_head, nils_holders, holders_append, there_fields}
+use Rattle.arc_lower.proofs.PlaceCounts.{tally, variable_moves, global_moves, second_moves, IsThere, place_there, name_there, set_here, set_same, set_other, holders_head, nils_holders, holders_append, there_fields}
 use Rattle.arc_lower.proofs.CountsKept.{Keeps, Sane, Drops, gains, sane_moved, fits_at, sane_counted, keeps_there, fields_there, sane_store_field, sane_last, lowers, sane_make, sane_turned}
 use Rattle.arc_lower.proofs.RecountedSteps.{at, bare, does, executes_at}
 use Rattle.arc_lower.proofs.EndingObjectsKept.{ending, AllDying, IsDying, NilBut, Alive, ends_there, IsHeld, AllHeld, held_there, made_dying, changed_dying, IsApart, live_apart, apart_dying, one_nil, no_field, nil_named, all_in_order}
@@ -71,9 +71,6 @@ abbrev pub with_object_of : Gives → (r : ℕ) → List ℕ → List ℕ
 with_object_of gives.Number r own = own
 with_object_of gives.Object r own = r ∷ own
 
-given_held : (wanted : Gives) (r : ℕ) (own temporaries waiting : List ℕ) → AllHeld own (temporaries ++ waiting) → AllHeld (with_object_of wanted r own) (with_object_of wanted r temporaries ++ waiting)
-given_held wanted r own temporaries waiting h k some = grind (arith, h k)
-
 -- an object was made, which the last reference names and the last temporary holds; the others hold the other references
 abbrev Made : (own temporaries waiting : List ℕ) → Type 0
 Made own temporaries waiting = (made : ℕ) × (rest : List ℕ) × (others : List ℕ) × (own ≡ made ∷ rest) × (temporaries ≡ made ∷ others) × AllHeld rest (others ++ waiting)
@@ -94,6 +91,10 @@ as_waits P h own = simp (append_assoc, take-append_seam, drop-append_seam) own
 
 resumed_holders : (k : ℕ) (w : Waiter) (h : Heap) → holders k (resumed w h).temporaries + holders k (resumed w h).variables + holders k (resumed w h).places ≡ holders k h.places
 resumed_holders k w h = omega (arith, holders_append, ap (holders k) (take-append-drop w.temporaries h.places), ap (holders k) (take-append-drop w.variables (drop w.temporaries h.places)))
+
+-- with no temporaries and no variables
+abbrev cleared : Heap → Heap
+cleared h = record h { temporaries = []; variables = [] }
 
 -- the function that is left has no temporary, and its variables are nil
 again_sane : {classes : List Class} (w : Waiter) (h : Heap) → h.temporaries ≡ [] → NilBut [] h.variables → Sane classes h → Sane classes (resumed w h)
@@ -127,16 +128,20 @@ module _ (p : Program) (R : resolved.Program) where
   IsEnding (Clearing back w o fields ∷ others) = Unit {0}
   IsEnding _ = ⊥
 
+  -- there is as much as a height says, above so many numbers
+  pub record Sized (h : Height) (below numbers : ℕ) (own temporaries variables : List ℕ) : Type 0 where
+    count : numbers ≡ h.numbers + below
+    size : length own ≡ h.names
+    few : length temporaries ≤ h.temporaries
+    many : length variables ≡ h.variables
+
   -- with so many numbers, these references and these places a function that gives this goes on at a place, above those that wait
   pub record Resumes (mine : Gives) (back self : ℕ) (others : List ReturnFrame) (numbers below : ℕ) (names deeper temporaries variables waiting : List ℕ) : Type 0 where
     high : Height
     stands : Stands R (all R) (table R) mine back high
-    count : numbers ≡ high.numbers + below
     own : List ℕ
     is : names ≡ own ++ deeper
-    size : length own ≡ high.names
-    few : length temporaries ≤ high.temporaries
-    many : length variables ≡ high.variables
+    sized : Sized high below numbers own temporaries variables
     held : AllHeld own (temporaries ++ waiting)
     nil : (k : ℕ) → Clear k back → Shut mine k variables
     ready : Ready back own temporaries waiting
@@ -150,6 +155,15 @@ module _ (p : Program) (R : resolved.Program) where
     none : temporaries ≡ []
     empty : variables ≡ []
     alive : Alive others waiting self
+
+  -- the end of an object goes on
+  again : {self : ℕ} {others : List ReturnFrame} {waiting : List ℕ} → IsEnding others → Alive others waiting self → EndsAgain p.end_step self others [] [] waiting
+  again is alive = record { at_end = refl; is_ending = is; none = refl; empty = refl; alive = alive }
+
+  -- a function begins with so many numbers and these references
+  begins : {mine : Gives} {to self takes objects numbers below : ℕ} {others : List ReturnFrame} {names deeper waiting : List ℕ} (own : List ℕ) → Goes_to mine to (height takes objects 0 0) → names ≡ own ++ deeper → length own ≡ objects → numbers ≡ takes + below → AllHeld own waiting → Alive others waiting self → Runs others
+      → Resumes mine to self others numbers below names deeper [] [] waiting
+  begins {mine = mine} own g is size count keeps alive running = record { high = height _ _ 0 0; stands = g.0; own = own; is = is; sized = omega (arith, size, count); held = keeps; nil = λ k c. shut_end mine [] k (omega arith); ready = inl g.2; alive = alive; running = running }
 
   -- the same once what is wanted of a call is there: one number more, or an object, which is the last reference and the last temporary
   abbrev pub Comes_back : (wanted mine : Gives) (back self : ℕ) (others : List ReturnFrame) (numbers below : ℕ) (names deeper temporaries variables waiting : List ℕ) → Type 0
@@ -254,9 +268,7 @@ module _ (p : Program) (R : resolved.Program) where
       → Leads (leaves p (at frames pc stack held) frames v rest (with_variables held []))
   leaves_lead [] pc v stack rest held waits alive size none nil dying sane running = tt
   leaves_lead (Calling back w ∷ others) pc v stack rest held waits alive size none nil dying sane running =
-      let h1 = resumed w held in
-      let resumes = subst (λ n. Resumes waits.0 back w.self others n waits.1 held.names waits.2 h1.temporaries h1.variables h1.places) (sym size) (waits.3 0) in
-      (inl (waits.0, waits.1, waits.2, resumes, waits.4), dying, again_sane w held none nil sane)
+      rw size (inl (waits.0, waits.1, waits.2, waits.3 0, waits.4), dying, again_sane w held none nil sane)
   leaves_lead (Ending back w o next left ∷ others) pc v stack rest held waits alive size none nil dying sane running =
       (inr (record { at_end = refl; is_ending = tt; none = none; empty = refl; alive = alive }, waits), dying, sane_moved (λ k. omega (arith, holders_append, nil_named held.variables nil k)) sane)
   leaves_lead (Clearing back w o fields ∷ others) pc v stack rest held waits alive size none nil dying sane running = absurd running
@@ -277,13 +289,9 @@ module _ (p : Program) (R : resolved.Program) where
       → Leads (begins_end p (at frames pc stack before) to (suc k) ob.class (with_things (lowered (suc k) held) (with_object held.objects (suc k) (in_phase Dying ob))) b)
   begins_lead frames false k to pc ob stack before held found live dying drops waits = tt
   begins_lead frames true k to pc ob stack before held found live dying drops waits =
-      let objects = with_object held.objects (suc k) (in_phase Dying ob) in
-      let w = waiter_of held in
-      let again : EndsAgain p.end_step (suc k) (Ending to w (suc k) (Some ob.class) (length p.classes) ∷ frames) [] [] (stacked held) = record { at_end = refl; is_ending = tt; none = refl; empty = refl; alive = λ objects there ends. ends.0 } in
-      let begun : IsDying objects (suc k) None = (in_phase Dying ob, set_here held.objects k (in_phase Dying ob) ob found, refl) in
+      let x = in_phase Dying ob in
       let apart = live_apart held.objects k ob (ending frames) found live dying in
-      let below = as_waits (GoesOn (λ g. Waits g frames) to held.self frames (length stack) held.names) held waits in
-      (inr (again, (apart, below)), (begun, apart_dying held.objects k (in_phase Dying ob) (ending frames) apart dying), sane_last held k ob found (grind arith) drops)
+      (inr (again tt (λ objects there ends. ends.0), (apart, as_waits (GoesOn (λ g. Waits g frames) to held.self frames (length stack) held.names) held waits)), ((x, set_here held.objects k x ob found, refl), apart_dying held.objects k x (ending frames) apart dying), sane_last held k ob found (grind arith) drops)
 
   -- ---- one step of a function
 
@@ -297,25 +305,30 @@ module _ (p : Program) (R : resolved.Program) where
       dying : AllDying held.objects (ending frames)
       sane : Keeps p.classes (dropped ++ all_places held) held.counts held.objects
 
+    -- a variable, or one of the whole program, takes this
+    takes_place : {own variables strong_globals : List ℕ} {held : Heap} (old r : ℕ) → IsThere held.objects r → Owns [] own held → ((k : ℕ) → holders k (old ∷ all_places (record held { variables = variables; strong_globals = strong_globals })) ≡ tally k r + holders k (all_places held))
+        → Owns (old ∷ []) own (raised r (record held { variables = variables; strong_globals = strong_globals }))
+    takes_place {held = held} old r there o moves = record { is = o.is; keeps = o.keeps; alive = o.alive; waits = o.waits; dying = o.dying; sane = sane_moved (λ k. omega (arith, holders_head, moves (suc k))) (gains r there o.sane) }
+
     -- a function to which the run comes back
     abbrev Back : ℕ → ℕ → Heap → Type 0
     Back to numbers held = Resumes mine to held.self frames numbers below held.names deeper held.temporaries held.variables held.places
 
-    back : {dropped own : List ℕ} {held : Heap} (to : ℕ) (h : Height) → Stands R (all R) (table R) mine to h → (numbers : ℕ) → Owns dropped own held → ((k : ℕ) → Clear k to → Shut mine k held.variables) → Ready to own held.temporaries held.places → numbers ≡ h.numbers + below → length own ≡ h.names → length held.temporaries ≤ h.temporaries → length held.variables ≡ h.variables → Back to numbers held
-    back {own = own} to h stands numbers o nil ready count size few many = record { high = h; stands = stands; count = count; own = own; is = o.is; size = size; few = few; many = many; held = o.keeps; nil = nil; ready = ready; alive = o.alive; running = running }
+    back : {dropped own : List ℕ} {held : Heap} {to numbers : ℕ} {h : Height} → Stands R (all R) (table R) mine to h → Owns dropped own held → ((k : ℕ) → Clear k to → Shut mine k held.variables) → Ready to own held.temporaries held.places → Sized h below numbers own held.temporaries held.variables → Back to numbers held
+    back {own = own} {h = h} stands o nil ready sized = record { high = h; stands = stands; own = own; is = o.is; sized = sized; held = o.keeps; nil = nil; ready = ready; alive = o.alive; running = running }
 
     goes_nil : (to : ℕ) (h : Height) → ((k : ℕ) → Clear k to → h.variables ≤ k + as_object mine) → (variables : List ℕ) → length variables ≡ h.variables → (k : ℕ) → Clear k to → Shut mine k variables
     goes_nil to h g variables many k c = let le = g k c in shut_end mine variables k (omega (arith, many, le))
 
     -- the same with any variables
-    back_any : {dropped own : List ℕ} {held : Heap} (to : ℕ) (h : Height) → Goes_to mine to h → (numbers : ℕ) → Owns dropped own held → numbers ≡ h.numbers + below → length own ≡ h.names → length held.temporaries ≤ h.temporaries → length held.variables ≡ h.variables → Back to numbers held
-    back_any {held = held} to h g numbers o count size few many = back to h g.0 numbers o (goes_nil to h g.1 held.variables many) (inl g.2) count size few many
+    back_any : {dropped own : List ℕ} {held : Heap} {to numbers : ℕ} {h : Height} → Goes_to mine to h → Owns dropped own held → Sized h below numbers own held.temporaries held.variables → Back to numbers held
+    back_any {held = held} {to = to} {h = h} g o sized = back g.0 o (goes_nil to h g.1 held.variables sized.many) (inl g.2) sized
 
     run_on : {own : List ℕ} (to : ℕ) (stack : List ℤ) (held : Heap) → Owns [] own held → Back to (length stack) held → Good (at frames to stack held)
     run_on to stack held o b = (inl (mine, below, deeper, b, o.waits), o.dying, o.sane)
 
-    go_on : {own : List ℕ} (to : ℕ) (h : Height) → Goes_to mine to h → (stack : List ℤ) (held : Heap) → Owns [] own held → length stack ≡ h.numbers + below → length own ≡ h.names → length held.temporaries ≤ h.temporaries → length held.variables ≡ h.variables → Good (at frames to stack held)
-    go_on to h g stack held o count size few many = run_on to stack held o (back_any to h g (length stack) o count size few many)
+    go_on : {own : List ℕ} {held : Heap} {to : ℕ} {h : Height} → Goes_to mine to h → (stack : List ℤ) → Owns [] own held → Sized h below (length stack) own held.temporaries held.variables → Good (at frames to stack held)
+    go_on g stack o sized = run_on _ stack _ o (back_any g o sized)
 
     -- ---- what begins the end of an object, or calls
 
@@ -323,7 +336,7 @@ module _ (p : Program) (R : resolved.Program) where
     drops_leads : {own : List ℕ} (r to pc : ℕ) (stack : List ℤ) (before held : Heap) (stays : Heap → Next State) → Owns (r ∷ []) own held → Back to (length stack) held → (Owns [] own (lowered r held) → Leads (stays (lowered r held)))
         → Leads (lets_go r held stays (λ o class h. begins_end p (at frames pc stack before) to o class h (has_level (at frames pc stack before))))
     drops_leads r to pc stack before held stays o home on = lets_go_leads r held stays _ o.sane
-        (λ sane. on (record { is = o.is; keeps = o.keeps; alive = o.alive; waits = o.waits; dying = o.dying; sane = sane }))
+        (λ sane. on (assumption sane))
         (λ k ob e found live. begins_lead frames (has_level (at frames pc stack before)) k to pc ob stack before held found live o.dying (subst (λ q. Drops p.classes q held) e o.sane)
         (inl (mine, below, deeper, home, o.waits)))
 
@@ -332,17 +345,17 @@ module _ (p : Program) (R : resolved.Program) where
     releases_lead r pc stack before held o home = drops_leads r (pc + 1) pc stack before held _ o home (λ o1. run_on (pc + 1) stack (lowered r held) o1 home)
 
     -- the temporaries are dropped, where there is no reference
-    drops_lead : (temporaries : List ℕ) (pc : ℕ) (h : Height) (stack : List ℤ) (before held : Heap) → held.temporaries ≡ temporaries → Stands R (all R) (table R) mine pc h → Is_free pc → Goes_to mine (pc + 1) (record h { temporaries = 0 }) → ((k : ℕ) → Clear k pc → Shut mine k held.variables) → length stack ≡ h.numbers + below → 0 ≡ h.names → length temporaries ≤ h.temporaries → length held.variables ≡ h.variables → Owns [] [] held
-        → Leads (instructions.drops_all (bare p) (at frames pc stack before) temporaries held)
-    drops_lead [] pc h stack before held is stands free g nil count size few many o = go_on (pc + 1) (record h { temporaries = 0 }) g stack held o count size (let none = ap length is in omega (arith, none)) many
-    drops_lead (r ∷ others) pc h stack before held is stands free g nil count size few many o =
+    drops_lead : (temporaries : List ℕ) {pc : ℕ} {h : Height} (stack : List ℤ) (before held : Heap) → Stands R (all R) (table R) mine pc h → Is_free pc → Goes_to mine (pc + 1) (record h { temporaries = 0 }) → ((k : ℕ) → Clear k pc → Shut mine k held.variables) → Sized h below (length stack) [] temporaries held.variables → Owns [] [] (with_temporaries held temporaries)
+        → Leads (instructions.drops_all (bare p) (at frames pc stack before) temporaries (with_temporaries held temporaries))
+    drops_lead [] stack before held stands free g nil sized o = go_on g stack o (omega arith)
+    drops_lead (r ∷ others) {pc} stack before held stands free g nil sized o =
         let o1 : Owns (r ∷ []) [] (with_temporaries held others) = record { is = o.is; keeps = λ k some. omega arith; alive = o.alive; waits = o.waits; dying = o.dying; sane = sane_moved (λ k. grind (arith, holders_append)) o.sane } in
-        drops_leads r pc pc stack before (with_temporaries held others) _ o1 (back pc h stands (length stack) o1 nil (inl free) count size (omega (arith, few)) many)
-        (drops_lead others pc h stack before (lowered r (with_temporaries held others)) refl stands free g nil count size (omega (arith, few)) many)
+        drops_leads r pc pc stack before (with_temporaries held others) _ o1 (back stands o1 nil (inl free) (omega arith))
+        (drops_lead others stack before (lowered r held) stands free g nil (omega arith))
 
     -- ---- one action
 
-    module _ (classes : p.classes ≡ classes_linked R) (calls : (wanted : Gives) (f : ℕ) → IsCalled R wanted f → Goes_to wanted (entry p f) (height (slots_of R wanted f) (parameters_of R wanted f) 0 0)) (pc : ℕ) (h : Height) (stack : List ℤ) (held : Heap) (own : List ℕ) (count : length stack ≡ h.numbers + below) (size : length own ≡ h.names) (few : length held.temporaries ≤ h.temporaries) (many : length held.variables ≡ h.variables) (o : Owns [] own held) where
+    module _ (classes : p.classes ≡ classes_linked R) (calls : (wanted : Gives) (f : ℕ) → IsCalled R wanted f → Goes_to wanted (entry p f) (height (slots_of R wanted f) (parameters_of R wanted f) 0 0)) (pc : ℕ) (h : Height) (stack : List ℤ) (held : Heap) (own : List ℕ) (sized : Sized h below (length stack) own held.temporaries held.variables) (o : Owns [] own held) where
       abbrev s : State
       s = at frames pc stack held
 
@@ -361,11 +374,11 @@ module _ (p : Program) (R : resolved.Program) where
 
       -- the same references, or others, where other things are the same
       owns : {own1 : List ℕ} (names1 : List ℕ) → names1 ≡ own1 ++ deeper → AllHeld own1 stays_held → Owns [] own1 (with_names held names1)
-      owns names1 is keeps = record { is = is; keeps = keeps; alive = o.alive; waits = o.waits; dying = o.dying; sane = o.sane }
+      owns names1 is keeps = assumption
 
       -- the last reference, which is held, and the others
       last_leads_on : (P : State → Type 0) (go : ℕ → List ℕ → Next State) → 1 ≤ h.names → ((r : ℕ) (rest : List ℕ) → length own ≡ suc (length rest) → IsHeld r stays_held → AllHeld rest stays_held → Along P (go r (rest ++ deeper))) → Along P (on_top held.names go)
-      last_leads_on P go some = reference_leads P own deeper stays_held held.names go o.is (omega (arith, some, size)) o.keeps
+      last_leads_on P go some = reference_leads P own deeper stays_held held.names go o.is (omega (arith, some)) o.keeps
 
       -- the variables once an operation is done
       abbrev declared : Op → List ℕ → List ℕ
@@ -388,18 +401,10 @@ module _ (p : Program) (R : resolved.Program) where
       stays : (x : Op) (stack1 : List ℤ) (held1 : Heap) (own1 : List ℕ) → Owns [] own1 held1 → held1.variables ≡ declared x held.variables → IsMade x own1 held1.temporaries → Kept x (at frames (pc + 1) stack1 held1)
       stays x stack1 held1 own1 o1 same made = record { own1 = own1; owns1 = o1; variables = same; made = made }
 
-      -- there are these
-      refers : (x : Op) (stack1 : List ℤ) (names1 own1 : List ℕ) → AllHeld own1 stays_held → names1 ≡ own1 ++ deeper → declared x held.variables ≡ held.variables → IsMade x own1 held.temporaries → Kept x (at frames (pc + 1) stack1 (with_names held names1))
-      refers x stack1 names1 own1 keeps is same made = stays x stack1 _ own1 (owns names1 is keeps) (sym same) made
-
-      -- and a temporary takes this
-      takes : (x : Op) (r : ℕ) (names1 own1 : List ℕ) → AllHeld own1 (r ∷ stays_held) → names1 ≡ own1 ++ deeper → IsThere held.objects r → declared x held.variables ≡ held.variables → IsMade x own1 (r ∷ held.temporaries) → Kept x (at frames (pc + 1) stack (taken_by r (with_names held names1)))
-      takes x r names1 own1 keeps is there same made = stays x stack _ own1 (record { is = is; keeps = keeps; alive = o.alive; waits = o.waits; dying = o.dying; sane = gains r there o.sane }) (sym same) made
-
-      -- which is the last reference, above these
+      -- a temporary takes what is named, which is the last reference above these
       reads : (x : Op) (r : ℕ) (names1 own1 : List ℕ) → AllHeld own1 stays_held → names1 ≡ own1 ++ deeper → IsThere held.objects r → declared x held.variables ≡ held.variables → IsMade x (r ∷ own1) (r ∷ held.temporaries)
           → Along (Kept x) (on_named r (with_names held (r ∷ names1)) (Goes (at frames (pc + 1) stack (taken_by r (with_names held (r ∷ names1)))) []))
-      reads x r names1 own1 keeps is there same made = named_leads (Kept x) r (with_names held (r ∷ names1)) _ there (takes x r (r ∷ names1) (r ∷ own1) (λ k some. grind (arith, keeps k)) (ap (λ l. r ∷ l) is) there same made)
+      reads x r names1 own1 keeps is there same made = named_leads (Kept x) r (with_names held (r ∷ names1)) _ there (stays x stack _ (r ∷ own1) (record { is = ap (λ l. r ∷ l) is; keeps = λ k some. grind (arith, keeps k); alive = o.alive; waits = o.waits; dying = o.dying; sane = gains r there o.sane }) (sym same) made)
 
       or_fault_leads : (x : Op) (v : Option ℤ) (rest : List ℤ) → declared x held.variables ≡ held.variables → IsMade x own held.temporaries → Along (Kept x) (or_fault v s rest)
       or_fault_leads x None rest same made = tt
@@ -417,32 +422,32 @@ module _ (p : Program) (R : resolved.Program) where
 
       operation_keeps : (x : Op) → Reaches x h → Along (Kept x) (operates p.classes x s)
       operation_keeps (Num n) needs = stays _ _ held own o refl tt
-      operation_keeps (Get depth) needs = found_leads _ stack depth _ (omega (arith, count, needs)) (λ v _. stays _ _ held own o refl tt)
-      operation_keeps (Set depth) needs = top_leads _ stack _ (omega (arith, count, needs)) (λ v rest e. found_leads _ rest depth _ (omega (arith, count, needs, e)) (λ u _. stays _ _ held own o refl tt))
-      operation_keeps (ops.SetGlobal i) needs = top_leads _ stack _ (omega (arith, count, needs)) (λ v rest _.
-          stays _ rest _ own (record { is = o.is; keeps = o.keeps; alive = o.alive; waits = o.waits; dying = o.dying; sane = o.sane }) refl tt)
-      operation_keeps Declare needs = subst (λ l. Along (Kept Declare) (declares l held (keeps s stack))) (sym (nil_from_length held.temporaries (omega (arith, few, needs))))
+      operation_keeps (Get depth) needs = found_leads _ stack depth _ (omega arith) (λ v _. stays _ _ held own o refl tt)
+      operation_keeps (Set depth) needs = top_leads _ stack _ (omega arith) (λ v rest e. found_leads _ rest depth _ (omega arith) (λ u _. stays _ _ held own o refl tt))
+      operation_keeps (ops.SetGlobal i) needs = top_leads _ stack _ (omega arith) (λ v rest _.
+          stays _ rest _ own (assumption) refl tt)
+      operation_keeps Declare needs = subst (λ l. Along (Kept Declare) (declares l held (keeps s stack))) (sym (nil_from_length held.temporaries (omega arith)))
           (stays _ stack _ own (record { is = o.is; keeps = o.keeps; alive = o.alive; waits = o.waits; dying = o.dying; sane = sane_moved (λ k. grind (arith, nat_tests, holders_append)) (gains 0 tt o.sane) }) refl tt)
-      operation_keeps Nil needs = refers _ _ _ (0 ∷ own) (λ k some. grind (arith, nat_tests, o.keeps k)) (ap (λ l. 0 ∷ l) o.is) refl tt
+      operation_keeps Nil needs = stays _ _ _ (0 ∷ own) (owns (0 ∷ held.names) (ap (λ l. 0 ∷ l) o.is) (λ k some. grind (arith, nat_tests, o.keeps k))) refl tt
       operation_keeps ReadSelf needs = reads _ held.self held.names own o.keeps o.is self_there refl tt
-      operation_keeps (ReadRef i) needs = found_leads _ held.variables i _ (omega (arith, many, needs)) (λ r found.
+      operation_keeps (ReadRef i) needs = found_leads _ held.variables i _ (omega arith) (λ r found.
           reads _ r held.names own o.keeps o.is (place_there held.objects i r held.variables found (λ k some. keeps_there {places = all_places held} o.sane k (omega (arith, holders_append, some)))) refl tt)
       operation_keeps (ReadGlobal i) needs = reads _ (name_at held.strong_globals i) held.names own o.keeps o.is
           (name_there held.objects held.strong_globals i (λ k some. keeps_there {places = all_places held} o.sane k (omega (arith, holders_append, some)))) refl tt
-      operation_keeps (ReadField class index) needs = last_leads_on _ _ (omega (arith, needs)) (λ r rest _ now kept. field_leads _ class r held _ (is_held r now) (λ j ob _ found there.
+      operation_keeps (ReadField class index) needs = last_leads_on _ _ (omega arith) (λ r rest _ now kept. field_leads _ class r held _ (is_held r now) (λ j ob _ found there.
           reads _ (name_at ob.strong index) (rest ++ deeper) rest kept refl (name_there held.objects ob.strong index (fields_there held j ob found there o.sane)) refl tt))
-      operation_keeps Hold needs = last_leads_on _ _ (omega (arith, needs)) (λ r rest _ now kept. named_leads _ r held _ (is_held r now) (takes _ r held.names own (λ k some. grind (arith, o.keeps k)) o.is (is_held r now) refl tt))
-      operation_keeps ops.Again needs = last_leads_on _ _ (omega (arith, needs)) (λ r rest _ now kept. refers _ _ _ (r ∷ own) (λ k some. grind (arith, now k, o.keeps k)) (ap (λ l. r ∷ l) o.is) refl tt)
-      operation_keeps Forget needs = last_leads_on _ _ (omega (arith, needs)) (λ r rest _ now kept. refers _ _ _ rest kept refl refl tt)
-      operation_keeps (GetField class index) needs = last_leads_on _ _ (omega (arith, needs)) (λ r rest _ now kept. field_leads _ class r held _ (is_held r now) (λ j ob _ _ _. refers _ _ _ rest kept refl refl tt))
-      operation_keeps NotSame needs = last_leads_on _ _ (omega (arith, needs)) (λ r rest e now kept. reference_leads _ rest deeper stays_held (rest ++ deeper) _ refl (omega (arith, needs, e, size)) kept (λ q others _ also below1.
-          named_leads _ r held _ (is_held r now) (named_leads _ q held _ (is_held q also) (refers _ _ _ others below1 refl refl tt))))
-      operation_keeps IsObject needs = last_leads_on _ _ (omega (arith, needs)) (λ r rest _ now kept. named_leads _ r held _ (is_held r now) (refers _ _ _ rest kept refl refl tt))
-      operation_keeps (SetField class index) needs = last_leads_on _ _ (omega (arith, needs)) (λ r rest _ now kept. top_leads _ stack _ (omega (arith, count, needs)) (λ v _ _. field_leads _ class r held _ (is_held r now) (λ j ob same found _.
+      operation_keeps Hold needs = last_leads_on _ _ (omega arith) (λ r rest _ now kept. named_leads _ r held _ (is_held r now) (stays _ stack _ own (record { is = o.is; keeps = λ k some. grind (arith, o.keeps k); alive = o.alive; waits = o.waits; dying = o.dying; sane = gains r (is_held r now) o.sane }) refl tt))
+      operation_keeps ops.Again needs = last_leads_on _ _ (omega arith) (λ r rest _ now kept. stays _ _ _ (r ∷ own) (owns (r ∷ held.names) (ap (λ l. r ∷ l) o.is) (λ k some. grind (arith, now k, o.keeps k))) refl tt)
+      operation_keeps Forget needs = last_leads_on _ _ (omega arith) (λ r rest _ now kept. stays _ _ _ rest (owns (rest ++ deeper) refl kept) refl tt)
+      operation_keeps (GetField class index) needs = last_leads_on _ _ (omega arith) (λ r rest _ now kept. field_leads _ class r held _ (is_held r now) (λ j ob _ _ _. stays _ _ _ rest (owns (rest ++ deeper) refl kept) refl tt))
+      operation_keeps IsObject needs = last_leads_on _ _ (omega arith) (λ r rest _ now kept. named_leads _ r held _ (is_held r now) (stays _ _ _ rest (owns (rest ++ deeper) refl kept) refl tt))
+      operation_keeps NotSame needs = last_leads_on _ _ (omega arith) (λ r rest e now kept. reference_leads _ rest deeper stays_held (rest ++ deeper) _ refl (omega arith) kept (λ q others _ also below1.
+          named_leads _ r held _ (is_held r now) (named_leads _ q held _ (is_held q also) (stays _ _ _ others (owns (others ++ deeper) refl below1) refl tt))))
+      operation_keeps (SetField class index) needs = last_leads_on _ _ (omega arith) (λ r rest _ now kept. top_leads _ stack _ (omega arith) (λ v _ _. field_leads _ class r held _ (is_held r now) (λ j ob same found _.
           let fields = slice_set ob.fields index v in
           let set : Sane p.classes (with_field held r ob index v) = subst (λ q. Sane p.classes (with_things held (with_object held.objects q (with_fields ob fields)))) (sym same) (sane_turned held j ob (with_fields ob fields) found (λ k. refl) (λ f. record { there = f.there; held = f.held; sized = f.sized }) o.sane) in
           let dying = subst (λ q. AllDying (with_object held.objects q (with_fields ob fields)) (ending frames)) (sym same) (changed_dying held.objects j ob (with_fields ob fields) (ending frames) found (λ fields far. grind arith) o.dying) in
-          stays _ stack _ rest (record { is = refl; keeps = kept; alive = o.alive; waits = o.waits; dying = dying; sane = set }) refl tt)))
+          stays _ stack _ rest (assumption (set, dying)) refl tt)))
       operation_keeps _ needs = search (arith, keeping) depth 8
 
       ready_after : (x : Op) (own1 temporaries1 : List ℕ) → IsMade x own1 temporaries1 → Is_free (pc + 1) ⊎ ((x ≡ Alloc) × Quiet R (all R) (table R) (pc + 1)) → Ready (pc + 1) own1 temporaries1 held.places
@@ -457,9 +462,9 @@ module _ (p : Program) (R : resolved.Program) where
           let none = enough x h needs in
           subst (λ fs. Good (at fs t.at t.stack t.held)) (sym f.frames) (subst (λ n. Good (at frames n t.stack t.held)) (sym f.at)
           (run_on (pc + 1) t.stack t.held kept.owns1
-          (back (pc + 1) (next_height R (Plain x) h) g.0 (length t.stack) kept.owns1
-          (λ k c. ⊎_elim (λ before. subst (Shut mine k) (sym kept.variables) (shut_before x is k before (nil k before))) (λ le. shut_end mine t.held.variables k (omega (arith, f.variables, many, le))) (g.1 k c))
-          (subst (Ready (pc + 1) kept.own1 t.held.temporaries) (sym f.places) (ready_after x kept.own1 t.held.temporaries kept.made free)) (omega (arith, count, none, f.numbers)) (omega (arith, size, none, f.names, ap length kept.owns1.is, ap length o.is, length-append {A = ℕ})) (omega (arith, few, f.temporaries)) (omega (arith, many, f.variables))))))
+          (back g.0 kept.owns1
+          (λ k c. ⊎_elim (λ before. subst (Shut mine k) (sym kept.variables) (shut_before x is k before (nil k before))) (λ le. shut_end mine t.held.variables k (omega (arith, f.variables, le))) (g.1 k c))
+          (subst (Ready (pc + 1) kept.own1 t.held.temporaries) (sym f.places) (ready_after x kept.own1 t.held.temporaries kept.made free)) (omega (arith, none, f, ap length kept.owns1.is, ap length o.is, length-append {A = ℕ}))))))
           (operates p.classes x s) (operation_keeps x needs) (operation_follows p.classes s x)
 
       -- where a run stands after a call that takes so many numbers and references
@@ -481,13 +486,10 @@ module _ (p : Program) (R : resolved.Program) where
       home wanted taken objects n rest needs g ready keeps numbers names = λ r. record {
         high = after_effect h (giving wanted taken objects);
         stands = g.0;
-        count = grind arith;
         own = with_object_of wanted r rest;
         is = grind arith;
-        size = grind arith;
-        few = grind arith;
-        many = omega arith;
-        held = given_held wanted r rest held.temporaries held.places keeps;
+        sized = grind arith;
+        held = λ k some. grind (arith, keeps k);
         nil = goes_nil (pc + 1) (after_effect h (giving wanted taken objects)) g.1 held.variables (omega arith);
         ready = ready r;
         alive = o.alive;
@@ -497,20 +499,18 @@ module _ (p : Program) (R : resolved.Program) where
       -- what is found is entered with so many numbers, which lie on the stack, and these references
       answers_lead : (found : Option ℕ) (wanted : Gives) (self1 taken objects : ℕ) (given rest names1 : List ℕ) → names1 ≡ given ++ (rest ++ deeper) → length given ≡ objects → ((to : ℕ) → found ≡ Some to → Goes_to wanted to (height taken objects 0 0)) → taken ≤ length stack → AllHeld given stays_held → Alive frames (stacked held) self1 → Home wanted (length stack - taken) rest
           → Leads (answers (at frames pc stack (with_names held names1)) self1 found)
-      answers_lead None wanted self1 taken objects given rest names1 is some begins le keeps living home1 = tt
-      answers_lead (Some to) wanted self1 taken objects given rest names1 is some begins le keeps living home1 =
+      answers_lead None wanted self1 taken objects given rest names1 is some begins1 le keeps living home1 = tt
+      answers_lead (Some to) wanted self1 taken objects given rest names1 is some begins1 le keeps living home1 =
           let st = at frames pc stack (with_names held names1) in
-          let g = begins to refl in
-          let entered : Resumes wanted to self1 (Calling (pc + 1) (waiter_of held) ∷ frames) (length stack) (length stack - taken) names1 (rest ++ deeper) [] [] (stacked held) = record { high = height taken objects 0 0; stands = g.0; count = omega (arith, le); own = given; is = is; size = some; few = omega arith; many = refl; held = λ k some. grind (arith, holders_append, keeps k); nil = λ k c. shut_end wanted [] k (omega arith); ready = inl g.2; alive = living; running = tt } in
           let home2 = as_waits (λ t v w. Comes_back wanted mine (pc + 1) held.self frames (length stack - taken) below (rest ++ deeper) deeper t v w × Waits mine frames below deeper w) held (home1, o.waits) in
-          by_test (λ b. Leads (enters st to self1 b)) (has_level st) (λ _. (inl (wanted, length stack - taken, rest ++ deeper, entered, (mine, below, deeper, home2.0, home2.1)), o.dying, o.sane)) (λ _. tt)
+          by_test (λ b. Leads (enters st to self1 b)) (has_level st) (λ _. (inl (wanted, length stack - taken, rest ++ deeper, begins given (begins1 to refl) is some (omega arith) (λ k now. grind (arith, holders_append, keeps k)) living tt, (mine, below, deeper, home2.0, home2.1)), o.dying, o.sane)) (λ _. tt)
 
       -- what is wanted is given without a call
       at_once_leads : (wanted : Gives) (object : ℕ) (stack0 stack1 : List ℤ) (names0 rest : List ℕ) → Home wanted (length stack1) rest → IsThere held.objects object → AllHeld rest stays_held → Leads (instructions.gives_at_once (bare p) (at frames pc stack0 (with_names held names0)) wanted object stack1 (rest ++ deeper))
       at_once_leads gives.Number object stack0 stack1 names0 rest home1 there kept = run_on (pc + 1) (pos 0 ∷ stack1) (with_names held (rest ++ deeper)) (owns (rest ++ deeper) refl kept) (home1 object)
       at_once_leads gives.Object object stack0 stack1 names0 rest home1 there kept = named_leads Good object (with_names held (object ∷ (rest ++ deeper))) _ there
           (run_on {own = object ∷ rest} (pc + 1) stack1 (taken_by object (with_names held (object ∷ (rest ++ deeper))))
-          (record { is = refl; keeps = given_held gives.Object object rest held.temporaries held.places kept; alive = o.alive; waits = o.waits; dying = o.dying; sane = gains object there o.sane }) (home1 object))
+          (record { is = refl; keeps = λ k some. grind (arith, kept k); alive = o.alive; waits = o.waits; dying = o.dying; sane = gains object there o.sane }) (home1 object))
 
       -- a message to an object, by what it finds; the root's own `init` takes no argument
       object_answers_lead : (found : Option ℕ) (wanted : Gives) (selector takes objects object : ℕ) (given rest : List ℕ) → ((to : ℕ) → found ≡ Some to → Goes_to wanted to (height takes objects 0 0)) → takes ≤ length stack → length given ≡ objects → AllHeld given stays_held → IsHeld object stays_held → AllHeld rest stays_held → Home wanted (length stack - takes) rest
@@ -526,12 +526,14 @@ module _ (p : Program) (R : resolved.Program) where
       object_answers_lead (Some to) wanted selector takes objects object given rest begins le some kept_first kept kept_rest home1 =
           answers_lead (Some to) wanted object takes objects given rest (given ++ (rest ++ deeper)) refl some begins le kept_first (λ things there ends. held_there things held.temporaries held.variables held.places object kept there) home1
 
-      -- the last so many of its references, which are passed, and those below
-      passed : (n : ℕ) → n ≤ h.names → (length (take n own) ≡ n) × (length own ≡ n + length (drop n own)) × (held.names ≡ take n own ++ (drop n own ++ deeper)) × AllHeld (take n own) stays_held × AllHeld (drop n own) stays_held
-      passed n le =
-          let is : own ≡ take n own ++ drop n own = sym (take-append-drop n own) in
+      -- what is found is called with the last so many of its references
+      calls_lead : (found : Option ℕ) (wanted : Gives) (takes objects : ℕ) → ((to : ℕ) → found ≡ Some to → Goes_to wanted to (height takes objects 0 0)) → (takes ≤ h.numbers) × (objects ≤ h.names) → Goes_to mine (pc + 1) (after_effect h (giving wanted takes objects)) → Leads (answers s 0 found)
+      calls_lead found wanted takes objects begins1 needs g =
+          let is : own ≡ take objects own ++ drop objects own = sym (take-append-drop objects own) in
           let kept = subst (λ l. AllHeld l stays_held) is o.keeps in
-          (length-take-le n own (omega (arith, le, size)), omega (arith, le, size, length-drop n own), o.is ∙ ap (λ l. l ++ deeper) is ∙ append_assoc (take n own) (drop n own) deeper, λ k some. kept k (omega (arith, holders_append)), λ k some. kept k (omega (arith, holders_append)))
+          answers_lead found wanted 0 takes objects (take objects own) (drop objects own) held.names (o.is ∙ ap (λ l. l ++ deeper) is ∙ append_assoc (take objects own) (drop objects own) deeper) (length-take-le objects own (omega (arith, needs.1))) begins1
+          (omega (arith, needs.0)) (λ k some. kept k (omega (arith, holders_append))) (λ things there ends. tt)
+          (home wanted takes objects (length stack - takes) (drop objects own) needs (g.0, g.1) (λ r. inl g.2) (λ k some. kept k (omega (arith, holders_append))) (omega (arith, needs.0)) (omega (arith, needs.1, length-drop objects own)))
 
       -- a message to the object of the reference below its arguments
       message_sent : (wanted : Gives) (from : Object → ℕ) (r : ℕ) (given rest : List ℕ) (selector takes objects : ℕ) → length own ≡ suc objects + length rest → length given ≡ objects
@@ -540,34 +542,25 @@ module _ (p : Program) (R : resolved.Program) where
           → Leads (sends p s wanted from r selector takes objects (given ++ (rest ++ deeper)))
       message_sent wanted from zero given rest selector takes objects e some kept_first kept kept_rest needs g ready =
           let names_is : drop objects (given ++ (rest ++ deeper)) ≡ rest ++ deeper = ap (λ n. drop n (given ++ (rest ++ deeper))) (sym some) ∙ drop-append_seam given (rest ++ deeper) in
-          taken_leads takes stack _ (omega (arith, count, needs.0)) (λ numbers m.
+          taken_leads takes stack _ (omega (arith, needs.0)) (λ numbers m.
           subst (λ l. Leads (instructions.gives_at_once (bare p) s wanted 0 numbers l)) (sym names_is)
           (at_once_leads wanted 0 stack numbers held.names rest (home wanted takes (suc objects) (length numbers) rest needs g ready kept_rest m e) tt kept_rest))
       message_sent wanted from (suc j) given rest selector takes objects e some kept_first kept kept_rest needs g ready =
           let there = is_held (suc j) kept in
           object_leads Good (object_at held.objects (suc j)) there.0 _ there.1 there.2
           (object_answers_lead (lookup p.classes (Some (from there.0)) signs.Instance selector takes objects wanted) wanted selector takes objects (suc j) given rest (finds (Some (from there.0)) signs.Instance selector takes objects wanted)
-          (omega (arith, count, needs.0)) some kept_first kept kept_rest
-          (home wanted takes (suc objects) (length stack - takes) rest needs g ready kept_rest (omega (arith, count, needs.0)) e))
+          (omega (arith, needs.0)) some kept_first kept kept_rest
+          (home wanted takes (suc objects) (length stack - takes) rest needs g ready kept_rest (omega (arith, needs.0)) e))
 
       -- a message to an object, with what gets it below its arguments
       message_leads : (wanted : Gives) (from : Object → ℕ) (selector takes objects : ℕ) → (takes ≤ h.numbers) × (suc objects ≤ h.names) → After_call wanted takes (suc objects) → ((given rest : List ℕ) (r : ℕ) → own ≡ given ++ r ∷ rest → length given ≡ objects → Ready_after wanted rest)
           → Leads (instructions.on_receiver objects held.names (λ r rest. sends p s wanted from r selector takes objects rest))
       message_leads wanted from selector takes objects needs g ready =
           subst (λ l. Leads (instructions.on_receiver objects l (λ r rest. sends p s wanted from r selector takes objects rest))) (sym o.is)
-          (receiver_leads objects own deeper (λ r. sends p s wanted from r selector takes objects) (omega (arith, needs.1, size)) (λ given rest r e some.
-          let names = ap length e in
+          (receiver_leads objects own deeper (λ r. sends p s wanted from r selector takes objects) (omega (arith, needs.1)) (λ given rest r e some.
           let kept = subst (λ l. AllHeld l stays_held) e o.keeps in
-          message_sent wanted from r given rest selector takes objects (omega (arith, length-append {A = ℕ}, names, some)) some
+          message_sent wanted from r given rest selector takes objects (omega (arith, length-append {A = ℕ}, ap length e, some)) some
           (λ k now. kept k (omega (arith, holders_append))) (λ k now. kept k (grind (arith, holders_append))) (λ k now. kept k (grind (arith, holders_append))) needs g (ready given rest r e some)))
-
-      class_reported : (wanted : Gives) (from : Option ℕ) (selector takes objects : ℕ) → (suc takes ≤ h.numbers) × (objects ≤ h.names) → Goes_to mine (pc + 1) (after_effect h (giving wanted (suc takes) objects))
-          → Leads (answers s 0 (lookup p.classes from signs.Class selector takes objects wanted))
-      class_reported wanted from selector takes objects needs g =
-          let part = passed objects needs.1 in
-          answers_lead (lookup p.classes from signs.Class selector takes objects wanted) wanted 0 (suc takes) objects (take objects own) (drop objects own) held.names part.2 part.0 (finds from signs.Class selector takes objects wanted)
-          (omega (arith, count, needs.0)) part.3 (λ things there ends. tt)
-          (home wanted (suc takes) objects (length stack - suc takes) (drop objects own) needs (g.0, g.1) (λ r. inl g.2) part.4 (omega (arith, count, needs.0)) part.1)
 
       -- after a message to a made object what `init` gives is there, and elsewhere nothing matters
       init_ready : (wanted : Gives) (selector takes objects : ℕ) → slice_get (all R) pc ≡ Some (SendTo selector takes objects wanted) → Ready pc own held.temporaries held.places
@@ -584,107 +577,86 @@ module _ (p : Program) (R : resolved.Program) where
           subst (λ g. Ready_after g rest) (sym q.2)
           (λ r1. inr (inr (q.3, (r1, m.0, rest, m.2, refl, ap (λ l. r1 ∷ l) m.4, subst (λ l. AllHeld l (m.2 ++ held.places)) rest_same m.5))))
 
+      -- a place takes what it names now, and what it named is dropped
+      stores_lead : (old : ℕ) (held1 : Heap) {own1 : List ℕ} {h1 : Height} → Goes_to mine (pc + 1) h1 → Owns (old ∷ []) own1 held1 → Sized h1 below (length stack) own1 held1.temporaries held1.variables → Leads (releases p s old held1)
+      stores_lead old held1 g o1 sized1 = releases_lead old pc stack held held1 o1 (back_any g o1 sized1)
+
       -- a field of an object takes what a reference names
-      stored : (b : Bool) (j : ℕ) (ob : Object) {q : ℕ} → q ≡ suc j → object_at held.objects (suc j) ≡ Some ob → is_there ob.phase ≡ true → (index r : ℕ) → IsThere held.objects r → (own1 : List ℕ) → AllHeld own1 stays_held → (x : Height) → Goes_to mine (pc + 1) x
-          → length stack ≡ x.numbers + below → length own1 ≡ x.names → x.temporaries ≡ h.temporaries → x.variables ≡ h.variables → is_emptying ob.phase ≡ b
+      stored : (b : Bool) (j : ℕ) (ob : Object) {q : ℕ} → q ≡ suc j → object_at held.objects (suc j) ≡ Some ob → is_there ob.phase ≡ true → (index r : ℕ) → IsThere held.objects r → (own1 : List ℕ) → AllHeld own1 stays_held → {x : Height} → Goes_to mine (pc + 1) x
+          → Sized x below (length stack) own1 held.temporaries held.variables → is_emptying ob.phase ≡ b
           → Leads (if b then Faults Resurrected else on_place (slice_get ob.strong index) (keeps s stack (with_names held (own1 ++ deeper))) (λ old. releases p s old (raised r (with_strong_field (with_names held (own1 ++ deeper)) q ob index r))))
-      stored true j ob same found is_there_now index r there own1 kept x g a b c d e = tt
-      stored false j ob {q} same found is_there_now index r there own1 kept x g a b c d e =
+      stored true j ob same found is_there_now index r there own1 kept g sized1 e = tt
+      stored false j ob {q} same found is_there_now index r there own1 kept g sized1 e =
           let held1 = with_names held (own1 ++ deeper) in
           place_leads (slice_get ob.strong index) _ _
-          (λ none. go_on (pc + 1) x g stack held1 (owns (own1 ++ deeper) refl kept) a b (omega (arith, few, c)) (omega (arith, many, d)))
-          (λ old named.
-          let strong = slice_set ob.strong index r in
-          let dying1 = changed_dying held.objects j ob (with_strong_fields ob strong) (ending frames) found (λ fields far. grind arith) o.dying in
-          let o1 : Owns (old ∷ []) own1 (raised r (with_strong_field held1 (suc j) ob index r)) = record { is = refl; keeps = kept; alive = o.alive; waits = o.waits; dying = dying1; sane = sane_store_field held1 j ob index old r found is_there_now named there o.sane } in
-          subst (λ k. Leads (releases p s old (raised r (with_strong_field held1 k ob index r)))) (sym same)
-          (releases_lead old pc stack held _ o1 (back_any (pc + 1) x g (length stack) o1 a b (omega (arith, few, c)) (omega (arith, many, d)))))
+          (λ none. go_on g stack (owns (own1 ++ deeper) refl kept) sized1)
+          (λ old named. subst (λ k. Leads (releases p s old (raised r (with_strong_field held1 k ob index r)))) (sym same)
+          (stores_lead old (raised r (with_strong_field held1 (suc j) ob index r)) g
+          (assumption (changed_dying held.objects j ob (with_strong_fields ob (slice_set ob.strong index r)) (ending frames) found (λ fields far. grind arith) o.dying, sane_store_field held1 j ob index old r found is_there_now named there o.sane)) sized1))
 
       -- what waits, once there is nothing left of the running function
       left_waits : (g : Gives) → mine ≡ g → (rest : List ℤ) → below ≡ length rest → h.names ≡ 0 → Waits g frames (length rest) held.names held.places
       left_waits g same rest e no_names =
-          let none = nil_from_length own (omega (arith, size, no_names)) in
-          subst (λ n. Waits g frames n held.names held.places) e (subst (λ l. Waits g frames below l held.places) (sym (o.is ∙ ap (λ l. l ++ deeper) none)) (subst (λ m. Waits m frames below deeper held.places) same o.waits))
+          subst (λ n. Waits g frames n held.names held.places) e (subst (λ l. Waits g frames below l held.places) (sym (o.is ∙ ap (λ l. l ++ deeper) (nil_from_length own (omega (arith, no_names))))) (subst (λ m. Waits m frames below deeper held.places) same o.waits))
 
       action_leads : (x : PlainAction) → slice_get (all R) pc ≡ Some x → Stands R (all R) (table R) mine pc h → (role x ≡ Ends → ⊥) → (nil : (k : ℕ) → Clear k pc → Shut mine k held.variables) → Ready pc own held.temporaries held.places → Steps R (all R) (table R) mine h pc x → Leads (does p x s)
       action_leads (Plain x) is stands no_end nil ready st = operation_leads x is nil st.0 st.1 st.2
-      action_leads (PrintText bytes) is stands no_end nil ready st = top_leads Good stack _ (omega (arith, count, st.0)) (λ c rest e. go_on (pc + 1) _ st.1 (counted c bytes ∷ rest) held o (omega (arith, count, st.0, e)) (omega (arith, size)) (omega (arith, few)) (omega (arith, many)))
-      action_leads (Jump to) is stands no_end nil ready st = go_on (lands pc to) _ st.2 stack held o count size (omega (arith, few, st.1)) many
-      action_leads (JumpZero to) is stands no_end nil ready st = top_leads Good stack _ (omega (arith, count, st.0)) (λ v rest e.
+      action_leads (PrintText bytes) is stands no_end nil ready st = top_leads Good stack _ (omega (arith, st.0)) (λ c rest e. go_on st.1 (counted c bytes ∷ rest) o (omega (arith, st.0, e)))
+      action_leads (Jump to) is stands no_end nil ready st = go_on st.2 stack o (omega (arith, st.1))
+      action_leads (JumpZero to) is stands no_end nil ready st = top_leads Good stack _ (omega (arith, st.0)) (λ v rest e.
           by_test (λ b. Leads (chosen b (goes s rest) (Goes (at frames (lands pc to) rest held) []))) (is_zero v)
-          (λ _. go_on (lands pc to) _ st.2.2 rest held o (omega (arith, count, st.0, e)) (omega (arith, size)) (omega (arith, few, st.2.1)) (omega (arith, many)))
-          (λ _. go_on (pc + 1) _ st.1 rest held o (omega (arith, count, st.0, e)) (omega (arith, size)) (omega (arith, few)) (omega (arith, many))))
-      action_leads (Call f wanted) is stands no_end nil ready st =
-          let slots = slots_of R wanted f in
-          let n = parameters_of R wanted f in
-          let part = passed n st.0.2 in
-          let called = λ (to : ℕ) (e : Some (entry p f) ≡ Some to). subst (λ q. Goes_to wanted q (height slots n 0 0)) (some_same (entry p f) to e) (calls wanted f st.0.1) in
-          answers_lead (Some (entry p f)) wanted 0 slots n (take n own) (drop n own) held.names part.2 part.0 called (omega (arith, count, st.0.0)) part.3 (λ things there ends. tt)
-          (home wanted slots n (length stack - slots) (drop n own) (st.0.0, st.0.2) (st.1.0, st.1.1) (λ r. inl st.1.2) part.4 (omega (arith, count, st.0.0)) part.1)
-      action_leads (Send selector takes objects wanted) is stands no_end nil ready st = found_leads Good stack takes _ (omega (arith, count, st.0.0)) (λ class _. class_reported wanted (class_at class) selector takes objects st.0 st.1)
-      action_leads (SendSuper from selector takes objects wanted) is stands no_end nil ready st = class_reported wanted (Some from) selector takes objects st.0 st.1
+          (λ _. go_on st.2.2 rest o (omega (arith, st.0, st.2.1, e)))
+          (λ _. go_on st.1 rest o (omega (arith, st.0, e))))
+      action_leads (Call f wanted) is stands no_end nil ready st = calls_lead (Some (entry p f)) wanted (slots_of R wanted f) (parameters_of R wanted f)
+          (λ to e. subst (λ q. Goes_to wanted q (height (slots_of R wanted f) (parameters_of R wanted f) 0 0)) (some_same (entry p f) to e) (calls wanted f st.0.1)) (st.0.0, st.0.2) st.1
+      action_leads (Send selector takes objects wanted) is stands no_end nil ready st = found_leads Good stack takes _ (omega (arith, st.0.0)) (λ class _. calls_lead _ wanted (suc takes) objects (finds (class_at class) signs.Class selector takes objects wanted) st.0 st.1)
+      action_leads (SendSuper from selector takes objects wanted) is stands no_end nil ready st = calls_lead _ wanted (suc takes) objects (finds (Some from) signs.Class selector takes objects wanted) st.0 st.1
       action_leads (SendTo selector takes objects wanted) is stands no_end nil ready st = message_leads wanted (λ ob. ob.class) selector takes objects st.0 st.1 (init_ready wanted selector takes objects is ready st.2)
       action_leads (SendToSuper from selector takes objects wanted) is stands no_end nil ready st =
           message_leads wanted (λ ob. from) selector takes objects st.0 (st.1.0, st.1.1) (λ given rest r e some r1. inl st.1.2)
       action_leads (StoreStrong i) is stands no_end nil ready st =
-          last_leads_on Good _ st.0.0 (λ r rest _ now _. found_leads Good held.variables i _ (omega (arith, many, st.0.1)) (λ old found. named_leads Good r held _ (is_held r now)
-          (let long = length-set held.variables i r in
-          let o1 : Owns (old ∷ []) own (raised r (with_variables held (slice_set held.variables i r))) = record { is = o.is; keeps = o.keeps; alive = o.alive; waits = o.waits; dying = o.dying; sane = sane_moved (λ k. omega (arith, holders_head, variable_moves (suc k) held i old r found)) (gains r (is_held r now) o.sane) } in
-          releases_lead old pc stack held _ o1 (back_any (pc + 1) (next_height R (StoreStrong i) h) st.1 (length stack) o1 (omega (arith, count)) (omega (arith, size, st.0.0)) (omega (arith, few)) (omega (arith, many, long))))))
+          last_leads_on Good _ st.0.0 (λ r rest _ now _. found_leads Good held.variables i _ (omega (arith, st.0.1)) (λ old found. named_leads Good r held _ (is_held r now)
+          (stores_lead old (raised r (with_variables held (slice_set held.variables i r))) st.1 (takes_place old r (is_held r now) o (λ k. variable_moves k held i old r found)) (omega (arith, st.0.0, length-set held.variables i r)))))
       action_leads (StoreGlobal i) is stands no_end nil ready st =
-          let x = next_height R (StoreGlobal i) h in
           last_leads_on Good _ st.0 (λ r rest _ now _. named_leads Good r held _ (is_held r now) (place_leads (slice_get held.strong_globals i) _ _
-          (λ none. go_on (pc + 1) x st.1 stack held o (omega (arith, count)) (omega (arith, size, st.0)) (omega (arith, few)) (omega (arith, many)))
-          (λ old found.
-          let o1 : Owns (old ∷ []) own (raised r (with_strong_globals held (slice_set held.strong_globals i r))) = record { is = o.is; keeps = o.keeps; alive = o.alive; waits = o.waits; dying = o.dying; sane = sane_moved (λ k. omega (arith, holders_head, global_moves (suc k) held i old r found)) (gains r (is_held r now) o.sane) } in
-          releases_lead old pc stack held _ o1 (back_any (pc + 1) x st.1 (length stack) o1 (omega (arith, count)) (omega (arith, size, st.0)) (omega (arith, few)) (omega (arith, many))))))
+          (λ none. go_on st.1 stack o (omega (arith, st.0)))
+          (λ old found. stores_lead old (raised r (with_strong_globals held (slice_set held.strong_globals i r))) st.1 (takes_place old r (is_held r now) o (λ k. global_moves k held i old r found)) (omega (arith, st.0)))))
       action_leads (StoreField class index) is stands no_end nil ready st =
-          let x = next_height R (StoreField class index) h in
-          last_leads_on Good _ (omega (arith, st.0)) (λ r rest e now kept. reference_leads Good rest deeper stays_held (rest ++ deeper) _ refl (omega (arith, st.0, size, e)) kept (λ q others f also below1.
+          last_leads_on Good _ (omega (arith, st.0)) (λ r rest e now kept. reference_leads Good rest deeper stays_held (rest ++ deeper) _ refl (omega (arith, st.0, e)) kept (λ q others f also below1.
           named_leads Good r held _ (is_held r now) (field_leads Good class q held _ (is_held q also) (λ j ob same found there.
-          stored (is_emptying ob.phase) j ob same found there index r (is_held r now) (r ∷ others) (λ k some. grind (arith, now k, below1 k)) x st.1 (omega (arith, count)) (omega (arith, size, st.0, e, f)) (omega arith) (omega arith) refl))))
-      action_leads (Empty i) is stands no_end nil ready st = found_leads Good held.variables i _ (omega (arith, many, st.0)) (λ r found.
+          stored (is_emptying ob.phase) j ob same found there index r (is_held r now) (r ∷ others) (λ k some. grind (arith, now k, below1 k)) st.1 (omega (arith, st.0, e, f)) refl))))
+      action_leads (Empty i) is stands no_end nil ready st = found_leads Good held.variables i _ (omega (arith, st.0)) (λ r found.
           let long = length-set held.variables i 0 in
-          let o1 : Owns (r ∷ []) own (raised 0 (with_variables held (slice_set held.variables i 0))) = record { is = o.is; keeps = o.keeps; alive = o.alive; waits = o.waits; dying = o.dying; sane = sane_moved (λ k. omega (arith, holders_head, variable_moves (suc k) held i r 0 found)) (gains 0 tt o.sane) } in
+          let o1 : Owns (r ∷ []) own (raised 0 (with_variables held (slice_set held.variables i 0))) = takes_place r 0 tt o (λ k. variable_moves k held i r 0 found) in
           releases_lead r pc stack held _ o1
-          (back (pc + 1) (next_height R (Empty i) h) st.1 (length stack) o1 (λ k c. ⊎_elim (λ same. subst (λ j. Shut mine j (slice_set held.variables i 0)) (sym same) (shut_set mine i held.variables (nil (suc i) (ap role_of is, subst (λ j. Clear j (pc + 1)) same c)))) (λ le. shut_end mine (slice_set held.variables i 0) k (omega (arith, many, long, le))) (st.2 k c)) (inl st.3) (omega (arith, count)) (omega (arith, size)) (omega (arith, few)) (omega (arith, many, long))))
+          (back st.1 o1 (λ k c. ⊎_elim (λ same. subst (λ j. Shut mine j (slice_set held.variables i 0)) (sym same) (shut_set mine i held.variables (nil (suc i) (ap role_of is, subst (λ j. Clear j (pc + 1)) same c)))) (λ le. shut_end mine (slice_set held.variables i 0) k (omega (arith, long, le))) (st.2 k c)) (inl st.3) (omega (arith, long))))
       action_leads DropAll is stands no_end nil ready st =
-          let none = nil_from_length own (omega (arith, size, st.0)) in
-          let free = calm_free R (all R) (table R) pc Stays tt (ap role_of is) in
-          drops_lead held.temporaries pc h stack held held refl stands free st.1 nil count (omega (arith, st.0)) few many (subst (λ l. Owns [] l held) none o)
+          let none = nil_from_length own (omega (arith, st.0)) in
+          drops_lead held.temporaries stack held held stands (calm_free R (all R) (table R) pc Stays tt (ap role_of is)) st.1 nil (omega (arith, st.0)) (subst (λ l. Owns [] l held) none o)
       action_leads Settle is stands no_end nil (inl free) st = absurd (free.0 (ap role_of is))
       action_leads Settle is stands no_end nil (inr (inl made)) st = absurd (made.0 (ap role_of is))
       action_leads Settle is stands no_end nil (inr (inr over)) st =
           let m = over.1 in
-          let sane1 = sane_moved (λ k. second_moves (suc k) held m.0 m.1 m.3 m.5) o.sane in
-          let o1 : Owns (m.1 ∷ []) (m.0 ∷ m.2) (with_temporaries held (m.0 ∷ m.3)) = record { is = o.is ∙ ap (λ l. l ++ deeper) m.4; keeps = λ k some. grind (arith, m.6 k); alive = o.alive; waits = o.waits; dying = o.dying; sane = sane1 } in
-          let names_size = ap length m.4 in
-          let places_size = ap length m.5 in
-          subst (λ l. Leads (instructions.settles (bare p) s l)) (sym m.5)
-          (releases_lead m.1 pc stack held _ o1 (back_any (pc + 1) (next_height R Settle h) st (length stack) o1 (omega (arith, count)) (omega (arith, size, names_size)) (omega (arith, few, places_size)) (omega (arith, many))))
+          subst (λ l. Leads (instructions.settles (bare p) s l)) (sym m.5) (stores_lead m.1 (with_temporaries held (m.0 ∷ m.3)) {own1 = m.0 ∷ m.2} st
+          (record { is = o.is ∙ ap (λ l. l ++ deeper) m.4; keeps = λ k some. grind (arith, m.6 k); alive = o.alive; waits = o.waits; dying = o.dying; sane = sane_moved (λ k. second_moves (suc k) held m.0 m.1 m.3 m.5) o.sane })
+          (omega (arith, ap length m.4, ap length m.5)))
       action_leads Give is stands no_end nil ready st =
-          let none = nil_from_length held.temporaries (omega (arith, few, st.2)) in
-          let shut = subst (λ g. Shut g 0 held.variables) st.3 (nil 0 (0, ap role_of is)) in
-          top_leads Good stack _ (omega (arith, count, st.0)) (λ v rest e. subst (λ l. Leads (on_result l held (λ r. instructions.hands_over (bare p) s frames r rest))) (sym none) (last_leads held.variables _ (omega (arith, many, st.4)) shut (λ r last.
-          hands_lead frames pc r stack rest held (left_waits gives.Object st.3 rest (omega (arith, count, st.0, e)) st.1) none last o.dying o.sane)))
+          let none = nil_from_length held.temporaries (omega (arith, st.2)) in
+          top_leads Good stack _ (omega (arith, st.0)) (λ v rest e. subst (λ l. Leads (on_result l held (λ r. instructions.hands_over (bare p) s frames r rest))) (sym none) (last_leads held.variables _ (omega (arith, st.4)) (subst (λ g. Shut g 0 held.variables) st.3 (nil 0 (0, ap role_of is))) (λ r last.
+          hands_lead frames pc r stack rest held (left_waits gives.Object st.3 rest (omega (arith, st.0, e)) st.1) none last o.dying o.sane)))
       action_leads Return is stands no_end nil ready st =
-          let none = nil_from_length held.temporaries (omega (arith, few, st.2)) in
+          let none = nil_from_length held.temporaries (omega (arith, st.2)) in
           let shut = subst (λ g. Shut g 0 held.variables) st.3 (nil 0 (0, ap role_of is)) in
           let empty : NilBut [] held.variables = λ i k named. absurd (shut i k (omega arith) (omega (arith, slice_get_within held.variables i (suc k) named)) named) in
-          top_leads Good stack _ (omega (arith, count, st.0)) (λ v rest e. left_leads held.temporaries held _ none empty
-          (leaves_lead frames pc v stack rest held (left_waits gives.Number st.3 rest (omega (arith, count, st.0, e)) st.1) o.alive e none empty o.dying o.sane running))
+          top_leads Good stack _ (omega (arith, st.0)) (λ v rest e. left_leads held.temporaries held _ none empty
+          (leaves_lead frames pc v stack rest held (left_waits gives.Number st.3 rest (omega (arith, st.0, e)) st.1) o.alive e none empty o.dying o.sane running))
       action_leads EndStep is stands no_end nil ready st = absurd (no_end refl)
 
   -- ---- the end of an object
 
-  module _ (classes : p.classes ≡ classes_linked R) (stack : List ℤ) (held : Heap) (none : held.temporaries ≡ []) (empty : held.variables ≡ []) (sane : Sane p.classes held) where
-    no_variables : NilBut [] held.variables
-    no_variables = subst (NilBut []) (sym empty) (λ i k e. cc)
-
-    -- it goes on
-    ends_again : (frames : List ReturnFrame) → IsEnding frames → Alive frames held.places held.self
-        → EndsAgain p.end_step held.self frames held.temporaries held.variables held.places
-    ends_again frames is alive = record { at_end = refl; is_ending = is; none = none; empty = empty; alive = alive }
+  module _ (classes : p.classes ≡ classes_linked R) (stack : List ℤ) (before : Heap) (sane : Sane p.classes (cleared before)) where
+    abbrev held : Heap
+    held = cleared before
 
     module _ (back : ℕ) (w : Waiter) (k : ℕ) (others : List ReturnFrame) (alive : Alive (Ending back w (suc k) None 0 ∷ others) held.places held.self) (dying : AllDying held.objects (ending others)) (later : Interrupted (λ g. Waits g others) back w (suc k) others (length stack) held.names held.places) where
       -- what else ends is as far as before once the object is changed
@@ -692,32 +664,30 @@ module _ (p : Program) (R : resolved.Program) where
       still x = apart_dying held.objects k x (ending others) later.0 dying
 
       -- an object is gone, whose fields name nothing
-      ends_lead : (b : Bool) (ob : Object) → object_at held.objects (suc k) ≡ Some ob → is_there ob.phase ≡ true → NilBut [] ob.strong
-          → nat_eq (held.counts (suc k)) 0 ≡ b
-          → Leads (if b then on_left held.temporaries held (λ h. Goes (record { at = back; stack = stack; frames = others; held = resumed w (with_things h (turned_in Gone h.objects (suc k))) }) []) else Faults Resurrected)
+      ends_lead : (b : Bool) (ob : Object) → object_at held.objects (suc k) ≡ Some ob → is_there ob.phase ≡ true → NilBut [] ob.strong → nat_eq (held.counts (suc k)) 0 ≡ b
+          → Leads (if b then Goes (at others back stack (resumed w (with_things held (turned_in Gone held.objects (suc k))))) [] else Faults Resurrected)
       ends_lead false ob found there but e = tt
       ends_lead true ob found there but e =
           let x = in_phase Gone ob in
-          let objects = slice_set held.objects k x in
-          let gone_is : turned_in Gone held.objects (suc k) ≡ objects = rw found refl in
-          let h1 = with_things held objects in
-          let sane1 = again_sane w h1 none no_variables (sane_turned held k ob x found (λ i. sym (ap (holders (suc i)) (there_fields ob there) ∙ nil_named ob.strong but i)) (λ f. record { there = λ some. absurd (omega (arith, eqb-true (held.counts (suc k)) 0 e)); held = λ live. cc; sized = f.sized }) sane) in
-          left_leads held.temporaries held _ none no_variables
-          (subst (λ l. Good (at others back stack (resumed w (with_things (with_variables held []) l)))) (sym gone_is) (later.1, still x, sane1))
+          rw found (
+            later.1,
+            still x,
+            again_sane w (with_things held (slice_set held.objects k x)) refl (λ i j e. cc)
+                (sane_turned held k ob x found (λ i. sym (ap (holders (suc i)) (there_fields ob there) ∙ nil_named ob.strong but i)) (λ f. record { there = λ some. absurd (omega (arith, eqb-true (held.counts (suc k)) 0 e)); held = λ live. cc; sized = f.sized }) sane),
+          )
 
       -- the deallocs of an object are done: its fields are destroyed, and then it is gone
-      clears_lead : (frames : List ReturnFrame) (plain_action : List ℕ) (ob : Object) → object_at held.objects (suc k) ≡ Some ob → ob.phase ≡ Dying → NilBut plain_action ob.strong
-          → Leads (clears p (at frames p.end_step stack held) back w (suc k) plain_action others)
-      clears_lead frames [] ob found phase but = ends_lead (nat_eq (held.counts (suc k)) 0) ob found (ap is_there phase) but refl
-      clears_lead frames (index ∷ plain_action) ob found phase but =
+      clears_lead : (fields : List ℕ) (ob : Object) → object_at held.objects (suc k) ≡ Some ob → ob.phase ≡ Dying → NilBut fields ob.strong
+          → Leads (clears p (at others p.end_step stack held) back w (suc k) fields others)
+      clears_lead [] ob found phase but = ends_lead (nat_eq (held.counts (suc k)) 0) ob found (ap is_there phase) but refl
+      clears_lead (index ∷ fields) ob found phase but =
           let x = in_phase Emptying ob in
-          let turned_is : turned_in Emptying held.objects (suc k) ≡ slice_set held.objects k x = rw found refl in
-          subst (λ l. Good (at (Clearing back w (suc k) (index ∷ plain_action) ∷ others) p.end_step stack (with_things held l))) (sym turned_is)
-          (inr (ends_again _ tt alive, later), ((x, set_here held.objects k x ob found, (refl, but)), still x), sane_turned held k ob x found (λ i. grind arith) (λ f. record { there = λ some. refl; held = λ live. cc; sized = f.sized }) sane)
+          subst (λ l. Good (at (Clearing back w (suc k) (index ∷ fields) ∷ others) p.end_step stack (with_things held l))) (let turned : slice_set held.objects k x ≡ turned_in Emptying held.objects (suc k) = rw found refl in turned)
+          (inr (again tt alive, later), ((x, set_here held.objects k x ob found, (refl, but)), still x), sane_turned held k ob x found (λ i. grind arith) (λ f. record { there = λ some. refl; held = λ live. cc; sized = f.sized }) sane)
 
-      after_lead : (frames : List ReturnFrame) → IsDying held.objects (suc k) None → Leads (after_deallocs p (at frames p.end_step stack held) back w (suc k) others)
-      after_lead frames dies = let ob = dies.0 in object_leads Good (slice_get held.objects k) ob _ dies.1 (ap is_there dies.2)
-          (clears_lead frames (field_order p.classes ob.class) ob dies.1 dies.2 (all_in_order p.classes ob ((fits_at k ob dies.1 sane).sized)))
+      after_lead : IsDying held.objects (suc k) None → Leads (after_deallocs p (at others p.end_step stack held) back w (suc k) others)
+      after_lead dies = let ob = dies.0 in object_leads Good (slice_get held.objects k) ob _ dies.1 (ap is_there dies.2)
+          (clears_lead (field_order p.classes ob.class) ob dies.1 dies.2 (all_in_order p.classes ob ((fits_at k ob dies.1 sane).sized)))
 
       -- the next field lets go of what it names
       next_lead : (index : ℕ) (fields : List ℕ) → IsDying held.objects (suc k) (Some (index ∷ fields))
@@ -728,40 +698,36 @@ module _ (p : Program) (R : resolved.Program) where
           let there_now = ap is_there dies.2.0 in
           object_leads Good (slice_get held.objects k) ob _ dies.1 there_now
           (place_leads (slice_get ob.strong index) _ _
-          (λ absent. (inr (ends_again _ tt alive, later), ((ob, dies.1, (dies.2.0, no_field index fields ob.strong absent dies.2.1)), dying), sane))
+          (λ absent. (inr (again tt alive, later), ((ob, dies.1, (dies.2.0, no_field index fields ob.strong absent dies.2.1)), dying), sane))
           (λ old named.
           let x = with_strong_fields ob (slice_set ob.strong index 0) in
           let held1 = raised 0 (with_strong_field held (suc k) ob index 0) in
           let drops = sane_store_field held k ob index old 0 dies.1 there_now named tt sane in
           let dying1 : AllDying held1.objects (ending frames) = ((x, set_here held.objects k x ob dies.1, (dies.2.0, one_nil index fields ob.strong dies.2.1)), still x) in
           lets_go_leads old held1 _ _ drops
-          (λ sane1. (inr (ends_again _ tt alive, later), dying1, sane1))
+          (λ sane1. (inr (again tt alive, later), dying1, sane1))
           (λ j other e found live.
           begins_lead frames (has_level (at frames p.end_step stack held)) j p.end_step p.end_step other stack held held1 found live dying1 (subst (λ q. Drops p.classes q held1) e drops)
-          (inr (ends_again _ tt alive, later)))))
+          (inr (again tt alive, later)))))
 
       -- its next dealloc, of which what ends is as far as before
-      module _ (dies : IsDying held.objects (suc k) None) (frames : List ReturnFrame) where
-        dealloc_leads : (d : Option ℕ) (next : Option ℕ) (left : ℕ) → ((to : ℕ) → d ≡ Some to → Goes_to gives.Number to (height 0 0 0 0))
+      module _ (dies : IsDying held.objects (suc k) None) where
+        dealloc_leads : (frames : List ReturnFrame) (d next : Option ℕ) (left : ℕ) → ((to : ℕ) → d ≡ Some to → Goes_to gives.Number to (height 0 0 0 0))
             → Leads (runs_dealloc d (at frames p.end_step stack held) (Ending back w (suc k) next left ∷ others))
-        dealloc_leads None next left goes = (inr (ends_again _ tt alive, later), (dies, dying), sane)
-        dealloc_leads (Some to) next left goes =
-            let g = goes to refl in
-            let few = ap length none in
-            let many = ap length empty in
-            let entered : Resumes gives.Number to held.self (Ending back w (suc k) next left ∷ others) (length stack) (length stack) held.names held.names held.temporaries held.variables held.places = record { high = height 0 0 0 0; stands = g.0; count = omega arith; own = []; is = refl; size = refl; few = omega (arith, few); many = many; held = λ k some. omega arith; nil = λ i c. shut_end gives.Number held.variables i (omega (arith, many)); ready = inl g.2; alive = alive; running = tt } in
-            (inl (gives.Number, length stack, held.names, entered, later), (dies, dying), sane)
+        dealloc_leads frames None next left goes = (inr (again tt alive, later), (dies, dying), sane)
+        dealloc_leads frames (Some to) next left goes =
+            (inl (gives.Number, length stack, held.names, begins [] (goes to refl) refl refl (omega arith) (λ i some. omega arith) alive tt, later), (dies, dying), sane)
 
-        class_leads : (i : ℕ) (c : Option Class) (left : ℕ) → slice_get p.classes i ≡ c
+        class_leads : (frames : List ReturnFrame) (i : ℕ) (c : Option Class) (left : ℕ) → slice_get p.classes i ≡ c
             → Leads (ends_class p (at frames p.end_step stack held) back w (suc k) c left others)
-        class_leads i None left e = after_lead frames dies
-        class_leads i (Some d) left e = dealloc_leads d.dealloc d.superclass left (λ to f. dealloc_goes R i d to (ap (λ cs. slice_get cs i) (sym classes) ∙ e) f)
+        class_leads frames i None left e = after_lead dies
+        class_leads frames i (Some d) left e = dealloc_leads frames d.dealloc d.superclass left (λ to f. dealloc_goes R i d to (ap (λ cs. slice_get cs i) (sym classes) ∙ e) f)
 
     goes_on_leads : (frames : List ReturnFrame) → IsEnding frames → Alive frames held.places held.self → Waits gives.Number frames (length stack) held.names held.places → AllDying held.objects (ending frames) → Leads (end_goes_on p (at frames p.end_step stack held) frames)
     goes_on_leads (Ending back w zero next left ∷ others) is alive waits dying = cc
     goes_on_leads (Clearing back w zero fields ∷ others) is alive waits dying = cc
     goes_on_leads (Ending back w (suc k) (Some c) (suc left) ∷ others) is alive waits dying = class_leads back w k others alive dying.1 waits dying.0 _ c (slice_get p.classes c) left refl
-    goes_on_leads (Ending back w (suc k) next left ∷ others) is alive waits dying = after_lead back w k others alive dying.1 waits (Ending back w (suc k) next left ∷ others) dying.0
+    goes_on_leads (Ending back w (suc k) next left ∷ others) is alive waits dying = after_lead back w k others alive dying.1 waits dying.0
     goes_on_leads (Clearing back w (suc k) [] ∷ others) is alive waits dying =
         ends_lead back w k others alive dying.1 waits (nat_eq (held.counts (suc k)) 0) dying.0.0 dying.0.1 (ap is_there dying.0.2.0) dying.0.2.1 refl
     goes_on_leads (Clearing back w (suc k) (index ∷ fields) ∷ others) is alive waits dying = next_lead back w k others alive dying.1 waits index fields dying.0
@@ -781,11 +747,13 @@ module _ (p : Program) (R : resolved.Program) where
         let same : st.0 ≡ mark = some_same st.0 mark (sym st.1 ∙ r.stands.height) in
         let steps = subst (λ (m : Height × Gives). Steps R (all R) (table R) m.1 m.0 s.at x) same st.2 in
         subst Leads (sym (step_does s x r.stands.is))
-        (action_leads mine s.frames below deeper r.running classes (λ wanted g called. entry_goes p R is entries wanted g called) s.at r.high s.stack s.held r.own r.count r.size r.few r.many
+        (action_leads mine s.frames below deeper r.running classes (λ wanted g called. entry_goes p R is entries wanted g called) s.at r.high s.stack s.held r.own r.sized
         (record { is = r.is; keeps = r.held; alive = r.alive; waits = waits; dying = dying; sane = sane }) x r.stands.is r.stands r.stands.no_end r.nil r.ready steps)
     step_leads s (inr (f, waits), dying, sane) =
         let e : slice_get (lowered_actions R) s.at ≡ Some EndStep = ap (slice_get (lowered_actions R)) (f.at_end ∙ end) ∙ end_is R in
-        subst Leads (sym (step_does s EndStep e)) (subst (λ pc. Leads (end_goes_on p (at s.frames pc s.stack s.held) s.frames)) (sym f.at_end) (goes_on_leads classes s.stack s.held f.none f.empty sane s.frames f.is_ending f.alive waits dying))
+        let same : cleared s.held ≡ s.held = ap (λ l. record s.held { temporaries = l; variables = [] }) (sym f.none) ∙ ap (with_variables s.held) (sym f.empty) in
+        subst Leads (sym (step_does s EndStep e)) (subst (λ h. Leads (end_goes_on p (at s.frames s.at s.stack h) s.frames)) same
+        (subst (λ pc. Leads (end_goes_on p (at s.frames pc s.stack (cleared s.held)) s.frames)) (sym f.at_end) (goes_on_leads classes s.stack s.held (subst (Sane p.classes) (sym same) sane) s.frames f.is_ending f.alive waits dying)))
 
     safe : (n : ℕ) (s : State) → Good s → Safe (step p) (λ t. CountsAreExact t.held) n s
     safe zero s good = sane_counted s.held good.2
@@ -793,7 +761,7 @@ module _ (p : Program) (R : resolved.Program) where
 
     pub start_good : Good (start p)
     start_good = (
-      inl (gives.Number, 0, [], record { high = height 0 0 0 0; stands = (start_goes R).0; count = refl; own = []; is = refl; size = refl; few = omega arith; many = refl; held = λ k some. omega arith; nil = λ k c. shut_end gives.Number [] k (omega arith); ready = inl (start_goes R).2; alive = λ objects there ends. tt; running = tt }, tt),
+      inl (gives.Number, 0, [], begins [] (start_goes R) refl refl refl (λ k some. omega arith) (λ objects there ends. tt) tt, tt),
       tt,
       record { counted = λ k. grind (arith, holders_append, nils_holders k p.strong_globals); right = λ k. refl },
     )

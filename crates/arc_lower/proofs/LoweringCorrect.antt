@@ -11,14 +11,14 @@ use Rattle.arc_spec.specs.World as world
 use Rattle.arc_spec.specs.World.{World, Outcome, Done, Faulted, Cut, first_frame, first_world, nothing_given}
 use Rattle.arc_spec.specs.Meaning.{mean}
 use Rattle.arc_spec.specs.HolderCounts.{all_nil, on_left}
-use Rattle.arc_spec.specs.SmallSteps.{Next, Reached, Running, Ends, Ended, only_if, after_steps}
+use Rattle.arc_spec.specs.SmallSteps.{Next, Reached, Ends, Ended, only_if}
 use Rattle.arc_ir.specs.ActionSteps.{Program, State, step, start, seen}
 use Rattle.arc_code.specs.declared.instr.Instr.TheVariants.{Call, Return, EndStep}
 use Rattle.arc_lower.specs.PlainActions.{plain_actions}
 use Rattle.arc_lower.specs.Lowered.{number_of, slots_of, parameters_of, passing_actions, lowered, entries_of, end_step_of, classes_linked}
 use Rattle.arc_lower.specs.LoweringContract.{Performs, IsLowered}
-use Rattle.arc_lower.proofs.RunsCompose.{Comes, Runs, running, Follows, ends, leads, on, moves_on, next}
-use Rattle.arc_lower.proofs.RecountedSteps.{fresh, recount, moves, held_of, HasAt, has_front, has_back}
+use Rattle.arc_lower.proofs.RunsCompose.{Runs, running, Follows, ends, leads, on, moves_on, next}
+use Rattle.arc_lower.proofs.RecountedSteps.{recount, moves, held_of, HasAt, has_front, has_back}
 use Rattle.arc_lower.proofs.StackAccess.{passing_leads}
 use Rattle.arc_lower.proofs.StubLookup.{has_start, has_end, Linked, linked}
 use Rattle.arc_lower.proofs.CallSimulation.{calls_run}
@@ -73,11 +73,6 @@ module _ (meant seen : List ℕ → ℕ → Observation) (steady : Steady seen) 
 abbrev Ends_with : ℤ → World → Reached State → Type 0
 Ends_with v w to = to ≡ Ended v w.input w.trace
 
-shows : (p : Program) (input : List ℕ) (bound : ℕ) (o : Outcome ℤ) → ((n : ℕ) → seen p input n ≡ run_seen (after_steps (moves p) n (Running (fresh (start p)) input []))) → Comes (moves p) bound (running [] [] 0 [] (first_world p.globals p.strong_globals input)) Ends_with o → Shows (seen p input) bound (meaning_seen o)
-shows p input bound (Done v w) alike r = record { steps = r.1.steps; same = alike r.1.steps ∙ ap run_seen (r.1.there ∙ r.2); enough = λ e. cc }
-shows p input bound (Faulted f w) alike r = record { steps = r.steps; same = alike r.steps ∙ ap run_seen r.there; enough = λ e. cc }
-shows p input bound (Cut w) alike r = record { steps = r.0; same = alike r.0 ∙ ap run_seen r.3; enough = λ e. r.2 }
-
 -- what begins is left where it has as few places as it began with
 main_ends : (v : ℤ) (w : World) → w.frame ≡ first_frame → recount (on_left w.frame.temporaries (held_of [] w) (λ h. Ends (converted k.Int v))) ≡ Ends (converted k.Int v)
 main_ends v w e =
@@ -85,13 +80,8 @@ main_ends v w e =
     ap (λ (f : world.Activation). recount (on_left f.temporaries (held_of [] w) (λ h. last))) e ∙ ap (λ (f : world.Activation). recount (only_if (all_nil f.strong) last)) e
 
 module _ (p : Program) (R : resolved.Program) (is : plain_actions p.actions ≡ lowered R) (entries : p.entries ≡ entries_of R) (classes : p.classes ≡ classes_linked R) (end_at : p.end_step ≡ end_step_of R) where
-  links : Linked R p.classes
-  links = subst (Linked R) (sym classes) (linked R)
-
-  program_runs : (input : List ℕ) (bound : ℕ)
-      → Follows p bound (running [] [] 0 [] (first_world R.globals R.strong_globals input)) Ends_with (mean R input bound)
+  program_runs : (input : List ℕ) (bound : ℕ) → Follows p bound (running [] [] 0 [] (first_world R.globals R.strong_globals input)) Ends_with (mean R input bound)
   program_runs input bound =
-      let none : 0 + MOST_LEVELS ≡ MOST_LEVELS = omega arith in
       let w = first_world R.globals R.strong_globals input in
       let fits = passing_actions R gives.Number R.main 0 0 in
       let call = Call (number_of R gives.Number R.main) gives.Number ∷ [] in
@@ -103,15 +93,16 @@ module _ (p : Program) (R : resolved.Program) (is : plain_actions p.actions ≡ 
       let last = subst (λ n. HasAt p n last_actions) size (has_back p 0 (fits ++ call) last_actions has) in
       let ready = passing_leads p [] (slots_of R gives.Number R.main) (parameters_of R gives.Number R.main) 0 0 nothing_given [] [] w 0 refl refl
       (has_front p 0 fits call has_call) in
-      let levels = calls_run p R bound is entries links (has_end p R is end_at) MOST_LEVELS [] none in
-      next (leads ready (levels.invokes gives.Number R.main nothing_given [] [] w q (has_back p 0 fits call has_call))) (λ a w1 to m.
+      next (leads ready ((calls_run p R bound is entries (subst (Linked R) (sym classes) (linked R)) (has_end p R is end_at) MOST_LEVELS [] (omega arith)).invokes gives.Number R.main nothing_given [] [] w q (has_back p 0 fits call has_call))) (λ a w1 to m.
       on m.0 (moves_on {next = Ends (converted k.Int a.number)} (ap recount (last.0 [] (a.number ∷ []) (held_of [] w1)) ∙ main_ends a.number w1 m.1.frame)
       (record { follows = ends refl })))
 
   -- no step lacks what it needs
-  program_comes : (input : List ℕ) (bound : ℕ) → Runs (moves p) bound (running [] [] 0 [] (first_world p.globals p.strong_globals input)) Ends_with (mean R input bound) → Comes (moves p) bound (running [] [] 0 [] (first_world p.globals p.strong_globals input)) Ends_with (mean R input bound)
-  program_comes input bound (inl wedged) = absurd (never_wedged p R is entries classes end_at input wedged.0 wedged.1 wedged.2.steps wedged.2.there)
-  program_comes input bound (inr comes) = comes
+  shows : (input : List ℕ) (bound : ℕ) (o : Outcome ℤ) → Runs (moves p) bound (running [] [] 0 [] (first_world p.globals p.strong_globals input)) Ends_with o → Shows (seen p input) bound (meaning_seen o)
+  shows input bound o (inl wedged) = absurd (never_wedged p R is entries classes end_at input wedged.0 wedged.1 wedged.2.steps wedged.2.there)
+  shows input bound (Done v w) (inr r) = record { steps = r.1.steps; same = seen_moves p R is entries classes end_at input r.1.steps ∙ ap run_seen (r.1.there ∙ r.2); enough = λ e. cc }
+  shows input bound (Faulted f w) (inr r) = record { steps = r.steps; same = seen_moves p R is entries classes end_at input r.steps ∙ ap run_seen r.there; enough = λ e. cc }
+  shows input bound (Cut w) (inr r) = record { steps = r.0; same = seen_moves p R is entries classes end_at input r.0 ∙ ap run_seen r.3; enough = λ e. r.2 }
 
 -- the actions that a program becomes perform it
 pub performs : (p : Program) (R : resolved.Program) → IsLowered R p → Performs R p
@@ -119,10 +110,9 @@ performs p R is =
     let calm = steady (step p) (start p) in
     record {
       behaves = behaves (λ input bound. meaning_seen (mean R input bound)) (seen p) calm
-          (λ input bound. shows p input bound (mean R input bound) (seen_moves p R is.actions is.entries is.classes is.end_step input) (program_comes p R is.actions is.entries is.classes is.end_step input bound
-          (subst (λ globals. Runs (moves p) bound (running [] [] 0 [] (first_world globals p.strong_globals input)) Ends_with (mean R input bound)) (sym is.globals)
-          (subst (λ n. Runs (moves p) bound (running [] [] 0 [] (first_world R.globals n input)) Ends_with (mean R input bound)) (sym is.strong_globals)
-          (program_runs p R is.actions is.entries is.classes is.end_step input bound).runs))));
+          (λ input bound. shows p R is.actions is.entries is.classes is.end_step input bound (mean R input bound)
+          (let same : first_world R.globals R.strong_globals input ≡ first_world p.globals p.strong_globals input = rw (is.globals, is.strong_globals) refl in
+          subst (λ w. Runs (moves p) bound (running [] [] 0 [] w) Ends_with (mean R input bound)) same (program_runs p R is.actions is.entries is.classes is.end_step input bound).runs));
       steady = calm;
       sound = room_suffices p R is.actions is.entries is.classes is.end_step (le_of_eq (sym is.room)) (le_of_eq (sym is.names)) (le_of_eq (sym is.places));
     }

@@ -1,16 +1,13 @@
 -- How many places name an object, and how many after a place or an object is changed.
-use Rattle.std.proofs.Common.{◌≡◌, ℕ, zero, suc, ◌+◌, ◌-◌, true, not, nat_eq, nat_lt, if◌then◌else◌, List, [], ◌∷◌, ◌++◌, length, Some, slice_get, slice_set, refl, ap, arith, ◌<◌}
+use Rattle.std.proofs.Common.{◌≡◌, ℕ, zero, suc, ◌+◌, true, not, nat_eq, nat_lt, if◌then◌else◌, List, [], ◌∷◌, ◌++◌, length, Some, slice_get, slice_set, refl, ap, arith, ◌<◌}
 use Rattle.std.proofs.lemmas.Bool.Decides.{nat_tests}
 use Rattle.arc_spec.specs.Objects.{Object, nils, names, with_strong_fields, is_there, fields_of, field_places, object_at}
-use Rattle.arc_spec.specs.HolderCounts.{Heap, holders, all_places, with_temporaries, with_variables, with_things, with_strong_globals, raised, lowered}
+use Rattle.arc_spec.specs.HolderCounts.{Heap, holders, all_places, with_temporaries, with_variables, with_things, with_strong_globals, raised}
 use Rattle.arc_spec.specs.World.{name_at}
 
 -- 1 where the two are one object, else 0
 abbrev pub tally : (k o : ℕ) → ℕ
 tally k o = if nat_eq k o then 1 else 0
-
-pub tally_same : (k : ℕ) → tally k k ≡ 1
-tally_same k = grind (arith, nat_tests)
 
 pub holders_head : (k o : ℕ) (places : List ℕ) → holders k (o ∷ places) ≡ tally k o + holders k places
 holders_head k o places = grind arith
@@ -42,9 +39,6 @@ no_one o count places e = grind (arith, nat_tests, names_holders o places)
 
 pub raised_count : (o : ℕ) (h : Heap) (k : ℕ) → (raised o h).counts k ≡ tally k o + h.counts k
 raised_count o h k = grind arith
-
-pub lowered_count : (o : ℕ) (h : Heap) (k : ℕ) → (lowered o h).counts k ≡ h.counts k - tally k o
-lowered_count o h k = grind arith
 
 -- ---- fields
 

@@ -2,11 +2,11 @@
 use Rattle.std.proofs.Common.{◌≡◌, ℕ, zero, suc, ◌-◌, nat_eq, if◌then◌else◌, ℤ, List, [], ◌∷◌, Option, Some, slice_get, slice_set, refl, ap, ◌∙◌, ◌≤◌, sym, subst, arith}
 use Rattle.arc_spec.specs.declared.event.Fault.TheVariants.{FieldClass}
 use Rattle.arc_spec.specs.declared.class.Gives.{Gives}
-use Rattle.arc_spec.specs.Classes.{descends, field_order}
+use Rattle.arc_spec.specs.Classes.{descends}
 use Rattle.arc_spec.specs.Objects.{Object, object_at}
 use Rattle.arc_spec.specs.SmallSteps.{Next, Faults, on_top, on_found, Reached, Running, Wedged, Along, follow, further, after_steps}
 use Rattle.arc_spec.specs.HolderCounts.{Heap, ReturnFrame, Ending, Clearing, Waiter, with_strong_globals, on_place, CountsAreExact, with_temporaries, with_variables, on_object, on_named, on_last, on_field, with_names, stores_field, raised}
-use Rattle.arc_ir.specs.ActionSteps.{Action, linked, Program, State, keeps, answers, taken, sends, releases, drops_all, clears, after_deallocs, end_goes_on, executes, IsSound, start, step, seen}
+use Rattle.arc_ir.specs.ActionSteps.{Action, linked, Program, State, keeps, answers, taken, sends, releases, drops_all, after_deallocs, end_goes_on, executes, IsSound, start, step, seen}
 use Rattle.arc_code.specs.Instructions as instructions
 use Rattle.arc_code.specs.declared.instr.Op.{Op}
 use Rattle.arc_code.specs.declared.instr.Op.TheVariants.{Num}
@@ -93,11 +93,8 @@ module _ (p : Program) (s : State) (right : CountsAreExact s.held) where
   stores_agree r x index names o = grind (arith, right.counted)
 
   -- an end of an object goes on
-  clears_agree : (back : ℕ) (waits : Waiter) (k : ℕ) (fields : List ℕ) (others : List ReturnFrame) → Agree (clears p s back waits (suc k) fields others) (clears p t back waits (suc k) fields others)
-  clears_agree back waits k fields others = grind (arith, right.counted k)
-
   after_agrees : (back : ℕ) (waits : Waiter) (k : ℕ) (others : List ReturnFrame) → Agree (after_deallocs p s back waits (suc k) others) (after_deallocs p t back waits (suc k) others)
-  after_agrees back waits k others = object_agrees (object_at s.held.objects (suc k)) _ _ (λ ob. clears_agree back waits k (field_order p.classes ob.class) others)
+  after_agrees back waits k others = object_agrees (object_at s.held.objects (suc k)) _ _ (λ ob. grind (arith, right.counted k))
 
   end_goes_on_agrees : (frames : List ReturnFrame) → AllDying s.held.objects (ending frames) → Agree (end_goes_on p s frames) (end_goes_on p t frames)
   end_goes_on_agrees (Ending back waits zero next left ∷ others) dying = cc
@@ -108,11 +105,11 @@ module _ (p : Program) (s : State) (right : CountsAreExact s.held) where
   end_goes_on_agrees _ dying = refl
 
   -- a place of the running function or of the program takes this
-  releases_agree : (r old : ℕ) (h : Heap) → Agree (releases p s old (counted_by h (raised r s.held).counts)) (releases p t old (counted_by h (raised r t.held).counts))
-  releases_agree r old h = grind (arith, right.counted)
+  releases_agree : (r old : ℕ) (variables strong_globals : List ℕ) → Agree (releases p s old (raised r (record s.held { variables = variables; strong_globals = strong_globals }))) (releases p t old (raised r (record t.held { variables = variables; strong_globals = strong_globals })))
+  releases_agree r old variables strong_globals = grind (arith, right.counted)
 
   -- what steps are made of
-  ruleset agrees = (top_agrees, found_agrees, object_agrees, named_agrees, field_agrees, answers_agree, sends_agree, stores_agree)
+  ruleset agrees = (top_agrees, found_agrees, object_agrees, named_agrees, field_agrees, answers_agree, sends_agree, stores_agree, place_agrees, releases_agree)
 
   -- an operation, and an action, that are made of these need no line
   operation_agrees : (o : Op) → Agree (operates p.classes o s) (operates p.classes o t)
@@ -123,10 +120,6 @@ module _ (p : Program) (s : State) (right : CountsAreExact s.held) where
   acts_agree (Some (Plain o)) dying = operation_agrees o
   acts_agree (Some DropAll) dying = drops_agree s.held.temporaries s.held s.held.counts _ right.counted
   acts_agree (Some EndStep) dying = end_goes_on_agrees s.frames dying
-  acts_agree (Some (StoreStrong i)) dying = top_agrees s.held.names _ _ (λ r rest. found_agrees (slice_get s.held.variables i) _ _ (λ old.
-      named_agrees r s.held t.held.counts _ _ (releases_agree r old (with_variables s.held (slice_set s.held.variables i r)))))
-  acts_agree (Some (StoreGlobal i)) dying = top_agrees s.held.names _ _ (λ r rest. named_agrees r s.held t.held.counts _ _ (place_agrees (slice_get s.held.strong_globals i) _ _ _ _ refl (λ old.
-      releases_agree r old (with_strong_globals s.held (slice_set s.held.strong_globals i r)))))
   acts_agree (Some Give) dying = grind (arith, last_agrees)
   acts_agree _ dying = first_of (search agrees depth 8, grind (arith, right.counted))
 
@@ -165,32 +158,23 @@ module _ (p : Program) (R : resolved.Program) (is : plain_actions p.actions ≡ 
   follow_kept : (next : Next State) (i : List ℕ) (t : List Event) → Along (Good p R) next → Kept (follow next i t)
   follow_kept next i t kept = grind (arith, kept)
 
-  further_kept : (r : Reached State) → Kept r → Kept (further (step p) r)
-  further_kept (Running s i t) k = follow_kept (step p s) i t (step_leads p R is entries classes end s k)
-  further_kept _ k = k
+  one_more : (r : Reached State) → Kept r → Kept (further (step p) r) × (further (moves p) (freshened r) ≡ freshened (further (step p) r))
+  one_more (Running s i t) k = (follow_kept (step p s) i t (step_leads p R is entries classes end s k), ap (λ next. follow next i t) (sym (acts_agree p s (sane_counted s.held k.2) (slice_get p.actions s.at) k.1)) ∙ follow_fresh (step p s) i t)
+  one_more _ k = (k, refl)
 
-  steps_kept : (n : ℕ) (r : Reached State) → Kept r → Kept (after_steps (step p) n r)
-  steps_kept zero r k = k
-  steps_kept (suc n) r k = further_kept (after_steps (step p) n r) (steps_kept n r k)
-
-  further_fresh : (r : Reached State) → Kept r → further (moves p) (freshened r) ≡ freshened (further (step p) r)
-  further_fresh (Running s i t) k = ap (λ next. follow next i t) (sym (acts_agree p s (sane_counted s.held k.2) (slice_get p.actions s.at) k.1)) ∙ follow_fresh (step p s) i t
-  further_fresh _ k = refl
-
-  steps_fresh : (n : ℕ) (r : Reached State) → Kept r → after_steps (moves p) n (freshened r) ≡ freshened (after_steps (step p) n r)
-  steps_fresh zero r k = refl
-  steps_fresh (suc n) r k = ap (further (moves p)) (steps_fresh n r k) ∙ further_fresh (after_steps (step p) n r) (steps_kept n r k)
+  more : (n : ℕ) (r : Reached State) → Kept r → Kept (after_steps (step p) n r) × (after_steps (moves p) n (freshened r) ≡ freshened (after_steps (step p) n r))
+  more zero r k = (k, refl)
+  more (suc n) r k = let h = more n r k in let one = one_more (after_steps (step p) n r) h.0 in (one.0, ap (further (moves p)) h.1 ∙ one.1)
 
   seen_fresh : (r : Reached State) → run_seen (freshened r) ≡ run_seen r
   seen_fresh r = grind arith
 
   -- what is seen of the steps
   pub seen_moves : (input : List ℕ) (n : ℕ) → seen p input n ≡ run_seen (after_steps (moves p) n (Running (fresh (start p)) input []))
-  seen_moves input n = sym (seen_fresh (after_steps (step p) n (Running (start p) input []))) ∙ ap run_seen (sym (steps_fresh n (Running (start p) input []) (start_good p R is entries classes end)))
+  seen_moves input n = sym (seen_fresh (after_steps (step p) n (Running (start p) input []))) ∙ ap run_seen (sym ((more n (Running (start p) input []) (start_good p R is entries classes end)).1))
 
   -- no run comes to a step that it hasn't
   pub never_wedged : (input i : List ℕ) (t : List Event) (n : ℕ) → after_steps (moves p) n (Running (fresh (start p)) input []) ≡ Wedged i t → ⊥
   never_wedged input i t n e =
-      let r = Running (start p) input [] in
-      let k = start_good p R is entries classes end in
-      subst Kept (wedged_fresh (after_steps (step p) n r) i t (sym (steps_fresh n r k) ∙ e)) (steps_kept n r k)
+      let h = more n (Running (start p) input []) (start_good p R is entries classes end) in
+      subst Kept (wedged_fresh _ i t (sym h.1 ∙ e)) h.0

@@ -51,13 +51,12 @@ bare p = relinked (linked p) [] lands (λ f. Some (entry p f)) (λ bytes. Some b
 abbrev pub does : Program → PlainAction → State → Next State
 does p x = instructions.executes (bare p) (Some x)
 
-pub acts_does : (p : Program) (x : Action) (s : State) → executes p (Some x) s ≡ does p (plain_action x) s
-acts_does p x s = sym (renamed_same (linked p) [] lands (λ f. Some (entry p f)) (λ bytes. Some bytes) (λ to. to) (λ f. f) (λ part. part.bytes.items) s x (λ to. refl) (λ f is. refl) (λ part is. refl))
-
 pub executes_at : (p : Program) (xs : List Action) (pc : ℕ) (x : PlainAction) (s : State) → slice_get (plain_actions xs) pc ≡ Some x
     → executes p (slice_get xs pc) s ≡ does p x s
 executes_at p [] pc x s e = cc
-executes_at p (y ∷ xs) zero x s e = let same : plain_action y ≡ x = cc in acts_does p y s ∙ ap (λ z. does p z s) same
+executes_at p (y ∷ xs) zero x s e =
+    let same : plain_action y ≡ x = cc in
+    sym (renamed_same (linked p) [] lands (λ f. Some (entry p f)) (λ bytes. Some bytes) (λ to. to) (λ f. f) (λ part. part.bytes.items) s y (λ to. refl) (λ f is. refl) (λ part is. refl)) ∙ ap (λ z. does p z s) same
 executes_at p (y ∷ xs) (suc pc) x s e = executes_at p xs pc x s e
 
 -- a fact of each element of a list, and of the place where it stands, from a place on

@@ -1,6 +1,7 @@
 -- A run drops places, and ends the objects that these were the last to hold.
 use Rattle.std.proofs.Common.{inl, ◌≡◌, ℕ, zero, suc, ◌+◌, ◌≤◌, ℤ, Bool, true, false, not, ◌&&◌, nat_eq, nat_lt, if◌then◌else◌, List, [], ◌∷◌, ◌++◌, length, Option, Some, None, slice_get, slice_set, refl, sym, ap, ◌∙◌, subst, arith, length-append}
 use Rattle.std.proofs.lemmas.Bool.{ltb-true, ltb-false}
+use Rattle.std.proofs.lemmas.Bool.Decides.{nat_tests}
 use Rattle.std.proofs.lemmas.List.{length-set, get_or_past, set_past}
 use Rattle.std.proofs.lemmas.Option.{get_or_from_slice_get, slice_get-get_or, slice_get_cases}
 use Rattle.arc_spec.specs.declared.event.Event.{Event}
@@ -16,7 +17,7 @@ use Rattle.arc_ir.specs.ActionSteps.{Program, State, has_level, begins_end, rele
 use Rattle.arc_code.specs.declared.instr.Instr.TheVariants.{DropAll, Settle, Empty}
 use Rattle.arc_lower.specs.PlainActions.{PlainAction}
 use Rattle.arc_lower.specs.Lowered.{empty_actions, all_empty_actions}
-use Rattle.arc_lower.proofs.PlaceCounts.{tally_same, holders_head, last_one, raised_count, lowered_count, variable_moves, second_moves}
+use Rattle.arc_lower.proofs.PlaceCounts.{last_one, raised_count, variable_moves, second_moves}
 use Rattle.arc_lower.proofs.RunsCompose.{leads_same, running, Follows, After, after, ends, on, quietly, steps, next, better}
 use Rattle.arc_lower.proofs.CaseAnalysis.{by_test}
 use Rattle.arc_lower.proofs.RecountedSteps.{moves, at, counting, held_of, bare, HasAt, has_front, has_back}
@@ -81,9 +82,6 @@ module _ {p : Program} {bound : ℕ} {A : Type 0} {i : List ℕ} {t : List Event
   after_named zero h go = go
   after_named (suc k) h go = after_object (object_at h.objects (suc k)) (λ ob e is. go)
 
-past_end : (names : List ℕ) (i : ℕ) → slice_get names i ≡ None → length names ≤ i
-past_end names i e = grind (arith, slice_get_cases names i)
-
 module _ {p : Program} {bound : ℕ} (D : Callees) {w : World} {A : Type 0} {end : A → World → Reached State → Type 0}
     (meant : Outcome Finished → Outcome A) where
   pub after_let_go : (rs : List ℕ) (f : world.Activation) (waiting : List ℕ) (r : ℕ) (c : ℕ → ℕ) (stays : Heap → Next State)
@@ -95,19 +93,19 @@ module _ {p : Program} {bound : ℕ} (D : Callees) {w : World} {A : Type 0} {end
       → After p bound (lets_go r (counting rs (laid w f waiting) c) stays ends) w.input w.trace end (meant (released D r w))
   after_let_go rs f waiting zero c stays ends count stay begin =
       stay (lowered 0 (counting rs (laid w f waiting) c)).counts
-      (λ k. omega (arith, lowered_count 0 (counting rs (laid w f waiting) c) (suc k), count k, holders_head (suc k) 0 (places w)))
+      (λ k. grind (arith, count k))
   after_let_go rs f waiting (suc k) c stays ends count stay begin =
       let held = counting rs (laid w f waiting) in
       let less = (lowered (suc k) (held c)).counts in
       let go : Object → Bool → Next State = λ ob b. if b then ends (suc k) ob.class (dying_in rs (laid w f waiting) k ob less) else stays (held less) in
-      let one : c (suc k) ≡ suc (holders (suc k) (places w)) = omega (arith, count k, holders_head (suc k) (suc k) (places w), tally_same (suc k)) in
+      let one : c (suc k) ≡ suc (holders (suc k) (places w)) = grind (arith, nat_tests, count k) in
       after_object (object_at w.objects (suc k)) {go = λ ob. go ob (is_live (Some ob) && nat_eq (c (suc k)) 1)} (λ ob found is.
       subst (λ b. After p bound (go ob b) w.input w.trace end (meant (released D (suc k) w))) (sym (ap (λ f. is_live f && nat_eq (c (suc k)) 1) (sym found)
       ∙ ap (λ b. is_live (object_at w.objects (suc k)) && b) (last_one (suc k) (c (suc k)) (places w) one)))
       (by_test (λ b. After p bound (go ob b) w.input w.trace end (meant (if b then D.end_of (suc k) w else Done finished w)))
       (is_live (object_at w.objects (suc k)) && not (names (suc k) (places w)))
       (λ e. begin k ob less found)
-      (λ e. stay less (λ j. omega (arith, lowered_count (suc k) (held c) (suc j), count j, holders_head (suc j) (suc k) (places w))))))
+      (λ e. stay less (λ j. grind (arith, nat_tests, count j)))))
 
   -- a place of some takes another object, where there is such a place
   pub after_place : (places' : List ℕ) (i r : ℕ) {none : Next State} {go : ℕ → Next State} (with : List ℕ → World) → with places' ≡ w
@@ -116,7 +114,7 @@ module _ {p : Program} {bound : ℕ} (D : Callees) {w : World} {A : Type 0} {end
       → After p bound (on_place (slice_get places' i) none go) w.input w.trace end (meant (released D (name_at places' i) (with (slice_set places' i r))))
   after_place places' i r with is stay release =
       by_place (slice_get places' i) (λ e.
-      let le = past_end places' i e in
+      let le : length places' ≤ i = grind (arith, slice_get_cases places' i) in
       rw (get_or_past places' i 0 le, ap with (set_past places' i r le) ∙ is) stay)
       (λ old found. rw (get_or_from_slice_get places' i old 0 found) (release old found))
 
@@ -197,8 +195,7 @@ module _ (p : Program) (frames : List ReturnFrame) (bound : ℕ) (rs : List ℕ)
       → Drops stack pc (pc + 1) w (with_temporaries w (x ∷ ts)) (second_dropped D w.frame.temporaries w)
   settled_runs x r ts stack w pc these has =
       let w1 = with_temporaries w (x ∷ ts) in
-      let s = at frames pc stack (held_of rs w) in
-      steps Settle has.0 (subst (λ l. Dropping stack (pc + 1) (instructions.settles (bare p) s l) w w1 (second_dropped D l w)) (sym these)
+      steps Settle has.0 (subst (λ l. Dropping stack (pc + 1) (instructions.settles (bare p) (at frames pc stack (held_of rs w)) l) w w1 (second_dropped D l w)) (sym these)
       (release_runs r (held_of rs w).counts (held_of rs w) stack w1 pc (λ k. sym (second_moves (suc k) (held_of rs w) x r ts these))))
 
   -- ---- variables

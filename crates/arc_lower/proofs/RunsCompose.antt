@@ -1,5 +1,5 @@
 -- Runs compose: where steps lead, and what a run does from a place on whose meaning is known.
-use Rattle.std.proofs.Common.{◌≡◌, ℕ, zero, suc, ◌+◌, ◌≤◌, List, refl, ap, ◌∙◌, arith, ◌⊎◌, inl, inr, ℤ, [], ◌∷◌, ◌++◌, length, length-append}
+use Rattle.std.proofs.Common.{◌≡◌, ℕ, zero, suc, ◌+◌, ◌≤◌, List, refl, ap, ◌∙◌, arith, ◌⊎◌, ⊎_elim, inl, inr, ℤ, [], ◌∷◌, ◌++◌, length, length-append}
 use Rattle.arc_spec.specs.declared.event.Event.{Event}
 use Rattle.arc_spec.specs.World.{World, Outcome, Done, Faulted, Cut, then_do}
 use Rattle.arc_spec.specs.SmallSteps.{Next, Reached, Running, Wedged, follow, further, after_steps, Goes, Faults}
@@ -45,16 +45,13 @@ module _ {S : Type 0} (step : S → Next S) where
   abbrev pub Runs : {A : Type 0} → (bound : ℕ) (from : Reached S) (end : A → World → Reached S → Type 0) → Outcome A → Type 0
   Runs bound from end o = Wedges from ⊎ Comes bound from end o
 
-  comes_by : {A : Type 0} (least bound : ℕ) (r r' : Reached S) (end : A → World → Reached S → Type 0) (o : Outcome A) (p : Leads r r') → least ≤ p.steps + bound → Comes bound r' end o → Comes least r end o
-  comes_by least bound r r' end (Done a w) p le q = (q.0, leads_trans r r' q.0 p q.1, q.2)
-  comes_by least bound r r' end (Faulted f w) p le q = leads_trans r r' (stepping.Faulted f w.input w.trace) p q
-  comes_by least bound r r' end (Cut w) p le q =
-      (q.0 + p.steps, q.1, omega (arith, le, q.2), more_steps q.0 p.steps r ∙ ap (after_steps step q.0) p.there ∙ q.3)
-
   pub runs_by : {A : Type 0} (least bound : ℕ) (r r' : Reached S) (end : A → World → Reached S → Type 0) (o : Outcome A) (p : Leads r r')
       → least ≤ p.steps + bound → Runs bound r' end o → Runs least r end o
   runs_by least bound r r' end o p le (inl q) = inl ((q.0, q.1, leads_trans r r' (Wedged q.0 q.1) p q.2))
-  runs_by least bound r r' end o p le (inr q) = inr (comes_by least bound r r' end o p le q)
+  runs_by least bound r r' end (Done a w) p le (inr q) = inr (q.0, leads_trans r r' q.0 p q.1, q.2)
+  runs_by least bound r r' end (Faulted f w) p le (inr q) = inr (leads_trans r r' (stepping.Faulted f w.input w.trace) p q)
+  runs_by least bound r r' end (Cut w) p le (inr q) =
+      inr (q.0 + p.steps, q.1, omega (arith, le, q.2), more_steps q.0 p.steps r ∙ ap (after_steps step q.0) p.there ∙ q.3)
 
 -- ---- What a run does at actions that stand one after the other.
 
@@ -122,11 +119,7 @@ module _ {p : Program} {bound : ℕ} {A : Type 0} {end : A → World → Reached
   -- what is done leads to one end
   pub done_then : {B : Type 0} {middle : B → World → Reached State → Type 0} {r : Reached State} {b : B} {w : World} {o : Outcome A}
       → Follows p bound r middle (Done b w) → ((to : Reached State) → middle b w to → Follows p bound to end o) → Follows p bound r end o
-  done_then {middle} {r} {b} {w} {o} h others = by h.runs
-    where
-      by : Runs (moves p) bound r middle (Done b w) → Follows p bound r end o
-      by (inl wedged) = record { runs = inl wedged }
-      by (inr there) = leads there.1 (others there.0 there.2)
+  done_then {r} h others = ⊎_elim (λ (wedged : Wedges (moves p) r). record { runs = inl wedged }) (λ there. leads there.1 (others there.0 there.2)) h.runs
 
   -- one part after another
   pub next : {B : Type 0} {middle : B → World → Reached State → Type 0} {r : Reached State} {o : Outcome B} {go : B → World → Outcome A}
@@ -160,8 +153,7 @@ module _ {p : Program} {frames : List ReturnFrame} {rs : List ℕ} {stack : List
       → Crosses p frames (x ∷ []) rs stack w rs' stack' w'
   one_crosses {x} h = record {
     leads = λ pc has.
-        let s = at frames pc stack (held_of rs w) in
-        leads_trans (moves p) _ _ _ (leads_step (moves p) s w.input w.trace _ (ap recount (has.0 frames stack (held_of rs w)))) (h pc);
+        leads_trans (moves p) _ _ _ (leads_step (moves p) (at frames pc stack (held_of rs w)) w.input w.trace _ (ap recount (has.0 frames stack (held_of rs w)))) (h pc);
   }
 
   pub then_crosses : {xs ys : List PlainAction} {rs1 : List ℕ} {stack1 : List ℤ} {w1 : World} → Crosses p frames xs rs stack w rs1 stack1 w1
