@@ -129,7 +129,7 @@ module _ (P : Program) (r s slots names exit d : ℕ) (room : names ≤ d + s) w
     value_types (Print pieces arguments) depth a b c h =
         let n = number_count arguments in
         let m = object_count arguments in
-        next (arguments_type arguments depth a b c h) (λ t. plain (types_then P r s _ (forget_actions m) _ (print_actions pieces n) _ (forgets_type P r s m (n + a) b t d) (print_types P r s b t d pieces n a)))
+        next (arguments_type arguments depth a b c h) (λ t. plain (types_then P r s _ (forget_actions m) (height (n + a) b t d) (print_actions pieces n) _ (forgets_type P r s m _ _ (omega arith)) (print_types P r s pieces n a _ _ refl (omega arith))))
     value_types (Unary operator kind v) depth a b c h = next (value_types v depth a b c h) (λ t. search (arith, op))
     value_types (Binary operator kind v u) depth a b c h =
         next (value_types v depth a b c h) (λ t. next (value_types u (suc depth) (suc a) b t (omega (arith, h))) (λ q. search (arith, op)))

@@ -122,7 +122,7 @@ module _ (R : resolved.Program) where
     keep_takes (suc n) = (refl, pops_take n)
 
     keep_typed : Types R 0 0 leaving keep (height 1 0 0 names)
-    keep_typed = simp add-zero at (keep_types R 0 0 0 0 names slots 0)
+    keep_typed = keep_types R 0 0 slots _ _ (omega arith) (omega arith)
 
     -- before so many variables are emptied the others are nil
     abbrev Emptying : ℕ → ℕ → Type 0
@@ -216,9 +216,9 @@ module _ (R : resolved.Program) where
       let own = if g.owns then own_actions places else [] in
       let few : objects ≤ places - owned_by g = grind (arith, nat_tests) in
       types_then R 0 0 begun (declare_actions places) all_declared (take_actions (owned_by g) objects ++ own) base
-      (simp add-zero at (declare_types R 0 0 places slots objects 0))
+      (declare_types R 0 0 places _ _ refl (omega arith))
       (types_then R 0 0 all_declared (take_actions (owned_by g) objects) base own base
-      (simp add-zero at (take_types R 0 0 (owned_by g) objects slots 0 0 places (omega (arith, few))))
+      (take_types R 0 0 (owned_by g) objects _ _ (omega (arith, few)) (omega arith))
       (by_test (λ b. Types R 0 0 base (if b then own_actions places else []) base) g.owns (λ e. own_types R 0 0 places slots places (omega arith)) (λ e. refl)))
 
   -- a run may enter a function, and each of its actions has what it needs
