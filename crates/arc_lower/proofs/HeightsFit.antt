@@ -92,18 +92,9 @@ module _ (p : Program) (R : resolved.Program) where
         (calls wanted f s.0.1).0.height in
         let same = ap (height_at R) (sym (some_same (entry p f) to found)) ∙ begun in
         rw same (message_fits wanted (slots_of R wanted f) (parameters_of R wanted f) pc h now s.1.0.height)
-    plain_action_fits pc h (Send selector takes objects wanted) now s = message_fits wanted (suc takes) objects pc h now s.1.0.height
-    plain_action_fits pc h (SendSuper from selector takes objects wanted) now s = message_fits wanted (suc takes) objects pc h now s.1.0.height
-    plain_action_fits pc h (SendTo selector takes objects wanted) now s = message_fits wanted takes (suc objects) pc h now s.1.0.height
-    plain_action_fits pc h (SendToSuper from selector takes objects wanted) now s = message_fits wanted takes (suc objects) pc h now s.1.0.height
+    plain_action_fits pc h (Plain o) now s = within given pc (pc + 1) h _ _ now s.1.0.height (search arith)
     plain_action_fits pc h (Empty i) now s = within given pc (pc + 1) h _ _ now s.1.height (search arith)
-    plain_action_fits pc h DropAll now s = rw (there pc h given now, there (pc + 1) (height h.numbers h.names 0 h.variables) given s.1.0.height) (search arith)
-    plain_action_fits pc h Settle now s =
-        rw (there pc h given now, there (pc + 1) (height h.numbers h.names (h.temporaries - 1) h.variables) given s.0.height) (search arith)
-    plain_action_fits pc h EndStep now s = rw (there pc h given now) (search arith)
-    plain_action_fits pc h Give now s = rw (there pc h given now) (search arith)
-    plain_action_fits pc h Return now s = rw (there pc h given now) (search arith)
-    plain_action_fits pc h _ now s = within given pc (pc + 1) h _ _ now s.1.0.height (search arith)
+    plain_action_fits pc h _ now s = grind (arith, there)
 
     -- a run stays in its function
     module _ (pc : ℕ) (h : Height) (now : slice_get (table R) pc ≡ Some (h, given)) where
@@ -114,12 +105,7 @@ module _ (p : Program) (R : resolved.Program) where
       plain_action_gives (Jump to) s = same_at (lands pc to) _ s.2.0.height
       plain_action_gives (JumpZero to) s = (same_at (pc + 1) _ s.1.0.height, same_at (lands pc to) _ s.2.2.0.height)
       plain_action_gives (Call f wanted) s = (same_at (pc + 1) _ s.1.0.height, λ to found. ap (result_at R) (sym (some_same (entry p f) to found)) ∙ gives_there (entry p f) _ wanted (calls wanted f s.0.1).0.height)
-      plain_action_gives (Empty i) s = same_at (pc + 1) _ s.1.height
-      plain_action_gives Settle s = same_at (pc + 1) _ s.0.height
-      plain_action_gives Give s = gives_there pc h given now ∙ s.3
-      plain_action_gives Return s = gives_there pc h given now ∙ s.3
-      plain_action_gives EndStep s = tt
-      plain_action_gives _ s = same_at (pc + 1) _ s.1.0.height
+      plain_action_gives _ s = grind (arith, same_at, gives_there)
 
   -- an action fits wherever the bytes of its text lie
   action_fits : (x : Action) (pc : ℕ) → FitsAt (bare p) (height_at R) pc (plain_action x) → FitsAt (linked p) (height_at R) pc x
