@@ -124,8 +124,6 @@ module _ (P : Program) (r s slots names exit d : ℕ) (room : names ≤ d + s) w
 
   mutual
     pub value_types : (e : Value) (depth a b c : ℕ) → depth + slots ≤ a + r → Comes a b c (value_block depth e) (suc a) b
-    value_types (Number n) depth a b c h = search (arith, op)
-    value_types ReadByte depth a b c h = search (arith, op)
     value_types (Print pieces arguments) depth a b c h =
         let n = number_count arguments in
         let m = object_count arguments in
@@ -155,10 +153,9 @@ module _ (P : Program) (r s slots names exit d : ℕ) (room : names ≤ d + s) w
     value_types (resolved.NotSame v u) depth a b c h =
         next (reference_types v depth a b c h) (λ t. next (reference_types u depth a (suc b) t h) (λ q. search (arith, op)))
     value_types (resolved.IsObject v) depth a b c h = next (reference_types v depth a b c h) (λ t. search (arith, op))
+    value_types _ depth a b c h = search (arith, op)
 
     pub reference_types : (e : Reference) (depth a b c : ℕ) → depth + slots ≤ a + r → Comes a b c (reference_block depth e) a (suc b)
-    reference_types resolved.Nil depth a b c h = search (arith, op)
-    reference_types Itself depth a b c h = search (arith, op)
     reference_types (Variable i) depth a b c h = more_by 1 (read_types P r s names i a b c d room)
     reference_types (ObjectConditional v u w) depth a b c h = next (value_types v depth a b c h) (λ t. choice (reference_types u depth a b t h) (λ q. reference_types w depth a b q h))
     reference_types (AssignObject i v) depth a b c h =
@@ -174,6 +171,7 @@ module _ (P : Program) (r s slots names exit d : ℕ) (room : names ≤ d + s) w
         next (arguments_type arguments depth a b c h) (λ t. called gives.Object f (number_count arguments) (object_count arguments) a b t (omega arith) (omega arith))
     reference_types (ObjectSend receiver selector arguments) depth a b c h = sent_types gives.Object receiver selector (number_count arguments) (object_count arguments) a b c (omega arith) (omega arith)
         (receiver_types receiver depth a b c h) (λ t. arguments_type arguments (below_arguments receiver depth) _ _ t (receiver_lies receiver depth a h))
+    reference_types _ depth a b c h = search (arith, op)
 
     -- what gets a message is one operand more, or one reference more
     receiver_types : (e : Receiver) (depth a b c : ℕ) → depth + slots ≤ a + r → Comes a b c (receiver_block depth e) (below_arguments e a) (with_object e b)

@@ -77,12 +77,6 @@ module _ (p : Program) (R : resolved.Program) where
   within given pc to h g e now next f = rw (there pc h given now, there to g given next) f
 
   module _ (calls : (wanted : Gives) (f : ℕ) → IsCalled R wanted f → Goes R (all R) (table R) wanted (entry p f) (height (slots_of R wanted f) (parameters_of R wanted f) 0 0)) (given : Gives) where
-    message_fits : (wanted : Gives) (taken names pc : ℕ) (h : Height) → slice_get (table R) pc ≡ Some (h, given)
-        → slice_get (table R) (pc + 1) ≡ Some (height (h.numbers - taken + as_number wanted) (h.names - names + as_object wanted) (h.temporaries + as_object wanted) (h.variables + 0), given)
-        → FitsBetween (height_at R pc) (height_at R (pc + 1)) (giving wanted taken names) × ((as_number wanted ≤ (height_at R (pc + 1)).numbers) × (as_object wanted ≤ (height_at R (pc + 1)).names))
-    message_fits wanted taken names pc h now next =
-        (within given pc (pc + 1) h _ (giving wanted taken names) now next (search arith), rw (there (pc + 1) _ given next) (omega arith, omega arith))
-
     plain_action_fits : (pc : ℕ) (h : Height) (x : PlainAction) → slice_get (table R) pc ≡ Some (h, given) → Steps R (all R) (table R) given h pc x → FitsAt (bare p) (height_at R) pc x
     plain_action_fits pc h (Jump to) now s = within given pc (lands pc to) h _ _ now s.2.0.height (search arith)
     plain_action_fits pc h (JumpZero to) now s =
@@ -91,9 +85,8 @@ module _ (p : Program) (R : resolved.Program) where
         let begun : height_at R (entry p f) ≡ height (slots_of R wanted f) (parameters_of R wanted f) 0 0 = there (entry p f) _ wanted
         (calls wanted f s.0.1).0.height in
         let same = ap (height_at R) (sym (some_same (entry p f) to found)) ∙ begun in
-        rw same (message_fits wanted (slots_of R wanted f) (parameters_of R wanted f) pc h now s.1.0.height)
+        rw (same, there pc h given now, there (pc + 1) _ given s.1.0.height) (search arith)
     plain_action_fits pc h (Plain o) now s = within given pc (pc + 1) h _ _ now s.1.0.height (search arith)
-    plain_action_fits pc h (Empty i) now s = within given pc (pc + 1) h _ _ now s.1.height (search arith)
     plain_action_fits pc h _ now s = grind (arith, there)
 
     -- a run stays in its function
@@ -108,13 +101,10 @@ module _ (p : Program) (R : resolved.Program) where
       plain_action_gives _ s = grind (arith, same_at, gives_there)
 
   -- an action fits wherever the bytes of its text lie
-  action_fits : (x : Action) (pc : ℕ) → FitsAt (bare p) (height_at R) pc (plain_action x) → FitsAt (linked p) (height_at R) pc x
-  action_fits (Plain o) pc h = h
-  action_fits _ pc h = h
-
-  action_gives : (x : Action) (pc : ℕ) → GivesAt (bare p) (result_at R) pc (plain_action x) → GivesAt (linked p) (result_at R) pc x
-  action_gives (Plain o) pc h = h
-  action_gives _ pc h = h
+  action_fits : (x : Action) (pc : ℕ) → FitsAt (bare p) (height_at R) pc (plain_action x) → GivesAt (bare p) (result_at R) pc (plain_action x)
+      → FitsAt (linked p) (height_at R) pc x × GivesAt (linked p) (result_at R) pc x
+  action_fits (Plain o) pc h g = (h, g)
+  action_fits _ pc h g = (h, g)
 
   module _ (is : plain_actions p.actions ≡ lowered R) (entries : p.entries ≡ entries_of R) where
     -- a function is entered with its variables
@@ -130,14 +120,15 @@ module _ (p : Program) (R : resolved.Program) where
     few : (pc : ℕ) → AtMost (height_at R pc) (greatest_height R)
     few pc = none_greater (lowered_heights R) no_height no_height pc (search arith)
 
+    fits : (pc : ℕ) (x : Action) → slice_get p.actions pc ≡ Some x → FitsAt (linked p) (height_at R) pc x × GivesAt (linked p) (result_at R) pc x
+    fits pc x e =
+        let s = steps_at R pc (plain_action x) (subst (λ l. slice_get l pc ≡ Some (plain_action x)) is (slice_get-map plain_action p.actions pc ∙ ap (option_map plain_action) e)) in
+        action_fits x pc (plain_action_fits entry_goes s.0.1 pc s.0.0 (plain_action x) s.1 s.2) (plain_action_gives entry_goes s.0.1 pc s.0.0 s.1 (plain_action x) s.2)
+
     pub heights_fit : p.classes ≡ classes_linked R → HeightsFit (linked p) (height_at R) (result_at R) (greatest_height R).numbers (greatest_height R).names (places_in (greatest_height R))
     heights_fit classes = record {
-      at = λ pc x e.
-          let s = steps_at R pc (plain_action x) (subst (λ l. slice_get l pc ≡ Some (plain_action x)) is (slice_get-map plain_action p.actions pc ∙ ap (option_map plain_action) e)) in
-          action_fits x pc (plain_action_fits entry_goes s.0.1 pc s.0.0 (plain_action x) s.1 s.2);
-      results = λ pc x e.
-          let s = steps_at R pc (plain_action x) (subst (λ l. slice_get l pc ≡ Some (plain_action x)) is (slice_get-map plain_action p.actions pc ∙ ap (option_map plain_action) e)) in
-          action_gives x pc (plain_action_gives entry_goes s.0.1 pc s.0.0 s.1 (plain_action x) s.2);
+      at = λ pc x e. (fits pc x e).0;
+      results = λ pc x e. (fits pc x e).1;
       methods = λ from sign selector takes objects wanted to e.
           let found = methods_go R from sign selector takes objects wanted to (subst (λ cs. lookup cs from sign selector takes objects wanted ≡ Some to) classes e) in
           let same = there to (height (passes sign takes) objects 0 0) wanted found.0.height in

@@ -261,14 +261,12 @@ module _ (R : resolved.Program) where
   -- ---- what messages and ends of objects find
 
   meets_goes : (wanted : Gives) (values objects : ℕ) (meant stands : Option ℕ) (to : ℕ) → Meets R wanted values objects meant stands → stands ≡ Some to → Goes_to wanted to (height values objects 0 0)
-  meets_goes wanted values objects None None to meets e = cc
   meets_goes wanted values objects (Some f) (Some place) to meets e = subst (λ n. Goes_to wanted n (height values objects 0 0)) (some_same place to e) (stub_goes wanted values objects f place meets).0
-  meets_goes wanted values objects _ _ to meets e = absurd meets
+  meets_goes wanted values objects _ _ to meets e = absurd (grind arith)
 
   same_goes : (a b : Option Class) (d : Class) (to : ℕ) → Same R a b → b ≡ Some d → d.dealloc ≡ Some to → Goes_to gives.Number to zeroed
-  same_goes None None d to same is e = cc
   same_goes (Some c) (Some x) d to same is e = meets_goes gives.Number 0 0 c.dealloc x.dealloc to same.2 (ap (λ (y : Class). y.dealloc) (some_same x d is) ∙ e)
-  same_goes _ _ d to same is e = absurd same
+  same_goes _ _ d to same is e = absurd (grind arith)
 
   pub methods_go : (from : Option ℕ) (sign : Sign) (selector takes objects : ℕ) (wanted : Gives) (to : ℕ) → lookup (classes_linked R) from sign selector takes objects wanted ≡ Some to → Goes_to wanted to (height (passes sign takes) objects 0 0)
   methods_go from sign selector takes objects wanted to = meets_goes wanted (passes sign takes) objects (lookup R.classes from sign selector takes objects wanted) _ to (lookup_meets R (classes_linked R) (linked R) sign from selector takes objects wanted)

@@ -30,9 +30,6 @@ some_same a b e = cc
 abbrev pub HasPart : {A : Type 0} → List A → ℕ → List A → Type 0
 HasPart all = Each (λ pc x. slice_get all pc ≡ Some x)
 
-pub has_full_expression : {A : Type 0} (all : List A) → HasPart all 0 all
-has_full_expression all = each_from _ 0 all (λ i x e. subst (λ n. slice_get all n ≡ Some x) (omega arith) e)
-
 -- ---- actions before which a run leaves its function, where it has emptied its variables
 
 -- What an action is on that way: it leaves the function, takes numbers before, or empties a variable before these. Or it is a message
