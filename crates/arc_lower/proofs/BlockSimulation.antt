@@ -19,7 +19,7 @@ use Rattle.arc_spec.specs.Meaning.{Callees, held_at, holds, chosen, temporaries_
 use Rattle.arc_spec.specs.World as world
 use Rattle.arc_spec.specs.World.{World, Outcome, Done, Faulted, Finished, then_do, Given, nothing_given, prints, next_number, with_objects, with_temporaries, local_at, name_at, named_at, with_strong_globals, takes, stores, padded}
 use Rattle.arc_spec.specs.HolderCounts.{ReturnFrame, is_there, on_field, with_strong_field, on_place, raised}
-use Rattle.arc_spec.specs.SmallSteps.{Next, Goes, Faults, Reached, fed}
+use Rattle.arc_spec.specs.SmallSteps.{Next, Goes, Faults, Reached, fed, follow}
 use Rattle.arc_ir.specs.declared.action.Target.{Target}
 use Rattle.arc_ir.specs.declared.action.Target.TheVariants.{Skip, Back, At}
 use Rattle.arc_ir.specs.ActionSteps.{Program, State, lands, onward, keeps, answers, taken, sends, allocates, releases}
@@ -44,7 +44,6 @@ use Rattle.arc_lower.proofs.StackAccess.{onto, onto_front, drop_onto, without_be
 use Rattle.arc_lower.proofs.ReleaseSimulation.{Kept, kept_same, Ends, Stays, after_place, after_object, after_named, release_runs, emptied, empties, empties_by, dropped_runs, settled_runs, no_variable, changes_runs}
 use Rattle.arc_lower.proofs.BlockMeaning.{Operands, operands, push, name, Way, On, Out, Quits, Turns, Lost, left_by, on_way, and_then, only_on, after_turn, on_test, top_of, taken_of, on_given, pushes, answers_left, passes_by, operation, message_sent, block_turns, loop_entered, block, then_twice}
 use Rattle.arc_lower.proofs.BlocksWithoutTemporary.{takes_none, quiet_flat, enter_length}
-use Rattle.std.specs.Prelude.{drop}
 
 -- after a call, with its number on top, or with its object, which the last reference names and the last temporary
 abbrev pub after_call : (wanted : Gives) (frames : List ReturnFrame) (rs : List ℕ) (pc : ℕ) (stack : List ℤ) → world.Answer → World → Reached State
@@ -194,11 +193,9 @@ module _ (p : Program) (frames : List ReturnFrame) (bound : ℕ) (R : resolved.P
     holding {r} {w} free g = still (taken_good free r w g)
 
     -- an object is made, which the last reference names and the last temporary
-    abbrev Made_at : ℕ → Operands → ℕ → World → Reached State → Type 0
-    Made_at q s r w to = (to ≡ standing q (name r s) w) × Good calm w × (rest : List ℕ) × (w.frame.temporaries ≡ r ∷ rest)
-
     making : (found : Option ℕ) (pc : ℕ) (v : ℤ) (s : Operands) (w : World) → (calm ≡ true → false ≡ true) → Good calm w
-        → After p bound (allocates p.classes (state pc (push v s) w) (s.numbers ++ vars w) found) w.input w.trace (Made_at (pc + 1) s) (made D found w)
+        → After p bound (allocates p.classes (state pc (push v s) w) (s.numbers ++ vars w) found) w.input w.trace (λ r w1 to.
+        (to ≡ standing (pc + 1) (name r s) w1) × Good calm w1 × (rest : List ℕ) × (w1.frame.temporaries ≡ r ∷ rest)) (made D found w)
     making None pc v s w free g = faults
     making (Some class) pc v s w free g =
         rw (deep.same_fields class) (quietly (ends (
@@ -420,29 +417,23 @@ module _ (p : Program) (frames : List ReturnFrame) (bound : ℕ) (R : resolved.P
       to_object class_of from r same =
           rw (get_onto given.objects rs r, without_below given.objects rs r) (sends_run class_of from r (onto given.objects (r ∷ rs)) same)
 
-    returned_there : {next : Next State} {i : List ℕ} {t : List Event} (wanted : Gives) (pc : ℕ) (s : Operands) (w : World) {o : Outcome world.Answer}
-        → (calm ≡ true → same_gives wanted gives.Number ≡ true) → Good calm w
-        → After p bound next i t (Returns wanted frames s.names pc (s.numbers ++ vars w) w) o
-        → After p bound next i t (Leaves turn calm (pc + 1)) (answers_left wanted s o)
-    returned_there wanted pc s w free g h = record { follows = returned wanted pc s w free g h.follows }
-
     finds_run : (wanted : Gives) (message : Message) (pc : ℕ) (given : Given) (numbers : List ℤ) (rs : List ℕ) (w : World)
         → (calm ≡ true → same_gives wanted gives.Number ≡ true) → Good calm w
-        → Steps (does p (message_action wanted message (length given.numbers) (length given.objects))
-        (at frames pc (onto given.numbers (numbers ++ vars w)) (held_of (onto given.objects rs) w))) w (pc + 1)
+        → Comes (follow (recount (does p (message_action wanted message (length given.numbers) (length given.objects))
+        (at frames pc (onto given.numbers (numbers ++ vars w)) (held_of (onto given.objects rs) w)))) w.input w.trace) (pc + 1)
         (message_sent D wanted message given (operands numbers rs) w)
     finds_run wanted (ToClass selector) pc given (class ∷ numbers) rs w free g =
-        returned_there wanted pc (operands numbers rs) w free g (rw (get_onto given.numbers (numbers ++ vars w) class)
-        (to_class wanted selector pc given (numbers ++ vars w) rs w (class_at class) class))
+        rw (get_onto given.numbers (numbers ++ vars w) class) (returned wanted pc (operands numbers rs) w free g
+        (to_class wanted selector pc given (numbers ++ vars w) rs w (class_at class) class).follows)
     finds_run wanted (ToSuperClass from selector) pc given (class ∷ numbers) rs w free g =
-        returned_there wanted pc (operands numbers rs) w free g (to_class wanted selector pc given (numbers ++ vars w) rs w (Some from) class)
+        returned wanted pc (operands numbers rs) w free g (to_class wanted selector pc given (numbers ++ vars w) rs w (Some from) class).follows
     finds_run wanted (ToObject selector) pc given numbers (r ∷ rs) w free g =
-        returned_there wanted pc (operands numbers rs) w free g (to_object wanted selector pc given (numbers ++ vars w) rs w (λ o. o.class)
-        (class_in (object_at w.objects r)) r (λ k o e found. rw (e, found)))
+        returned wanted pc (operands numbers rs) w free g (to_object wanted selector pc given (numbers ++ vars w) rs w (λ o. o.class)
+        (class_in (object_at w.objects r)) r (λ k o e found. rw (e, found))).follows
     finds_run wanted (ToSuper from selector) pc given numbers (r ∷ rs) w free g =
-        returned_there wanted pc (operands numbers rs) w free g (to_object wanted selector pc given (numbers ++ vars w) rs w (λ o. from) (Some from) r
-        (λ k o e found. refl))
-    finds_run wanted _ pc given _ _ w free g = lost_there
+        returned wanted pc (operands numbers rs) w free g (to_object wanted selector pc given (numbers ++ vars w) rs w (λ o. from) (Some from) r
+        (λ k o e found. refl)).follows
+    finds_run wanted _ pc given _ _ w free g = lost
 
     -- ---- what the root's `new` does
 
@@ -627,16 +618,12 @@ module _ (p : Program) (frames : List ReturnFrame) (bound : ℕ) (R : resolved.P
     from_step n le go h s w g = then_way (fewer le (step_runs s w g)) (from_test n le go h)
 
     -- what leaves the loop comes to its test with 0
-    quit : (n : ℕ) (s : Operands) (w : World) → Good calm w → Follows p n (standing q (push (pos 0) s) w) (Leaves turn calm end) (Done (On s) w)
-    quit n s w g =
-        fewer (omega arith) (testing {n = n} q end end out (pos 0 ∷ s.numbers) s.names w leaves jumps (λ v rest. ends {a = Lost} {w = w} tt)
-        (λ v rest. ends {a = On rest} {w = w} (refl, g)))
-
     turned : (n : ℕ) (go : Operands → World → Outcome Way) → From n first go → (way : Way) (w : World) (to : Reached State) → Leaves inner calm q1 way w to
         → Follows p n to (Leaves turn calm end) (after_turn go way w)
     turned n go again (On s) w to m = on m.0 (leads (moving back s w jumps_back) (rw leads_back (again s w m.1)))
     turned n go again (Turns s) w to m = on m.0 (rw begins (again s w m.1))
-    turned n go again (Quits s) w to m = on m.0 (rw leaves_at (quit n s w m.1))
+    turned n go again (Quits s) w to m = on m.0 (rw leaves_at (fewer (omega arith) (testing {n = n} q end end out (pos 0 ∷ s.numbers) s.names w leaves jumps
+        (λ v rest. ends {a = Lost} {w = w} tt) (λ v rest. ends {a = On rest} {w = w} (refl, m.1)))))
     turned n go again _ w to m = ends m
 
     loop_runs : (n : ℕ) → n ≤ bound → From n (q + 1) (block_turns n step test body)
@@ -712,7 +699,7 @@ module _ (p : Program) (frames : List ReturnFrame) (bound : ℕ) (R : resolved.P
       on_given_runs turn calm pc _ n k s w _ (λ given rest size few. calls_run turn calm wanted f pc n k given rest w size few free g has)
   block_follows {turn} {calm} place e m h placed (SendsMessage wanted message n k) free pc stands s w g has =
       on_given_runs turn calm pc (pc + 1) n k s w (λ given rest. message_sent D wanted message given rest w) (λ given rest size few.
-      steps (message_action wanted message n k) has.0 (rw (← size, ← few) (finds_run turn calm wanted message pc given rest.numbers rest.names w free g)))
+      steps (message_action wanted message n k) has.0 (record { follows = rw (← size, ← few) (finds_run turn calm wanted message pc given rest.numbers rest.names w free g) }))
   block_follows {turn} {calm} place e m h placed Making free pc stands s w g has = making_runs turn calm free pc s.numbers s.names w g has
   block_follows {turn} {calm} place e m h placed (IfNew class a b) free pc stands s w g has =
       subst (λ classes. Goes_on turn calm (standing pc s w) (pc + length (actions e (IfNew class a b)))

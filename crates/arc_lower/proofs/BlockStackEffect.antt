@@ -17,10 +17,9 @@ use Rattle.arc_code.specs.Effects.{as_number, as_object, operation_effect}
 use Rattle.arc_lower.specs.KnownKinds.{is_within, binary_kind, known_kind}
 use Rattle.arc_lower.specs.declared.frame.Turn.{Turn}
 use Rattle.arc_lower.specs.declared.frame.Scope.{Scope}
-use Rattle.arc_lower.specs.Lowered.{forget_actions, print_actions, action_takes, Inside, Block, Idle, One, Clear, Calls, SendsMessage, Making, IfNew, Answer, message_to, below_arguments, new_block, receiver_block, Then, Fork, Quit, Advance, FullExpression, Assign, flat, old_block, given_block, below_new, narrow_block, update_block, value_block, reference_block, arguments_block, full_expression_block, full_object_expression_block, nothing_given, command_block, commands_block, Surroundings, within_scopes, leaving, breaking, continuing}
+use Rattle.arc_lower.specs.Lowered.{full_expression_actions, full_object_expression_actions, forget_actions, print_actions, action_takes, Inside, Block, Idle, One, Clear, Calls, SendsMessage, Making, IfNew, Answer, message_to, below_arguments, new_block, receiver_block, Then, Fork, Quit, Advance, FullExpression, Assign, flat, old_block, given_block, below_new, narrow_block, update_block, value_block, reference_block, arguments_block, full_expression_block, full_object_expression_block, nothing_given, command_block, commands_block, Surroundings, within_scopes, leaving, breaking, continuing}
 use Rattle.arc_lower.specs.Size.{number_count, object_count, has_new, unused, does_nothing}
 use Rattle.arc_lower.specs.Heights.{height, between, walk, last_walk}
-use Rattle.arc_lower.specs.Lowered.{full_expression_actions, full_object_expression_actions}
 use Rattle.arc_lower.proofs.StackEffect.{heights_same, Reaches, types_then, forgets_type, print_types, get_types, set_types, call_types, store_types, read_types, all_empty_type, drop_types, tested, Forks, ByTest, BlockTypes}
 use Rattle.arc_lower.proofs.BlockEndHeight.{within_ends, quiet_types}
 use Rattle.arc_lower.proofs.CaseAnalysis.{by_test}

@@ -23,7 +23,7 @@ use Rattle.arc_lower.specs.Heights.{height, between, next_height, walk, last_wal
 use Rattle.arc_lower.proofs.CaseAnalysis.{by_test}
 pub use Rattle.arc_lower.proofs.StubLookup.{end_is}
 use Rattle.arc_lower.proofs.StubLookup.{Both, both_split, marks_length, left_marks, entry_marks, marks_split, functions_split, function_found, stub, stub_marks, method_stub, Methods, Dealloc, Classes, methods_split, classes_split, start_stands, functions_stand, stubs_stand, Meets, Same, linked, lookup_meets, function_gives}
-use Rattle.arc_lower.proofs.StackEffect.{Alike, alike_same, slots_same, parameters_same, number_there, Types, types_then, types_last, tested, passing_types, declare_types, take_types, own_types}
+use Rattle.arc_lower.proofs.StackEffect.{Alike, alike_same, function_same, number_there, Types, types_then, types_last, tested, passing_types, declare_types, take_types, own_types}
 use Rattle.arc_lower.proofs.BlockStackEffect.{nothing_types, commands_type}
 use Rattle.arc_lower.proofs.RecountedSteps.{each_at}
 use Rattle.arc_lower.proofs.StepHeights.{some_same, Leaves, Empties, role, role_of, Stands, Goes, calm_free, Steps, StepsAt, AllStep, step_then, opens_goes, Stays, none_goes, action_steps, Row, row_of, rows_then, typed_steps, Emptied, way_stands, takes_step, block_walks}
@@ -100,9 +100,6 @@ module _ (R : resolved.Program) where
     empty_stays : (i : ℕ) → next_height R (Empty i) leaving ≡ leaving
     empty_stays i = alike_same _ _ (omega arith)
 
-    emptied_is : (n : ℕ) → suc n ≤ names → emptied (suc n) ≡ Empty (0 + n) ∷ emptied n
-    emptied_is n le = ap (λ b. (if b then Empty (0 + n) ∷ [] else []) ++ emptied n) (lt-ltb (0 + n) names (omega (arith, le)))
-
     -- ---- it is left with its variables emptied, and with its result alone
 
     -- where it is left so, and each of these actions has what it needs
@@ -128,7 +125,7 @@ module _ (R : resolved.Program) where
     emptied_left : (n pc : ℕ) → n ≤ names → Rows pc leaving (emptied n ++ (keep ++ last_action ∷ [])) → Left n pc leaving (emptied n ++ (keep ++ last_action ∷ []))
     emptied_left zero pc le f = keep_left slots pc leaving (omega arith) f
     emptied_left (suc n) pc le f =
-        let is = emptied_is n le in
+        let is : emptied (suc n) ≡ Empty (0 + n) ∷ emptied n = ap (λ b. (if b then Empty (0 + n) ∷ [] else []) ++ emptied n) (lt-ltb (0 + n) names (omega (arith, le))) in
         let row = subst (λ xs. Rows pc leaving (xs ++ (keep ++ last_action ∷ []))) is f in
         let rest = emptied_left n (pc + 1) (omega (arith, le)) (subst (λ h. Rows (pc + 1) h (emptied n ++ (keep ++ last_action ∷ []))) (empty_stays (0 + n)) row.2) in
         let next = subst (Stands R all table given (pc + 1)) (sym (empty_stays (0 + n))) rest.0.0 in (
@@ -160,11 +157,6 @@ module _ (R : resolved.Program) where
 
   abbrev row : (given : Gives) (base h : Height) (pc : ℕ) (xs : List PlainAction) → Both R pc (in_function given (heights R base h xs)) xs → Row R all table given base pc (walk h []) xs
   row given base h pc xs f = row_of R all table given base pc (walk h []) xs f.0 f.1
-
-  pub record Entered (entries : List ℕ) (n : ℕ) (f : Function) : Type 0 where
-    pub at : ℕ
-    pub is : slice_get entries n ≡ Some at
-    pub goes : Goes R all table f.gives at (height f.slots (object_parameters f) 0 0)
 
   -- a function begins with its places, and takes what it is given
   opening_types : (g : Function) → Types R 0 0 (height g.slots (object_parameters g) 0 0) (opening_actions g) (between g.slots (function_places g))
@@ -213,9 +205,6 @@ module _ (R : resolved.Program) where
   abbrev called : (wanted : Gives) → (f : ℕ) → Height
   called wanted f = height (slots_of R wanted f) (parameters_of R wanted f) 0 0
 
-  fit_typed : (wanted : Gives) (values objects f : ℕ) → Types R 0 0 (height values objects 0 0) (passing_actions R wanted f values objects) (called wanted f)
-  fit_typed wanted values objects f = simp add-zero at (passing_types R 0 0 wanted f values objects 0 0 0 0)
-
   -- what comes to that height goes on with an action that stays there
   passing_goes : (wanted : Gives) (values objects f place : ℕ) (x : PlainAction) (later : List PlainAction) → role x ≡ Stays
       → Row R all table wanted zeroed place (walk (height values objects 0 0) []) (passing_actions R wanted f values objects ++ x ∷ later)
@@ -224,7 +213,7 @@ module _ (R : resolved.Program) where
   passing_goes wanted values objects f place x later stays rows =
       let xs = passing_actions R wanted f values objects in
       let h = height values objects 0 0 in
-      let typed = fit_typed wanted values objects f in
+      let typed : Types R 0 0 h xs (called wanted f) = simp add-zero at (passing_types R 0 0 wanted f values objects 0 0 0 0) in
       let parts = rows_then R all table wanted zeroed place (walk h []) xs (x ∷ later) (types_last R 0 0 zeroed h [] xs (called wanted f) typed) rows in
       let goes = opens_goes R all table wanted (place + length xs) (called wanted f) x stays parts.1.0 parts.1.1 in
       (typed_steps R all table wanted zeroed place h [] xs (called wanted f) typed parts.0 goes, parts.1)
@@ -280,17 +269,18 @@ module _ (R : resolved.Program) where
   function_list = functions_actions R (length (start_actions R)) (all_functions R)
 
   -- a function is entered with its variables
-  pub entered_at : (wanted : Gives) (f : ℕ) → Entered (entries_of R) (number_of R wanted f) (function_at R wanted f)
+  pub entered_at : (wanted : Gives) (f : ℕ) → (at : ℕ) × (slice_get (entries_of R) (number_of R wanted f) ≡ Some at)
+      × Goes R all table (function_at R wanted f).gives at (height (slots_of R wanted f) (parameters_of R wanted f) 0 0)
   entered_at wanted f =
       let there = function_found R wanted f in
-      record { at = entry_of there.place (function_at R wanted f); is = there.entry; goes = (g_steps there.place (function_at R wanted f) there.code).0 }
+      (entry_of there.place (function_at R wanted f), there.entry, (g_steps there.place (function_at R wanted f) there.code).0)
 
   target : (wanted : Gives) (f : ℕ) → Goes_to wanted (slice_index_or (entries_of R) (number_of R wanted f) 0) (called wanted f)
   target wanted f =
       let e = entered_at wanted f in
       subst (λ n. Goes_to wanted n (called wanted f))
-      (sym (get_or_from_slice_get (entries_of R) (number_of R wanted f) e.at 0 e.is))
-      (subst (λ g. Goes_to g e.at (called wanted f)) (function_gives R wanted f) e.goes)
+      (sym (get_or_from_slice_get (entries_of R) (number_of R wanted f) e.0 0 e.1))
+      (subst (λ g. Goes_to g e.0 (called wanted f)) (function_gives R wanted f) e.2)
 
   abbrev zeros : List PlainAction
   zeros = passing_actions R gives.Number R.main 0 0
@@ -316,8 +306,8 @@ module _ (R : resolved.Program) where
   start_steps =
       let q = 0 + length zeros in
       let rest = main_goes.1.2 in
-      let same = slots_same R gives.Number R.main in
-      let other = parameters_same R gives.Number R.main in
+      let same = ap (λ (g : Function). g.slots) (function_same R gives.Number R.main) in
+      let other = ap object_parameters (function_same R gives.Number R.main) in
       let after : next_height R main_call (called gives.Number R.main) ≡ height 1 0 0 0 = alike_same _ _ (omega (arith, same, other)) in
       let one = rest.0 ∙ ap (λ h. Some (h, gives.Number)) after in
       let home : Stands R all table gives.Number (q + 1) (height 1 0 0 0) = record { height = one; plain_action = Return; is = rest.1; no_end = λ end. cc } in

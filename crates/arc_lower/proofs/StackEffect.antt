@@ -51,13 +51,6 @@ pub function_same : (P : Program) (wanted : Gives) (f : ℕ) → function_at P w
 function_same P wanted f = let n = number_of_nothing P wanted in
     grind (arith, out_of_list P wanted P.functions n (none_gives P wanted P.functions n (past_all P wanted)), out_of_list P wanted P.functions f)
 
-pub slots_same : (P : Program) (wanted : Gives) (f : ℕ) → slots_of P wanted (number_of P wanted f) ≡ slots_of P wanted f
-slots_same P wanted f = ap (λ (g : Function). g.slots) (function_same P wanted f)
-
--- and takes as many objects
-pub parameters_same : (P : Program) (wanted : Gives) (f : ℕ) → parameters_of P wanted (number_of P wanted f) ≡ parameters_of P wanted f
-parameters_same P wanted f = ap object_parameters (function_same P wanted f)
-
 -- ---- heights
 
 pub heights_same : (a b c d n m t v : ℕ) → a ≡ n → b ≡ m → c ≡ t → d ≡ v → height a b c d ≡ height n m t v
@@ -200,8 +193,8 @@ module _ (P : Program) (r s : ℕ) where
   -- a call leaves a number, or a reference and a temporary
   pub call_types : (wanted : Gives) (b c d f values objects a : ℕ) → Types (height (values + a) (objects + b) c d) (call_actions P wanted f values objects) (height (as_number wanted + a) (as_object wanted + b) (c + as_object wanted) d)
   call_types wanted b c d f values objects a =
-      let same = slots_same P wanted f in
-      let other = parameters_same P wanted f in
+      let same = ap (λ (g : Function). g.slots) (function_same P wanted f) in
+      let other = ap object_parameters (function_same P wanted f) in
       types_then _ (passing_actions P wanted f values objects) _ (Call (number_of P wanted f) wanted ∷ []) _ (passing_types wanted f values objects a b c d)
       ((omega (arith, same), number_there P wanted f, omega (arith, other)), alike_same _ _ (omega (arith, same, other)))
 

@@ -285,10 +285,6 @@ module _ (R : resolved.Program) (all : List PlainAction) (table : List (Height �
       abbrev plain_actions : Spot → Block → List PlainAction
       plain_actions e x = flat R slots names e x
 
-      -- what stands after a choice stands between two statements
-      chosen_same : (to : Target) → next_height R (JumpZero to) test ≡ base
-      chosen_same to = search (arith, heights_same)
-
       -- the parts that tests may lead to all stand between statements
       abbrev AllBase : List Height → Type 0
       AllBase [] = Unit {0}
@@ -479,7 +475,7 @@ module _ (R : resolved.Program) (all : List PlainAction) (table : List (Height �
             let none = block_walks begin l true z base base others (keeps.0, based, based) t.2 in
             let one = block_walks at_test l true x base test none.after (keeps.0, none.keeps.2, none.keeps.2) t.3 in
             let two = block_walks at_body true true y base base (base ∷ one.after) (keeps.0, (refl, one.keeps.2), (refl, one.keeps.2)) t.4 in
-            let less = chosen_same out in
+            let less : next_height R (JumpZero out) test ≡ base = search (arith, heights_same) in
             let is = walk_then (walk base pending) enter (zs ++ (ts ++ rest)) enters ∙ walk_then (walk base others) zs (ts ++ rest) none.is ∙ walk_then (walk base none.after) ts rest one.is ∙ ap (λ n. last_walk R from (walk n (n ∷ one.after)) (xs ++ again)) less ∙ walk_then (walk base (base ∷ one.after)) xs again two.is ∙ jumped two.after keeps.0 two.keeps.2 in
             rw (t.1, t.5) (walked (drop 1 two.after) is (keeps.0, keeps.1, rest_base two.after two.keeps.2) (λ pc turn alone here ways f end.
             let first = pc + length enter in
