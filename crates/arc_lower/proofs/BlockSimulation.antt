@@ -15,11 +15,11 @@ use Rattle.arc_spec.specs.Resolved as resolved
 use Rattle.arc_spec.specs.declared.location.Location.{Location}
 use Rattle.arc_spec.specs.declared.location.Location.TheVariants.{Local, Global}
 use Rattle.arc_spec.specs.Resolved.{Piece}
-use Rattle.arc_spec.specs.Meaning.{Callees, held_at, holds, chosen, temporaries_dropped, released, and_number, field_stores, sent_to_class, finds, gives_object, sent_to_method, class_in, sent, sent_to_object, next_object, made, made_new, second_dropped, result_place, in_object, formatted, byte_count, or_fault, assigned, all_dropped}
+use Rattle.arc_spec.specs.Meaning.{Callees, held_at, holds, chosen, temporaries_dropped, released, and_number, field_stores, sent_to_class, finds, gives_object, sent_to_method, class_in, sent, sent_to_object, next_object, made, object_given, second_dropped, result_place, in_object, formatted, byte_count, or_fault, assigned, all_dropped}
 use Rattle.arc_spec.specs.World as world
 use Rattle.arc_spec.specs.World.{World, Outcome, Done, Faulted, Finished, then_do, Given, nothing_given, prints, next_number, with_objects, with_temporaries, local_at, name_at, named_at, with_strong_globals, takes, stores, padded}
 use Rattle.arc_spec.specs.HolderCounts.{ReturnFrame, is_there, on_field, with_strong_field, on_place, raised}
-use Rattle.arc_spec.specs.SmallSteps.{Next, Goes, Faults, Reached, fed}
+use Rattle.arc_spec.specs.SmallSteps.{Next, Goes, Faults, Reached, fed, follow}
 use Rattle.arc_ir.specs.declared.action.Target.{Target}
 use Rattle.arc_ir.specs.declared.action.Target.TheVariants.{Skip, Back, At}
 use Rattle.arc_ir.specs.ActionSteps.{Program, State, lands, onward, keeps, answers, taken, sends, allocates, releases}
@@ -44,7 +44,6 @@ use Rattle.arc_lower.proofs.StackAccess.{onto, onto_front, drop_onto, without_be
 use Rattle.arc_lower.proofs.ReleaseSimulation.{Kept, kept_same, Ends, Stays, after_place, after_object, after_named, release_runs, emptied, empties, empties_by, dropped_runs, settled_runs, no_variable, changes_runs}
 use Rattle.arc_lower.proofs.BlockMeaning.{Operands, operands, push, name, Way, On, Out, Quits, Turns, Lost, left_by, on_way, and_then, only_on, after_turn, on_test, top_of, taken_of, on_given, pushes, answers_left, passes_by, operation, message_sent, block_turns, loop_entered, block, then_twice}
 use Rattle.arc_lower.proofs.BlocksWithoutTemporary.{takes_none, quiet_flat, enter_length}
-use Rattle.std.specs.Prelude.{drop}
 
 -- after a call, with its number on top, or with its object, which the last reference names and the last temporary
 abbrev pub after_call : (wanted : Gives) (frames : List ReturnFrame) (rs : List ℕ) (pc : ℕ) (stack : List ℤ) → world.Answer → World → Reached State
@@ -193,12 +192,19 @@ module _ (p : Program) (frames : List ReturnFrame) (bound : ℕ) (R : resolved.P
         → Steps (Goes (state pc (name r s) (takes r w)) []) w pc (Done (On (name r s)) (takes r w))
     holding {r} {w} free g = still (taken_good free r w g)
 
+    -- an object is made, which the last reference names and the last temporary
     making : (found : Option ℕ) (pc : ℕ) (v : ℤ) (s : Operands) (w : World) → (calm ≡ true → false ≡ true) → Good calm w
-        → Steps (allocates p.classes (state pc (push v s) w) (s.numbers ++ vars w) found) w (pc + 1) (left_by (λ r. On (name r s)) (made D found w))
+        → After p bound (allocates p.classes (state pc (push v s) w) (s.numbers ++ vars w) found) w.input w.trace (λ r w1 to.
+        (to ≡ standing (pc + 1) (name r s) w1) × Good calm w1 × (rest : List ℕ) × (w1.frame.temporaries ≡ r ∷ rest)) (made D found w)
     making None pc v s w free g = faults
     making (Some class) pc v s w free g =
-        rw (deep.same_fields class) (still (taken_good free (next_object w)
-        (with_objects w (w.objects ++ new_object class (field_counts (slice_get D.classes class)) ∷ [])) g))
+        rw (deep.same_fields class) (quietly (ends (
+          refl,
+          taken_good free (next_object w)
+              (with_objects w (w.objects ++ new_object class (field_counts (slice_get D.classes class)) ∷ [])) g,
+          w.frame.temporaries,
+          refl,
+        )))
 
     -- a field of an object
     field_runs : {A : Type 0} (class r pc : ℕ) (rs : List ℕ) (way : A → Way) (w : World) {next : Object → Next State} (go : Object → Outcome A)
@@ -228,7 +234,8 @@ module _ (p : Program) (frames : List ReturnFrame) (bound : ℕ) (R : resolved.P
     operation_runs Hold pc numbers (r ∷ rs) w free g = after_named r _ (holding free g)
     operation_runs ops.Again pc numbers (r ∷ rs) w free g = still g
     operation_runs Forget pc numbers (r ∷ rs) w free g = still g
-    operation_runs Alloc pc (v ∷ numbers) rs w free g = making (class_at v) pc v (operands numbers rs) w free g
+    operation_runs Alloc pc (v ∷ numbers) rs w free g =
+        record { follows = next (making (class_at v) pc v (operands numbers rs) w free g).follows (λ r w1 to m. ends (m.0, m.1)) }
     operation_runs (Finds selector) pc (v ∷ numbers) rs w free g = rw (deep.same_found (class_at v) signs.Class selector 0 0 gives.Object) (still g)
     operation_runs (GetField class index) pc numbers (r ∷ rs) w free g =
         field_runs class r (pc + 1) (r ∷ rs) (λ v. On (push v (operands numbers rs))) w _ (λ k o e found is. still g)
@@ -410,71 +417,51 @@ module _ (p : Program) (frames : List ReturnFrame) (bound : ℕ) (R : resolved.P
       to_object class_of from r same =
           rw (get_onto given.objects rs r, without_below given.objects rs r) (sends_run class_of from r (onto given.objects (r ∷ rs)) same)
 
-    returned_there : {next : Next State} {i : List ℕ} {t : List Event} (wanted : Gives) (pc : ℕ) (s : Operands) (w : World) {o : Outcome world.Answer}
-        → (calm ≡ true → same_gives wanted gives.Number ≡ true) → Good calm w
-        → After p bound next i t (Returns wanted frames s.names pc (s.numbers ++ vars w) w) o
-        → After p bound next i t (Leaves turn calm (pc + 1)) (answers_left wanted s o)
-    returned_there wanted pc s w free g h = record { follows = returned wanted pc s w free g h.follows }
-
     finds_run : (wanted : Gives) (message : Message) (pc : ℕ) (given : Given) (numbers : List ℤ) (rs : List ℕ) (w : World)
         → (calm ≡ true → same_gives wanted gives.Number ≡ true) → Good calm w
-        → Steps (does p (message_action wanted message (length given.numbers) (length given.objects))
-        (at frames pc (onto given.numbers (numbers ++ vars w)) (held_of (onto given.objects rs) w))) w (pc + 1)
+        → Comes (follow (recount (does p (message_action wanted message (length given.numbers) (length given.objects))
+        (at frames pc (onto given.numbers (numbers ++ vars w)) (held_of (onto given.objects rs) w)))) w.input w.trace) (pc + 1)
         (message_sent D wanted message given (operands numbers rs) w)
     finds_run wanted (ToClass selector) pc given (class ∷ numbers) rs w free g =
-        returned_there wanted pc (operands numbers rs) w free g (rw (get_onto given.numbers (numbers ++ vars w) class)
-        (to_class wanted selector pc given (numbers ++ vars w) rs w (class_at class) class))
+        rw (get_onto given.numbers (numbers ++ vars w) class) (returned wanted pc (operands numbers rs) w free g
+        (to_class wanted selector pc given (numbers ++ vars w) rs w (class_at class) class).follows)
     finds_run wanted (ToSuperClass from selector) pc given (class ∷ numbers) rs w free g =
-        returned_there wanted pc (operands numbers rs) w free g (to_class wanted selector pc given (numbers ++ vars w) rs w (Some from) class)
+        returned wanted pc (operands numbers rs) w free g (to_class wanted selector pc given (numbers ++ vars w) rs w (Some from) class).follows
     finds_run wanted (ToObject selector) pc given numbers (r ∷ rs) w free g =
-        returned_there wanted pc (operands numbers rs) w free g (to_object wanted selector pc given (numbers ++ vars w) rs w (λ o. o.class)
-        (class_in (object_at w.objects r)) r (λ k o e found. rw (e, found)))
+        returned wanted pc (operands numbers rs) w free g (to_object wanted selector pc given (numbers ++ vars w) rs w (λ o. o.class)
+        (class_in (object_at w.objects r)) r (λ k o e found. rw (e, found))).follows
     finds_run wanted (ToSuper from selector) pc given numbers (r ∷ rs) w free g =
-        returned_there wanted pc (operands numbers rs) w free g (to_object wanted selector pc given (numbers ++ vars w) rs w (λ o. from) (Some from) r
-        (λ k o e found. refl))
-    finds_run wanted _ pc given _ _ w free g = lost_there
+        returned wanted pc (operands numbers rs) w free g (to_object wanted selector pc given (numbers ++ vars w) rs w (λ o. from) (Some from) r
+        (λ k o e found. refl)).follows
+    finds_run wanted _ pc given _ _ w free g = lost
 
     -- ---- what the root's `new` does
 
-    -- an object that is new, which a temporary takes
-    abbrev with_new : (class : ℕ) → World → World
-    with_new class w = takes (next_object w) (with_objects w (w.objects ++ new_object class (field_counts (slice_get D.classes class)) ∷ []))
-
     module _ (free : calm ≡ true → false ≡ true) where
-      -- after it the object is given, and its temporary is the last one
-      abbrev Made_at : ℕ → Operands → ℕ → World → Reached State → Type 0
-      Made_at q s r w to = (to ≡ standing q (name r s) w) × Good calm w
-
-      -- the made object gets `init`
-      initializing : (class pc : ℕ) (s : Operands) (w : World) → Good calm w → HasAt p pc (SendTo init_selector 0 0 gives.Object ∷ Settle ∷ [])
-          → Follows p bound (standing pc (name (next_object w) s) (with_new class w)) (Made_at (pc + 1 + 1) s) (made_new D (Some class) w)
-      initializing class pc s w g has =
-          let r = next_object w in
-          let w1 = with_new class w in
-          let init = sent D gives.Object (Rattle.arc_spec.specs.Meaning.ToObject r) init_selector nothing_given w1 in
-          let rest : ℕ → World → Outcome ℕ = λ a w3. then_do (second_dropped D w3.frame.temporaries w3) (λ _ w4. Done a w4) in
-          subst (Follows p bound (standing pc (name r s) w1) (Made_at (pc + 1 + 1) s)) (then_twice init (λ a w2. Done a.object (takes a.object w2)) rest)
-          (next (steps (SendTo init_selector 0 0 gives.Object) has.0 (to_object gives.Object init_selector pc nothing_given (s.numbers ++ vars w1) s.names w1
-          (λ o. o.class) (class_in (object_at w1.objects r)) r (λ k o e found. ap class_in (ap (object_at w1.objects) e ∙ found))))
-          (λ a w2 to m. on (m.0 ∙ rw m.1.frame) (
-          let g2 = kept_good calm w1 w2 (g.0, λ e. absurd (false≢true (free e))) m.1 in
-          let these = ap (λ (f : world.Activation). a.object ∷ f.temporaries) m.1.frame in
-          next (settled_runs p frames bound (a.object ∷ s.names) D deep.ends a.object r w.frame.temporaries (s.numbers ++ vars w2) (takes a.object w2) (pc + 1) these has.1)
-          (λ done w3 to3 n. ends (n.0 ∙ rw n.1.frame, kept_good calm (with_temporaries w2 (a.object ∷ w.frame.temporaries)) w3 (g2.0, λ e. absurd (false≢true (free e))) n.1)))))
-
-      makes_new : (found : Option ℕ) (pc : ℕ) (v : ℤ) (s : Operands) (w : World) → Good calm w
-          → HasAt p (pc + 1) (SendTo init_selector 0 0 gives.Object ∷ Settle ∷ [])
-          → After p bound (allocates p.classes (state pc (push v s) w) (s.numbers ++ vars w) found) w.input w.trace (Made_at (pc + 1 + 1 + 1) s)
-          (made_new D found w)
-      makes_new None pc v s w g has = faults
-      makes_new (Some class) pc v s w g has = rw (deep.same_fields class) (quietly (initializing class (pc + 1) s w g has))
+      -- the made object gets `init`, and what that gives is left, which is held by the last temporary
+      initializing : (r pc : ℕ) (s : Operands) (w : World) (rest : List ℕ) → w.frame.temporaries ≡ r ∷ rest → Good calm w
+          → HasAt p pc (SendTo init_selector 0 0 gives.Object ∷ Settle ∷ [])
+          → Follows p bound (standing pc (name r s) w) (λ a w1 to. (to ≡ standing (pc + 1 + 1) (name a s) w1) × Good calm w1)
+          (then_do (object_given (sent D gives.Object (Rattle.arc_spec.specs.Meaning.ToObject r) init_selector nothing_given w)) (λ a w1.
+          then_do (second_dropped D w1.frame.temporaries w1) (λ _ w2. Done a w2)))
+      initializing r pc s w rest held g has =
+          let init = sent D gives.Object (Rattle.arc_spec.specs.Meaning.ToObject r) init_selector nothing_given w in
+          rw (← then_twice init (λ a w1. Done a.object (takes a.object w1)) (λ a w1. then_do (second_dropped D w1.frame.temporaries w1) (λ _ w2. Done a w2)))
+          (next (steps (SendTo init_selector 0 0 gives.Object) has.0 (to_object gives.Object init_selector pc nothing_given (s.numbers ++ vars w) s.names w
+          (λ o. o.class) (class_in (object_at w.objects r)) r (λ k o e found. ap class_in (ap (object_at w.objects) e ∙ found))))
+          (λ a w1 to m. on (m.0 ∙ rw m.1.frame) (
+          let g1 = kept_good calm w w1 g m.1 in
+          let these = ap (λ (f : world.Activation). a.object ∷ f.temporaries) m.1.frame ∙ ap (λ l. a.object ∷ l) held in
+          next (settled_runs p frames bound (a.object ∷ s.names) D deep.ends a.object r rest (s.numbers ++ vars w1) (takes a.object w1) (pc + 1) these has.1)
+          (λ done w2 to2 n. ends (n.0 ∙ rw n.1.frame, kept_good calm (with_temporaries w1 (a.object ∷ rest)) w2 (g1.0, λ e. absurd (false≢true (free e))) n.1)))))
 
       making_runs : (pc : ℕ) (numbers : List ℤ) (rs : List ℕ) (w : World) → Good calm w → HasAt p pc making_actions
           → Comes (standing pc (operands numbers rs) w) (pc + length making_actions) (block D bound 0 false Making (operands numbers rs) w)
       making_runs pc [] rs w g has = lost
       making_runs pc (v ∷ numbers) rs w g has =
           let size : pc + 3 ≡ pc + 1 + 1 + 1 = omega arith in
-          rw size (next (steps (Plain Alloc) has.0 (makes_new (class_at v) pc v (operands numbers rs) w g has.1)) (λ r w1 to m. ends m))
+          rw size (next (next (steps (Plain Alloc) has.0 (making (class_at v) pc v (operands numbers rs) w free g))
+          (λ r w1 to m. on m.0 (initializing r (pc + 1) (operands numbers rs) w1 m.2 m.3 m.1 has.1))) (λ r w1 to m. ends m))
 
     -- ---- variables that name objects
 
@@ -631,16 +618,12 @@ module _ (p : Program) (frames : List ReturnFrame) (bound : ℕ) (R : resolved.P
     from_step n le go h s w g = then_way (fewer le (step_runs s w g)) (from_test n le go h)
 
     -- what leaves the loop comes to its test with 0
-    quit : (n : ℕ) (s : Operands) (w : World) → Good calm w → Follows p n (standing q (push (pos 0) s) w) (Leaves turn calm end) (Done (On s) w)
-    quit n s w g =
-        fewer (omega arith) (testing {n = n} q end end out (pos 0 ∷ s.numbers) s.names w leaves jumps (λ v rest. ends {a = Lost} {w = w} tt)
-        (λ v rest. ends {a = On rest} {w = w} (refl, g)))
-
     turned : (n : ℕ) (go : Operands → World → Outcome Way) → From n first go → (way : Way) (w : World) (to : Reached State) → Leaves inner calm q1 way w to
         → Follows p n to (Leaves turn calm end) (after_turn go way w)
     turned n go again (On s) w to m = on m.0 (leads (moving back s w jumps_back) (rw leads_back (again s w m.1)))
     turned n go again (Turns s) w to m = on m.0 (rw begins (again s w m.1))
-    turned n go again (Quits s) w to m = on m.0 (rw leaves_at (quit n s w m.1))
+    turned n go again (Quits s) w to m = on m.0 (rw leaves_at (fewer (omega arith) (testing {n = n} q end end out (pos 0 ∷ s.numbers) s.names w leaves jumps
+        (λ v rest. ends {a = Lost} {w = w} tt) (λ v rest. ends {a = On rest} {w = w} (refl, m.1)))))
     turned n go again _ w to m = ends m
 
     loop_runs : (n : ℕ) → n ≤ bound → From n (q + 1) (block_turns n step test body)
@@ -716,7 +699,7 @@ module _ (p : Program) (frames : List ReturnFrame) (bound : ℕ) (R : resolved.P
       on_given_runs turn calm pc _ n k s w _ (λ given rest size few. calls_run turn calm wanted f pc n k given rest w size few free g has)
   block_follows {turn} {calm} place e m h placed (SendsMessage wanted message n k) free pc stands s w g has =
       on_given_runs turn calm pc (pc + 1) n k s w (λ given rest. message_sent D wanted message given rest w) (λ given rest size few.
-      steps (message_action wanted message n k) has.0 (rw (← size, ← few) (finds_run turn calm wanted message pc given rest.numbers rest.names w free g)))
+      steps (message_action wanted message n k) has.0 (record { follows = rw (← size, ← few) (finds_run turn calm wanted message pc given rest.numbers rest.names w free g) }))
   block_follows {turn} {calm} place e m h placed Making free pc stands s w g has = making_runs turn calm free pc s.numbers s.names w g has
   block_follows {turn} {calm} place e m h placed (IfNew class a b) free pc stands s w g has =
       subst (λ classes. Goes_on turn calm (standing pc s w) (pc + length (actions e (IfNew class a b)))

@@ -17,10 +17,9 @@ use Rattle.arc_code.specs.Effects.{as_number, as_object, operation_effect}
 use Rattle.arc_lower.specs.KnownKinds.{is_within, binary_kind, known_kind}
 use Rattle.arc_lower.specs.declared.frame.Turn.{Turn}
 use Rattle.arc_lower.specs.declared.frame.Scope.{Scope}
-use Rattle.arc_lower.specs.Lowered.{forget_actions, print_actions, action_takes, Inside, Block, Idle, One, Clear, Calls, SendsMessage, Making, IfNew, Answer, message_to, below_arguments, new_block, receiver_block, Then, Fork, Quit, Advance, FullExpression, Assign, flat, old_block, given_block, below_new, narrow_block, update_block, value_block, reference_block, arguments_block, full_expression_block, full_object_expression_block, nothing_given, command_block, commands_block, Surroundings, within_scopes, leaving, breaking, continuing}
+use Rattle.arc_lower.specs.Lowered.{full_expression_actions, full_object_expression_actions, forget_actions, print_actions, action_takes, Inside, Block, Idle, One, Clear, Calls, SendsMessage, Making, IfNew, Answer, message_to, below_arguments, new_block, receiver_block, Then, Fork, Quit, Advance, FullExpression, Assign, flat, old_block, given_block, below_new, narrow_block, update_block, value_block, reference_block, arguments_block, full_expression_block, full_object_expression_block, nothing_given, command_block, commands_block, Surroundings, within_scopes, leaving, breaking, continuing}
 use Rattle.arc_lower.specs.Size.{number_count, object_count, has_new, unused, does_nothing}
 use Rattle.arc_lower.specs.Heights.{height, between, walk, last_walk}
-use Rattle.arc_lower.specs.Lowered.{full_expression_actions, full_object_expression_actions}
 use Rattle.arc_lower.proofs.StackEffect.{heights_same, Reaches, types_then, forgets_type, print_types, get_types, set_types, call_types, store_types, read_types, all_empty_type, drop_types, tested, Forks, ByTest, BlockTypes}
 use Rattle.arc_lower.proofs.BlockEndHeight.{within_ends, quiet_types}
 use Rattle.arc_lower.proofs.CaseAnalysis.{by_test}
@@ -124,12 +123,10 @@ module _ (P : Program) (r s slots names exit d : ℕ) (room : names ≤ d + s) w
 
   mutual
     pub value_types : (e : Value) (depth a b c : ℕ) → depth + slots ≤ a + r → Comes a b c (value_block depth e) (suc a) b
-    value_types (Number n) depth a b c h = search (arith, op)
-    value_types ReadByte depth a b c h = search (arith, op)
     value_types (Print pieces arguments) depth a b c h =
         let n = number_count arguments in
         let m = object_count arguments in
-        next (arguments_type arguments depth a b c h) (λ t. plain (types_then P r s _ (forget_actions m) _ (print_actions pieces n) _ (forgets_type P r s m (n + a) b t d) (print_types P r s b t d pieces n a)))
+        next (arguments_type arguments depth a b c h) (λ t. plain (types_then P r s _ (forget_actions m) (height (n + a) b t d) (print_actions pieces n) _ (forgets_type P r s m _ _ (omega arith)) (print_types P r s pieces n a _ _ refl (omega arith))))
     value_types (Unary operator kind v) depth a b c h = next (value_types v depth a b c h) (λ t. search (arith, op))
     value_types (Binary operator kind v u) depth a b c h =
         next (value_types v depth a b c h) (λ t. next (value_types u (suc depth) (suc a) b t (omega (arith, h))) (λ q. search (arith, op)))
@@ -155,10 +152,9 @@ module _ (P : Program) (r s slots names exit d : ℕ) (room : names ≤ d + s) w
     value_types (resolved.NotSame v u) depth a b c h =
         next (reference_types v depth a b c h) (λ t. next (reference_types u depth a (suc b) t h) (λ q. search (arith, op)))
     value_types (resolved.IsObject v) depth a b c h = next (reference_types v depth a b c h) (λ t. search (arith, op))
+    value_types _ depth a b c h = search (arith, op)
 
     pub reference_types : (e : Reference) (depth a b c : ℕ) → depth + slots ≤ a + r → Comes a b c (reference_block depth e) a (suc b)
-    reference_types resolved.Nil depth a b c h = search (arith, op)
-    reference_types Itself depth a b c h = search (arith, op)
     reference_types (Variable i) depth a b c h = more_by 1 (read_types P r s names i a b c d room)
     reference_types (ObjectConditional v u w) depth a b c h = next (value_types v depth a b c h) (λ t. choice (reference_types u depth a b t h) (λ q. reference_types w depth a b q h))
     reference_types (AssignObject i v) depth a b c h =
@@ -174,6 +170,7 @@ module _ (P : Program) (r s slots names exit d : ℕ) (room : names ≤ d + s) w
         next (arguments_type arguments depth a b c h) (λ t. called gives.Object f (number_count arguments) (object_count arguments) a b t (omega arith) (omega arith))
     reference_types (ObjectSend receiver selector arguments) depth a b c h = sent_types gives.Object receiver selector (number_count arguments) (object_count arguments) a b c (omega arith) (omega arith)
         (receiver_types receiver depth a b c h) (λ t. arguments_type arguments (below_arguments receiver depth) _ _ t (receiver_lies receiver depth a h))
+    reference_types _ depth a b c h = search (arith, op)
 
     -- what gets a message is one operand more, or one reference more
     receiver_types : (e : Receiver) (depth a b c : ℕ) → depth + slots ≤ a + r → Comes a b c (receiver_block depth e) (below_arguments e a) (with_object e b)

@@ -39,19 +39,13 @@ module _ (P : Program) (slots names : ℕ) where
   none xs = list_any action_takes xs ≡ false
 
   pub quiet_flat : (b : Block) → none (flat P slots names Inside b) → takes_none P b ≡ true
-  quiet_flat (One o) e = grind arith
   quiet_flat (Read (Global i)) e = sym e
-  quiet_flat (Read (Local i)) e = grind arith
-  quiet_flat (Calls gives.Number f n m) e = refl
   quiet_flat (Calls gives.Object f n m) e = let e1 = simp list_any-append at e in grind arith
-  quiet_flat (SendsMessage gives.Number message n m) e = refl
   quiet_flat (SendsMessage gives.Object (ToClass selector) n m) e = sym e
-  quiet_flat (SendsMessage gives.Object _ n m) e = sym e
-  quiet_flat Making e = sym e
   quiet_flat (IfNew class a b) e = grind (arith, quiet_flat a, quiet_flat b)
   quiet_flat (Then a b) e = both _ _ _ _ (simp list_any-append at e) (quiet_flat a) (quiet_flat b)
   quiet_flat (Fork a b) e = both _ _ _ _ (simp list_any-append at e) (quiet_flat a) (quiet_flat b)
   quiet_flat (Loop entry a b c) e =
       both _ _ _ _ (or_parts _ _ (simp list_any-append at e)).1 (quiet_flat a) (λ e1. both _ _ _ _ e1 (quiet_flat b) (λ e2. quiet_flat c (or_parts _ _ e2).0))
   quiet_flat (FullExpression a b) e = quiet_flat b (or_parts _ _ (or_parts _ _ (simp list_any-append at e)).1).0
-  quiet_flat _ e = refl
+  quiet_flat _ e = grind arith

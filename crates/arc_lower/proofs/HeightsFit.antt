@@ -21,7 +21,7 @@ use Rattle.arc_lower.proofs.RecountedSteps.{bare}
 use Rattle.arc_lower.proofs.StubLookup.{function_gives}
 use Rattle.arc_lower.proofs.StackEffect.{IsCalled}
 use Rattle.arc_lower.proofs.StepHeights.{some_same, Goes, Steps}
-use Rattle.arc_lower.proofs.ProgramHeights.{all, table, Entered, entered_at, methods_go, steps_at}
+use Rattle.arc_lower.proofs.ProgramHeights.{all, table, entered_at, methods_go, steps_at}
 
 -- ---- the greatest
 
@@ -72,38 +72,16 @@ module _ (p : Program) (R : resolved.Program) where
   gives_there : (pc : ℕ) (h : Height) (given : Gives) → slice_get (table R) pc ≡ Some (h, given) → result_at R pc ≡ given
   gives_there pc h given e = ap (λ (m : Height × Gives). m.1) (get_or_from_slice_get (table R) pc (h, given) no_mark e)
 
-  -- what an effect leaves is within the heights of a program where it is within these
-  within : (given : Gives) (pc to : ℕ) (h g : Height) (e : Effect) → slice_get (table R) pc ≡ Some (h, given) → slice_get (table R) to ≡ Some (g, given) → FitsBetween h g e → FitsBetween (height_at R pc) (height_at R to) e
-  within given pc to h g e now next f = rw (there pc h given now, there to g given next) f
-
   module _ (calls : (wanted : Gives) (f : ℕ) → IsCalled R wanted f → Goes R (all R) (table R) wanted (entry p f) (height (slots_of R wanted f) (parameters_of R wanted f) 0 0)) (given : Gives) where
-    message_fits : (wanted : Gives) (taken names pc : ℕ) (h : Height) → slice_get (table R) pc ≡ Some (h, given)
-        → slice_get (table R) (pc + 1) ≡ Some (height (h.numbers - taken + as_number wanted) (h.names - names + as_object wanted) (h.temporaries + as_object wanted) (h.variables + 0), given)
-        → FitsBetween (height_at R pc) (height_at R (pc + 1)) (giving wanted taken names) × ((as_number wanted ≤ (height_at R (pc + 1)).numbers) × (as_object wanted ≤ (height_at R (pc + 1)).names))
-    message_fits wanted taken names pc h now next =
-        (within given pc (pc + 1) h _ (giving wanted taken names) now next (search arith), rw (there (pc + 1) _ given next) (omega arith, omega arith))
-
     plain_action_fits : (pc : ℕ) (h : Height) (x : PlainAction) → slice_get (table R) pc ≡ Some (h, given) → Steps R (all R) (table R) given h pc x → FitsAt (bare p) (height_at R) pc x
-    plain_action_fits pc h (Jump to) now s = within given pc (lands pc to) h _ _ now s.2.0.height (search arith)
-    plain_action_fits pc h (JumpZero to) now s =
-        (within given pc (pc + 1) h _ _ now s.1.0.height (search arith), within given pc (lands pc to) h _ _ now s.2.2.0.height (search arith))
+    plain_action_fits pc h (JumpZero to) now s = rw (there pc h given now, there (pc + 1) _ given s.1.0.height, there (lands pc to) _ given s.2.2.0.height) (search arith)
     plain_action_fits pc h (Call f wanted) now s = λ to found.
         let begun : height_at R (entry p f) ≡ height (slots_of R wanted f) (parameters_of R wanted f) 0 0 = there (entry p f) _ wanted
         (calls wanted f s.0.1).0.height in
         let same = ap (height_at R) (sym (some_same (entry p f) to found)) ∙ begun in
-        rw same (message_fits wanted (slots_of R wanted f) (parameters_of R wanted f) pc h now s.1.0.height)
-    plain_action_fits pc h (Send selector takes objects wanted) now s = message_fits wanted (suc takes) objects pc h now s.1.0.height
-    plain_action_fits pc h (SendSuper from selector takes objects wanted) now s = message_fits wanted (suc takes) objects pc h now s.1.0.height
-    plain_action_fits pc h (SendTo selector takes objects wanted) now s = message_fits wanted takes (suc objects) pc h now s.1.0.height
-    plain_action_fits pc h (SendToSuper from selector takes objects wanted) now s = message_fits wanted takes (suc objects) pc h now s.1.0.height
-    plain_action_fits pc h (Empty i) now s = within given pc (pc + 1) h _ _ now s.1.height (search arith)
-    plain_action_fits pc h DropAll now s = rw (there pc h given now, there (pc + 1) (height h.numbers h.names 0 h.variables) given s.1.0.height) (search arith)
-    plain_action_fits pc h Settle now s =
-        rw (there pc h given now, there (pc + 1) (height h.numbers h.names (h.temporaries - 1) h.variables) given s.0.height) (search arith)
-    plain_action_fits pc h EndStep now s = rw (there pc h given now) (search arith)
-    plain_action_fits pc h Give now s = rw (there pc h given now) (search arith)
-    plain_action_fits pc h Return now s = rw (there pc h given now) (search arith)
-    plain_action_fits pc h _ now s = within given pc (pc + 1) h _ _ now s.1.0.height (search arith)
+        rw (same, there pc h given now, there (pc + 1) _ given s.1.0.height) (search arith)
+    plain_action_fits pc h (Plain o) now s = rw (there pc h given now, there (pc + 1) _ given s.1.0.height) (search arith)
+    plain_action_fits pc h _ now s = grind (arith, there)
 
     -- a run stays in its function
     module _ (pc : ℕ) (h : Height) (now : slice_get (table R) pc ≡ Some (h, given)) where
@@ -111,47 +89,38 @@ module _ (p : Program) (R : resolved.Program) where
       same_at to g next = gives_there to g given next ∙ sym (gives_there pc h given now)
 
       plain_action_gives : (x : PlainAction) → Steps R (all R) (table R) given h pc x → GivesAt (bare p) (result_at R) pc x
-      plain_action_gives (Jump to) s = same_at (lands pc to) _ s.2.0.height
-      plain_action_gives (JumpZero to) s = (same_at (pc + 1) _ s.1.0.height, same_at (lands pc to) _ s.2.2.0.height)
       plain_action_gives (Call f wanted) s = (same_at (pc + 1) _ s.1.0.height, λ to found. ap (result_at R) (sym (some_same (entry p f) to found)) ∙ gives_there (entry p f) _ wanted (calls wanted f s.0.1).0.height)
-      plain_action_gives (Empty i) s = same_at (pc + 1) _ s.1.height
-      plain_action_gives Settle s = same_at (pc + 1) _ s.0.height
-      plain_action_gives Give s = gives_there pc h given now ∙ s.3
-      plain_action_gives Return s = gives_there pc h given now ∙ s.3
-      plain_action_gives EndStep s = tt
-      plain_action_gives _ s = same_at (pc + 1) _ s.1.0.height
+      plain_action_gives _ s = grind (arith, same_at, gives_there)
 
   -- an action fits wherever the bytes of its text lie
-  action_fits : (x : Action) (pc : ℕ) → FitsAt (bare p) (height_at R) pc (plain_action x) → FitsAt (linked p) (height_at R) pc x
-  action_fits (Plain o) pc h = h
-  action_fits _ pc h = h
-
-  action_gives : (x : Action) (pc : ℕ) → GivesAt (bare p) (result_at R) pc (plain_action x) → GivesAt (linked p) (result_at R) pc x
-  action_gives (Plain o) pc h = h
-  action_gives _ pc h = h
+  action_fits : (x : Action) (pc : ℕ) → FitsAt (bare p) (height_at R) pc (plain_action x) → GivesAt (bare p) (result_at R) pc (plain_action x)
+      → FitsAt (linked p) (height_at R) pc x × GivesAt (linked p) (result_at R) pc x
+  action_fits (Plain o) pc h g = (h, g)
+  action_fits _ pc h g = (h, g)
 
   module _ (is : plain_actions p.actions ≡ lowered R) (entries : p.entries ≡ entries_of R) where
     -- a function is entered with its variables
     pub entry_goes : (wanted : Gives) (f : ℕ) → IsCalled R wanted f → Goes R (all R) (table R) wanted (entry p f) (height (slots_of R wanted f) (parameters_of R wanted f) 0 0)
     entry_goes wanted f same =
-        let there : Entered R (entries_of R) (number_of R wanted f) (function_at R wanted f) = entered_at R wanted f in
+        let there = entered_at R wanted f in
         let begun = height (slots_of R wanted f) (parameters_of R wanted f) 0 0 in
-        let found : get_or p.entries f (length p.actions) ≡ there.at = get_or_from_slice_get p.entries f there.at (length p.actions)
-        (ap (λ l. slice_get l f) entries ∙ ap (slice_get (entries_of R)) (sym same) ∙ there.is) in
+        let found : get_or p.entries f (length p.actions) ≡ there.0 = get_or_from_slice_get p.entries f there.0 (length p.actions)
+        (ap (λ l. slice_get l f) entries ∙ ap (slice_get (entries_of R)) (sym same) ∙ there.1) in
         subst (λ n. Goes R (all R) (table R) wanted n begun) (sym found)
-        (subst (λ g. Goes R (all R) (table R) g there.at begun) (function_gives R wanted f) there.goes)
+        (subst (λ g. Goes R (all R) (table R) g there.0 begun) (function_gives R wanted f) there.2)
 
     few : (pc : ℕ) → AtMost (height_at R pc) (greatest_height R)
     few pc = none_greater (lowered_heights R) no_height no_height pc (search arith)
 
+    fits : (pc : ℕ) (x : Action) → slice_get p.actions pc ≡ Some x → FitsAt (linked p) (height_at R) pc x × GivesAt (linked p) (result_at R) pc x
+    fits pc x e =
+        let s = steps_at R pc (plain_action x) (subst (λ l. slice_get l pc ≡ Some (plain_action x)) is (slice_get-map plain_action p.actions pc ∙ ap (option_map plain_action) e)) in
+        action_fits x pc (plain_action_fits entry_goes s.0.1 pc s.0.0 (plain_action x) s.1 s.2) (plain_action_gives entry_goes s.0.1 pc s.0.0 s.1 (plain_action x) s.2)
+
     pub heights_fit : p.classes ≡ classes_linked R → HeightsFit (linked p) (height_at R) (result_at R) (greatest_height R).numbers (greatest_height R).names (places_in (greatest_height R))
     heights_fit classes = record {
-      at = λ pc x e.
-          let s = steps_at R pc (plain_action x) (subst (λ l. slice_get l pc ≡ Some (plain_action x)) is (slice_get-map plain_action p.actions pc ∙ ap (option_map plain_action) e)) in
-          action_fits x pc (plain_action_fits entry_goes s.0.1 pc s.0.0 (plain_action x) s.1 s.2);
-      results = λ pc x e.
-          let s = steps_at R pc (plain_action x) (subst (λ l. slice_get l pc ≡ Some (plain_action x)) is (slice_get-map plain_action p.actions pc ∙ ap (option_map plain_action) e)) in
-          action_gives x pc (plain_action_gives entry_goes s.0.1 pc s.0.0 s.1 (plain_action x) s.2);
+      at = λ pc x e. (fits pc x e).0;
+      results = λ pc x e. (fits pc x e).1;
       methods = λ from sign selector takes objects wanted to e.
           let found = methods_go R from sign selector takes objects wanted to (subst (λ cs. lookup cs from sign selector takes objects wanted ≡ Some to) classes e) in
           let same = there to (height (passes sign takes) objects 0 0) wanted found.0.height in

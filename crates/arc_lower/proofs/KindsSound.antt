@@ -24,16 +24,13 @@ use Rattle.arc_lower.proofs.CaseAnalysis.{by_test}
 abbrev pub IsOf : Kind → ℤ → Type 0
 IsOf kind v = converted kind v ≡ v
 
-low_of : (n : ℕ) → n < 4294967296 → cast_unsigned w64 (cast_signed w32 n) % 4294967296 ≡ n
-low_of n h = by_test (λ t. cast_unsigned w64 (if t then pos n else negsuc (4294967296 - suc n)) % 4294967296 ≡ n) (nat_lt n 2147483648)
-    (λ e. omega (arith, h))
-    (λ e. let le = ltb-false n 2147483648 e in omega (arith, h, le))
-
 low_again : (z : ℤ) → low_32 (low_32 z) ≡ low_32 z
 low_again z =
     let n = cast_unsigned w64 z % 4294967296 in
     let small : n < 4294967296 = omega arith in
-    ap (cast_signed w32) (low_of n small)
+    ap (cast_signed w32) (by_test (λ t. cast_unsigned w64 (if t then pos n else negsuc (4294967296 - suc n)) % 4294967296 ≡ n) (nat_lt n 2147483648)
+    (λ e. omega (arith, small))
+    (λ e. let le = ltb-false n 2147483648 e in omega (arith, small, le)))
 
 bit : (b : Bool) → IsOf k.Bool (if b then pos 0 else pos 1)
 bit true = refl
@@ -44,13 +41,9 @@ again k.Bool z = bit (is_zero z)
 again k.Int z = low_again z
 again _ z = refl
 
-small_bit : (b : Bool) → IsOf k.Int (if b then pos 0 else pos 1)
-small_bit true = refl
-small_bit false = refl
-
 -- a number of one kind is one of each that is as wide
 pub within_keeps : (a b : Kind) (v : ℤ) → is_within a b ≡ true → IsOf a v → IsOf b v
-within_keeps k.Bool k.Int v e h = subst (IsOf k.Int) h (small_bit (is_zero v))
+within_keeps k.Bool k.Int v e h = subst (IsOf k.Int) h (by_test (λ b. IsOf k.Int (if b then pos 0 else pos 1)) (is_zero v) (λ _. refl) (λ _. refl))
 within_keeps a k.Long v e h = refl
 within_keeps _ _ v e h = grind arith
 

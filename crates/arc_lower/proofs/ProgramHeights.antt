@@ -12,7 +12,7 @@ use Rattle.arc_spec.specs.Resolved.{Function, Commands}
 use Rattle.arc_spec.specs.Resolved as resolved
 use Rattle.arc_spec.specs.Meaning.{function_at, function_places}
 use Rattle.arc_code.specs.declared.effect.Height.{Height}
-use Rattle.arc_code.specs.declared.instr.Op.TheVariants.{Num}
+use Rattle.arc_code.specs.declared.instr.Op.TheVariants.{Num, Pop, Set}
 use Rattle.arc_code.specs.declared.instr.Instr.TheVariants.{Plain, Jump, Call, Return, Empty, EndStep}
 use Rattle.arc_code.specs.Effects.{passes, as_object}
 use Rattle.arc_ir.specs.declared.action.Target.TheVariants.{At}
@@ -23,11 +23,10 @@ use Rattle.arc_lower.specs.Heights.{height, between, next_height, walk, last_wal
 use Rattle.arc_lower.proofs.CaseAnalysis.{by_test}
 pub use Rattle.arc_lower.proofs.StubLookup.{end_is}
 use Rattle.arc_lower.proofs.StubLookup.{Both, both_split, marks_length, left_marks, entry_marks, marks_split, functions_split, function_found, stub, stub_marks, method_stub, Methods, Dealloc, Classes, methods_split, classes_split, start_stands, functions_stand, stubs_stand, Meets, Same, linked, lookup_meets, function_gives}
-use Rattle.arc_lower.proofs.StackEffect.{alike_same, slots_same, parameters_same, number_there, Types, types_then, types_last, tested, keep_types, passing_types, declare_types, take_types, own_types, BlockTypes}
-use Rattle.arc_lower.proofs.BlockEndHeight.{Keeps, block_ends}
+use Rattle.arc_lower.proofs.StackEffect.{Alike, alike_same, function_same, number_there, Types, types_then, types_last, tested, passing_types, declare_types, take_types, own_types}
 use Rattle.arc_lower.proofs.BlockStackEffect.{nothing_types, commands_type}
 use Rattle.arc_lower.proofs.RecountedSteps.{each_at}
-use Rattle.arc_lower.proofs.StepHeights.{some_same, Leaves, Empties, role, role_of, role_at, Clears, Stands, Goes, Free, calm_free, Steps, StepsAt, AllStep, step_then, opens_goes, Stays, none_goes, Row, row_of, row_front, row_back, typed_steps, AllTake, takes_stand, takes_step, block_steps}
+use Rattle.arc_lower.proofs.StepHeights.{some_same, Leaves, Empties, role, role_of, Stands, Goes, calm_free, Steps, StepsAt, AllStep, step_then, opens_goes, Stays, none_goes, action_steps, Row, row_of, rows_then, typed_steps, Emptied, way_stands, takes_step, block_walks}
 
 leaving_is : (given : Gives) → role (leaving_action given) ≡ Leaves
 leaving_is gives.Number = refl
@@ -98,111 +97,66 @@ module _ (R : resolved.Program) where
     abbrev Rows : ℕ → Height → List PlainAction → Type 0
     Rows pc h = Row R all table given base pc (walk h [])
 
-    statements_type : BlockTypes R 0 0 slots names place false true base done base
-    statements_type = commands_type R slots names place false (nothing_given place) (nothing_given place) (nothing_types R slots names place false) (nothing_types R slots names place false) cs
-
     empty_stays : (i : ℕ) → next_height R (Empty i) leaving ≡ leaving
     empty_stays i = alike_same _ _ (omega arith)
 
-    emptied_is : (n : ℕ) → suc n ≤ names → emptied (suc n) ≡ Empty (0 + n) ∷ emptied n
-    emptied_is n le = ap (λ b. (if b then Empty (0 + n) ∷ [] else []) ++ emptied n) (lt-ltb (0 + n) names (omega (arith, le)))
+    -- ---- it is left with its variables emptied, and with its result alone
 
-    emptied_ends : (n : ℕ) → n ≤ names → last_walk R base (walk leaving []) (emptied n) ≡ walk leaving []
-    emptied_ends zero le = refl
-    emptied_ends (suc n) le =
-        ap (last_walk R base (walk leaving [])) (emptied_is n le) ∙ ap (λ h. last_walk R base (walk h []) (emptied n)) (empty_stays (0 + n)) ∙ emptied_ends n
-        (omega (arith, le))
+    -- where it is left so, and each of these actions has what it needs
+    abbrev Left : ℕ → ℕ → Height → List PlainAction → Type 0
+    Left n pc h xs = Emptied R all table given n pc h × Step_all pc xs
 
-    pops_take : (n : ℕ) → AllTake R all table given base (pop_actions n)
-    pops_take zero = tt
-    pops_take (suc n) = (refl, pops_take n)
+    last_steps : (g : Gives) → given ≡ g → (pc : ℕ) (h : Height) → Alike h (height 1 0 0 names) → Steps R all table given h pc (leaving_action g)
+    last_steps gives.Number e pc h at = (at.0, at.1, at.2, e)
+    last_steps gives.Object e pc h at = (at.0, at.1, at.2, e, omega (arith, places, ap as_object e))
 
-    keep_takes : (n : ℕ) → AllTake R all table given base (keep_actions n)
-    keep_takes zero = tt
-    keep_takes (suc n) = (refl, pops_take n)
+    pops_left : (n pc : ℕ) (h : Height) → Alike h (height (suc n) 0 0 names) → Rows pc h (pop_actions n ++ last_action ∷ []) → Left 0 pc h (pop_actions n ++ last_action ∷ [])
+    pops_left zero pc h at f = (way_stands R all table given 0 pc h last_action Leaves refl (leaving_is given) f.0 f.1, (((h, given), f.0, last_steps given refl pc h at), tt))
+    pops_left (suc n) pc h at f =
+        let rest = pops_left n (pc + 1) (next_height R (Plain Pop) h) (omega arith) f.2 in
+        let one = takes_step R all table given Pop pc h refl f.0 f.1 (omega arith) rest.0 in (one.0, (one.1, rest.1))
 
-    keep_typed : Types R 0 0 leaving keep (height 1 0 0 names)
-    keep_typed = simp add-zero at (keep_types R 0 0 0 0 names slots 0)
+    keep_left : (n pc : ℕ) (h : Height) → Alike h (height (suc n) 0 0 names) → Rows pc h (keep_actions n ++ last_action ∷ []) → Left 0 pc h (keep_actions n ++ last_action ∷ [])
+    keep_left zero pc h at f = pops_left zero pc h at f
+    keep_left (suc n) pc h at f =
+        let rest = pops_left n (pc + 1) (next_height R (Plain (Set n)) h) (omega arith) f.2 in
+        let one = takes_step R all table given (Set n) pc h refl f.0 f.1 (omega arith) rest.0 in (one.0, (one.1, rest.1))
 
-    -- before so many variables are emptied the others are nil
-    abbrev Emptying : ℕ → ℕ → Type 0
-    Emptying n pc = Step_all pc (emptied n) × Stands R all table given pc leaving × ((k : ℕ) → Clears R all table k pc → k ≡ n) × Free R all table pc
-
-    emptying : (n pc : ℕ) → n ≤ names → Rows pc leaving (emptied n ++ (keep ++ last_action ∷ [])) → Emptying n pc
-    emptying zero pc le f = let there = takes_stand R all table given base pc (walk leaving []) keep last_action (leaving_is given) (keep_takes slots) f in (tt, there.0, there.1, there.2)
-    emptying (suc n) pc le f =
-        let is = emptied_is n le in
+    emptied_left : (n pc : ℕ) → n ≤ names → Rows pc leaving (emptied n ++ (keep ++ last_action ∷ [])) → Left n pc leaving (emptied n ++ (keep ++ last_action ∷ []))
+    emptied_left zero pc le f = keep_left slots pc leaving (omega arith) f
+    emptied_left (suc n) pc le f =
+        let is : emptied (suc n) ≡ Empty (0 + n) ∷ emptied n = ap (λ b. (if b then Empty (0 + n) ∷ [] else []) ++ emptied n) (lt-ltb (0 + n) names (omega (arith, le))) in
         let row = subst (λ xs. Rows pc leaving (xs ++ (keep ++ last_action ∷ []))) is f in
-        let at : role_at R all table pc ≡ Empties (0 + n) = ap role_of row.1 in
-        let there = emptying n (pc + 1) (omega (arith, le))
-        (subst (λ h. Rows (pc + 1) h (emptied n ++ (keep ++ last_action ∷ []))) (empty_stays (0 + n)) row.2) in
-        let next = subst (Stands R all table given (pc + 1)) (sym (empty_stays (0 + n))) there.1 in (
-          subst (Step_all pc) (sym is) (((leaving, given), row.0, (omega (arith, le), next, λ k c. let same = there.2 k c in inl (omega (arith, same)), there.3)), there.0),
-          record { height = row.0; plain_action = Empty (0 + n); is = row.1; no_end = λ end. cc },
-          only at,
-          calm_free R all table pc (Empties (0 + n)) tt at,
+        let rest = emptied_left n (pc + 1) (omega (arith, le)) (subst (λ h. Rows (pc + 1) h (emptied n ++ (keep ++ last_action ∷ []))) (empty_stays (0 + n)) row.2) in
+        let next = subst (Stands R all table given (pc + 1)) (sym (empty_stays (0 + n))) rest.0.0 in (
+          way_stands R all table given (suc n) pc leaving (Empty (0 + n)) (Empties (0 + n)) (omega arith) refl row.0 row.1,
+          subst (λ xs. Step_all pc (xs ++ (keep ++ last_action ∷ []))) (sym is) (((leaving, given), row.0, (omega (arith, le), next, λ k c. let same = rest.0.1 k c in inl (omega (arith, same)), rest.0.2)), rest.1),
         )
-      where
-        only : role_at R all table pc ≡ Empties (0 + n) → (k : ℕ) → Clears R all table k pc → k ≡ suc n
-        only at zero (zero, y) = cc
-        only at zero (suc m, y) = cc
-        only at (suc j) c = let same : j ≡ 0 + n = cc in omega (arith, same)
 
-    module _ (leave_row : Rows place leaving leave) (body_row : Rows entered begun body) where
-      exit : Emptying kept place
-      exit = emptying kept place (omega (arith, places)) leave_row
-
-      exit_goes : Goes_to given place leaving
-      exit_goes = (exit.1, λ k c. let e = exit.2 k c in omega (arith, e, places), exit.3)
-
-      rows : Rows start base (statements ++ end)
-      rows = subst (λ w. Row R all table given base start w (statements ++ end)) (types_last R 0 0 base begun [] opening base opening_typed) (row_back R all table given base entered (walk begun []) opening (statements ++ end) body_row)
-
-      ends : (after : List Height) × (last_walk R base (walk base []) statements ≡ walk base after) × Keeps R 0 0 slots names place base true [] after
-      ends = block_ends R 0 0 slots names place base (Between start no_turn) false true done base base [] (refl, tt, tt) statements_type
-
-      last : Row R all table given base (start + length statements) (walk base ends.0) end
-      last = subst (λ w. Row R all table given base (start + length statements) w end) ends.1 (row_back R all table given base start (walk base []) statements end rows)
-
-      statements_go : Goes_to given start base × Step_all start statements
-      statements_go = block_steps R all table given slots names place exit_goes (Between start no_turn) no_turn false true done base base start [] (λ s. refl) (λ s. absurd (false≢true s)) (refl, tt, tt) statements_type (row_front R all table given base start (walk base []) statements end rows) (opens_goes R all table given (start + length statements) base (Plain (Num (pos 0))) refl last.0 last.1)
-
-      opening_goes : Goes_to given entered begun × Step_all entered opening
-      opening_goes = typed_steps R all table given base entered begun [] opening base opening_typed (row_front R all table given base entered (walk begun []) opening (statements ++ end) body_row) statements_go.0
-
-      -- where its last action stands
-      last_step : (pc : ℕ) (g : Gives) → given ≡ g → Steps R all table given (height 1 0 0 names) pc (leaving_action g)
-      last_step pc gives.Number e = (refl, refl, refl, e)
-      last_step pc gives.Object e = (refl, refl, refl, e, omega (arith, places, ap as_object e))
-
-      leave_steps : Step_all place leave
-      leave_steps =
-          let q = place + length (emptied kept) in
-          let later = subst (λ w. Row R all table given base q w (keep ++ last_action ∷ [])) (emptied_ends kept (omega (arith, places))) (row_back R all table given base place (walk leaving []) (emptied kept) (keep ++ last_action ∷ []) leave_row) in
-          let one = subst (λ w. Row R all table given base (q + length keep) w (last_action ∷ [])) (types_last R 0 0 base leaving [] keep (height 1 0 0 names) keep_typed) (row_back R all table given base q (walk leaving []) keep (last_action ∷ []) later) in
-          step_then R all table place (emptied kept) (keep ++ last_action ∷ []) exit.0
-          (step_then R all table q keep (last_action ∷ []) (takes_step R all table given base q leaving [] keep (height 1 0 0 names) last_action (leaving_is given) (keep_takes slots) keep_typed later) (((height 1 0 0 names, given), one.0, last_step (q + length keep) given refl), tt))
-
-      -- a run may enter it, and each of its actions has what it needs
-      pub function_steps : Goes_to given entered begun × Step_all place (leave ++ body)
-      function_steps =
-          let up : next_height R (Plain (Num (pos 0))) base ≡ leaving = alike_same _ _ (omega arith) in
-          let q = start + length statements in
-          let jump = opens_goes R all table given (q + 1) _ (Jump (At place)) refl last.2.0 last.2.1 in (
-            opening_goes.0,
-            step_then R all table place leave body leave_steps (step_then R all table entered opening (statements ++ end) opening_goes.1 (step_then R all table start statements end statements_go.1
-                (((base, given), last.0, (omega arith, (jump.0, λ k c. inr (jump.1 k c)), inl jump.2)), (((leaving, given), last.2.0 ∙ ap (λ h. Some (h, given)) up, (0, omega arith, exit_goes)), tt)))),
-          )
+    -- a run may enter it, and each of its actions has what it needs
+    pub function_steps : Rows place leaving leave → Rows entered begun body → Goes_to given entered begun × Step_all place (leave ++ body)
+    function_steps leave_row body_row =
+        let left = emptied_left kept place (omega (arith, places)) leave_row in
+        let exit : Goes_to given place leaving = (left.0.0, λ k c. let e = left.0.1 k c in omega (arith, e, places), left.0.2) in
+        let opened = rows_then R all table given base entered (walk begun []) opening (statements ++ end) (types_last R 0 0 base begun [] opening base opening_typed) body_row in
+        let walks = block_walks R all table given 0 0 slots names place base (Between start no_turn) false true done base base [] (refl, tt, tt)
+        (commands_type R slots names place false (nothing_given place) (nothing_given place) (nothing_types R slots names place false) (nothing_types R slots names place false) cs) in
+        let stated = rows_then R all table given base start (walk base []) statements end walks.is opened.1 in
+        let last = stated.1 in
+        let q = start + length statements in
+        let up : next_height R (Plain (Num (pos 0))) base ≡ leaving = alike_same _ _ (omega arith) in
+        let jump = opens_goes R all table given (q + 1) _ (Jump (At place)) refl last.2.0 last.2.1 in
+        let statements_go = walks.go start no_turn (refl, refl, exit) (λ s. refl) (λ s. absurd (false≢true s)) stated.0 (opens_goes R all table given q base (Plain (Num (pos 0))) refl last.0 last.1) in
+        let opening_goes = typed_steps R all table given base entered begun [] opening base opening_typed opened.0 statements_go.0 in (
+          opening_goes.0,
+          step_then R all table place leave body left.1 (step_then R all table entered opening (statements ++ end) opening_goes.1 (step_then R all table start statements end statements_go.1
+              (((base, given), last.0, action_steps R all table given (Plain (Num (pos 0))) q base (omega arith) jump), (((leaving, given), last.2.0 ∙ ap (λ h. Some (h, given)) up, (0, omega arith, exit)), tt)))),
+        )
 
   -- ---- all functions
 
   abbrev row : (given : Gives) (base h : Height) (pc : ℕ) (xs : List PlainAction) → Both R pc (in_function given (heights R base h xs)) xs → Row R all table given base pc (walk h []) xs
   row given base h pc xs f = row_of R all table given base pc (walk h []) xs f.0 f.1
-
-  pub record Entered (entries : List ℕ) (n : ℕ) (f : Function) : Type 0 where
-    pub at : ℕ
-    pub is : slice_get entries n ≡ Some at
-    pub goes : Goes R all table f.gives at (height f.slots (object_parameters f) 0 0)
 
   -- a function begins with its places, and takes what it is given
   opening_types : (g : Function) → Types R 0 0 (height g.slots (object_parameters g) 0 0) (opening_actions g) (between g.slots (function_places g))
@@ -216,9 +170,9 @@ module _ (R : resolved.Program) where
       let own = if g.owns then own_actions places else [] in
       let few : objects ≤ places - owned_by g = grind (arith, nat_tests) in
       types_then R 0 0 begun (declare_actions places) all_declared (take_actions (owned_by g) objects ++ own) base
-      (simp add-zero at (declare_types R 0 0 places slots objects 0))
+      (declare_types R 0 0 places _ _ refl (omega arith))
       (types_then R 0 0 all_declared (take_actions (owned_by g) objects) base own base
-      (simp add-zero at (take_types R 0 0 (owned_by g) objects slots 0 0 places (omega (arith, few))))
+      (take_types R 0 0 (owned_by g) objects _ _ (omega (arith, few)) (omega arith))
       (by_test (λ b. Types R 0 0 base (if b then own_actions places else []) base) g.owns (λ e. own_types R 0 0 places slots places (omega arith)) (λ e. refl)))
 
   -- a run may enter a function, and each of its actions has what it needs
@@ -251,9 +205,6 @@ module _ (R : resolved.Program) where
   abbrev called : (wanted : Gives) → (f : ℕ) → Height
   called wanted f = height (slots_of R wanted f) (parameters_of R wanted f) 0 0
 
-  fit_typed : (wanted : Gives) (values objects f : ℕ) → Types R 0 0 (height values objects 0 0) (passing_actions R wanted f values objects) (called wanted f)
-  fit_typed wanted values objects f = simp add-zero at (passing_types R 0 0 wanted f values objects 0 0 0 0)
-
   -- what comes to that height goes on with an action that stays there
   passing_goes : (wanted : Gives) (values objects f place : ℕ) (x : PlainAction) (later : List PlainAction) → role x ≡ Stays
       → Row R all table wanted zeroed place (walk (height values objects 0 0) []) (passing_actions R wanted f values objects ++ x ∷ later)
@@ -262,11 +213,10 @@ module _ (R : resolved.Program) where
   passing_goes wanted values objects f place x later stays rows =
       let xs = passing_actions R wanted f values objects in
       let h = height values objects 0 0 in
-      let typed = fit_typed wanted values objects f in
-      let next = row_back R all table wanted zeroed place (walk h []) xs (x ∷ later) rows in
-      let last = subst (λ w. Row R all table wanted zeroed (place + length xs) w (x ∷ later)) (types_last R 0 0 zeroed h [] xs (called wanted f) typed) next in
-      let goes = opens_goes R all table wanted (place + length xs) (called wanted f) x stays last.0 last.1 in
-      (typed_steps R all table wanted zeroed place h [] xs (called wanted f) typed (row_front R all table wanted zeroed place (walk h []) xs (x ∷ later) rows) goes, last)
+      let typed : Types R 0 0 h xs (called wanted f) = simp add-zero at (passing_types R 0 0 wanted f values objects 0 0 0 0) in
+      let parts = rows_then R all table wanted zeroed place (walk h []) xs (x ∷ later) (types_last R 0 0 zeroed h [] xs (called wanted f) typed) rows in
+      let goes = opens_goes R all table wanted (place + length xs) (called wanted f) x stays parts.1.0 parts.1.1 in
+      (typed_steps R all table wanted zeroed place h [] xs (called wanted f) typed parts.0 goes, parts.1)
 
   stub_goes : (wanted : Gives) (values objects f place : ℕ) → Both R place (stub_marks R wanted values objects f) (stub R wanted values objects f)
       → Goes_to wanted place (height values objects 0 0)
@@ -300,14 +250,12 @@ module _ (R : resolved.Program) where
   -- ---- what messages and ends of objects find
 
   meets_goes : (wanted : Gives) (values objects : ℕ) (meant stands : Option ℕ) (to : ℕ) → Meets R wanted values objects meant stands → stands ≡ Some to → Goes_to wanted to (height values objects 0 0)
-  meets_goes wanted values objects None None to meets e = cc
   meets_goes wanted values objects (Some f) (Some place) to meets e = subst (λ n. Goes_to wanted n (height values objects 0 0)) (some_same place to e) (stub_goes wanted values objects f place meets).0
-  meets_goes wanted values objects _ _ to meets e = absurd meets
+  meets_goes wanted values objects _ _ to meets e = absurd (grind arith)
 
   same_goes : (a b : Option Class) (d : Class) (to : ℕ) → Same R a b → b ≡ Some d → d.dealloc ≡ Some to → Goes_to gives.Number to zeroed
-  same_goes None None d to same is e = cc
   same_goes (Some c) (Some x) d to same is e = meets_goes gives.Number 0 0 c.dealloc x.dealloc to same.2 (ap (λ (y : Class). y.dealloc) (some_same x d is) ∙ e)
-  same_goes _ _ d to same is e = absurd same
+  same_goes _ _ d to same is e = absurd (grind arith)
 
   pub methods_go : (from : Option ℕ) (sign : Sign) (selector takes objects : ℕ) (wanted : Gives) (to : ℕ) → lookup (classes_linked R) from sign selector takes objects wanted ≡ Some to → Goes_to wanted to (height (passes sign takes) objects 0 0)
   methods_go from sign selector takes objects wanted to = meets_goes wanted (passes sign takes) objects (lookup R.classes from sign selector takes objects wanted) _ to (lookup_meets R (classes_linked R) (linked R) sign from selector takes objects wanted)
@@ -321,17 +269,18 @@ module _ (R : resolved.Program) where
   function_list = functions_actions R (length (start_actions R)) (all_functions R)
 
   -- a function is entered with its variables
-  pub entered_at : (wanted : Gives) (f : ℕ) → Entered (entries_of R) (number_of R wanted f) (function_at R wanted f)
+  pub entered_at : (wanted : Gives) (f : ℕ) → (at : ℕ) × (slice_get (entries_of R) (number_of R wanted f) ≡ Some at)
+      × Goes R all table (function_at R wanted f).gives at (height (slots_of R wanted f) (parameters_of R wanted f) 0 0)
   entered_at wanted f =
       let there = function_found R wanted f in
-      record { at = entry_of there.place (function_at R wanted f); is = there.entry; goes = (g_steps there.place (function_at R wanted f) there.code).0 }
+      (entry_of there.place (function_at R wanted f), there.entry, (g_steps there.place (function_at R wanted f) there.code).0)
 
   target : (wanted : Gives) (f : ℕ) → Goes_to wanted (slice_index_or (entries_of R) (number_of R wanted f) 0) (called wanted f)
   target wanted f =
       let e = entered_at wanted f in
       subst (λ n. Goes_to wanted n (called wanted f))
-      (sym (get_or_from_slice_get (entries_of R) (number_of R wanted f) e.at 0 e.is))
-      (subst (λ g. Goes_to g e.at (called wanted f)) (function_gives R wanted f) e.goes)
+      (sym (get_or_from_slice_get (entries_of R) (number_of R wanted f) e.0 0 e.1))
+      (subst (λ g. Goes_to g e.0 (called wanted f)) (function_gives R wanted f) e.2)
 
   abbrev zeros : List PlainAction
   zeros = passing_actions R gives.Number R.main 0 0
@@ -357,8 +306,8 @@ module _ (R : resolved.Program) where
   start_steps =
       let q = 0 + length zeros in
       let rest = main_goes.1.2 in
-      let same = slots_same R gives.Number R.main in
-      let other = parameters_same R gives.Number R.main in
+      let same = ap (λ (g : Function). g.slots) (function_same R gives.Number R.main) in
+      let other = ap object_parameters (function_same R gives.Number R.main) in
       let after : next_height R main_call (called gives.Number R.main) ≡ height 1 0 0 0 = alike_same _ _ (omega (arith, same, other)) in
       let one = rest.0 ∙ ap (λ h. Some (h, gives.Number)) after in
       let home : Stands R all table gives.Number (q + 1) (height 1 0 0 0) = record { height = one; plain_action = Return; is = rest.1; no_end = λ end. cc } in

@@ -38,9 +38,6 @@ set_deep : {A : Type 0} (values stack : List A) (n m : ℕ) (u : A) → n ≡ le
 set_deep [] stack n m u e = let h : n ≡ m = omega arith in ap (λ q. slice_set stack q u) h
 set_deep (v ∷ values) stack n m u e = set_deep values (v ∷ stack) n (suc m) u (omega arith)
 
-pub set_onto : {A : Type 0} (values stack : List A) (v u : A) → slice_set (onto values (v ∷ stack)) (length values) u ≡ onto values (u ∷ stack)
-set_onto values stack v u = set_deep values (v ∷ stack) (length values) 0 u (omega arith)
-
 -- a variable below operands, of which the first one lies deepest
 pub get_local : (locals below : List ℤ) (i n : ℕ) → n + suc i ≡ length locals → slice_get (onto locals below) n ≡ Some (local_at locals i)
 get_local [] below i n e = let h : n + suc i ≡ 0 = e in absurd (omega (arith, h))
@@ -70,9 +67,6 @@ kept n = pos (n % 2 ^ 32)
 
 pub kept_counted : (n : ℕ) (bytes : List ℕ) → counted (kept n) bytes ≡ kept (n + length bytes)
 kept_counted n bytes = ap pos (ap (λ x. (x + length bytes) % 2 ^ 32) (mod-mod n (2 ^ 32)) ∙ mod-add-mod n (2 ^ 32) (length bytes))
-
-pub kept_count : (bytes : List ℕ) → converted k.Int (kept (length bytes)) ≡ byte_count bytes
-kept_count bytes = ap (cast_signed w32) (mod-mod (length bytes) (2 ^ 32))
 
 -- ---- what lies on others, as one list before them
 
@@ -175,7 +169,7 @@ module _ (p : Program) (frames : List ReturnFrame) (rs : List ℕ) where
   pub keeps_pass : (values stack : List ℤ) (c : ℤ) (w : World) → Passes (keep_actions (length values)) (c ∷ onto values stack) w (c ∷ stack) w
   keeps_pass [] stack c w = no_crosses
   keeps_pass (v ∷ values) stack c w =
-      then_crosses (one_crosses (λ pc. rw (get_onto values stack v, set_onto values stack v c) shows_nothing))
+      then_crosses (one_crosses (λ pc. rw (get_onto values stack v, set_deep values (v ∷ stack) (length values) 0 c (omega arith)) shows_nothing))
       (pops_pass w values (c ∷ stack))
 
   pub print_passes : (pieces : List Piece) (values stack : List ℤ) (w : World)
@@ -183,8 +177,9 @@ module _ (p : Program) (frames : List ReturnFrame) (rs : List ℕ) where
   print_passes pieces values stack w =
       let bytes = formatted pieces values in
       let e : 0 + length bytes ≡ length bytes = omega arith in
+      let same : converted k.Int (kept (length bytes)) ≡ byte_count bytes = ap (cast_signed w32) (mod-mod (length bytes) (2 ^ 32)) in
       then_crosses (one_crosses (λ pc. shows_nothing)) (then_crosses (rw e at (format_passes pieces values stack 0 w))
-      (then_crosses {xs = Plain (Narrow k.Int) ∷ []} (rw (← kept_count bytes) (one_crosses (λ pc. shows_nothing)))
+      (then_crosses {xs = Plain (Narrow k.Int) ∷ []} (rw (← same) (one_crosses (λ pc. shows_nothing)))
       (keeps_pass values stack (byte_count bytes) (prints bytes w))))
 
 -- ---- A run makes what is given to a function its variables.

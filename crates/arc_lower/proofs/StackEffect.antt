@@ -51,13 +51,6 @@ pub function_same : (P : Program) (wanted : Gives) (f : ℕ) → function_at P w
 function_same P wanted f = let n = number_of_nothing P wanted in
     grind (arith, out_of_list P wanted P.functions n (none_gives P wanted P.functions n (past_all P wanted)), out_of_list P wanted P.functions f)
 
-pub slots_same : (P : Program) (wanted : Gives) (f : ℕ) → slots_of P wanted (number_of P wanted f) ≡ slots_of P wanted f
-slots_same P wanted f = ap (λ (g : Function). g.slots) (function_same P wanted f)
-
--- and takes as many objects
-pub parameters_same : (P : Program) (wanted : Gives) (f : ℕ) → parameters_of P wanted (number_of P wanted f) ≡ parameters_of P wanted f
-parameters_same P wanted f = ap object_parameters (function_same P wanted f)
-
 -- ---- heights
 
 pub heights_same : (a b c d n m t v : ℕ) → a ≡ n → b ≡ m → c ≡ t → d ≡ v → height a b c d ≡ height n m t v
@@ -69,10 +62,6 @@ Alike h i = (h.numbers ≡ i.numbers) × (h.names ≡ i.names) × (h.temporaries
 
 pub alike_same : (h i : Height) → Alike h i → h ≡ i
 alike_same h i e = heights_same _ _ _ _ _ _ _ _ e.0 e.1 e.2 e.3
-
-pred_less : (n : ℕ) → pred n ≤ n
-pred_less zero = omega arith
-pred_less (suc n) = omega arith
 
 -- a test leaves a number above the variables
 abbrev pub tested : (slots names : ℕ) → Height
@@ -132,124 +121,88 @@ module _ (P : Program) (r s : ℕ) where
   types_then h [] g ys i first next = subst (λ x. Types x ys i) (sym first) next
   types_then h (x ∷ xs) g ys i first next = (first.0, types_then (next_height P x h) xs g ys i first.1 next)
 
-  types_at : (h i : Height) (xs : List PlainAction) (g j : Height) → Types h xs g → Alike h i → Alike g j → Types i xs j
-  types_at h i xs g j t e f = subst (λ x. Types x xs j) (alike_same h i e) (subst (Types h xs) (alike_same g j f) t)
+  -- ---- numbers, from any height and to any height that have so many
 
-  -- ---- numbers alone
+  pub pops_type : (n : ℕ) (h g : Height) → Alike h (record g { numbers = n + g.numbers }) → Types h (pop_actions n) g
+  pops_type zero h g e = alike_same _ _ (omega arith)
+  pops_type (suc n) h g e = (omega arith, pops_type n _ _ (omega arith))
 
-  module _ (b c d : ℕ) where
-    numbers_same : (taken given a n : ℕ) → a - taken + given ≡ n → height (a - taken + given) (b - 0 + 0) (c + 0) (d + 0) ≡ height n b c d
-    numbers_same taken given a n e = alike_same _ _ (omega (arith, e))
+  pub keep_types : (n : ℕ) (h g : Height) → 1 ≤ g.numbers → Alike h (record g { numbers = n + g.numbers }) → Types h (keep_actions n) g
+  keep_types zero h g some e = alike_same _ _ (omega arith)
+  keep_types (suc n) h g some e = (omega arith, pops_type n _ _ (omega arith))
 
-    abbrev pub Counts : (a : ℕ) → List PlainAction → (n : ℕ) → Type 0
-    Counts a xs n = Types (height a b c d) xs (height n b c d)
+  zeros_type : (n : ℕ) (h g : Height) → Alike (record h { numbers = n + h.numbers }) g → Types h (zero_actions n) g
+  zeros_type zero h g e = alike_same _ _ (omega arith)
+  zeros_type (suc n) h g e = (omega arith, zeros_type n _ _ (omega arith))
 
-    pub counts_then : (a : ℕ) (xs : List PlainAction) (n : ℕ) (ys : List PlainAction) (u : ℕ) → Counts a xs n → Counts n ys u → Counts a (xs ++ ys) u
-    counts_then a xs n ys u first next = types_then (height a b c d) xs (height n b c d) ys (height u b c d) first next
+  -- ---- formats, above the count of bytes
 
-    -- an operation before others, and an operation alone
-    pub op : (taken given a : ℕ) (o : Op) (xs : List PlainAction) (n u : ℕ) → operation_effect o ≡ on_numbers taken given → Reaches o (height (a + r) b c (d + s)) → a - taken + given ≡ n → Counts n xs u → Counts a (Plain o ∷ xs) u
-    op taken given a o xs n u e needs count next =
-        (needs, subst (λ h. Types h xs (height u b c d)) (sym (ap (λ (f : Effect). after_effect (height a b c d) f) e ∙ numbers_same taken given a n count)) next)
+  parts_type : (full : ℕ) (bytes : List ℕ) (h g : Height) → 1 ≤ g.numbers → Alike h g → Types h (part_actions full bytes) g
+  parts_type zero bytes h g some e = (omega arith, alike_same _ _ (omega arith))
+  parts_type (suc full) bytes h g some e = (omega arith, parts_type full (drop MOST_TEXT bytes) _ _ some (omega arith))
 
-    pub one : (taken given a : ℕ) (o : Op) (n : ℕ) → operation_effect o ≡ on_numbers taken given → Reaches o (height (a + r) b c (d + s)) → a - taken + given ≡ n → Counts a (Plain o ∷ []) n
-    one taken given a o n e needs count = op taken given a o [] n n e needs count refl
+  -- the values that aren't printed yet lie below the count, the first one deepest
+  format_types : (pieces : List Piece) (rest : ℕ) (h g : Height) → suc rest ≤ g.numbers → Alike h g → Types h (format_actions pieces rest) g
+  format_types [] rest h g le e = alike_same _ _ (omega arith)
+  format_types (Bytes bytes ∷ others) rest h g le e =
+      types_then h (piece_actions (Bytes bytes) rest) g (format_actions others rest) g (parts_type ((length bytes - 1) / MOST_TEXT) bytes h g (omega arith) e)
+      (format_types others rest g g le (omega arith))
+  format_types (Decimal ∷ others) (suc rest) h g le e = (omega arith, (omega arith, format_types others rest _ g (omega arith) (omega arith)))
+  format_types (Character ∷ others) (suc rest) h g le e = (omega arith, (omega arith, format_types others rest _ g (omega arith) (omega arith)))
+  format_types (_ ∷ others) zero h g le e = format_types others zero h g le e
 
-    pub pops_type : (n a : ℕ) → Counts (n + a) (pop_actions n) a
-    pops_type zero a = ap (λ x. height x b c d) (omega arith)
-    pops_type (suc n) a = op 1 0 (suc n + a) Pop (pop_actions n) (n + a) a refl (omega arith) (omega arith) (pops_type n a)
+  pub print_types : (pieces : List Piece) (n a : ℕ) (h g : Height) → g.numbers ≡ suc a → Alike h (record g { numbers = n + a }) → Types h (print_actions pieces n) g
+  print_types pieces n a h g some e = (
+    omega arith,
+    types_then _ (format_actions pieces n) (record g { numbers = suc (n + a) }) (Plain (Narrow k.Int) ∷ keep_actions n) g
+        (format_types pieces n _ _ (omega arith) (omega arith)) (omega arith, keep_types n _ _ (omega arith) (omega arith)),
+  )
 
-    pub keep_types : (n a : ℕ) → Counts (suc (n + a)) (keep_actions n) (suc a)
-    keep_types zero a = ap (λ x. height x b c d) (omega arith)
-    keep_types (suc n) a = op 1 0 (suc (suc n + a)) (Set n) (pop_actions n) (n + suc a) (suc a) refl (omega arith) (omega arith) (pops_type n (suc a))
+  -- ---- variables that hold numbers
 
-    pub zeros_type : (n a : ℕ) → Counts a (zero_actions n) (n + a)
-    zeros_type zero a = ap (λ x. height x b c d) (omega arith)
-    zeros_type (suc n) a = op 0 1 a (Num (pos 0)) (zero_actions n) (suc a) (suc n + a) refl (omega arith) (omega arith) (types_at _ _ _ _ _ (zeros_type n (suc a)) (omega arith) (omega arith))
+  module _ (b c d slots depth : ℕ) where
+    pub get_types : (i : Location) (a : ℕ) → depth + slots ≤ a + r → Types (height a b c d) (get_actions slots depth i) (height (suc a) b c d)
+    get_types (Global i) a h = (omega arith, alike_same _ _ (omega arith))
+    get_types (Local i) a h = grind (arith, ltb-true i slots, heights_same)
 
-    pub fit_types : (values slots a : ℕ) → Counts (values + a) (fit_actions values slots) (slots + a)
-    fit_types values slots a =
-        let rest = values + a - (values - slots) in
-        counts_then (values + a) (pop_actions (values - slots)) rest (zero_actions (slots - values)) (slots + a)
-        (types_at _ _ _ _ _ (pops_type (values - slots) rest) (omega arith) (omega arith))
-        (types_at _ _ _ _ _ (zeros_type (slots - values) rest) (omega arith) (omega arith))
-
-    -- ---- formats, above the count of bytes
-
-    print_one : (bytes : List ℕ) (a : ℕ) → Counts (suc a) (PrintText bytes ∷ []) (suc a)
-    print_one bytes a = (omega arith, numbers_same 1 1 (suc a) (suc a) (omega arith))
-
-    parts_type : (full : ℕ) (bytes : List ℕ) (a : ℕ) → Counts (suc a) (part_actions full bytes) (suc a)
-    parts_type zero bytes a = print_one bytes a
-    parts_type (suc full) bytes a = counts_then (suc a) (PrintText (take MOST_TEXT bytes) ∷ []) (suc a) (part_actions full (drop MOST_TEXT bytes)) (suc a) (print_one (take MOST_TEXT bytes) a) (parts_type full (drop MOST_TEXT bytes) a)
-
-    -- the first of the values that aren't printed yet, which lie below the count
-    conversion_types : (o : Op) (rest a : ℕ) → rest ≤ a → operation_effect o ≡ on_numbers 2 1 → Reaches o (height (suc (suc a) + r) b c (d + s)) → Counts (suc a) (conversion_actions (Plain o) rest) (suc a)
-    conversion_types o zero a le e needs = refl
-    conversion_types o (suc rest) a le e needs = op 0 1 (suc a) (Get (suc rest)) (Plain o ∷ []) (suc (suc a)) (suc a) refl (omega (arith, le)) (omega arith) (one 2 1 (suc (suc a)) o (suc a) e needs (omega arith))
-
-    format_types : (pieces : List Piece) (rest a : ℕ) → rest ≤ a → Counts (suc a) (format_actions pieces rest) (suc a)
-    format_types [] rest a le = refl
-    format_types (Bytes bytes ∷ others) rest a le = counts_then (suc a) (piece_actions (Bytes bytes) rest) (suc a) (format_actions others rest) (suc a) (parts_type ((length bytes - 1) / MOST_TEXT) bytes a) (format_types others rest a le)
-    format_types (Decimal ∷ others) rest a le =
-        counts_then (suc a) (piece_actions Decimal rest) (suc a) (format_actions others (left_after Decimal rest)) (suc a) (conversion_types PrintNum rest a le refl (omega arith)) (format_types others (left_after Decimal rest) a (omega (arith, le, pred_less rest)))
-    format_types (Character ∷ others) rest a le =
-        counts_then (suc a) (piece_actions Character rest) (suc a) (format_actions others (left_after Character rest)) (suc a) (conversion_types PrintByte rest a le refl (omega arith)) (format_types others (left_after Character rest) a (omega (arith, le, pred_less rest)))
-
-    pub print_types : (pieces : List Piece) (n a : ℕ) → Counts (n + a) (print_actions pieces n) (suc a)
-    print_types pieces n a =
-        op 0 1 (n + a) (Num (pos 0)) _ (suc (n + a)) (suc a) refl (omega arith) (omega arith)
-        (counts_then (suc (n + a)) (format_actions pieces n) (suc (n + a)) (Plain (Narrow k.Int) ∷ [] ++ keep_actions n) (suc a) (format_types pieces n (n + a) (omega arith))
-        (op 1 1 (suc (n + a)) (Narrow k.Int) (keep_actions n) (suc (n + a)) (suc a) refl (omega arith) (omega arith) (keep_types n a)))
-
-    -- ---- variables that hold numbers, and calls
-
-    pub get_types : (slots depth : ℕ) (i : Location) (a : ℕ) → depth + slots ≤ a + r → Counts a (get_actions slots depth i) (suc a)
-    get_types slots depth (Global i) a h = one 0 1 a (ops.GetGlobal i) (suc a) refl (omega arith) (omega arith)
-    get_types slots depth (Local i) a h = grind (arith, ltb-true i slots, heights_same)
-
-    pub set_types : (slots depth : ℕ) (i : Location) (a : ℕ) → depth + slots ≤ a + r → Counts (suc a) (set_actions slots depth i) (suc a)
-    set_types slots depth (Global i) a h =
-        op 0 1 (suc a) (Get 0) (Plain (ops.SetGlobal i) ∷ []) (suc (suc a)) (suc a) refl (omega arith) (omega arith) (one 1 0 (suc (suc a)) (ops.SetGlobal i) (suc a) refl (omega arith) (omega arith))
-    set_types slots depth (Local i) a h = grind (arith, ltb-true i slots, heights_same)
+    pub set_types : (i : Location) (a : ℕ) → depth + slots ≤ a + r → Types (height (suc a) b c d) (set_actions slots depth i) (height (suc a) b c d)
+    set_types (Global i) a h = (omega arith, (omega arith, alike_same _ _ (omega arith)))
+    set_types (Local i) a h = grind (arith, ltb-true i slots, heights_same)
 
   -- ---- references, and calls
 
-  pub forgets_type : (n a b c d : ℕ) → Types (height a (n + b) c d) (forget_actions n) (height a b c d)
-  forgets_type zero a b c d = alike_same _ _ (omega arith)
-  forgets_type (suc n) a b c d = (omega arith, types_at _ _ _ _ _ (forgets_type n a b c d) (omega arith) (omega arith))
+  pub forgets_type : (n : ℕ) (h g : Height) → Alike h (record g { names = n + g.names }) → Types h (forget_actions n) g
+  forgets_type zero h g e = alike_same _ _ (omega arith)
+  forgets_type (suc n) h g e = (omega arith, forgets_type n _ _ (omega arith))
 
-  nils_type : (n a b c d : ℕ) → Types (height a b c d) (nil_actions n) (height a (n + b) c d)
-  nils_type zero a b c d = alike_same _ _ (omega arith)
-  nils_type (suc n) a b c d = (omega arith, types_at _ _ _ _ _ (nils_type n a (suc b) c d) (omega arith) (omega arith))
-
-  fit_objects_type : (objects parameters a b c d : ℕ)
-      → Types (height a (objects + b) c d) (fit_object_actions objects parameters) (height a (parameters + b) c d)
-  fit_objects_type objects parameters a b c d =
-      let rest = objects + b - (objects - parameters) in
-      types_then _ (forget_actions (objects - parameters)) (height a rest c d) (nil_actions (parameters - objects)) _
-      (types_at _ _ _ _ _ (forgets_type (objects - parameters) a rest c d) (omega arith) (omega arith))
-      (types_at _ _ _ _ _ (nils_type (parameters - objects) a rest c d) (omega arith) (omega arith))
+  nils_type : (n : ℕ) (h g : Height) → Alike (record h { names = n + h.names }) g → Types h (nil_actions n) g
+  nils_type zero h g e = alike_same _ _ (omega arith)
+  nils_type (suc n) h g e = (omega arith, nils_type n _ _ (omega arith))
 
   -- so many numbers and references become what a function takes
   pub passing_types : (wanted : Gives) (f values objects a b c d : ℕ) → Types (height (values + a) (objects + b) c d) (passing_actions P wanted f values objects) (height (slots_of P wanted f + a) (parameters_of P wanted f + b) c d)
   passing_types wanted f values objects a b c d =
-      types_then _ (fit_actions values (slots_of P wanted f)) _ (fit_object_actions objects (parameters_of P wanted f)) _
-      (fit_types (objects + b) c d values (slots_of P wanted f) a) (fit_objects_type objects (parameters_of P wanted f) (slots_of P wanted f + a) b c d)
+      let slots = slots_of P wanted f in
+      let parameters = parameters_of P wanted f in
+      types_then _ (fit_actions values slots) (height (slots + a) (objects + b) c d) (fit_object_actions objects parameters) _
+      (types_then _ (pop_actions (values - slots)) (height (values + a - (values - slots)) (objects + b) c d) (zero_actions (slots - values)) _
+      (pops_type _ _ _ (omega arith)) (zeros_type _ _ _ (omega arith)))
+      (types_then _ (forget_actions (objects - parameters)) (height (slots + a) (objects + b - (objects - parameters)) c d) (nil_actions (parameters - objects)) _
+      (forgets_type _ _ _ (omega arith)) (nils_type _ _ _ (omega arith)))
 
   -- a call leaves a number, or a reference and a temporary
   pub call_types : (wanted : Gives) (b c d f values objects a : ℕ) → Types (height (values + a) (objects + b) c d) (call_actions P wanted f values objects) (height (as_number wanted + a) (as_object wanted + b) (c + as_object wanted) d)
   call_types wanted b c d f values objects a =
-      let same = slots_same P wanted f in
-      let other = parameters_same P wanted f in
+      let same = ap (λ (g : Function). g.slots) (function_same P wanted f) in
+      let other = ap object_parameters (function_same P wanted f) in
       types_then _ (passing_actions P wanted f values objects) _ (Call (number_of P wanted f) wanted ∷ []) _ (passing_types wanted f values objects a b c d)
       ((omega (arith, same), number_there P wanted f, omega (arith, other)), alike_same _ _ (omega (arith, same, other)))
 
   -- ---- variables that name objects
 
-  pub declare_types : (n a b d : ℕ) → Types (height a b 0 d) (declare_actions n) (height a b 0 (n + d))
-  declare_types zero a b d = alike_same _ _ (omega arith)
-  declare_types (suc n) a b d = (refl, types_at _ _ _ _ _ (declare_types n a b (d + 1)) (omega arith) (omega arith))
+  pub declare_types : (n : ℕ) (h g : Height) → h.temporaries ≡ 0 → Alike (record h { variables = n + h.variables }) g → Types h (declare_actions n) g
+  declare_types zero h g none e = alike_same _ _ (omega arith)
+  declare_types (suc n) h g none e = (omega arith, declare_types n _ _ (omega arith) (omega arith))
 
   module _ (names a b c d : ℕ) (room : names ≤ d + s) where
     abbrev stays : Height
@@ -267,18 +220,14 @@ module _ (P : Program) (r s : ℕ) where
     store_types (Local i) some = grind (arith, ltb-true i names, heights_same)
 
   -- so many variables, from the first one on, take what the last references name
-  pub take_types : (first n a b c d : ℕ) → n ≤ d + s - first → Types (height a (n + b) c d) (take_actions first n) (height a b c d)
-  take_types first zero a b c d room = alike_same _ _ (omega arith)
-  take_types first (suc n) a b c d room =
-      ((omega arith, omega (arith, room)), (omega arith, types_at _ _ _ _ _ (take_types first n a b c d (omega (arith, room))) (omega arith) (omega arith)))
+  pub take_types : (first n : ℕ) (h g : Height) → n ≤ h.variables + s - first → Alike h (record g { names = n + g.names }) → Types h (take_actions first n) g
+  take_types first zero h g room e = alike_same _ _ (omega arith)
+  take_types first (suc n) h g room e = ((omega arith, omega arith), (omega arith, take_types first n _ _ (omega arith) (omega arith)))
 
   -- the first variable takes `self`
   pub own_types : (names a d : ℕ) → names ≤ d + s → Types (height a 0 0 d) (own_actions names) (height a 0 0 d)
   own_types zero a d room = refl
-  own_types (suc n) a d room = (
-    omega arith,
-    ((omega arith, omega (arith, room)), (omega arith, (omega arith, alike_same _ _ (omega arith)))),
-  )
+  own_types (suc n) a d room = (omega arith, ((omega arith, omega arith), (omega arith, (omega arith, alike_same _ _ (omega arith)))))
 
   pub read_types : (names : ℕ) (i : Location) (a b c d : ℕ) → names ≤ d + s → Types (height a b c d) (read_actions names i) (height a (suc b) (c + 1) d)
   read_types names (Global i) a b c d room = (omega arith, alike_same _ _ (omega arith))

@@ -5,7 +5,7 @@ use Rattle.arc_ast.specs.declared.tree.Moment.TheVariants.{Before, After}
 use Rattle.arc_spec.specs.Resolved.{Value, Reference, Update, UpdateField, Command, Sequence, Evaluate, EvaluateReference, InitVariable, Give, If, While, Commands, no_commands, and_command}
 use Rattle.arc_spec.specs.World.{World, Outcome, Done, Finished, finished, then_do, Cut}
 use Rattle.arc_spec.specs.Meaning.{Callees, Normal, held_at, updated, field_read, field_set, all_dropped, evaluated, referred, full_expression, Flow, Broken, Continued, Returned, given, chosen, if_normal, in_turn, after_body, turns, looped, normally, assigned, variables_dropped, scope_left, full_object_expression, begun, result_place, executed, all_executed}
-use Rattle.arc_lower.specs.Lowered.{Block, Idle, One, Clear, Assign, Answer, FullExpression, reference_block, Then, Quit, Advance, nothing_given, loop_block, full_expression_block, full_object_expression_block, begin_block, answer_block, command_block, commands_block, body_block}
+use Rattle.arc_lower.specs.Lowered.{Block, Idle, One, Clear, Assign, Answer, FullExpression, reference_block, Then, Quit, Advance, nothing_given, loop_block, full_expression_block, command_block, commands_block, body_block}
 use Rattle.arc_lower.specs.Size.{unused, does_nothing}
 use Rattle.arc_spec.specs.Number.{is_zero}
 use Rattle.arc_spec.specs.declared.location.Location.TheVariants.{Local}
@@ -78,18 +78,6 @@ module _ (D : Callees) (bound : ℕ) where
   reference_full a last names w go h =
       let s = calm names in
       full (λ r. name r s) (λ (done : Finished). s) (λ (done : Finished). On s) _ (referred D a w) _ go _ (reference_is D bound (result_place w) a s w) h (λ done w1. refl)
-
-  full_object_expression_is : (a : Reference) (names : List ℕ) (w : World) → run (full_object_expression_block a) (calm names) w ≡ passes_by (calm names) (full_object_expression D a w)
-  full_object_expression_is a names w = reference_full a (One Forget) names w (λ r w1. Done finished w1) (λ r w1. refl)
-
-  begin_is : (i : ℕ) (a : Reference) (names : List ℕ) (w : World) → run (begin_block i a) (calm names) w ≡ passes_by (calm names) (begun D i a w)
-  begin_is i a names w =
-      reference_full a (Then (Assign (Local i)) (One Forget)) names w (assigned D (Local i)) (λ r w1. forgotten (result_place w) r (calm names) (assigned D (Local i) r w1))
-
-  answer_is : (a : Reference) (names : List ℕ) (w : World) → run (answer_block a) (calm names) w ≡ passes_by (calm names) (begun D (result_place w) a w)
-  answer_is a names w =
-      let i = result_place w in
-      reference_full a (Then Answer (One Forget)) names w (assigned D (Local i)) (λ r w1. forgotten i r (calm names) (assigned D (Local i) r w1))
 
   module _ (exit : ℕ) (names : List ℕ) where
     abbrev s : Operands
@@ -183,10 +171,14 @@ module _ (D : Callees) (bound : ℕ) where
           parts (ends (clear breaks) (clear continues)) (ends breaks continues) _ (all_executed D bound all w) _ _ (commands_is (clear breaks) (clear continues) (cleared_stops first count breaks quits) (cleared_stops first count continues turns) all w) (scope_is first count breaks continues quits turns)
       command_is breaks continues quits turns (Evaluate a) w =
           parts (λ v w1. Done (On (push v s)) w1) (ends breaks continues) _ (full_expression D (unused a) w) _ _ (full_expression_is (unused a) names w) (λ v w1. refl) ∙ ap (λ o. then_do o (ends breaks continues)) (unused_is D a w)
-      command_is breaks continues quits turns (EvaluateReference a) w = full_object_expression_is a names w ∙ normal_is breaks continues (full_object_expression D a w)
-      command_is breaks continues quits turns (InitVariable i a) w = begin_is i a names w ∙ normal_is breaks continues (begun D i a w)
+      command_is breaks continues quits turns (EvaluateReference a) w = reference_full a (One Forget) names w (λ r w1. Done finished w1) (λ r w1. refl) ∙ normal_is breaks continues (full_object_expression D a w)
+      command_is breaks continues quits turns (InitVariable i a) w =
+          reference_full a (Then (Assign (Local i)) (One Forget)) names w (assigned D (Local i)) (λ r w1. forgotten (result_place w) r s (assigned D (Local i) r w1)) ∙ normal_is breaks continues (begun D i a w)
       command_is breaks continues quits turns (resolved.Return (Some a)) w = parts (λ v w1. Done (On (push v s)) w1) (ends breaks continues) _ (full_expression D a w) _ _ (full_expression_is a names w) (λ v w1. refl)
-      command_is breaks continues quits turns (Give a) w = parts (λ (done : Finished) w1. Done (On s) w1) (ends breaks continues) _ (begun D (result_place w) a w) _ _ (answer_is a names w) (λ done w1. refl)
+      command_is breaks continues quits turns (Give a) w =
+          let i = result_place w in
+          parts (λ (done : Finished) w1. Done (On s) w1) (ends breaks continues) _ (begun D i a w) _ _
+          (reference_full a (Then Answer (One Forget)) names w (assigned D (Local i)) (λ r w1. forgotten i r s (assigned D (Local i) r w1))) (λ done w1. refl)
       command_is breaks continues quits turns (If test a b) w = parts (λ v w1. Done (On (push v s)) w1) (ends breaks continues) _ (full_expression D test w) _ _ (full_expression_is test names w) (λ v w1.
           either (ends breaks continues) (is_zero v) _ _ _ _ (command_is breaks continues quits turns a w1) (command_is breaks continues quits turns b w1))
       command_is breaks continues quits turns (While moment test step body) w = repeat_is moment breaks continues quits turns test step body (command_is breaks continues quits turns step) (command_is Quit Advance (λ w1 k. refl) (λ w1 k. refl) body) w (does_nothing step) refl

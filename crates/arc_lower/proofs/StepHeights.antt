@@ -7,6 +7,7 @@ use Rattle.arc_spec.specs.declared.class.Gives.TheVariants as gives
 use Rattle.arc_spec.specs.Classes.{init_selector}
 use Rattle.arc_code.specs.declared.effect.Height.{Height}
 use Rattle.arc_code.specs.Effects.{as_object}
+use Rattle.arc_code.specs.declared.instr.Op.{Op}
 use Rattle.arc_code.specs.declared.instr.Op.TheVariants.{Num, Pop, Set, Alloc}
 use Rattle.arc_code.specs.declared.instr.Instr.TheVariants.{Plain, Jump, JumpZero, SendTo, Settle, Give, Return, Empty, EndStep}
 use Rattle.arc_ir.specs.declared.action.Target.{Target}
@@ -28,9 +29,6 @@ some_same a b e = cc
 -- a list has this part from a place on
 abbrev pub HasPart : {A : Type 0} → List A → ℕ → List A → Type 0
 HasPart all = Each (λ pc x. slice_get all pc ≡ Some x)
-
-pub has_full_expression : {A : Type 0} (all : List A) → HasPart all 0 all
-has_full_expression all = each_from _ 0 all (λ i x e. subst (λ n. slice_get all n ≡ Some x) (omega arith) e)
 
 -- ---- actions before which a run leaves its function, where it has emptied its variables
 
@@ -80,11 +78,12 @@ IsCalm Messages = ⊥
 IsCalm Settles = ⊥
 IsCalm _ = Unit {0}
 
--- one before which the variables are emptied
-abbrev pub IsLast : Role → Type 0
-IsLast Leaves = Unit {0}
-IsLast Takes = Unit {0}
-IsLast _ = ⊥
+-- one on the way, before which so many variables aren't emptied yet
+abbrev pub OnWay : ℕ → Role → Type 0
+OnWay n Leaves = n ≡ 0
+OnWay n Takes = n ≡ 0
+OnWay n (Empties i) = n ≡ suc i
+OnWay n _ = ⊥
 
 -- one that is on the way, but doesn't leave the function
 abbrev IsBefore : Role → Type 0
@@ -202,15 +201,18 @@ module _ (R : resolved.Program) (all : List PlainAction) (table : List (Height �
       row_of pc w [] hs os = tt
       row_of pc w (x ∷ xs) hs os = (hs.0, os.0, row_of (pc + 1) (next_walk R base x w) xs hs.1 os.1)
 
-      pub row_front : (pc : ℕ) (w : Walk) (xs ys : List PlainAction) → Row pc w (xs ++ ys) → Row pc w xs
+      row_front : (pc : ℕ) (w : Walk) (xs ys : List PlainAction) → Row pc w (xs ++ ys) → Row pc w xs
       row_front pc w [] ys f = tt
       row_front pc w (x ∷ xs) ys f = (f.0, f.1, row_front (pc + 1) (next_walk R base x w) xs ys f.2)
 
-      pub row_back : (pc : ℕ) (w : Walk) (xs ys : List PlainAction) → Row pc w (xs ++ ys) → Row (pc + length xs) (last_walk R base w xs) ys
+      row_back : (pc : ℕ) (w : Walk) (xs ys : List PlainAction) → Row pc w (xs ++ ys) → Row (pc + length xs) (last_walk R base w xs) ys
       row_back pc w [] ys f = let e : pc ≡ pc + 0 = omega arith in subst (λ n. Row n w ys) e f
       row_back pc w (x ∷ xs) ys f =
           let e : pc + 1 + length xs ≡ pc + length (x ∷ xs) = omega arith in
           subst (λ n. Row n (last_walk R base (next_walk R base x w) xs) ys) e (row_back (pc + 1) (next_walk R base x w) xs ys f.2)
+
+      pub rows_then : (pc : ℕ) (w : Walk) (xs ys : List PlainAction) {v : Walk} → last_walk R base w xs ≡ v → Row pc w (xs ++ ys) → Row pc w xs × Row (pc + length xs) v ys
+      rows_then pc w xs ys is f = (row_front pc w xs ys f, subst (λ v. Row (pc + length xs) v ys) is (row_back pc w xs ys f))
 
       variables_same : (x : PlainAction) (w : Walk) → IsBefore (role x) → (next_walk R base x w).height.variables ≡ w.height.variables
       variables_same (Plain (Set depth)) w before = omega arith
@@ -242,46 +244,34 @@ module _ (R : resolved.Program) (all : List PlainAction) (table : List (Height �
             (((h, given), f.0, action_steps x pc h needs rest.0), rest.1),
           )
 
-      -- ---- actions that take numbers before a function is left
+    -- ---- actions on the way out of the function
 
-      abbrev pub AllTake : List PlainAction → Type 0
-      AllTake [] = Unit {0}
-      AllTake (x ∷ xs) = (role x ≡ Takes) × AllTake xs
+    -- where they begin so many variables aren't emptied yet
+    abbrev pub Emptied : ℕ → ℕ → Height → Type 0
+    Emptied n pc h = Stands given pc h × ((k : ℕ) → Clears k pc → k ≡ n) × Free pc
 
-      -- where they begin the variables are empty
-      abbrev pub Emptied : ℕ → Height → Type 0
-      Emptied pc h = Stands given pc h × ((k : ℕ) → Clears k pc → k ≡ 0) × Free pc
+    pub way_stands : (n pc : ℕ) (h : Height) (x : PlainAction) (r : Role) → OnWay n r → role x ≡ r → slice_get table pc ≡ Some (h, given) → slice_get all pc ≡ Some x
+        → Emptied n pc h
+    way_stands n pc h x r way e height is =
+        (record { height = height; plain_action = x; is = is; no_end = λ end. subst (OnWay n) (sym e ∙ end) way }, only, (λ s. on s, λ m. absurd (on m)))
+      where
+        on : {q : Role} → role_at pc ≡ q → OnWay n q
+        on at = subst (OnWay n) (sym e ∙ sym (ap role_of is) ∙ at) way
 
-      last_stands : (pc : ℕ) (h : Height) (x : PlainAction) (r : Role) → IsLast r → role x ≡ r → slice_get table pc ≡ Some (h, given) → slice_get all pc ≡ Some x
-          → Emptied pc h
-      last_stands pc h x r last e height is =
-          let at : role_at pc ≡ r = ap role_of is ∙ e in
-          (record { height = height; plain_action = x; is = is; no_end = λ end. subst IsLast (sym e ∙ end) last }, only at, (λ s. subst IsLast (sym at ∙ s) last, λ m. absurd (subst IsLast (sym at ∙ m) last)))
-        where
-          only : role_at pc ≡ r → (k : ℕ) → Clears k pc → k ≡ 0
-          only at zero c = refl
-          only at (suc k) c = absurd (subst IsLast (sym at ∙ c.0) last)
+        only : (k : ℕ) → Clears k pc → k ≡ n
+        only zero (zero, y) = sym (on y)
+        only zero (suc m, y) = sym (on y.0)
+        only (suc k) c = sym (on c.0)
 
-      pub takes_stand : (pc : ℕ) (w : Walk) (xs : List PlainAction) (leave : PlainAction) → role leave ≡ Leaves → AllTake xs → Row pc w (xs ++ leave ∷ []) → Emptied pc w.height
-      takes_stand pc w [] leave leaves takes f = last_stands pc w.height leave Leaves tt leaves f.0 f.1
-      takes_stand pc w (x ∷ xs) leave leaves takes f = last_stands pc w.height x Takes tt takes.0 f.0 f.1
-
-      pub takes_step : (pc : ℕ) (h : Height) (pending : List Height) (xs : List PlainAction) (g : Height) (leave : PlainAction) → role leave ≡ Leaves → AllTake xs → Types R 0 0 h xs g → Row pc (walk h pending) (xs ++ leave ∷ []) → AllStep pc xs
-      takes_step pc h pending [] g leave leaves takes t f = tt
-      takes_step pc h pending (x ∷ xs) g leave leaves takes t f =
-          let needs : Needs R x h = subst (Needs R x) (over_none h) t.0 in
-          let rest : Row (pc + 1) (walk (next_height R x h) pending) (xs ++ leave ∷ []) = subst (λ w. Row (pc + 1) w (xs ++ leave ∷ [])) (next_same R base x (walk h pending) h needs) f.2 in
-          let there = takes_stand (pc + 1) (walk (next_height R x h) pending) xs leave leaves takes.1 rest in
-          (((h, given), f.0, by x takes.0 needs there), takes_step (pc + 1) (next_height R x h) pending xs g leave leaves takes.1 t.1 rest)
-        where
-          again : (k : ℕ) → k ≡ 0 → Clears k (pc + 1) → Clears k pc
-          again zero none c = (suc c.0, (ap role_of f.1 ∙ takes.0, c.1))
-          again (suc k) none c = absurd (omega (arith, none))
-
-          by : (y : PlainAction) → role y ≡ Takes → Needs R y h → Emptied (pc + 1) (next_height R y h) → Steps given h pc y
-          by (Plain Pop) keeps needs there = (needs, (there.0, λ k c. inl (again k (there.1 k c) c)), inl there.2)
-          by (Plain (Set depth)) keeps needs there = (needs, (there.0, λ k c. inl (again k (there.1 k c) c)), inl there.2)
-          by _ keeps needs there = absurd (cc)
+    -- one that takes a number
+    pub takes_step : (o : Op) (pc : ℕ) (h : Height) → role (Plain o) ≡ Takes → slice_get table pc ≡ Some (h, given) → slice_get all pc ≡ Some (Plain o) → Reaches o h
+        → Emptied 0 (pc + 1) (next_height R (Plain o) h) → Emptied 0 pc h × StepsAt pc (Plain o)
+    takes_step o pc h takes height is reaches there =
+        (way_stands 0 pc h (Plain o) Takes refl takes height is, ((h, given), height, (reaches, (there.0, λ k c. inl (again k (there.1 k c) c)), inl there.2)))
+      where
+        again : (k : ℕ) → k ≡ 0 → Clears k (pc + 1) → Clears k pc
+        again zero none c = (suc c.0, (ap role_of is ∙ takes, c.1))
+        again (suc k) none c = absurd (omega (arith, none))
 
     -- ---- blocks, in a function that is left from a place, below which so many numbers and variables more lie
 
@@ -294,10 +284,6 @@ module _ (R : resolved.Program) (all : List PlainAction) (table : List (Height �
 
       abbrev plain_actions : Spot → Block → List PlainAction
       plain_actions e x = flat R slots names e x
-
-      -- what stands after a choice stands between two statements
-      chosen_same : (to : Target) → next_height R (JumpZero to) test ≡ base
-      chosen_same to = search (arith, heights_same)
 
       -- the parts that tests may lead to all stand between statements
       abbrev AllBase : List Height → Type 0
@@ -355,9 +341,6 @@ module _ (R : resolved.Program) (all : List PlainAction) (table : List (Height �
         walk_then : (w : Walk) (xs ys : List PlainAction) {v : Walk} → last_walk R from w xs ≡ v → last_walk R from w (xs ++ ys) ≡ last_walk R from v ys
         walk_then w [] ys is = ap (λ v. last_walk R from v ys) is
         walk_then w (x ∷ xs) ys is = walk_then (next_walk R from x w) xs ys is
-
-        rows_then : (pc : ℕ) (w : Walk) (xs ys : List PlainAction) {v : Walk} → last_walk R from w xs ≡ v → Row from pc w (xs ++ ys) → Row from pc w xs × Row from (pc + length xs) v ys
-        rows_then pc w xs ys is f = (row_front from pc w xs ys f, subst (λ v. Row from (pc + length xs) v ys) is (row_back from pc w xs ys f))
 
         typed : (pc : ℕ) (h : Height) (pending : List Height) (xs : List PlainAction) (g : Height) → Alone → Types R r s h xs g → Rows pc h pending xs → Goes given (pc + length xs) g → Goes given pc h × AllStep pc xs
         typed pc h pending xs g alone t = typed_steps from pc h pending xs g (subst (λ n. Types R n 0 h xs g) alone.0 (subst (λ n. Types R r n h xs g) alone.1 t))
@@ -440,7 +423,7 @@ module _ (R : resolved.Program) (all : List PlainAction) (table : List (Height �
             let two = block_walks next l statement y t.0 g one.after (keeps_on statement pending one.after one.keeps) t.2 in
             walked two.after (walk_then (walk h pending) xs ys one.is ∙ two.is) (keeps_then statement pending one.after two.after one.keeps two.keeps) (λ pc turn alone here ways f end.
             let size : pc + length (xs ++ ys) ≡ pc + length xs + length ys = omega (arith, length-append xs ys) in
-            let rows = rows_then pc (walk h pending) xs ys one.is f in
+            let rows = rows_then from pc (walk h pending) xs ys one.is f in
             let second = two.go (pc + length xs) turn alone (λ s. ap (past (length xs)) (here s)) ways rows.1 (subst (λ n. Goes given n g) size end) in
             let first = one.go pc turn alone here ways rows.0 second.0 in
             (first.0, step_then pc xs ys first.1 second.1))
@@ -467,7 +450,7 @@ module _ (R : resolved.Program) (all : List PlainAction) (table : List (Height �
             let there : behind ≡ lands pc to = omega arith in
             let size : pc + length (plain_actions e (Fork x y)) ≡ behind + length ys = omega (arith, length-append xs rest) in
             let last = subst (λ n. Goes given n g) size end in
-            let rows = rows_then q (walk i (i ∷ pending)) xs rest one.is (subst (λ n. Rows q n (n ∷ pending) (xs ++ rest)) t.2.left f.2) in
+            let rows = rows_then from q (walk i (i ∷ pending)) xs rest one.is (subst (λ n. Rows q n (n ∷ pending) (xs ++ rest)) t.2.left f.2) in
             let second = two.go behind turn alone (λ s. ap (λ e. past 1 (past (length xs) (past 1 e))) (here s)) ways (subst (λ n. Rows behind n others ys) part rows.1.2) last in
             let first = one.go q turn alone (λ s. ap (past 1) (here s)) ways rows.0 (opens_goes (q + length xs) m over refl rows.1.0 rows.1.1) in
             let chosen = subst (λ n. Goes given q n × Leads given (lands pc to) n) (sym t.2.left) (first.0, (t.1, t.2.first, subst (λ q. Goes given q j) there second.0)) in (
@@ -492,7 +475,7 @@ module _ (R : resolved.Program) (all : List PlainAction) (table : List (Height �
             let none = block_walks begin l true z base base others (keeps.0, based, based) t.2 in
             let one = block_walks at_test l true x base test none.after (keeps.0, none.keeps.2, none.keeps.2) t.3 in
             let two = block_walks at_body true true y base base (base ∷ one.after) (keeps.0, (refl, one.keeps.2), (refl, one.keeps.2)) t.4 in
-            let less = chosen_same out in
+            let less : next_height R (JumpZero out) test ≡ base = search (arith, heights_same) in
             let is = walk_then (walk base pending) enter (zs ++ (ts ++ rest)) enters ∙ walk_then (walk base others) zs (ts ++ rest) none.is ∙ walk_then (walk base none.after) ts rest one.is ∙ ap (λ n. last_walk R from (walk n (n ∷ one.after)) (xs ++ again)) less ∙ walk_then (walk base (base ∷ one.after)) xs again two.is ∙ jumped two.after keeps.0 two.keeps.2 in
             rw (t.1, t.5) (walked (drop 1 two.after) is (keeps.0, keeps.1, rest_base two.after two.keeps.2) (λ pc turn alone here ways f end.
             let first = pc + length enter in
@@ -504,10 +487,10 @@ module _ (R : resolved.Program) (all : List PlainAction) (table : List (Height �
             let home : first ≡ lands (p + length xs) back = omega arith in
             let size : pc + length (enter ++ (zs ++ (ts ++ rest))) ≡ behind = omega (arith, length-append {A = PlainAction}) in
             let at : begin ≡ Between first turn = ap (past (enter_size entry)) (here refl) ∙ ap (λ n. Between (pc + n) turn) (sym (enter_length entry (length zs) (length ts))) in
-            let entering = rows_then pc (walk base pending) enter (zs ++ (ts ++ rest)) enters f in
-            let stepped = rows_then first (walk base others) zs (ts ++ rest) none.is entering.1 in
-            let chosen = rows_then q0 (walk base none.after) ts rest one.is stepped.1 in
-            let turned = rows_then p (walk base (base ∷ one.after)) xs again two.is (subst (λ n. Rows p n (n ∷ one.after) (xs ++ again)) less chosen.1.2) in
+            let entering = rows_then from pc (walk base pending) enter (zs ++ (ts ++ rest)) enters f in
+            let stepped = rows_then from first (walk base others) zs (ts ++ rest) none.is entering.1 in
+            let chosen = rows_then from q0 (walk base none.after) ts rest one.is stepped.1 in
+            let turned = rows_then from p (walk base (base ∷ one.after)) xs again two.is (subst (λ n. Rows p n (n ∷ one.after) (xs ++ again)) less chosen.1.2) in
             let goes_out = opens_goes q test (JumpZero out) refl chosen.1.0 chosen.1.1 in
             let tests = one.go q0 turn alone (λ s. ap (past (length zs)) at) ways chosen.0 goes_out in
             let steps = none.go first turn alone (λ s. at) ways stepped.0 tests.0 in
@@ -520,7 +503,7 @@ module _ (R : resolved.Program) (all : List PlainAction) (table : List (Height �
             let up : next_height R (Plain (Num (pos 0))) base ≡ test = alike_same _ _ (omega arith) in
             let goes = subst (λ e. Goes given (turn_at e).out test) (sym here) (ways t.1).0 in
             let next = jumps (pc + 1) _ pending (At (turn_at e).out) [] f.2 (subst (Goes given (turn_at e).out) (sym up) goes) in
-            (opens_goes pc base (Plain (Num (pos 0))) refl f.0 f.1, (((base, given), f.0, (omega arith, (next.0.0, λ k c. inr (next.0.1 k c)), inl next.0.2)), (next.1, tt))))
+            (opens_goes pc base (Plain (Num (pos 0))) refl f.0 f.1, (((base, given), f.0, action_steps (Plain (Num (pos 0))) pc base (omega arith) next.0), (next.1, tt))))
         block_walks e l statement Advance h g pending keeps t = elsewhere keeps t.0 t.2 t.3 refl (λ pc turn leaves here ways f.
             let next = jumps pc base pending (At (turn_at e).begin) [] f (subst (λ e. Goes given (turn_at e).begin base) (sym here) (ways t.1).1) in (next.0, (next.1, tt)))
         block_walks e l statement (Leave to) h g pending keeps t = elsewhere keeps t.0 t.2 t.3 refl (λ pc turn leaves here ways f.
@@ -536,14 +519,10 @@ module _ (R : resolved.Program) (all : List PlainAction) (table : List (Height �
             walked two.after is (subst (Keeps statement pending) (one.keeps ∙ two.keeps) keeps) (λ pc turn alone here ways f end.
             let q = pc + length xs in
             let size : pc + length (xs ++ (ys ++ ds)) ≡ q + length ys + length ds = omega (arith, length-append xs (ys ++ ds), length-append ys ds) in
-            let rows = rows_then pc (walk h pending) xs (ys ++ ds) one.is f in
-            let others = rows_then q (walk t.0 one.after) ys ds two.is rows.1 in
+            let rows = rows_then from pc (walk h pending) xs (ys ++ ds) one.is f in
+            let others = rows_then from q (walk t.0 one.after) ys ds two.is rows.1 in
             let third = typed (q + length ys) t.1 two.after ds g alone t.4 others.1 (subst (λ n. Goes given n g) size end) in
             let second = two.go q turn alone (λ s. cc) (λ s. cc) others.0 third.0 in
             let first = one.go pc turn alone (λ s. cc) (λ s. cc) rows.0 second.0 in
             (first.0, step_then pc xs (ys ++ ds) first.1 (step_then q ys ds second.1 third.1)))
         block_walks e l statement x h g pending keeps t = walked pending (types_last R r s from h pending (plain_actions e x) g t) keeps (λ pc turn alone here ways. typed pc h pending (plain_actions e x) g alone t)
-
-    -- the same where nothing lies below
-    pub block_steps : (slots names exit : ℕ) → Goes given exit (tested slots names) → (e : Spot) (turn : Turn) (looping statement : Bool) (x : Block) (h g : Height) (pc : ℕ) (pending : List Height) → (statement ≡ true → e ≡ Between pc turn) → Ways 0 0 slots names exit looping turn → Keeps 0 0 slots names exit (between slots names) statement pending pending → BlockTypes R 0 0 slots names exit looping statement h x g → Row (between slots names) pc (walk h pending) (flat R slots names e x) → Goes given (pc + length (flat R slots names e x)) g → Goes given pc h × AllStep pc (flat R slots names e x)
-    block_steps slots names exit leaves e turn looping statement x h g pc pending here ways keeps t = (block_walks 0 0 slots names exit (between slots names) e looping statement x h g pending keeps t).go pc turn (refl, refl, leaves) here ways
