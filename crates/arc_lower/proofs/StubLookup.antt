@@ -26,6 +26,7 @@ use Rattle.arc_lower.specs.Size.{object_parameters}
 use Rattle.arc_code.specs.declared.effect.Height.{Height}
 use Rattle.arc_lower.specs.Heights.{height, walk, Walk, next_walk, walk_heights, between, heights, start_heights, function_heights, stub_heights, dealloc_heights, in_function, functions_marks, methods_marks, class_marks, classes_marks, lowered_marks}
 use Rattle.arc_lower.proofs.ActionCount.{call_length}
+use Rattle.arc_lower.proofs.StackAccess.{get_below}
 use Rattle.arc_lower.proofs.FunctionLookup.{with_functions}
 use Rattle.arc_spec.specs.declared.limits.TheConstants.{MOST_LEVELS}
 use Rattle.std.specs.Option.{option_or}
@@ -74,13 +75,11 @@ module _ (R : resolved.Program) where
 
   -- actions and their heights stand there
   abbrev pub Both : ℕ → List (Height × Gives) → List PlainAction → Type 0
-  Both pc hs xs = Part table pc hs × Part all pc xs × (length hs ≡ length xs)
+  Both pc hs xs = Part table pc hs × Part all pc xs
 
   pub both_split : (pc : ℕ) (a b : List (Height × Gives)) (xs ys : List PlainAction) → length a ≡ length xs → Both pc (a ++ b) (xs ++ ys) → Both pc a xs × Both (pc + length xs) b ys
-  both_split pc a b xs ys e f = (
-    (each_front _ pc a b f.0, each_front _ pc xs ys f.1, e),
-    (subst (λ n. Part table (pc + n) b) e (each_back _ pc a b f.0), each_back _ pc xs ys f.1, omega (arith, e, f.2, length-append a b, length-append xs ys)),
-  )
+  both_split pc a b xs ys e f =
+      ((each_front _ pc a b f.0, each_front _ pc xs ys f.1), (subst (λ n. Part table (pc + n) b) e (each_back _ pc a b f.0), each_back _ pc xs ys f.1))
 
   -- as many marks as actions
   pub marks_length : (given : Gives) (low : Height) (w : Walk) (xs : List PlainAction) → length (in_function given (walk_heights R low w xs)) ≡ length xs
@@ -171,10 +170,6 @@ module _ (R : resolved.Program) where
   class_length : (c : Class) → length (class_marks R (entries_of R) c) ≡ length (class_actions R (entries_of R) c)
   class_length c = omega (arith, length-append {A = Height × Gives}, length-append {A = PlainAction}, dealloc_length c.dealloc, methods_length c.methods)
 
-  classes_length : (cs : List Class) → length (classes_marks R (entries_of R) cs) ≡ length (classes_actions R (entries_of R) cs)
-  classes_length [] = refl
-  classes_length (c ∷ others) = omega (arith, length-append {A = Height × Gives}, length-append {A = PlainAction}, class_length c, classes_length others)
-
   pub methods_split : (place : ℕ) (m : Method) (others : List Method) → Methods place (m ∷ others) → Stub m.gives (passes m.sign m.takes) m.objects m.runs place × Methods (place + length (method_stub m)) others
   methods_split place m others has = both_split place _ _ _ _ (stub_length m.gives (passes m.sign m.takes) m.objects m.runs) has
 
@@ -203,7 +198,7 @@ module _ (R : resolved.Program) where
   part_all whole = each_from _ 0 whole (λ i x e. subst (λ n. slice_get whole n ≡ Some x) (omega arith) e)
 
   parts : Both 0 (start_marks ++ functions) (running_actions R) × Both (0 + length (running_actions R)) (classes_marks R (entries_of R) R.classes) (classes_actions R (entries_of R) R.classes)
-  parts = both_split 0 (start_marks ++ functions) _ (running_actions R) _ running_length (part_all table, part_all all, omega (arith, length-append {A = Height × Gives}, length-append {A = PlainAction}, running_length, classes_length R.classes))
+  parts = both_split 0 (start_marks ++ functions) _ (running_actions R) _ running_length (part_all table, part_all all)
 
   running_parts : Both 0 start_marks (start_actions R) × Both (0 + length (start_actions R)) functions (functions_actions R (length (start_actions R)) (all_functions R))
   running_parts = both_split 0 start_marks _ (start_actions R) _ start_length parts.0
@@ -296,17 +291,18 @@ module _ (R : resolved.Program) where
   else_meets wanted values objects (Some f) (Some place) x y first above = first
   else_meets wanted values objects _ _ x y first above = absurd first
 
-  own_meets : (sign : Sign) (selector takes objects : ℕ) (wanted : Gives) (a b : Option Class) → Same a b → Meets wanted (passes sign takes) objects (found sign selector takes objects wanted (own_methods a)) (found sign selector takes objects wanted (own_methods b))
-  own_meets sign selector takes objects wanted None None same = tt
-  own_meets sign selector takes objects wanted (Some c) (Some d) same = same.3 sign selector takes objects wanted
-  own_meets sign selector takes objects wanted _ _ same = absurd same
+  parts_same : (a b : Option Class) → Same a b → (above_class b ≡ above_class a) × (field_counts b ≡ field_counts a)
+      × ((sign : Sign) (selector takes objects : ℕ) (wanted : Gives) → Meets wanted (passes sign takes) objects (found sign selector takes objects wanted (own_methods a)) (found sign selector takes objects wanted (own_methods b)))
+  parts_same None None same = (refl, refl, λ sign selector takes objects wanted. tt)
+  parts_same (Some c) (Some d) same = (same.0, same.1, same.3)
+  parts_same _ _ same = absurd same
 
   first_found_meets : (sign : Sign) (selector takes objects : ℕ) (wanted : Gives) (cs ds : List Class) → ((i : ℕ) → Same (slice_get cs i) (slice_get ds i)) → (classes : List ℕ)
       → Meets wanted (passes sign takes) objects (first_that_has (λ class. found sign selector takes objects wanted (own_methods (slice_get cs class))) classes) (first_that_has (λ class. found sign selector takes objects wanted (own_methods (slice_get ds class))) classes)
   first_found_meets sign selector takes objects wanted cs ds same [] = tt
   first_found_meets sign selector takes objects wanted cs ds same (i ∷ above) =
       else_meets wanted (passes sign takes) objects (found sign selector takes objects wanted (own_methods (slice_get cs i))) (found sign selector takes objects wanted (own_methods (slice_get ds i))) _ _
-      (own_meets sign selector takes objects wanted (slice_get cs i) (slice_get ds i) (same i)) (first_found_meets sign selector takes objects wanted cs ds same above)
+      ((parts_same (slice_get cs i) (slice_get ds i) (same i)).2 sign selector takes objects wanted) (first_found_meets sign selector takes objects wanted cs ds same above)
 
   module _ (cs : List Class) (links : Linked cs) where
     -- looking a method up among the linked classes comes to the stub of what is meant
@@ -325,18 +321,8 @@ module _ (R : resolved.Program) where
     pub descent_same : (from : Option ℕ) (other : ℕ) → descends cs from other ≡ descends R.classes from other
     descent_same from other = ap (λ above. list_any (λ class. nat_eq class other) (ancestry above from)) links.above
 
-    counts_same : (a b : Option Class) → Same a b → field_counts b ≡ field_counts a
-    counts_same None None same = refl
-    counts_same (Some c) (Some d) same = same.1
-    counts_same _ _ same = absurd same
-
     pub fields_same : (class : ℕ) → field_counts (slice_get cs class) ≡ field_counts (slice_get R.classes class)
-    fields_same class = counts_same (slice_get R.classes class) (slice_get cs class) (links.same class)
-
-    above_same : (a b : Option Class) → Same a b → above_class b ≡ above_class a
-    above_same None None same = refl
-    above_same (Some c) (Some d) same = same.0
-    above_same _ _ same = absurd same
+    fields_same class = (parts_same (slice_get R.classes class) (slice_get cs class) (links.same class)).1
 
     strong_same : (class : ℕ) → strong_count (slice_get cs class) ≡ strong_count (slice_get R.classes class)
     strong_same class = ap (λ (c : SortCounts). c.objects) (fields_same class)
@@ -349,7 +335,7 @@ module _ (R : resolved.Program) where
     pub action_same : (class : ℕ) → field_order cs class ≡ field_order R.classes class
     action_same class =
         let counts = all_strong_same (ancestry (superclasses R.classes) (above_class (slice_get R.classes class))) in
-        rw (strong_same class, links.above, above_same (slice_get R.classes class) (slice_get cs class) (links.same class), counts)
+        rw (strong_same class, links.above, (parts_same (slice_get R.classes class) (slice_get cs class) (links.same class)).0, counts)
 
 -- ---- Each function stands at its entry.
 
@@ -369,14 +355,6 @@ call_enters p R wanted f b pc frames stack held more has e =
 -- the functions that do nothing
 abbrev last_two : List Function
 last_two = nothing_giving gives.Number ∷ nothing_giving gives.Object ∷ []
-
-last_first : (fs : List Function) → slice_get (fs ++ last_two) (length fs) ≡ Some (nothing_giving gives.Number)
-last_first [] = refl
-last_first (g ∷ fs) = last_first fs
-
-last_second : (fs : List Function) → slice_get (fs ++ last_two) (suc (length fs)) ≡ Some (nothing_giving gives.Object)
-last_second [] = refl
-last_second (g ∷ fs) = last_second fs
 
 module _ (P : resolved.Program) (wanted : Gives) where
   in_list : (fs : List Function) (f : ℕ) → gives_at (with_functions fs P) wanted f ≡ true
@@ -405,8 +383,8 @@ pub function_gives : (R : resolved.Program) (wanted : Gives) (f : ℕ) → (func
 function_gives R wanted f = found_gives R wanted R.functions f
 
 nothing_numbered : (R : resolved.Program) (wanted : Gives) → slice_get (all_functions R) (number_of_nothing R wanted) ≡ Some (nothing_giving wanted)
-nothing_numbered R gives.Number = last_first R.functions
-nothing_numbered R gives.Object = last_second R.functions
+nothing_numbered R gives.Number = let e : length R.functions ≡ length R.functions + 0 = omega arith in ap (slice_get (all_functions R)) e ∙ get_below R.functions last_two 0
+nothing_numbered R gives.Object = let e : suc (length R.functions) ≡ length R.functions + 1 = omega arith in ap (slice_get (all_functions R)) e ∙ get_below R.functions last_two 1
 
 pub numbered : (R : resolved.Program) (wanted : Gives) (f : ℕ) → slice_get (all_functions R) (number_of R wanted f) ≡ Some (function_at R wanted f)
 numbered R wanted f = by_test (λ b. slice_get (all_functions R) (if b then f else number_of_nothing R wanted) ≡ Some (function_at R wanted f)) (gives_at R wanted f)
