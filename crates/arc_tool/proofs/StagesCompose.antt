@@ -16,7 +16,7 @@ use Rattle.arc_spec.specs.Resolved as resolved
 use Rattle.arc_spec.specs.Correctness.{Refines, Steady}
 use Rattle.arc_spec.proofs.Composition.{composed}
 use Rattle.arc_ir.specs.ActionSteps as acting
-use Rattle.arc_lower.specs.PlainAction as order
+use Rattle.arc_lower.specs.PlainActions as plain
 use Rattle.arc_lower.specs.PlainActions.{plain_actions}
 use Rattle.arc_lower.specs.Lowered.{lowered}
 use Rattle.arc_lower.specs.Size.{program_size}
@@ -42,7 +42,7 @@ passed source items these_tokens same h = subst (λ ts. Tokens source (toks ts))
 -- ---- how large a program is
 
 too_many : (P : resolved.Program) (actions : acting.Program) → plain_actions actions.actions ≡ lowered P → IsLarge actions → IsTooLarge P
-too_many P actions is large = subst (λ n. MOST_INSTRS < n) (sym (length-map actions.actions order.order) ∙ ap length is ∙ actions_counted P) large
+too_many P actions is large = subst (λ n. MOST_INSTRS < n) (sym (length-map actions.actions plain.plain_action) ∙ ap length is ∙ actions_counted P) large
 
 -- there are as many instructions as actions
 instrs_counted : (p : acting.Program) (at from : ℕ) (actions : List acting.Action) → length (instrs_of p at from actions) ≡ length actions
@@ -51,7 +51,7 @@ instrs_counted p at from (a ∷ rest) = ap suc (instrs_counted p (at + 1) (from 
 
 pub as_many : (P : resolved.Program) (actions : acting.Program) (code : Program) → plain_actions actions.actions ≡ lowered P → code ≡ code_of actions → length code.instrs ≡ program_size P
 as_many P actions code is emits = ap (λ (c : Program). length c.instrs) emits ∙ instrs_counted actions 0 0 actions.actions
-    ∙ sym (length-map actions.actions order.order) ∙ ap length is ∙ actions_counted P
+    ∙ sym (length-map actions.actions plain.plain_action) ∙ ap length is ∙ actions_counted P
 
 -- a program that becomes so many actions, where there is no room for them
 pub too_long : (source : List ℕ) (program : Accepted source) (count : ℕ) → count ≡ length (lowered (program_meant program)) → (e : EmitFault) (r : Refusal)

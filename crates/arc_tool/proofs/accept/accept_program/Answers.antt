@@ -3,7 +3,7 @@ use Rattle.std.proofs.lemmas.List.{length-map}
 use Rattle.std.proofs.lemmas.Result.{err_from_is_err_and}
 use Rattle.arc_ast.specs.Tree.{unit_tree}
 use Rattle.arc_checked.specs.Checked.{program_of}
-use Rattle.arc_lower.specs.PlainActions.{order}
+use Rattle.arc_lower.specs.PlainActions.{plain_action}
 use Rattle.arc_lower.specs.Lowered.{lowered}
 use Rattle.arc_tool.specs.RefusalStages.{in_owning, no_memory}
 use Rattle.arc_tool.proofs.StagesCompose.{accepted, small_enough, too_long}
@@ -26,12 +26,12 @@ returns-in_err-fits-clause-refused c =
     rw p.1 (λ source of.
     let program = accepted source c.args.program.now of c.in_ok-owned.ensures.accepted in
     let listed = c.in_ok-actions.ensures ∙ ap lowered (ap program_of c.in_ok-owned.ensures.same ∙ of.resolved) in
-    let count = c.len-count.ensures ∙ c.in_ok-actions.actions.ok.0 ∙ sym (length-map c.in_ok-actions.actions.items order) ∙ ap length listed in
+    let count = c.len-count.ensures ∙ c.in_ok-actions.actions.ok.0 ∙ sym (length-map c.in_ok-actions.actions.items plain_action) ∙ ap length listed in
     too_long source program c.len-count.result count c.in_err-fits.field-0.0 p.0 c.in_err-fits.ensures.large p.2)
 
 pub returns-clause-accepted : goal.returns-clause-accepted
 returns-clause-accepted c = λ source of.
     let program = accepted source c.args.program.now of c.in_ok-owned.ensures.accepted in
     let listed = c.in_ok-actions.ensures ∙ ap lowered (ap program_of c.in_ok-owned.ensures.same ∙ of.resolved) in
-    let count = c.len-count.ensures ∙ c.in_ok-actions.actions.ok.0 ∙ sym (length-map c.in_ok-actions.actions.items order) ∙ ap length listed in
+    let count = c.len-count.ensures ∙ c.in_ok-actions.actions.ok.0 ∙ sym (length-map c.in_ok-actions.actions.items plain_action) ∙ ap length listed in
     small_enough source program c.len-count.result count c.in_ok-fits.ensures.few
