@@ -98,7 +98,6 @@ module _ (p : Program) (s : State) (right : CountsAreExact s.held) where
 
   end_goes_on_agrees : (frames : List ReturnFrame) → AllDying s.held.objects (ending frames) → Agree (end_goes_on p s frames) (end_goes_on p t frames)
   end_goes_on_agrees (Ending back waits zero next left ∷ others) dying = cc
-  end_goes_on_agrees (Ending back waits (suc k) (Some class) (suc left) ∷ others) dying = grind (arith, after_agrees back waits k others)
   end_goes_on_agrees (Ending back waits (suc k) next left ∷ others) dying = grind (arith, after_agrees back waits k others)
   end_goes_on_agrees (Clearing back waits zero fields ∷ others) dying = cc
   end_goes_on_agrees (Clearing back waits (suc k) fields ∷ others) dying = grind (arith, right.counted)
