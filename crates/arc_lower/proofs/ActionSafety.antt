@@ -17,7 +17,7 @@ use Rattle.arc_spec.specs.Meaning.{chosen}
 use Rattle.arc_spec.specs.Number.{counted, is_zero}
 use Rattle.arc_spec.specs.Objects.{Object, Dying, Emptying, Gone, object_at, with_object, with_fields, with_strong_fields, in_phase, is_live, is_emptying}
 use Rattle.arc_spec.specs.Resolved as resolved
-use Rattle.arc_spec.specs.HolderCounts.{Heap, all_places, ReturnFrame, Calling, Ending, Clearing, Waiter, waiter_of, CountsAreExact, holders, is_there, stacked, with_strong_globals, with_strong_field, on_place, turned_in, with_temporaries, with_variables, with_names, with_things, lowered, raised, named, taken_by, on_named, on_field, declares, lets_go, on_object, makes, resumed, all_nil, on_left, on_last, on_result, with_field}
+use Rattle.arc_spec.specs.HolderCounts.{Heap, all_places, ReturnFrame, Calling, Ending, Clearing, Waiter, CountsAreExact, holders, is_there, stacked, with_strong_globals, with_strong_field, on_place, turned_in, with_temporaries, with_variables, with_names, with_things, lowered, raised, named, taken_by, on_named, on_field, declares, lets_go, on_object, makes, resumed, all_nil, on_left, on_last, on_result, with_field}
 use Rattle.arc_spec.specs.SmallSteps.{Next, Goes, Faults, Along, Safe, Sound, on_top, on_found}
 use Rattle.arc_ir.specs.ActionSteps.{Program, State, lands, start, step, entry, keeps, goes, or_fault, has_level, enters, answers, taken, sends, allocates, operates, begins_end, releases, runs_dealloc, clears, after_deallocs, clears_next, ends_class, end_goes_on, leaves}
 use Rattle.arc_code.specs.declared.effect.Height.{Height}
@@ -642,8 +642,7 @@ module _ (p : Program) (R : resolved.Program) where
           hands_lead frames pc r stack rest held (left_waits gives.Object st.3 rest (omega (arith, st.0, e)) st.1) none last o.dying o.sane)))
       action_leads Return is stands no_end nil ready st =
           let none = nil_from_length held.temporaries (omega (arith, st.2)) in
-          let shut = subst (λ g. Shut g 0 held.variables) st.3 (nil 0 (0, ap role_of is)) in
-          let empty : NilBut [] held.variables = λ i k named. absurd (shut i k (omega arith) (omega (arith, slice_get_within held.variables i (suc k) named)) named) in
+          let empty : NilBut [] held.variables = λ i k named. absurd (subst (λ g. Shut g 0 held.variables) st.3 (nil 0 (0, ap role_of is)) i k (omega arith) (omega (arith, slice_get_within held.variables i (suc k) named)) named) in
           top_leads Good stack _ (omega (arith, st.0)) (λ v rest e. left_leads held.temporaries held _ none empty
           (leaves_lead frames pc v stack rest held (left_waits gives.Number st.3 rest (omega (arith, st.0, e)) st.1) o.alive e none empty o.dying o.sane running))
       action_leads EndStep is stands no_end nil ready st = absurd (no_end refl)
@@ -720,14 +719,12 @@ module _ (p : Program) (R : resolved.Program) where
         class_leads frames i (Some d) left e = dealloc_leads frames d.dealloc d.superclass left (λ to f. dealloc_goes R i d to (ap (λ cs. slice_get cs i) (sym classes) ∙ e) f)
 
     goes_on_leads : (frames : List ReturnFrame) → IsEnding frames → Alive frames held.places held.self → Waits gives.Number frames (length stack) held.names held.places → AllDying held.objects (ending frames) → Leads (end_goes_on p (at frames p.end_step stack held) frames)
-    goes_on_leads (Ending back w zero next left ∷ others) is alive waits dying = cc
-    goes_on_leads (Clearing back w zero fields ∷ others) is alive waits dying = cc
     goes_on_leads (Ending back w (suc k) (Some c) (suc left) ∷ others) is alive waits dying = class_leads back w k others alive dying.1 waits dying.0 _ c (slice_get p.classes c) left refl
     goes_on_leads (Ending back w (suc k) next left ∷ others) is alive waits dying = after_lead back w k others alive dying.1 waits dying.0
     goes_on_leads (Clearing back w (suc k) [] ∷ others) is alive waits dying =
         ends_lead back w k others alive dying.1 waits (nat_eq (held.counts (suc k)) 0) dying.0.0 dying.0.1 (ap is_there dying.0.2.0) dying.0.2.1 refl
     goes_on_leads (Clearing back w (suc k) (index ∷ fields) ∷ others) is alive waits dying = next_lead back w k others alive dying.1 waits index fields dying.0
-    goes_on_leads _ is alive waits dying = absurd is
+    goes_on_leads _ is alive waits dying = first_of (cc, grind arith)
 
   -- ---- the program
 

@@ -7,11 +7,10 @@ use Rattle.arc_ast.specs.declared.tree.Kind.TheVariants as k
 use Rattle.arc_spec.specs.declared.class.Gives.TheVariants as gives
 use Rattle.arc_spec.specs.Number.{converted}
 use Rattle.arc_spec.specs.Resolved as resolved
-use Rattle.arc_spec.specs.World as world
 use Rattle.arc_spec.specs.World.{World, Outcome, Done, Faulted, Cut, first_frame, first_world, nothing_given}
 use Rattle.arc_spec.specs.Meaning.{mean}
-use Rattle.arc_spec.specs.HolderCounts.{all_nil, on_left}
-use Rattle.arc_spec.specs.SmallSteps.{Next, Reached, Ends, Ended, only_if}
+use Rattle.arc_spec.specs.HolderCounts.{on_left}
+use Rattle.arc_spec.specs.SmallSteps.{Reached, Ends, Ended}
 use Rattle.arc_ir.specs.ActionSteps.{Program, State, step, start, seen}
 use Rattle.arc_code.specs.declared.instr.Instr.TheVariants.{Call, Return, EndStep}
 use Rattle.arc_lower.specs.PlainActions.{plain_actions}
