@@ -57,15 +57,14 @@ module _ (R : resolved.Program) where
   classes_firsts [] = refl
   classes_firsts (c ∷ cs) = simp (map-append, firsts_in, methods_firsts, classes_firsts cs)
 
-  marks_firsts : firsts (lowered_marks R) ≡ lowered_heights R
-  marks_firsts = simp (map-append, firsts_in, functions_firsts, classes_firsts)
-
 -- ---- the program
 
 module _ (p : Program) (R : resolved.Program) where
   there : (pc : ℕ) (h : Height) (given : Gives) → slice_get (table R) pc ≡ Some (h, given) → height_at R pc ≡ h
-  there pc h given e = get_or_from_slice_get (lowered_heights R) pc h no_height
-      (ap (λ l. slice_get l pc) (sym (marks_firsts R)) ∙ slice_get-map (λ (m : Height × Gives). m.0) (table R) pc ∙ ap (option_map (λ (m : Height × Gives). m.0)) e)
+  there pc h given e =
+      let same : firsts (lowered_marks R) ≡ lowered_heights R = simp (map-append, firsts_in, functions_firsts R, classes_firsts R) in
+      get_or_from_slice_get (lowered_heights R) pc h no_height
+      (ap (λ l. slice_get l pc) (sym same) ∙ slice_get-map (λ (m : Height × Gives). m.0) (table R) pc ∙ ap (option_map (λ (m : Height × Gives). m.0)) e)
 
   gives_there : (pc : ℕ) (h : Height) (given : Gives) → slice_get (table R) pc ≡ Some (h, given) → result_at R pc ≡ given
   gives_there pc h given e = ap (λ (m : Height × Gives). m.1) (get_or_from_slice_get (table R) pc (h, given) no_mark e)
