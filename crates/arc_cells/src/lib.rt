@@ -10,6 +10,7 @@ pub mod number_ending;
 pub mod objects;
 pub mod order;
 pub mod pattern;
+pub mod root_init;
 pub mod sequence;
 pub mod shape;
 pub mod span;

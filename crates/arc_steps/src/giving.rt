@@ -19,16 +19,6 @@ use arc_heap::store::Store;
 use arc_spec::class::{Gives, look_up};
 use arc_spec::event::Fault;
 
-/// The number of the selector `init`.
-const INIT_SELECTOR: usize = 2;
-
-/// Whether a message to an object is the root's own `init`, where no class has a method that answers it.
-pub fn is_root_init(selector: usize, takes: usize, objects: usize, wanted: Gives) -> bool
-    ensures { result ≡ classes.is_root_init selector takes objects wanted }
-{
-    selector == INIT_SELECTOR && takes == 0 && objects == 0 && wanted == Gives::Object
-}
-
 impl Place {
     /// Goes back to the instruction after the last call, where the result, which the last variable names, is a temporary
     /// and a reference.
