@@ -4,7 +4,6 @@ use Rattle.std.proofs.lemmas.Bool.{ltb-true, ltb-false, eqb-true, and_parts, not
 use Rattle.std.proofs.lemmas.List.{length-set, get_or_past, set_past, set-get_or}
 use Rattle.arc_ast.specs.declared.tree.Sign.{Sign}
 use Rattle.arc_ast.specs.declared.tree.Sign.TheVariants as signs
-use Rattle.arc_spec.specs.declared.event.Event.{Event}
 use Rattle.arc_spec.specs.declared.event.Fault.TheVariants.{Unrecognized, FieldClass, Resurrected}
 use Rattle.arc_spec.specs.declared.class.Gives.{Gives}
 use Rattle.arc_spec.specs.declared.class.Gives.TheVariants as gives
@@ -128,10 +127,6 @@ module _ (p : Program) (frames : List ReturnFrame) (bound : ℕ) (R : resolved.P
   lost : {turn : Turn} {calm : Bool} {from : Reached State} {pc : ℕ} {w : World} → Goes_on turn calm from pc (Done Lost w)
   lost = ends tt
 
-  lost_there : {turn : Turn} {calm : Bool} {next : Next State} {i : List ℕ} {t : List Event} {pc : ℕ} {w : World}
-      → After p bound next i t (Leaves turn calm pc) (Done Lost w)
-  lost_there = record { follows = ends tt }
-
   here : {turn : Turn} {calm : Bool} {pc : ℕ} {s : Operands} {w : World} → Good calm w → Goes_on turn calm (standing pc s w) pc (Done (On s) w)
   here g = ends (refl, g)
 
@@ -239,12 +234,12 @@ module _ (p : Program) (frames : List ReturnFrame) (bound : ℕ) (R : resolved.P
     operation_runs (Finds selector) pc (v ∷ numbers) rs w free g = rw (deep.same_found (class_at v) signs.Class selector 0 0 gives.Object) (still g)
     operation_runs (GetField class index) pc numbers (r ∷ rs) w free g =
         field_runs class r (pc + 1) (r ∷ rs) (λ v. On (push v (operands numbers rs))) w _ (λ k o e found is. still g)
-    operation_runs (SetField class index) pc numbers [] w free g = lost_there
+    operation_runs (SetField class index) pc numbers [] w free g = record { follows = lost }
     operation_runs (SetField class index) pc (v ∷ numbers) (r ∷ rs) w free g =
         field_runs class r (pc + 1) (r ∷ rs) (λ v. On (push v (operands numbers rs))) w _ (λ k o e found is. still g)
     operation_runs NotSame pc numbers (y ∷ x ∷ rs) w free g = after_named y _ (after_named x _ (still g))
     operation_runs IsObject pc numbers (x ∷ rs) w free g = after_named x _ (still g)
-    operation_runs _ pc numbers rs w free g = lost_there
+    operation_runs _ pc numbers rs w free g = record { follows = lost }
 
     -- ---- variables that hold numbers
 

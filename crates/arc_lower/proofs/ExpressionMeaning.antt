@@ -19,7 +19,7 @@ use Rattle.arc_spec.specs.Meaning.{Callees, sent, new_found, new_sent, number_gi
 use Rattle.arc_code.specs.declared.instr.Op.TheVariants.{SetField, Hold, Finds}
 use Rattle.arc_lower.specs.KnownKinds.{binary_kind, known_kind}
 use Rattle.arc_lower.proofs.KindsSound.{IsOf, within_keeps, combined_good, known_good, any_holds, holds_then}
-use Rattle.arc_lower.specs.Lowered.{Message, ToClass, ToSuperClass, ToObject, ToSuper, Block, One, Store, Format, Calls, SendsMessage, Making, Then, Fork, given_block, below_new, narrow_block, update_block, message_to, below_arguments, value_block, reference_block, receiver_block, arguments_block}
+use Rattle.arc_lower.specs.Lowered.{Message, ToClass, ToSuperClass, Block, One, Store, Format, Calls, SendsMessage, Making, Then, Fork, given_block, below_new, narrow_block, update_block, message_to, below_arguments, value_block, reference_block, receiver_block, arguments_block}
 use Rattle.arc_lower.specs.Size.{number_count, object_count}
 use Rattle.arc_lower.proofs.BlockMeaning.{Operands, push, name, pushed, Way, On, Lost, left_by, and_then, pushes, passes_by, answers_left, message_sent, block, after, either, same_depth, on_pushed, Holds, after_known, then_twice}
 

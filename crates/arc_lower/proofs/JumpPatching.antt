@@ -46,33 +46,13 @@ past_spot n here None = refl
 past_spot n here (Some turn) = refl
 
 module _ (P : Program) (slots names : ℕ) where
-  scopes_flat : (here : ℕ) (turn : Option Turn) (scopes : List Scope) (b : Block) (xs : List PlainAction) → ((n : ℕ) → flat P slots names (spot n turn) b ≡ xs) → flat P slots names (spot here turn) (within_scopes scopes b) ≡ scopes_actions names scopes ++ xs
+  pub scopes_flat : (here : ℕ) (turn : Option Turn) (scopes : List Scope) (b : Block) (xs : List PlainAction) → ((n : ℕ) → flat P slots names (spot n turn) b ≡ xs) → flat P slots names (spot here turn) (within_scopes scopes b) ≡ scopes_actions names scopes ++ xs
   scopes_flat here turn [] b xs h = h here
   scopes_flat here turn (s ∷ others) b xs h =
       let cs = all_empty_actions names s.first s.count in
       ap (λ e. cs ++ flat P slots names e (within_scopes others b)) (past_spot (length cs) here turn)
       ∙ ap (λ l. cs ++ l) (scopes_flat (here + length cs) turn others b xs h)
       ∙ sym (append_assoc cs (scopes_actions names others) xs)
-
-  module _ (here exit : ℕ) (scopes : List Scope) where
-    abbrev within : Option Turn → Surroundings
-    within turn = record { exit = exit; turn = turn; scopes = scopes }
-
-    -- what leaves a function with 0
-    abbrev gives_nothing : List PlainAction
-    gives_nothing = Plain (Num (pos 0)) ∷ Jump (At exit) ∷ []
-
-    pub break_in : (turn : Turn) → command_actions P slots names here (within (Some turn)) Break ≡ scopes_actions names scopes ++ (Plain (Num (pos 0)) ∷ Jump (At turn.out) ∷ [])
-    break_in turn = scopes_flat here (Some turn) scopes Quit _ (λ n. refl)
-
-    pub break_out : command_actions P slots names here (within None) Break ≡ scopes_actions names scopes ++ gives_nothing
-    break_out = scopes_flat here None scopes (nothing_given exit) _ (λ n. refl)
-
-    pub continue_in : (turn : Turn) → command_actions P slots names here (within (Some turn)) Continue ≡ scopes_actions names scopes ++ Jump (At turn.begin) ∷ []
-    continue_in turn = scopes_flat here (Some turn) scopes Advance _ (λ n. refl)
-
-    pub continue_out : command_actions P slots names here (within None) Continue ≡ scopes_actions names scopes ++ gives_nothing
-    continue_out = scopes_flat here None scopes (nothing_given exit) _ (λ n. refl)
 
 -- ---- What the functions that write loops and choices write is what these are.
 
@@ -103,9 +83,6 @@ module _ (P : Program) (slots names : ℕ) where
   -- the body of a loop with this turn, from this place on
   abbrev in_turn : (here begin out : ℕ) → Block → List PlainAction
   in_turn here begin out b = flat P slots names (Between here (record { begin = begin; out = out })) b
-
-  turn_same : (b : Block) (h1 h2 b1 b2 o1 o2 : ℕ) → h1 ≡ h2 → b1 ≡ b2 → o1 ≡ o2 → in_turn h1 b1 o1 b ≡ in_turn h2 b2 o2 b
-  turn_same b h1 h2 b1 b2 o1 o2 eh eb eo = rw (eh, eb, eo)
 
   loop_flat : (entry : Entry) (here : ℕ) (turn : Option Turn) (step : Block) (test : Value) (body : Block)
       → let begin = here + enter_size entry in
@@ -157,46 +134,23 @@ module _ (P : Program) (b : Body) (scopes : List Scope) where
     size : length o2 ≡ length o1 + length (tests test) + 1
     size = ap length e2 ∙ length-append o1 (tests test ++ JumpZero (Skip 0) ∷ []) ∙ (let more = length-append (tests test) (JumpZero (Skip 0) ∷ []) in omega (arith, more))
 
-    -- after a step, or none
-    after_step : (zs : List PlainAction) (begin' : ℕ) → begin ≡ begin' → length o1 ≡ begin' + length zs
+    -- what is written of a loop after these actions, with which it begins, and this step
+    turns_by : (first : List PlainAction) (step : Block)
+        → let begin' = length old + length first in
+        let zs = at P b.slots b.names begin' b.turn step in
+        o1 ≡ old ++ (first ++ zs) → begin ≡ begin'
         → let out' = begin' + length zs + length (tests test) in
-        written ≡ o1 ++ (tests test ++ (JumpZero (Skip (suc (length (in_turn P b.slots b.names (out' + 1) begin' out' (body_of body))))) ∷ (in_turn P b.slots b.names (out' + 1) begin' out' (body_of body) ++ Jump (Back (suc (length zs + length (tests test) + length (in_turn P b.slots b.names (out' + 1) begin' out' (body_of body))))) ∷ [])))
-    after_step zs begin' eb e1 =
+        written ≡ old ++ (first ++ turn_actions zs (tests test) (in_turn P b.slots b.names (out' + 1) begin' out' (body_of body)))
+    turns_by first step e1 eb =
+        let begin' = length old + length first in
+        let zs = at P b.slots b.names begin' b.turn step in
         let ts = tests test in
         let out' = begin' + length zs + length ts in
-        let same = turn_same P b.slots b.names (body_of body) (length o2) (out' + 1) begin begin' out out' (omega (arith, size, e1)) eb (omega (arith, eo, e1)) in
-        turn_written o1 o2 zs ts turns begin out e2 eo (omega (arith, eb, e1))
-        ∙ ap (λ xs. o1 ++ (ts ++ (JumpZero (Skip (suc (length xs))) ∷ (xs ++ Jump (Back (suc (length zs + length ts + length xs))) ∷ [])))) same
-
-    -- a loop that begins with its test, without a step and with one
-    bare_by : o1 ≡ old ++ [] → begin ≡ length old → written ≡ old ++ at P b.slots b.names (length old) b.turn (Loop AtStep Idle (full_expression_block test) (body_of body))
-    bare_by e1 eb =
-        let bare = e1 ∙ append-nil old in
-        let none : length old ≡ length old + 0 = omega arith in
-        after_step [] (length old + 0) (eb ∙ none) (let same = ap length bare in omega (arith, same))
-        ∙ rw (bare, loop_flat P b.slots b.names AtStep (length old) b.turn Idle test (body_of body))
-
-    -- what is written of a loop that has this step, before its first jump is
-    stepped_by : (step : Block)
-        → let zs = at P b.slots b.names (length old + 1) b.turn step in
-        o1 ≡ old ++ Jump (Skip (length zs)) ∷ zs → begin ≡ length old + 1
-        → let out' = length old + 1 + length zs + length (tests test) in
-        written ≡ old ++ Jump (Skip (length zs)) ∷ turn_actions zs (tests test) (in_turn P b.slots b.names (out' + 1) (length old + 1) out' (body_of body))
-    stepped_by step e1 eb =
-        let here = length old in
-        let zs = at P b.slots b.names (here + 1) b.turn step in
-        let enter : PlainAction = Jump (Skip (length zs)) in
-        let out' = here + 1 + length zs + length (tests test) in
-        let xs = in_turn P b.slots b.names (out' + 1) (here + 1) out' (body_of body) in
-        let rest = tests test ++ (JumpZero (Skip (suc (length xs))) ∷ (xs ++ Jump (Back (suc (length zs + length (tests test) + length xs))) ∷ [])) in
-        after_step zs (here + 1) eb (let same = ap length e1 ∙ length-append old (enter ∷ zs) in omega (arith, same))
-        ∙ rw e1 (append_assoc old (enter ∷ zs) rest)
-
-    tested_by : (step : Block)
-        → let zs = at P b.slots b.names (length old + 1) b.turn step in
-        o1 ≡ old ++ Jump (Skip (length zs)) ∷ zs → begin ≡ length old + 1
-        → written ≡ old ++ at P b.slots b.names (length old) b.turn (Loop AtTest step (full_expression_block test) (body_of body))
-    tested_by step e1 eb = stepped_by step e1 eb ∙ ap (λ l. old ++ l) (sym (loop_flat P b.slots b.names AtTest (length old) b.turn step test (body_of body)))
+        let size1 : length o1 ≡ begin' + length zs = omega (arith, ap length e1, length-append {A = PlainAction}) in
+        let size2 : length o2 ≡ out' + 1 = omega (arith, size1, ap length e2, length-append {A = PlainAction}) in
+        let ends : out ≡ out' = omega (arith, eo, size1) in
+        turn_written o1 o2 zs ts turns begin out e2 eo (omega (arith, eb, size1))
+        ∙ rw (size2, eb, ends, e1) (simp append_assoc)
 
     -- a loop that begins with its body
     entered_by : (step : Block) (enter : ℕ) → enter ≡ length old
@@ -204,33 +158,27 @@ module _ (P : Program) (b : Body) (scopes : List Scope) where
         o1 ≡ old ++ Jump (Skip (length zs)) ∷ zs → begin ≡ length old + 1
         → slice_set written enter (Jump (Skip (out - enter))) ≡ old ++ at P b.slots b.names (length old) b.turn (Loop AtBody step (full_expression_block test) (body_of body))
     entered_by step enter ee e1 eb =
-        let here = length old in
-        let zs = at P b.slots b.names (here + 1) b.turn step in
+        let zs = at P b.slots b.names (length old + 1) b.turn step in
         let first : PlainAction = Jump (Skip (length zs)) in
-        let out' = here + 1 + length zs + length (tests test) in
-        let rest = turn_actions zs (tests test) (in_turn P b.slots b.names (out' + 1) (here + 1) out' (body_of body)) in
-        let one = ap length e1 ∙ length-append old (first ∷ zs) in
-        let far : out - enter ≡ length zs + length (tests test) + 1 = omega (arith, eo, ee, one) in
-        patched old written rest enter first (Jump (Skip (out - enter))) (stepped_by step e1 eb) ee
-        ∙ rw (far, loop_flat P b.slots b.names AtBody here b.turn step test (body_of body))
+        let far : out - enter ≡ length zs + length (tests test) + 1 = omega (arith, eo, ee, ap length e1, length-append {A = PlainAction}) in
+        patched old written _ enter first (Jump (Skip (out - enter))) (turns_by (first ∷ []) step e1 eb) ee
+        ∙ rw (far, loop_flat P b.slots b.names AtBody (length old) b.turn step test (body_of body))
 
     repeat_by : (moment : Moment) (step : Command) (n : Bool) (enter : ℕ) → enter ≡ length old
         → let zs = if n then [] else of_command (length old + 1) step in
         o1 ≡ old ++ (if begins_first moment n then [] else Jump (Skip (length zs)) ∷ zs) → begin ≡ (if begins_first moment n then length old else length old + 1)
         → with_entry moment enter out written ≡ old ++ at P b.slots b.names (length old) b.turn (loop_block moment n (step_of step) (full_expression_block test) (body_of body))
-    repeat_by Before step true enter ee e1 eb = bare_by e1 eb
-    repeat_by Before step false enter ee e1 eb = tested_by (step_of step) e1 eb
+    repeat_by Before step true enter ee e1 eb =
+        turns_by [] Idle e1 (omega (arith, eb)) ∙ ap (λ l. old ++ l) (sym (loop_flat P b.slots b.names AtStep (length old) b.turn Idle test (body_of body)))
+    repeat_by Before step false enter ee e1 eb =
+        turns_by (Jump _ ∷ []) (step_of step) e1 eb ∙ ap (λ l. old ++ l) (sym (loop_flat P b.slots b.names AtTest (length old) b.turn (step_of step) test (body_of body)))
     repeat_by After step true enter ee e1 eb = entered_by Idle enter ee e1 eb
     repeat_by After step false enter ee e1 eb = entered_by (step_of step) enter ee e1 eb
 
-    pub repeat_written : (moment : Moment) (step : Command) (enter : ℕ) → enter ≡ length old → o1 ≡ old ++ step_actions moment P b scopes (length old) step → begin ≡ step_begin moment (length old) step
-        → with_entry moment enter out written ≡ old ++ of_command (length old) (While moment test step body)
-    repeat_written moment step enter ee e1 eb = repeat_by moment step (does_nothing step) enter ee e1 eb
-
-    -- the same, one thing written after the other
+    -- what is written one after the other
     pub repeat_entered : (o3 o4 : List PlainAction) (moment : Moment) (step : Command) (enter : ℕ) → enter ≡ length old → o1 ≡ old ++ step_actions moment P b scopes (length old) step → begin ≡ step_begin moment (length old) step
         → o3 ≡ written → o4 ≡ with_entry moment enter out o3 → o4 ≡ old ++ of_command (length old) (While moment test step body)
-    repeat_entered o3 o4 moment step enter ee e1 eb e3 e4 = e4 ∙ ap (with_entry moment enter out) e3 ∙ repeat_written moment step enter ee e1 eb
+    repeat_entered o3 o4 moment step enter ee e1 eb e3 e4 = e4 ∙ ap (with_entry moment enter out) e3 ∙ repeat_by moment step (does_nothing step) enter ee e1 eb
 
   pub step_written : (moment : Moment) (old o1 o2 : List PlainAction) (step : Command) (enter begin end : ℕ) → begins_first moment (does_nothing step) ≡ false → enter ≡ length old → o1 ≡ old ++ Jump (Skip 0) ∷ [] → begin ≡ length o1 → o2 ≡ o1 ++ own_step P b scopes (length o1) step → end ≡ length o2
       → slice_set o2 enter (Jump (Skip (end - begin))) ≡ old ++ step_actions moment P b scopes (length old) step

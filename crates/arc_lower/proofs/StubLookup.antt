@@ -42,21 +42,13 @@ gives_same gives.Object gives.Number e = cc
 gives_same _ _ e = refl
 
 -- what a method takes and gives that answers a message
-pub record Answers (sign : Sign) (takes objects : ℕ) (wanted : Gives) (m : Method) : Type 0 where
-  pub numbers : passes m.sign m.takes ≡ passes sign takes
-  pub references : m.objects ≡ objects
-  pub same : m.gives ≡ wanted
-
-pub answers_as : (sign : Sign) (selector takes objects : ℕ) (wanted : Gives) (m : Method) → answers sign selector takes objects wanted m ≡ true → Answers sign takes objects wanted m
+answers_as : (sign : Sign) (selector takes objects : ℕ) (wanted : Gives) (m : Method) → answers sign selector takes objects wanted m ≡ true
+    → (passes m.sign m.takes ≡ passes sign takes) × (m.objects ≡ objects) × (m.gives ≡ wanted)
 answers_as sign selector takes objects wanted m e =
     let parts = and_parts (same_sign m.sign sign) _ e in
     let counts = and_parts (nat_eq m.takes takes) _ (and_parts (nat_eq m.selector selector) _ parts.1).1 in
     let rest = and_parts (nat_eq m.objects objects) _ counts.1 in
-    record {
-      numbers = rw (sign_same m.sign sign parts.0, eqb-true m.takes takes counts.0);
-      references = eqb-true m.objects objects rest.0;
-      same = gives_same m.gives wanted rest.1;
-    }
+    (rw (sign_same m.sign sign parts.0, eqb-true m.takes takes counts.0), eqb-true m.objects objects rest.0, gives_same m.gives wanted rest.1)
 
 in_append : (given : Gives) (a b : List Height) → in_function given (a ++ b) ≡ in_function given a ++ in_function given b
 in_append given [] b = refl
@@ -236,7 +228,6 @@ module _ (R : resolved.Program) where
   pub record Linked (cs : List Class) : Type 0 where
     pub same : (i : ℕ) → Same (slice_get R.classes i) (slice_get cs i)
     pub above : superclasses cs ≡ superclasses R.classes
-    pub count : length cs ≡ length R.classes
 
   -- both are found or neither is
   pub meets_same : (wanted : Gives) (values objects : ℕ) (meant stands : Option ℕ) → Meets wanted values objects meant stands → is_some stands ≡ is_some meant
@@ -244,18 +235,16 @@ module _ (R : resolved.Program) where
   meets_same wanted values objects (Some f) None h = absurd h
   meets_same wanted values objects _ _ h = refl
 
-  first_meets : (sign : Sign) (selector takes objects : ℕ) (wanted : Gives) (place : ℕ) (m : Method) (a b : Option ℕ) (t : Bool) → answers sign selector takes objects wanted m ≡ t → Stub m.gives (passes m.sign m.takes) m.objects m.runs place → Meets wanted (passes sign takes) objects a b → Meets wanted (passes sign takes) objects (if t then Some m.runs else a) (if t then Some place else b)
-  first_meets sign selector takes objects wanted place m a b true e stub rest =
-      let same = answers_as sign selector takes objects wanted m e in
-      rw (same.numbers, same.references, same.same) at stub
-  first_meets sign selector takes objects wanted place m a b false e stub rest = rest
-
   found_meets : (place : ℕ) (ms : List Method) → Methods place ms → (sign : Sign) (selector takes objects : ℕ) (wanted : Gives) → Meets wanted (passes sign takes) objects (found sign selector takes objects wanted ms) (found sign selector takes objects wanted (linked_methods R (entries_of R) place ms))
   found_meets place [] has sign selector takes objects wanted = tt
   found_meets place (m ∷ others) has sign selector takes objects wanted =
       let later = place + length (method_stub m) in
       let parts = methods_split place m others has in
-      first_meets sign selector takes objects wanted place m (found sign selector takes objects wanted others) (found sign selector takes objects wanted (linked_methods R (entries_of R) later others)) (answers sign selector takes objects wanted m) refl parts.0 (found_meets later others parts.1 sign selector takes objects wanted)
+      by_test (λ t. Meets wanted (passes sign takes) objects (if t then Some m.runs else found sign selector takes objects wanted others)
+      (if t then Some place else found sign selector takes objects wanted (linked_methods R (entries_of R) later others)))
+      (answers sign selector takes objects wanted m)
+      (λ e. let same = answers_as sign selector takes objects wanted m e in rw (same.0, same.1, same.2) at parts.0)
+      (λ e. found_meets later others parts.1 sign selector takes objects wanted)
 
   dealloc_meets : (place : ℕ) (dealloc : Option ℕ) → Dealloc place dealloc → Meets gives.Number 0 0 dealloc (linked_dealloc place dealloc)
   dealloc_meets place None has = tt
@@ -269,10 +258,6 @@ module _ (R : resolved.Program) where
   classes_same place (c ∷ others) has (suc i) =
       classes_same (place + length (class_actions R (entries_of R) c)) others (classes_split place c others has).2 i
 
-  linked_length : (place : ℕ) (cs : List Class) → length (linked_classes R (entries_of R) place cs) ≡ length cs
-  linked_length place [] = refl
-  linked_length place (c ∷ others) = ap suc (linked_length (place + length (class_actions R (entries_of R) c)) others)
-
   linked_superclasses : (place : ℕ) (cs : List Class) → superclasses (linked_classes R (entries_of R) place cs) ≡ superclasses cs
   linked_superclasses place [] = refl
   linked_superclasses place (c ∷ others) = ap (λ above. c.superclass ∷ above) (linked_superclasses (place + length (class_actions R (entries_of R) c)) others)
@@ -281,7 +266,6 @@ module _ (R : resolved.Program) where
   linked = record {
     same = classes_same (length (running_actions R)) R.classes stubs_stand;
     above = linked_superclasses (length (running_actions R)) R.classes;
-    count = linked_length (length (running_actions R)) R.classes;
   }
 
   -- ---- lookups
@@ -369,13 +353,9 @@ module _ (P : resolved.Program) (wanted : Gives) where
   out_of_list (g ∷ fs) zero e = ap (λ b. if b then g else nothing_giving wanted) (sym e)
   out_of_list (g ∷ fs) (suc f) e = out_of_list fs f e
 
-  one_gives : (b : Bool) (g : Function) → same_gives g.gives wanted ≡ b → (if b then g else nothing_giving wanted).gives ≡ wanted
-  one_gives true g e = gives_same g.gives wanted e
-  one_gives false g e = refl
-
   found_gives : (fs : List Function) (f : ℕ) → (function_at (with_functions fs P) wanted f).gives ≡ wanted
   found_gives [] f = refl
-  found_gives (g ∷ fs) zero = one_gives (same_gives g.gives wanted) g refl
+  found_gives (g ∷ fs) zero = by_test (λ b. (if b then g else nothing_giving wanted).gives ≡ wanted) (same_gives g.gives wanted) (gives_same g.gives wanted) (λ e. refl)
   found_gives (g ∷ fs) (suc f) = found_gives fs f
 
 -- a function gives what is wanted of it
