@@ -17,7 +17,7 @@ use Rattle.arc_spec.specs.Meaning.{chosen}
 use Rattle.arc_spec.specs.Number.{counted, is_zero}
 use Rattle.arc_spec.specs.Objects.{Object, Dying, Emptying, Gone, object_at, with_object, with_fields, with_strong_fields, in_phase, is_live, is_emptying}
 use Rattle.arc_spec.specs.Resolved as resolved
-use Rattle.arc_spec.specs.HolderCounts.{Heap, all_places, ReturnFrame, Calling, Ending, Clearing, Waiter, CountsAreExact, holders, is_there, stacked, with_strong_globals, with_strong_field, on_place, turned_in, with_temporaries, with_variables, with_names, with_things, lowered, raised, named, taken_by, on_named, on_field, declares, lets_go, on_object, makes, resumed, all_nil, on_left, on_last, on_result, with_field}
+use Rattle.arc_spec.specs.HolderCounts.{Heap, all_places, ReturnFrame, Calling, Ending, Clearing, Waiter, CountsAreExact, holders, is_there, stacked, with_strong_globals, with_strong_field, on_place, turned_in, with_temporaries, with_variables, with_names, with_things, lowered, raised, named, taken_by, on_named, on_field, declares, lets_go, on_object, resumed, all_nil, on_left, on_last, on_result, with_field}
 use Rattle.arc_spec.specs.SmallSteps.{Next, Goes, Faults, Along, Safe, Sound, on_top, on_found}
 use Rattle.arc_ir.specs.ActionSteps.{Program, State, lands, start, step, entry, keeps, goes, or_fault, has_level, enters, answers, taken, sends, allocates, operates, begins_end, releases, runs_dealloc, clears, after_deallocs, clears_next, ends_class, end_goes_on, leaves}
 use Rattle.arc_code.specs.declared.effect.Height.{Height}
@@ -29,7 +29,7 @@ use Rattle.arc_code.specs.Effects.{passes, as_object, giving, operation_effect, 
 use Rattle.arc_code.proofs.EffectsFollowed.{operation_follows}
 use Rattle.arc_code.proofs.StepOutcomes.{along_both}
 use Rattle.arc_code.specs.Instructions as instructions
-use Rattle.arc_lower.specs.PlainActions.{PlainAction, plain_action, plain_actions}
+use Rattle.arc_lower.specs.PlainActions.{PlainAction, plain_actions}
 use Rattle.arc_lower.specs.Lowered.{slots_of, parameters_of, entries_of, end_step_of, lowered as lowered_actions, classes_linked}
 use Rattle.arc_lower.specs.Heights.{height, after_effect, next_height}
 use Rattle.arc_lower.proofs.CaseAnalysis.{by_test}

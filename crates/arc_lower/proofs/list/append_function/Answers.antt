@@ -1,4 +1,5 @@
-use Rattle.std.proofs.Common.{◌≡◌, ◌≤◌, suc, ◌++◌, length, sym, ap, ◌∙◌, arith, length-append}
+use Rattle.std.proofs.Common.{◌≡◌, suc, ◌++◌, length, sym, ap, ◌∙◌, arith, length-append}
+use Rattle.std.proofs.lemmas.Grind.{common_steps}
 use Rattle.std.proofs.lemmas.List.{length-map}
 use Rattle.arc_spec.specs.Resolved.{Function}
 use Rattle.arc_spec.specs.Meaning.{function_places}
@@ -11,16 +12,10 @@ use Rattle.arc_lower.proofs.ActionLists.{slice_after, begins_within, raised_appe
 use Rattle.arc_lower.proofs.list.append_function.Goals as goal
 
 pub slice_bounds-raise-start-2 : goal.slice_bounds-raise-start-2
-slice_bounds-raise-start-2 c =
-    let middle = c.append_leave.new.actions in
-    let within : c.len-entry.result ≤ length c.deref-2.result.now = begins_within middle.items c.append_body.new.actions.items c.deref-2.result.now c.len-entry.result _ (c.len-entry.ensures ∙ middle.ok.0) c.deref-2.ensures.value c.in_ok-append_body.ensures in
-    omega (arith, within)
+slice_bounds-raise-start-2 c = grind (arith, begins_within, common_steps)
 
 pub slice_bounds-raise-count-2 : goal.slice_bounds-raise-count-2
-slice_bounds-raise-count-2 c =
-    let middle = c.append_leave.new.actions in
-    let within : c.len-entry.result ≤ length c.deref-2.result.now = begins_within middle.items c.append_body.new.actions.items c.deref-2.result.now c.len-entry.result _ (c.len-entry.ensures ∙ middle.ok.0) c.deref-2.ensures.value c.in_ok-append_body.ensures in
-    omega (arith, within)
+slice_bounds-raise-count-2 c = grind (arith, begins_within, common_steps)
 
 pub returns-clause-most : goal.returns-clause-most
 returns-clause-most c =
