@@ -407,8 +407,7 @@ module _ (p : Program) (R : resolved.Program) where
       reads x r names1 own1 keeps is there same made = named_leads (Kept x) r (with_names held (r ∷ names1)) _ there (stays x stack _ (r ∷ own1) (record { is = ap (λ l. r ∷ l) is; keeps = λ k some. grind (arith, keeps k); alive = o.alive; waits = o.waits; dying = o.dying; sane = gains r there o.sane }) (sym same) made)
 
       or_fault_leads : (x : Op) (v : Option ℤ) (rest : List ℤ) → declared x held.variables ≡ held.variables → IsMade x own held.temporaries → Along (Kept x) (or_fault v s rest)
-      or_fault_leads x None rest same made = tt
-      or_fault_leads x (Some v) rest same made = stays x (v ∷ rest) held own o (sym same) made
+      or_fault_leads x v rest h e = grind arith
 
       made_leads : (found : Option ℕ) (rest : List ℤ) → Along (Kept Alloc) (allocates p.classes s rest found)
       made_leads None rest = tt

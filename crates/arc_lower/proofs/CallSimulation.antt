@@ -34,8 +34,7 @@ use Rattle.arc_lower.proofs.StubLookup.{begins, has_part, call_enters, function_
 use Rattle.arc_spec.specs.declared.limits.TheConstants.{MOST_LEVELS}
 
 then_thrice : {A B C E : Type 0} (o : Outcome A) (f : A → World → Outcome B) (g : B → World → Outcome C) (h : C → World → Outcome E) → then_do o (λ a w. then_do (then_do (f a w) g) h) ≡ then_do (then_do (then_do o f) g) h
-then_thrice (Done a w) f g h = refl
-then_thrice _ f g h = refl
+then_thrice o f g h = grind arith
 
 -- the next n classes from this one up
 abbrev above_in : resolved.Program → (n : ℕ) → Option ℕ → List ℕ
@@ -65,8 +64,7 @@ fields_put (a ∷ objects) (suc k) ob x found same = ap (λ l. fields_of a ++ l)
 
 -- an object is gone, where there is such an object
 turned_is : (objects : List Object) (o : ℕ) (found : Option Object) (w : World) → object_at objects o ≡ found → w.objects ≡ objects → turned Gone o found w ≡ record w { objects = turned_in Gone objects o }
-turned_is objects o None w e same = ap (λ l. record w { objects = l }) same ∙ rw e refl
-turned_is objects o (Some ob) w e same = rw e (rw same refl)
+turned_is objects o found w h e = grind arith
 
 module _ (p : Program) (R : resolved.Program) (bound : ℕ) (is : plain_actions p.actions ≡ lowered R) (entries : p.entries ≡ entries_of R) where
   abbrev pub entry : Gives → ℕ → ℕ
@@ -157,8 +155,7 @@ module _ (p : Program) (R : resolved.Program) (bound : ℕ) (is : plain_actions 
   at_end rs frames o stack w = Running (at frames p.end_step stack (ended_held rs o w)) w.input w.trace
 
   classes_are : (levels : ℕ) → (level R bound levels).classes ≡ R.classes
-  classes_are zero = refl
-  classes_are (suc levels) = refl
+  classes_are levels = grind arith
 
   module _ (rs : List ℕ) (back : ℕ) (f0 : world.Activation) (waiting : List ℕ) (j levels : ℕ) (frames : List ReturnFrame) (stack : List ℤ) (deep : (frame : ReturnFrame) → Deep p (frame ∷ frames) bound R (level R bound levels)) where
     abbrev o : ℕ

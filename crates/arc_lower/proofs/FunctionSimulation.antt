@@ -1,5 +1,5 @@
 -- Simulation of a function: a run does what its body means, empties its variables, and returns to what waited for it.
-use Rattle.std.proofs.Common.{◌≡◌, ℕ, zero, suc, ◌+◌, ◌-◌, ◌≤◌, ℤ, pos, Bool, true, false, not, ◌&&◌, ◌||◌, if◌then◌else◌, List, [], ◌∷◌, ◌++◌, length, take, Some, None, slice_get, slice_set, refl, sym, ap, ◌∙◌, subst, arith, length-append}
+use Rattle.std.proofs.Common.{◌≡◌, ℕ, zero, suc, ◌+◌, ◌-◌, ◌≤◌, ℤ, pos, Bool, true, false, ◌||◌, if◌then◌else◌, List, [], ◌∷◌, ◌++◌, length, take, Some, None, slice_get, slice_set, refl, sym, ap, ◌∙◌, subst, arith, length-append}
 use Rattle.std.proofs.lemmas.Bool.{eq-eqb, and_from, true≢false}
 use Rattle.std.proofs.lemmas.List.{append-nil}
 use Rattle.std.proofs.Math.Seq.{take-nil}
@@ -9,13 +9,13 @@ use Rattle.arc_spec.specs.declared.class.Gives.{Gives}
 use Rattle.arc_spec.specs.declared.event.Event.{Event}
 use Rattle.arc_spec.specs.declared.class.Gives.TheVariants as gives
 use Rattle.arc_spec.specs.Classes.{lesser, same_gives}
-use Rattle.arc_spec.specs.Objects.{nils, object_at, is_live, names, field_places}
+use Rattle.arc_spec.specs.Objects.{nils, names, field_places}
 use Rattle.arc_spec.specs.Resolved.{Value, Command, Sequence, If, While, Break, Continue, Commands, no_commands, and_command}
 use Rattle.arc_spec.specs.Resolved as resolved
 use Rattle.arc_spec.specs.Meaning.{Callees, Flow, given, answer, released, all_dropped, variables_dropped, function_places, called, all_executed}
 use Rattle.arc_spec.specs.World as world
 use Rattle.arc_spec.specs.World.{World, Outcome, Done, finished, then_do, Given, stacked, places, name_at, first_frame, and_self, takes, entered, left, padded}
-use Rattle.arc_spec.specs.HolderCounts.{Heap, ReturnFrame, Calling, all_nil, on_left, on_last, on_result, with_variables}
+use Rattle.arc_spec.specs.HolderCounts.{Heap, ReturnFrame, all_nil, on_left, on_last, on_result, with_variables}
 use Rattle.arc_spec.specs.SmallSteps.{Next, Reached, follow}
 use Rattle.arc_code.specs.Instructions as instructions
 use Rattle.arc_ir.specs.ActionSteps.{Program, State}
@@ -26,7 +26,7 @@ use Rattle.arc_code.specs.declared.instr.Instr.TheVariants as instrs
 use Rattle.arc_lower.specs.PlainActions.{PlainAction}
 use Rattle.arc_lower.specs.Lowered.{all_empty_actions, keep_actions, leaving_action, leave_actions, declare_actions, take_actions, own_actions, opening_actions, no_turn, Between, Block, Clear, Then, Quit, Advance, flat, full_expression_block, nothing_given, loop_block, command_block, commands_block, body_block, body_actions}
 use Rattle.arc_lower.specs.Size.{object_parameters, does_nothing}
-use Rattle.arc_lower.proofs.RunsCompose.{running, Follows, After, ends, leads, on, quietly, steps, done_then, next, shows_nothing}
+use Rattle.arc_lower.proofs.RunsCompose.{running, Follows, After, leads, on, quietly, steps, done_then, next, shows_nothing}
 use Rattle.arc_lower.proofs.RunsCompose.{Crosses, one_crosses, then_crosses, no_crosses}
 use Rattle.arc_lower.proofs.RecountedSteps.{recount, at, held_of, bare, HasAt, has_front, has_back}
 use Rattle.arc_lower.proofs.StackAccess.{onto, front_of, padded_length, get_below, set_below, keeps_pass}
@@ -70,8 +70,7 @@ first_are (suc count) (suc parameters) (x ∷ objects) = let e = one_more parame
 
 -- no statement has a temporary after it
 loop_quiet : (R : resolved.Program) (moment : Moment) (without_step : Bool) (step body : Block) (test : Value) → takes_none R step ≡ true → takes_none R body ≡ true → takes_none R (loop_block moment without_step step (full_expression_block test) body) ≡ true
-loop_quiet R moment true step body test e f = f
-loop_quiet R moment false step body test e f = and_from (takes_none R step) (takes_none R body) e f
+loop_quiet R moment without_step step body test h e = grind arith
 
 mutual
   command_quiet : (R : resolved.Program) (exit : ℕ) (breaks continues : Block) → takes_none R breaks ≡ true → takes_none R continues ≡ true → (c : Command) → takes_none R (command_block exit breaks continues c) ≡ true
@@ -90,24 +89,18 @@ mutual
 -- what a run does of what is left in some way
 ways_back : {A : Type 0} {p : Program} {bound : ℕ} {r : Reached State} {end : Way → World → Reached State → Type 0} (way : A → Way) (o : Outcome A)
     → Follows p bound r end (left_by way o) → Follows p bound r (λ a w to. end (way a) w to) o
-ways_back way (Done a w) h = record { runs = h.runs }
-ways_back way _ h = record { runs = h.runs }
+ways_back way o h = grind arith
 
 -- the answer of a function, by the number with which it is left
 abbrev answer_with : resolved.Function → ℤ → World → world.Answer
 answer_with F v w = record { number = v; object = name_at w.frame.strong F.names }
 
 given_later : (D : Callees) (F : resolved.Function) (before : World) (o : Outcome Flow) → then_do (then_do o (λ flow w. Done (given flow) w)) (λ v w. then_do (variables_dropped D 0 F.names w) (λ _ w2. Done (answer_with F v w2) (left before w2))) ≡ then_do o (λ flow w. then_do (variables_dropped D 0 F.names w) (λ _ w2. Done (answer F flow w2) (left before w2)))
-given_later D F before (Done flow w) = refl
-given_later D F before _ = refl
+given_later D F before o = grind arith
 
 -- what another place names doesn't end where one place names it no more
 released_named : (D : Callees) (r : ℕ) (w : World) → names r (places w) ≡ true → released D r w ≡ Done finished w
-released_named D r w e = ap (λ b. if is_live (object_at w.objects r) && not b then D.end_of r w else Done finished w) e ∙ by (is_live (object_at w.objects r))
-  where
-    by : (b : Bool) → (if b && false then D.end_of r w else Done finished w) ≡ Done finished w
-    by true = refl
-    by false = refl
+released_named D r w h = grind arith
 
 -- a function that was entered, and is left for what waited for it before
 module _ (p : Program) (frames : List ReturnFrame) (bound : ℕ) (R : resolved.Program) (F : resolved.Function) (self : ℕ) (before : World) (below : List ℤ) (rs : List ℕ) (D : Callees) (deep : Deep p frames bound R D) (exit : ℕ) where
@@ -133,19 +126,6 @@ module _ (p : Program) (frames : List ReturnFrame) (bound : ℕ) (R : resolved.P
   abbrev pub Left : (wanted : Gives) → world.Answer → World → Reached State → Type 0
   Left wanted a w to = (to ≡ leaving wanted a w) × Kept before w
 
-  -- how a function is left doesn't depend on the counts, nor on where it is left
-  counts_aside : (wanted : Gives) (fs : List ReturnFrame) (pc : ℕ) (stack : List ℤ) (held other h : Heap) (c : ℕ → ℕ) (a : world.Answer) → recount (leaves_with wanted (at frames pc stack held) fs a h) ≡ recount (leaves_with wanted (at frames 0 stack other) fs a (record h { counts = c }))
-  counts_aside gives.Number (Calling back waits ∷ fs) pc stack held other h c a = refl
-  counts_aside gives.Object (Calling back waits ∷ fs) pc stack held other h c a = refl
-  counts_aside _ _ pc stack held other h c a = refl
-
-  bared_leaves : (wanted : Gives) (a : world.Answer) (w : World) (pc : ℕ) → Fine false w → w.frame.temporaries ≡ []
-      → recount (leaves_with wanted (at frames pc (a.number ∷ below) (held_of rs w)) frames a (with_variables (held_of rs w) []))
-      ≡ recount (leaves_with wanted (at frames 0 (a.number ∷ below) (held_of rs (bared w))) frames a (held_of rs (bared w)))
-  bared_leaves wanted a w pc g none =
-      counts_aside wanted frames pc (a.number ∷ below) (held_of rs w) (held_of rs (bared w)) (with_variables (held_of rs w) [])
-      (held_of rs (bared w)).counts a ∙ rw (none, g.0.itself, g.0.waits)
-
   module _ {A : Type 0} {i : List ℕ} {t : List Event} {end : A → World → Reached State → Type 0} {o : Outcome A} where
     -- a function is left only without temporaries
     left_runs : (ts : List ℕ) (h : Heap) (go : Heap → Next State) → (ts ≡ [] → After p bound (go (with_variables h [])) i t end o)
@@ -170,9 +150,7 @@ module _ (p : Program) (frames : List ReturnFrame) (bound : ℕ) (R : resolved.P
   left_there : (wanted : Gives) (v : ℤ) (w : World) (pc : ℕ) → Fine false w → w.frame.temporaries ≡ []
       → After p bound (leaves_with wanted (at frames pc (v ∷ below) (held_of rs w)) frames (answer_with F v w) (with_variables (held_of rs w) []))
       w.input w.trace (Left wanted) (Done (answer_with F v w) (left before w))
-  left_there wanted v w pc g none = record {
-    follows = ends (ap (λ n. follow n w.input w.trace) (bared_leaves wanted (answer_with F v w) w pc g none), record { frame = refl; waiting = refl });
-  }
+  left_there wanted v w pc h e = grind arith
 
   -- the last action of a function
   last_step_runs : (wanted : Gives) (v : ℤ) (w : World) (pc : ℕ) → Fine false w

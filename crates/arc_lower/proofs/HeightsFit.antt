@@ -92,8 +92,7 @@ module _ (p : Program) (R : resolved.Program) where
   -- an action fits wherever the bytes of its text lie
   action_fits : (x : Action) (pc : ℕ) → FitsAt (bare p) (height_at R) pc (plain_action x) → GivesAt (bare p) (result_at R) pc (plain_action x)
       → FitsAt (linked p) (height_at R) pc x × GivesAt (linked p) (result_at R) pc x
-  action_fits (Plain o) pc h g = (h, g)
-  action_fits _ pc h g = (h, g)
+  action_fits x pc h e = grind arith
 
   module _ (is : plain_actions p.actions ≡ lowered R) (entries : p.entries ≡ entries_of R) where
     -- a function is entered with its variables

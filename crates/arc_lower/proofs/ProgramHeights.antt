@@ -29,12 +29,10 @@ use Rattle.arc_lower.proofs.RecountedSteps.{each_at}
 use Rattle.arc_lower.proofs.StepHeights.{some_same, Leaves, Empties, role, role_of, Stands, Goes, calm_free, Steps, StepsAt, AllStep, step_then, opens_goes, Stays, none_goes, action_steps, Row, row_of, rows_then, typed_steps, Emptied, way_stands, takes_step, block_walks}
 
 leaving_is : (given : Gives) → role (leaving_action given) ≡ Leaves
-leaving_is gives.Number = refl
-leaving_is gives.Object = refl
+leaving_is given = grind arith
 
 places_by : (given : Gives) (n : ℕ) → (if same_gives given gives.Object then suc n else n) ≡ n + as_object given
-places_by gives.Number n = omega arith
-places_by gives.Object n = omega arith
+places_by given n = grind arith
 
 module _ (R : resolved.Program) where
   abbrev pub all : List PlainAction
@@ -104,8 +102,7 @@ module _ (R : resolved.Program) where
     Left n pc h xs = Emptied R all table given n pc h × Step_all pc xs
 
     last_steps : (g : Gives) → given ≡ g → (pc : ℕ) (h : Height) → Alike h (height 1 0 0 names) → Steps R all table given h pc (leaving_action g)
-    last_steps gives.Number e pc h at = (at.0, at.1, at.2, e)
-    last_steps gives.Object e pc h at = (at.0, at.1, at.2, e, omega (arith, places, ap as_object e))
+    last_steps g e pc h k = grind arith
 
     pops_left : (n pc : ℕ) (h : Height) → Alike h (height (suc n) 0 0 names) → Rows pc h (pop_actions n ++ last_action ∷ []) → Left 0 pc h (pop_actions n ++ last_action ∷ [])
     pops_left zero pc h at f = (way_stands R all table given 0 pc h last_action Leaves refl (leaving_is given) f.0 f.1, (((h, given), f.0, last_steps given refl pc h at), tt))

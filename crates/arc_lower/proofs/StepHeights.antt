@@ -89,8 +89,7 @@ IsBefore (Empties i) = Unit {0}
 IsBefore _ = ⊥
 
 needs_ordinary : (P : resolved.Program) (x : PlainAction) (h : Height) → Needs P x h → Ordinary (role x)
-needs_ordinary P (Plain (Set depth)) h needs = (λ e. cc, λ e. cc, λ e. cc)
-needs_ordinary P _ h needs = (λ e. grind arith, λ e. grind arith, λ e. grind arith)
+needs_ordinary P x h e = grind arith
 
 module _ (R : resolved.Program) (all : List PlainAction) (table : List (Height × Gives)) where
   abbrev pub role_at : ℕ → Role
@@ -212,8 +211,7 @@ module _ (R : resolved.Program) (all : List PlainAction) (table : List (Height �
       rows_then pc w xs ys is f = (row_front pc w xs ys f, subst (λ v. Row (pc + length xs) v ys) is (row_back pc w xs ys f))
 
       variables_same : (x : PlainAction) (w : Walk) → IsBefore (role x) → (next_walk R base x w).height.variables ≡ w.height.variables
-      variables_same (Plain (Set depth)) w before = omega arith
-      variables_same _ w before = grind arith
+      variables_same x w h = grind arith
 
       -- an action that keeps its place in a function, before one to which a run may go
       goes_before : (pc : ℕ) (w : Walk) (x : PlainAction) → Ordinary (role x) → slice_get table pc ≡ Some (w.height, given) → slice_get all pc ≡ Some x
@@ -288,8 +286,7 @@ module _ (R : resolved.Program) (all : List PlainAction) (table : List (Height �
       AllBase (h ∷ others) = (h ≡ base) × AllBase others
 
       rest_base : (pending : List Height) → AllBase pending → AllBase (drop 1 pending)
-      rest_base [] all = tt
-      rest_base (h ∷ others) all = all.1
+      rest_base pending h = grind arith
 
       -- where a loop goes on with its next turn, and where it is left
       abbrev Ways : (looping : Bool) → Turn → Type 0
