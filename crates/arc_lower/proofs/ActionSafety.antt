@@ -1,6 +1,6 @@
 -- No action lacks what it takes, whatever is read, and the counts are right: what runs and what waits have as many
 -- numbers, references and places as the heights of a program say.
-use Rattle.std.proofs.Common.{◌≡◌, ◌⊎◌, inl, inr, ℕ, zero, suc, ◌+◌, ◌-◌, ◌<◌, ◌≤◌, ℤ, pos, Bool, true, false, ◌&&◌, nat_eq, if◌then◌else◌, List, [], ◌∷◌, ◌++◌, length, take, drop, Option, Some, None, ⊎_elim, refl, sym, ap, ◌∙◌, subst, arith, append_assoc, length-append, length-drop, slice_get, slice_set}
+use Rattle.std.proofs.Common.{◌≡◌, ◌⊎◌, inl, inr, ℕ, zero, suc, ◌+◌, ◌-◌, ◌<◌, ◌≤◌, ℤ, pos, Bool, true, false, nat_eq, if◌then◌else◌, List, [], ◌∷◌, ◌++◌, length, take, drop, Option, Some, None, ⊎_elim, refl, sym, ap, ◌∙◌, subst, arith, append_assoc, length-append, length-drop, slice_get, slice_set}
 use Rattle.std.proofs.Math.Seq.{take-append_seam, drop-append_seam}
 use Rattle.std.proofs.lemmas.Bool.{eqb-true}
 use Rattle.std.proofs.lemmas.Bool.Decides.{nat_tests}
@@ -249,10 +249,7 @@ module _ (p : Program) (R : resolved.Program) where
   -- a place that named this is dropped
   lets_go_leads : (r : ℕ) (held : Heap) (stays : Heap → Next State) (ends : (o class : ℕ) → Heap → Next State) → Drops p.classes r held → (Sane p.classes (lowered r held) → Leads (stays (lowered r held)))
       → ((k : ℕ) (ob : Object) → r ≡ suc k → object_at held.objects (suc k) ≡ Some ob → is_live (Some ob) ≡ true → Leads (ends (suc k) ob.class (with_things (lowered (suc k) held) (with_object held.objects (suc k) (in_phase Dying ob))))) → Leads (lets_go r held stays ends)
-  lets_go_leads zero held stays ends drops h e = h (lowers 0 held refl drops)
-  lets_go_leads (suc k) held stays ends drops h e =
-      let there = keeps_there drops k (grind (arith, nat_tests)) in
-      grind (arith, e k, λ (more : (is_live (object_at held.objects (suc k)) && nat_eq (held.counts (suc k)) 1) ≡ false). h (lowers (suc k) held more drops))
+  lets_go_leads r held stays ends h e g = grind (arith, lowers, keeps_there, nat_tests)
 
   -- all variables but the last one are nil
   last_leads : (variables : List ℕ) (go : ℕ → Next State) → 1 ≤ length variables → Shut gives.Object 0 variables → ((r : ℕ) → ((k : ℕ) → holders (suc k) variables ≡ holders (suc k) (r ∷ [])) → Leads (go r)) → Leads (on_last variables go)

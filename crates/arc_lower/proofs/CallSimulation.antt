@@ -114,11 +114,7 @@ module _ (p : Program) (R : resolved.Program) (bound : ℕ) (is : plain_actions 
   -- a method or a function comes back after its call
   comes_home : (rs : List ℕ) (levels : ℕ) (wanted : Gives) (f pc self : ℕ) (frames : List ReturnFrame) (stack : List ℤ) (w : World) (deep : Deep p (Calling (pc + 1) (waits_of w) ∷ frames) bound R (level R bound levels)) (a : world.Answer) (w2 : World) → Kept w w2
       → leaving p (Calling (pc + 1) (waits_of w) ∷ frames) bound R (function_at R wanted f) self w stack rs (level R bound levels) deep (begins p R is entries wanted f).place wanted a w2 ≡ after_call wanted frames rs pc stack a w2
-  comes_home rs levels gives.Number f pc self frames stack w deep a w2 k =
-      simp (append-nil, k.frame, k.waiting, append_assoc, take-append_seam, drop-append_seam)
-  comes_home rs levels gives.Object f pc self frames stack w deep a w2 k =
-      let all = append_assoc w.frame.temporaries w.frame.strong w.waiting in
-      rw (append-nil w2.trace, k.frame, k.waiting, all, take-append_seam, drop-append_seam, take-append_seam, drop-append_seam, all)
+  comes_home rs levels wanted f pc self frames stack w deep a w2 h = grind (arith, append-nil, append_assoc, take-append_seam, drop-append_seam)
 
   method_runs : (rs : List ℕ) (levels : ℕ) (wanted : Gives) (f pc self : ℕ) (frames : List ReturnFrame) (given : Given) (stack : List ℤ) (w : World)
       → Deep p (Calling (pc + 1) (waits_of w) ∷ frames) bound R (level R bound levels)

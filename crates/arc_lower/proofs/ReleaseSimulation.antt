@@ -112,11 +112,7 @@ module _ {p : Program} {bound : ℕ} (D : Callees) {w : World} {A : Type 0} {end
       → After p bound none w.input w.trace end (meant (Done finished w))
       → ((old : ℕ) → slice_get places' i ≡ Some old → After p bound (go old) w.input w.trace end (meant (released D old (with (slice_set places' i r)))))
       → After p bound (on_place (slice_get places' i) none go) w.input w.trace end (meant (released D (name_at places' i) (with (slice_set places' i r))))
-  after_place places' i r with is stay release =
-      by_place (slice_get places' i) (λ e.
-      let le : length places' ≤ i = grind (arith, slice_get_cases places' i) in
-      rw (get_or_past places' i 0 le, ap with (set_past places' i r le) ∙ is) stay)
-      (λ old found. rw (get_or_from_slice_get places' i old 0 found) (release old found))
+  after_place places' i r with h e g = grind (arith, by_place, slice_get_cases, get_or_past, set_past, get_or_from_slice_get)
 
 -- variables that are emptied, from the first one on, the last one first
 abbrev pub empties : (first count : ℕ) → List ℕ → List ℕ
@@ -202,9 +198,7 @@ module _ (p : Program) (frames : List ReturnFrame) (bound : ℕ) (rs : List ℕ)
   -- a variable that there isn't
   pub no_variable : (i r : ℕ) (stack : List ℤ) (w : World) (pc : ℕ) → length w.frame.strong ≤ i
       → Drops stack pc (pc + 0) w (stores (Local i) r w) (assigned D (Local i) r w)
-  no_variable i r stack w pc le =
-      let e : pc + 0 ≡ pc = omega arith in
-      rw (e, set_past w.frame.strong i r le, get_or_past w.frame.strong i 0 le) (ends (refl, kept_same w))
+  no_variable i r stack w pc h = grind (arith, set_past, get_or_past, kept_same)
 
   -- a variable takes this
   pub changes_runs : (i r old : ℕ) (stack : List ℤ) (w : World) (pc : ℕ) → slice_get w.frame.strong i ≡ Some old

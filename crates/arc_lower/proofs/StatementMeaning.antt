@@ -35,10 +35,7 @@ module _ (D : Callees) where
   dropped o = grind arith
 
   pub unused_is : (a : Value) (w : World) → then_do (full_expression D (unused a) w) (λ _ w1. Done Normal w1) ≡ then_do (full_expression D a w) (λ _ w1. Done Normal w1)
-  unused_is a w =
-      dropped (evaluated D (unused a) w)
-      ∙ ap (λ o. then_do o (λ _ w1. then_do (all_dropped D w1) (λ _ w2. Done Normal w2))) (unused_ends a w)
-      ∙ sym (dropped (evaluated D a w))
+  unused_is a w = grind (arith, dropped, unused_ends)
 
 -- ---- The blocks of statements and functions mean what these mean.
 
@@ -62,17 +59,13 @@ module _ (D : Callees) (bound : ℕ) where
   forgotten place r s o = sym (then_twice o (λ _ w. Done (On (name r s)) w) _)
 
   full_expression_is : (a : Value) (names : List ℕ) (w : World) → run (full_expression_block a) (calm names) w ≡ left_by (above D bound 0 (calm names)) (full_expression D a w)
-  full_expression_is a names w =
-      let s = calm names in
-      full (λ v. push v s) (λ v. push v s) (above D bound 0 s) _ (evaluated D a w) _ (λ v w1. Done v w1) _ (value_is D bound (result_place w) a s w) (λ v w1. refl) (λ v w1. then_twice (all_dropped D w1) (λ _ w2. Done v w2) _)
+  full_expression_is a names w = grind (arith, full, value_is, then_twice)
 
   -- a full-expression that gives a reference
   reference_full : (a : Reference) (last : Block) (names : List ℕ) (w : World) (go : ℕ → World → Outcome Finished)
       → ((r : ℕ) (w1 : World) → inside (result_place w) last (name r (calm names)) w1 ≡ passes_by (calm names) (go r w1))
       → run (FullExpression (reference_block 0 a) last) (calm names) w ≡ passes_by (calm names) (then_do (referred D a w) (λ r w1. then_do (go r w1) (λ _ w2. all_dropped D w2)))
-  reference_full a last names w go h =
-      let s = calm names in
-      full (λ r. name r s) (λ (done : Finished). s) (λ (done : Finished). On s) _ (referred D a w) _ go _ (reference_is D bound (result_place w) a s w) h (λ done w1. refl)
+  reference_full a last names w go h = grind (arith, full, reference_is)
 
   module _ (exit : ℕ) (names : List ℕ) where
     abbrev s : Operands

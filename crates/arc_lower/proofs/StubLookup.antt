@@ -269,10 +269,7 @@ module _ (R : resolved.Program) where
   module _ (cs : List Class) (links : Linked cs) where
     -- looking a method up among the linked classes comes to the stub of what is meant
     pub lookup_meets : (sign : Sign) (from : Option ℕ) (selector takes objects : ℕ) (wanted : Gives) → Meets wanted (passes sign takes) objects (lookup R.classes from sign selector takes objects wanted) (lookup cs from sign selector takes objects wanted)
-    lookup_meets sign from selector takes objects wanted =
-        let meant = lookup R.classes from sign selector takes objects wanted in
-        subst (λ above. Meets wanted (passes sign takes) objects meant (first_that_has (λ class. found sign selector takes objects wanted (own_methods (slice_get cs class))) (ancestry above from))) (sym links.above)
-        (first_found_meets sign selector takes objects wanted R.classes cs links.same (ancestry (superclasses R.classes) from))
+    lookup_meets sign from selector takes objects wanted = grind (arith, first_found_meets)
 
     pub found_same : (from : Option ℕ) (sign : Sign) (selector takes objects : ℕ) (wanted : Gives) → is_some (lookup cs from sign selector takes objects wanted) ≡ is_some (lookup R.classes from sign selector takes objects wanted)
     found_same from sign selector takes objects wanted =
@@ -329,9 +326,7 @@ nothing_numbered R gives.Number = let e : length R.functions ≡ length R.functi
 nothing_numbered R gives.Object = let e : suc (length R.functions) ≡ length R.functions + 1 = omega arith in ap (slice_get (all_functions R)) e ∙ get_below R.functions last_two 1
 
 pub numbered : (R : resolved.Program) (wanted : Gives) (f : ℕ) → slice_get (all_functions R) (number_of R wanted f) ≡ Some (function_at R wanted f)
-numbered R wanted f = by_test (λ b. slice_get (all_functions R) (if b then f else number_of_nothing R wanted) ≡ Some (function_at R wanted f)) (gives_at R wanted f)
-    (λ e. get_front R.functions last_two f _ (is_there_giving R wanted f e))
-    (λ e. nothing_numbered R wanted ∙ ap Some (nothing_there R wanted f e))
+numbered R wanted f = grind (arith, by_test, get_front, is_there_giving, nothing_numbered, nothing_there)
 
 pub function_found : (R : resolved.Program) (wanted : Gives) (f : ℕ) → Found R (entries_of R) (number_of R wanted f) (function_at R wanted f)
 function_found R wanted f =
